@@ -1,0 +1,5 @@
+pub mod CommandLaws
+pub mod ContentLaws
+pub mod Indexes
+pub mod RowLaws
+pub mod Sorted

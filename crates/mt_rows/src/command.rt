@@ -1,0 +1,111 @@
+//! What a tenant asks.
+
+ghost use Rattle.std.specs.Prelude.{◌≡◌, ◌↔◌, IsTrue, IfOk, IfErr, IsOk};
+ghost use Rattle.mt_rows.specs.Commands.{key_of, IsTaken, IsFirstFault};
+
+use crate::change::NamedColumns;
+use crate::key::{Key, USER_KEY_BYTES};
+use crate::refusal::Refusal;
+use crate::row::ColumnIndexes;
+use std::alloc::AllocError;
+
+/// The most pairs that one scan shows.
+pub const SCAN_PAIRS: u8 = 64;
+
+/// A command of a tenant, as it was asked; `check` tells whether it is taken.
+#[derive(Debug, Drop)]
+pub enum Command {
+    /// The row of the key: all of it, or these columns.
+    Get {
+        key: Key,
+        columns: ColumnIndexes,
+    },
+    /// Replaces these columns of the key's row and keeps its others, or makes the row.
+    Put {
+        key: Key,
+        change: NamedColumns,
+    },
+    /// Takes the key and its row away.
+    Remove {
+        key: Key,
+    },
+    /// Up to `count` pairs in rising order from the key `from` on, or after it; of each row these
+    /// columns.
+    Scan {
+        from: Key,
+        after: bool,
+        count: u8,
+        columns: ColumnIndexes,
+    },
+}
+
+impl Command {
+    /// Whether the command is taken, or the first of its faults: `KeyLong`, `Column`, `ColumnLong`,
+    /// `ScanCount`, in this order.
+    pub fn check(&self) -> Result<(), Refusal>
+        ensures taken { IsOk result ↔ IsTaken self.now }
+        ensures fault { IfErr result (IsFirstFault self.now) }
+    {
+        if self.key().as_bytes().len() > USER_KEY_BYTES {
+            return Err(Refusal::KeyLong);
+        }
+        match self {
+            Command::Get { columns, .. } if !columns.may_be_asked() => Err(Refusal::Column),
+            Command::Put { change, .. } if !change.may_be_put() => Err(Refusal::Column),
+            Command::Put { change, .. } if !change.are_short() => Err(Refusal::ColumnLong),
+            Command::Scan { columns, .. } if !columns.may_be_asked() => Err(Refusal::Column),
+            Command::Scan { count, .. } if *count == 0 || *count > SCAN_PAIRS => {
+                Err(Refusal::ScanCount)
+            }
+            Command::Get { .. }
+            | Command::Put { .. }
+            | Command::Remove { .. }
+            | Command::Scan { .. } => Ok(()),
+        }
+    }
+
+    /// The key that it is about, or from which a scan starts.
+    pub fn key(&self) -> &Key
+        ensures { result.now ≡ key_of self.now }
+    {
+        match self {
+            Command::Get { key, .. } | Command::Put { key, .. } | Command::Remove { key } => key,
+            Command::Scan { from, .. } => from,
+        }
+    }
+
+    /// The same command. An error leaves this one as it was.
+    pub fn copied(&self) -> Result<Command, AllocError>
+        ensures { IfOk result (λ command. command ≡ self.now) }
+    {
+        match self {
+            Command::Get { key, columns } => {
+                let (key, columns) = (key.clone()?, columns.clone()?);
+                Ok(Command::Get { key, columns })
+            }
+            Command::Put { key, change } => {
+                let (key, change) = (key.clone()?, change.clone()?);
+                Ok(Command::Put { key, change })
+            }
+            Command::Remove { key } => {
+                let key = key.clone()?;
+                Ok(Command::Remove { key })
+            }
+            Command::Scan {
+                from,
+                after,
+                count,
+                columns,
+            } => {
+                let (from, columns) = (from.clone()?, columns.clone()?);
+                let (after, count) = (*after, *count);
+                Ok(Command::Scan {
+                    from,
+                    after,
+                    count,
+                    columns,
+                })
+            }
+        }
+    }
+}

@@ -1,0 +1,10 @@
+pub mod Counts
+pub mod Walks
+pub mod Steps
+pub mod Standing
+pub mod Once
+pub mod Lawful
+pub mod Order
+pub mod Growth
+pub mod Replies
+pub mod Events

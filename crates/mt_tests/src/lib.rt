@@ -1,0 +1,12 @@
+//! Tests of the lower crates: examples with known answers, and each public call once on its happy
+//! path.
+//!
+//! They stand in a crate of their own, since a crate with tests is proved twice.
+#![tactic(auto)]
+
+#[cfg(test)]
+mod rows;
+#[cfg(test)]
+mod slices;
+#[cfg(test)]
+mod version;
