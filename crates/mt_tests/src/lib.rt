@@ -5,8 +5,12 @@
 #![tactic(auto)]
 
 #[cfg(test)]
+mod interior;
+#[cfg(test)]
 mod rows;
 #[cfg(test)]
 mod slices;
+#[cfg(test)]
+mod tape;
 #[cfg(test)]
 mod version;

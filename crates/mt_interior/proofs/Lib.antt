@@ -1,0 +1,4 @@
+pub mod Rises
+pub mod PlaceLemmas
+pub mod Shapes
+pub mod CallerLemmas

@@ -1,0 +1,5 @@
+pub mod Rising
+pub mod Places
+pub mod Node
+pub mod Fences
+pub mod Changes
