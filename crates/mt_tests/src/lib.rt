@@ -5,6 +5,8 @@
 #![tactic(auto)]
 
 #[cfg(test)]
+mod border;
+#[cfg(test)]
 mod interior;
 #[cfg(test)]
 mod rows;

@@ -203,6 +203,8 @@ fn tenants_keep_their_quotas_and_counts(rt: HostRuntime) -> Result<(), Fail> {
     assert!(rt; tenants.count_new(7));
     assert!(rt; !tenants.count_new(7));
     assert!(rt; matches!(tenants.count(7), Ok(1)));
+    tenants.count_removed(7);
+    assert!(rt; matches!(tenants.count(7), Ok(0)));
     assert!(rt; matches!(tenants.count(9), Err(Refusal::NoTenant)));
     Ok(())
 }
@@ -256,6 +258,10 @@ fn a_change_merges_and_a_row_is_shared(rt: HostRuntime) -> Result<(), Fail> {
     let change = Change::new(named(alloc, &[(1, b"v")])?)?;
     let row = merge(alloc, None, &change)?;
     assert_eq!(rt; row.share()?.columns().len(), 2);
+    assert!(rt; Row::fits(row.columns()));
+    assert!(rt; !Row::fits(&[]));
+    assert!(rt; !Reply::Found(row.share()?).is_change());
+    assert!(rt; Reply::New.is_change());
     assert_eq!(rt; merge(alloc, Some(&row), &change)?.columns().len(), 2);
     assert_eq!(rt; change.into_list().as_slice().len(), 1);
     let mut records = Vec::new(alloc);

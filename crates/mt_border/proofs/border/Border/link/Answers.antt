@@ -1,0 +1,16 @@
+use Rattle.std.proofs.Common.{◌<◌, length, ap}
+use Rattle.mt_border.specs.Node.{entries_of}
+use Rattle.mt_border.proofs.Slots.{read_held, border_written, rewrites_written}
+use Rattle.mt_border.proofs.border.Border.link.Goals as goal
+
+pub invariant_of-self : goal.invariant_of-self
+invariant_of-self c =
+    let within : c.args.slot < length c.self.inside.slots.items = rw (ap entries_of c.self.view_is) c.requires.live in
+    border_written _ _ c.args.slot _ _ c.deref_mut.ensures.value c.self.invariant within (c.put_tree.ensures.fits _)
+
+pub returns : goal.returns
+returns c = λ pair unlinked.
+    let within : c.args.slot < length c.self.inside.slots.items = rw (ap entries_of c.self.view_is) c.requires.live in
+    let was = rw (← c.self.view_is) at unlinked in
+    let now = c.put_tree.ensures.held pair (read_held _ _ c.args.slot _ _ c.deref_mut.ensures.value within was) in
+    rw (← c.self.view_is, ← now) (rewrites_written _ _ c.args.slot _ _ c.deref_mut.ensures.value c.self.invariant within)

@@ -1,0 +1,10 @@
+use Rattle.std.proofs.Common.{ap}
+use Rattle.mt_border.specs.Node.{entries_of}
+use Rattle.mt_border.proofs.Edits.{border_with_entry}
+use Rattle.mt_border.proofs.border.Border.publish.Goals as goal
+
+pub invariant_of-self : goal.invariant_of-self
+invariant_of-self c =
+    let entries_are = ap entries_of c.self.view_is in
+    rw (c.insert.ensures.items, c.place_of-place.ensures.place, c.deref.ensures.0)
+    (border_with_entry _ c.args.entry c.self.invariant c.requires.entry (rw entries_are c.requires.missing) (rw entries_are c.requires.room))

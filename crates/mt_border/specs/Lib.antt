@@ -1,0 +1,4 @@
+pub mod Entry
+pub mod Entries
+pub mod Node
+pub mod Split

@@ -1,0 +1,355 @@
+//! The border node: its entries, its neighbours and its parent, its fences, and its version.
+//!
+//! Invariant: `IsBorder` of the entries; that is, fifteen at most, each one that may stand in a
+//! node, in strictly rising order. How entries, fences and other nodes fit together is the arena's
+//! to keep, and so is who holds a node's lock.
+//!
+//! Slots are handles: `find` gives one, `load`, `store`, `drop_key` and the three calls that make a
+//! layer take one. A slot keeps its number until a key is published, dropped or moved by a split.
+//! Contracts read a slot by `IsLive` and `entry_at`, and never say where in the order it stands.
+//!
+//! No call takes memory or fails; all change the node in place. A node owns its entries. Numbers of
+//! nodes and trees are the arena's.
+
+ghost use Rattle.std.specs.Prelude.{◌≡◌, ◌-◌, ◌<◌, ◌≤◌, ◌↔◌, ℕ, [], IsTrue, IsSome, IfSome, length, slice_get};
+ghost use Rattle.std.specs.Option.{option_copied};
+ghost use Rattle.mt_slices.specs.Marks.{IsMark};
+
+use crate::entry::{Entry, Find, Held, Pair};
+use crate::iter::Entries;
+use crate::places::{place_of, search};
+use crate::split::{count_below, move_tail, separator_of};
+use arrayvec::ArrayVec;
+use mt_rows::Row;
+use mt_slices::Mark;
+use mt_version::Version;
+use std::alloc::Global;
+use std::marker::Model;
+
+/// The number of slots of a border node.
+pub const SLOTS: usize = 15;
+
+/// The entries in the order of their keys.
+pub(crate) type Slots = ArrayVec<Entry, SLOTS, Global>;
+
+/// A border node of one tree, whose keys have slices from the low fence on and below the high one,
+/// which is missing where there is no end.
+#[derive(Debug, Drop)]
+pub struct Border {
+    slots: Slots,
+    next: Option<usize>,
+    previous: Option<usize>,
+    parent: Option<usize>,
+    low: u64,
+    high: Option<u64>,
+    version: Version,
+}
+
+impl Model for Border {
+    ghost use Rattle.mt_border.specs.Entries.{IsBorder};
+    ghost use Rattle.mt_border.specs.Node.{Node};
+
+    ghost Value = { Node };
+
+    ghost view = { λ b. record {
+      slots = b.slots.items;
+      next = b.next;
+      previous = b.previous;
+      parent = b.parent;
+      low = b.low;
+      high = b.high;
+      version = b.version;
+    } };
+
+    ghost invariant = { λ b. IsBorder b.slots.items };
+}
+
+impl Border {
+    ghost use Rattle.mt_border.specs.declared.entry.Pair.{Pair};
+    ghost use Rattle.mt_border.specs.Entry.{IsEntry, IsRest, IsStable, IsUnlinked, IsLinked};
+    ghost use Rattle.mt_border.specs.Entries.{IsBorder, IsMissing, with_entry, without};
+    ghost use Rattle.mt_border.specs.Split.{IsCut, IsParted, IsSeparator, slices_with};
+    ghost use Rattle.mt_border.specs.Node.{empty_node, entries_of, entry_at, held_at, IsLive, Finds, Rewrites};
+
+    /// A node without keys, neighbours and parent.
+    pub fn new(alloc: Global, low: u64, high: Option<u64>, version: Version) -> Self
+        ensures { result ≡ empty_node low high version }
+    {
+        Border {
+            slots: ArrayVec::new_in(alloc),
+            next: None,
+            previous: None,
+            parent: None,
+            low,
+            high,
+            version,
+        }
+    }
+
+    /// The number of live slots.
+    pub fn len(&self) -> usize
+        ensures value { result ≡ length (entries_of self.now) }
+        ensures border { IsBorder (entries_of self.now) }
+    {
+        self.slots.len()
+    }
+
+    pub fn is_empty(&self) -> bool
+        ensures { IsTrue result ↔ (entries_of self.now ≡ []) }
+    {
+        self.slots.is_empty()
+    }
+
+    /// Whether there is no room for one more key.
+    pub fn is_full(&self) -> bool
+        ensures full { IsTrue result ↔ (length (entries_of self.now) ≡ SLOTS) }
+        ensures within { length (entries_of self.now) ≤ SLOTS }
+    {
+        self.slots.is_full()
+    }
+
+    /// Where the key with this slice, mark and suffix stands. An unstable pair is found as a pair.
+    pub fn find(&self, slice: u64, mark: Mark, suffix: &[u8]) -> Find
+        requires mark { IsMark mark }
+        requires rest { IsRest mark suffix.now }
+        ensures { Finds self.now slice mark suffix.now result }
+    {
+        match search(&self.slots, slice, mark) {
+            Some(slot) => Find::Slot(slot, self.slots[slot].kind(suffix)),
+            None => Find::Missing,
+        }
+    }
+
+    /// What a slot holds, if it is live.
+    pub fn load(&self, slot: usize) -> Option<&Held>
+        ensures live { IsSome result ↔ IsLive self.now slot }
+        ensures value { IfSome result (λ held. held.now ≡ held_at self.now slot) }
+    {
+        self.slots.get(slot).map(|entry| &entry.held)
+    }
+
+    /// The entries in the order of their keys.
+    pub fn entries(&self) -> Entries<'_>
+        ensures { result ≡ entries_of self.now }
+    {
+        Entries { rest: &self.slots }
+    }
+
+    /// The first entry in the order of keys.
+    pub fn first(&self) -> Option<&Entry>
+        ensures { option_copied result ≡ slice_get (entries_of self.now) 0 }
+    {
+        self.slots.first()
+    }
+
+    /// The last entry in the order of keys.
+    pub fn last(&self) -> Option<&Entry>
+        ensures { let entries = entries_of self.now in
+            option_copied result ≡ slice_get entries (length entries - 1) }
+    {
+        self.slots.last()
+    }
+
+    /// Makes one more key live.
+    pub fn publish(&mut self, entry: Entry)
+        requires room { length (entries_of self.old) < SLOTS }
+        requires entry { IsEntry entry }
+        requires missing { IsMissing (entries_of self.old) entry.slice entry.mark }
+        ensures entries { entries_of self.new ≡ with_entry (entries_of self.old) entry }
+        ensures others { self.new ≡ record self.old { slots = self.new.slots } }
+    {
+        let place = place_of(&self.slots, entry.slice, entry.mark);
+        self.slots.insert(place, entry);
+    }
+
+    /// Puts another row, placed by the step `stamp`, in the place of a pair's, and gives the old
+    /// row back.
+    pub fn store(&mut self, slot: usize, row: Row, stamp: u64) -> Row
+        requires live { IsLive self.old slot }
+        requires stable { IsStable (held_at self.old slot) }
+        ensures before { (pair : Pair) → held_at self.old slot ≡ Held.Stable pair →
+            result ≡ pair.row }
+        ensures after { (pair : Pair) → held_at self.old slot ≡ Held.Stable pair →
+            Rewrites self.old self.new slot
+            (Held.Stable (record pair { row = row; stamp = stamp })) }
+    {
+        let entry = &mut self.slots[slot];
+        entry.held.put_row(row, stamp)
+    }
+
+    /// Makes the pair of a longer key unstable, for which a tree of its own is made.
+    pub fn mark_unstable(&mut self, slot: usize)
+        requires live { IsLive self.old slot }
+        requires long { (entry_at self.old slot).mark ≡ Mark.Long }
+        requires stable { IsStable (held_at self.old slot) }
+        ensures { (pair : Pair) → held_at self.old slot ≡ Held.Stable pair →
+            Rewrites self.old self.new slot (Held.Unstable pair None) }
+    {
+        let entry = &mut self.slots[slot];
+        entry.held.unsettle();
+    }
+
+    /// Writes the number of its tree beside an unstable pair.
+    pub fn link(&mut self, slot: usize, tree: usize)
+        requires live { IsLive self.old slot }
+        requires unlinked { IsUnlinked (held_at self.old slot) }
+        ensures { (pair : Pair) → held_at self.old slot ≡ Held.Unstable pair None →
+            Rewrites self.old self.new slot (Held.Unstable pair (Some tree)) }
+    {
+        let entry = &mut self.slots[slot];
+        entry.held.put_tree(tree);
+    }
+
+    /// Makes the slot of an unstable pair a link to its tree, and gives the pair back, which stands
+    /// in that tree from now on.
+    pub fn mark_layer(&mut self, slot: usize) -> Pair
+        requires live { IsLive self.old slot }
+        requires linked { IsLinked (held_at self.old slot) }
+        ensures before { (pair : Pair) (tree : ℕ) →
+            held_at self.old slot ≡ Held.Unstable pair (Some tree) → result ≡ pair }
+        ensures after { (pair : Pair) (tree : ℕ) →
+            held_at self.old slot ≡ Held.Unstable pair (Some tree) →
+            Rewrites self.old self.new slot (Held.Link tree) }
+    {
+        let entry = &mut self.slots[slot];
+        entry.held.become_link()
+    }
+
+    /// Takes a key or a link out, and gives its entry back.
+    pub fn drop_key(&mut self, slot: usize) -> Entry
+        requires { IsLive self.old slot }
+        ensures value { result ≡ entry_at self.old slot }
+        ensures entries { entries_of self.new ≡ without (entries_of self.old) result }
+        ensures others { self.new ≡ record self.old { slots = self.new.slots } }
+    {
+        self.slots.remove(slot)
+    }
+
+    /// The first slice on the right, were the node split with this key.
+    pub fn separator(&self, slice: u64, mark: Mark) -> u64
+        requires full { length (entries_of self.now) ≡ SLOTS }
+        requires mark { IsMark mark }
+        requires missing { IsMissing (entries_of self.now) slice mark }
+        ensures { IsSeparator (slices_with (entries_of self.now) slice mark) result }
+    {
+        separator_of(&self.slots, slice, mark)
+    }
+
+    /// Splits a full node as if it had this key too, which is in neither half: keys from the
+    /// separator on move to the right. Gives the separator.
+    pub fn split_without(&mut self, slice: u64, mark: Mark, right: &mut Border) -> u64
+        requires full { length (entries_of self.old) ≡ SLOTS }
+        requires mark { IsMark mark }
+        requires missing { IsMissing (entries_of self.old) slice mark }
+        requires empty { entries_of right.old ≡ [] }
+        ensures border { IsBorder (entries_of self.old) }
+        ensures separator { IsSeparator (slices_with (entries_of self.old) slice mark) result }
+        ensures parted { IsParted (entries_of self.old)
+            (entries_of self.new) (entries_of right.new) result }
+        ensures two_on_the_left { 2 ≤ length (entries_of self.new) }
+        ensures two_on_the_right { 2 ≤ length (entries_of right.new) }
+        ensures others { self.new ≡ record self.old { slots = self.new.slots } }
+        ensures others_on_the_right { right.new ≡ record right.old { slots = right.new.slots } }
+    {
+        let separator = self.separator(slice, mark);
+        let keep = count_below(&self.slots, separator);
+        move_tail(&mut self.slots, keep, &mut right.slots);
+        separator
+    }
+
+    /// Splits a full node and this key: keys from the separator on stand on the right afterwards.
+    /// Gives the separator.
+    pub fn split_into(&mut self, entry: Entry, right: &mut Border) -> u64
+        requires full { length (entries_of self.old) ≡ SLOTS }
+        requires entry { IsEntry entry }
+        requires missing { IsMissing (entries_of self.old) entry.slice entry.mark }
+        requires empty { entries_of right.old ≡ [] }
+        ensures separator { let sixteen = slices_with (entries_of self.old) entry.slice entry.mark in
+            IsSeparator sixteen result }
+        ensures cut { let sixteen = slices_with (entries_of self.old) entry.slice entry.mark in
+            IsCut sixteen (length (entries_of self.new)) }
+        ensures parted { IsParted (with_entry (entries_of self.old) entry)
+            (entries_of self.new) (entries_of right.new) result }
+        ensures others { self.new ≡ record self.old { slots = self.new.slots } }
+        ensures others_on_the_right { right.new ≡ record right.old { slots = right.new.slots } }
+    {
+        let separator = self.split_without(entry.slice, entry.mark, right);
+        if entry.slice < separator {
+            self.publish(entry);
+        } else {
+            right.publish(entry);
+        }
+        separator
+    }
+
+    /// The node whose slices come next.
+    pub fn next(&self) -> Option<usize>
+        ensures { result ≡ self.now.next }
+    {
+        self.next
+    }
+
+    pub fn set_next(&mut self, next: Option<usize>)
+        ensures { self.new ≡ record self.old { next = next } }
+    {
+        self.next = next;
+    }
+
+    /// The node whose slices come before.
+    pub fn previous(&self) -> Option<usize>
+        ensures { result ≡ self.now.previous }
+    {
+        self.previous
+    }
+
+    pub fn set_previous(&mut self, previous: Option<usize>)
+        ensures { self.new ≡ record self.old { previous = previous } }
+    {
+        self.previous = previous;
+    }
+
+    /// The interior node above; none for a root.
+    pub fn parent(&self) -> Option<usize>
+        ensures { result ≡ self.now.parent }
+    {
+        self.parent
+    }
+
+    pub fn set_parent(&mut self, parent: Option<usize>)
+        ensures { self.new ≡ record self.old { parent = parent } }
+    {
+        self.parent = parent;
+    }
+
+    /// The least slice that belongs here. It never changes.
+    pub fn low(&self) -> u64
+        ensures { result ≡ self.now.low }
+    {
+        self.low
+    }
+
+    /// The least slice that belongs behind this node; none, where all higher ones belong here.
+    pub fn high(&self) -> Option<u64>
+        ensures { result ≡ self.now.high }
+    {
+        self.high
+    }
+
+    pub fn set_high(&mut self, high: Option<u64>)
+        ensures { self.new ≡ record self.old { high = high } }
+    {
+        self.high = high;
+    }
+
+    pub fn version(&self) -> Version
+        ensures { result ≡ self.now.version }
+    {
+        self.version
+    }
+
+    pub fn set_version(&mut self, version: Version)
+        ensures { self.new ≡ record self.old { version = version } }
+    {
+        self.version = version;
+    }
+}

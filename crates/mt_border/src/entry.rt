@@ -1,0 +1,210 @@
+//! What stands in one slot of a border node.
+//!
+//! An entry is plain data, made by whoever fills a slot; what it has to keep, `IsEntry`, is asked
+//! for where it enters a node. It owns its suffix, which lies on the heap, and a share of its row.
+
+ghost use Rattle.std.specs.Prelude.{◌≡◌, ◌<◌, ◌↔◌, ℕ, IsTrue};
+
+use mt_rows::Row;
+use mt_slices::Mark;
+use std::alloc::Global;
+use std::default::MadeWith;
+use std::marker::Model;
+use std::mem;
+
+/// The bytes of a key behind its slice; none, where the key ends in it.
+#[derive(Debug, Drop)]
+pub struct Suffix {
+    bytes: Vec<u8>,
+}
+
+impl Model for Suffix {
+    ghost use Rattle.std.specs.Prelude.{List, ℕ};
+
+    ghost Value = { List ℕ };
+
+    ghost view = { λ s. s.bytes.items };
+}
+
+impl Suffix {
+    pub fn new(bytes: Vec<u8>) -> Self
+        ensures { result ≡ bytes.items }
+    {
+        Suffix { bytes }
+    }
+
+    pub fn as_bytes(&self) -> &[u8]
+        ensures { result.now ≡ self.now }
+    {
+        &self.bytes
+    }
+}
+
+/// A key's suffix and its row, with the number of the step that placed the row.
+#[derive(Debug, Drop)]
+pub struct Pair {
+    pub suffix: Suffix,
+    pub row: Row,
+    pub stamp: u64,
+}
+
+/// What an entry holds.
+#[derive(Debug, Drop)]
+pub enum Held {
+    /// A pair.
+    Stable(Pair),
+
+    /// A pair that is on its way to a tree of its own, and that tree's number, once it is written.
+    /// Until the entry is a link, it counts as its pair.
+    Unstable(Pair, Option<usize>),
+
+    /// The number of the tree that holds all longer keys of the slice.
+    Link(usize),
+}
+
+/// A slice, the mark that tells how many of its bytes are a key's own, and what is held at them.
+#[derive(Debug, Drop)]
+pub struct Entry {
+    pub slice: u64,
+    pub mark: Mark,
+    pub held: Held,
+}
+
+// What lies in the places that no slot uses. No contract sees it.
+impl MadeWith<Global> for Entry {
+    fn made_with(_: Global) -> Entry {
+        Entry {
+            slice: 0,
+            mark: Mark::Long,
+            held: Held::Link(0),
+        }
+    }
+}
+
+/// What the slot with a key's slice and mark holds of that key.
+#[derive(Clone, Copy, Debug, PartialEq, Eq)]
+pub enum Kind {
+    /// The key itself.
+    ThisKey,
+
+    /// Another key, which shares the slice and goes on otherwise.
+    OtherLong,
+
+    /// A link to the tree in which the key belongs.
+    Link,
+}
+
+/// Where a key stands in a node.
+#[derive(Clone, Copy, Debug, PartialEq, Eq)]
+pub enum Find {
+    /// No slot has the key's slice and mark.
+    Missing,
+
+    /// The slot that has them, and what it holds of the key.
+    Slot(usize, Kind),
+}
+
+impl Entry {
+    ghost use Rattle.mt_slices.specs.Marks.{IsMark};
+    ghost use Rattle.mt_border.specs.Entry.{order_of, order_at, IsKind, IsEntry, IsRest};
+
+    pub(crate) fn has(&self, slice: u64, mark: Mark) -> bool
+        ensures { IsTrue result ↔ ((self.now.slice ≡ slice) × (self.now.mark ≡ mark)) }
+    {
+        self.slice == slice && self.mark == mark
+    }
+
+    pub(crate) fn is_before(&self, slice: u64, mark: Mark) -> bool
+        requires this { IsMark self.now.mark }
+        requires that { IsMark mark }
+        ensures { IsTrue result ↔ (order_of self.now < order_at slice mark) }
+    {
+        self.slice < slice || (self.slice == slice && self.mark.is_before(mark))
+    }
+
+    /// What the entry holds of the key that has its slice and mark, and this suffix.
+    pub(crate) fn kind(&self, suffix: &[u8]) -> Kind
+        requires entry { IsEntry self.now }
+        requires rest { IsRest self.now.mark suffix.now }
+        ensures { IsKind self.now suffix.now result }
+    {
+        match &self.held {
+            Held::Link(_) => Kind::Link,
+            Held::Stable(pair) | Held::Unstable(pair, _) => {
+                if pair.suffix.as_bytes() == suffix {
+                    Kind::ThisKey
+                } else {
+                    Kind::OtherLong
+                }
+            }
+        }
+    }
+}
+
+impl Held {
+    ghost use Rattle.mt_slices.specs.declared.mark.Mark.{Mark};
+    ghost use Rattle.mt_border.specs.declared.entry.Pair.{Pair};
+    ghost use Rattle.mt_border.specs.Entry.{CanHold, IsStable, IsUnlinked, IsLinked};
+
+    /// Puts another row and its stamp into a pair, and gives the old row back.
+    pub(crate) fn put_row(&mut self, row: Row, stamp: u64) -> Row
+        requires { IsStable self.old }
+        ensures row { (pair : Pair) → self.old ≡ Held.Stable pair → result ≡ pair.row }
+        ensures held { (pair : Pair) → self.old ≡ Held.Stable pair →
+            self.new ≡ Held.Stable (record pair { row = row; stamp = stamp }) }
+        ensures fits { (mark : Mark) → CanHold mark self.old → CanHold mark self.new }
+    {
+        match self {
+            Held::Stable(pair) => {
+                pair.stamp = stamp;
+                mem::replace(&mut pair.row, row)
+            }
+            _ => unreachable!(),
+        }
+    }
+
+    /// Makes a pair unstable.
+    pub(crate) fn unsettle(&mut self)
+        requires { IsStable self.old }
+        ensures held { (pair : Pair) → self.old ≡ Held.Stable pair →
+            self.new ≡ Held.Unstable pair None }
+        ensures fits { (mark : Mark) → mark ≡ Mark.Long →
+            CanHold mark self.old → CanHold mark self.new }
+    {
+        match mem::replace(self, Held::Link(0)) {
+            Held::Stable(pair) => *self = Held::Unstable(pair, None),
+            _ => unreachable!(),
+        }
+    }
+
+    /// Writes a tree's number beside an unstable pair.
+    pub(crate) fn put_tree(&mut self, tree: usize)
+        requires { IsUnlinked self.old }
+        ensures held { (pair : Pair) → self.old ≡ Held.Unstable pair None →
+            self.new ≡ Held.Unstable pair (Some tree) }
+        ensures fits { (mark : Mark) → CanHold mark self.old → CanHold mark self.new }
+    {
+        match self {
+            Held::Unstable(_, known) => *known = Some(tree),
+            _ => unreachable!(),
+        }
+    }
+
+    /// Makes an unstable pair a link to its tree, and gives the pair back.
+    pub(crate) fn become_link(&mut self) -> Pair
+        requires { IsLinked self.old }
+        ensures pair { (pair : Pair) (tree : ℕ) →
+            self.old ≡ Held.Unstable pair (Some tree) → result ≡ pair }
+        ensures held { (pair : Pair) (tree : ℕ) →
+            self.old ≡ Held.Unstable pair (Some tree) → self.new ≡ Held.Link tree }
+        ensures fits { (mark : Mark) → CanHold mark self.old → CanHold mark self.new }
+    {
+        match mem::replace(self, Held::Link(0)) {
+            Held::Unstable(pair, tree) => {
+                *self = Held::Link(tree.unwrap());
+                pair
+            }
+            _ => unreachable!(),
+        }
+    }
+}

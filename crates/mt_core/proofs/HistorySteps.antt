@@ -1,0 +1,264 @@
+-- A numbered step of an operation keeps the story right, and what it tells of every operation.
+use Rattle.std.proofs.Common.{◌≡◌, ◌≢◌, ℕ, suc, ◌+◌, ◌-◌, ◌≤◌, ◌⊎◌, inl, inr, Bool, true, false, not, ◌&&◌, cond, eqb, Option, Some, None, sym, refl, ap, subst, ◌∙◌, arith}
+use mathlib.Core.Path.{fun_ext}
+use Rattle.std.proofs.lemmas.Bool.{both_ways, eqb-false}
+use Rattle.std.proofs.lemmas.Option.{same_Some}
+use Rattle.mt_rows.specs.declared.reply.Reply.{Reply}
+use Rattle.mt_rows.specs.declared.reply.Reply.TheVariants.{New, Replaced, Removed}
+use Rattle.mt_rows.specs.Maps.{Map, reply_of, is_change, is_scan, is_no_memory}
+use Rattle.mt_rows.specs.Tenants.{tenant_map}
+use Rattle.mt_runs.specs.declared.event.Answer.{Answer}
+use Rattle.mt_runs.specs.Runs.{Story, Asked, last_step, owner, with_step, IsBetween}
+use Rattle.mt_runs.specs.Scans.{IsLawfulScan}
+use Rattle.mt_runs.specs.Placings.{Quotas, Maps, is_placed, reply_in, maps_after_one}
+use Rattle.mt_runs.specs.Right.{Right, IsChangeAfter, IsAnswered, IsGrowth, maps_at}
+use Rattle.mt_runs.proofs.Steps.{owner_in, owner_stays, owner_cases, new_owner, finished_cases}
+use Rattle.mt_runs.proofs.Growth.{right_step}
+use Rattle.mt_core.specs.declared.operation.Operation.{Operation}
+use Rattle.mt_core.specs.declared.operation.Request.{Request}
+use Rattle.mt_core.specs.declared.operation.Request.TheVariants.{Get, Put}
+use Rattle.mt_core.specs.declared.operation.Progress.{Progress}
+use Rattle.mt_core.specs.declared.operation.Progress.TheVariants.{Unlock, Finished as Ended}
+use Rattle.mt_core.specs.Operations.{command_of, moved}
+use Rattle.mt_core.specs.Views.{View, map_of, changed_at, quota_of}
+use Rattle.mt_core.specs.Kept.{ask}
+use Rattle.mt_core.specs.Sound.{is_unfinished}
+use Rattle.mt_core.specs.Promises.{MayFollow, IsQuiet, IsPlacing, IsStep, told_change, change_in}
+use Rattle.mt_core.specs.Begins.{IsAnswerOf}
+use Rattle.mt_core.specs.Histories.{IsTold}
+use Rattle.mt_core.proofs.HistoryMaps.{AreMade, map_of-now, map-quiet, changed-quiet, made-quiet, map-placing, changed-placing, made-placing}
+
+-- no operation runs a scan
+pub not_scan : (request : Request) → is_scan (command_of request) ≡ false
+not_scan (Get key columns) = refl
+not_scan (Put key change) = refl
+
+scan_free : (maps : ℕ → Map) (Between : ℕ → Type 0) (request : Request) (reply : Reply) → IsLawfulScan maps Between (command_of request) reply
+scan_free maps Between (Get key columns) reply = tt
+scan_free maps Between (Put key change) reply = tt
+
+-- the change of which a reply tells, by its number
+told_change-of : (reply : Reply) (at : ℕ) → is_change reply ≡ true → told_change reply at ≡ Some at
+told_change-of reply at e = ap (λ b. cond b (Some at) None) e
+
+told_change-is : (reply : Reply) (at m : ℕ) → told_change reply at ≡ Some m → (is_change reply ≡ true) × (at ≡ m)
+told_change-is reply at m e = by (is_change reply) refl e
+  where
+    by : (b : Bool) → is_change reply ≡ b → cond b (Some at) None ≡ Some m → (is_change reply ≡ true) × (at ≡ m)
+    by true is e = (is, same_Some at m e)
+    by false is e = absurd (cc)
+
+real_change : (reply : Reply) → is_change reply ≡ true → is_no_memory reply ≡ false
+real_change New e = refl
+real_change Replaced e = refl
+real_change Removed e = refl
+real_change _ e = absurd (cc)
+
+-- an answer that is placed is one that memory did not stop
+placed_real : (a : Answer) → is_placed a ≡ true → is_no_memory a.reply ≡ false
+placed_real a e = by (is_scan a.command) (is_no_memory a.reply) e
+  where
+    by : (b d : Bool) → (not b && not d) ≡ true → d ≡ false
+    by true d e = absurd (cc)
+    by false true e = absurd (cc)
+    by false false e = refl
+
+-- an operation that remembers a change and has a step left makes no other change
+changed_once : (before : Progress) (m : ℕ) (reply : Reply) (at : ℕ) → is_unfinished before ≡ true → change_in before ≡ Some m → MayFollow before (Unlock reply at) → ⊥
+changed_once (Unlock said n) m reply at left e follows = follows
+changed_once (Ended said n) m reply at left e follows = absurd (cc)
+changed_once _ m reply at left e follows = absurd (cc)
+
+module _ (quotas : Quotas) (first : Maps) (story : Story) (old new : View) (o n : ℕ) (done : Bool) (answer : Option Answer)
+    (right : Right quotas first story (map_of old) (changed_at old)) (quota : (t : ℕ) → quota_of old t ≡ quotas t) (count : last_step story ≡ old.steps)
+    (made : AreMade old.tape.entries old.steps) (s : IsStep old new n done) (k : IsTold story old o s.before)
+    (ends : (a : Answer) → answer ≡ Some a → IsAnswerOf (moved s.before (old.steps + 1) s.progress) a) where
+  next : suc (last_step story) ≡ old.steps + 1
+  next = omega (arith, count)
+
+  abbrev what : Asked
+  what = record { tenant = s.before.tenant; command = ask s.before }
+
+  same_quotas : quota_of old ≡ quotas
+  same_quotas = fun_ext quota
+
+  -- the maps and changes of the steps before
+  same_map : (t m : ℕ) → m ≤ last_step story → map_of new t m ≡ map_of old t m
+  same_map t m le = s.grows.maps t m (omega (arith, count))
+
+  same_change : (m : ℕ) → m ≤ last_step story → changed_at new m ≡ changed_at old m
+  same_change m le = s.grows.changes m (omega (arith, count))
+
+  -- those of the step before this one are the ones of now
+  last_maps : maps_at (map_of new) (last_step story) ≡ (λ u. tenant_map u old.contents)
+  last_maps = fun_ext (λ t. same_map t (last_step story) (omega arith) ∙ map_of-now old t (last_step story) (subst (AreMade old.tape.entries) (sym count) made))
+
+  -- a change that an operation has made before
+  earlier : (m : ℕ) → changed_at old m ≡ true → owner story m ≡ Some o → change_in s.before.progress ≡ Some m
+  earlier m e own = k.changes m e own
+
+  placing_once : (m : ℕ) → change_in s.before.progress ≡ Some m → IsPlacing old new s.before s.progress → ⊥
+  placing_once m e p = changed_once s.before.progress m p.reply (old.steps + 1) s.unfinished e (subst (MayFollow s.before.progress) p.unlocks s.follows)
+
+  -- a placing step ends nothing
+  placing_goes_on : (a : Answer) → answer ≡ Some a → IsPlacing old new s.before s.progress → ⊥
+  placing_goes_on a now p = never (sym p.unlocks ∙ (ends a now).finished)
+    where
+      never : Unlock p.reply (old.steps + 1) ≡ Ended a.reply a.at → ⊥
+      never e = cc
+
+  -- the number of the operation's first step has it as its owner
+  first_owner : owner (with_step story o answer) (moved s.before (old.steps + 1) s.progress).first ≡ Some o
+  first_owner = by (eqb s.before.first 0) refl
+    where
+      by : (b : Bool) → eqb s.before.first 0 ≡ b → owner (with_step story o answer) (cond b (old.steps + 1) s.before.first) ≡ Some o
+      by true e = new_owner story o answer (old.steps + 1) (sym next)
+      by false e = owner_stays story o answer s.before.first o (k.first (let ne = eqb-false s.before.first 0 e in omega (arith, ne)))
+
+  new_change : changed_at new (suc (last_step story)) ≡ true → IsChangeAfter quotas (with_step story o answer) (map_of new) (last_step story)
+  new_change e = elim s.effect [
+    | inl q ↦ absurd (both_ways _ (changed-quiet old new s.before s.progress s.number made q) (ap (changed_at new) (sym next) ∙ e))
+    | inr p ↦ record {
+      op = o;
+      own = new_owner story o answer (suc (last_step story)) refl;
+      what = what;
+      asked_so = k.asked_so;
+      not_scan = not_scan s.before.request;
+      changes =
+          ap (λ w. is_change (reply_in quotas what w)) last_maps
+          ∙ ap (λ q. is_change (reply_of q (ask s.before) (tenant_map s.before.tenant old.contents))) (sym (quota s.before.tenant))
+          ∙ ap is_change (sym p.told) ∙ p.changes;
+      makes = λ t.
+          ap (map_of new t) next ∙ map-placing old new s.before s.progress s.number made t p ∙ p.makes t
+          ∙ ap (λ q. maps_after_one q (Some what) (λ u. tenant_map u old.contents) t) same_quotas
+          ∙ ap (λ w. maps_after_one quotas (Some what) w t) (sym last_maps);
+      told = λ a fin. elim (finished_cases story o answer o a fin) [
+        | inl before ↦ absurd (k.unfinished a before)
+        | inr (is, now) ↦ absurd (placing_goes_on a now p)
+      ];
+    }
+  ]
+
+  -- the answer's reply, by the tenant's quota of the run
+  quota_now : quota_of new s.before.tenant ≡ quotas s.before.tenant
+  quota_now = s.grows.quotas s.before.tenant ∙ quota s.before.tenant
+
+  -- an answer to the change that the operation made
+  told_of_change : (m : ℕ) (a : Answer) → suc m ≤ last_step story → change_in s.before.progress ≡ Some (suc m) → answer ≡ Some a
+      → (a.command ≡ ask s.before) × (a.reply ≡ reply_of (quotas s.before.tenant) (ask s.before) (map_of old s.before.tenant m)) × (a.at ≡ suc m)
+  told_of_change m a le was now = elim s.effect [
+    | inr p ↦ absurd (placing_once (suc m) was p)
+    | inl q ↦
+        let end = ends a now in
+        let both = told_change-is a.reply a.at (suc m) (sym (ap change_in end.finished) ∙ q.change ∙ was) in
+        let placed = (s.answer a.reply a.at end.finished).placed (real_change a.reply both.0) in (
+          end.command,
+          (placed.changes both.0).1 ∙ ap (λ q. reply_of q (ask s.before) (map_of new s.before.tenant (a.at - 1))) quota_now
+              ∙ ap (λ n. reply_of (quotas s.before.tenant) (ask s.before) (map_of new s.before.tenant n)) (omega (arith, both.1))
+              ∙ ap (reply_of (quotas s.before.tenant) (ask s.before)) (same_map s.before.tenant m (omega arith)),
+          both.1,
+        )
+  ]
+
+  -- the answer of a step that ends its operation
+  answered : (a : Answer) → answer ≡ Some a → IsAnswered quotas (with_step story o answer) (map_of new) (changed_at new) o a
+  answered a now =
+      let end = ends a now in
+      let ans = s.answer a.reply a.at end.finished in
+      record {
+        what = what;
+        asked_so = k.asked_so;
+        command = end.command;
+        since = λ placed. ((moved s.before (old.steps + 1) s.progress).first, ans.since, first_owner);
+        upto = λ placed. (old.steps + 1, ans.upto, new_owner story o answer (old.steps + 1) (sym next));
+        looked = λ placed look. (ans.placed (placed_real a placed)).looks look ∙ ap (λ q. reply_of q (ask s.before) (map_of new s.before.tenant a.at)) quota_now;
+        changed_so = λ placed is. (
+          ((ans.placed (placed_real a placed)).changes is).0,
+          elim s.effect [
+            | inr p ↦ absurd (placing_goes_on a now p)
+            | inl q ↦ owner_stays story o answer a.at o (k.own a.at (sym q.change ∙ ap change_in end.finished ∙ told_change-of a.reply a.at is))
+          ],
+        );
+      }
+
+  growth : IsGrowth quotas story (map_of old) (map_of new) (changed_at old) (changed_at new) o answer
+  growth = record {
+    maps = λ t m from le. same_map t m le;
+    changes = λ m from le. same_change m le;
+    open_still = k.unfinished;
+    quiet = λ t e. elim s.effect [
+      | inl q ↦ ap (map_of new t) next ∙ map-quiet old new s.before s.progress s.number made t q ∙ sym (ap (λ w. w t) last_maps)
+      | inr p ↦ absurd (both_ways _ (ap (changed_at new) (sym next) ∙ e) (changed-placing old new s.before s.progress s.number made p))
+    ];
+    change = new_change;
+    first_change = λ m e f own. elim s.effect [
+      | inl q ↦ both_ways _ (changed-quiet old new s.before s.progress s.number made q) (ap (changed_at new) (sym next) ∙ e)
+      | inr p ↦ placing_once m (earlier m f own) p
+    ];
+    told = λ m a c e now same.
+        let one : what ≡ c.what = same_Some what c.what (sym k.asked_so ∙ ap story.asked (sym same) ∙ c.asked_so) in
+        let inside = owner_in story (suc m) c.op c.own in
+        let so = told_of_change m a inside.1 (earlier (suc m) e (c.own ∙ ap (λ q. Some q) same)) now in
+        subst (λ (w : Asked). (a.command ≡ w.command) × (a.reply ≡ reply_of (quotas w.tenant) w.command (map_of old w.tenant m)) × (a.at ≡ suc m)) one so;
+    answered = answered;
+    scanned = λ a w now asked_w.
+        let one : what ≡ w = same_Some what w (sym k.asked_so ∙ asked_w) in
+        subst (λ (x : Asked). IsLawfulScan (map_of new x.tenant) (IsBetween (with_step story o answer) o) x.command a.reply) one (scan_free _ _ s.before.request a.reply);
+  }
+
+  pub right_after : Right quotas first (with_step story o answer) (map_of new) (changed_at new)
+  right_after = right_step quotas first story (map_of old) (map_of new) (changed_at old) (changed_at new) o answer right growth
+
+  -- what the story tells of the operation that stepped, if it goes on
+  pub own_told : ((a : Answer) → answer ≡ Some a → ⊥) → IsTold (with_step story o answer) new o (moved s.before (old.steps + 1) s.progress)
+  own_told goes_on = record {
+    asked_so = k.asked_so;
+    first = λ lt. first_owner;
+    last = λ lt. new_owner story o answer (old.steps + 1) (sym next);
+    unfinished = λ a fin. elim (finished_cases story o answer o a fin) [
+      | inl before ↦ k.unfinished a before
+      | inr (is, now) ↦ goes_on a now
+    ];
+    changes = λ m e own. elim (owner_cases story o answer m o own) [
+      | inr (last, is) ↦ made_now m (last ∙ next) e s.effect
+      | inl (le, was) ↦ made_before m (earlier m (sym (same_change m le) ∙ e) was) s.effect
+    ];
+    own = λ m e. elim s.effect [
+      | inl q ↦ owner_stays story o answer m o (k.own m (sym q.change ∙ e))
+      | inr p ↦
+          let both = told_change-is p.reply (old.steps + 1) m (sym (ap change_in p.unlocks) ∙ e) in
+          new_owner story o answer m (sym both.1 ∙ sym next)
+    ];
+  }
+    where
+      made_now : (m : ℕ) → m ≡ old.steps + 1 → changed_at new m ≡ true → (IsQuiet old new s.before s.progress) ⊎ (IsPlacing old new s.before s.progress) → change_in s.progress ≡ Some m
+      made_now m is e (inl q) = absurd (both_ways _ (changed-quiet old new s.before s.progress s.number made q) (ap (changed_at new) (sym is) ∙ e))
+      made_now m is e (inr p) = ap change_in p.unlocks ∙ told_change-of p.reply (old.steps + 1) p.changes ∙ ap (λ n. Some n) (sym is)
+
+      made_before : (m : ℕ) → change_in s.before.progress ≡ Some m → (IsQuiet old new s.before s.progress) ⊎ (IsPlacing old new s.before s.progress) → change_in s.progress ≡ Some m
+      made_before m was (inl q) = q.change ∙ was
+      made_before m was (inr p) = absurd (placing_once m was p)
+
+  -- and of any other
+  pub other_told : (q : ℕ) (op : Operation) → q ≢ o → IsTold story old q op → IsTold (with_step story o answer) new q op
+  other_told q op other h = record {
+    asked_so = h.asked_so;
+    first = λ lt. owner_stays story o answer op.first q (h.first lt);
+    last = λ lt. owner_stays story o answer op.last q (h.last lt);
+    unfinished = λ a fin. elim (finished_cases story o answer q a fin) [
+      | inl before ↦ h.unfinished a before
+      | inr (is, now) ↦ other is
+    ];
+    changes = λ m e own. elim (owner_cases story o answer m q own) [
+      | inl (le, was) ↦ h.changes m (sym (same_change m le) ∙ e) was
+      | inr (last, is) ↦ absurd (other is)
+    ];
+    own = λ m e. owner_stays story o answer m q (h.own m e);
+  }
+
+  -- every change is one of a step made
+  pub made_after : AreMade new.tape.entries new.steps
+  made_after = elim s.effect [
+    | inl q ↦ made-quiet old new s.before s.progress s.number made q
+    | inr p ↦ made-placing old new s.before s.progress s.number made p
+  ]

@@ -1,0 +1,246 @@
+-- The phases of an operation that does not hold the lock: the state stays sound, and the step is one that may be told.
+use Rattle.std.proofs.Common.{◌≡◌, ℕ, ◌+◌, ◌<◌, ◌≤◌, inl, inr, Bool, true, false, not, cond, [], length, set, get_or, max, Option, Some, None, sym, refl, ap, subst, ◌∙◌, arith}
+use Rattle.std.specs.Prelude.{◌^◌}
+use Rattle.std.specs.FinMap.{get}
+use Rattle.std.proofs.lemmas.Bool.{both_ways}
+use Rattle.mt_rows.specs.declared.reply.Reply.{Reply}
+use Rattle.mt_rows.specs.declared.reply.Reply.TheVariants.{Absent, NoMemory}
+use Rattle.mt_rows.specs.Maps.{is_get, is_change}
+use Rattle.mt_version.specs.Parts.{Parts}
+use Rattle.mt_version.specs.Changes.{insert_age, SameButLock}
+use Rattle.mt_core.specs.declared.operation.Operation.{Operation}
+use Rattle.mt_core.specs.declared.operation.Progress.{Progress}
+use Rattle.mt_core.specs.declared.operation.Progress.TheVariants.{Enter, Search, Load, Confirm, Forward, Lock, Unlock, Finished}
+use Rattle.mt_core.specs.Operations.{moved}
+use Rattle.mt_core.specs.Views.{Core, View, Table, shown, pairs_of, op_at, map_of, quota_of}
+use Rattle.mt_core.specs.Kept.{ask, age, HasSeen, IsAtSearch, IsAtLoad, IsAtConfirm, IsKept}
+use Rattle.mt_core.specs.Sound.{Sound, has_lock, is_unfinished, is_unplaced}
+use Rattle.mt_core.specs.Promises.{MayFollow, IsNext, change_in}
+use Rattle.mt_core.specs.Reads.{turned, left, searched, TellsSlot, TellsTaken}
+use Rattle.mt_core.proofs.Replies.{get_looks, get_absent, get_found, get_asks}
+use Rattle.mt_core.proofs.Present.{row_now, stable_pair, any_entry}
+use Rattle.std.specs.Option.{unwrap_or}
+use Rattle.std.proofs.lemmas.Bool.{cases_lt}
+use Rattle.mt_rows.specs.Commands.{key_of, HasColumns}
+use Rattle.mt_rows.proofs.ContentLaws.{get-tenant_map}
+use Rattle.mt_border.specs.Node.{entries_of}
+use Rattle.mt_tape.specs.Histories.{IsUntouched}
+use Rattle.mt_tape.proofs.TapeLaws.{get-map_at}
+use Rattle.mt_core.proofs.ContentsKeys.{in_top_tree, has_found_key}
+use Rattle.mt_core.proofs.ContentsFinds.{find_missing, row_at}
+use Rattle.mt_core.proofs.ContentsStamps.{stamped_here}
+use Rattle.mt_core.proofs.Quiet.{quiet, first_begun, first_upto, first_stays, Gives, quiet_gives, still_keeps, Written, quiet_done}
+
+-- the keys of operations are short, and the columns that they name are such as may be named
+pub short_key : (c : Core) (o : ℕ) → Sound c → (op : Operation) → op_at c.table o ≡ Some op → length op.key ≤ 8
+short_key c o h op there = (h.ops o op there).0.short
+
+pub has_columns : (c : Core) (o : ℕ) → Sound c → (op : Operation) → op_at c.table o ≡ Some op → HasColumns (ask op)
+has_columns c o h op there = (h.ops o op there).0.columns
+
+-- the same progress is written
+pub by_progress : (c : Core) (o : ℕ) (table : Table) (next same : Progress) → next ≡ same → Written c o table next → Written c o table same
+by_progress c o table next same e w = subst (Written c o table) e w
+
+-- an operation that may still place its change has made none
+pub no_change : (p : Progress) → is_unplaced p ≡ true → None ≡ change_in p
+no_change (Unlock reply at) e = absurd (cc)
+no_change (Finished reply at) e = absurd (cc)
+no_change _ e = refl
+
+-- versions that are the same but for the lock have one age
+pub same_age : (now version seen : Parts) → version ≡ now → SameButLock version seen → insert_age seen ≡ insert_age now
+same_age now version seen is same = sym (ap insert_age same) ∙ ap insert_age is
+
+-- a step that leaves node, lock and tape as they were
+abbrev pub still : Core → Table → Core
+still c table = quiet c c.node.version c.holder c.tape.reserved table
+
+module _ (c : Core) (now : View) (o : ℕ) (table : Table) (is : shown c ≡ now) (h : Sound c) (room : now.steps < 2 ^ 59) where
+  few : c.steps < 2 ^ 59
+  few = subst (λ (v : View). v.steps < 2 ^ 59) (sym is) room
+
+  still_gives : (op : Operation) (next : Progress) → op_at c.table o ≡ Some op → has_lock op.progress ≡ false → is_unplaced op.progress ≡ true → is_unfinished op.progress ≡ true → MayFollow op.progress next
+      → change_in next ≡ change_in op.progress → IsKept (still c (set c.table o (Some (moved op (c.steps + 1) next)))) o (moved op (c.steps + 1) next) next → table ≡ set c.table o (Some (moved op (c.steps + 1) next))
+      → (done : Bool) → done ≡ not (is_unfinished next) → Gives now (still c table) o done
+  still_gives op next there free waits open_before follows same_change own e done ends =
+      quiet_done c now o op c.node.version c.holder c.tape.reserved table next done is e
+      (quiet_gives c o op h there few next c.node.version c.holder c.tape.reserved (still_keeps c o op h there free next) open_before (λ _. waits) follows same_change own done ends)
+
+  -- a version that is remembered now
+  seen_now : (op : Operation) (next : Progress) → op_at c.table o ≡ Some op → (t : Table) → HasSeen (still c t) (moved op (c.steps + 1) next) c.node.version
+  seen_now op next there t = record { begun = first_begun c o op h there few next; upto = omega arith }
+
+  -- a version that was remembered before
+  seen_before : (op : Operation) (next : Progress) (seen : Parts) → op_at c.table o ≡ Some op → (t : Table) → HasSeen c op seen → HasSeen (still c t) (moved op (c.steps + 1) next) seen
+  seen_before op next seen there t k = record { begun = first_begun c o op h there few next; upto = k.upto }
+
+  -- a get goes to look and a put to the lock, from a version
+  turned_gives : (op : Operation) (seen : Parts) (b : Bool) → is_get (ask op) ≡ b → op_at c.table o ≡ Some op → has_lock op.progress ≡ false → is_unplaced op.progress ≡ true → is_unfinished op.progress ≡ true
+      → MayFollow op.progress (Search seen) → MayFollow op.progress (Lock seen) → insert_age seen ≤ age c
+      → table ≡ set c.table o (Some (moved op (c.steps + 1) (cond b (Search seen) (Lock seen)))) → Gives now (still c table) o false
+  turned_gives op seen true e there free waits open_before to_search to_lock le w =
+      still_gives op (Search seen) there free waits open_before to_search (no_change op.progress waits)
+      (record { get_is = e; has_seen = record { begun = first_begun c o op h there few (Search seen); upto = le } }) w false refl
+  turned_gives op seen false e there free waits open_before to_search to_lock le w =
+      still_gives op (Lock seen) there free waits open_before to_lock (no_change op.progress waits)
+      (record { put_is = e; begun = first_begun c o op h there few (Lock seen) }) w false refl
+
+  -- the operation of which the step's condition speaks
+  there_is : (next : Progress) (n : IsNext now o next) → op_at c.table o ≡ Some n.0
+  there_is next n = ap (λ (v : View). op_at v.table o) is ∙ n.1
+
+  pub enter_done : (next : Progress) → IsNext now o Enter → ((op : Operation) → op_at c.table o ≡ Some op → next ≡ turned op c.node.version) → Written c o table next → Gives now (still c table) o false
+  enter_done next n turns w =
+      let op = n.0 in
+      let there = there_is Enter n in
+      let at : Enter ≡ op.progress = sym n.2 in
+      turned_gives op c.node.version (is_get (ask op)) refl there (ap has_lock n.2) (ap is_unplaced n.2) (ap is_unfinished n.2)
+      (subst (λ p. MayFollow p (Search c.node.version)) at tt) (subst (λ p. MayFollow p (Lock c.node.version)) at tt) (omega arith)
+      (w op there ∙ ap (λ p. set c.table o (Some (moved op (c.steps + 1) p))) (turns op there))
+
+  pub forward_done : (seen : Parts) (next : Progress) → IsNext now o (Forward seen) → ((op : Operation) → op_at c.table o ≡ Some op → next ≡ turned op seen) → Written c o table next → Gives now (still c table) o false
+  forward_done seen next n turns w =
+      let op = n.0 in
+      let there = there_is (Forward seen) n in
+      let at : Forward seen ≡ op.progress = sym n.2 in
+      let k : HasSeen c op seen = subst (IsKept c o op) n.2 (h.ops o op there).1 in
+      turned_gives op seen (is_get (ask op)) refl there (ap has_lock n.2) (ap is_unplaced n.2) (ap is_unfinished n.2)
+      (subst (λ p. MayFollow p (Search seen)) at tt) (subst (λ p. MayFollow p (Lock seen)) at tt) k.upto
+      (w op there ∙ ap (λ p. set c.table o (Some (moved op (c.steps + 1) p))) (turns op there))
+
+  -- an operation that met another version than it remembers
+  left_gives : (op : Operation) (b : Bool) → op_at c.table o ≡ Some op → has_lock op.progress ≡ false → is_unplaced op.progress ≡ true → is_unfinished op.progress ≡ true
+      → MayFollow op.progress Enter → MayFollow op.progress (Forward c.node.version)
+      → table ≡ set c.table o (Some (moved op (c.steps + 1) (cond b Enter (Forward c.node.version)))) → Gives now (still c table) o false
+  left_gives op true there free waits open_before to_enter to_forward w = still_gives op Enter there free waits open_before to_enter (no_change op.progress waits) tt w false refl
+  left_gives op false there free waits open_before to_enter to_forward w =
+      still_gives op (Forward c.node.version) there free waits open_before to_forward (no_change op.progress waits) (seen_now op (Forward c.node.version) there _) w false refl
+
+  pub away_done : (seen : Parts) (reply : Reply) (at : ℕ) → IsNext now o (Confirm seen reply at) → Written c o table (left c.node.version) → Gives now (still c table) o false
+  away_done seen reply at n w =
+      let op = n.0 in
+      let there = there_is (Confirm seen reply at) n in
+      let at_confirm : Confirm seen reply at ≡ op.progress = sym n.2 in
+      left_gives op c.node.version.deleted there (ap has_lock n.2) (ap is_unplaced n.2) (ap is_unfinished n.2)
+      (subst (λ p. MayFollow p Enter) at_confirm tt) (subst (λ p. MayFollow p (Forward c.node.version)) at_confirm tt) (w op there)
+
+  pub passed_done : (seen : Parts) → IsNext now o (Lock seen) → Written c o table (left c.node.version) → Gives now (still c table) o false
+  passed_done seen n w =
+      let op = n.0 in
+      let there = there_is (Lock seen) n in
+      let at_lock : Lock seen ≡ op.progress = sym n.2 in
+      left_gives op c.node.version.deleted there (ap has_lock n.2) (ap is_unplaced n.2) (ap is_unfinished n.2)
+      (subst (λ p. MayFollow p Enter) at_lock tt) (subst (λ p. MayFollow p (Forward c.node.version)) at_lock tt) (w op there)
+
+  -- a get that meets the version that it remembers is done
+  pub confirm_done : (seen : Parts) (reply : Reply) (at : ℕ) → IsNext now o (Confirm seen reply at) → insert_age seen ≡ age c
+      → ((op : Operation) → op_at c.table o ≡ Some op → op.progress ≡ Confirm seen reply at → table ≡ set c.table o (Some (moved op (c.steps + 1) (Finished reply at)))) → Gives now (still c table) o true
+  confirm_done seen reply at n same w =
+      let op = n.0 in
+      let there = there_is (Confirm seen reply at) n in
+      let k : IsAtConfirm c op seen reply at = subst (IsKept c o op) n.2 (h.ops o op there).1 in
+      let told = k.told same in
+      let look : is_change reply ≡ false = ap is_change told ∙ get_looks (quota_of (shown c) op.tenant) (ask op) (map_of (shown c) op.tenant at) k.get_is in
+      still_gives op (Finished reply at) there (ap has_lock n.2) (ap is_unplaced n.2) (ap is_unfinished n.2)
+      (subst (λ p. MayFollow p (Finished reply at)) (sym n.2) (refl, refl)) (ap (λ b. cond b (Some at) None) look ∙ no_change op.progress (ap is_unplaced n.2))
+      (record {
+        begun = first_begun c o op h there few (Finished reply at);
+        since = first_stays c o op h there few (Finished reply at) at k.has_seen.begun k.since;
+        upto = omega (arith, k.made);
+        placed = λ real. record { changes = λ e. absurd (both_ways _ look e); looks = λ _. told };
+      }) (w op there n.2) true refl
+
+  -- a get that found no memory for its row
+  pub no_row_done : (seen : Parts) (slot searched : ℕ) → IsNext now o (Load seen slot searched) → Written c o table (Finished NoMemory (c.steps + 1)) → Gives now (still c table) o true
+  no_row_done seen slot searched n w =
+      let op = n.0 in
+      let there = there_is (Load seen slot searched) n in
+      still_gives op (Finished NoMemory (c.steps + 1)) there (ap has_lock n.2) (ap is_unplaced n.2) (ap is_unfinished n.2)
+      (subst (λ p. MayFollow p (Finished NoMemory (c.steps + 1))) (sym n.2) refl) (no_change op.progress (ap is_unplaced n.2))
+      (record {
+        begun = first_begun c o op h there few (Finished NoMemory (c.steps + 1));
+        since = first_upto c o op h there few (Finished NoMemory (c.steps + 1));
+        upto = omega arith;
+        placed = λ real. absurd (cc);
+      }) (w op there) true refl
+
+  -- a search that found the key, or none
+  search_gives : (seen : Parts) (op : Operation) (found : Option ℕ) → op_at c.table o ≡ Some op → op.progress ≡ Search seen → TellsSlot c.node op.key found
+      → table ≡ set c.table o (Some (moved op (c.steps + 1) (searched seen found (c.steps + 1)))) → Gives now (still c table) o false
+  search_gives seen op (Some slot) there at found w =
+      let k : IsAtSearch c op seen = subst (IsKept c o op) at (h.ops o op there).1 in
+      let next = Load seen slot (c.steps + 1) in
+      still_gives op next there (ap has_lock at) (ap is_unplaced at) (ap is_unfinished at) (subst (λ p. MayFollow p next) (sym at) tt) (no_change op.progress (ap is_unplaced at))
+      (record {
+        get_is = k.get_is;
+        has_seen = seen_before op next seen there _ k.has_seen;
+        since = first_upto c o op h there few next;
+        made = omega arith;
+        found = λ same. record { live = found.live; key_is = has_found_key [] 0 c.node op.key slot (in_top_tree op.key (h.ops o op there).0.stored) found };
+      }) w false refl
+  search_gives seen op None there at missing w =
+      let k : IsAtSearch c op seen = subst (IsKept c o op) at (h.ops o op there).1 in
+      let open_op = (h.ops o op there).0 in
+      let next = Confirm seen Absent (c.steps + 1) in
+      let none : get (pairs_of c) (op.tenant, key_of (ask op)) ≡ None =
+      ap (get (pairs_of c)) (sym open_op.owner) ∙ find_missing [] 0 (entries_of c.node) op.key h.node.keys (in_top_tree op.key open_op.stored) missing in
+      still_gives op next there (ap has_lock at) (ap is_unplaced at) (ap is_unfinished at) (subst (λ p. MayFollow p next) (sym at) refl) (no_change op.progress (ap is_unplaced at))
+      (record {
+        get_is = k.get_is;
+        has_seen = seen_before op next seen there _ k.has_seen;
+        since = first_upto c o op h there few next;
+        made = omega arith;
+        told = λ same. get_absent (quota_of (shown c) op.tenant) op.request (map_of (shown c) op.tenant (c.steps + 1)) k.get_is
+            (row_now c h op.tenant (key_of (ask op)) (c.steps + 1) (omega arith) ∙ none);
+      }) w false refl
+
+  pub search_done : (seen : Parts) (found : Option ℕ) → IsNext now o (Search seen) → ((op : Operation) → op_at c.table o ≡ Some op → TellsSlot c.node op.key found)
+      → Written c o table (searched seen found (c.steps + 1)) → Gives now (still c table) o false
+  search_done seen found n tells w = let there = there_is (Search seen) n in search_gives seen n.0 found there n.2 (tells n.0 there) (w n.0 there)
+
+  -- a get that took what the slot shows
+  load_gives : (seen : Parts) (slot looked at : ℕ) (reply : Reply) (stamp : Option ℕ) (op : Operation) → op_at c.table o ≡ Some op → op.progress ≡ Load seen slot looked → TellsTaken c.node slot op (reply, stamp)
+      → at ≡ unwrap_or stamp looked → table ≡ set c.table o (Some (moved op (c.steps + 1) (Confirm seen reply at))) → Gives now (still c table) o false
+  load_gives seen slot looked at reply stamp op there phase taken is_at w =
+      let k : IsAtLoad c op seen slot looked = subst (IsKept c o op) phase (h.ops o op there).1 in
+      let open_op = (h.ops o op there).0 in
+      let next = Confirm seen reply at in
+      let asked = get_asks op.request k.get_is in
+      let bounds : (op.first ≤ at) × (at ≤ c.steps + 1) = elim (cases_lt slot (length (entries_of c.node))) [
+        | inr out ↦
+            let is_looked : at ≡ looked = is_at ∙ ap (λ s. unwrap_or s looked) (taken.nothing (λ live. absurd (omega arith))) in
+            (omega (arith, is_looked, k.since), omega (arith, is_looked, k.made))
+        | inl live ↦
+            let pair = stable_pair (get_or (entries_of c.node) slot any_entry) (h.node.stable slot any_entry live) in
+            let row = taken.row pair.0 live pair.1 asked.0 asked.1 in
+            let stamped = h.node.stamped slot any_entry live pair.0 pair.1 in
+            let is_max : at ≡ max op.first pair.0.stamp = is_at ∙ ap (λ s. unwrap_or s looked) row.1 in
+            (omega (arith, is_max), omega (arith, is_max, stamped.0, open_op.order, open_op.made))
+      ] in
+      still_gives op next there (ap has_lock phase) (ap is_unplaced phase) (ap is_unfinished phase) (subst (λ p. MayFollow p next) (sym phase) tt) (no_change op.progress (ap is_unplaced phase))
+      (record {
+        get_is = k.get_is;
+        has_seen = seen_before op next seen there _ k.has_seen;
+        since = first_stays c o op h there few next at k.has_seen.begun bounds.0;
+        made = bounds.1;
+        told = λ same.
+            let holds = k.found same in
+            let pair = stable_pair (get_or (entries_of c.node) slot any_entry) (h.node.stable slot any_entry holds.live) in
+            let row = taken.row pair.0 holds.live pair.1 asked.0 asked.1 in
+            let is_max : at ≡ max op.first pair.0.stamp = is_at ∙ ap (λ s. unwrap_or s looked) row.1 in
+            let stamped = stamped_here (λ q s. (s ≤ c.steps) × IsUntouched c.tape.entries q s) [] 0 c.node slot op.key pair.0 holds.live holds.key_is pair.1 h.node.stamped in
+            let untouched : IsUntouched c.tape.entries (op.tenant, key_of (ask op)) pair.0.stamp = subst (λ q. IsUntouched c.tape.entries q pair.0.stamp) open_op.owner stamped.1 in
+            let there_row : get (pairs_of c) (op.tenant, key_of (ask op)) ≡ Some pair.0.row =
+            ap (get (pairs_of c)) (sym open_op.owner) ∙ row_at [] 0 c.node op.key slot pair.0 h.node.border h.node.keys holds.live holds.key_is pair.1 in
+            let at_number : get (map_of (shown c) op.tenant at) (key_of (ask op)) ≡ Some pair.0.row =
+            get-map_at c.tape.entries (pairs_of c) op.tenant (key_of (ask op)) pair.0.stamp at untouched (omega (arith, is_max))
+            ∙ get-tenant_map op.tenant (pairs_of c) (key_of (ask op)) ∙ there_row in
+            row.0 ∙ get_found (quota_of (shown c) op.tenant) op.request (map_of (shown c) op.tenant at) asked.0 pair.0.row asked.1 at_number;
+      }) w false refl
+
+  pub load_done : (seen : Parts) (slot looked at : ℕ) (reply : Reply) (stamp : Option ℕ) → IsNext now o (Load seen slot looked) → ((op : Operation) → op_at c.table o ≡ Some op → TellsTaken c.node slot op (reply, stamp))
+      → at ≡ unwrap_or stamp looked → Written c o table (Confirm seen reply at) → Gives now (still c table) o false
+  load_done seen slot looked at reply stamp n tells is_at w =
+      let there = there_is (Load seen slot looked) n in
+      load_gives seen slot looked at reply stamp n.0 there n.2 (tells n.0 there) is_at (w n.0 there)

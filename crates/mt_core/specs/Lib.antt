@@ -1,0 +1,13 @@
+pub mod Contents
+pub mod Names
+pub mod Operations
+pub mod Views
+pub mod Kept
+pub mod Reads
+pub mod Sound
+pub mod Promises
+pub mod Begins
+pub mod Histories
+pub mod Shows
+pub mod Admitted
+pub mod States

@@ -1,0 +1,185 @@
+//! A run of many events on a new state, with what each answered.
+//!
+//! Events name operations by numbers of the caller's choice; the run keeps their tickets. Errors: the
+//! memory of the run's own lists; the state that it was run on is dropped then.
+
+ghost use Rattle.std.specs.Prelude.{◌≡◌, ◌≤◌, ◌↔◌, ℕ, IsTrue, Some, None, IfOk, OnOk, length};
+ghost use Rattle.std.specs.List.{All, zip};
+ghost use Rattle.mt_rows.specs.Accounts.{account_of};
+ghost use Rattle.mt_runs.specs.declared.event.Event.TheVariants.{Begin, Step};
+ghost use Rattle.mt_runs.specs.Runs.{story_of};
+ghost use Rattle.mt_runs.specs.Placings.{no_pairs, HasOneOrder};
+ghost use Rattle.mt_core.specs.Views.{quota_in};
+ghost use Rattle.mt_core.specs.Begins.{new_state, HaveNoPairs, IsWorker, MayBegin, IsEnded, Takes};
+ghost use Rattle.mt_core.specs.Histories.{named, Renames, AreNamed, IsServed, TellsEvent, LeadsTo, no_names, Names as AnyNames};
+
+use crate::answers::{Move, Ticket};
+use crate::state::State;
+use mt_rows::{Command, Tenants};
+use mt_runs::{Answer, Event, Told};
+use std::alloc::{AllocError, Global};
+use std::collections::BTreeMap;
+use std::marker::Model;
+
+/// What the events of a run answered, in their order.
+#[derive(Debug, Drop)]
+pub struct ToldList {
+    told: Vec<Told>,
+}
+
+impl Model for ToldList {
+    ghost use Rattle.std.specs.Prelude.{List};
+    ghost use Rattle.mt_runs.specs.declared.event.Told.{Told as AnyTold};
+
+    ghost Value = { List AnyTold };
+
+    ghost view = { λ t. t.told.items };
+}
+
+impl ToldList {
+    /// The answers.
+    pub fn as_slice(&self) -> &[Told]
+        ensures { result.now ≡ self.now }
+    {
+        &self.told
+    }
+}
+
+/// Lets events happen to a new state, and gives it back with what each answered.
+///
+/// A begin by a name by which one was begun before, and a step by a name whose operation is not open,
+/// answer `NoSuch`; so does a begin that the state can't take: a remove, a scan, or a put while another
+/// has a step left. A begin that is refused leaves its name free. The answer of an operation is taken
+/// with its last step.
+pub fn run_events(
+    alloc: Global,
+    logs: u8,
+    tenants: Tenants,
+    events: &[Event],
+) -> Result<(State, ToldList), AllocError>
+    requires logs { logs ≤ 64 }
+    requires empty { HaveNoPairs tenants }
+    requires workers { All (IsServed logs) events.now }
+    ensures headline { IfOk result (λ r. HasOneOrder (λ t. quota_in (account_of tenants t)) no_pairs (story_of 0 (zip events.now r.1))) }
+    ensures count { IfOk result (λ r. length r.1 ≡ length events.now) }
+    ensures run { IfOk result (λ r. (names : AnyNames) × LeadsTo no_names (new_state logs tenants) (zip events.now r.1) names r.0) }
+{
+    let mut state = State::new(alloc, logs, tenants);
+    let mut names = BTreeMap::new(alloc);
+    let mut told = Vec::new(alloc);
+    for event in events {
+        let answer = tell(&mut state, &mut names, event)?;
+        told.push(answer)?;
+    }
+    Ok((state, ToldList { told }))
+}
+
+// Lets one event happen.
+fn tell(
+    state: &mut State,
+    names: &mut BTreeMap<u64, Option<Ticket>>,
+    event: &Event,
+) -> Result<Told, AllocError>
+    requires worker { IsServed state.old.logs event.now }
+    requires named { AreNamed (named names.old) state.old.table }
+    ensures logs { OnOk result (state.new.logs ≡ state.old.logs) }
+    ensures tells { IfOk result (λ told. TellsEvent (named names.old) state.old (named names.new) state.new event.now told) }
+{
+    match event {
+        Event::Begin {
+            op,
+            worker,
+            tenant,
+            command,
+        } => begin_by(state, names, *op, *worker, *tenant, command),
+        Event::Step { op } => Ok(step_by(state, names, *op)),
+    }
+}
+
+// Begins an operation by a name.
+fn begin_by(
+    state: &mut State,
+    names: &mut BTreeMap<u64, Option<Ticket>>,
+    op: u64,
+    worker: u8,
+    tenant: u32,
+    command: &Command,
+) -> Result<Told, AllocError>
+    requires worker { IsWorker state.old.logs worker }
+    ensures logs { OnOk result (state.new.logs ≡ state.old.logs) }
+    ensures tells { IfOk result (λ told. TellsEvent (named names.old) state.old (named names.new) state.new (Begin op worker tenant command.now) told) }
+{
+    if names.contains_key(&op) || !may_begin(state, command) {
+        return Ok(Told::NoSuch);
+    }
+    match state.begin(worker, tenant, command.copied()?) {
+        Ok(ticket) => {
+            names.insert(op, Some(ticket))?;
+            Ok(Told::Begun)
+        }
+        Err(refusal) => Ok(Told::Refused(refusal)),
+    }
+}
+
+// Whether the state takes the command now.
+fn may_begin(state: &State, command: &Command) -> bool
+    ensures { IsTrue result ↔ MayBegin state.now.table command.now }
+{
+    match command {
+        Command::Get { .. } => true,
+        Command::Put { .. } => !state.has_open_put(),
+        Command::Remove { .. } | Command::Scan { .. } => false,
+    }
+}
+
+// Makes one step of the operation of a name, and takes its answer with its last one.
+fn step_by(state: &mut State, names: &mut BTreeMap<u64, Option<Ticket>>, op: u64) -> Told
+    requires named { AreNamed (named names.old) state.old.table }
+    ensures logs { state.new.logs ≡ state.old.logs }
+    ensures tells { TellsEvent (named names.old) state.old (named names.new) state.new (Step op) result }
+{
+    let Some(Some(ticket)) = names.get(&op) else {
+        return Told::NoSuch;
+    };
+    match state.step(ticket) {
+        Move::Moved => Told::Moved,
+        Move::Again { holder } => Told::Again(name_of(names, holder)),
+        Move::NoMemory => Told::NoMemory,
+        Move::Done => Told::Done(take_by(state, names, op)),
+        Move::Spent => Told::Spent,
+        Move::NoSuch => Told::NoSuch,
+    }
+}
+
+// The name of the operation that has this number.
+fn name_of(names: &BTreeMap<u64, Option<Ticket>>, number: u64) -> u64
+    requires there { (o : ℕ) × (named names.now o ≡ Some (Some number)) }
+    ensures { named names.now result ≡ Some (Some number) }
+{
+    for name in names.keys() {
+        if let Some(Some(ticket)) = names.get(name) {
+            if ticket.number() == number {
+                return *name;
+            }
+        }
+    }
+    unreachable!()
+}
+
+// Takes the answer of the operation of a name, which has no step left.
+fn take_by(state: &mut State, names: &mut BTreeMap<u64, Option<Ticket>>, op: u64) -> Answer
+    requires ended { (n : ℕ) × (named names.old op ≡ Some (Some n)) × IsEnded state.old.table n }
+    ensures takes { (n : ℕ) → named names.old op ≡ Some (Some n) → Takes state.old state.new n result }
+    ensures renames { Renames (named names.old) (named names.new) op None }
+{
+    let Some(kept) = names.get_mut(&op) else {
+        unreachable!()
+    };
+    let Some(ticket) = kept.take() else {
+        unreachable!()
+    };
+    match state.take(ticket) {
+        Ok(answer) => answer,
+        Err(_) => unreachable!(),
+    }
+}

@@ -1,0 +1,180 @@
+//! How operations come into the table and leave it.
+
+ghost use Rattle.std.specs.Prelude.{◌≡◌, ◌≢◌, ◌≤◌, ◌↔◌, ℕ, false, IsTrue, IfSome, IfNone, IfOk, OnErr, length, slice_set, Some, None};
+ghost use Rattle.slab.specs.Slab.{get, Updates};
+ghost use Rattle.mt_rows.specs.Rows.{AreIndexes};
+ghost use Rattle.mt_core.specs.Operations.{command_of};
+ghost use Rattle.mt_core.specs.declared.operation.Operation.{Operation as AnyOperation};
+ghost use Rattle.mt_core.specs.Sound.{is_unfinished};
+ghost use Rattle.mt_core.specs.Begins.{HasOpenPut, IsAnswerOf, IsEnded};
+ghost use Rattle.mt_core.specs.Admitted.{IsPoint, IsRequest, IsAdmitted, HasRoomFor};
+
+use crate::operation::{Operation, Progress, Request};
+use crate::reads::slot_of;
+use mt_border::Border;
+use mt_rows::{Change, ColumnIndexes, Command, Key, NamedColumns, Refusal};
+use mt_runs::Answer;
+use mt_slices::{KeyRefusal, StoredKey};
+use slab::Slab;
+use std::alloc::Global;
+
+/// The longest key that one border node takes, in bytes.
+const SHORT_KEY_BYTES: usize = 4;
+
+// The request of a command, as far as one border node takes it: `KeyLong` for a key of over 4 bytes,
+// then `Column` for any column but 0, then `ColumnLong`.
+fn request_of(command: Command) -> Result<Request, Refusal>
+    requires { IsPoint command }
+    ensures { IfOk result (λ request. IsRequest request command) }
+{
+    match command {
+        Command::Get { key, columns } => get_of(key, columns),
+        Command::Put { key, change } => put_of(key, change),
+        _ => unreachable!(),
+    }
+}
+
+// The request of a get.
+fn get_of(key: Key, columns: ColumnIndexes) -> Result<Request, Refusal>
+    ensures { IfOk result (λ request. IsRequest request (Command.Get key columns)) }
+{
+    if key.as_bytes().len() > SHORT_KEY_BYTES {
+        return Err(Refusal::KeyLong);
+    }
+    if !asks_first(&columns) {
+        return Err(Refusal::Column);
+    }
+    Ok(Request::Get { key, columns })
+}
+
+// The request of a put.
+fn put_of(key: Key, change: NamedColumns) -> Result<Request, Refusal>
+    ensures { IfOk result (λ request. IsRequest request (Command.Put key change)) }
+{
+    if key.as_bytes().len() > SHORT_KEY_BYTES {
+        return Err(Refusal::KeyLong);
+    }
+    if !names_first(&change) {
+        return Err(Refusal::Column);
+    }
+    let change = Change::new(change)?;
+    Ok(Request::Put { key, change })
+}
+
+// Whether no column is asked for, or column 0 alone.
+fn asks_first(columns: &ColumnIndexes) -> bool
+    ensures { IsTrue result → AreIndexes columns.now }
+{
+    columns.may_be_asked() && columns.as_slice().iter().all(|index| *index == 0)
+}
+
+// Whether column 0 alone is named, or none.
+fn names_first(change: &NamedColumns) -> bool {
+    change.as_slice().iter().all(|named| named.0 == 0)
+}
+
+/// An operation before its first step.
+pub(crate) fn admitted(
+    alloc: Global,
+    worker: u8,
+    tenant: u32,
+    command: Command,
+) -> Result<Operation, Refusal>
+    requires { IsPoint command }
+    ensures { IfOk result (λ op. IsAdmitted op worker tenant command) }
+{
+    let request = request_of(command)?;
+    let key = match StoredKey::new(alloc, tenant, request.key().as_bytes()) {
+        Ok(key) => key,
+        Err(KeyRefusal::KeyLong) => return Err(Refusal::KeyLong),
+        Err(KeyRefusal::Memory) => return Err(Refusal::Memory),
+    };
+    Ok(Operation {
+        worker,
+        tenant,
+        request,
+        key,
+        first: 0,
+        last: 0,
+        progress: Progress::Enter,
+    })
+}
+
+/// Whether the node has room for the operation: a get needs none, and a put none where its key is
+/// there.
+pub(crate) fn has_room(root: &Border, operation: &Operation) -> bool
+    requires { length operation.now.key ≤ 8 }
+    ensures { IsTrue result → HasRoomFor root.now operation.now }
+{
+    operation.request.is_get() || !root.is_full() || slot_of(root, &operation.key).is_some()
+}
+
+/// Keeps an operation, at a number that was free.
+pub(crate) fn keep(operations: &mut Slab<Operation>, operation: Operation) -> Result<usize, Refusal>
+    ensures vacant { IfOk result (λ number. get operations.old number ≡ None) }
+    ensures kept { IfOk result (λ number. Updates operations.old operations.new number (Some operation)) }
+    ensures unchanged_on_err { OnErr result (operations.new.slots ≡ operations.old.slots) }
+{
+    let number = operations.insert(operation)?;
+    Ok(number)
+}
+
+/// Takes an operation that is finished out of the table, and tells its answer.
+pub(crate) fn give_up(operations: &mut Slab<Operation>, number: usize) -> Option<Answer>
+    ensures taken { IfSome result (λ answer. (op : AnyOperation) × (get operations.old number ≡ Some op) × IsAnswerOf op answer × (operations.new.slots ≡ slice_set operations.old.slots number None)) }
+    ensures open { IfNone result ((operations.new.slots ≡ operations.old.slots) × ¬ IsEnded operations.old.slots number) }
+{
+    if !is_ended(operations, number) {
+        return None;
+    }
+    match operations.try_remove(number) {
+        Some(operation) => Some(answer_of(operation)),
+        None => unreachable!(),
+    }
+}
+
+// Whether the operation is there, and no step of it is left.
+fn is_ended(operations: &Slab<Operation>, number: usize) -> bool
+    ensures { IsTrue result ↔ IsEnded operations.now.slots number }
+{
+    match operations.get(number) {
+        Some(operation) => matches!(&operation.progress, Progress::Finished { .. }),
+        None => false,
+    }
+}
+
+// The answer of a finished operation.
+fn answer_of(operation: Operation) -> Answer
+    requires { is_unfinished operation.progress ≡ false }
+    ensures { IsAnswerOf operation result }
+{
+    let Operation {
+        request,
+        first,
+        last,
+        progress,
+        ..
+    } = operation;
+    match progress {
+        Progress::Finished { reply, at } => Answer {
+            command: request.into_command(),
+            reply,
+            first,
+            at,
+            last,
+        },
+        _ => unreachable!(),
+    }
+}
+
+/// Whether a put has a step left.
+pub(crate) fn has_open_put_in(operations: &Slab<Operation>) -> bool
+    ensures { IsTrue result ↔ HasOpenPut operations.now.slots }
+{
+    for (_, operation) in operations.iter() {
+        if operation.is_open_put() {
+            return true;
+        }
+    }
+    false
+}

@@ -1,0 +1,432 @@
+//! The state and its calls.
+//!
+//! Invariant: `Sound` of `specs/Sound.antt`. It owns its node, its tape and its operations. Errors:
+//! refusals of `begin`, which change nothing. Units: steps by their numbers, which begin at 1.
+
+ghost use Rattle.std.specs.Prelude.{◌≡◌, ◌+◌, ◌<◌, ◌≤◌, ◌^◌, ◌↔◌, ℕ, IsTrue, IfOk, length, false, max, Some, None};
+ghost use Rattle.mt_rows.specs.declared.reply.Reply.{Reply as AnyReply};
+ghost use Rattle.mt_rows.specs.Rows.{Bytes, Columns};
+ghost use Rattle.mt_tape.specs.declared.entry.Entry.{Entry as AnyEntry};
+ghost use Rattle.mt_version.specs.Parts.{Parts};
+ghost use Rattle.std.specs.Option.{option_map};
+ghost use Rattle.mt_core.specs.Promises.{IsNext, Tells};
+ghost use Rattle.mt_core.specs.Begins.{new_state, HaveNoPairs, IsWorker, MayBegin, HasOpenPut, TellsBegin, TellsTake};
+ghost use Rattle.mt_core.specs.Shows.{phase_at, noted_at};
+
+use crate::answers::{Move, Ticket};
+use crate::openings::{admitted, give_up, has_open_put_in, has_room, keep};
+use crate::operation::{Operation, Progress, advance, finish, go_on};
+use crate::phase::Phase;
+use crate::reads::{
+    add_entry, count_at, entry_of, left, marker, out_of_memory, ready_at, searched, slot_at,
+    taken_at, turn, write_row,
+};
+use crate::shape::{ShapeLine, line_of};
+use mt_border::Border;
+use mt_rows::{Command, Refusal, Reply, Tenants};
+use mt_runs::Answer;
+use mt_tape::Tape;
+use mt_version::Version;
+use slab::Slab;
+use std::alloc::{AllocError, Global};
+use std::marker::Model;
+
+/// Steps are numbered up to this.
+pub const MAX_STEPS: u64 = 1 << 59;
+
+/// The node, the tape of its changes, and the operations.
+#[derive(Drop)]
+pub struct State {
+    alloc: Global,
+    steps: u64,
+    logs: u8,
+    tenants: Tenants,
+    root: Border,
+    holder: Option<usize>,
+    tape: Tape,
+    operations: Slab<Operation>,
+}
+
+impl Model for State {
+    ghost use Rattle.mt_core.specs.Views.{View, shown, contents_code};
+    ghost use Rattle.mt_core.specs.Sound.{Sound};
+    ghost use Rattle.std.specs.Coded.{codes};
+
+    ghost Value = { View };
+
+    ghost coded = { Prim.hlevel (codes, contents_code) };
+
+    ghost use Rattle.mt_core.specs.States.{core_of};
+
+    ghost view = { λ s. shown (core_of s) };
+
+    ghost invariant = { λ s. Sound (core_of s) };
+}
+
+impl State {
+    /// A state in which nothing has happened, for logs of so many workers, or for one worker where
+    /// none are kept.
+    pub fn new(alloc: Global, logs: u8, tenants: Tenants) -> Self
+        requires logs { logs ≤ 64 }
+        requires empty { HaveNoPairs tenants }
+        ensures { result ≡ new_state logs tenants }
+    {
+        State {
+            alloc,
+            steps: 0,
+            logs,
+            tenants,
+            root: Border::new(alloc, 0, None, Version::root_border()),
+            holder: None,
+            tape: Tape::new(alloc, 0),
+            operations: Slab::new(alloc),
+        }
+    }
+
+    /// Begins an operation of a worker for a tenant.
+    pub fn begin(&mut self, worker: u8, tenant: u32, command: Command) -> Result<Ticket, Refusal>
+        requires worker { IsWorker self.old.logs worker }
+        requires one_put { MayBegin self.old.table command }
+        ensures { TellsBegin self.old self.new worker tenant command result }
+    {
+        let Some(_) = self.tenants.account(tenant) else {
+            return Err(Refusal::NoTenant);
+        };
+        let operation = admitted(self.alloc, worker, tenant, command)?;
+        if !has_room(&self.root, &operation) {
+            return Err(Refusal::NoRoom);
+        }
+        if self.steps >= MAX_STEPS {
+            return Err(Refusal::Spent);
+        }
+        let number = keep(&mut self.operations, operation)?;
+        Ok(Ticket { number })
+    }
+
+    /// The answer of an operation that is finished; else its ticket comes back.
+    pub fn take(&mut self, ticket: Ticket) -> Result<Answer, Ticket>
+        ensures { TellsTake self.old self.new ticket result }
+    {
+        match give_up(&mut self.operations, ticket.number) {
+            Some(answer) => Ok(answer),
+            None => Err(ticket),
+        }
+    }
+
+    /// Whether a put has a step left: as long as there is one node alone, no other may be begun.
+    pub fn has_open_put(&self) -> bool
+        ensures { IsTrue result ↔ HasOpenPut self.now.table }
+    {
+        has_open_put_in(&self.operations)
+    }
+
+    /// What the operation's next step does; nothing, where no step of it is left.
+    pub fn phase(&self, ticket: &Ticket) -> Option<Phase>
+        ensures { result ≡ phase_at self.now.table ticket.now.number }
+    {
+        self.operations.get(ticket.number)?.progress.phase()
+    }
+
+    /// The reply that a get remembers, which it answers where its next step finds the node's keys
+    /// as they were.
+    pub fn noted(&self, ticket: &Ticket) -> Option<&Reply>
+        ensures { option_map (λ r. r.now) result ≡ noted_at self.now.table ticket.now.number }
+    {
+        match &self.operations.get(ticket.number)?.progress {
+            Progress::Confirm { reply, .. } => Some(reply),
+            _ => None,
+        }
+    }
+
+    /// The tree, line by line, as it is printed.
+    pub fn shape(&self, alloc: Global) -> Result<Vec<ShapeLine>, AllocError>
+        ensures { IfOk result (λ lines. length lines.items ≡ 2) }
+    {
+        let mut lines = Vec::new(alloc);
+        lines.push(ShapeLine::Tree)?;
+        lines.push(line_of(&self.root))?;
+        Ok(lines)
+    }
+
+    /// How many steps were made.
+    pub fn steps(&self) -> u64
+        ensures { result ≡ self.now.steps }
+    {
+        self.steps
+    }
+
+    /// How many logs are served, 0 where none are kept.
+    pub fn logs(&self) -> u8
+        ensures { result ≡ self.now.logs }
+    {
+        self.logs
+    }
+
+    /// Makes one step of an operation.
+    pub fn step(&mut self, ticket: &Ticket) -> Move
+        ensures { Tells self.old self.new ticket.now.number result }
+    {
+        let number = ticket.number;
+        let Some(operation) = self.operations.get(number) else {
+            return Move::NoSuch;
+        };
+        if let Progress::Finished { .. } = &operation.progress {
+            return Move::NoSuch;
+        }
+        if self.steps >= MAX_STEPS {
+            return Move::Spent;
+        }
+        match &operation.progress {
+            Progress::Enter => self.enter(number),
+            Progress::Search { seen } => {
+                let seen = *seen;
+                self.search(number, seen)
+            }
+            Progress::Load {
+                seen,
+                slot,
+                searched,
+            } => {
+                let (seen, slot, searched) = (*seen, *slot, *searched);
+                self.load(number, seen, slot, searched)
+            }
+            Progress::Confirm { seen, .. } => {
+                let seen = *seen;
+                self.confirm(number, seen)
+            }
+            Progress::Forward { seen } => {
+                let seen = *seen;
+                self.forward(number, seen)
+            }
+            Progress::Lock { seen } => {
+                let seen = *seen;
+                self.lock(number, seen)
+            }
+            Progress::Judge => self.judge(number),
+            Progress::Store { .. } => self.store(number),
+            Progress::Publish { .. } => self.publish(number),
+            Progress::Unlock { .. } => self.unlock(number),
+            Progress::Finished { .. } => Move::NoSuch,
+        }
+    }
+
+    // Remembers the root's version.
+    fn enter(&mut self, number: usize) -> Move
+        requires next { IsNext self.old number Progress.Enter }
+        requires few { self.old.steps < 2 ^ 59 }
+        ensures { Tells self.old self.new number result }
+    {
+        let seen = self.root.version();
+        if let Some(holder) = marker(seen, self.holder) {
+            return Move::Again {
+                holder: holder as u64,
+            };
+        }
+        self.steps += 1;
+        let progress = turn(&self.operations, number, seen);
+        go_on(&mut self.operations, number, self.steps, progress);
+        Move::Moved
+    }
+
+    // Looks for the key.
+    fn search(&mut self, number: usize, seen: Version) -> Move
+        requires next { IsNext self.old number (Progress.Search seen) }
+        requires few { self.old.steps < 2 ^ 59 }
+        ensures { Tells self.old self.new number result }
+    {
+        let found = slot_at(&self.root, &self.operations, number);
+        self.steps += 1;
+        let progress = searched(seen, found, self.steps);
+        go_on(&mut self.operations, number, self.steps, progress);
+        Move::Moved
+    }
+
+    // Takes the row of the slot that was found.
+    fn load(&mut self, number: usize, seen: Version, slot: usize, searched: u64) -> Move
+        requires next { IsNext self.old number (Progress.Load seen slot searched) }
+        requires few { self.old.steps < 2 ^ 59 }
+        ensures { Tells self.old self.new number result }
+    {
+        let taken = taken_at(self.alloc, &self.root, slot, &self.operations, number);
+        self.steps += 1;
+        match taken {
+            Some((reply, at)) => {
+                let at = at.unwrap_or(searched);
+                let progress = Progress::Confirm { seen, reply, at };
+                go_on(&mut self.operations, number, self.steps, progress);
+                Move::Moved
+            }
+            None => {
+                let progress = out_of_memory(self.steps);
+                go_on(&mut self.operations, number, self.steps, progress);
+                Move::Done
+            }
+        }
+    }
+
+    // Compares the version with the one that was remembered.
+    fn confirm(&mut self, number: usize, seen: Version) -> Move
+        requires next { (reply : AnyReply) × (at : ℕ) × IsNext self.old number (Progress.Confirm seen reply at) }
+        requires few { self.old.steps < 2 ^ 59 }
+        ensures { Tells self.old self.new number result }
+    {
+        let version = self.root.version();
+        if let Some(holder) = marker(version, self.holder) {
+            return Move::Again {
+                holder: holder as u64,
+            };
+        }
+        self.steps += 1;
+        if version.same_but_lock(seen) {
+            finish(&mut self.operations, number, self.steps);
+            return Move::Done;
+        }
+        let progress = left(version);
+        go_on(&mut self.operations, number, self.steps, progress);
+        Move::Moved
+    }
+
+    // There is no next node: goes back.
+    fn forward(&mut self, number: usize, seen: Version) -> Move
+        requires next { IsNext self.old number (Progress.Forward seen) }
+        requires few { self.old.steps < 2 ^ 59 }
+        ensures { Tells self.old self.new number result }
+    {
+        self.steps += 1;
+        let progress = turn(&self.operations, number, seen);
+        go_on(&mut self.operations, number, self.steps, progress);
+        Move::Moved
+    }
+
+    // Takes the lock, where the node still has the keys that it had.
+    fn lock(&mut self, number: usize, seen: Version) -> Move
+        requires next { IsNext self.old number (Progress.Lock seen) }
+        requires few { self.old.steps < 2 ^ 59 }
+        ensures { Tells self.old self.new number result }
+    {
+        if let Some(holder) = self.holder {
+            return Move::Again {
+                holder: holder as u64,
+            };
+        }
+        self.steps += 1;
+        let version = self.root.version();
+        if version.is_deleted() || version.splits() != seen.splits() {
+            let progress = left(version);
+            go_on(&mut self.operations, number, self.steps, progress);
+            return Move::Moved;
+        }
+        self.root.set_version(version.locked());
+        self.holder = Some(number);
+        go_on(&mut self.operations, number, self.steps, Progress::Judge);
+        Move::Moved
+    }
+
+    // Looks for the key under the lock, and makes all growths of the placing step.
+    fn judge(&mut self, number: usize) -> Move
+        requires next { IsNext self.old number Progress.Judge }
+        requires few { self.old.steps < 2 ^ 59 }
+        ensures { Tells self.old self.new number result }
+    {
+        self.steps += 1;
+        let ready = ready_at(
+            self.alloc,
+            &self.root,
+            &mut self.tape,
+            &self.operations,
+            number,
+        );
+        match ready {
+            Some(progress) => {
+                go_on(&mut self.operations, number, self.steps, progress);
+                Move::Moved
+            }
+            None => {
+                self.root.set_version(self.root.version().unlocked());
+                self.holder = None;
+                let progress = out_of_memory(self.steps);
+                go_on(&mut self.operations, number, self.steps, progress);
+                Move::Done
+            }
+        }
+    }
+
+    // Writes the row over the one that is there.
+    fn store(&mut self, number: usize) -> Move
+        requires next { (slot : ℕ) × (row : Columns) × (entry : AnyEntry) × IsNext self.old number (Progress.Store slot row entry) }
+        requires few { self.old.steps < 2 ^ 59 }
+        ensures { Tells self.old self.new number result }
+    {
+        self.steps += 1;
+        let placed = Progress::Unlock {
+            reply: Reply::Replaced,
+            at: self.steps,
+        };
+        let ready = advance(&mut self.operations, number, self.steps, placed);
+        let Some(
+            Progress::Store {
+                slot,
+                row,
+                mut entry,
+            },
+        ) = ready
+        else {
+            unreachable!()
+        };
+        entry.step = self.steps;
+        write_row(&mut self.root, slot, row, self.steps);
+        self.tape.push(entry);
+        Move::Moved
+    }
+
+    // Judges the quota, and makes the pair live.
+    fn publish(&mut self, number: usize) -> Move
+        requires next { (suffix : Bytes) × (row : Columns) × (entry : AnyEntry) × IsNext self.old number (Progress.Publish suffix row entry) }
+        requires few { self.old.steps < 2 ^ 59 }
+        ensures { Tells self.old self.new number result }
+    {
+        self.steps += 1;
+        if !count_at(&mut self.tenants, &self.operations, number) {
+            let placed = Progress::Unlock {
+                reply: Reply::Full,
+                at: self.steps,
+            };
+            go_on(&mut self.operations, number, self.steps, placed);
+            self.tape.release();
+            return Move::Moved;
+        }
+        let placed = Progress::Unlock {
+            reply: Reply::New,
+            at: self.steps,
+        };
+        let ready = advance(&mut self.operations, number, self.steps, placed);
+        let Some(
+            Progress::Publish {
+                suffix,
+                row,
+                mut entry,
+            },
+        ) = ready
+        else {
+            unreachable!()
+        };
+        entry.step = self.steps;
+        let added = entry_of(&self.operations, number, suffix, row, self.steps);
+        add_entry(&mut self.root, added);
+        self.tape.push(entry);
+        Move::Moved
+    }
+
+    // Gives the lock back.
+    fn unlock(&mut self, number: usize) -> Move
+        requires next { (reply : AnyReply) × (at : ℕ) × IsNext self.old number (Progress.Unlock reply at) }
+        requires few { self.old.steps < 2 ^ 59 }
+        ensures { Tells self.old self.new number result }
+    {
+        self.steps += 1;
+        self.root.set_version(self.root.version().unlocked());
+        self.holder = None;
+        finish(&mut self.operations, number, self.steps);
+        Move::Done
+    }
+}
