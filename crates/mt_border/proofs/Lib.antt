@@ -4,3 +4,9 @@ pub mod Edits
 pub mod Slots
 pub mod Cuts
 pub mod Parts
+pub mod ContentsLists
+pub mod ContentsMaps
+pub mod ContentsKeys
+pub mod ContentsFinds
+pub mod ContentsEdits
+pub mod ContentsStamps

@@ -2,3 +2,4 @@ pub mod Entry
 pub mod Entries
 pub mod Node
 pub mod Split
+pub mod Contents

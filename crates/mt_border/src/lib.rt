@@ -11,6 +11,7 @@
 #![tactic(auto)]
 
 pub mod border;
+pub mod contents;
 pub mod entry;
 mod iter;
 pub mod laws;

@@ -26,14 +26,15 @@ use Rattle.mt_tape.specs.Tapes.{Kept}
 use Rattle.mt_core.specs.declared.operation.Operation.{Operation}
 use Rattle.mt_core.specs.declared.operation.Progress.{Progress}
 use Rattle.mt_core.specs.declared.operation.Progress.TheVariants.{Lock, Judge, Store, Publish, Unlock, Finished}
-use Rattle.mt_core.specs.Operations.{moved}
+use Rattle.mt_core.specs.Operations.{moved, steps_to}
 use Rattle.mt_core.specs.Views.{Core, View, Table, shown, pairs_of, op_at, map_of, quota_of, quota_in}
 use Rattle.mt_core.specs.Kept.{ask, change_of, IsAtLock, IsAtJudge, IsReady, IsAtPublish, IsAtUnlock, IsKept}
 use Rattle.mt_core.specs.Sound.{Sound, has_lock, is_unfinished, is_unplaced}
 use Rattle.mt_core.specs.Promises.{MayFollow, IsNext, change_in}
 use Rattle.mt_core.specs.Reads.{TellsPrepared, IsPrepared, CountsNew}
-use Rattle.mt_core.proofs.ContentsKeys.{in_top_tree, has_found_key}
-use Rattle.mt_core.proofs.ContentsFinds.{find_missing, find_here}
+use Rattle.mt_border.proofs.ContentsKeys.{in_top_tree, has_found_key}
+use Rattle.mt_border.proofs.ContentsFinds.{find_missing, find_here}
+use Rattle.mt_core.proofs.Notes.{no_notes}
 use Rattle.mt_core.proofs.Present.{row_now, map_now, stable_pair, any_entry}
 use Rattle.mt_core.proofs.Rely.{placed_stays}
 use Rattle.mt_core.proofs.Quiet.{quiet, first_begun, first_upto, first_stays, KeepsLock, Gives, quiet_gives, quiet_grows, Written, quiet_done}
@@ -138,10 +139,10 @@ module _ (c : Core) (now : View) (o : ℕ) (table : Table) (is : shown c ≡ now
   lock_done seen n free w =
       let op = n.0 in
       let there = there_is (Lock seen) n in
-      let k : IsAtLock c op = kept_is (Lock seen) n in
+      let k : IsAtLock c op seen = kept_is (Lock seen) n in
       quiet_done c now o op (record c.node.version { locked = true }) (Some o) c.tape.reserved table Judge false is (w op there)
       (quiet_gives c o op h there few Judge (record c.node.version { locked = true }) (Some o) c.tape.reserved (locks c o h free)
-      (ap is_unfinished n.2) (λ _. ap is_unplaced n.2) (subst (λ p. MayFollow p Judge) (sym n.2) tt) (sym (ap change_in n.2))
+      (ap is_unfinished n.2) (λ _. ap is_unplaced n.2) (subst (λ p. MayFollow p Judge) (sym n.2) tt) (no_notes (shown c) op op.progress Judge refl) (sym (ap change_in n.2)) (λ _ _. omega (arith, ap steps_to n.2))
       (record { lock = record { put_is = k.put_is; begun = first_begun c o op h there few Judge; holder = refl }; unmarked = free_unmarked c h free }) false refl)
 
   -- the row of a key that was found
@@ -179,7 +180,7 @@ module _ (c : Core) (now : View) (o : ℕ) (table : Table) (is : shown c ≡ now
       record { lock = record { put_is = k.lock.put_is; begun = first_begun c o op h there few next; holder = k.lock.holder }; unmarked = k.unmarked } in
       quiet_done c now o op c.node.version c.holder (c.tape.reserved + 1) table next false is w
       (quiet_gives c o op h there few next c.node.version c.holder (c.tape.reserved + 1) (goes_on c o (c.tape.reserved + 1) next h k.lock.holder refl)
-      (ap is_unfinished at) (λ _. ap is_unplaced at) (subst (λ p. MayFollow p next) (sym at) tt) (sym (ap change_in at))
+      (ap is_unfinished at) (λ _. ap is_unplaced at) (subst (λ p. MayFollow p next) (sym at) tt) (no_notes (shown c) op op.progress next refl) (sym (ap change_in at)) (λ _ _. omega (arith, ap steps_to at))
       (record {
         judged = judged;
         ready = ready op next _ row entry (found_row op slot there found) prepared;
@@ -196,7 +197,7 @@ module _ (c : Core) (now : View) (o : ℕ) (table : Table) (is : shown c ≡ now
       ] in
       quiet_done c now o op c.node.version c.holder (c.tape.reserved + 1) table next false is w
       (quiet_gives c o op h there few next c.node.version c.holder (c.tape.reserved + 1) (goes_on c o (c.tape.reserved + 1) next h k.lock.holder refl)
-      (ap is_unfinished at) (λ _. ap is_unplaced at) (subst (λ p. MayFollow p next) (sym at) tt) (sym (ap change_in at))
+      (ap is_unfinished at) (λ _. ap is_unplaced at) (subst (λ p. MayFollow p next) (sym at) tt) (no_notes (shown c) op op.progress next refl) (sym (ap change_in at)) (λ _ _. omega (arith, ap steps_to at))
       (record {
         judged = judged;
         ready = ready op next None row entry none prepared;
@@ -219,7 +220,7 @@ module _ (c : Core) (now : View) (o : ℕ) (table : Table) (is : shown c ≡ now
       let next = Finished NoMemory (c.steps + 1) in
       quiet_done c now o op (unlocked_parts c.node.version) None c.tape.reserved table next true is (w op there)
       (quiet_gives c o op h there few next (unlocked_parts c.node.version) None c.tape.reserved (unlocks c o next h k.lock.holder)
-      (ap is_unfinished n.2) (λ e. absurd (cc)) (subst (λ p. MayFollow p next) (sym n.2) refl) (sym (ap change_in n.2))
+      (ap is_unfinished n.2) (λ e. absurd (cc)) (subst (λ p. MayFollow p next) (sym n.2) refl) (no_notes (shown c) op op.progress next refl) (sym (ap change_in n.2)) (λ left is. absurd (cc))
       (record { begun = first_begun c o op h there few next; since = first_upto c o op h there few next; upto = omega arith; placed = λ real. absurd (cc) }) true refl)
 
   pub unlock_done : (reply : Reply) (at : ℕ) → IsNext now o (Unlock reply at) → ((op : Operation) → op_at c.table o ≡ Some op → op.progress ≡ Unlock reply at → table ≡ set c.table o (Some (moved op (c.steps + 1) (Finished reply at))))
@@ -233,7 +234,7 @@ module _ (c : Core) (now : View) (o : ℕ) (table : Table) (is : shown c ≡ now
       let lock = unlocks c o next h k.lock.holder in
       quiet_done c now o op (unlocked_parts c.node.version) None c.tape.reserved table next true is (w op there n.2)
       (quiet_gives c o op h there few next (unlocked_parts c.node.version) None c.tape.reserved lock
-      (ap is_unfinished n.2) (λ e. absurd (cc)) (subst (λ p. MayFollow p next) (sym n.2) (refl, refl)) (sym (ap change_in n.2))
+      (ap is_unfinished n.2) (λ e. absurd (cc)) (subst (λ p. MayFollow p next) (sym n.2) (refl, refl)) (no_notes (shown c) op op.progress next refl) (sym (ap change_in n.2)) (λ left is. absurd (cc))
       (record {
         begun = first_begun c o op h there few next;
         since = first_stays c o op h there few next at k.answered.begun k.answered.since;
@@ -254,7 +255,7 @@ module _ (c : Core) (now : View) (o : ℕ) (table : Table) (is : shown c ≡ now
       let full : quota_of (shown c) op.tenant ≤ len (tenant_map op.tenant (pairs_of c)) = no_room_left op (account_of c.accounts op.tenant) refl (no_room op there) in
       quiet_done c now o op c.node.version c.holder (c.tape.reserved - 1) table next false is (w op there)
       (quiet_gives c o op h there few next c.node.version c.holder (c.tape.reserved - 1) (goes_on c o (c.tape.reserved - 1) next h k.judged.lock.holder refl)
-      (ap is_unfinished n.2) (λ e. absurd (cc)) (subst (λ p. MayFollow p next) (sym n.2) tt) (sym (ap change_in n.2))
+      (ap is_unfinished n.2) (λ e. absurd (cc)) (subst (λ p. MayFollow p next) (sym n.2) tt) (no_notes (shown c) op op.progress next refl) (sym (ap change_in n.2)) (λ _ _. omega (arith, ap steps_to n.2))
       (record {
         lock = record { put_is = k.judged.lock.put_is; begun = first_begun c o op h there few next; holder = k.judged.lock.holder };
         real = refl;

@@ -1,14 +1,10 @@
-pub mod ContentsLists
-pub mod ContentsMaps
-pub mod ContentsKeys
-pub mod ContentsFinds
-pub mod ContentsEdits
-pub mod ContentsStamps
 pub mod Tables
 pub mod Rely
 pub mod Quiet
 pub mod Replies
 pub mod Present
+pub mod Writes
+pub mod Notes
 pub mod Looks
 pub mod Taken
 pub mod Holds
@@ -24,3 +20,10 @@ pub mod HistoryRuns
 pub mod HistoryEvents
 pub mod OpenPuts
 pub mod Starts
+pub mod Tidies
+pub mod Alone
+pub mod AloneRuns
+pub mod Causes
+pub mod Tenancy
+pub mod Texts
+pub mod Edges

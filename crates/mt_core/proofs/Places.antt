@@ -2,13 +2,14 @@
 use Rattle.std.proofs.Common.{◌≡◌, ℕ, ◌+◌, ◌-◌, ◌<◌, ◌≤◌, inr, Bool, true, false, cond, eqb, [], ◌∷◌, ◌++◌, set, Some, IsSome, is_some, sym, refl, ap, subst, ◌∙◌, arith}
 use Rattle.std.specs.Prelude.{◌^◌}
 use Rattle.std.specs.List.{All}
-use Rattle.std.specs.FinMap.{len, insert}
+use Rattle.std.specs.FinMap.{get, len, insert}
 use Rattle.std.proofs.lemmas.Bool.{both_ways, eq-eqb, eqb-true}
 use Rattle.std.proofs.lemmas.Option.{same_Some}
 use Rattle.mt_rows.specs.declared.reply.Reply.{Reply}
 use Rattle.mt_rows.specs.declared.reply.Reply.TheVariants.{New, Replaced, Removed}
 use Rattle.mt_rows.specs.Commands.{key_of}
-use Rattle.mt_rows.specs.Rows.{Columns}
+use Rattle.mt_rows.specs.Rows.{Columns, columns_of}
+use Rattle.mt_rows.specs.Changes.{changed}
 use Rattle.mt_rows.specs.declared.tenants.Account.{Account}
 use Rattle.mt_rows.specs.Accounts.{Accounts, account_of}
 use Rattle.mt_rows.specs.Tenants.{Contents, tenant_map}
@@ -20,22 +21,25 @@ use Rattle.mt_border.specs.Entries.{IsBorder}
 use Rattle.mt_border.specs.Node.{Node, entries_of}
 use Rattle.mt_tape.specs.declared.entry.Entry.{Entry as TapeEntry}
 use Rattle.mt_tape.specs.Tapes.{Kept}
-use Rattle.mt_tape.specs.Histories.{IsUntouched, IsNextWrite, with_write, with_row, written_key, contents_at, IsLegal}
+use Rattle.mt_tape.specs.Histories.{IsNextWrite, with_write, with_row, written_key, contents_at, IsLegal}
 use Rattle.mt_tape.proofs.EntryLaws.{rises-push, last_step_over-push, is_changed-push, is_changed-push_other}
 use Rattle.mt_tape.proofs.TapeLaws.{contents_at-push, legal-push}
 use Rattle.mt_core.specs.declared.operation.Operation.{Operation}
 use Rattle.mt_core.specs.declared.operation.Progress.{Progress}
 use Rattle.mt_core.specs.declared.operation.Progress.TheVariants.{Unlock}
-use Rattle.mt_core.specs.Contents.{contents_of, owned, AreKeys, AllStamped}
-use Rattle.mt_core.specs.Operations.{moved}
+use Rattle.mt_border.specs.Contents.{contents_of, owned, AreKeys, AllStamped}
+use Rattle.mt_core.specs.Operations.{moved, steps_to}
 use Rattle.mt_core.specs.Views.{Core, Table, shown, pairs_of, op_at, map_of, quota_of, quota_in, Grows}
-use Rattle.mt_core.specs.Kept.{ask, age, IsAtJudge, IsReady, IsAtUnlock, IsOpen}
-use Rattle.mt_core.specs.Sound.{IsTape, IsNode, IsLock, Sound, Evolves, is_unfinished}
+use Rattle.mt_core.specs.Kept.{ask, change_of, age, IsAtJudge, IsReady, IsAtUnlock, IsOpen}
+use Rattle.mt_core.specs.Sound.{IsStampOf, IsTape, IsNode, IsLock, Sound, Evolves, is_unfinished}
+use Rattle.mt_core.specs.Notes.{key_asked}
 use Rattle.mt_core.specs.Promises.{MayFollow}
 use Rattle.mt_core.proofs.Tables.{set_is}
+use Rattle.mt_border.proofs.ContentsMaps.{at_owner}
+use Rattle.mt_core.proofs.Notes.{no_notes}
 use Rattle.mt_core.proofs.Present.{map_now}
 use Rattle.mt_core.proofs.Rely.{sound_step, one_put_step}
-use Rattle.mt_core.proofs.Quiet.{first_begun, first_upto, moved_open, Gives}
+use Rattle.mt_core.proofs.Quiet.{first_begun, first_upto, moved_open, IsAhead, first_straight, next_straight, Gives}
 
 -- what a step leaves that places a change
 abbrev pub placed : Core → Accounts → Node → Kept → Table → Core
@@ -55,7 +59,7 @@ pub record Changes (c : Core) (op : Operation) (row : Columns) (entry : TapeEntr
   pub keys : AreKeys [] 0 (entries_of node)
   pub stable : All (λ e. IsStable e.held) (entries_of node)
   pub contents : contents_of [] (entries_of node) ≡ insert (pairs_of c) (owned op.key) row
-  pub stamps : AllStamped (λ q s. (s ≤ c.steps + 1) × IsUntouched (c.tape.entries ++ stamped entry (c.steps + 1) ∷ []) q s) [] (entries_of node)
+  pub stamps : AllStamped (IsStampOf (c.steps + 1) (pushed c entry)) [] (entries_of node)
   pub version : node.version ≡ record c.node.version { inserting = true }
 
 -- and of the accounts: quotas stay, and each count is that of the pairs
@@ -115,9 +119,11 @@ module _ (c : Core) (o : ℕ) (op : Operation) (h : Sound c) (there : op_at c.ta
     grows = grows;
     ages = omega (arith, ages);
     stands = λ same. absurd (omega (arith, ages));
+    unwritten = λ since. absurd (both_ways _ (since (c.steps + 1) (omega arith) (omega arith)) (is_changed-push c.tape.entries write));
     lock = λ q ne held. absurd (ne (same_Some _ _ (sym held ∙ judged.lock.holder)));
     accounts = a.there;
     floor = refl;
+    idle = λ same. absurd (omega arith);
   }
 
   tape_is : IsTape new
@@ -145,6 +151,13 @@ module _ (c : Core) (o : ℕ) (op : Operation) (h : Sound c) (there : op_at c.ta
     holder = λ q held. (done, ap (op_at (set c.table o (Some done))) (same_Some _ _ (sym held ∙ judged.lock.holder)) ∙ set_is c.table o done op there, refl);
   }
 
+  -- its row is the one that the put makes of the one before
+  wrote : get (pairs_of new) (key_asked op) ≡ Some (changed (change_of (ask op)) (columns_of (get (pairs_of c) (key_asked op))))
+  wrote =
+      let owner = (h.ops o op there).0.owner in
+      ap (get (pairs_of new)) (sym owner) ∙ ap (λ x. get x (owned op.key)) n.contents ∙ at_owner (pairs_of c) (owned op.key) row
+      ∙ ap (λ r. Some r) (ready.makes ∙ ap (λ b. changed (change_of (ask op)) (columns_of b)) (sym ready.before ∙ ap (get (pairs_of c)) (key_is ∙ owner)))
+
   -- the tenant's map just before the step
   map_before : map_of (shown new) op.tenant (c.steps + 1 - 1) ≡ tenant_map op.tenant (pairs_of c)
   map_before = ap (map_of (shown new) op.tenant) (omega arith) ∙ grows.maps op.tenant c.steps (omega arith) ∙ map_now c h op.tenant c.steps (omega arith)
@@ -170,38 +183,45 @@ module _ (c : Core) (o : ℕ) (op : Operation) (h : Sound c) (there : op_at c.ta
       };
     }
 
-    pub placed_gives : Gives (shown c) new o false
-    placed_gives = (
-      sound_step c new o done h evolves refl tape_is node_is lock_is a.counted
-          (one_put_step c new o op done h there refl refl refl (λ _. open_before) (λ e. absurd (cc)) (inr (judged.lock.put_is, open_before, refl))) (omega (arith, few))
-          open_done own,
-      record {
-        before = op;
-        there = there;
-        unfinished = open_before;
-        progress = next;
-        follows = follows;
-        table = refl;
-        number = refl;
-        logs = refl;
-        grows = grows;
-        effect = inr (record {
-          reply = reply;
-          told = told;
-          changes = changes;
-          unlocks = refl;
-          makes = λ t. made t (eqb t op.tenant) refl;
-          entry = write;
-          pushes = refl;
-          step = refl;
-          worker = ready.worker;
-          tenant = ready.tenant;
-          key_is = ready.key_is;
-        });
-        ends = refl;
-        answer = λ said at is. absurd (cc);
-      },
-    )
+    pub placed_gives : steps_to op.progress ≡ 3 → Gives (shown c) new o false
+    placed_gives third =
+        let ahead : IsAhead c op next = λ left straight. omega (arith, third) in
+        let sound : Sound new = sound_step c new o done h evolves refl tape_is node_is lock_is a.counted
+        (one_put_step c new o op done h there refl refl refl (λ _. open_before) (λ e. absurd (cc)) (inr (judged.lock.put_is, open_before, refl))) (omega (arith, few))
+        open_done own in (
+          sound,
+          record {
+            before = op;
+            there = there;
+            unfinished = open_before;
+            progress = next;
+            follows = follows;
+            notes = no_notes (shown c) op op.progress next refl;
+            table = refl;
+            number = refl;
+            logs = refl;
+            grows = grows;
+            effect = inr (record {
+              reply = reply;
+              told = told;
+              changes = changes;
+              unlocks = refl;
+              makes = λ t. made t (eqb t op.tenant) refl;
+              writes = wrote;
+              entry = write;
+              pushes = refl;
+              step = refl;
+              worker = ready.worker;
+              tenant = ready.tenant;
+              key_is = ready.key_is;
+            });
+            ends = refl;
+            answer = λ said at is. absurd (cc);
+            present = λ t. map_now new sound t new.steps (omega arith);
+            first = λ enters none left. first_straight c o op next ahead enters none left;
+            straight = λ begun is left. next_straight c o op next ahead begun is left;
+          },
+        )
       where
         open_done : IsOpen new done
         open_done =

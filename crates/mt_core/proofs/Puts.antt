@@ -8,6 +8,7 @@ use Rattle.std.proofs.lemmas.Bool.{cases_eq}
 use Rattle.std.proofs.lemmas.Option.{same_Some}
 use Rattle.std.proofs.lemmas.Grind.{common_steps}
 use Rattle.std.proofs.lemmas.List.{drop_all}
+use Rattle.std.proofs.lemmas.List.Elements.{Contains-push, Contains-append_left}
 use Rattle.mt_slices.specs.Slices.{slice_of, mark_of, suffix_of}
 use Rattle.mt_rows.specs.declared.reply.Reply.TheVariants.{New, Replaced}
 use Rattle.mt_rows.specs.declared.tenants.Account.{Account}
@@ -26,27 +27,27 @@ use Rattle.mt_border.specs.Node.{Node, entries_of, entry_at, IsLive, Rewrites}
 use Rattle.mt_border.proofs.Edits.{border_with_entry}
 use Rattle.mt_tape.specs.declared.entry.Entry.{Entry as TapeEntry}
 use Rattle.mt_tape.specs.Tapes.{Kept}
-use Rattle.mt_tape.specs.Histories.{IsUntouched, written_key}
+use Rattle.mt_tape.specs.Histories.{written_key}
 use Rattle.mt_tape.proofs.EntryLaws.{rises-push, last_step_over-push}
 use Rattle.mt_tape.proofs.TapeLaws.{untouched-push, untouched-past_last}
 use Rattle.mt_core.specs.declared.operation.Operation.{Operation}
 use Rattle.mt_core.specs.declared.operation.Progress.{Progress}
 use Rattle.mt_core.specs.declared.operation.Progress.TheVariants.{Store, Publish, Unlock}
-use Rattle.mt_core.specs.Contents.{contents_of, owned, HasKey, AllStamped}
-use Rattle.mt_core.specs.Operations.{moved}
+use Rattle.mt_border.specs.Contents.{contents_of, owned, HasKey, AllStamped}
+use Rattle.mt_core.specs.Operations.{moved, steps_to}
 use Rattle.mt_core.specs.Views.{Core, View, Table, shown, pairs_of, op_at, quota_of, quota_in}
 use Rattle.mt_core.specs.Kept.{ask, change_of, IsAtStore, IsAtPublish, IsKept}
-use Rattle.mt_core.specs.Sound.{Sound, is_unfinished}
+use Rattle.mt_core.specs.Sound.{IsStampOf, Sound, is_unfinished}
 use Rattle.mt_core.specs.Promises.{MayFollow, IsNext}
 use Rattle.mt_core.specs.Reads.{marked, new_entry, CountsNew}
-use Rattle.mt_core.proofs.ContentsMaps.{len_new, len_there, len_other}
-use Rattle.mt_core.proofs.ContentsKeys.{in_top_tree, new_has_key}
-use Rattle.mt_core.proofs.ContentsFinds.{row_at}
-use Rattle.mt_core.proofs.ContentsEdits.{each-store, border-store, keys-store, contents-store, each-publish, keys-publish, contents-publish}
-use Rattle.mt_core.proofs.ContentsStamps.{stamped_publish, stamped_store}
+use Rattle.mt_border.proofs.ContentsMaps.{len_new, len_there, len_other}
+use Rattle.mt_border.proofs.ContentsKeys.{in_top_tree, new_has_key}
+use Rattle.mt_border.proofs.ContentsFinds.{row_at}
+use Rattle.mt_border.proofs.ContentsEdits.{each-store, border-store, keys-store, contents-store, each-publish, keys-publish, contents-publish}
+use Rattle.mt_border.proofs.ContentsStamps.{stamped_publish, stamped_store}
 use Rattle.mt_core.proofs.Present.{stable_held, any_entry}
 use Rattle.mt_core.proofs.Replies.{put_there, put_new}
-use Rattle.mt_core.proofs.ContentsFinds.{find_missing}
+use Rattle.mt_border.proofs.ContentsFinds.{find_missing}
 use Rattle.mt_core.proofs.Tables.{set_is}
 use Rattle.mt_slices.specs.declared.mark.Mark.TheVariants.{Short}
 use Rattle.mt_slices.specs.Marks.{IsMark}
@@ -84,16 +85,21 @@ room_left (Some a) count room is = omega (arith, room, is a refl)
 -- the tape's write and what it leaves untouched
 module _ (c : Core) (h : Sound c) (entry : TapeEntry) (key : ℕ × Bytes) (key_is : written_key entry ≡ key) where
   -- what stood untouched at another key stands so
-  pub untouched_beside : (q : ℕ × Bytes) (s : ℕ) → q ≢ key → (s ≤ c.steps) × IsUntouched c.tape.entries q s → (s ≤ c.steps + 1) × IsUntouched (c.tape.entries ++ stamped entry (c.steps + 1) ∷ []) q s
-  untouched_beside q s other w = (omega (arith, w.0), untouched-push c.tape.entries (stamped entry (c.steps + 1)) q s w.1 (λ is. other (sym is ∙ key_is)))
+  pub untouched_beside : (q : ℕ × Bytes) (s : ℕ) → q ≢ key → IsStampOf c.steps c.tape q s → IsStampOf (c.steps + 1) (pushed c entry) q s
+  untouched_beside q s other w = (
+    omega (arith, w.0),
+    untouched-push c.tape.entries (stamped entry (c.steps + 1)) q s w.1 (λ is. other (sym is ∙ key_is)),
+    λ lt. let wrote = w.2 lt in (wrote.0, Contains-append_left c.tape.entries (stamped entry (c.steps + 1) ∷ []) wrote.0 wrote.1, wrote.2, wrote.3),
+  )
 
   -- and no key was touched after the step
-  pub untouched_now : (c.steps + 1 ≤ c.steps + 1) × IsUntouched (c.tape.entries ++ stamped entry (c.steps + 1) ∷ []) key (c.steps + 1)
+  pub untouched_now : IsStampOf (c.steps + 1) (pushed c entry) key (c.steps + 1)
   untouched_now = (
     omega arith,
     untouched-past_last c.tape.floor (c.tape.entries ++ stamped entry (c.steps + 1) ∷ []) key (c.steps + 1)
         (rises-push c.tape.floor c.tape.entries (stamped entry (c.steps + 1)) h.tape.rises (omega (arith, h.tape.made)))
         (omega (arith, last_step_over-push c.tape.floor c.tape.entries (stamped entry (c.steps + 1)))),
+    λ lt. (stamped entry (c.steps + 1), Contains-push c.tape.entries (stamped entry (c.steps + 1)), refl, key_is),
   )
 
 module _ (c : Core) (now : View) (o : ℕ) (table : Table) (is : shown c ≡ now) (h : Sound c) (room : now.steps < 2 ^ 59) where
@@ -143,7 +149,7 @@ module _ (c : Core) (now : View) (o : ℕ) (table : Table) (is : shown c ≡ now
         keys = keys-store (marked c.node) node slot pair.0 row (c.steps + 1) h.node.border live held r [] 0 op.key h.node.keys k.holds.key_is;
         stable = each-store (marked c.node) node slot _ h.node.border live r (λ (e : Entry). IsStable e.held) h.node.stable tt;
         contents = contents;
-        stamps = stamped_store (λ q s. (s ≤ c.steps) × IsUntouched c.tape.entries q s) (λ q s. (s ≤ c.steps + 1) × IsUntouched (c.tape.entries ++ stamped entry (c.steps + 1) ∷ []) q s)
+        stamps = stamped_store (IsStampOf c.steps c.tape) (IsStampOf (c.steps + 1) (pushed c entry))
             (marked c.node) node slot pair.0 row (c.steps + 1) h.node.border live held r [] 0 op.key h.node.keys k.holds.key_is
             (untouched_beside c h entry (owned op.key) key_is) (untouched_now c h entry (owned op.key) key_is) h.node.stamped;
         version = ap (λ (x : Node). x.version) r.rest;
@@ -162,7 +168,7 @@ module _ (c : Core) (now : View) (o : ℕ) (table : Table) (is : shown c ≡ now
             );
       } in
       let g = placed_gives c o op h there few Replaced row entry c.accounts node k.judged k.ready changes counted (ap is_unfinished n.2) (subst (λ p. MayFollow p (Unlock Replaced (c.steps + 1))) (sym n.2) tt) refl put.0
-      (put.1 ∙ ap (insert (tenant_map op.tenant (pairs_of c)) (key_of (ask op))) (sym row_is)) in
+      (put.1 ∙ ap (insert (tenant_map op.tenant (pairs_of c)) (key_of (ask op))) (sym row_is)) (ap steps_to n.2) in
       subst (λ v. Gives v (placed c c.accounts node tape table) o false) is
       (subst (λ x. Gives (shown c) (placed c c.accounts node x table) o false) (sym pushes) (subst (λ x. Gives (shown c) (placed c c.accounts node (pushed c entry) x) o false) (sym (w op there)) g))
 
@@ -231,8 +237,8 @@ module _ (c : Core) (now : View) (o : ℕ) (table : Table) (is : shown c ≡ now
         keys = subst (λ (x : List Entry). All (λ e. (key : Bytes) × HasKey [] 0 e key) x) (sym slots_are) (keys-publish [] 0 (entries_of c.node) e op.key h.node.keys has);
         stable = subst (λ (x : List Entry). All (λ e. IsStable e.held) x) (sym slots_are) (each-publish (λ (e : Entry). IsStable e.held) (entries_of c.node) e h.node.stable tt);
         contents = contents;
-        stamps = subst (λ (x : List Entry). AllStamped (λ q s. (s ≤ c.steps + 1) × IsUntouched (c.tape.entries ++ stamped entry (c.steps + 1) ∷ []) q s) [] x) (sym slots_are)
-            (stamped_publish (λ q s. (s ≤ c.steps) × IsUntouched c.tape.entries q s) (λ q s. (s ≤ c.steps + 1) × IsUntouched (c.tape.entries ++ stamped entry (c.steps + 1) ∷ []) q s)
+        stamps = subst (λ (x : List Entry). AllStamped (IsStampOf (c.steps + 1) (pushed c entry)) [] x) (sym slots_are)
+            (stamped_publish (IsStampOf c.steps c.tape) (IsStampOf (c.steps + 1) (pushed c entry))
             [] 0 (entries_of c.node) e op.key pair h.node.keys has k.missing refl (untouched_beside c h entry (owned op.key) key_is) (untouched_now c h entry (owned op.key) key_is) h.node.stamped);
         version = ap (λ (x : Node). x.version) rest;
       } in
@@ -261,6 +267,6 @@ module _ (c : Core) (now : View) (o : ℕ) (table : Table) (is : shown c ≡ now
             ];
       } in
       let g = placed_gives c o op h there few New row entry accounts node k.judged k.ready changes more (ap is_unfinished n.2) (subst (λ p. MayFollow p (Unlock New (c.steps + 1))) (sym n.2) tt) refl put.0
-      (put.1 ∙ ap (insert (tenant_map op.tenant (pairs_of c)) (key_of (ask op))) (sym row_is)) in
+      (put.1 ∙ ap (insert (tenant_map op.tenant (pairs_of c)) (key_of (ask op))) (sym row_is)) (ap steps_to n.2) in
       subst (λ v. Gives v (placed c accounts node tape table) o false) is
       (subst (λ x. Gives (shown c) (placed c accounts node x table) o false) (sym pushes) (subst (λ x. Gives (shown c) (placed c accounts node (pushed c entry) x) o false) (sym (w op there)) g))

@@ -7,19 +7,21 @@ use Rattle.mt_version.specs.Parts.{Parts}
 use Rattle.mt_version.specs.Changes.{insert_age}
 use Rattle.mt_border.specs.Node.{Node, entries_of}
 use Rattle.mt_tape.specs.Tapes.{Kept}
-use Rattle.mt_tape.specs.Histories.{IsUntouched}
 use Rattle.mt_core.specs.declared.operation.Operation.{Operation}
 use Rattle.mt_core.specs.declared.operation.Progress.{Progress}
-use Rattle.mt_core.specs.Operations.{moved}
+use Rattle.mt_core.specs.declared.operation.Progress.TheVariants.{Enter}
+use Rattle.mt_core.specs.Operations.{moved, steps_to, IsStraight}
 use Rattle.mt_core.specs.Views.{Core, View, Table, shown, op_at, Grows}
 use Rattle.mt_core.specs.Kept.{age, IsKept, IsOpen, IsAnswered}
-use Rattle.mt_core.specs.Sound.{IsTape, IsNode, IsLock, Sound, Evolves, has_lock, is_unfinished, is_unplaced}
+use Rattle.mt_core.specs.Sound.{IsStampOf, IsTape, IsNode, IsLock, Sound, Evolves, has_lock, is_unfinished, is_unplaced}
+use Rattle.mt_core.specs.Notes.{Notes}
 use Rattle.mt_core.specs.Promises.{MayFollow, change_in, IsStep}
 use Rattle.mt_rows.specs.Accounts.{Accounts, account_of}
 use Rattle.mt_tape.proofs.EntryLaws.{floor_upto_last}
-use Rattle.mt_core.proofs.ContentsStamps.{stamped_weaker}
+use Rattle.mt_border.proofs.ContentsStamps.{stamped_weaker}
 use Rattle.mt_core.proofs.Tables.{set_is, set_there}
 use Rattle.mt_core.proofs.Rely.{sound_step, one_put_step}
+use Rattle.mt_core.proofs.Present.{map_now}
 
 -- what a step leaves that changes no pair
 abbrev pub quiet : Core → Parts → Option ℕ → ℕ → Table → Core
@@ -45,9 +47,26 @@ pub record KeepsLock (c : Core) (o : ℕ) (version : Parts) (holder : Option ℕ
   pub held : (q : ℕ) → holder ≡ Some q → ((q ≡ o) × (has_lock next ≡ true)) ⊎ ((q ≢ o) × (c.holder ≡ Some q))
 
 -- the number of an operation's first step, once it has made one
-first_is : (n step : ℕ) → ((n ≡ 0) × (cond (eqb n 0) step n ≡ step)) ⊎ ((0 < n) × (cond (eqb n 0) step n ≡ n))
+pub first_is : (n step : ℕ) → ((n ≡ 0) × (cond (eqb n 0) step n ≡ step)) ⊎ ((0 < n) × (cond (eqb n 0) step n ≡ n))
 first_is zero step = inl (refl, refl)
 first_is (suc n) step = inr (omega arith, ap (λ b. cond b step (suc n)) (ne_eqb (suc n) 0 (λ e. absurd (cc))))
+
+-- a step of an operation that has not been led back does not lead it back, unless it ends there
+abbrev pub IsAhead : Core → Operation → Progress → Type 0
+IsAhead c op next = is_unfinished next ≡ true → (steps_to op.progress ≡ 0) ⊎ IsStraight c.steps op → steps_to next ≡ steps_to op.progress + 1
+
+-- so it is straight after its first step, and after each further one where it was before
+pub first_straight : (c : Core) (o : ℕ) (op : Operation) (next : Progress) → IsAhead c op next → op.progress ≡ Enter → op.first ≡ 0 → is_unfinished next ≡ true → IsStraight (c.steps + 1) (moved op (c.steps + 1) next)
+first_straight c o op next ahead enters none left = let e = ap steps_to enters in let on = ahead left (inl e) in elim (first_is op.first (c.steps + 1)) [
+  | inl (_, is) ↦ omega (arith, is, on, e)
+  | inr (some, _) ↦ absurd (omega arith)
+]
+
+pub next_straight : (c : Core) (o : ℕ) (op : Operation) (next : Progress) → IsAhead c op next → 0 < op.first → IsStraight c.steps op → is_unfinished next ≡ true → IsStraight (c.steps + 1) (moved op (c.steps + 1) next)
+next_straight c o op next ahead begun straight left = let on = ahead left (inr straight) in elim (first_is op.first (c.steps + 1)) [
+  | inl (none, _) ↦ absurd (omega arith)
+  | inr (_, is) ↦ omega (arith, is, on, straight)
+]
 
 -- what the step gives: a state with the invariant, and a step that may be told
 abbrev pub Gives : View → Core → ℕ → Bool → Type 0
@@ -68,6 +87,12 @@ module _ (c : Core) (o : ℕ) (op : Operation) (h : Sound c) (there : op_at c.ta
   first_upto = let k = (h.ops o op there).0 in elim (first_is op.first (c.steps + 1)) [
     | inl (none, is) ↦ omega (arith, is)
     | inr (some, is) ↦ omega (arith, is, k.order, k.made)
+  ]
+
+  pub first_same : 0 < op.first → after.first ≡ op.first
+  first_same begun = elim (first_is op.first (c.steps + 1)) [
+    | inl (none, is) ↦ absurd (omega arith)
+    | inr (some, is) ↦ is
   ]
 
   -- a first step that was made stays the first
@@ -114,6 +139,7 @@ module _ (c : Core) (o : ℕ) (op : Operation) (h : Sound c) (there : op_at c.ta
       grows = quiet_grows;
       ages = k.ages;
       stands = λ same. refl;
+      unwritten = λ since. refl;
       lock = λ q ne held. let w = k.others q ne held in (
         w.0,
         ap with_version w.1,
@@ -121,6 +147,7 @@ module _ (c : Core) (o : ℕ) (op : Operation) (h : Sound c) (there : op_at c.ta
       );
       accounts = λ t e. e;
       floor = refl;
+      idle = λ same. absurd (omega arith);
     }
 
     quiet_tape : IsTape new
@@ -131,8 +158,8 @@ module _ (c : Core) (o : ℕ) (op : Operation) (h : Sound c) (there : op_at c.ta
       border = h.node.border;
       keys = h.node.keys;
       stable = h.node.stable;
-      stamped = stamped_weaker (λ q s. (s ≤ c.steps) × IsUntouched c.tape.entries q s) (λ q s. (s ≤ c.steps + 1) × IsUntouched c.tape.entries q s) [] (entries_of c.node)
-          (λ q s w. (omega (arith, w.0), w.1)) h.node.stamped;
+      stamped = stamped_weaker (IsStampOf c.steps c.tape) (IsStampOf (c.steps + 1) new.tape) [] (entries_of c.node)
+          (λ q s w. (omega (arith, w.0), w.1, w.2)) h.node.stamped;
       whole = k.whole;
       undeleted = k.undeleted;
       inserts = k.inserts;
@@ -148,27 +175,32 @@ module _ (c : Core) (o : ℕ) (op : Operation) (h : Sound c) (there : op_at c.ta
       ];
     }
 
-    pub quiet_gives : is_unfinished op.progress ≡ true → (is_unplaced next ≡ true → is_unplaced op.progress ≡ true) → MayFollow op.progress next → change_in next ≡ change_in op.progress → IsKept new o after next
+    pub quiet_gives : is_unfinished op.progress ≡ true → (is_unplaced next ≡ true → is_unplaced op.progress ≡ true) → MayFollow op.progress next → Notes (shown c) op next → change_in next ≡ change_in op.progress → IsAhead c op next → IsKept new o after next
         → (done : Bool) → done ≡ not (is_unfinished next) → Gives (shown c) new o done
-    quiet_gives open_before waits follows same_change own done ends = (
-      sound_step c new o after h quiet_evolves refl quiet_tape quiet_node quiet_lock h.counts
-          (one_put_step c new o op after h there refl refl refl (λ _. open_before) waits (inl refl)) (omega (arith, few)) (moved_open new refl refl refl) own,
-      record {
-        before = op;
-        there = there;
-        unfinished = open_before;
-        progress = next;
-        follows = follows;
-        table = refl;
-        number = refl;
-        logs = refl;
-        grows = quiet_grows;
-        effect = inl (record { contents = refl; entries = refl; change = same_change });
-        ends = ends;
-        answer = λ reply at is. let a : IsAnswered new after reply at = subst (IsKept new o after) is own in
-            record { begun = a.begun; since = a.since; upto = a.upto; placed = a.placed };
-      },
-    )
+    quiet_gives open_before waits follows notes same_change ahead own done ends =
+        let sound : Sound new = sound_step c new o after h quiet_evolves refl quiet_tape quiet_node quiet_lock h.counts
+        (one_put_step c new o op after h there refl refl refl (λ _. open_before) waits (inl refl)) (omega (arith, few)) (moved_open new refl refl refl) own in (
+          sound,
+          record {
+            before = op;
+            there = there;
+            unfinished = open_before;
+            progress = next;
+            follows = follows;
+            notes = notes;
+            table = refl;
+            number = refl;
+            logs = refl;
+            grows = quiet_grows;
+            effect = inl (record { contents = refl; entries = refl; change = same_change });
+            ends = ends;
+            answer = λ reply at is. let a : IsAnswered new after reply at = subst (IsKept new o after) is own in
+                record { begun = a.begun; since = a.since; upto = a.upto; placed = a.placed };
+            present = λ t. map_now new sound t new.steps (omega arith);
+            first = λ enters none left. first_straight c o op next ahead enters none left;
+            straight = λ begun is left. next_straight c o op next ahead begun is left;
+          },
+        )
 
 -- an operation without the lock leaves node, lock and tape as they were
 pub still_keeps : (c : Core) (o : ℕ) (op : Operation) → Sound c → op_at c.table o ≡ Some op → has_lock op.progress ≡ false → (next : Progress) → KeepsLock c o c.node.version c.holder c.tape.reserved next

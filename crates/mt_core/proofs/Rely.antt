@@ -20,11 +20,11 @@ use Rattle.mt_tape.specs.Tapes.{Kept}
 use Rattle.mt_core.specs.declared.operation.Operation.{Operation}
 use Rattle.mt_core.specs.declared.operation.Progress.{Progress}
 use Rattle.mt_core.specs.declared.operation.Progress.TheVariants.{Enter, Search, Load, Confirm, Forward, Lock, Judge, Store, Publish, Unlock, Finished}
-use Rattle.mt_core.specs.Contents.{contents_of, owned, HasKey}
+use Rattle.mt_border.specs.Contents.{contents_of, owned, HasKey}
 use Rattle.mt_core.specs.Views.{Core, View, shown, pairs_of, op_at, map_of, quota_of, Grows, IsPlaced}
-use Rattle.mt_core.specs.Kept.{ask, age, Holds, HasSeen, IsAtLoad, IsAtConfirm, HasLock, IsAtJudge, IsReady, IsAnswered, IsKept, IsOpen}
+use Rattle.mt_core.specs.Kept.{ask, age, Holds, HasSeen, IsFresh, IsAtLoad, IsAtConfirm, HasLock, IsAtJudge, IsReady, IsAnswered, IsKept, IsOpen}
 use Rattle.mt_core.specs.Sound.{IsTape, IsNode, IsLock, AreCounted, IsOnePut, Sound, Evolves, is_unfinished, is_unplaced}
-use Rattle.mt_core.specs.Operations.{command_of}
+use Rattle.mt_core.specs.Operations.{command_of, steps_to}
 use Rattle.mt_core.specs.declared.operation.Request.{Request}
 use Rattle.mt_core.proofs.Tables.{set_here, set_there}
 
@@ -53,6 +53,12 @@ module _ (old new : Core) (o q : ℕ) (g : Evolves old new o) (other : q ≢ o) 
   stood : (seen : Parts) → insert_age seen ≤ age old → insert_age seen ≡ age new → (insert_age seen ≡ age old) × (age old ≡ age new)
   stood seen le same = (omega (arith, g.ages), omega (arith, g.ages))
 
+  fresh_stays : (seen : Parts) (made : ℕ) → IsFresh old op seen made → IsFresh new op seen made
+  fresh_stays seen made h = record {
+    behind = omega (arith, h.behind, g.grows.steps);
+    stands = λ same. h.stands (omega (arith, h.behind, g.grows.steps)) ∙ ap (λ (n : Node). n.version) (sym (g.idle (omega (arith, h.behind, g.grows.steps))));
+  }
+
   load_stays : (seen : Parts) (slot searched : ℕ) → IsAtLoad old op seen slot searched → IsAtLoad new op seen slot searched
   load_stays seen slot searched h = record {
     get_is = h.get_is;
@@ -60,6 +66,9 @@ module _ (old new : Core) (o q : ℕ) (g : Evolves old new o) (other : q ≢ o) 
     since = h.since;
     made = omega (arith, h.made, g.grows.steps);
     found = λ same. let w = stood seen h.has_seen.upto same in holds_same old.node new.node slot op.key (sym (g.stands w.1)) (h.found w.0);
+    unwritten = λ since. holds_same old.node new.node slot op.key (sym (g.unwritten (λ n lt le. since n (omega (arith, h.made)) le)))
+        (h.unwritten (λ n lt le. sym (g.grows.changes n le) ∙ since n lt (omega (arith, g.grows.steps))));
+    fresh = fresh_stays seen (steps_to (Load seen slot searched)) h.fresh;
   }
 
   confirm_stays : (seen : Parts) (reply : Reply) (at : ℕ) → IsAtConfirm old op seen reply at → IsAtConfirm new op seen reply at
@@ -71,6 +80,7 @@ module _ (old new : Core) (o q : ℕ) (g : Evolves old new o) (other : q ≢ o) 
     told = λ same.
         let w = stood seen h.has_seen.upto same in
         h.told w.0 ∙ ap (λ n. reply_of n (ask op) (map_of (shown old) op.tenant at)) (sym (g.grows.quotas op.tenant)) ∙ ap (reply_of (quota_of (shown new) op.tenant) (ask op)) (sym (g.grows.maps op.tenant at h.made));
+    fresh = fresh_stays seen (steps_to (Confirm seen reply at)) h.fresh;
   }
 
   lock_stays : HasLock old q op → HasLock new q op
@@ -106,11 +116,11 @@ module _ (old new : Core) (o q : ℕ) (g : Evolves old new o) (other : q ≢ o) 
   -- the rely: what is kept of an operation is stable under any step of another
   pub kept_stays : (p : Progress) → IsOpen old op → IsKept old q op p → IsKept new q op p
   kept_stays Enter k h = tt
-  kept_stays (Search seen) k h = record { get_is = h.get_is; has_seen = seen_stays seen h.has_seen }
+  kept_stays (Search seen) k h = record { get_is = h.get_is; has_seen = seen_stays seen h.has_seen; fresh = fresh_stays seen (steps_to (Search seen)) h.fresh }
   kept_stays (Load seen slot searched) k h = load_stays seen slot searched h
   kept_stays (Confirm seen reply at) k h = confirm_stays seen reply at h
   kept_stays (Forward seen) k h = seen_stays seen h
-  kept_stays (Lock seen) k h = record { put_is = h.put_is; begun = h.begun }
+  kept_stays (Lock seen) k h = record { put_is = h.put_is; begun = h.begun; fresh = fresh_stays seen (steps_to (Lock seen)) h.fresh }
   kept_stays Judge k h = judge_stays h
   kept_stays (Store slot row entry) k h = record {
     judged = judge_stays h.judged;

@@ -15,7 +15,7 @@ use Rattle.mt_tape.specs.Tapes.{Kept}
 use Rattle.mt_core.specs.Views.{Core, View, Table, pairs_of, shown}
 use Rattle.mt_core.specs.Sound.{Sound}
 use Rattle.mt_core.specs.Begins.{HaveNoPairs, new_state}
-use Rattle.mt_core.proofs.ContentsLists.{contents-none}
+use Rattle.mt_border.proofs.ContentsLists.{contents-none}
 
 -- what is inside a new state
 abbrev pub start : ℕ → Accounts → Core

@@ -9,15 +9,15 @@ use Rattle.mt_rows.specs.declared.command.Command.{Command}
 use Rattle.mt_rows.specs.declared.command.Command.TheVariants.{Get, Put, Remove, Scan}
 use Rattle.mt_rows.specs.declared.tenants.Account.{Account}
 use Rattle.mt_core.specs.Admitted.{IsAdmitted, HasRoomFor}
-use Rattle.mt_core.proofs.ContentsKeys.{in_top_tree}
-use Rattle.mt_core.proofs.ContentsFinds.{find_here}
+use Rattle.mt_border.proofs.ContentsKeys.{in_top_tree}
+use Rattle.mt_border.proofs.ContentsFinds.{find_here}
 use Rattle.mt_core.proofs.Present.{stable_pair, any_entry}
 use Rattle.mt_rows.specs.Accounts.{account_of}
 use Rattle.mt_rows.specs.Maps.{is_get}
 use Rattle.mt_border.specs.Node.{entries_of}
 use Rattle.mt_core.specs.declared.operation.Operation.{Operation}
 use Rattle.mt_core.specs.declared.operation.Progress.TheVariants.{Enter}
-use Rattle.mt_core.specs.Contents.{owned}
+use Rattle.mt_border.specs.Contents.{owned}
 use Rattle.mt_core.specs.Views.{Core, View, Table, shown, pairs_of, op_at}
 use Rattle.mt_core.specs.Kept.{ask, IsKept, IsOpen}
 use Rattle.mt_core.specs.Sound.{IsOnePut, Sound, Evolves, has_lock, is_unfinished, is_unplaced}
@@ -34,9 +34,11 @@ module _ (c : Core) (o : ℕ) (table : Table) (h : Sound c) (others : (q : ℕ) 
     grows = record { steps = omega arith; quotas = λ t. refl; maps = λ t m le. refl; changes = λ m le. refl };
     ages = omega arith;
     stands = λ same. refl;
+    unwritten = λ since. refl;
     lock = λ q ne held. (held, refl, refl);
     accounts = λ t e. e;
     floor = refl;
+    idle = λ same. refl;
   }
 
   -- the invariant stays where it holds of that one operation

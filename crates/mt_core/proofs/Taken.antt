@@ -20,6 +20,7 @@ pub taken_row : (node : Node) (slot : ℕ) (op : Operation) (taken : Option (Rep
     → (¬ IsLive node slot → taken ≡ None) → Shows node slot op.request taken → TellsTaken node slot op (reply, Some at)
 taken_row node slot op taken reply stamp at is number nothing row = record {
   nothing = λ out. absurd (none_some (sym (nothing out) ∙ is));
+  nothing_shown = λ out. absurd (none_some (sym (nothing out) ∙ is));
   row = λ pair live held columns asked.
       let told : ◌≡◌ {A = Reply × ℕ} (Found (shown columns pair.row), pair.stamp) (reply, stamp) =
       same_Some {A = Reply × ℕ} _ _ (sym (row pair live held ∙ ap (option_map (λ columns. (Found (shown columns pair.row), pair.stamp))) asked) ∙ is) in
@@ -32,6 +33,7 @@ taken_row node slot op taken reply stamp at is number nothing row = record {
 pub taken_none : (node : Node) (slot : ℕ) (op : Operation) (taken : Option (Reply × ℕ)) → taken ≡ None → Shows node slot op.request taken → TellsTaken node slot op (Absent, None)
 taken_none node slot op taken is row = record {
   nothing = λ out. refl;
+  nothing_shown = λ out. refl;
   row = λ pair live held columns asked.
       absurd (none_some columns pair (sym is ∙ row pair live held ∙ ap (option_map (λ columns. (Found (shown columns pair.row), pair.stamp))) asked));
 }

@@ -11,7 +11,7 @@ use Rattle.mt_border.specs.Node.{Node, IsFound, entries_of}
 use Rattle.mt_core.specs.declared.operation.Operation.{Operation}
 use Rattle.mt_core.specs.declared.operation.Request.{Request}
 use Rattle.mt_core.specs.Operations.{command_of}
-use Rattle.mt_core.specs.Contents.{owned}
+use Rattle.mt_border.specs.Contents.{owned}
 use Rattle.mt_core.specs.Kept.{ask}
 use Rattle.mt_core.specs.Begins.{IsBegun}
 

@@ -1,5 +1,5 @@
 -- What a state keeps of each operation, by what its next step does.
-use Rattle.std.specs.Prelude.{◌≡◌, ℕ, ◌≤◌, ◌<◌, true, false, [], length, Some, IsSome}
+use Rattle.std.specs.Prelude.{◌≡◌, ℕ, ◌+◌, ◌≤◌, ◌<◌, true, false, [], length, Some, IsSome}
 use Rattle.std.specs.FinMap.{get}
 use Rattle.mt_slices.specs.Keys.{IsStoredKey}
 use Rattle.mt_slices.specs.Slices.{slice_of, mark_of, suffix_of}
@@ -19,9 +19,9 @@ use Rattle.mt_tape.specs.declared.entry.Entry.{Entry as TapeEntry}
 use Rattle.mt_core.specs.declared.operation.Operation.{Operation}
 use Rattle.mt_core.specs.declared.operation.Progress.{Progress}
 use Rattle.mt_core.specs.declared.operation.Progress.TheVariants.{Enter, Search, Load, Confirm, Forward, Lock, Judge, Store, Publish, Unlock, Finished}
-use Rattle.mt_core.specs.Contents.{owned, HasKey}
-use Rattle.mt_core.specs.Operations.{command_of}
-use Rattle.mt_core.specs.Views.{Core, shown, pairs_of, map_of, quota_of, IsPlaced}
+use Rattle.mt_border.specs.Contents.{owned, HasKey}
+use Rattle.mt_core.specs.Operations.{command_of, steps_to}
+use Rattle.mt_core.specs.Views.{Core, shown, pairs_of, map_of, quota_of, IsUnchangedSince, IsPlaced}
 
 -- an operation's command
 abbrev pub ask : Operation → Command
@@ -41,18 +41,27 @@ pub record HasSeen (c : Core) (op : Operation) (seen : Parts) : Type 0 where
   pub begun : 0 < op.first
   pub upto : insert_age seen ≤ age c
 
+-- the operation has made so many steps at least; and where those are all steps since its first one, so that nobody else has made a step, the
+-- version that it remembers is the node's
+pub record IsFresh (c : Core) (op : Operation) (seen : Parts) (made : ℕ) : Type 0 where
+  pub behind : op.first + made ≤ c.steps + 1
+  pub stands : op.first + made ≡ c.steps + 1 → seen ≡ c.node.version
+
 -- a get that goes to look
 pub record IsAtSearch (c : Core) (op : Operation) (seen : Parts) : Type 0 where
   pub get_is : is_get (ask op) ≡ true
   pub has_seen : HasSeen c op seen
+  pub fresh : IsFresh c op seen (steps_to (Search seen))
 
--- a get that found its key: while the version stands, the slot has it
+-- a get that found its key: while the version stands, and while no step changes a map, the slot has it
 pub record IsAtLoad (c : Core) (op : Operation) (seen : Parts) (slot searched : ℕ) : Type 0 where
   pub get_is : is_get (ask op) ≡ true
   pub has_seen : HasSeen c op seen
   pub since : op.first ≤ searched
   pub made : searched ≤ c.steps
   pub found : insert_age seen ≡ age c → Holds c.node slot op.key
+  pub unwritten : IsUnchangedSince (shown c) searched → Holds c.node slot op.key
+  pub fresh : IsFresh c op seen (steps_to (Load seen slot searched))
 
 -- a get with its reply: while the version stands, it is that of the map at its number
 pub record IsAtConfirm (c : Core) (op : Operation) (seen : Parts) (reply : Reply) (at : ℕ) : Type 0 where
@@ -61,11 +70,13 @@ pub record IsAtConfirm (c : Core) (op : Operation) (seen : Parts) (reply : Reply
   pub since : op.first ≤ at
   pub made : at ≤ c.steps
   pub told : insert_age seen ≡ age c → reply ≡ reply_of (quota_of (shown c) op.tenant) (ask op) (map_of (shown c) op.tenant at)
+  pub fresh : IsFresh c op seen (steps_to (Confirm seen reply at))
 
 -- a put that waits for the lock
-pub record IsAtLock (c : Core) (op : Operation) : Type 0 where
+pub record IsAtLock (c : Core) (op : Operation) (seen : Parts) : Type 0 where
   pub put_is : is_get (ask op) ≡ false
   pub begun : 0 < op.first
+  pub fresh : IsFresh c op seen (steps_to (Lock seen))
 
 -- a put that holds the lock, and has not placed its change
 pub record HasLock (c : Core) (o : ℕ) (op : Operation) : Type 0 where
@@ -128,7 +139,7 @@ IsKept c o op (Search seen) = IsAtSearch c op seen
 IsKept c o op (Load seen slot searched) = IsAtLoad c op seen slot searched
 IsKept c o op (Confirm seen reply at) = IsAtConfirm c op seen reply at
 IsKept c o op (Forward seen) = HasSeen c op seen
-IsKept c o op (Lock seen) = IsAtLock c op
+IsKept c o op (Lock seen) = IsAtLock c op seen
 IsKept c o op Judge = IsAtJudge c o op
 IsKept c o op (Store slot row entry) = IsAtStore c o op slot row entry
 IsKept c o op (Publish suffix row entry) = IsAtPublish c o op suffix row entry

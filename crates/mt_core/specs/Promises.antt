@@ -1,7 +1,10 @@
 -- What a step may do, and what it answers.
 use Rattle.std.specs.Prelude.{◌≡◌, ◌≢◌, ℕ, ◌+◌, ◌^◌, ◌<◌, ◌≤◌, ◌⊎◌, Bool, true, false, not, if◌then◌else◌, [], ◌∷◌, ◌++◌, Option, Some, None, slice_set}
+use Rattle.std.specs.FinMap as pairs
 use Rattle.mt_rows.specs.declared.reply.Reply.{Reply}
 use Rattle.mt_rows.specs.declared.reply.Reply.TheVariants.{Absent, NoMemory}
+use Rattle.mt_rows.specs.Rows.{columns_of}
+use Rattle.mt_rows.specs.Changes.{changed}
 use Rattle.mt_rows.specs.Commands.{key_of}
 use Rattle.mt_rows.specs.Maps.{reply_of, is_change, is_no_memory}
 use Rattle.mt_rows.specs.Tenants.{tenant_map}
@@ -12,10 +15,11 @@ use Rattle.mt_core.specs.declared.answers.Move.TheVariants.{Moved, Again, NoMemo
 use Rattle.mt_core.specs.declared.operation.Operation.{Operation}
 use Rattle.mt_core.specs.declared.operation.Progress.{Progress}
 use Rattle.mt_core.specs.declared.operation.Progress.TheVariants.{Enter, Search, Load, Confirm, Forward, Lock, Judge, Store, Publish, Unlock, Finished}
-use Rattle.mt_core.specs.Operations.{moved}
-use Rattle.mt_core.specs.Views.{View, op_at, quota_of, Grows, IsPlaced}
-use Rattle.mt_core.specs.Kept.{ask}
+use Rattle.mt_core.specs.Operations.{moved, IsStraight}
+use Rattle.mt_core.specs.Views.{View, op_at, map_of, quota_of, Grows, IsPlaced}
+use Rattle.mt_core.specs.Kept.{ask, change_of}
 use Rattle.mt_core.specs.Sound.{has_lock, is_unfinished}
+use Rattle.mt_core.specs.Notes.{key_asked, Notes}
 
 -- the operation is there, with this next
 abbrev pub IsNext : View → ℕ → Progress → Type 0
@@ -61,13 +65,15 @@ pub record IsQuiet (old new : View) (op : Operation) (progress : Progress) : Typ
   pub entries : new.tape.entries ≡ old.tape.entries
   pub change : change_in progress ≡ change_in op.progress
 
--- the step makes exactly its command's change: on its tenant's map, with one entry of the tape, of this step's number
+-- the step makes exactly its command's change: on its tenant's map, where its key has the row that the command makes of the one before, with one
+-- entry of the tape, of this step's number
 pub record IsPlacing (old new : View) (op : Operation) (progress : Progress) : Type 0 where
   pub reply : Reply
   pub told : reply ≡ reply_of (quota_of old op.tenant) (ask op) (tenant_map op.tenant old.contents)
   pub changes : is_change reply ≡ true
   pub unlocks : progress ≡ Unlock reply (old.steps + 1)
   pub makes : (t : ℕ) → tenant_map t new.contents ≡ maps_after_one (quota_of old) (Some (record { tenant = op.tenant; command = ask op })) (λ u. tenant_map u old.contents) t
+  pub writes : pairs.get new.contents (key_asked op) ≡ Some (changed (change_of (ask op)) (columns_of (pairs.get old.contents (key_asked op))))
   pub entry : TapeEntry
   pub pushes : new.tape.entries ≡ old.tape.entries ++ entry ∷ []
   pub step : entry.step ≡ old.steps + 1
@@ -82,13 +88,15 @@ pub record IsAnswer (v : View) (op : Operation) (reply : Reply) (at : ℕ) : Typ
   pub upto : at ≤ op.last
   pub placed : is_no_memory reply ≡ false → IsPlaced v op.tenant (ask op) at reply
 
--- a numbered step of operation o
+-- A numbered step of operation o. A get that looks notes what the state had at this step. The maps just after it are those of now. The
+-- operation's first step does not lead it back, nor does a further one while all steps since the first were its own.
 pub record IsStep (old new : View) (o : ℕ) (done : Bool) : Type 0 where
   pub before : Operation
   pub there : op_at old.table o ≡ Some before
   pub unfinished : is_unfinished before.progress ≡ true
   pub progress : Progress
   pub follows : MayFollow before.progress progress
+  pub notes : Notes old before progress
   pub table : new.table ≡ slice_set old.table o (Some (moved before (old.steps + 1) progress))
   pub number : new.steps ≡ old.steps + 1
   pub logs : new.logs ≡ old.logs
@@ -96,6 +104,9 @@ pub record IsStep (old new : View) (o : ℕ) (done : Bool) : Type 0 where
   pub effect : IsQuiet old new before progress ⊎ IsPlacing old new before progress
   pub ends : done ≡ not (is_unfinished progress)
   pub answer : (reply : Reply) (at : ℕ) → progress ≡ Finished reply at → IsAnswer new (moved before (old.steps + 1) progress) reply at
+  pub present : (t : ℕ) → map_of new t new.steps ≡ tenant_map t new.contents
+  pub first : before.progress ≡ Enter → before.first ≡ 0 → is_unfinished progress ≡ true → IsStraight new.steps (moved before (old.steps + 1) progress)
+  pub straight : 0 < before.first → IsStraight old.steps before → is_unfinished progress ≡ true → IsStraight new.steps (moved before (old.steps + 1) progress)
 
 -- the lock is held by another operation
 pub record IsHeld (v : View) (o holder : ℕ) : Type 0 where

@@ -55,10 +55,11 @@ abbrev pub TellsSlot : Node → Bytes → Option ℕ → Type 0
 TellsSlot node key (Some slot) = IsFound node (slice_of key 0) (mark_of key 0) (suffix_of key 0) slot ThisKey
 TellsSlot node key None = IsMissing (entries_of node) (slice_of key 0) (mark_of key 0)
 
--- what a get takes of a slot: the row that it asks of the pair there, right from the later of its first step and the row's stamp on; no number,
--- where the slot is none
+-- what a get takes of a slot: the row that it asks of the pair there, right from the later of its first step and the row's stamp on; Absent and
+-- no number, where the slot is none
 pub record TellsTaken (node : Node) (slot : ℕ) (op : Operation) (taken : Reply × Option ℕ) : Type 0 where
   pub nothing : ¬ IsLive node slot → taken.1 ≡ None
+  pub nothing_shown : ¬ IsLive node slot → taken.0 ≡ Absent
   pub row : (pair : Pair) → IsLive node slot → pair_of (entry_at node slot).held ≡ Some pair
       → (columns : List ℕ) → columns_asked op.request ≡ Some columns → (taken.0 ≡ Found (shown columns pair.row)) × (taken.1 ≡ Some (max op.first pair.stamp))
 

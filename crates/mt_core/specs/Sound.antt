@@ -1,21 +1,23 @@
 -- The invariant of a state, and what a step of one operation leaves of it to all others.
 use Rattle.std.specs.Prelude.{◌≡◌, ◌≢◌, ℕ, ◌≤◌, ◌<◌, ◌^◌, ◌⊎◌, Bool, true, false, [], length, Some, IsSome, is_some}
-use Rattle.std.specs.List.{All}
+use Rattle.std.specs.List.{All, Contains}
 use Rattle.std.specs.FinMap.{get, len}
 use Rattle.mt_rows.specs.declared.tenants.Account.{Account}
+use Rattle.mt_rows.specs.Rows.{Bytes}
 use Rattle.mt_rows.specs.Accounts.{account_of}
 use Rattle.mt_rows.specs.Maps.{is_get}
 use Rattle.mt_rows.specs.Tenants.{tenant_map}
-use Rattle.mt_tape.specs.Tapes.{RisesOver, last_write}
-use Rattle.mt_tape.specs.Histories.{IsLegal, IsUntouched}
+use Rattle.mt_tape.specs.declared.entry.Entry.{Entry as TapeEntry}
+use Rattle.mt_tape.specs.Tapes.{Kept, RisesOver, last_write}
+use Rattle.mt_tape.specs.Histories.{IsLegal, IsUntouched, written_key}
 use Rattle.mt_border.specs.Entry.{IsStable}
 use Rattle.mt_border.specs.Entries.{IsBorder}
 use Rattle.mt_border.specs.Node.{entries_of}
 use Rattle.mt_core.specs.declared.operation.Operation.{Operation}
 use Rattle.mt_core.specs.declared.operation.Progress.{Progress}
 use Rattle.mt_core.specs.declared.operation.Progress.TheVariants.{Judge, Store, Publish, Unlock, Finished}
-use Rattle.mt_core.specs.Contents.{owned, AreKeys, AllStamped}
-use Rattle.mt_core.specs.Views.{Core, shown, pairs_of, op_at, Grows}
+use Rattle.mt_border.specs.Contents.{owned, AreKeys, AllStamped}
+use Rattle.mt_core.specs.Views.{Core, shown, pairs_of, op_at, IsUnchangedSince, Grows}
 use Rattle.mt_core.specs.Kept.{ask, age, IsKept, IsOpen}
 
 -- the tape: its steps rise and were made, and each entry tells what its step did
@@ -24,12 +26,16 @@ pub record IsTape (c : Core) : Type 0 where
   pub made : last_write c.tape ≤ c.steps
   pub legal : IsLegal c.tape.entries (pairs_of c)
 
+-- a step is the one that placed a key's row: it was made, the key was not written after it, and the tape has its write where it goes back so far
+abbrev pub IsStampOf : ℕ → Kept → ℕ × Bytes → ℕ → Type 0
+IsStampOf steps tape q s = (s ≤ steps) × IsUntouched tape.entries q s × (tape.floor < s → (e : TapeEntry) × Contains tape.entries e × (e.step ≡ s) × (written_key e ≡ q))
+
 -- the node: its entries are pairs of stored keys, each placed by a step after which its key was not written, and no more inserts than steps
 pub record IsNode (c : Core) : Type 0 where
   pub border : IsBorder (entries_of c.node)
   pub keys : AreKeys [] 0 (entries_of c.node)
   pub stable : All (λ e. IsStable e.held) (entries_of c.node)
-  pub stamped : AllStamped (λ q s. (s ≤ c.steps) × IsUntouched c.tape.entries q s) [] (entries_of c.node)
+  pub stamped : AllStamped (IsStampOf c.steps c.tape) [] (entries_of c.node)
   pub whole : c.node.version.splitting ≡ false
   pub undeleted : c.node.version.deleted ≡ false
   pub inserts : c.node.version.inserts ≤ c.steps
@@ -84,12 +90,14 @@ pub record Sound (c : Core) : Type 0 where
   pub one_put : IsOnePut c
   pub few : c.steps ≤ 2 ^ 59
 
--- What a step of operation o leaves to all others: the past stays; while the version stands so do the slots; and a lock that another operation
--- holds, with the node and the tape
+-- What a step of operation o leaves to all others: the past stays; the slots stand while the version does, and where no map changed; a lock
+-- that another operation holds, with the node and the tape; and the node, where no number was given
 pub record Evolves (old new : Core) (o : ℕ) : Type 0 where
   pub grows : Grows (shown old) (shown new)
   pub ages : age old ≤ age new
   pub stands : age old ≡ age new → new.node.slots ≡ old.node.slots
+  pub unwritten : IsUnchangedSince (shown new) old.steps → new.node.slots ≡ old.node.slots
   pub lock : (q : ℕ) → q ≢ o → old.holder ≡ Some q → (new.holder ≡ Some q) × (new.node ≡ old.node) × (new.tape ≡ old.tape)
   pub accounts : (t : ℕ) → IsSome (account_of old.accounts t) → IsSome (account_of new.accounts t)
   pub floor : new.tape.floor ≡ old.tape.floor
+  pub idle : new.steps ≡ old.steps → new.node ≡ old.node

@@ -1,5 +1,5 @@
 -- What a state shows, and the maps that it had.
-use Rattle.std.specs.Prelude.{◌≡◌, ℕ, ◌-◌, ◌≤◌, Bool, true, false, List, [], Option, Some, None, slice_index_or}
+use Rattle.std.specs.Prelude.{◌≡◌, ℕ, ◌-◌, ◌<◌, ◌≤◌, Bool, true, false, List, [], Option, Some, None, slice_index_or}
 use Rattle.std.specs.Coded.{Coded, coded×, coded_ℕ, coded_list}
 use Rattle.std.specs.FinMap as pairs
 use Rattle.mt_rows.specs.declared.tenants.Account.{Account}
@@ -12,7 +12,7 @@ use Rattle.mt_tape.specs.Tapes.{Kept}
 use Rattle.mt_tape.specs.Histories.{map_at, is_changed}
 use Rattle.mt_border.specs.Node.{Node, entries_of}
 use Rattle.mt_core.specs.declared.operation.Operation.{Operation}
-use Rattle.mt_core.specs.Contents.{contents_of}
+use Rattle.mt_border.specs.Contents.{contents_of}
 
 -- the operations by their numbers: those that were begun and whose answer was not taken
 abbrev pub Table : Type 0
@@ -61,6 +61,10 @@ map_of v t m = map_at v.tape.entries v.contents t m
 -- whether step m changed a map
 abbrev pub changed_at : View → ℕ → Bool
 changed_at v m = is_changed v.tape.entries m
+
+-- no step after step m changed a map
+abbrev pub IsUnchangedSince : View → ℕ → Type 0
+IsUnchangedSince v m = (n : ℕ) → m < n → n ≤ v.steps → changed_at v n ≡ false
 
 -- how many pairs an account may have, none where there is no account
 abbrev pub quota_in : Option Account → ℕ

@@ -6,7 +6,6 @@
 #![tactic(auto)]
 
 pub mod answers;
-pub mod contents;
 pub mod events;
 mod openings;
 pub mod operation;
@@ -14,6 +13,7 @@ pub mod phase;
 mod reads;
 pub mod shape;
 pub mod state;
+mod tidy;
 
 pub use answers::{Move, Ticket};
 pub use events::{ToldList, run_events};

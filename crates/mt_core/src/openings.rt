@@ -1,13 +1,14 @@
 //! How operations come into the table and leave it.
 
-ghost use Rattle.std.specs.Prelude.{◌≡◌, ◌≢◌, ◌≤◌, ◌↔◌, ℕ, false, IsTrue, IfSome, IfNone, IfOk, OnErr, length, slice_set, Some, None};
+ghost use Rattle.std.specs.Prelude.{◌≡◌, ◌≢◌, ◌≤◌, ◌↔◌, ℕ, false, IsTrue, IfSome, IfNone, IfOk, IfErr, OnErr, length, slice_set, Some, None};
+ghost use Rattle.std.specs.Result.{result_err};
 ghost use Rattle.slab.specs.Slab.{get, Updates};
-ghost use Rattle.mt_rows.specs.Rows.{AreIndexes};
 ghost use Rattle.mt_core.specs.Operations.{command_of};
 ghost use Rattle.mt_core.specs.declared.operation.Operation.{Operation as AnyOperation};
 ghost use Rattle.mt_core.specs.Sound.{is_unfinished};
 ghost use Rattle.mt_core.specs.Begins.{HasOpenPut, IsAnswerOf, IsEnded};
 ghost use Rattle.mt_core.specs.Admitted.{IsPoint, IsRequest, IsAdmitted, HasRoomFor};
+ghost use Rattle.mt_core.specs.Refused.{asks_first, names_first, fault_of, Refuses, LacksRoom};
 
 use crate::operation::{Operation, Progress, Request};
 use crate::reads::slot_of;
@@ -25,7 +26,8 @@ const SHORT_KEY_BYTES: usize = 4;
 // then `Column` for any column but 0, then `ColumnLong`.
 fn request_of(command: Command) -> Result<Request, Refusal>
     requires { IsPoint command }
-    ensures { IfOk result (λ request. IsRequest request command) }
+    ensures request { IfOk result (λ request. IsRequest request command) }
+    ensures fault { result_err result ≡ fault_of command }
 {
     match command {
         Command::Get { key, columns } => get_of(key, columns),
@@ -36,7 +38,8 @@ fn request_of(command: Command) -> Result<Request, Refusal>
 
 // The request of a get.
 fn get_of(key: Key, columns: ColumnIndexes) -> Result<Request, Refusal>
-    ensures { IfOk result (λ request. IsRequest request (Command.Get key columns)) }
+    ensures request { IfOk result (λ request. IsRequest request (Command.Get key columns)) }
+    ensures fault { result_err result ≡ fault_of (Command.Get key columns) }
 {
     if key.as_bytes().len() > SHORT_KEY_BYTES {
         return Err(Refusal::KeyLong);
@@ -49,7 +52,8 @@ fn get_of(key: Key, columns: ColumnIndexes) -> Result<Request, Refusal>
 
 // The request of a put.
 fn put_of(key: Key, change: NamedColumns) -> Result<Request, Refusal>
-    ensures { IfOk result (λ request. IsRequest request (Command.Put key change)) }
+    ensures request { IfOk result (λ request. IsRequest request (Command.Put key change)) }
+    ensures fault { result_err result ≡ fault_of (Command.Put key change) }
 {
     if key.as_bytes().len() > SHORT_KEY_BYTES {
         return Err(Refusal::KeyLong);
@@ -61,16 +65,18 @@ fn put_of(key: Key, change: NamedColumns) -> Result<Request, Refusal>
     Ok(Request::Put { key, change })
 }
 
-// Whether no column is asked for, or column 0 alone.
+// Whether all columns are asked for, or column 0 alone.
 fn asks_first(columns: &ColumnIndexes) -> bool
-    ensures { IsTrue result → AreIndexes columns.now }
+    ensures { result ≡ asks_first columns.now }
 {
-    columns.may_be_asked() && columns.as_slice().iter().all(|index| *index == 0)
+    matches!(columns.as_slice(), [] | [0])
 }
 
-// Whether column 0 alone is named, or none.
-fn names_first(change: &NamedColumns) -> bool {
-    change.as_slice().iter().all(|named| named.0 == 0)
+// Whether column 0 is named, and no other.
+fn names_first(change: &NamedColumns) -> bool
+    ensures { result ≡ names_first change.now }
+{
+    matches!(change.as_slice(), [named] if named.0 == 0)
 }
 
 /// An operation before its first step.
@@ -81,7 +87,8 @@ pub(crate) fn admitted(
     command: Command,
 ) -> Result<Operation, Refusal>
     requires { IsPoint command }
-    ensures { IfOk result (λ op. IsAdmitted op worker tenant command) }
+    ensures admitted { IfOk result (λ op. IsAdmitted op worker tenant command) }
+    ensures fault { Refuses (fault_of command) (fault_of command) result }
 {
     let request = request_of(command)?;
     let key = match StoredKey::new(alloc, tenant, request.key().as_bytes()) {
@@ -104,13 +111,15 @@ pub(crate) fn admitted(
 /// there.
 pub(crate) fn has_room(root: &Border, operation: &Operation) -> bool
     requires { length operation.now.key ≤ 8 }
-    ensures { IsTrue result → HasRoomFor root.now operation.now }
+    ensures room { IsTrue result → HasRoomFor root.now operation.now }
+    ensures full { result ≡ false → LacksRoom root.now operation.now }
 {
     operation.request.is_get() || !root.is_full() || slot_of(root, &operation.key).is_some()
 }
 
 /// Keeps an operation, at a number that was free.
 pub(crate) fn keep(operations: &mut Slab<Operation>, operation: Operation) -> Result<usize, Refusal>
+    ensures memory { IfErr result (λ refusal. refusal ≡ Refusal.Memory) }
     ensures vacant { IfOk result (λ number. get operations.old number ≡ None) }
     ensures kept { IfOk result (λ number. Updates operations.old operations.new number (Some operation)) }
     ensures unchanged_on_err { OnErr result (operations.new.slots ≡ operations.old.slots) }

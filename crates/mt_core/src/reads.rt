@@ -1,6 +1,6 @@
 //! What steps read of the node, and the growths that they make of it.
 
-ghost use Rattle.std.specs.Prelude.{◌≡◌, ◌≤◌, ◌+◌, ◌<◌, ℕ, false, IfSome, IfNone, IfOk, length, Some, None};
+ghost use Rattle.std.specs.Prelude.{◌≡◌, ◌≤◌, ◌+◌, ◌-◌, ◌<◌, ℕ, false, [], ◌∷◌, ◌++◌, IfSome, IfNone, IfOk, length, Some, None};
 ghost use Rattle.std.specs.Option.{option_map};
 ghost use Rattle.mt_rows.specs.Rows.{AreIndexes, shown, columns_of};
 ghost use Rattle.mt_rows.specs.Commands.{HasColumns, key_of};
@@ -13,6 +13,7 @@ ghost use Rattle.mt_border.specs.Node.{IsFound, IsLive, entries_of, entry_at, Re
 ghost use Rattle.mt_core.specs.Operations.{command_of};
 ghost use Rattle.mt_core.specs.Reads.{columns_asked, TellsPrepared, TellsSlot, TellsTaken, CountsNew, searched, left, turned, new_entry, marked};
 ghost use Rattle.mt_core.specs.declared.operation.Operation.{Operation as AnyOperation};
+ghost use Rattle.mt_tape.specs.Tapes.{last_write};
 ghost use Rattle.slab.specs.Slab.{get, ContainsKey};
 
 use crate::operation::{Operation, Progress, Request};
@@ -279,4 +280,17 @@ pub(crate) fn add_entry(root: &mut Border, entry: mt_border::Entry)
 {
     root.set_version(root.version().marked_inserting());
     root.publish(entry);
+}
+
+/// Puts a write that this step placed on the tape.
+pub(crate) fn push_write(tape: &mut Tape, mut entry: Entry, step: u64)
+    requires reserved { 0 < tape.old.reserved }
+    requires later { last_write tape.old < step }
+    ensures { tape.new ≡ record tape.old {
+      entries = tape.old.entries ++ (record entry { step = step }) ∷ [];
+      reserved = tape.old.reserved - 1;
+    } }
+{
+    entry.step = step;
+    tape.push(entry);
 }

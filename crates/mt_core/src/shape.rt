@@ -3,6 +3,11 @@
 //! First a line of the tree, then one of its border node, two spaces in: the number of its keys, and
 //! where there are any the first and the last one as slice, colon and mark.
 
+ghost use Rattle.std.specs.Prelude.{◌≡◌};
+ghost use Rattle.std.specs.Option.{option_map, option_copied};
+ghost use Rattle.mt_border.specs.Node.{entries_of};
+ghost use Rattle.mt_core.specs.Shapes.{edge_in, line_in};
+
 use mt_border::{Border, Entry, Held};
 use mt_slices::Mark;
 use std::fmt;
@@ -29,6 +34,11 @@ pub enum ShapeLine {
 }
 
 impl fmt::Display for Edge {
+    ghost use Rattle.std.specs.Prelude.{Some};
+    ghost use Rattle.mt_core.specs.Shapes.{edge_text};
+
+    ghost output = { λ e. Some (edge_text e) };
+
     fn fmt<W: fmt::Write>(&self, f: &mut fmt::Formatter<W>) -> fmt::Result {
         let slice = self.slice;
         match self.mark {
@@ -40,6 +50,11 @@ impl fmt::Display for Edge {
 }
 
 impl fmt::Display for ShapeLine {
+    ghost use Rattle.std.specs.Prelude.{Some};
+    ghost use Rattle.mt_core.specs.Shapes.{line_text};
+
+    ghost output = { λ line. Some (line_text line) };
+
     fn fmt<W: fmt::Write>(&self, f: &mut fmt::Formatter<W>) -> fmt::Result {
         match self {
             ShapeLine::Tree => f.write_str("tree - layer 0"),
@@ -54,7 +69,9 @@ impl fmt::Display for ShapeLine {
 }
 
 /// The line of a border node.
-pub(crate) fn line_of(border: &Border) -> ShapeLine {
+pub(crate) fn line_of(border: &Border) -> ShapeLine
+    ensures { result ≡ line_in (entries_of border.now) }
+{
     ShapeLine::Border {
         count: border.len(),
         first: edge_of(border.first()),
@@ -63,7 +80,9 @@ pub(crate) fn line_of(border: &Border) -> ShapeLine {
 }
 
 // An entry, as it is printed.
-fn edge_of(entry: Option<&Entry>) -> Option<Edge> {
+fn edge_of(entry: Option<&Entry>) -> Option<Edge>
+    ensures { result ≡ option_map edge_in (option_copied entry.entry) }
+{
     match entry {
         Some(entry) => Some(Edge {
             slice: entry.slice,

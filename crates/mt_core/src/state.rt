@@ -3,7 +3,7 @@
 //! Invariant: `Sound` of `specs/Sound.antt`. It owns its node, its tape and its operations. Errors:
 //! refusals of `begin`, which change nothing. Units: steps by their numbers, which begin at 1.
 
-ghost use Rattle.std.specs.Prelude.{◌≡◌, ◌+◌, ◌<◌, ◌≤◌, ◌^◌, ◌↔◌, ℕ, IsTrue, IfOk, length, false, max, Some, None};
+ghost use Rattle.std.specs.Prelude.{◌≡◌, ◌+◌, ◌<◌, ◌≤◌, ◌^◌, ◌↔◌, ℕ, IsTrue, IfOk, false, max, Some, None};
 ghost use Rattle.mt_rows.specs.declared.reply.Reply.{Reply as AnyReply};
 ghost use Rattle.mt_rows.specs.Rows.{Bytes, Columns};
 ghost use Rattle.mt_tape.specs.declared.entry.Entry.{Entry as AnyEntry};
@@ -11,17 +11,23 @@ ghost use Rattle.mt_version.specs.Parts.{Parts};
 ghost use Rattle.std.specs.Option.{option_map};
 ghost use Rattle.mt_core.specs.Promises.{IsNext, Tells};
 ghost use Rattle.mt_core.specs.Begins.{new_state, HaveNoPairs, IsWorker, MayBegin, HasOpenPut, TellsBegin, TellsTake};
+ghost use Rattle.mt_core.specs.Refused.{TellsRefusal};
+ghost use Rattle.mt_core.specs.Shapes.{shape_of};
 ghost use Rattle.mt_core.specs.Shows.{phase_at, noted_at};
+ghost use Rattle.mt_core.specs.declared.operation.Operation.{Operation as AnyOperation};
+ghost use Rattle.mt_core.specs.Alone.{Runs, IsAlone, EndsAlone};
+ghost use Rattle.mt_core.specs.Tidies.{Tidies};
 
 use crate::answers::{Move, Ticket};
 use crate::openings::{admitted, give_up, has_open_put_in, has_room, keep};
 use crate::operation::{Operation, Progress, advance, finish, go_on};
 use crate::phase::Phase;
 use crate::reads::{
-    add_entry, count_at, entry_of, left, marker, out_of_memory, ready_at, searched, slot_at,
-    taken_at, turn, write_row,
+    add_entry, count_at, entry_of, left, marker, out_of_memory, push_write, ready_at, searched,
+    slot_at, taken_at, turn, write_row,
 };
 use crate::shape::{ShapeLine, line_of};
+use crate::tidy::floor_needed;
 use mt_border::Border;
 use mt_rows::{Command, Refusal, Reply, Tenants};
 use mt_runs::Answer;
@@ -33,6 +39,10 @@ use std::marker::Model;
 
 /// Steps are numbered up to this.
 pub const MAX_STEPS: u64 = 1 << 59;
+
+/// How many steps one run of an operation makes at most. Where no other is in its way, five are enough
+/// in one node.
+pub const MOST_STEPS: u32 = 256 * (1 + 64);
 
 /// The node, the tape of its changes, and the operations.
 #[derive(Drop)]
@@ -84,10 +94,15 @@ impl State {
     }
 
     /// Begins an operation of a worker for a tenant.
+    ///
+    /// Errors, the first that holds: `NoTenant`, `KeyLong` for a key of over 4 bytes, `Column` for any
+    /// column but 0, `ColumnLong`, `NoRoom` for a sixteenth pair, `Spent`. `Memory` may come in place
+    /// of the last two, and never of the others.
     pub fn begin(&mut self, worker: u8, tenant: u32, command: Command) -> Result<Ticket, Refusal>
         requires worker { IsWorker self.old.logs worker }
         requires one_put { MayBegin self.old.table command }
-        ensures { TellsBegin self.old self.new worker tenant command result }
+        ensures told { TellsBegin self.old self.new worker tenant command result }
+        ensures refused { TellsRefusal self.old tenant command result }
     {
         let Some(_) = self.tenants.account(tenant) else {
             return Err(Refusal::NoTenant);
@@ -140,7 +155,7 @@ impl State {
 
     /// The tree, line by line, as it is printed.
     pub fn shape(&self, alloc: Global) -> Result<Vec<ShapeLine>, AllocError>
-        ensures { IfOk result (λ lines. length lines.items ≡ 2) }
+        ensures { IfOk result (λ lines. lines.items ≡ shape_of self.now.contents) }
     {
         let mut lines = Vec::new(alloc);
         lines.push(ShapeLine::Tree)?;
@@ -160,6 +175,14 @@ impl State {
         ensures { result ≡ self.now.logs }
     {
         self.logs
+    }
+
+    /// Gives up the writes of the tape that no operation needs any more.
+    pub fn tidy(&mut self)
+        ensures { Tidies self.old self.new }
+    {
+        let floor = floor_needed(&self.operations, self.steps);
+        self.tape.trim(floor);
     }
 
     /// Makes one step of an operation.
@@ -208,6 +231,21 @@ impl State {
             Progress::Unlock { .. } => self.unlock(number),
             Progress::Finished { .. } => Move::NoSuch,
         }
+    }
+
+    /// Makes steps of an operation as long as it moves, `MOST_STEPS` at most, and answers what the last
+    /// one answered. An operation that is alone from its first step on is done.
+    pub fn run_alone(&mut self, ticket: &Ticket) -> Move
+        ensures runs { Runs self.old self.new ticket.now.number result }
+        ensures alone { (op : AnyOperation) → IsAlone self.old ticket.now.number op → EndsAlone self.old self.new ticket.now.number op result }
+    {
+        for _ in 0..MOST_STEPS {
+            match self.step(ticket) {
+                Move::Moved => {}
+                answer => return answer,
+            }
+        }
+        Move::Moved
     }
 
     // Remembers the root's version.
@@ -363,19 +401,11 @@ impl State {
             at: self.steps,
         };
         let ready = advance(&mut self.operations, number, self.steps, placed);
-        let Some(
-            Progress::Store {
-                slot,
-                row,
-                mut entry,
-            },
-        ) = ready
-        else {
+        let Some(Progress::Store { slot, row, entry }) = ready else {
             unreachable!()
         };
-        entry.step = self.steps;
         write_row(&mut self.root, slot, row, self.steps);
-        self.tape.push(entry);
+        push_write(&mut self.tape, entry, self.steps);
         Move::Moved
     }
 
@@ -400,20 +430,12 @@ impl State {
             at: self.steps,
         };
         let ready = advance(&mut self.operations, number, self.steps, placed);
-        let Some(
-            Progress::Publish {
-                suffix,
-                row,
-                mut entry,
-            },
-        ) = ready
-        else {
+        let Some(Progress::Publish { suffix, row, entry }) = ready else {
             unreachable!()
         };
-        entry.step = self.steps;
         let added = entry_of(&self.operations, number, suffix, row, self.steps);
         add_entry(&mut self.root, added);
-        self.tape.push(entry);
+        push_write(&mut self.tape, entry, self.steps);
         Move::Moved
     }
 

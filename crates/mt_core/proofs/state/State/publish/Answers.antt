@@ -25,11 +25,11 @@ add_entry-requires-clause-entry c = publish_entry (core_of c.self.inside) _ c.ar
 pub add_entry-requires-clause-missing : goal.add_entry-requires-clause-missing
 add_entry-requires-clause-missing c = publish_missing (core_of c.self.inside) _ c.args.number _ c.self.view_is c.self.invariant c.requires.few c.in-Some-Publish.suffix c.in-Some-Publish.row c.in-Some-Publish.entry _ (remembered (core_of c.self.inside) _ c.args.number [] c.self.view_is c.self.invariant c.requires.few _ _ _ c.requires.next.3 c.advance-ready.ensures.remembered (c.in-Some-Publish.is ∙ ap (λ p. Some p) c.in-Some-Publish.field-0-is)) c.advance-ready.ensures.moved _ c.entry_of-added.ensures
 
-pub push-requires-clause-reserved : goal.push-requires-clause-reserved
-push-requires-clause-reserved c = publish_reserved (core_of c.self.inside) _ c.args.number [] c.self.view_is c.self.invariant c.requires.few c.in-Some-Publish.suffix c.in-Some-Publish.row c.in-Some-Publish.entry (remembered (core_of c.self.inside) _ c.args.number [] c.self.view_is c.self.invariant c.requires.few _ _ _ c.requires.next.3 c.advance-ready.ensures.remembered (c.in-Some-Publish.is ∙ ap (λ p. Some p) c.in-Some-Publish.field-0-is))
+pub push_write-requires-clause-reserved : goal.push_write-requires-clause-reserved
+push_write-requires-clause-reserved c = publish_reserved (core_of c.self.inside) _ c.args.number [] c.self.view_is c.self.invariant c.requires.few c.in-Some-Publish.suffix c.in-Some-Publish.row c.in-Some-Publish.entry (remembered (core_of c.self.inside) _ c.args.number [] c.self.view_is c.self.invariant c.requires.few _ _ _ c.requires.next.3 c.advance-ready.ensures.remembered (c.in-Some-Publish.is ∙ ap (λ p. Some p) c.in-Some-Publish.field-0-is))
 
 pub invariant_of-self-2 : goal.invariant_of-self-2
-invariant_of-self-2 c = (publish_done (core_of c.self.inside) _ c.args.number _ c.self.view_is c.self.invariant c.requires.few c.in-Some-Publish.suffix c.in-Some-Publish.row c.in-Some-Publish.entry _ _ _ _ _ (remembered (core_of c.self.inside) _ c.args.number [] c.self.view_is c.self.invariant c.requires.few _ _ _ c.requires.next.3 c.advance-ready.ensures.remembered (c.in-Some-Publish.is ∙ ap (λ p. Some p) c.in-Some-Publish.field-0-is)) c.advance-ready.ensures.moved c.entry_of-added.ensures c.count_at.ensures.counts c.if-not-count_at.false c.add_entry.ensures.entries c.add_entry.ensures.others c.push.ensures).0
+invariant_of-self-2 c = (publish_done (core_of c.self.inside) _ c.args.number _ c.self.view_is c.self.invariant c.requires.few c.in-Some-Publish.suffix c.in-Some-Publish.row c.in-Some-Publish.entry _ _ _ _ _ (remembered (core_of c.self.inside) _ c.args.number [] c.self.view_is c.self.invariant c.requires.few _ _ _ c.requires.next.3 c.advance-ready.ensures.remembered (c.in-Some-Publish.is ∙ ap (λ p. Some p) c.in-Some-Publish.field-0-is)) c.advance-ready.ensures.moved c.entry_of-added.ensures c.count_at.ensures.counts c.if-not-count_at.false c.add_entry.ensures.entries c.add_entry.ensures.others c.push_write.ensures).0
 
 pub returns : goal.returns
-returns c = (publish_done (core_of c.self.inside) _ c.args.number _ c.self.view_is c.self.invariant c.requires.few c.in-Some-Publish.suffix c.in-Some-Publish.row c.in-Some-Publish.entry _ _ _ _ _ (remembered (core_of c.self.inside) _ c.args.number [] c.self.view_is c.self.invariant c.requires.few _ _ _ c.requires.next.3 c.advance-ready.ensures.remembered (c.in-Some-Publish.is ∙ ap (λ p. Some p) c.in-Some-Publish.field-0-is)) c.advance-ready.ensures.moved c.entry_of-added.ensures c.count_at.ensures.counts c.if-not-count_at.false c.add_entry.ensures.entries c.add_entry.ensures.others c.push.ensures).1
+returns c = (publish_done (core_of c.self.inside) _ c.args.number _ c.self.view_is c.self.invariant c.requires.few c.in-Some-Publish.suffix c.in-Some-Publish.row c.in-Some-Publish.entry _ _ _ _ _ (remembered (core_of c.self.inside) _ c.args.number [] c.self.view_is c.self.invariant c.requires.few _ _ _ c.requires.next.3 c.advance-ready.ensures.remembered (c.in-Some-Publish.is ∙ ap (λ p. Some p) c.in-Some-Publish.field-0-is)) c.advance-ready.ensures.moved c.entry_of-added.ensures c.count_at.ensures.counts c.if-not-count_at.false c.add_entry.ensures.entries c.add_entry.ensures.others c.push_write.ensures).1

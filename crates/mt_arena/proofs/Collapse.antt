@@ -1,0 +1,124 @@
+-- A root is taken out, and its child is the root.
+use Rattle.std.proofs.Common.{◌≡◌, ◌≢◌, ℕ, ◌<◌, List, length, get_or, Bool, Option, Some, None, true, false, set, refl, ap, subst, inl, inr, arith}
+use Rattle.std.proofs.lemmas.Bool.{cases_eq}
+use Rattle.std.proofs.lemmas.List.{length-set}
+use Rattle.mt_interior.specs.Fences.{end_of}
+use Rattle.mt_arena.specs.Shape.{Shape, node_at}
+use Rattle.mt_arena.specs.Nodes.{AreNodes, IsPair}
+use Rattle.mt_arena.specs.Ranges.{IsRanged, AreRanged}
+use Rattle.mt_arena.specs.Edits.{retired, IsLeft}
+use Rattle.mt_arena.specs.Collapses.{Collapses, crowned}
+use Rattle.mt_arena.proofs.Pairs.{are_set, here, there, nodes_set}
+use Rattle.mt_arena.proofs.Ranges.{one_parent}
+use Rattle.mt_arena.proofs.Retire.{nodes_retired}
+
+-- what has a value is something
+some_is : (o : Option ℕ) (k : ℕ) → o ≡ Some k → o ≢ None
+some_is o k e none = absurd (cc)
+
+-- a flag that is not false
+is_true : (b : Bool) → (b ≡ false → ⊥) → b ≡ true
+is_true true live = refl
+is_true false live = absurd (live refl)
+
+-- no live node leads to a root
+pub root_left : (xs : List Shape) (i : ℕ) → i < length xs → AreNodes xs → AreRanged xs → (node_at xs i).low ≡ 0 → (node_at xs i).parent ≡ None → IsLeft xs i
+root_left xs i within nodes ranged low parentless = record {
+  nobodys_next = λ k lt e. is_true _ (λ live.
+      let high = ap end_of ((nodes.pairs k i lt within).next_follows e) in
+      let range = (ranged k lt).next (some_is _ i e) in
+      omega (arith, high, range, low));
+  nobodys_child = λ k a lt la e. is_true _ (λ live. ((nodes.pairs k i lt within).child a la e live).knows parentless);
+}
+
+-- a node that is no live node's child becomes the root
+crowned_from : (k : ℕ) (n : Shape) (j : ℕ) (m : Shape) → IsPair k n j m → IsPair k (crowned n) j m
+crowned_from k n j m h = record {
+  next_follows = h.next_follows;
+  next_tree = h.next_tree;
+  next_level = h.next_level;
+  next_live = h.next_live;
+  previous_back = h.previous_back;
+  parent_knows = λ e. absurd (cc);
+  child = λ i lt e live.
+      let c = h.child i lt e live in
+      record { live = c.live; tree = c.tree; level = c.level; knows = c.knows; low = c.low; reach = c.reach };
+  apart = h.apart;
+}
+
+crowned_to : (k : ℕ) (n : Shape) (j : ℕ) (m : Shape) → IsPair k n j m → ((i : ℕ) → i < length n.children → get_or n.children i 0 ≡ j → n.version.deleted ≡ true) → IsPair k n j (crowned m)
+crowned_to k n j m h none = record {
+  next_follows = h.next_follows;
+  next_tree = h.next_tree;
+  next_level = h.next_level;
+  next_live = h.next_live;
+  previous_back = h.previous_back;
+  parent_knows = λ e live free.
+      let c = h.parent_knows e live free in
+      record { live = c.live; place = c.place; in_range = c.in_range; is = c.is };
+  child = λ i lt e live. absurd (let dead = none i lt e in cc);
+  apart = h.apart;
+}
+
+pub nodes_crowned : (xs : List Shape) (i : ℕ) → i < length xs → AreNodes xs
+    → ((k a : ℕ) → k < length xs → a < length (node_at xs k).children → get_or (node_at xs k).children a 0 ≡ i → (node_at xs k).version.deleted ≡ true)
+    → AreNodes (set xs i (crowned (node_at xs i)))
+nodes_crowned xs i within nodes none =
+    let x = node_at xs i in
+    let h = nodes.each i within in
+    are_set xs i (crowned x) within nodes record {
+      next_there = h.next_there;
+      previous_there = h.previous_there;
+      parent_there = λ j e. absurd (cc);
+      children_there = h.children_there;
+      locked = h.locked;
+      inserting_held = h.inserting_held;
+      splitting_held = h.splitting_held;
+      unstable_held = h.unstable_held;
+      border_level = h.border_level;
+      interior_level = h.interior_level;
+      border = h.border;
+      slots_within = h.slots_within;
+      childless = h.childless;
+      interior = h.interior;
+      bounds_rise = h.bounds_rise;
+      peopled = h.peopled;
+      slotless = h.slotless;
+      within_reach = h.within_reach;
+      reach_exact = h.reach_exact;
+      ends = h.ends;
+      begins = h.begins;
+      rooted = λ live free parentless. refl;
+    }
+    (crowned_from i x i (crowned x) (crowned_to i x i x (nodes.pairs i i within within) (λ a. none i a within)))
+    (λ j lt other. crowned_from i x j (node_at xs j) (nodes.pairs i j within lt))
+    (λ j lt other. crowned_to j (node_at xs j) i x (nodes.pairs j i lt within) (λ a. none j a lt))
+
+-- a child is another node
+differ_from : (xs : List Shape) (i q : ℕ) → AreNodes xs → Collapses xs i q → i ≢ q
+differ_from xs i q nodes f e =
+    let c = (nodes.pairs q i f.root_there f.child_there).child f.child.place f.child.in_range f.child.is f.child.live in
+    omega (arith, c.level, ap (λ k. (node_at xs k).level) e)
+
+-- the root is taken out, and its child is the root
+pub nodes_collapsed : (xs : List Shape) (i q : ℕ) → AreNodes xs → AreRanged xs → Collapses xs i q
+    → AreNodes (set (set xs q (retired (node_at xs q))) i (crowned (node_at xs i)))
+nodes_collapsed xs i q nodes ranged f =
+    let p = node_at xs q in
+    let ys = set xs q (retired p) in
+    let size = length-set xs q (retired p) in
+    let differ = differ_from xs i q nodes f in
+    let old : node_at ys i ≡ node_at xs i = there xs q i (retired p) differ in
+    let gone : AreNodes ys = nodes_retired xs q f.root_there nodes f.root_held (root_left xs q f.root_there nodes ranged f.root_low f.parentless) in
+    subst (λ (w : Shape). AreNodes (set ys i (crowned w))) old (nodes_crowned ys i (omega (arith, f.child_there, size)) gone (λ k a lk. elim (cases_eq k q) [
+      | inl same ↦ rw (same, here xs q (retired p) f.root_there) (λ la e. refl)
+      | inr other ↦ rw (there xs q k (retired p) other) (λ la e. is_true _ (λ live.
+          other (one_parent xs q k i f.child.place a nodes f.root_there (omega (arith, lk, size)) f.child_there f.child.live live f.child.in_range f.child.is la e)))
+    ]))
+
+pub ranged_collapsed : (xs : List Shape) (i q : ℕ) → AreRanged xs → Collapses xs i q → AreRanged (set (set xs q (retired (node_at xs q))) i (crowned (node_at xs i)))
+ranged_collapsed xs i q ranged f =
+    let p = node_at xs q in
+    nodes_set IsRanged (set xs q (retired p)) i (crowned (node_at xs i)) (omega (arith, f.child_there, length-set xs q (retired p)))
+    (nodes_set IsRanged xs q (retired p) f.root_there ranged (record { next = (ranged q f.root_there).next; parent = (ranged q f.root_there).parent }))
+    (record { next = (ranged i f.child_there).next; parent = λ some. absurd (some refl) })

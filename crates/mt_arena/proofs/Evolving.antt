@@ -1,0 +1,184 @@
+-- What a step leaves to others is a relation that joins, and the steps that keep it.
+use Rattle.std.proofs.Common.{◌≡◌, ◌≢◌, ℕ, ◌+◌, ◌<◌, List, [], ◌∷◌, ◌++◌, length, set, Bool, true, false, Some, None, refl, sym, ap, subst, ◌∙◌, inl, inr, arith, length-append}
+use Rattle.std.proofs.lemmas.Bool.{cases_eq}
+use Rattle.std.proofs.lemmas.List.{length-set}
+use Rattle.mt_version.specs.Changes.{range_age, insert_age}
+use Rattle.mt_version.proofs.CallerLemmas as versions
+use Rattle.mt_arena.specs.declared.tree.Tree.{Tree}
+use Rattle.mt_arena.specs.declared.tree.Standing.TheVariants.{Made}
+use Rattle.mt_arena.specs.Shape.{Shape, node_at}
+use Rattle.mt_arena.specs.Forests.{tree_at}
+use Rattle.mt_arena.specs.Evolves.{Evolves, Changes, TreeChanges, IsUntouched, HasSameKeys, PointsOnly}
+use Rattle.mt_arena.proofs.Pairs.{here, there, last, before}
+use Rattle.mt_arena.proofs.Trees.{before_tree}
+
+-- a node that stays as it is
+pub untouched : (n : Shape) → IsUntouched n n
+untouched n = record { holder = refl; version = refl; slots = refl; separators = refl; children = refl; next = refl; high = refl; reach = refl; parented = λ some. some }
+
+untouched_on : (n m p : Shape) → IsUntouched n m → IsUntouched m p → IsUntouched n p
+untouched_on n m p a b = record {
+  holder = b.holder ∙ a.holder;
+  version = b.version ∙ a.version;
+  slots = b.slots ∙ a.slots;
+  separators = b.separators ∙ a.separators;
+  children = b.children ∙ a.children;
+  next = b.next ∙ a.next;
+  high = b.high ∙ a.high;
+  reach = b.reach ∙ a.reach;
+  parented = λ some. b.parented (a.parented some);
+}
+
+pub same_keys : (n : Shape) → HasSameKeys n n
+same_keys n = record { slots = refl; separators = refl; children = refl }
+
+same_keys_on : (n m p : Shape) → HasSameKeys n m → HasSameKeys m p → HasSameKeys n p
+same_keys_on n m p a b = record { slots = b.slots ∙ a.slots; separators = b.separators ∙ a.separators; children = b.children ∙ a.children }
+
+-- a node that is live now was live
+was_live : (a b : Bool) → (a ≡ true → b ≡ true) → b ≡ false → a ≡ false
+was_live true b stays live = absurd (let dead = stays refl in cc)
+was_live false b stays live = refl
+
+pub changes_none : (op : ℕ) (n : Shape) → Changes op n n
+changes_none op n = record {
+  tree = refl;
+  level = refl;
+  low = refl;
+  ages = versions.ages_refl n.version;
+  peopled = λ some. some;
+  widens = λ same whole live. omega arith;
+  keys = λ range insertion whole still. same_keys n;
+  held = λ q other e. untouched n;
+  taken = λ q other e. e;
+}
+
+-- two changes, one after the other
+pub changes_on : (op : ℕ) (n m p : Shape) → Changes op n m → Changes op m p → Changes op n p
+changes_on op n m p a b = record {
+  tree = b.tree ∙ a.tree;
+  level = b.level ∙ a.level;
+  low = b.low ∙ a.low;
+  ages = versions.ages_trans n.version m.version p.version a.ages b.ages;
+  peopled = λ some. b.peopled (a.peopled some);
+  widens = λ same whole live.
+      let first : range_age n.version ≡ range_age m.version = omega (arith, a.ages.range, b.ages.range, same) in
+      let second : range_age m.version ≡ range_age p.version = omega (arith, a.ages.range, b.ages.range, same) in
+      let still = sym (versions.range_age_tells n.version m.version first).1 ∙ whole in
+      let was = was_live m.version.deleted p.version.deleted b.ages.deleted live in
+      omega (arith, a.widens first whole was, b.widens second still live);
+  keys = λ range insertion whole still.
+      let first : range_age n.version ≡ range_age m.version = omega (arith, a.ages.range, b.ages.range, range) in
+      let second : range_age m.version ≡ range_age p.version = omega (arith, a.ages.range, b.ages.range, range) in
+      let up = a.ages.insertion first in
+      let on = b.ages.insertion second in
+      let one : insert_age n.version ≡ insert_age m.version = omega (arith, up, on, insertion) in
+      let two : insert_age m.version ≡ insert_age p.version = omega (arith, up, on, insertion) in
+      same_keys_on n m p (a.keys first one whole still)
+      (b.keys second two (sym (versions.range_age_tells n.version m.version first).1 ∙ whole) (sym (versions.insert_age_tells n.version m.version one).1 ∙ still));
+  held = λ q other e. let kept = a.held q other e in untouched_on n m p kept (b.held q other (kept.holder ∙ e));
+  taken = λ q other e. a.taken q other (b.taken q other e);
+}
+
+tree_changes_none : (op : ℕ) (tree : Tree) → TreeChanges op tree tree
+tree_changes_none op tree = record { prefix = refl; dead = λ e. refl; made = λ q other e. refl }
+
+pub evolves_none : (op : ℕ) (nodes : List Shape) (trees : List Tree) → Evolves op nodes nodes trees trees
+evolves_none op nodes trees = record {
+  count = omega arith;
+  tree_count = omega arith;
+  nodes = λ k lt. changes_none op (node_at nodes k);
+  trees = λ t lt. tree_changes_none op (tree_at trees t);
+  made = λ k q lt other e. refl;
+}
+
+tree_changes_on : (op : ℕ) (a b c : Tree) → TreeChanges op a b → TreeChanges op b c → TreeChanges op a c
+tree_changes_on op a b c first second = record {
+  prefix = second.prefix ∙ first.prefix;
+  dead = λ e. let same = first.dead e in second.dead (ap (λ (t : Tree). t.standing) same ∙ e) ∙ same;
+  made = λ q other e. let same = first.made q other e in second.made q other (ap (λ (t : Tree). t.standing) same ∙ e) ∙ same;
+}
+
+-- two steps, one after the other
+pub evolves_on : (op : ℕ) (old mid new : List Shape) (were between are : List Tree) → Evolves op old mid were between → Evolves op mid new between are → ((k : ℕ) → k < length old → (node_at old k).tree < length were)
+    → Evolves op old new were are
+evolves_on op old mid new were between are a b inside = record {
+  count = omega (arith, a.count, b.count);
+  tree_count = omega (arith, a.tree_count, b.tree_count);
+  nodes = λ k lt. changes_on op (node_at old k) (node_at mid k) (node_at new k) (a.nodes k lt) (b.nodes k (omega (arith, lt, a.count)));
+  trees = λ t lt. tree_changes_on op (tree_at were t) (tree_at between t) (tree_at are t) (a.trees t lt) (b.trees t (omega (arith, lt, a.tree_count)));
+  made = λ k q lt other e.
+      let same = a.made k q lt other e in
+      let stands = (a.trees (node_at old k).tree (inside k lt)).made q other e in
+      b.made k q (omega (arith, lt, a.count)) other (ap (λ (n : Shape). (tree_at between n.tree).standing) same ∙ ap (λ (t : Tree). t.standing) stands ∙ e) ∙ same;
+}
+
+-- one node changes, of a tree that no other operation is making
+pub evolves_set : (op : ℕ) (xs : List Shape) (trees : List Tree) (i : ℕ) (y : Shape) → i < length xs → Changes op (node_at xs i) y
+    → ((q : ℕ) → (tree_at trees (node_at xs i).tree).standing ≡ Made q → q ≡ op) → Evolves op xs (set xs i y) trees trees
+evolves_set op xs trees i y within change mine = record {
+  count = omega (arith, length-set xs i y);
+  tree_count = omega arith;
+  nodes = λ k lt. elim (cases_eq k i) [
+    | inl same ↦ rw (same, here xs i y within) change
+    | inr differ ↦ rw (there xs i k y differ) (changes_none op (node_at xs k))
+  ];
+  trees = λ t lt. tree_changes_none op (tree_at trees t);
+  made = λ k q lt other e. elim (cases_eq k i) [
+    | inl same ↦ absurd (other (mine q (subst (λ k. (tree_at trees (node_at xs k).tree).standing ≡ Made q) same e)))
+    | inr differ ↦ there xs i k y differ
+  ];
+}
+
+-- a node more, and a tree more with its root
+pub evolves_push : (op : ℕ) (xs : List Shape) (trees : List Tree) (y : Shape) → Evolves op xs (xs ++ y ∷ []) trees trees
+evolves_push op xs trees y = record {
+  count = omega (arith, length-append xs (y ∷ []));
+  tree_count = omega arith;
+  nodes = λ k lt. rw (before xs y k lt) (changes_none op (node_at xs k));
+  trees = λ t lt. tree_changes_none op (tree_at trees t);
+  made = λ k q lt other e. before xs y k lt;
+}
+
+pub evolves_tree : (op : ℕ) (xs : List Shape) (trees : List Tree) (y : Shape) (u : Tree) → Evolves op xs (xs ++ y ∷ []) trees (trees ++ u ∷ [])
+evolves_tree op xs trees y u = record {
+  count = omega (arith, length-append xs (y ∷ []));
+  tree_count = omega (arith, length-append trees (u ∷ []));
+  nodes = λ k lt. rw (before xs y k lt) (changes_none op (node_at xs k));
+  trees = λ t lt. rw (before_tree trees u t lt) (tree_changes_none op (tree_at trees t));
+  made = λ k q lt other e. before xs y k lt;
+}
+
+-- one node changes and names the same neighbours and the same parent, or others that the operation holds
+pub record PointsSo (op : ℕ) (nodes : List Shape) (x y : Shape) : Type 0 where
+  pub previous : (j : ℕ) → y.previous ≡ Some j → (node_at nodes j).holder ≢ Some op → x.previous ≡ Some j
+  pub parent : (j : ℕ) → y.parent ≡ Some j → (node_at nodes j).holder ≢ Some op → x.parent ≡ Some j
+
+pub points_set : (op : ℕ) (xs : List Shape) (i : ℕ) (y : Shape) → i < length xs → PointsSo op (set xs i y) (node_at xs i) y → PointsOnly op xs (set xs i y)
+points_set op xs i y within so = record {
+  previous = λ k j lt e not_mine. elim (cases_eq k i) [
+    | inl same ↦ ap (λ k. (node_at xs k).previous) same ∙ so.previous j (ap (λ (n : Shape). n.previous) (sym (here xs i y within)) ∙ ap (λ k. (node_at (set xs i y) k).previous) (sym same) ∙ e) not_mine
+    | inr differ ↦ ap (λ (n : Shape). n.previous) (sym (there xs i k y differ)) ∙ e
+  ];
+  parent = λ k j lt e not_mine. elim (cases_eq k i) [
+    | inl same ↦ ap (λ k. (node_at xs k).parent) same ∙ so.parent j (ap (λ (n : Shape). n.parent) (sym (here xs i y within)) ∙ ap (λ k. (node_at (set xs i y) k).parent) (sym same) ∙ e) not_mine
+    | inr differ ↦ ap (λ (n : Shape). n.parent) (sym (there xs i k y differ)) ∙ e
+  ];
+  new_previous = λ k j from lt. absurd (omega (arith, from, lt, length-set xs i y));
+  new_parent = λ k j from lt. absurd (omega (arith, from, lt, length-set xs i y));
+}
+
+-- a new node names nobody
+pub points_push : (op : ℕ) (xs : List Shape) (y : Shape) → y.previous ≡ None → y.parent ≡ None → PointsOnly op xs (xs ++ y ∷ [])
+points_push op xs y previous parent =
+    let size : length (xs ++ y ∷ []) ≡ length xs + 1 = length-append xs (y ∷ []) in
+    record {
+      previous = λ k j lt e not_mine. ap (λ (n : Shape). n.previous) (sym (before xs y k lt)) ∙ e;
+      parent = λ k j lt e not_mine. ap (λ (n : Shape). n.parent) (sym (before xs y k lt)) ∙ e;
+      new_previous = λ k j from lt e.
+          let is : k ≡ length xs = omega arith in
+          absurd (let at = sym previous ∙ ap (λ (n : Shape). n.previous) (sym (last xs y)) ∙ ap (λ k. (node_at (xs ++ y ∷ []) k).previous) (sym is) ∙ e in cc);
+      new_parent = λ k j from lt e.
+          let is : k ≡ length xs = omega arith in
+          absurd (let at = sym parent ∙ ap (λ (n : Shape). n.parent) (sym (last xs y)) ∙ ap (λ k. (node_at (xs ++ y ∷ []) k).parent) (sym is) ∙ e in cc);
+    }

@@ -1,0 +1,220 @@
+-- How pointers to a node come to name it rightly again, from the split of a border node to the insert of its right half.
+use Rattle.std.proofs.Common.{◌≡◌, ◌≢◌, ◌⊎◌, ℕ, ◌+◌, ◌-◌, ◌<◌, ◌≤◌, List, [], ◌∷◌, ◌++◌, length, get_or, Option, Some, None, false, true, set, sym, ap, subst, ◌∙◌, inl, inr, arith, length-append, length-drop}
+use Rattle.std.specs.List.{All}
+use Rattle.std.proofs.lemmas.Bool.{cases_eq, cases_lt}
+use Rattle.std.proofs.lemmas.Option.{same_Some}
+use Rattle.std.proofs.lemmas.List.{length-set, length-take, get_or-take, get_or-drop}
+use Rattle.std.proofs.lemmas.List.Edits.{length-insert, get_or-insert_below, get_or-insert_at, get_or-insert_above}
+use Rattle.mt_border.specs.declared.entry.Entry.{Entry}
+use Rattle.mt_interior.specs.Places.{place_of}
+use Rattle.mt_interior.proofs.CallerLemmas.{place_of-le-length}
+use Rattle.mt_arena.specs.declared.tree.Tree.{Tree}
+use Rattle.mt_arena.specs.Shape.{Shape, node_at}
+use Rattle.mt_arena.specs.Nodes.{AreNodes, HasChild, IsUnstable}
+use Rattle.mt_arena.specs.Settled.{IsSettled}
+use Rattle.mt_arena.specs.Evolves.{Evolves, PointsOnly}
+use Rattle.mt_arena.specs.Lags.{Follows, IsUnder, AreFollowers, AreFollowersBut, AreChildren, AreChildrenBut}
+use Rattle.mt_arena.specs.Edits.{pointed}
+use Rattle.mt_arena.specs.Splits.{Splits, Inserts, left_half, right_half, with_child, exact, inner_left, inner_right}
+use Rattle.mt_arena.proofs.Pairs.{here, there, last, before}
+use Rattle.mt_arena.proofs.Settled.{alive}
+
+-- other operations let no node name one that this operation holds
+not_theirs : (op q : ℕ) (old new : List Shape) (were are : List Tree) (i : ℕ) → Evolves op old new were are → q ≢ op → i < length old → (node_at old i).holder ≡ Some q → (node_at new i).holder ≢ Some op
+not_theirs op q old new were are i evolves other within holder e = other (same_Some _ _ (sym (((evolves.nodes i within).held q other holder).holder ∙ holder) ∙ e))
+
+pub follows_before : (op q : ℕ) (old new : List Shape) (were are : List Tree) (i k : ℕ) → Evolves op old new were are → PointsOnly op old new → q ≢ op → i < length old → (node_at old i).holder ≡ Some q
+    → Follows new i k → Follows old i k
+follows_before op q old new were are i k evolves points other within holder is = elim (cases_lt k (length old)) [
+  | inl was ↦ (was, points.previous k i was is.1 (not_theirs op q old new were are i evolves other within holder), alive _ _ (evolves.nodes k was).ages.deleted is.2)
+  | inr new_one ↦ absurd (not_theirs op q old new were are i evolves other within holder (points.new_previous k i (omega (arith, new_one)) is.0 is.1))
+]
+
+pub under_before : (op q : ℕ) (old new : List Shape) (were are : List Tree) (i k : ℕ) → Evolves op old new were are → PointsOnly op old new → q ≢ op → i < length old → (node_at old i).holder ≡ Some q
+    → IsUnder new i k → IsUnder old i k
+under_before op q old new were are i k evolves points other within holder is = elim (cases_lt k (length old)) [
+  | inl was ↦ (was, points.parent k i was is.1 (not_theirs op q old new were are i evolves other within holder), alive _ _ (evolves.nodes k was).ages.deleted is.2)
+  | inr new_one ↦ absurd (not_theirs op q old new were are i evolves other within holder (points.new_parent k i (omega (arith, new_one)) is.0 is.1))
+]
+
+-- a live node in a list where one node is another
+follows_in : (xs : List Shape) (i k b : ℕ) (y : Shape) → b < length xs → Follows (set xs b y) i k → ((k ≡ b) × (y.previous ≡ Some i)) ⊎ ((k ≢ b) × Follows xs i k)
+follows_in xs i k b y within is = elim (cases_eq k b) [
+  | inl same ↦ inl (same, sym (ap (λ (n : Shape). n.previous) (ap (node_at (set xs b y)) same ∙ here xs b y within)) ∙ is.1)
+  | inr other ↦
+      let old = there xs b k y other in
+      inr (other, (omega (arith, is.0, length-set xs b y), sym (ap (λ (n : Shape). n.previous) old) ∙ is.1, sym (ap (λ (n : Shape). n.version.deleted) old) ∙ is.2))
+]
+
+under_in : (xs : List Shape) (i k b : ℕ) (y : Shape) → b < length xs → IsUnder (set xs b y) i k → ((k ≡ b) × (y.parent ≡ Some i) × (y.version.deleted ≡ false)) ⊎ ((k ≢ b) × IsUnder xs i k)
+under_in xs i k b y within is = elim (cases_eq k b) [
+  | inl same ↦
+      let new = ap (node_at (set xs b y)) same ∙ here xs b y within in
+      inl (same, sym (ap (λ (n : Shape). n.parent) new) ∙ is.1, sym (ap (λ (n : Shape). n.version.deleted) new) ∙ is.2)
+  | inr other ↦
+      let old = there xs b k y other in
+      inr (other, (omega (arith, is.0, length-set xs b y), sym (ap (λ (n : Shape). n.parent) old) ∙ is.1, sym (ap (λ (n : Shape). n.version.deleted) old) ∙ is.2))
+]
+
+-- after the slots were parted, all that name the left half as the one before are the right half and the one that was next
+pub left_followers : (xs : List Shape) (i j : ℕ) (kept moved : List Entry) → i < length xs → j < length xs → i ≢ j → Splits (node_at xs i) (node_at xs j) kept moved → AreFollowers xs i (node_at xs i).next
+    → AreFollowersBut (set (set xs i (left_half (node_at xs i) kept (node_at xs j).low j)) j (right_half (node_at xs i) (node_at xs j) moved i)) i (node_at xs i).next j
+left_followers xs i j kept moved li lj differ splits followers k nj is =
+    let y = left_half (node_at xs i) kept (node_at xs j).low j in
+    elim (follows_in (set xs i y) i k j (right_half (node_at xs i) (node_at xs j) moved i) (omega (arith, lj, length-set xs i y)) is) [
+      | inl right ↦ absurd (nj right.0)
+      | inr other ↦ elim (follows_in xs i k i y li other.1) [
+        | inl own ↦ followers k (subst (λ c. Follows xs i c) (sym own.0) (li, own.1, splits.live))
+        | inr old ↦ followers k old.1
+      ]
+    ]
+
+-- and none names the right half
+pub right_followers : (xs : List Shape) (i j : ℕ) (kept moved : List Entry) → i < length xs → j < length xs → i ≢ j → Splits (node_at xs i) (node_at xs j) kept moved → AreFollowers xs j None
+    → AreFollowers (set (set xs i (left_half (node_at xs i) kept (node_at xs j).low j)) j (right_half (node_at xs i) (node_at xs j) moved i)) j None
+right_followers xs i j kept moved li lj differ splits followers k is =
+    let y = left_half (node_at xs i) kept (node_at xs j).low j in
+    elim (follows_in (set xs i y) j k j (right_half (node_at xs i) (node_at xs j) moved i) (omega (arith, lj, length-set xs i y)) is) [
+      | inl right ↦ absurd (differ (same_Some _ _ right.1))
+      | inr other ↦ elim (follows_in xs j k i y li other.1) [
+        | inl own ↦ followers k (subst (λ c. Follows xs j c) (sym own.0) (li, own.1, splits.live))
+        | inr old ↦ followers k old.1
+      ]
+    ]
+
+-- the one behind names the right half: then each half has the follower that it names as its next
+pub left_again : (xs : List Shape) (i j b : ℕ) (parent : Option ℕ) → i ≢ j → b < length xs → AreFollowersBut xs i (Some b) j → AreFollowers (set xs b (pointed (node_at xs b) (Some j) parent)) i (Some j)
+left_again xs i j b parent differ lb followers k is = elim (follows_in xs i k b (pointed (node_at xs b) (Some j) parent) lb is) [
+  | inl behind ↦ absurd (differ (sym (same_Some _ _ behind.1)))
+  | inr other ↦ elim (cases_eq k j) [
+    | inl right ↦ ap (λ (c : ℕ). Some c) (sym right)
+    | inr nj ↦ absurd (other.0 (sym (same_Some _ _ (followers k nj other.1))))
+  ]
+]
+
+pub right_again : (xs : List Shape) (j b : ℕ) (parent : Option ℕ) → b < length xs → AreFollowers xs j None → AreFollowers (set xs b (pointed (node_at xs b) (Some j) parent)) j (Some b)
+right_again xs j b parent lb followers k is = elim (follows_in xs j k b (pointed (node_at xs b) (Some j) parent) lb is) [
+  | inl behind ↦ ap (λ (c : ℕ). Some c) (sym behind.0)
+  | inr other ↦ absurd (let none = followers k other.1 in cc)
+]
+
+-- where there is none behind
+pub left_last : (xs : List Shape) (i j : ℕ) → AreFollowersBut xs i None j → AreFollowers xs i (Some j)
+left_last xs i j followers k is = elim (cases_eq k j) [
+  | inl right ↦ ap (λ (c : ℕ). Some c) (sym right)
+  | inr nj ↦ absurd (let none = followers k nj is in cc)
+]
+
+-- what was a child is one among one more
+child_more : (p : Shape) (separator q k : ℕ) → length p.children ≡ length p.separators + 1 → HasChild p k → HasChild (with_child p separator q) k
+child_more p separator q k size c =
+    let a : ℕ = place_of p.separators separator + 1 in
+    let within : a ≤ length p.children = omega (arith, place_of-le-length p.separators separator, size) in
+    let more = length-insert p.children a q within in
+    elim (cases_lt c.place a) [
+      | inl below ↦ record { live = c.live; place = c.place; in_range = omega (arith, more, c.in_range); is = get_or-insert_below p.children a q 0 c.place below within ∙ c.is }
+      | inr above ↦ record { live = c.live; place = c.place + 1; in_range = omega (arith, more, c.in_range); is = get_or-insert_above p.children a q 0 c.place above within ∙ c.is }
+    ]
+
+-- the new child is one
+new_child : (p : Shape) (separator q : ℕ) → length p.children ≡ length p.separators + 1 → p.version.deleted ≡ false → HasChild (with_child p separator q) q
+new_child p separator q size live =
+    let a : ℕ = place_of p.separators separator + 1 in
+    let within : a ≤ length p.children = omega (arith, place_of-le-length p.separators separator, size) in
+    let more = length-insert p.children a q within in
+    record { live = live; place = a; in_range = omega (arith, within, more); is = get_or-insert_at p.children a q 0 within }
+
+-- once the right half stands in the parent, all that name the parent are its children
+pub children_again : (xs : List Shape) (i j q : ℕ) → AreNodes xs → Inserts xs i j q → AreChildrenBut xs i (node_at xs i) q
+    → AreChildren (set (set xs i (with_child (node_at xs i) (node_at xs q).low q)) j (exact (node_at xs j))) i (with_child (node_at xs i) (node_at xs q).low q)
+children_again xs i j q nodes f children k is =
+    let p = node_at xs i in
+    let y = with_child p (node_at xs q).low q in
+    let size : length p.children ≡ length p.separators + 1 = omega (arith, (nodes.each i f.parent_there).interior.between, f.child.in_range) in
+    let before : IsUnder xs i k = elim (under_in (set xs i y) i k j (exact (node_at xs j)) (omega (arith, f.left_there, length-set xs i y)) is) [
+      | inl left ↦ subst (λ c. IsUnder xs i c) (sym left.0) (f.left_there, left.1, left.2)
+      | inr other ↦ elim (under_in xs i k i y f.parent_there other.1) [
+        | inl own ↦ subst (λ c. IsUnder xs i c) (sym own.0) (f.parent_there, own.1, own.2)
+        | inr old ↦ old.1
+      ]
+    ] in
+    elim (cases_eq k q) [
+      | inl same ↦ subst (λ c. HasChild y c) (sym same) (new_child p (node_at xs q).low q size f.parent_live)
+      | inr nq ↦ child_more p (node_at xs q).low q k size (children k nq before)
+    ]
+
+-- how the words speak of a settled node
+pub followers_of : (xs : List Shape) (i : ℕ) (x : Shape) → IsSettled xs i x → AreFollowers xs i x.next
+followers_of xs i x settled k is = settled.previous k is.0 is.1 is.2
+
+pub children_of : (xs : List Shape) (i : ℕ) (x : Shape) → IsSettled xs i x → AreChildren xs i x
+children_of xs i x settled k is = settled.parent k is.0 is.1 is.2
+
+pub settled_of : (xs : List Shape) (i : ℕ) (x : Shape) → AreFollowers xs i x.next → AreChildren xs i x → x.reach ≡ x.high → All (λ e. ¬ IsUnstable e.held) x.slots
+    → (x.version.deleted ≡ false → x.parent ≡ None → x.version.root ≡ true) → IsSettled xs i x
+settled_of xs i x followers children reach stable rooted = record {
+  previous = λ k lt e live. followers k (lt, e, live);
+  parent = λ k lt e live. children k (lt, e, live);
+  reach = reach;
+  stable = stable;
+  rooted = rooted;
+}
+
+-- nobody names a new node
+pub fresh_followers : (xs : List Shape) (y : Shape) → AreNodes xs → y.previous ≡ None → AreFollowers (xs ++ y ∷ []) (length xs) None
+fresh_followers xs y nodes none k is =
+    let size : length (xs ++ y ∷ []) ≡ length xs + 1 = length-append xs (y ∷ []) in
+    elim (cases_eq k (length xs)) [
+      | inl same ↦
+          let own = sym (ap (λ (n : Shape). n.previous) (ap (node_at (xs ++ y ∷ [])) same ∙ last xs y)) ∙ is.1 in
+          absurd (cc)
+      | inr other ↦
+          let lt : k < length xs = omega (arith, is.0, size) in
+          let old = sym (ap (λ (n : Shape). n.previous) (before xs y k lt)) ∙ is.1 in
+          absurd (omega (arith, (nodes.each k lt).previous_there (length xs) old))
+    ]
+
+pub fresh_children : (xs : List Shape) (y n : Shape) → AreNodes xs → y.parent ≡ None → AreChildren (xs ++ y ∷ []) (length xs) n
+fresh_children xs y n nodes none k is =
+    let size : length (xs ++ y ∷ []) ≡ length xs + 1 = length-append xs (y ∷ []) in
+    elim (cases_eq k (length xs)) [
+      | inl same ↦
+          let own = sym (ap (λ (n : Shape). n.parent) (ap (node_at (xs ++ y ∷ [])) same ∙ last xs y)) ∙ is.1 in
+          absurd (cc)
+      | inr other ↦
+          let lt : k < length xs = omega (arith, is.0, size) in
+          let old = sym (ap (λ (n : Shape). n.parent) (before xs y k lt)) ∙ is.1 in
+          absurd (omega (arith, (nodes.each k lt).parent_there (length xs) old))
+    ]
+
+-- one node comes to name node i as its parent
+pub children_but : (xs : List Shape) (i q : ℕ) (n : Shape) (previous : Option ℕ) → q < length xs → AreChildren xs i n → AreChildrenBut (set xs q (pointed (node_at xs q) previous (Some i))) i n q
+children_but xs i q n previous within children k nq is = elim (under_in xs i k q (pointed (node_at xs q) previous (Some i)) within is) [
+  | inl own ↦ absurd (nq own.0)
+  | inr old ↦ children k old.1
+]
+
+-- a child of a node that is parted is one of a half
+pub child_parted : (wide t : Shape) (k : ℕ) → t.version.deleted ≡ false → HasChild wide k → HasChild (inner_left wide) k ⊎ HasChild (inner_right wide t) k
+child_parted wide t k live c = elim (cases_lt c.place 9) [
+  | inl low ↦ inl (record {
+    live = c.live;
+    place = c.place;
+    in_range = omega (arith, length-take 9 wide.children, low, c.in_range);
+    is = get_or-take 9 wide.children c.place 0 low ∙ c.is;
+  })
+  | inr high ↦ inr (record {
+    live = live;
+    place = c.place - 9;
+    in_range = omega (arith, length-drop 9 wide.children, high, c.in_range);
+    is = get_or-drop 9 wide.children (c.place - 9) 0 ∙ ap (λ b. get_or wide.children b 0) {x = 9 + (c.place - 9)} {y = c.place} (omega arith) ∙ c.is;
+  })
+]
+
+-- as one node is told that the right half is its parent, one less names the left one
+pub reparented : (xs : List Shape) (i h b : ℕ) (y u : Shape) (previous : Option ℕ) → i ≢ h → b < length xs → ((k : ℕ) → IsUnder xs i k → HasChild y k ⊎ HasChild u k)
+    → (k : ℕ) → IsUnder (set xs b (pointed (node_at xs b) previous (Some h))) i k → (k ≢ b) × (HasChild y k ⊎ HasChild u k)
+reparented xs i h b y u previous differ within children k is = elim (under_in xs i k b (pointed (node_at xs b) previous (Some h)) within is) [
+  | inl own ↦ absurd (differ (sym (same_Some _ _ own.1)))
+  | inr old ↦ (old.0, children k old.1)
+]

@@ -1,0 +1,126 @@
+-- Changes that facts of two nodes do not read, but for a lock that is taken: other slots, another version, another holder.
+use Rattle.std.proofs.Common.{◌≡◌, ◌≢◌, ℕ, ◌<◌, List, [], length, slice_index, is_some, Option, Some, None, true, false, set, refl, sym, ◌∙◌, arith}
+use Rattle.mt_version.specs.Parts.{Parts}
+use Rattle.mt_border.specs.declared.entry.Entry.{Entry}
+use Rattle.mt_border.specs.Entries.{IsBorder, slices}
+use Rattle.mt_arena.specs.Shape.{Shape, node_at}
+use Rattle.mt_arena.specs.Nodes.{AreNodes, IsNode, IsPair, Holds}
+use Rattle.mt_arena.specs.Edits.{turned, locked, inserting, splitting, with_slots}
+use Rattle.mt_arena.proofs.Pairs.{are_set}
+
+-- the first node of a pair
+turned_from : (k : ℕ) (n : Shape) (j : ℕ) (m : Shape) (slots : List Entry) (version : Parts) (holder : Option ℕ) → IsPair k n j m
+    → version.deleted ≡ n.version.deleted → IsPair k (turned n slots version holder) j m
+turned_from k n j m slots version holder h same = record {
+  next_follows = h.next_follows;
+  next_tree = h.next_tree;
+  next_level = h.next_level;
+  next_live = λ e live. h.next_live e (sym same ∙ live);
+  previous_back = λ e live free. h.previous_back e (sym same ∙ live) free;
+  parent_knows = λ e live free. h.parent_knows e (sym same ∙ live) free;
+  child = λ i lt e live.
+      let c = h.child i lt e (sym same ∙ live) in
+      record { live = c.live; tree = c.tree; level = c.level; knows = c.knows; low = c.low; reach = c.reach };
+  apart = λ differ tree level live also. h.apart differ tree level (sym same ∙ live) also;
+}
+
+-- a lock that nobody has now was not taken away
+was_free : (old new : Option ℕ) → (old ≢ None → new ≢ None) → new ≡ None → old ≡ None
+was_free None new held free = refl
+was_free (Some q) new held free = absurd (held (λ e. absurd (cc)) free)
+
+-- the second one
+turned_to : (k : ℕ) (n : Shape) (j : ℕ) (m : Shape) (slots : List Entry) (version : Parts) (holder : Option ℕ) → IsPair k n j m
+    → version.deleted ≡ m.version.deleted → (m.holder ≢ None → holder ≢ None) → IsPair k n j (turned m slots version holder)
+turned_to k n j m slots version holder h same held = record {
+  next_follows = h.next_follows;
+  next_tree = h.next_tree;
+  next_level = h.next_level;
+  next_live = λ e live. same ∙ h.next_live e live;
+  previous_back = λ e live free. h.previous_back e live (was_free m.holder holder held free);
+  parent_knows = λ e live free.
+      let c = h.parent_knows e live (was_free m.holder holder held free) in
+      record { live = same ∙ c.live; place = c.place; in_range = c.in_range; is = c.is };
+  child = λ i lt e live.
+      let c = h.child i lt e live in
+      record { live = same ∙ c.live; tree = c.tree; level = c.level; knows = c.knows; low = c.low; reach = c.reach };
+  apart = λ differ tree level live also. h.apart differ tree level live (sym same ∙ also);
+}
+
+-- a node turns into another one of the same standing
+pub nodes_quiet : (xs : List Shape) (i : ℕ) (slots : List Entry) (version : Parts) (holder : Option ℕ) → i < length xs → AreNodes xs
+    → version.deleted ≡ (node_at xs i).version.deleted → ((node_at xs i).holder ≢ None → holder ≢ None)
+    → IsNode (length xs) (turned (node_at xs i) slots version holder)
+    → AreNodes (set xs i (turned (node_at xs i) slots version holder))
+nodes_quiet xs i slots version holder within nodes same held one =
+    let x = node_at xs i in
+    let y = turned x slots version holder in
+    are_set xs i y within nodes one
+    (turned_from i x i y slots version holder (turned_to i x i x slots version holder (nodes.pairs i i within within) same held) same)
+    (λ j lt other. turned_from i x j (node_at xs j) slots version holder (nodes.pairs i j within lt) same)
+    (λ j lt other. turned_to j (node_at xs j) i x slots version holder (nodes.pairs j i lt within) same held)
+
+-- a node that is held, with other marks and slots that may stand in it
+held_node : (count : ℕ) (n : Shape) (slots : List Entry) (version : Parts) (holder : Option ℕ) → IsNode count n → holder ≢ None
+    → version.locked ≡ is_some holder → version.border ≡ n.version.border → version.deleted ≡ n.version.deleted → (version.splitting ≡ false → n.version.splitting ≡ false)
+    → IsBorder slots → ((i : ℕ) → i < length slots → Holds n (slice_index (slices slots) i)) → (0 < n.level → slots ≡ [])
+    → IsNode count (turned n slots version holder)
+held_node count n slots version holder h held lock kind standing marked border within slotless = record {
+  next_there = h.next_there;
+  previous_there = h.previous_there;
+  parent_there = h.parent_there;
+  children_there = h.children_there;
+  locked = lock;
+  inserting_held = λ e. held;
+  splitting_held = λ e. held;
+  unstable_held = λ free. absurd (held free);
+  border_level = λ e. h.border_level (sym kind ∙ e);
+  interior_level = λ e. h.interior_level (sym kind ∙ e);
+  border = border;
+  slots_within = within;
+  childless = h.childless;
+  interior = h.interior;
+  bounds_rise = h.bounds_rise;
+  peopled = h.peopled;
+  slotless = slotless;
+  within_reach = h.within_reach;
+  reach_exact = λ e. h.reach_exact (marked e);
+  ends = h.ends;
+  begins = λ level range live. h.begins level range (sym standing ∙ live);
+  rooted = λ live free. absurd (held free);
+}
+
+pub nodes_locked : (xs : List Shape) (i op : ℕ) → i < length xs → AreNodes xs → AreNodes (set xs i (locked (node_at xs i) op))
+nodes_locked xs i op within nodes =
+    let x = node_at xs i in
+    let h = nodes.each i within in
+    let version : Parts = record x.version { locked = true } in
+    nodes_quiet xs i x.slots version (Some op) within nodes refl (λ e f. absurd (cc))
+    (held_node (length xs) x x.slots version (Some op) h (λ e. absurd (cc)) refl refl refl (λ e. e) h.border h.slots_within h.slotless)
+
+pub nodes_inserting : (xs : List Shape) (i : ℕ) → i < length xs → AreNodes xs → (node_at xs i).holder ≢ None → AreNodes (set xs i (inserting (node_at xs i)))
+nodes_inserting xs i within nodes held =
+    let x = node_at xs i in
+    let h = nodes.each i within in
+    let version : Parts = record x.version { inserting = true } in
+    nodes_quiet xs i x.slots version x.holder within nodes refl (λ e. e)
+    (held_node (length xs) x x.slots version x.holder h held h.locked refl refl (λ e. e) h.border h.slots_within h.slotless)
+
+pub nodes_splitting : (xs : List Shape) (i : ℕ) → i < length xs → AreNodes xs → (node_at xs i).holder ≢ None → AreNodes (set xs i (splitting (node_at xs i)))
+nodes_splitting xs i within nodes held =
+    let x = node_at xs i in
+    let h = nodes.each i within in
+    let version : Parts = record x.version { splitting = true } in
+    nodes_quiet xs i x.slots version x.holder within nodes refl (λ e. e)
+    (held_node (length xs) x x.slots version x.holder h held h.locked refl refl (λ e. absurd (cc)) h.border h.slots_within h.slotless)
+
+-- other slots of a held border node
+pub nodes_slots : (xs : List Shape) (i : ℕ) (slots : List Entry) → i < length xs → AreNodes xs → (node_at xs i).holder ≢ None → (node_at xs i).level ≡ 0
+    → IsBorder slots → ((j : ℕ) → j < length slots → Holds (node_at xs i) (slice_index (slices slots) j))
+    → AreNodes (set xs i (with_slots (node_at xs i) slots))
+nodes_slots xs i slots within nodes held level border inside =
+    let x = node_at xs i in
+    let h = nodes.each i within in
+    let version : Parts = record x.version { inserting = true } in
+    nodes_quiet xs i slots version x.holder within nodes refl (λ e. e)
+    (held_node (length xs) x slots version x.holder h held h.locked refl refl (λ e. e) border inside (λ above. absurd (omega (arith, above, level))))

@@ -1,0 +1,100 @@
+-- Nodes keep their ranges through each edit.
+use Rattle.std.proofs.Common.{◌≢◌, ℕ, ◌<◌, List, [], ◌∷◌, ◌++◌, length, Option, None, set, refl, ap, arith}
+use Rattle.mt_version.specs.Parts.{Parts}
+use Rattle.mt_border.specs.declared.entry.Entry.{Entry}
+use Rattle.mt_interior.specs.Fences.{end_of}
+use Rattle.mt_arena.specs.Shape.{Shape, node_at}
+use Rattle.mt_arena.specs.Nodes.{AreNodes, HasRange}
+use Rattle.mt_arena.specs.Ranges.{IsRanged, AreRanged}
+use Rattle.mt_arena.specs.Edits.{turned, retired, pointed, fresh_half, fresh_root}
+use Rattle.mt_arena.specs.Unlinks.{Unlinks, joined, without_child}
+use Rattle.mt_arena.specs.Splits.{Splits, Inserts, left_half, right_half, with_child, exact, inner_left, inner_right}
+use Rattle.mt_arena.specs.Growth.{Grows, fresh_top, left_below, right_below}
+use Rattle.mt_arena.proofs.Pairs.{nodes_set, nodes_push}
+use Rattle.std.proofs.lemmas.List.{length-set}
+
+-- other slots, another version and another holder: locked, unlocked, marked and retired nodes too
+pub ranged_turned : (xs : List Shape) (i : ℕ) (slots : List Entry) (version : Parts) (holder : Option ℕ) → i < length xs → AreRanged xs → AreRanged (set xs i (turned (node_at xs i) slots version holder))
+ranged_turned xs i slots version holder within ranged = nodes_set IsRanged xs i (turned (node_at xs i) slots version holder) within ranged record {
+  next = (ranged i within).next;
+  parent = (ranged i within).parent;
+}
+
+-- another node before it and another parent: only a node with a range comes to have one
+pub ranged_pointed : (xs : List Shape) (i : ℕ) (previous parent : Option ℕ) → i < length xs → AreRanged xs → (parent ≢ None → HasRange (node_at xs i)) → AreRanged (set xs i (pointed (node_at xs i) previous parent))
+ranged_pointed xs i previous parent within ranged range = nodes_set IsRanged xs i (pointed (node_at xs i) previous parent) within ranged record {
+  next = (ranged i within).next;
+  parent = range;
+}
+
+-- one node more
+pub ranged_half : (xs : List Shape) (n : Shape) (low op : ℕ) → AreRanged xs → AreRanged (xs ++ fresh_half n low op ∷ [])
+ranged_half xs n low op ranged = nodes_push IsRanged xs (fresh_half n low op) ranged record { next = λ some. absurd (some refl); parent = λ some. absurd (some refl) }
+
+pub ranged_root : (xs : List Shape) (tree : ℕ) → AreRanged xs → AreRanged (xs ++ fresh_root tree ∷ [])
+ranged_root xs tree ranged = nodes_push IsRanged xs (fresh_root tree) ranged record { next = λ some. absurd (some refl); parent = λ some. absurd (some refl) }
+
+-- both halves of a split have a range
+pub ranged_split_move : (xs : List Shape) (i j : ℕ) (kept moved : List Entry) → i < length xs → j < length xs → AreRanged xs → Splits (node_at xs i) (node_at xs j) kept moved
+    → AreRanged (set (set xs i (left_half (node_at xs i) kept (node_at xs j).low j)) j (right_half (node_at xs i) (node_at xs j) moved i))
+ranged_split_move xs i j kept moved li lj ranged splits =
+    let y = left_half (node_at xs i) kept (node_at xs j).low j in
+    nodes_set IsRanged (set xs i y) j (right_half (node_at xs i) (node_at xs j) moved i) (omega (arith, lj, length-set xs i y))
+    (nodes_set IsRanged xs i y li ranged (record { next = λ some. splits.above; parent = λ some. splits.above }))
+    (record { next = λ some. splits.below; parent = λ some. splits.below })
+
+-- a right half that comes to stand in the parent changes no range
+pub ranged_insert_child : (xs : List Shape) (i j q : ℕ) → AreRanged xs → Inserts xs i j q → AreRanged (set (set xs i (with_child (node_at xs i) (node_at xs q).low q)) j (exact (node_at xs j)))
+ranged_insert_child xs i j q ranged f =
+    let y = with_child (node_at xs i) (node_at xs q).low q in
+    nodes_set IsRanged (set xs i y) j (exact (node_at xs j)) (omega (arith, f.left_there, length-set xs i y))
+    (nodes_set IsRanged xs i y f.parent_there ranged (record { next = (ranged i f.parent_there).next; parent = (ranged i f.parent_there).parent }))
+    (record { next = (ranged j f.left_there).next; parent = (ranged j f.left_there).parent })
+
+-- the halves of a root have one each
+pub ranged_root_grow : (xs : List Shape) (i j op : ℕ) → AreRanged xs → Grows xs i j
+    → AreRanged (set (set xs i (left_below (node_at xs i) (length xs))) j (right_below (node_at xs j) (length xs)) ++ fresh_top (node_at xs i) i (node_at xs j).low j op ∷ [])
+ranged_root_grow xs i j op ranged f =
+    let y = left_below (node_at xs i) (length xs) in
+    let z = right_below (node_at xs j) (length xs) in
+    let g = fresh_top (node_at xs i) i (node_at xs j).low j op in
+    nodes_push IsRanged (set (set xs i y) j z) g
+    (nodes_set IsRanged (set xs i y) j z (omega (arith, f.right_there, length-set xs i y))
+    (nodes_set IsRanged xs i y f.left_there ranged (record { next = (ranged i f.left_there).next; parent = λ some. omega (arith, f.left_low, f.above, ap end_of f.fence) }))
+    (record { next = (ranged j f.right_there).next; parent = λ some. omega (arith, f.below, ap end_of f.right_high) }))
+    (record { next = λ some. absurd (some refl); parent = λ some. absurd (some refl) })
+
+-- the left neighbour of a node that is taken out ends where that ended
+pub ranged_unlinked : (xs : List Shape) (i j q a : ℕ) → AreNodes xs → AreRanged xs → Unlinks xs i j q a
+    → AreRanged (set (set (set xs i (joined (node_at xs i) (node_at xs j))) j (retired (node_at xs j))) q (without_child (node_at xs q) a))
+ranged_unlinked xs i j q a nodes ranged f =
+    let l = node_at xs i in
+    let x = node_at xs j in
+    let p = node_at xs q in
+    let y = joined l x in
+    let size = length-set xs i y in
+    let size2 = length-set (set xs i y) j (retired x) in
+    let old = (nodes.pairs q j f.parent_there f.removed_there).child a f.in_range f.child f.parent_live in
+    let some : l.next ≢ None = λ none. absurd (let next = f.next in cc) in
+    let range : HasRange y = omega (arith, (ranged i f.left_there).next some, (ranged j f.removed_there).parent old.knows, ap end_of ((nodes.pairs i j f.left_there f.removed_there).next_follows f.next)) in
+    nodes_set IsRanged (set (set xs i y) j (retired x)) q (without_child p a) (omega (arith, f.parent_there, size, size2))
+    (nodes_set IsRanged (set xs i y) j (retired x) (omega (arith, f.removed_there, size))
+    (nodes_set IsRanged xs i y f.left_there ranged (record { next = λ e. range; parent = λ e. range }))
+    (record { next = (ranged j f.removed_there).next; parent = (ranged j f.removed_there).parent }))
+    (record { next = (ranged q f.parent_there).next; parent = (ranged q f.parent_there).parent })
+
+-- so do those of an interior node that is parted
+pub ranged_parted : (xs : List Shape) (i j q h : ℕ) → AreRanged xs → Inserts xs i j q → h < length xs
+    → HasRange (inner_left (with_child (node_at xs i) (node_at xs q).low q)) → HasRange (inner_right (with_child (node_at xs i) (node_at xs q).low q) (node_at xs h))
+    → AreRanged (set (set (set xs i (inner_left (with_child (node_at xs i) (node_at xs q).low q))) j (exact (node_at xs j))) h (inner_right (with_child (node_at xs i) (node_at xs q).low q) (node_at xs h)))
+ranged_parted xs i j q h ranged f lh left right =
+    let wide = with_child (node_at xs i) (node_at xs q).low q in
+    let y = inner_left wide in
+    let z = exact (node_at xs j) in
+    let size = length-set xs i y in
+    let size2 = length-set (set xs i y) j z in
+    nodes_set IsRanged (set (set xs i y) j z) h (inner_right wide (node_at xs h)) (omega (arith, lh, size, size2))
+    (nodes_set IsRanged (set xs i y) j z (omega (arith, f.left_there, size))
+    (nodes_set IsRanged xs i y f.parent_there ranged (record { next = λ some. left; parent = λ some. left }))
+    (record { next = (ranged j f.left_there).next; parent = (ranged j f.left_there).parent }))
+    (record { next = λ some. right; parent = λ some. right })

@@ -1,0 +1,70 @@
+-- What lags behind a held node is not changed by others.
+use Rattle.std.proofs.Common.{◌≡◌, ◌≢◌, ℕ, ◌<◌, List, length, get_or, Bool, Option, Some, None, true, false, refl, sym, ap, subst, ◌∙◌, inl, inr, arith}
+use Rattle.std.proofs.lemmas.Bool.{cases_lt}
+use Rattle.std.proofs.lemmas.Option.{same_Some}
+use Rattle.mt_version.specs.Parts.{Parts}
+use Rattle.mt_border.specs.declared.entry.Entry.{Entry}
+use Rattle.std.specs.List.{All}
+use Rattle.mt_arena.specs.declared.tree.Tree.{Tree}
+use Rattle.mt_arena.specs.Shape.{Shape, node_at}
+use Rattle.mt_arena.specs.Nodes.{AreNodes, IsUnstable}
+use Rattle.mt_arena.specs.Settled.{IsSettled}
+use Rattle.mt_arena.specs.Evolves.{Evolves, PointsOnly}
+
+-- what is not deleted was not
+pub alive : (a b : Bool) → (a ≡ true → b ≡ true) → b ≡ false → a ≡ false
+alive true b stays live = absurd (grind (arith, stays refl, live))
+alive false b stays live = refl
+
+-- what can't be true is false
+not_true : (b : Bool) → (b ≡ true → ⊥) → b ≡ false
+not_true true refuted = absurd (refuted refl)
+not_true false refuted = refl
+
+-- what is not taken away was not there
+was_none : (old new : Option ℕ) → (old ≢ None → new ≢ None) → new ≡ None → old ≡ None
+was_none None new stays none = refl
+was_none (Some p) new stays none = absurd (stays (λ e. absurd (cc)) none)
+
+-- as other operations go on, nothing comes to lag behind the node
+pub settled_stays : (op q : ℕ) (old new : List Shape) (were are : List Tree) (i : ℕ) → Evolves op old new were are → PointsOnly op old new → q ≢ op
+    → i < length old → (node_at old i).holder ≡ Some q
+    → IsSettled old i (node_at old i) → IsSettled new i (node_at new i)
+settled_stays op q old new were are i evolves points other within holder settled =
+    let kept = (evolves.nodes i within).held q other holder in
+    let not_mine : (node_at new i).holder ≢ Some op = λ e. other (same_Some _ _ (sym (kept.holder ∙ holder) ∙ e)) in
+    let live_before : (k : ℕ) → k < length old → (node_at new k).version.deleted ≡ false → (node_at old k).version.deleted ≡ false
+    = λ k lt live. alive _ _ (evolves.nodes k lt).ages.deleted live in
+    record {
+      previous = λ k lt e live. elim (cases_lt k (length old)) [
+        | inl was ↦ kept.next ∙ settled.previous k was (points.previous k i was e not_mine) (live_before k was live)
+        | inr new_one ↦ absurd (not_mine (points.new_previous k i (omega (arith, new_one)) lt e))
+      ];
+      parent = λ k lt e live. elim (cases_lt k (length old)) [
+        | inl was ↦
+            let c = settled.parent k was (points.parent k i was e not_mine) (live_before k was live) in
+            record {
+              live = ap (λ (v : Parts). v.deleted) kept.version ∙ c.live;
+              place = c.place;
+              in_range = subst (λ cs. c.place < length cs) (sym kept.children) c.in_range;
+              is = ap (λ cs. get_or cs c.place 0) kept.children ∙ c.is;
+            }
+        | inr new_one ↦ absurd (not_mine (points.new_parent k i (omega (arith, new_one)) lt e))
+      ];
+      reach = kept.reach ∙ settled.reach ∙ sym kept.high;
+      stable = subst (λ (slots : List Entry). All (λ (e : Entry). ¬ IsUnstable e.held) slots) (sym kept.slots) settled.stable;
+      rooted = λ live none. ap (λ (v : Parts). v.root) kept.version ∙ settled.rooted (live_before i within live) (was_none (node_at old i).parent (node_at new i).parent kept.parented none);
+    }
+
+-- behind a node that nobody holds nothing lags
+pub settled_free : (xs : List Shape) (i : ℕ) → i < length xs → AreNodes xs → (node_at xs i).holder ≡ None → IsSettled xs i (node_at xs i)
+settled_free xs i within nodes free =
+    let x = node_at xs i in
+    let h = nodes.each i within in
+    record {
+      previous = λ k lt e live. (nodes.pairs k i lt within).previous_back e live free;
+      parent = λ k lt e live. (nodes.pairs k i lt within).parent_knows e live free;
+      reach = h.reach_exact (not_true x.version.splitting (λ marked. h.splitting_held marked free));
+      stable = h.unstable_held free;
+      rooted = λ live none. h.rooted live free none;
+    }

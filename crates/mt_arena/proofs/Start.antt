@@ -1,0 +1,66 @@
+-- An arena with an empty top tree.
+use Rattle.std.proofs.Common.{◌≢◌, ℕ, zero, suc, ◌<◌, ◌≤◌, List, [], ◌∷◌, refl, arith}
+use Rattle.mt_arena.specs.declared.tree.Tree.{Tree}
+use Rattle.mt_arena.specs.Shape.{Shape, node_at}
+use Rattle.mt_arena.specs.Forests.{IsForest, IsHome, IsTree, tree_at}
+use Rattle.mt_arena.specs.Layers.{AreLinks}
+use Rattle.mt_arena.specs.Edits.{fresh_root}
+use Rattle.mt_arena.specs.Arena.{Sound}
+use Rattle.mt_arena.specs.Accesses.{top_tree}
+use Rattle.mt_arena.proofs.Ranged.{ranged_root}
+use Rattle.mt_arena.proofs.Push.{nodes_root}
+
+-- what there is at first
+abbrev first_nodes : List Shape
+first_nodes = fresh_root 0 ∷ []
+
+abbrev first_trees : List Tree
+first_trees = top_tree ∷ []
+
+first_home : (k t : ℕ) → k < 1 → t < 1 → IsHome k (node_at first_nodes k) t (tree_at first_trees t)
+first_home zero zero lt lt_t = record {
+  root_tree = λ e standing. refl;
+  root_is = λ e standing. record { live = refl; flag = refl; parentless = refl; low = refl; reach = refl };
+  root_named = λ e live flag. refl;
+  standing = λ e live dead. absurd (cc);
+  keys = λ e. record { keys = λ k d inside. absurd (omega arith); begun = λ k d inside. absurd (omega arith) };
+}
+first_home (suc k) t lt lt_t = absurd (omega arith)
+first_home k (suc t) lt lt_t = absurd (omega arith)
+
+first_forest : IsForest first_nodes first_trees
+first_forest = record {
+  tree_there = λ k lt. by k lt;
+  homes = λ k t lt lt_t. first_home k t lt lt_t;
+  each = λ t lt. at t lt;
+  peers = λ t u lt lt_u. record { one_live = λ differ. absurd (differ (omega arith)) };
+  top = record { there = omega arith; live = refl; prefix = refl };
+}
+  where
+    by : (k : ℕ) → k < 1 → (node_at first_nodes k).tree < 1
+    by zero lt = omega arith
+    by (suc k) lt = absurd (omega arith)
+
+    at : (t : ℕ) → t < 1 → IsTree 1 (tree_at first_trees t)
+    at zero lt = record { root_there = omega arith; whole = refl }
+    at (suc t) lt = absurd (omega arith)
+
+pub sound_first : (room : ℕ) → 1 ≤ room → Sound first_nodes first_trees [] room
+sound_first room enough = record {
+  arena = record {
+    nodes = nodes_root [] 0 record { each = λ k lt. absurd (omega arith); pairs = λ k j lt. absurd (omega arith) } (λ k lt. absurd (omega arith));
+    ranged = ranged_root [] 0 (λ k lt. absurd (omega arith));
+    forest = first_forest;
+    layers = record { links = λ k lt. none k lt; linked = λ u lt live deep. absurd (shallow u lt deep) };
+  };
+  retired = record { each = λ k d lt. absurd (omega arith); once = λ i j lt inside. absurd (omega arith); counted = refl };
+  enough = enough;
+}
+  where
+    none : (k : ℕ) → k < 1 → AreLinks first_trees (node_at first_nodes k)
+    none zero lt live i u inside is = absurd (omega arith)
+    none (suc k) lt live i u inside is = absurd (omega arith)
+
+    shallow : (u : ℕ) → u < 1 → (tree_at first_trees u).prefix ≢ [] → ⊥
+    shallow zero lt deep = deep refl
+    shallow (suc u) lt deep = absurd (omega arith)

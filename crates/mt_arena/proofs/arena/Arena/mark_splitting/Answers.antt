@@ -1,0 +1,27 @@
+use Rattle.std.proofs.Common.{refl}
+use Rattle.mt_arena.specs.Shape.{node_at}
+use Rattle.mt_arena.proofs.Pairs.{read}
+use Rattle.mt_arena.proofs.ContentQuiet.{content-set}
+use Rattle.mt_arena.proofs.Locks.{sound_splitting, step_splitting, is_held}
+use Rattle.mt_arena.proofs.arena.Arena.mark_splitting.Goals as goal
+
+pub invariant_of-self : goal.invariant_of-self
+invariant_of-self c =
+    let held = rw (← c.self.view_is) at c.requires.held in
+    let within = held.there in
+    rw (c.mark_splitting.ensures, read c.self.inside.nodes.items c.args.node c.index_mut.result.now within c.index_mut.ensures.value)
+    (sound_splitting c.self.inside.nodes.items c.self.inside.trees.items c.self.inside.retired.items _ c.args.node within c.self.invariant (is_held c.args.operation (node_at c.self.inside.nodes.items c.args.node) held.holder))
+
+pub returns-clause-step : goal.returns-clause-step
+returns-clause-step c =
+    let held = rw (← c.self.view_is) at c.requires.held in
+    let within = held.there in
+    rw (← c.self.view_is, c.mark_splitting.ensures, read c.self.inside.nodes.items c.args.node c.index_mut.result.now within c.index_mut.ensures.value)
+    (step_splitting _ c.args.node c.args.operation within held.holder (rw (← c.self.view_is) at c.requires.mine))
+
+pub returns-clause-contents : goal.returns-clause-contents
+returns-clause-contents c =
+    let held = rw (← c.self.view_is) at c.requires.held in
+    let within = held.there in
+    rw (← c.self.view_is, c.mark_splitting.ensures, read c.self.inside.nodes.items c.args.node c.index_mut.result.now within c.index_mut.ensures.value)
+    (content-set c.self.inside.trees.items c.self.inside.nodes.items c.args.node _ refl)

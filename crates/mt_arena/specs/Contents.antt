@@ -1,0 +1,30 @@
+-- The contents: the pairs of all live slots of all live trees.
+use Rattle.std.specs.Prelude.{ℕ, Bool, true, false, if◌then◌else◌, List, [], filter_map}
+use Rattle.std.specs.List.{flat_map}
+use Rattle.std.specs.FinMap as finite
+use Rattle.mt_rows.specs.Rows.{Bytes, Columns}
+use Rattle.mt_rows.specs.Tenants.{Contents}
+use Rattle.mt_border.specs.Contents.{pair_in}
+use Rattle.mt_arena.specs.declared.tree.Tree.{Tree}
+use Rattle.mt_arena.specs.declared.tree.Standing.{Standing}
+use Rattle.mt_arena.specs.declared.tree.Standing.TheVariants.{Made, Live, Dead}
+use Rattle.mt_arena.specs.Shape.{Shape}
+use Rattle.mt_arena.specs.Forests.{tree_at}
+
+-- whether a tree's pairs count
+abbrev pub is_live : Standing → Bool
+is_live (Made by) = false
+is_live Live = true
+is_live Dead = false
+
+-- a node's pairs count where it is live and its tree is
+abbrev pub counts : List Tree → Shape → Bool
+counts trees n = if n.version.deleted then false else is_live (tree_at trees n.tree).standing
+
+-- the pairs for which a node's slots stand, each with its owner
+abbrev pub live_pairs : List Tree → Shape → List ((ℕ × Bytes) × Columns)
+live_pairs trees n = if counts trees n then filter_map (pair_in (tree_at trees n.tree).prefix) n.slots else []
+
+-- the map of all tenants
+unfoldable pub content : List Tree → List Shape → Contents
+content trees nodes = finite.from_entries (flat_map (live_pairs trees) nodes)

@@ -1,0 +1,67 @@
+-- What single edits make of a node, and what they need of the others.
+use Rattle.std.specs.Prelude.{◌≡◌, ◌≢◌, ℕ, ◌<◌, ◌⊎◌, true, false, List, length, Option, Some, None, slice_index}
+use Rattle.mt_version.specs.Parts.{Parts, fresh_parts}
+use Rattle.mt_version.specs.Changes.{unlocked_parts}
+use Rattle.mt_border.specs.declared.entry.Entry.{Entry}
+use Rattle.mt_arena.specs.Shape.{Shape, node_at, no_node}
+
+-- a node with other slots, another version and another holder
+abbrev pub turned : Shape → List Entry → Parts → Option ℕ → Shape
+turned n slots version holder = record n { slots = slots; version = version; holder = holder }
+
+-- a node whose lock an operation has taken
+abbrev pub locked : Shape → ℕ → Shape
+locked n op = record n { version = record n.version { locked = true }; holder = Some op }
+
+-- a node whose lock was given back
+abbrev pub unlocked : Shape → Shape
+unlocked n = record n { version = unlocked_parts n.version; holder = None }
+
+-- a node that readers of its keys or children wait for, and one that readers of its range wait for
+abbrev pub inserting : Shape → Shape
+inserting n = record n { version = record n.version { inserting = true } }
+
+abbrev pub splitting : Shape → Shape
+splitting n = record n { version = record n.version { splitting = true } }
+
+-- a node that was taken out of its tree
+abbrev pub retired : Shape → Shape
+retired n = record n { version = record n.version { deleted = true } }
+
+-- a border node with other slots: readers of its keys wait for it
+abbrev pub with_slots : Shape → List Entry → Shape
+with_slots n slots = record n { slots = slots; version = record n.version { inserting = true } }
+
+-- a node with another one before it and another parent
+abbrev pub pointed : Shape → Option ℕ → Option ℕ → Shape
+pointed n previous parent = record n { previous = previous; parent = parent }
+
+-- another one before a node and another parent: each is as it was, or names a held node; and none is forgotten
+pub record Points (nodes : List Shape) (x : Shape) (previous parent : Option ℕ) : Type 0 where
+  pub previous_there : (j : ℕ) → previous ≡ Some j → j < length nodes
+  pub parent_there : (j : ℕ) → parent ≡ Some j → j < length nodes
+  pub previous_held : (j : ℕ) → previous ≡ Some j → (x.previous ≡ Some j) ⊎ ((node_at nodes j).holder ≢ None)
+  pub parent_held : (j : ℕ) → parent ≡ Some j → (x.parent ≡ Some j) ⊎ ((node_at nodes j).holder ≢ None)
+  pub previous_stays : previous ≡ None → x.previous ≡ None
+  pub parent_stays : parent ≡ None → x.parent ≡ None
+
+-- a new node without range, at the right of the one that an operation splits
+abbrev pub fresh_half : Shape → ℕ → ℕ → Shape
+fresh_half n low op = record no_node {
+  low = low;
+  high = Some low;
+  reach = Some low;
+  version = record (fresh_parts false n.version.border) { locked = true; splitting = true };
+  tree = n.tree;
+  level = n.level;
+  holder = Some op;
+}
+
+-- the first node of a tree
+abbrev pub fresh_root : ℕ → Shape
+fresh_root tree = record no_node { version = fresh_parts true true; tree = tree }
+
+-- nobody names the node any more, as far as it is live: it may be taken out
+pub record IsLeft (nodes : List Shape) (i : ℕ) : Type 0 where
+  pub nobodys_next : (k : ℕ) → k < length nodes → (node_at nodes k).next ≡ Some i → (node_at nodes k).version.deleted ≡ true
+  pub nobodys_child : (k a : ℕ) → k < length nodes → a < length (node_at nodes k).children → slice_index (node_at nodes k).children a ≡ i → (node_at nodes k).version.deleted ≡ true

@@ -1,0 +1,92 @@
+-- A node as the arena's facts see it: one record for both kinds.
+use Rattle.std.specs.Prelude.{◌≡◌, ℕ, ◌<◌, true, false, List, [], Option, None, slice_index_or}
+use Rattle.mt_version.specs.Parts.{Parts, fresh_parts}
+use Rattle.mt_border.specs.declared.entry.Entry.{Entry}
+use Rattle.mt_border.specs.Node.{Node as BorderNode}
+use Rattle.mt_interior.specs.Node.{InteriorNode}
+use Rattle.mt_arena.specs.declared.node.Kind.{Kind}
+use Rattle.mt_arena.specs.declared.node.Kind.TheVariants.{Leaf, Inner}
+
+-- The low fence is the least slice of its range, and the high one the least behind it. Its reach is the end of the range that its
+-- parent gives it: the high fence, but for a node whose right half is in no parent yet. Border nodes have level 0. A border node has
+-- slots and neighbours, an interior one separators and children.
+pub record Shape : Type 0 where
+  pub slots : List Entry
+  pub separators : List ℕ
+  pub children : List ℕ
+  pub next : Option ℕ
+  pub previous : Option ℕ
+  pub parent : Option ℕ
+  pub low : ℕ
+  pub high : Option ℕ
+  pub reach : Option ℕ
+  pub version : Parts
+  pub tree : ℕ
+  pub level : ℕ
+  pub holder : Option ℕ
+
+-- a border node, and an interior one
+abbrev pub border_shape : BorderNode → ℕ → ℕ → Option ℕ → Option ℕ → Shape
+border_shape b tree level reach holder = record {
+  slots = b.slots;
+  separators = [];
+  children = [];
+  next = b.next;
+  previous = b.previous;
+  parent = b.parent;
+  low = b.low;
+  high = b.high;
+  reach = reach;
+  version = b.version;
+  tree = tree;
+  level = level;
+  holder = holder;
+}
+
+abbrev pub interior_shape : InteriorNode → ℕ → ℕ → Option ℕ → Option ℕ → Shape
+interior_shape i tree level reach holder = record {
+  slots = [];
+  separators = i.separators;
+  children = i.children;
+  next = None;
+  previous = None;
+  parent = i.parent;
+  low = i.low;
+  high = i.high;
+  reach = reach;
+  version = i.version;
+  tree = tree;
+  level = level;
+  holder = holder;
+}
+
+abbrev pub shape_of : Kind → ℕ → ℕ → Option ℕ → Option ℕ → Shape
+shape_of (Leaf b) tree level reach holder = border_shape b tree level reach holder
+shape_of (Inner i) tree level reach holder = interior_shape i tree level reach holder
+
+-- a border node has level 0, and an interior one is above it
+abbrev pub IsOfKind : Kind → ℕ → Type 0
+IsOfKind (Leaf b) level = level ≡ 0
+IsOfKind (Inner i) level = 0 < level
+
+-- what a read behind the last node gives
+abbrev pub no_node : Shape
+no_node = record {
+  slots = [];
+  separators = [];
+  children = [];
+  next = None;
+  previous = None;
+  parent = None;
+  low = 0;
+  high = None;
+  reach = None;
+  version = record (fresh_parts false true) { deleted = true };
+  tree = 0;
+  level = 0;
+  holder = None;
+}
+
+-- the node of a number
+abbrev pub node_at : List Shape → ℕ → Shape
+node_at nodes k = slice_index_or nodes k no_node

@@ -1,0 +1,92 @@
+-- What a split makes of two nodes and of their parent, and what it needs.
+use Rattle.std.specs.Prelude.{take, drop, ◌≡◌, ◌≢◌, ℕ, ◌+◌, ◌<◌, ◌≤◌, true, false, List, length, insert, Some, None, slice_index}
+use Rattle.mt_border.specs.declared.entry.Entry.{Entry}
+use Rattle.mt_border.specs.Entries.{IsBorder, slices}
+use Rattle.mt_interior.specs.Places.{place_of}
+use Rattle.mt_interior.specs.Fences.{end_of}
+use Rattle.mt_arena.specs.Shape.{Shape, node_at}
+use Rattle.mt_arena.specs.Nodes.{HasChild}
+
+-- what is left of a border node that keeps these slots and ends where the right half begins
+abbrev pub left_half : Shape → List Entry → ℕ → ℕ → Shape
+left_half x kept low right = record x { slots = kept; high = Some low; next = Some right }
+
+-- the right half with the other slots, which ends where the node ended
+abbrev pub right_half : Shape → Shape → List Entry → ℕ → Shape
+right_half x r moved left = record r { slots = moved; high = x.high; reach = x.reach; next = x.next; previous = Some left }
+
+-- each slice of the slots is one of these
+abbrev pub AreWithin : List Entry → ℕ → ℕ → Type 0
+AreWithin slots low end = (i : ℕ) → i < length slots → (low ≤ slice_index (slices slots) i) × (slice_index (slices slots) i < end)
+
+-- a marked border node x and a right half r without range, which begins within it; the slots that x keeps, and those that r gets
+pub record Splits (x r : Shape) (kept moved : List Entry) : Type 0 where
+  pub held : x.holder ≢ None
+  pub marked : x.version.splitting ≡ true
+  pub live : x.version.deleted ≡ false
+  pub border : x.level ≡ 0
+  pub right_held : r.holder ≢ None
+  pub right_marked : r.version.splitting ≡ true
+  pub right_live : r.version.deleted ≡ false
+  pub right_tree : r.tree ≡ x.tree
+  pub right_level : r.level ≡ x.level
+  pub right_reach : r.reach ≡ Some r.low
+  pub above : x.low < r.low
+  pub below : r.low < end_of x.high
+  pub kept_border : IsBorder kept
+  pub moved_border : IsBorder moved
+  pub kept_within : AreWithin kept x.low r.low
+  pub moved_within : AreWithin moved r.low (end_of x.high)
+
+-- an interior node with one more child, which begins at the separator
+abbrev pub with_child : Shape → ℕ → ℕ → Shape
+with_child p separator child = record p {
+  separators = insert p.separators (place_of p.separators separator) separator;
+  children = insert p.children (place_of p.separators separator + 1) child;
+}
+
+-- a node whose range in its parent ends at its high fence
+abbrev pub exact : Shape → Shape
+exact n = record n { reach = n.high }
+
+-- node i, which is held, gets node q as a child behind its child j, which ends where q begins
+pub record Inserts (nodes : List Shape) (i j q : ℕ) : Type 0 where
+  pub parent_there : i < length nodes
+  pub left_there : j < length nodes
+  pub right_there : q < length nodes
+  pub parent_held : (node_at nodes i).holder ≢ None
+  pub parent_live : (node_at nodes i).version.deleted ≡ false
+  pub child : HasChild (node_at nodes i) j
+  pub differ : j ≢ q
+  pub right_live : (node_at nodes q).version.deleted ≡ false
+  pub right_tree : (node_at nodes q).tree ≡ (node_at nodes i).tree
+  pub right_level : (node_at nodes q).level + 1 ≡ (node_at nodes i).level
+  pub right_knows : (node_at nodes q).parent ≢ None
+  pub fence : (node_at nodes j).high ≡ Some (node_at nodes q).low
+  pub right_reach : (node_at nodes q).reach ≡ (node_at nodes j).reach
+  pub above : (node_at nodes j).low < (node_at nodes q).low
+  pub below : (node_at nodes q).low < end_of (node_at nodes j).reach
+
+-- where an interior node with one child too many is parted: its ninth separator
+abbrev pub middle : Shape → ℕ
+middle wide = slice_index wide.separators 8
+
+-- what is left of it, and what its right half gets
+abbrev pub inner_left : Shape → Shape
+inner_left wide = record wide { separators = take 8 wide.separators; children = take 9 wide.children; high = Some (middle wide) }
+
+abbrev pub inner_right : Shape → Shape → Shape
+inner_right wide r = record r { separators = drop 9 wide.separators; children = drop 9 wide.children; high = wide.high; reach = wide.reach }
+
+-- a marked interior node p, and a right half r without range, which begins in the middle of it
+pub record SplitsInner (p r : Shape) (middle : ℕ) : Type 0 where
+  pub marked : p.version.splitting ≡ true
+  pub next : p.next ≡ None
+  pub right_held : r.holder ≢ None
+  pub right_marked : r.version.splitting ≡ true
+  pub right_live : r.version.deleted ≡ false
+  pub right_tree : r.tree ≡ p.tree
+  pub right_level : r.level ≡ p.level
+  pub right_next : r.next ≡ None
+  pub right_low : r.low ≡ middle
+  pub right_reach : r.reach ≡ Some r.low

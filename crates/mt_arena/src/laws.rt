@@ -1,0 +1,175 @@
+//! What follows from the facts of nodes, trees and links, and what steps make of the contents. Each
+//! is a contract alone: no code runs.
+
+ghost use Rattle.std.specs.Prelude.{◌≡◌, ◌≢◌, ℕ, ◌+◌, ◌*◌, ◌<◌, ◌≤◌, ◌⊎◌, true, List, [], ◌∷◌, ◌++◌, length, take, slice_set, Some, None};
+ghost use Rattle.std.specs.List.{remove};
+ghost use Rattle.std.specs.FinMap as pairs;
+ghost use Rattle.mt_slices.specs.Keys.{IsStoredKey};
+ghost use Rattle.mt_slices.specs.Slices.{slice_of, mark_of, suffix_of};
+ghost use Rattle.mt_slices.specs.declared.mark.Mark.{Mark};
+ghost use Rattle.mt_rows.specs.Rows.{Bytes, Columns};
+ghost use Rattle.mt_border.specs.declared.entry.Pair.{Pair};
+ghost use Rattle.mt_border.specs.declared.entry.Entry.{Entry};
+ghost use Rattle.mt_border.specs.declared.entry.Held.{Held};
+ghost use Rattle.mt_border.specs.declared.entry.Held.TheVariants.{Stable, Link};
+ghost use Rattle.mt_border.specs.Entry.{pair_of};
+ghost use Rattle.mt_border.specs.Entries.{IsMissing, with_entry};
+ghost use Rattle.mt_border.specs.Split.{IsParted};
+ghost use Rattle.mt_border.specs.Contents.{owned, HasKey};
+ghost use Rattle.mt_arena.specs.declared.tree.Tree.{Tree};
+ghost use Rattle.mt_arena.specs.declared.tree.Standing.TheVariants.{Live};
+ghost use Rattle.mt_arena.specs.Shape.{Shape, node_at};
+ghost use Rattle.mt_arena.specs.Nodes.{Holds};
+ghost use Rattle.mt_arena.specs.Forests.{tree_at};
+ghost use Rattle.mt_arena.specs.Layers.{slot_at};
+ghost use Rattle.mt_arena.specs.Contents.{content};
+ghost use Rattle.mt_arena.specs.Arena.{IsArena};
+ghost use Rattle.mt_arena.specs.Evolves.{Evolves, PointsOnly};
+ghost use Rattle.mt_arena.specs.Settled.{IsSettled};
+ghost use Rattle.mt_arena.specs.Stands.{IsLiveBorder, StandsAt};
+ghost use Rattle.mt_arena.specs.Ways.{LinksOn, BelongsIn, StandsFor, GoesOn, HasSlots, IsUnfilled, IsMadeFor};
+
+/// In a tree a slice and a mark stand in one slot of one live border node, and all slots of one
+/// slice stand in one node: the one that has the slice in its range.
+pub fn one_place()
+    ensures one_border { (nodes : List Shape) (trees : List Tree) (tree slice k l : ℕ) →
+        IsArena nodes trees → IsLiveBorder nodes tree k → IsLiveBorder nodes tree l →
+        Holds (node_at nodes k) slice → Holds (node_at nodes l) slice → k ≡ l }
+    ensures one_node { (nodes : List Shape) (trees : List Tree) (tree slice : ℕ) (mark other : Mark) (k i l j : ℕ) →
+        IsArena nodes trees → StandsAt nodes tree slice mark k i →
+        StandsAt nodes tree slice other l j → k ≡ l }
+    ensures one_slot { (nodes : List Shape) (trees : List Tree) (tree slice : ℕ) (mark : Mark) (k i l j : ℕ) →
+        IsArena nodes trees → StandsAt nodes tree slice mark k i →
+        StandsAt nodes tree slice mark l j → (k ≡ l) × (i ≡ j) }
+{}
+
+/// Two live trees have two prefixes, and above a live tree each layer has a link on the way to it,
+/// from a live border node of a live tree to the live tree of the next layer. Every stored key may
+/// be looked for in the top tree, and on behind a link at its slice and mark; it belongs in that live
+/// border node of the tree that has its slice in its range.
+pub fn linked_from_the_top()
+    ensures one_tree { (nodes : List Shape) (trees : List Tree) (t u : ℕ) → IsArena nodes trees →
+        (tree_at trees t).standing ≡ Live → (tree_at trees u).standing ≡ Live →
+        (tree_at trees t).prefix ≡ (tree_at trees u).prefix → t ≡ u }
+    ensures links { (nodes : List Shape) (trees : List Tree) (key : Bytes) (t layer above : ℕ) →
+        IsArena nodes trees → (tree_at trees t).standing ≡ Live →
+        (tree_at trees t).prefix ≡ take (8 * layer) key → 8 * layer ≤ length key →
+        above < layer → LinksOn nodes trees key above }
+    ensures top { (nodes : List Shape) (trees : List Tree) (key : Bytes) →
+        IsArena nodes trees → IsStoredKey key → GoesOn trees key 0 0 }
+    ensures down { (nodes : List Shape) (trees : List Tree) (key : Bytes) (layer k i u : ℕ) →
+        IsArena nodes trees → BelongsIn nodes trees key layer k →
+        StandsAt nodes (node_at nodes k).tree (slice_of key layer) (mark_of key layer) k i →
+        (slot_at (node_at nodes k) i).held ≡ Link u → GoesOn trees key (layer + 1) u }
+    ensures here { (nodes : List Shape) (trees : List Tree) (key : Bytes) (layer u k : ℕ) →
+        GoesOn trees key layer u → IsLiveBorder nodes u k →
+        Holds (node_at nodes k) (slice_of key layer) → BelongsIn nodes trees key layer k }
+{}
+
+/// What the node in which a key belongs tells of the key is so in all trees: where it misses the key
+/// or has another one at its slice and mark, the contents have none, and where it has the key's
+/// pair, they have that one's row and no other slot has the key.
+pub fn none_elsewhere()
+    ensures missing { (nodes : List Shape) (trees : List Tree) (key : Bytes) (layer k : ℕ) →
+        IsArena nodes trees → BelongsIn nodes trees key layer k →
+        IsMissing (node_at nodes k).slots (slice_of key layer) (mark_of key layer) →
+        pairs.get (content trees nodes) (owned key) ≡ None }
+    ensures other { (nodes : List Shape) (trees : List Tree) (key : Bytes) (layer k i : ℕ) (other : Pair) →
+        IsArena nodes trees → BelongsIn nodes trees key layer k →
+        StandsAt nodes (node_at nodes k).tree (slice_of key layer) (mark_of key layer) k i →
+        pair_of (slot_at (node_at nodes k) i).held ≡ Some other →
+        other.suffix ≢ suffix_of key layer →
+        pairs.get (content trees nodes) (owned key) ≡ None }
+    ensures found { (nodes : List Shape) (trees : List Tree) (key : Bytes) (layer k i : ℕ) (pair : Pair) →
+        IsArena nodes trees → StandsFor nodes trees key layer k i pair →
+        pairs.get (content trees nodes) (owned key) ≡ Some pair.row }
+    ensures once { (nodes : List Shape) (trees : List Tree) (key : Bytes) (layer k i : ℕ) (pair : Pair) (low l j : ℕ) (other : Pair) →
+        IsArena nodes trees → StandsFor nodes trees key layer k i pair →
+        StandsFor nodes trees key low l j other → (k ≡ l) × (i ≡ j) }
+{}
+
+/// What a change of one slot is for the contents: to publish the entry of a missing key inserts its
+/// pair, also where the node's slots are parted among two nodes in the same step; to store a row in
+/// its slot, or to replace its entry, inserts the new row, and to drop the slot removes the pair.
+pub fn contents_by_slot()
+    ensures publish { (nodes : List Shape) (trees : List Tree) (key : Bytes) (layer k : ℕ) (y : Shape) (e : Entry) (pair : Pair) →
+        IsArena nodes trees → BelongsIn nodes trees key layer k →
+        HasKey (tree_at trees (node_at nodes k).tree).prefix layer e key →
+        IsMissing (node_at nodes k).slots e.slice e.mark → pair_of e.held ≡ Some pair →
+        HasSlots (node_at nodes k) y (with_entry (node_at nodes k).slots e) →
+        content trees (slice_set nodes k y) ≡ pairs.insert (content trees nodes) (owned key) pair.row }
+    ensures split { (nodes : List Shape) (trees : List Tree) (key : Bytes) (layer k j : ℕ) (x y : Shape) (left right : List Entry) (separator : ℕ) (e : Entry) (pair : Pair) →
+        IsArena nodes trees → BelongsIn nodes trees key layer k → IsUnfilled nodes k j →
+        HasKey (tree_at trees (node_at nodes k).tree).prefix layer e key →
+        IsMissing (node_at nodes k).slots e.slice e.mark → pair_of e.held ≡ Some pair →
+        IsParted (with_entry (node_at nodes k).slots e) left right separator →
+        HasSlots (node_at nodes k) x left → HasSlots (node_at nodes j) y right →
+        content trees (slice_set (slice_set nodes k x) j y) ≡ pairs.insert (content trees nodes) (owned key) pair.row }
+    ensures store { (nodes : List Shape) (trees : List Tree) (key : Bytes) (layer k i : ℕ) (pair : Pair) (y : Shape) (row : Columns) (stamp : ℕ) →
+        IsArena nodes trees → StandsFor nodes trees key layer k i pair →
+        HasSlots (node_at nodes k) y (slice_set (node_at nodes k).slots i (record (slot_at (node_at nodes k) i) { held = Stable (record pair { row = row; stamp = stamp }) })) →
+        content trees (slice_set nodes k y) ≡ pairs.insert (content trees nodes) (owned key) row }
+    ensures replace { (nodes : List Shape) (trees : List Tree) (key : Bytes) (layer k i : ℕ) (pair : Pair) (y : Shape) (e : Entry) (new : Pair) →
+        IsArena nodes trees → StandsFor nodes trees key layer k i pair →
+        HasKey (tree_at trees (node_at nodes k).tree).prefix layer e key → pair_of e.held ≡ Some new →
+        HasSlots (node_at nodes k) y (slice_set (node_at nodes k).slots i e) →
+        content trees (slice_set nodes k y) ≡ pairs.insert (content trees nodes) (owned key) new.row }
+    ensures drop { (nodes : List Shape) (trees : List Tree) (key : Bytes) (layer k i : ℕ) (pair : Pair) (y : Shape) →
+        IsArena nodes trees → StandsFor nodes trees key layer k i pair →
+        HasSlots (node_at nodes k) y (remove (node_at nodes k).slots i) →
+        content trees (slice_set nodes k y) ≡ pairs.remove (content trees nodes) (owned key) }
+{}
+
+/// What leaves the contents as they are: a change of a node but for its slots, its tree and whether
+/// it is deleted, a slot that holds its pair otherwise, a link that is taken out, any change of a
+/// node without slots, one more such node, one more tree, another root in a tree's record, and any
+/// change of a tree whose nodes are deleted or have no slots.
+pub fn contents_stand()
+    ensures same_slots { (nodes : List Shape) (trees : List Tree) (k : ℕ) (y : Shape) →
+        HasSlots (node_at nodes k) y (node_at nodes k).slots →
+        content trees (slice_set nodes k y) ≡ content trees nodes }
+    ensures same_pair { (nodes : List Shape) (trees : List Tree) (k i : ℕ) (y : Shape) (held : Held) →
+        pair_of held ≡ pair_of (slot_at (node_at nodes k) i).held →
+        HasSlots (node_at nodes k) y (slice_set (node_at nodes k).slots i (record (slot_at (node_at nodes k) i) { held = held })) →
+        content trees (slice_set nodes k y) ≡ content trees nodes }
+    ensures no_link { (nodes : List Shape) (trees : List Tree) (k i u : ℕ) (y : Shape) →
+        (slot_at (node_at nodes k) i).held ≡ Link u →
+        HasSlots (node_at nodes k) y (remove (node_at nodes k).slots i) →
+        content trees (slice_set nodes k y) ≡ content trees nodes }
+    ensures no_slots { (nodes : List Shape) (trees : List Tree) (k : ℕ) (y : Shape) →
+        (node_at nodes k).slots ≡ [] → y.slots ≡ [] →
+        content trees (slice_set nodes k y) ≡ content trees nodes }
+    ensures push { (nodes : List Shape) (trees : List Tree) (y : Shape) → y.slots ≡ [] →
+        content trees (nodes ++ y ∷ []) ≡ content trees nodes }
+    ensures push_tree { (nodes : List Shape) (trees : List Tree) (tree : Tree) → IsArena nodes trees →
+        content (trees ++ tree ∷ []) nodes ≡ content trees nodes }
+    ensures set_tree { (nodes : List Shape) (trees : List Tree) (t : ℕ) (tree : Tree) → t < length trees →
+        tree.prefix ≡ (tree_at trees t).prefix → tree.standing ≡ (tree_at trees t).standing →
+        content (slice_set trees t tree) nodes ≡ content trees nodes }
+    ensures left_tree { (nodes : List Shape) (trees : List Tree) (t : ℕ) (tree : Tree) →
+        ((l : ℕ) → l < length nodes → (node_at nodes l).tree ≡ t →
+        ((node_at nodes l).version.deleted ≡ true) ⊎ ((node_at nodes l).slots ≡ [])) →
+        content (slice_set trees t tree) nodes ≡ content trees nodes }
+{}
+
+/// A slot whose entry gives way to one without a pair, as the tree that was made for its key and
+/// row goes live, leaves the contents as they are.
+pub fn contents_stand_as_a_tree_goes_live()
+    ensures { (nodes : List Shape) (trees : List Tree) (key : Bytes) (layer k i : ℕ) (pair : Pair) (low t r : ℕ) (tree : Tree) (y : Shape) (e : Entry) →
+        IsArena nodes trees → StandsFor nodes trees key layer k i pair →
+        IsMadeFor nodes trees key low t r pair.row →
+        tree.prefix ≡ (tree_at trees t).prefix → tree.standing ≡ Live → pair_of e.held ≡ None →
+        HasSlots (node_at nodes k) y (slice_set (node_at nodes k).slots i e) →
+        content (slice_set trees t tree) (slice_set nodes k y) ≡ content trees nodes }
+{}
+
+/// What steps of one operation leave to others adds up: nothing is done by no step, and two steps are
+/// as one. While another operation goes on, nothing comes to lag behind a node that is held.
+pub fn steps_add_up()
+    ensures none { (op : ℕ) (nodes : List Shape) (trees : List Tree) → Evolves op nodes nodes trees trees }
+    ensures two { (op : ℕ) (old mid new : List Shape) (were between are : List Tree) → IsArena old were →
+        Evolves op old mid were between → Evolves op mid new between are → Evolves op old new were are }
+    ensures settled { (op holder : ℕ) (old new : List Shape) (were are : List Tree) (k : ℕ) →
+        Evolves op old new were are → PointsOnly op old new → holder ≢ op → k < length old →
+        (node_at old k).holder ≡ Some holder → IsSettled old k (node_at old k) → IsSettled new k (node_at new k) }
+{}

@@ -1,0 +1,306 @@
+//! A node of either kind, with what the arena keeps of it: its tree, its level, where its range ends
+//! in its parent, and the operation that holds it.
+//!
+//! No call takes memory; all change the node in place. What fits together between nodes is the
+//! arena's to keep: whoever changes a node does it through a call of `arena.rt`.
+
+ghost use Rattle.std.specs.Prelude.{◌≡◌, ◌<◌, ℕ, [], IfSome, IsSome, IfNone, Some, None, length, true, false, ◌↔◌};
+
+use mt_border::{Border, Entry};
+use mt_interior::Interior;
+use mt_rows::Row;
+use mt_version::Version;
+use std::alloc::Global;
+use std::marker::Model;
+
+/// The two kinds of node.
+#[derive(Drop)]
+pub enum Kind {
+    Leaf(Border),
+    Inner(Interior),
+}
+
+/// A node. Its level counts from 0 at the border nodes. Where its range ends in its parent differs
+/// from its high fence as long as a right half that was split off is in no parent.
+#[derive(Drop)]
+pub struct Node {
+    kind: Kind,
+    tree: usize,
+    level: usize,
+    reach: Option<u64>,
+    holder: Option<usize>,
+}
+
+impl Model for Node {
+    ghost use Rattle.mt_arena.specs.Shape.{Shape, shape_of, IsOfKind};
+
+    ghost Value = { Shape };
+
+    ghost view = { λ n. shape_of n.kind n.tree n.level n.reach n.holder };
+
+    ghost invariant = { λ n. IsOfKind n.kind n.level };
+}
+
+impl Node {
+    ghost use Rattle.mt_version.specs.Changes.{CanUnlock};
+    ghost use Rattle.mt_border.specs.Entry.{IsEntry, IsStable};
+    ghost use Rattle.mt_border.specs.Entries.{IsMissing, with_entry, without, replaced};
+    ghost use Rattle.mt_border.specs.declared.border.TheConstants.{SLOTS};
+    ghost use Rattle.mt_border.specs.declared.entry.Pair.{Pair};
+    ghost use Rattle.mt_border.specs.declared.entry.Held.TheVariants.{Stable};
+    ghost use Rattle.mt_arena.specs.Shape.{Shape, border_shape, interior_shape, IsOfKind};
+    ghost use Rattle.mt_arena.specs.Layers.{slot_at};
+    ghost use Rattle.mt_arena.specs.Edits.{locked, unlocked, inserting, splitting, retired, with_slots, pointed, fresh_half, fresh_root};
+
+    /// The first node of a tree.
+    pub(crate) fn root(alloc: Global, tree: usize) -> Self
+        ensures { result ≡ fresh_root tree }
+    {
+        Node {
+            kind: Kind::Leaf(Border::new(alloc, 0, None, Version::root_border())),
+            tree,
+            level: 0,
+            reach: None,
+            holder: None,
+        }
+    }
+
+    /// A node without range, which an operation holds, to the right of one that it splits.
+    pub(crate) fn half(&self, alloc: Global, low: u64, operation: usize) -> Self
+        requires border { self.now.version.border ≡ true → self.now.level ≡ 0 }
+        requires interior { self.now.version.border ≡ false → 0 < self.now.level }
+        ensures { result ≡ fresh_half self.now low operation }
+    {
+        let kind = match &self.kind {
+            Kind::Leaf(_) => {
+                let version = Version::child_border().locked().marked_splitting();
+                Kind::Leaf(Border::new(alloc, low, Some(low), version))
+            }
+            Kind::Inner(_) => {
+                let version = Version::child_interior().locked().marked_splitting();
+                Kind::Inner(Interior::new(low, Some(low), version))
+            }
+        };
+        Node {
+            kind,
+            tree: self.tree,
+            level: self.level,
+            reach: Some(low),
+            holder: Some(operation),
+        }
+    }
+
+    /// The border node that it is, if it is one.
+    pub fn border(&self) -> Option<&Border>
+        ensures kind { IsSome result ↔ (self.now.level ≡ 0) }
+        ensures value { IfSome result (λ b. self.now ≡ border_shape b.now self.now.tree self.now.level self.now.reach self.now.holder) }
+    {
+        match &self.kind {
+            Kind::Leaf(border) => Some(border),
+            Kind::Inner(_) => None,
+        }
+    }
+
+    /// The interior node that it is, if it is one.
+    pub fn interior(&self) -> Option<&Interior>
+        ensures kind { IsSome result ↔ (0 < self.now.level) }
+        ensures value { IfSome result (λ i. self.now ≡ interior_shape i.now self.now.tree self.now.level self.now.reach self.now.holder) }
+    {
+        match &self.kind {
+            Kind::Leaf(_) => None,
+            Kind::Inner(interior) => Some(interior),
+        }
+    }
+
+    /// Its tree's number.
+    pub fn tree(&self) -> usize
+        ensures { result ≡ self.now.tree }
+    {
+        self.tree
+    }
+
+    /// How many levels of nodes are below it.
+    pub fn level(&self) -> usize
+        ensures { result ≡ self.now.level }
+    {
+        self.level
+    }
+
+    /// The operation that holds its lock.
+    pub fn holder(&self) -> Option<usize>
+        ensures { result ≡ self.now.holder }
+    {
+        self.holder
+    }
+
+    pub fn version(&self) -> Version
+        ensures { result ≡ self.now.version }
+    {
+        match &self.kind {
+            Kind::Leaf(border) => border.version(),
+            Kind::Inner(interior) => interior.version(),
+        }
+    }
+
+    /// The least slice of its range. It never changes.
+    pub fn low(&self) -> u64
+        ensures { result ≡ self.now.low }
+    {
+        match &self.kind {
+            Kind::Leaf(border) => border.low(),
+            Kind::Inner(interior) => interior.low(),
+        }
+    }
+
+    /// The least slice behind its range; none, where there is no end.
+    pub fn high(&self) -> Option<u64>
+        ensures { result ≡ self.now.high }
+    {
+        match &self.kind {
+            Kind::Leaf(border) => border.high(),
+            Kind::Inner(interior) => interior.high(),
+        }
+    }
+
+    /// The interior node above; it may lag while that one is held.
+    pub fn parent(&self) -> Option<usize>
+        ensures { result ≡ self.now.parent }
+    {
+        match &self.kind {
+            Kind::Leaf(border) => border.parent(),
+            Kind::Inner(interior) => interior.parent(),
+        }
+    }
+
+    /// The border node whose slices come next; none of an interior node.
+    pub fn next(&self) -> Option<usize>
+        ensures { result ≡ self.now.next }
+    {
+        match &self.kind {
+            Kind::Leaf(border) => border.next(),
+            Kind::Inner(_) => None,
+        }
+    }
+
+    /// The border node whose slices come before; it may lag while that one is held. None of an
+    /// interior node.
+    pub fn previous(&self) -> Option<usize>
+        ensures { result ≡ self.now.previous }
+    {
+        match &self.kind {
+            Kind::Leaf(border) => border.previous(),
+            Kind::Inner(_) => None,
+        }
+    }
+
+    // Writes the version.
+    fn set_version(&mut self, version: Version)
+        ensures { self.new ≡ record self.old { version = version } }
+    {
+        match &mut self.kind {
+            Kind::Leaf(border) => border.set_version(version),
+            Kind::Inner(interior) => interior.set_version(version),
+        }
+    }
+
+    pub(crate) fn lock(&mut self, operation: usize)
+        ensures { self.new ≡ locked self.old operation }
+    {
+        self.set_version(self.version().locked());
+        self.holder = Some(operation);
+    }
+
+    pub(crate) fn unlock(&mut self)
+        requires { CanUnlock self.old.version }
+        ensures { self.new ≡ unlocked self.old }
+    {
+        self.set_version(self.version().unlocked());
+        self.holder = None;
+    }
+
+    pub(crate) fn mark_inserting(&mut self)
+        ensures { self.new ≡ inserting self.old }
+    {
+        self.set_version(self.version().marked_inserting());
+    }
+
+    pub(crate) fn mark_splitting(&mut self)
+        ensures { self.new ≡ splitting self.old }
+    {
+        self.set_version(self.version().marked_splitting());
+    }
+
+    pub(crate) fn retire(&mut self)
+        ensures { self.new ≡ retired self.old }
+    {
+        self.set_version(self.version().deleted());
+    }
+
+    pub(crate) fn set_parent(&mut self, parent: Option<usize>)
+        ensures { self.new ≡ pointed self.old self.old.previous parent }
+    {
+        match &mut self.kind {
+            Kind::Leaf(border) => border.set_parent(parent),
+            Kind::Inner(interior) => interior.set_parent(parent),
+        }
+    }
+
+    pub(crate) fn set_previous(&mut self, previous: Option<usize>)
+        requires { self.old.level ≡ 0 }
+        ensures { self.new ≡ pointed self.old previous self.old.parent }
+    {
+        match &mut self.kind {
+            Kind::Leaf(border) => border.set_previous(previous),
+            Kind::Inner(_) => unreachable!(),
+        }
+    }
+
+    /// Makes one more key live, and marks the node for its readers.
+    pub(crate) fn publish(&mut self, entry: Entry)
+        requires border { self.old.level ≡ 0 }
+        requires room { length self.old.slots < SLOTS }
+        requires entry { IsEntry entry }
+        requires missing { IsMissing self.old.slots entry.slice entry.mark }
+        ensures { self.new ≡ with_slots self.old (with_entry self.old.slots entry) }
+    {
+        match &mut self.kind {
+            Kind::Leaf(border) => border.publish(entry),
+            Kind::Inner(_) => unreachable!(),
+        }
+        self.mark_inserting();
+    }
+
+    /// Puts another row and its stamp into a slot, and marks the node for its readers; gives the old
+    /// row back.
+    pub(crate) fn store(&mut self, slot: usize, row: Row, stamp: u64) -> Row
+        requires border { self.old.level ≡ 0 }
+        requires live { slot < length self.old.slots }
+        requires stable { IsStable (slot_at self.old slot).held }
+        ensures before { (pair : Pair) → (slot_at self.old slot).held ≡ Stable pair → result ≡ pair.row }
+        ensures after { (pair : Pair) → (slot_at self.old slot).held ≡ Stable pair →
+            self.new ≡ with_slots self.old (replaced self.old.slots
+            (record (slot_at self.old slot) { held = Stable (record pair { row = row; stamp = stamp }) })) }
+    {
+        let old = match &mut self.kind {
+            Kind::Leaf(border) => border.store(slot, row, stamp),
+            Kind::Inner(_) => unreachable!(),
+        };
+        self.mark_inserting();
+        old
+    }
+
+    /// Takes a key out, and marks the node for its readers; gives its entry back.
+    pub(crate) fn drop_key(&mut self, slot: usize) -> Entry
+        requires border { self.old.level ≡ 0 }
+        requires live { slot < length self.old.slots }
+        ensures value { result ≡ slot_at self.old slot }
+        ensures after { self.new ≡ with_slots self.old (without self.old.slots result) }
+    {
+        let old = match &mut self.kind {
+            Kind::Leaf(border) => border.drop_key(slot),
+            Kind::Inner(_) => unreachable!(),
+        };
+        self.mark_inserting();
+        old
+    }
+}

@@ -1,0 +1,62 @@
+-- What holds of each entry's owned key and stamp, after a publish and after a store.
+use Rattle.std.proofs.Common.{◌≡◌, ◌≢◌, ℕ, List, get_or, set, Some, refl, sym, subst, ◌∙◌, inl, inr, arith}
+use Rattle.std.proofs.lemmas.Bool.{cases_eq}
+use Rattle.std.proofs.lemmas.Option.{same_Some}
+use Rattle.std.proofs.lemmas.List.{length-set, get_or-set_same, get_or-set_other}
+use Rattle.std.proofs.lemmas.List.Elements.{All-from_get_or}
+use Rattle.mt_rows.specs.Rows.{Bytes, Columns}
+use Rattle.mt_border.specs.declared.entry.Pair.{Pair}
+use Rattle.mt_border.specs.declared.entry.Entry.{Entry}
+use Rattle.mt_border.specs.declared.entry.Held.TheVariants.{Stable}
+use Rattle.mt_border.specs.Entry.{pair_of}
+use Rattle.mt_border.specs.Entries.{IsBorder, IsMissing, with_entry}
+use Rattle.mt_border.specs.Node.{Node, entries_of, entry_at, IsLive, Rewrites}
+use Rattle.mt_border.proofs.Edits.{any_entry}
+use Rattle.mt_border.specs.Contents.{owned, key_at, HasKey, AreKeys, IsStamped, AllStamped}
+use Rattle.mt_border.proofs.ContentsKeys.{IsApart, owned_at, has_rewritten_key, order_of_key, missing_key, all_apart}
+use Rattle.mt_border.proofs.ContentsFinds.{apart_beside}
+use Rattle.mt_border.proofs.ContentsEdits.{each-publish, slots-store}
+
+-- of an entry, what holds of its key and of its pair's stamp
+stamped_as : (P : ℕ × Bytes → ℕ → Type 0) (prefix : Bytes) (layer : ℕ) (e : Entry) (key : Bytes) (pair : Pair) → HasKey prefix layer e key → pair_of e.held ≡ Some pair → P (owned key) pair.stamp → IsStamped P prefix e
+stamped_as P prefix layer e key pair has is known other same =
+    subst (λ (p : Pair). P (owned (key_at prefix e p)) p.stamp) (same_Some pair other (sym is ∙ same))
+    (subst (λ q. P q pair.stamp) (sym (owned_at prefix layer e key pair has is)) known)
+
+-- of a slot that stands for a key
+pub stamped_here : (P : ℕ × Bytes → ℕ → Type 0) (prefix : Bytes) (layer : ℕ) (node : Node) (slot : ℕ) (key : Bytes) (pair : Pair) → IsLive node slot → HasKey prefix layer (entry_at node slot) key → pair_of (entry_at node slot).held ≡ Some pair → AllStamped P prefix (entries_of node) → P (owned key) pair.stamp
+stamped_here P prefix layer node slot key pair live has is stamped =
+    subst (λ q. P q pair.stamp) (owned_at prefix layer (entry_at node slot) key pair has is) (stamped slot any_entry live pair is)
+
+-- what follows from it for each
+pub stamped_weaker : (P Q : ℕ × Bytes → ℕ → Type 0) (prefix : Bytes) (entries : List Entry) → ((q : ℕ × Bytes) (s : ℕ) → P q s → Q q s) → AllStamped P prefix entries → AllStamped Q prefix entries
+stamped_weaker P Q prefix entries weaker stamped k d inside pair is = weaker _ _ (stamped k d inside pair is)
+
+-- the same for an entry of another key
+stamped_beside : (P Q : ℕ × Bytes → ℕ → Type 0) (prefix : Bytes) (q : ℕ × Bytes) (e : Entry) → ((r : ℕ × Bytes) (s : ℕ) → r ≢ q → P r s → Q r s) → IsApart prefix q e → IsStamped P prefix e → IsStamped Q prefix e
+stamped_beside P Q prefix q e weaker apart stamped pair is = weaker _ _ (apart pair is) (stamped pair is)
+
+-- after a publish: what follows for other keys, and what is known of the new pair's
+pub stamped_publish : (P Q : ℕ × Bytes → ℕ → Type 0) (prefix : Bytes) (layer : ℕ) (entries : List Entry) (e : Entry) (key : Bytes) (pair : Pair) → AreKeys prefix layer entries → HasKey prefix layer e key → IsMissing entries e.slice e.mark → pair_of e.held ≡ Some pair
+    → ((r : ℕ × Bytes) (s : ℕ) → r ≢ owned key → P r s → Q r s) → Q (owned key) pair.stamp → AllStamped P prefix entries → AllStamped Q prefix (with_entry entries e)
+stamped_publish P Q prefix layer entries e key pair keys has missing is weaker known stamped =
+    let apart = all_apart prefix layer entries key keys has.of_tree (missing_key prefix layer entries e key has missing) in
+    each-publish (IsStamped Q prefix) entries e
+    (λ k d inside. stamped_beside P Q prefix (owned key) (get_or entries k d) weaker (apart k d inside) (stamped k d inside))
+    (stamped_as Q prefix layer e key pair has is known)
+
+-- after a store: what follows for other keys, and what is known of the row's
+pub stamped_store : (P Q : ℕ × Bytes → ℕ → Type 0) (old new : Node) (slot : ℕ) (pair : Pair) (row : Columns) (stamp : ℕ) → IsBorder (entries_of old) → IsLive old slot → pair_of (entry_at old slot).held ≡ Some pair → Rewrites old new slot (Stable (record pair { row = row; stamp = stamp }))
+    → (prefix : Bytes) (layer : ℕ) (key : Bytes) → AreKeys prefix layer (entries_of old) → HasKey prefix layer (entry_at old slot) key
+    → ((r : ℕ × Bytes) (s : ℕ) → r ≢ owned key → P r s → Q r s) → Q (owned key) stamp → AllStamped P prefix (entries_of old) → AllStamped Q prefix (entries_of new)
+stamped_store P Q old new slot pair row stamp border live is writes prefix layer key keys has weaker known stamped =
+    let entry : Entry = record (entry_at old slot) { held = Stable (record pair { row = row; stamp = stamp }) } in
+    let size = length-set old.slots slot entry in
+    let here : IsStamped Q prefix entry = stamped_as Q prefix layer entry key (record pair { row = row; stamp = stamp }) (has_rewritten_key prefix layer (entry_at old slot) key pair row stamp has is) refl known in
+    subst (AllStamped Q prefix) (sym (slots-store old new slot _ border live writes))
+    (All-from_get_or (IsStamped Q prefix) (set old.slots slot entry) any_entry (λ k inside. elim (cases_eq k slot) [
+      | inl same ↦ rw (same, get_or-set_same old.slots slot entry any_entry live) here
+      | inr differ ↦ rw (get_or-set_other old.slots slot k entry any_entry differ) (stamped_beside P Q prefix (owned key) (get_or old.slots k any_entry) weaker
+          (apart_beside prefix layer old.slots key slot border keys has.of_tree live (order_of_key prefix layer (entry_at old slot) key has) k any_entry (omega arith) differ)
+          (stamped k any_entry (omega arith)))
+    ]))

@@ -1,0 +1,12 @@
+use Rattle.mt_core.specs.declared.operation.Operation.{Operation}
+use Rattle.mt_core.specs.Alone.{IsAlone}
+use Rattle.mt_core.proofs.Alone.{IsGoing}
+use Rattle.mt_core.proofs.AloneRuns.{IsRunning}
+use Rattle.mt_core.proofs.state.State.run_alone.Given as goal
+
+-- the steps so far lead here; and an operation that is alone has made them all, and has one left
+abbrev pub invariant-loop : goal.invariant-loop
+invariant-loop l = record {
+  going : IsGoing l.initial.self l.self l.ticket.number l.counter;
+  running : (op : Operation) → IsAlone l.initial.self l.ticket.number op → IsRunning l.initial.self l.self l.ticket.number op l.counter;
+}

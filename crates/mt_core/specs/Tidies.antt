@@ -1,0 +1,33 @@
+-- What a tidying leaves.
+use Rattle.std.specs.Prelude.{◌≡◌, ℕ, ◌-◌, ◌<◌, ◌≤◌, ◌==◌, min, if◌then◌else◌, Some}
+use Rattle.mt_tape.specs.Tapes.{later_entries}
+use Rattle.mt_core.specs.declared.operation.Operation.{Operation}
+use Rattle.mt_core.specs.Views.{View, Table, op_at, map_of, changed_at}
+
+-- every operation of the table that has made a step made its first one after this number
+abbrev pub IsBeforeFirsts : Table → ℕ → Type 0
+IsBeforeFirsts table floor = (o : ℕ) (op : Operation) → op_at table o ≡ Some op → 0 < op.first → floor < op.first
+
+-- a floor that is before a first step too, where one was made
+abbrev pub lowered : ℕ → ℕ → ℕ
+lowered floor first = if first == 0 then floor else min floor (first - 1)
+
+-- the floor that a tape needs after so many steps: the greatest number of steps that is before the first step of each operation of the table
+pub record IsFloorNeeded (table : Table) (steps floor : ℕ) : Type 0 where
+  pub made : floor ≤ steps
+  pub before : IsBeforeFirsts table floor
+  pub greatest : (n : ℕ) → n ≤ steps → IsBeforeFirsts table n → n ≤ floor
+
+-- the tape begins at the floor that it needs, and nothing else has changed: every map from there on stands, and so does every change after it
+pub record Tidies (old new : View) : Type 0 where
+  pub steps : new.steps ≡ old.steps
+  pub logs : new.logs ≡ old.logs
+  pub accounts : new.accounts ≡ old.accounts
+  pub contents : new.contents ≡ old.contents
+  pub table : new.table ≡ old.table
+  pub reserved : new.tape.reserved ≡ old.tape.reserved
+  pub needed : IsFloorNeeded old.table old.steps new.tape.floor
+  pub rises : old.tape.floor ≤ new.tape.floor
+  pub entries : new.tape.entries ≡ later_entries new.tape.floor old.tape.entries
+  pub maps : (t m : ℕ) → new.tape.floor ≤ m → map_of new t m ≡ map_of old t m
+  pub changes : (m : ℕ) → new.tape.floor < m → changed_at new m ≡ changed_at old m

@@ -1,0 +1,3 @@
+pub mod SessionLemmas
+pub mod StreamLemmas
+pub mod WordLemmas
