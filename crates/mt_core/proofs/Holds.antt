@@ -34,7 +34,7 @@ use Rattle.mt_core.specs.Promises.{MayFollow, IsNext, change_in}
 use Rattle.mt_core.specs.Reads.{TellsPrepared, IsPrepared, CountsNew}
 use Rattle.mt_border.proofs.ContentsKeys.{in_top_tree, has_found_key}
 use Rattle.mt_border.proofs.ContentsFinds.{find_missing, find_here}
-use Rattle.mt_core.proofs.Notes.{no_notes}
+use Rattle.mt_core.proofs.Notes.{no_notes, placed_notes}
 use Rattle.mt_core.proofs.Present.{row_now, map_now, stable_pair, any_entry}
 use Rattle.mt_core.proofs.Rely.{placed_stays}
 use Rattle.mt_core.proofs.Quiet.{quiet, first_begun, first_upto, first_stays, KeepsLock, Gives, quiet_gives, quiet_grows, Written, quiet_done}
@@ -255,7 +255,7 @@ module _ (c : Core) (now : View) (o : ℕ) (table : Table) (is : shown c ≡ now
       let full : quota_of (shown c) op.tenant ≤ len (tenant_map op.tenant (pairs_of c)) = no_room_left op (account_of c.accounts op.tenant) refl (no_room op there) in
       quiet_done c now o op c.node.version c.holder (c.tape.reserved - 1) table next false is (w op there)
       (quiet_gives c o op h there few next c.node.version c.holder (c.tape.reserved - 1) (goes_on c o (c.tape.reserved - 1) next h k.judged.lock.holder refl)
-      (ap is_unfinished n.2) (λ e. absurd (cc)) (subst (λ p. MayFollow p next) (sym n.2) tt) (no_notes (shown c) op op.progress next refl) (sym (ap change_in n.2)) (λ _ _. omega (arith, ap steps_to n.2))
+      (ap is_unfinished n.2) (λ e. absurd (cc)) (subst (λ p. MayFollow p next) (sym n.2) tt) (placed_notes (shown c) op op.progress Full) (sym (ap change_in n.2)) (λ _ _. omega (arith, ap steps_to n.2))
       (record {
         lock = record { put_is = k.judged.lock.put_is; begun = first_begun c o op h there few next; holder = k.judged.lock.holder };
         real = refl;

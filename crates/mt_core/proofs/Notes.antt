@@ -14,7 +14,7 @@ use Rattle.mt_border.specs.Node.{IsFound, IsLive, entries_of, entry_at}
 use Rattle.mt_tape.proofs.TapeLaws.{get-map_at}
 use Rattle.mt_core.specs.declared.operation.Operation.{Operation}
 use Rattle.mt_core.specs.declared.operation.Progress.{Progress}
-use Rattle.mt_core.specs.declared.operation.Progress.TheVariants.{Search, Load, Confirm}
+use Rattle.mt_core.specs.declared.operation.Progress.TheVariants.{Search, Load, Confirm, Store, Publish, Unlock}
 use Rattle.mt_border.specs.Contents.{owned}
 use Rattle.mt_core.specs.Views.{Core, View, shown, pairs_of, op_at}
 use Rattle.mt_core.specs.Kept.{IsAtLoad}
@@ -28,10 +28,11 @@ use Rattle.mt_border.proofs.ContentsKeys.{in_top_tree, owned_at}
 use Rattle.mt_border.proofs.ContentsFinds.{find_missing, find_here, row_at}
 use Rattle.mt_border.proofs.ContentsStamps.{stamped_here}
 
--- an operation with this next may have looked
+-- an operation with this next may have looked, or was placed
 abbrev pub looks_on : Progress → Bool
 looks_on (Load seen slot searched) = true
 looks_on (Confirm seen reply at) = true
+looks_on (Unlock reply at) = true
 looks_on _ = false
 
 -- a step to another next notes nothing
@@ -39,7 +40,15 @@ pub no_notes : (old : View) (op : Operation) (p next : Progress) → looks_on ne
 no_notes old op (Search seen) (Load same slot searched) e = absurd (cc)
 no_notes old op (Search seen) (Confirm same reply at) e = absurd (cc)
 no_notes old op (Load seen slot searched) (Confirm same reply at) e = absurd (cc)
+no_notes old op (Store slot row entry) (Unlock reply at) e = absurd (cc)
+no_notes old op (Publish suffix row entry) (Unlock reply at) e = absurd (cc)
 no_notes old op _ _ e = tt
+
+-- one that ends the placing notes this step's number
+pub placed_notes : (old : View) (op : Operation) (p : Progress) (reply : Reply) → NotesAfter old op p (Unlock reply (old.steps + 1))
+placed_notes old op (Store slot row entry) reply = refl
+placed_notes old op (Publish suffix row entry) reply = refl
+placed_notes old op _ reply = tt
 
 module _ (c : Core) (o : ℕ) (op : Operation) (h : Sound c) (there : op_at c.table o ≡ Some op) where
   -- a key that was found is in the contents, with the row of its slot

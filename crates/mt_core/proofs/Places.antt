@@ -36,7 +36,7 @@ use Rattle.mt_core.specs.Notes.{key_asked}
 use Rattle.mt_core.specs.Promises.{MayFollow}
 use Rattle.mt_core.proofs.Tables.{set_is}
 use Rattle.mt_border.proofs.ContentsMaps.{at_owner}
-use Rattle.mt_core.proofs.Notes.{no_notes}
+use Rattle.mt_core.proofs.Notes.{placed_notes}
 use Rattle.mt_core.proofs.Present.{map_now}
 use Rattle.mt_core.proofs.Rely.{sound_step, one_put_step}
 use Rattle.mt_core.proofs.Quiet.{first_begun, first_upto, moved_open, IsAhead, first_straight, next_straight, Gives}
@@ -196,7 +196,7 @@ module _ (c : Core) (o : ℕ) (op : Operation) (h : Sound c) (there : op_at c.ta
             unfinished = open_before;
             progress = next;
             follows = follows;
-            notes = no_notes (shown c) op op.progress next refl;
+            notes = placed_notes (shown c) op op.progress reply;
             table = refl;
             number = refl;
             logs = refl;

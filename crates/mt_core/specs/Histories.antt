@@ -17,6 +17,7 @@ use Rattle.mt_core.specs.declared.operation.Operation.{Operation}
 use Rattle.mt_core.specs.Views.{View, Table, op_at, map_of, changed_at, quota_of}
 use Rattle.mt_core.specs.Kept.{ask}
 use Rattle.mt_core.specs.Promises.{change_in, IsStep, IsHeld, HasStep}
+use Rattle.mt_core.specs.Refused.{first_fault, cause_of, IsRefusal}
 use Rattle.mt_core.specs.Begins.{IsWorker, MayBegin, Begins, Takes}
 
 -- for what each name of a run stands: nothing was begun by it, its operation's answer was taken, or its operation has this number
@@ -62,10 +63,13 @@ pub record History (quotas : Quotas) (first : Maps) (story : Story) (names : Nam
   pub free : (o : ℕ) → names o ≡ None → story.asked o ≡ None
   pub owners : (m o : ℕ) → owner story m ≡ Some o → names o ≢ None
 
--- what an event may answer, by the names and the state before and after it; every answer but Begun, Moved and Done changes nothing
+-- what an event may answer, by the names and the state before and after it; every answer but Begun, Moved and Done changes nothing, and a begin is
+-- refused for its first cause alone
 abbrev pub TellsEvent : Names → View → Names → View → Event → Told → Type 0
-TellsEvent names old now new (Begin o worker tenant command) Begun = (n : ℕ) × (names o ≡ None) × Renames names now o (Some n) × Begins old new n worker tenant command
-TellsEvent names old now new (Begin o worker tenant command) (Refused refusal) = (names o ≡ None) × (now ≡ names) × (new ≡ old)
+TellsEvent names old now new (Begin o worker tenant command) Begun =
+    (n : ℕ) × (names o ≡ None) × Renames names now o (Some n) × Begins old new n worker tenant command × (cause_of old tenant command ≡ None)
+TellsEvent names old now new (Begin o worker tenant command) (Refused refusal) =
+    (names o ≡ None) × (now ≡ names) × (new ≡ old) × IsRefusal (first_fault old tenant command) (cause_of old tenant command) refusal
 TellsEvent names old now new (Begin o worker tenant command) NoSuch = (names o ≡ None → ¬ MayBegin old.table command) × (now ≡ names) × (new ≡ old)
 TellsEvent names old now new (Step o) Moved = (n : ℕ) × (names o ≡ Some (Some n)) × (now ≡ names) × IsStep old new n false
 TellsEvent names old now new (Step o) (Done answer) =

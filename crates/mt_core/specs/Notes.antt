@@ -1,4 +1,5 @@
--- What a get remembers after a step of its looking, by the pairs that the state had at this step.
+-- What a get remembers after a step of its looking, by the pairs that the state had at this step; and the number of a put that was placed or
+-- found full.
 use Rattle.std.specs.Prelude.{◌≡◌, ℕ, ◌+◌, ◌<◌, ◌≤◌, ◌⊎◌, List, Some, None}
 use Rattle.std.specs.List.{Contains}
 use Rattle.std.specs.FinMap as pairs
@@ -10,7 +11,7 @@ use Rattle.mt_tape.specs.declared.entry.Entry.{Entry as TapeEntry}
 use Rattle.mt_tape.specs.Histories.{written_key}
 use Rattle.mt_core.specs.declared.operation.Operation.{Operation}
 use Rattle.mt_core.specs.declared.operation.Progress.{Progress}
-use Rattle.mt_core.specs.declared.operation.Progress.TheVariants.{Search, Load, Confirm}
+use Rattle.mt_core.specs.declared.operation.Progress.TheVariants.{Search, Load, Confirm, Store, Publish, Unlock}
 use Rattle.mt_core.specs.Views.{View, map_of, IsUnchangedSince}
 use Rattle.mt_core.specs.Kept.{ask}
 use Rattle.mt_core.specs.Reads.{columns_asked}
@@ -57,11 +58,14 @@ pub record NotesTaken (old : View) (op : Operation) (searched : ℕ) (reply : Re
   pub made : at ≤ old.steps
   pub taken : IsRowShown old op searched reply at ⊎ IsNoneShown old searched reply at
 
--- by what was next and what is next now; no other step notes anything
+-- by what was next and what is next now: a change that was placed, and one that was found full, have this step's number; no other step notes
+-- anything
 abbrev pub NotesAfter : View → Operation → Progress → Progress → Type 0
 NotesAfter old op (Search seen) (Load same slot searched) = NotesSlot old op searched
 NotesAfter old op (Search seen) (Confirm same reply at) = NotesAbsent old op reply at
 NotesAfter old op (Load seen slot searched) (Confirm same reply at) = NotesTaken old op searched reply at
+NotesAfter old op (Store slot row entry) (Unlock reply at) = at ≡ old.steps + 1
+NotesAfter old op (Publish suffix row entry) (Unlock reply at) = at ≡ old.steps + 1
 NotesAfter old op _ _ = Unit {0}
 
 -- what the step that leads an operation on to this notes
