@@ -1,11 +1,9 @@
-//! Tests of the crates below: examples with known answers, and each public call once on its happy
+//! Tests of the lower crates: examples with known answers, and each public call once on its happy
 //! path.
 //!
 //! They stand in a crate of their own, since a crate with tests is proved twice.
 #![tactic(auto)]
 
-#[cfg(test)]
-mod arena;
 #[cfg(test)]
 mod border;
 #[cfg(test)]
@@ -14,8 +12,6 @@ mod interior;
 mod rows;
 #[cfg(test)]
 mod slices;
-#[cfg(test)]
-mod story;
 #[cfg(test)]
 mod tape;
 #[cfg(test)]

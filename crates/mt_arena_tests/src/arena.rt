@@ -7,7 +7,7 @@ ghost use Rattle.mt_border.specs.Entry.{IsEntry, IsStable};
 ghost use Rattle.mt_border.specs.Contents.{HasKey};
 ghost use Rattle.mt_arena.specs.Edits.{unlocked, retired};
 ghost use Rattle.mt_arena.specs.Accesses.{at, with_node, with_tree};
-ghost use Rattle.mt_tests.specs.ArenaStory.{held_root, of_nodes, holding, split_begun};
+ghost use Rattle.mt_arena_tests.specs.ArenaStory.{held_root, of_nodes, holding, split_begun};
 
 use mt_arena::{Arena, Prefix, Standing};
 use mt_border::laws::suffix_fits_mark;

@@ -14,7 +14,7 @@ use Rattle.mt_arena.specs.Layers.{slot_at}
 use Rattle.mt_arena.specs.Edits.{with_slots}
 use Rattle.mt_arena.specs.Arena.{View}
 use Rattle.mt_arena.specs.Accesses.{at, with_node, with_row, MayChange}
-use Rattle.mt_tests.specs.ArenaStory.{holding}
+use Rattle.mt_arena_tests.specs.ArenaStory.{holding}
 
 -- a stable slot has a pair
 held_pair : (h : Held) → IsStable h → (pair : Pair) × (h ≡ Stable pair)
