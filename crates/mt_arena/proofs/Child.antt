@@ -209,6 +209,7 @@ module _ (xs : List Shape) (i j q : ℕ) (nodes : AreNodes xs) (f : Inserts xs i
     next_level = g.next_level;
     next_live = g.next_live;
     previous_back = g.previous_back;
+    previous_live = g.previous_live;
     parent_knows = g.parent_knows;
     child = λ b lt e live. child b lt e;
     apart = g.apart;
@@ -221,6 +222,7 @@ module _ (xs : List Shape) (i j q : ℕ) (nodes : AreNodes xs) (f : Inserts xs i
     next_level = g.next_level;
     next_live = g.next_live;
     previous_back = λ e live free. absurd (f.parent_held free);
+    previous_live = λ e live free. absurd (f.parent_held free);
     parent_knows = λ e live free. absurd (f.parent_held free);
     child = λ b lt e live.
         let c = g.child b lt e live in
@@ -235,6 +237,7 @@ module _ (xs : List Shape) (i j q : ℕ) (nodes : AreNodes xs) (f : Inserts xs i
     next_level = g.next_level;
     next_live = g.next_live;
     previous_back = g.previous_back;
+    previous_live = g.previous_live;
     parent_knows = g.parent_knows;
     child = λ b lt e live.
         let c = g.child b lt e live in
@@ -249,6 +252,7 @@ module _ (xs : List Shape) (i j q : ℕ) (nodes : AreNodes xs) (f : Inserts xs i
     next_level = g.next_level;
     next_live = g.next_live;
     previous_back = g.previous_back;
+    previous_live = g.previous_live;
     parent_knows = λ e live free.
         let c = g.parent_knows e live free in
         record { live = c.live; place = c.place; in_range = c.in_range; is = c.is };
@@ -274,6 +278,7 @@ module _ (xs : List Shape) (i j q : ℕ) (nodes : AreNodes xs) (f : Inserts xs i
     next_level = g.next_level;
     next_live = g.next_live;
     previous_back = g.previous_back;
+    previous_live = g.previous_live;
     parent_knows = λ e live free.
         let c = g.parent_knows e live free in
         record { live = c.live; place = c.place; in_range = c.in_range; is = c.is };

@@ -39,6 +39,7 @@ crowned_from k n j m h = record {
   next_level = h.next_level;
   next_live = h.next_live;
   previous_back = h.previous_back;
+  previous_live = h.previous_live;
   parent_knows = λ e. absurd (cc);
   child = λ i lt e live.
       let c = h.child i lt e live in
@@ -53,6 +54,7 @@ crowned_to k n j m h none = record {
   next_level = h.next_level;
   next_live = h.next_live;
   previous_back = h.previous_back;
+  previous_live = h.previous_live;
   parent_knows = λ e live free.
       let c = h.parent_knows e live free in
       record { live = c.live; place = c.place; in_range = c.in_range; is = c.is };
@@ -120,5 +122,5 @@ pub ranged_collapsed : (xs : List Shape) (i q : ℕ) → AreRanged xs → Collap
 ranged_collapsed xs i q ranged f =
     let p = node_at xs q in
     nodes_set IsRanged (set xs q (retired p)) i (crowned (node_at xs i)) (omega (arith, f.child_there, length-set xs q (retired p)))
-    (nodes_set IsRanged xs q (retired p) f.root_there ranged (record { next = (ranged q f.root_there).next; parent = (ranged q f.root_there).parent }))
-    (record { next = (ranged i f.child_there).next; parent = λ some. absurd (some refl) })
+    (nodes_set IsRanged xs q (retired p) f.root_there ranged (record { next = (ranged q f.root_there).next; parent = (ranged q f.root_there).parent; unmarked = λ whole live. absurd (cc) }))
+    (record { next = (ranged i f.child_there).next; parent = λ some. absurd (some refl); unmarked = (ranged i f.child_there).unmarked })

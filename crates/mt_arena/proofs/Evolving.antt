@@ -1,20 +1,21 @@
 -- What a step leaves to others is a relation that joins, and the steps that keep it.
-use Rattle.std.proofs.Common.{◌≡◌, ◌≢◌, ℕ, ◌+◌, ◌<◌, List, [], ◌∷◌, ◌++◌, length, set, Bool, true, false, Some, None, refl, sym, ap, subst, ◌∙◌, inl, inr, arith, length-append}
-use Rattle.std.proofs.lemmas.Bool.{cases_eq}
-use Rattle.std.proofs.lemmas.List.{length-set}
+use Rattle.std.proofs.Common.{◌≡◌, ◌≢◌, ℕ, ◌+◌, ◌<◌, ◌≤◌, List, [], ◌∷◌, ◌++◌, length, set, Bool, true, false, Some, None, refl, sym, ap, subst, ◌∙◌, inl, inr, arith, length-append}
+use Rattle.std.proofs.lemmas.Bool.{cases_eq, cases_lt}
+use Rattle.std.proofs.lemmas.List.{length-set, get_or_past}
 use Rattle.mt_version.specs.Changes.{range_age, insert_age}
 use Rattle.mt_version.proofs.CallerLemmas as versions
 use Rattle.mt_arena.specs.declared.tree.Tree.{Tree}
-use Rattle.mt_arena.specs.declared.tree.Standing.TheVariants.{Made}
+use Rattle.mt_arena.specs.declared.tree.Standing.{Standing}
+use Rattle.mt_arena.specs.declared.tree.Standing.TheVariants.{Made, Live, Dead}
 use Rattle.mt_arena.specs.Shape.{Shape, node_at}
-use Rattle.mt_arena.specs.Forests.{tree_at}
+use Rattle.mt_arena.specs.Forests.{tree_at, no_tree}
 use Rattle.mt_arena.specs.Evolves.{Evolves, Changes, TreeChanges, IsUntouched, HasSameKeys, PointsOnly}
 use Rattle.mt_arena.proofs.Pairs.{here, there, last, before}
 use Rattle.mt_arena.proofs.Trees.{before_tree}
 
 -- a node that stays as it is
 pub untouched : (n : Shape) → IsUntouched n n
-untouched n = record { holder = refl; version = refl; slots = refl; separators = refl; children = refl; next = refl; high = refl; reach = refl; parented = λ some. some }
+untouched n = record { holder = refl; version = refl; slots = refl; separators = refl; children = refl; next = refl; high = refl; reach = refl; parented = λ some. some; orphaned = λ none. none }
 
 untouched_on : (n m p : Shape) → IsUntouched n m → IsUntouched m p → IsUntouched n p
 untouched_on n m p a b = record {
@@ -27,6 +28,7 @@ untouched_on n m p a b = record {
   high = b.high ∙ a.high;
   reach = b.reach ∙ a.reach;
   parented = λ some. b.parented (a.parented some);
+  orphaned = λ none. b.orphaned (a.orphaned none);
 }
 
 pub same_keys : (n : Shape) → HasSameKeys n n
@@ -80,8 +82,8 @@ changes_on op n m p a b = record {
   taken = λ q other e. a.taken q other (b.taken q other e);
 }
 
-tree_changes_none : (op : ℕ) (tree : Tree) → TreeChanges op tree tree
-tree_changes_none op tree = record { prefix = refl; dead = λ e. refl; made = λ q other e. refl }
+pub tree_changes_none : (op : ℕ) (tree : Tree) → TreeChanges op tree tree
+tree_changes_none op tree = record { prefix = refl; dead = λ e. refl; made = λ q other e. refl; live = λ e q f. absurd (let both = sym e ∙ f in cc) }
 
 pub evolves_none : (op : ℕ) (nodes : List Shape) (trees : List Tree) → Evolves op nodes nodes trees trees
 evolves_none op nodes trees = record {
@@ -90,13 +92,29 @@ evolves_none op nodes trees = record {
   nodes = λ k lt. changes_none op (node_at nodes k);
   trees = λ t lt. tree_changes_none op (tree_at trees t);
   made = λ k q lt other e. refl;
+  made_new = λ k q from lt. absurd (omega (arith, from, lt));
+  taken_new = λ k q from lt. absurd (omega (arith, from, lt));
 }
+
+-- a tree that is not being made never is again
+stays_unmade : (op : ℕ) (b c : Tree) → ((q : ℕ) → b.standing ≢ Made q) → TreeChanges op b c → (s : Standing) → b.standing ≡ s → (q : ℕ) → c.standing ≢ Made q
+stays_unmade op b c unmade second (Made by) is q e = unmade by is
+stays_unmade op b c unmade second Live is q e = second.live is q e
+stays_unmade op b c unmade second Dead is q e = absurd (let same = sym is ∙ ap (λ (t : Tree). t.standing) (sym (second.dead is)) ∙ e in cc)
+
+-- a tree that is being made is there
+made_there : (trees : List Tree) (t q : ℕ) → (tree_at trees t).standing ≡ Made q → t < length trees
+made_there trees t q made = elim (cases_lt t (length trees)) [
+  | inl within ↦ within
+  | inr beyond ↦ absurd (let none = sym (ap (λ (u : Tree). u.standing) (get_or_past trees t no_tree beyond)) ∙ made in cc)
+]
 
 tree_changes_on : (op : ℕ) (a b c : Tree) → TreeChanges op a b → TreeChanges op b c → TreeChanges op a c
 tree_changes_on op a b c first second = record {
   prefix = second.prefix ∙ first.prefix;
   dead = λ e. let same = first.dead e in second.dead (ap (λ (t : Tree). t.standing) same ∙ e) ∙ same;
   made = λ q other e. let same = first.made q other e in second.made q other (ap (λ (t : Tree). t.standing) same ∙ e) ∙ same;
+  live = λ e. stays_unmade op b c (first.live e) second b.standing refl;
 }
 
 -- two steps, one after the other
@@ -111,6 +129,16 @@ evolves_on op old mid new were between are a b inside = record {
       let same = a.made k q lt other e in
       let stands = (a.trees (node_at old k).tree (inside k lt)).made q other e in
       b.made k q (omega (arith, lt, a.count)) other (ap (λ (n : Shape). (tree_at between n.tree).standing) same ∙ ap (λ (t : Tree). t.standing) stands ∙ e) ∙ same;
+  made_new = λ k q from lt other e. elim (cases_lt k (length mid)) [
+    | inl was ↦ a.made_new k q from was other (ap (λ t. (tree_at were t).standing) (sym (b.nodes k was).tree) ∙ e)
+    | inr new_one ↦
+        let t : ℕ = (node_at new k).tree in
+        b.made_new k q new_one lt other (ap (λ (u : Tree). u.standing) ((a.trees t (made_there were t q e)).made q other e) ∙ e)
+  ];
+  taken_new = λ k q from lt other e. elim (cases_lt k (length mid)) [
+    | inl was ↦ a.taken_new k q from was other ((b.nodes k was).taken q other e)
+    | inr new_one ↦ b.taken_new k q new_one lt other e
+  ];
 }
 
 -- one node changes, of a tree that no other operation is making
@@ -128,25 +156,31 @@ evolves_set op xs trees i y within change mine = record {
     | inl same ↦ absurd (other (mine q (subst (λ k. (tree_at trees (node_at xs k).tree).standing ≡ Made q) same e)))
     | inr differ ↦ there xs i k y differ
   ];
+  made_new = λ k q from lt. absurd (omega (arith, from, lt, length-set xs i y));
+  taken_new = λ k q from lt. absurd (omega (arith, from, lt, length-set xs i y));
 }
 
 -- a node more, and a tree more with its root
-pub evolves_push : (op : ℕ) (xs : List Shape) (trees : List Tree) (y : Shape) → Evolves op xs (xs ++ y ∷ []) trees trees
-evolves_push op xs trees y = record {
+pub evolves_push : (op : ℕ) (xs : List Shape) (trees : List Tree) (y : Shape) → ((q : ℕ) → (tree_at trees y.tree).standing ≡ Made q → q ≡ op) → ((q : ℕ) → q ≢ op → y.holder ≢ Some q) → Evolves op xs (xs ++ y ∷ []) trees trees
+evolves_push op xs trees y mine holder = record {
   count = omega (arith, length-append xs (y ∷ []));
   tree_count = omega arith;
   nodes = λ k lt. rw (before xs y k lt) (changes_none op (node_at xs k));
   trees = λ t lt. tree_changes_none op (tree_at trees t);
   made = λ k q lt other e. before xs y k lt;
+  made_new = λ k q from lt other e. other (mine q (ap (λ (n : Shape). (tree_at trees n.tree).standing) (sym (last xs y)) ∙ ap (λ k. (tree_at trees (node_at (xs ++ y ∷ []) k).tree).standing) {x = length xs} {y = k} (omega (arith, from, lt, length-append xs (y ∷ []))) ∙ e));
+  taken_new = λ k q from lt other e. holder q other (ap (λ (n : Shape). n.holder) (sym (last xs y)) ∙ ap (λ k. (node_at (xs ++ y ∷ []) k).holder) {x = length xs} {y = k} (omega (arith, from, lt, length-append xs (y ∷ []))) ∙ e);
 }
 
-pub evolves_tree : (op : ℕ) (xs : List Shape) (trees : List Tree) (y : Shape) (u : Tree) → Evolves op xs (xs ++ y ∷ []) trees (trees ++ u ∷ [])
-evolves_tree op xs trees y u = record {
+pub evolves_tree : (op : ℕ) (xs : List Shape) (trees : List Tree) (y : Shape) (u : Tree) → length trees ≤ y.tree → ((q : ℕ) → q ≢ op → y.holder ≢ Some q) → Evolves op xs (xs ++ y ∷ []) trees (trees ++ u ∷ [])
+evolves_tree op xs trees y u new_tree holder = record {
   count = omega (arith, length-append xs (y ∷ []));
   tree_count = omega (arith, length-append trees (u ∷ []));
   nodes = λ k lt. rw (before xs y k lt) (changes_none op (node_at xs k));
   trees = λ t lt. rw (before_tree trees u t lt) (tree_changes_none op (tree_at trees t));
   made = λ k q lt other e. before xs y k lt;
+  made_new = λ k q from lt other e. omega (arith, new_tree, made_there trees y.tree q (ap (λ (n : Shape). (tree_at trees n.tree).standing) (sym (last xs y)) ∙ ap (λ k. (tree_at trees (node_at (xs ++ y ∷ []) k).tree).standing) {x = length xs} {y = k} (omega (arith, from, lt, length-append xs (y ∷ []))) ∙ e));
+  taken_new = λ k q from lt other e. holder q other (ap (λ (n : Shape). n.holder) (sym (last xs y)) ∙ ap (λ k. (node_at (xs ++ y ∷ []) k).holder) {x = length xs} {y = k} (omega (arith, from, lt, length-append xs (y ∷ []))) ∙ e);
 }
 
 -- one node changes and names the same neighbours and the same parent, or others that the operation holds
@@ -156,11 +190,11 @@ pub record PointsSo (op : ℕ) (nodes : List Shape) (x y : Shape) : Type 0 where
 
 pub points_set : (op : ℕ) (xs : List Shape) (i : ℕ) (y : Shape) → i < length xs → PointsSo op (set xs i y) (node_at xs i) y → PointsOnly op xs (set xs i y)
 points_set op xs i y within so = record {
-  previous = λ k j lt e not_mine. elim (cases_eq k i) [
+  previous = λ k j lt _ e not_mine. elim (cases_eq k i) [
     | inl same ↦ ap (λ k. (node_at xs k).previous) same ∙ so.previous j (ap (λ (n : Shape). n.previous) (sym (here xs i y within)) ∙ ap (λ k. (node_at (set xs i y) k).previous) (sym same) ∙ e) not_mine
     | inr differ ↦ ap (λ (n : Shape). n.previous) (sym (there xs i k y differ)) ∙ e
   ];
-  parent = λ k j lt e not_mine. elim (cases_eq k i) [
+  parent = λ k j lt _ e not_mine. elim (cases_eq k i) [
     | inl same ↦ ap (λ k. (node_at xs k).parent) same ∙ so.parent j (ap (λ (n : Shape). n.parent) (sym (here xs i y within)) ∙ ap (λ k. (node_at (set xs i y) k).parent) (sym same) ∙ e) not_mine
     | inr differ ↦ ap (λ (n : Shape). n.parent) (sym (there xs i k y differ)) ∙ e
   ];
@@ -173,12 +207,12 @@ pub points_push : (op : ℕ) (xs : List Shape) (y : Shape) → y.previous ≡ No
 points_push op xs y previous parent =
     let size : length (xs ++ y ∷ []) ≡ length xs + 1 = length-append xs (y ∷ []) in
     record {
-      previous = λ k j lt e not_mine. ap (λ (n : Shape). n.previous) (sym (before xs y k lt)) ∙ e;
-      parent = λ k j lt e not_mine. ap (λ (n : Shape). n.parent) (sym (before xs y k lt)) ∙ e;
-      new_previous = λ k j from lt e.
+      previous = λ k j lt _ e not_mine. ap (λ (n : Shape). n.previous) (sym (before xs y k lt)) ∙ e;
+      parent = λ k j lt _ e not_mine. ap (λ (n : Shape). n.parent) (sym (before xs y k lt)) ∙ e;
+      new_previous = λ k j from lt _ e.
           let is : k ≡ length xs = omega arith in
           absurd (let at = sym previous ∙ ap (λ (n : Shape). n.previous) (sym (last xs y)) ∙ ap (λ k. (node_at (xs ++ y ∷ []) k).previous) (sym is) ∙ e in cc);
-      new_parent = λ k j from lt e.
+      new_parent = λ k j from lt _ e.
           let is : k ≡ length xs = omega arith in
           absurd (let at = sym parent ∙ ap (λ (n : Shape). n.parent) (sym (last xs y)) ∙ ap (λ k. (node_at (xs ++ y ∷ []) k).parent) (sym is) ∙ e in cc);
     }

@@ -21,6 +21,7 @@ below_from top k n j m reach root lt h = record {
   next_level = h.next_level;
   next_live = h.next_live;
   previous_back = h.previous_back;
+  previous_live = h.previous_live;
   parent_knows = λ e. absurd (omega (arith, same_Some _ _ e, lt));
   child = λ i lt e live.
       let c = h.child i lt e live in
@@ -35,6 +36,7 @@ below_to top k n j m reach root parentless h = record {
   next_level = h.next_level;
   next_live = h.next_live;
   previous_back = h.previous_back;
+  previous_live = h.previous_live;
   parent_knows = λ e live free.
       let c = h.parent_knows e live free in
       record { live = c.live; place = c.place; in_range = c.in_range; is = c.is };
@@ -220,6 +222,7 @@ module _ (xs : List Shape) (i j op : ℕ) (nodes : AreNodes xs) (f : Grows xs i 
     next_level = λ e. absurd (cc);
     next_live = λ e. absurd (cc);
     previous_back = λ e. absurd (cc);
+    previous_live = λ e. absurd (cc);
     parent_knows = λ e. absurd (cc);
     child = λ a la is live. top_child k a la is;
     apart = λ differ tree level live also s hg hk. absurd (omega (arith, top_alone k (omega (arith, lt, size)) (sym tree) (sym level) also s hk, hg.1));
@@ -232,6 +235,7 @@ module _ (xs : List Shape) (i j op : ℕ) (nodes : AreNodes xs) (f : Grows xs i 
     next_level = λ e. absurd (cc);
     next_live = λ e. absurd (cc);
     previous_back = λ e. absurd (cc);
+    previous_live = λ e. absurd (cc);
     parent_knows = λ e. absurd (cc);
     child = λ a la is live. absurd (beyond a la is);
     apart = λ differ. absurd (differ refl);
@@ -251,6 +255,7 @@ module _ (xs : List Shape) (i j op : ℕ) (nodes : AreNodes xs) (f : Grows xs i 
     next_level = λ e. absurd (omega (arith, next (length ws) e, size));
     next_live = λ e. absurd (omega (arith, next (length ws) e, size));
     previous_back = λ e. absurd (omega (arith, previous (length ws) e, size));
+    previous_live = λ e. absurd (omega (arith, previous (length ws) e, size));
     parent_knows = λ e live free. knows e;
     child = λ a la is live. absurd (omega (arith, children a la, is, size));
     apart = λ differ tree level live also s hm hg. absurd (omega (arith, lonely tree level live s hm, hg.1));
@@ -304,6 +309,7 @@ module _ (xs : List Shape) (i j op : ℕ) (nodes : AreNodes xs) (f : Grows xs i 
           | inl same ↦ rw (same, last ws g) (λ e. absurd (cc))
           | inr other ↦ rw (before ws g k (omega arith)) (λ e live. absurd ((named k (omega arith)).0 e))
         ];
+        previous_live = λ k lt e live. refl;
         parent = λ k lt. elim (cases_eq k (length ws)) [
           | inl same ↦ rw (same, last ws g) (λ e. absurd (cc))
           | inr other ↦ rw (before ws g k (omega arith)) (λ e live. (named k (omega arith)).1 e)
@@ -313,7 +319,7 @@ module _ (xs : List Shape) (i j op : ℕ) (nodes : AreNodes xs) (f : Grows xs i 
         rooted = λ live none. refl;
       }
 
-not_none : (cs : List ℕ) → cs ≢ [] → 0 < length cs
+pub not_none : (cs : List ℕ) → cs ≢ [] → 0 < length cs
 not_none [] some = absurd (some refl)
 not_none (c ∷ cs) some = omega arith
 

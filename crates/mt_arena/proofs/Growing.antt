@@ -5,6 +5,7 @@ use Rattle.std.proofs.lemmas.List.{length-set}
 use Rattle.mt_version.proofs.Aging.{ages-deleted}
 use Rattle.mt_rows.specs.Rows.{Bytes}
 use Rattle.mt_border.specs.declared.entry.Entry.{Entry}
+use Rattle.std.proofs.lemmas.Option.{same_Some}
 use Rattle.mt_arena.specs.declared.tree.Tree.{Tree}
 use Rattle.mt_arena.specs.declared.tree.Standing.TheVariants.{Made, Dead}
 use Rattle.mt_arena.specs.declared.retired.Retired.{Retired}
@@ -42,7 +43,7 @@ has_link_push xs y u h =
       is = ap (λ (n : Shape). (slot_at n h.slot).held) at ∙ h.is;
     }
 
-layers_push : (xs : List Shape) (trees : List Tree) (y : Shape) → y.slots ≡ [] → AreLayered xs trees → AreLayered (xs ++ y ∷ []) trees
+pub layers_push : (xs : List Shape) (trees : List Tree) (y : Shape) → y.slots ≡ [] → AreLayered xs trees → AreLayered (xs ++ y ∷ []) trees
 layers_push xs trees y none layers = record {
   links = λ k lt. elim (cases_eq k (length xs)) [
     | inl is ↦ rw (is, last xs y) (no_links trees y none)
@@ -74,9 +75,9 @@ sound_half xs trees gone room more i low op within sound enough live =
       enough = omega (arith, length-append xs (y ∷ []), enough);
     }
 
-pub step_half : (v : View) (i low op : ℕ) → IsStep op v (with_half v i low op)
-step_half v i low op = record {
-  evolves = evolves_push op v.nodes v.trees (fresh_half (at v i) low op);
+pub step_half : (v : View) (i low op : ℕ) → IsOpen v i op → IsStep op v (with_half v i low op)
+step_half v i low op mine = record {
+  evolves = evolves_push op v.nodes v.trees (fresh_half (at v i) low op) mine (λ q other e. other (same_Some q op (sym e)));
   points = points_push op v.nodes (fresh_half (at v i) low op) refl refl;
 }
 
@@ -125,7 +126,7 @@ sound_tree xs trees gone room more op prefix sound enough whole =
 
 pub step_tree : (v : View) (prefix : Bytes) (op : ℕ) → IsStep op v (with_tree v prefix op)
 step_tree v prefix op = record {
-  evolves = evolves_tree op v.nodes v.trees (fresh_root (length v.trees)) (made prefix (length v.nodes) op);
+  evolves = evolves_tree op v.nodes v.trees (fresh_root (length v.trees)) (made prefix (length v.nodes) op) (omega arith) (λ q other e. absurd (cc));
   points = points_push op v.nodes (fresh_root (length v.trees)) refl refl;
 }
 
@@ -165,7 +166,7 @@ sound_retired v room i op step sound may =
     record {
       arena = record {
         nodes = nodes_retired v.nodes i within sound.arena.nodes (is_held op (at v i) may.held.holder) may.left;
-        ranged = ranged_turned v.nodes i (at v i).slots (retired (at v i)).version (at v i).holder within sound.arena.ranged;
+        ranged = ranged_turned v.nodes i (at v i).slots (retired (at v i)).version (at v i).holder within sound.arena.ranged (λ whole live. absurd (cc));
         forest = forest_retired v.nodes v.trees i within sound.arena.forest may.no_root;
         layers = layers_empty v.nodes v.trees i (retired (at v i)) within sound.arena.layers record { old = may.empty; new = may.empty };
       };

@@ -1,5 +1,5 @@
 -- What the contents have where the slots of one node are parted among two.
-use Rattle.std.proofs.Common.{◌≡◌, ◌≢◌, ℕ, suc, ◌+◌, ◌<◌, Bool, true, false, cond, List, [], ◌∷◌, ◌++◌, length, get_or, set, Option, Some, None, sym, refl, ap, subst, ◌∙◌, inl, inr, arith, length-append}
+use Rattle.std.proofs.Common.{◌≡◌, ◌≢◌, ℕ, suc, ◌+◌, ◌<◌, ◌≤◌, Bool, true, false, cond, List, [], ◌∷◌, ◌++◌, length, get_or, set, Option, Some, None, sym, refl, ap, subst, ◌∙◌, inl, inr, arith, length-append}
 use Rattle.std.specs.Prelude.{filter_map}
 use Rattle.std.specs.List.{All, flat_map, cons_option}
 use Rattle.std.specs.Option.{option_map, option_or}
@@ -25,6 +25,7 @@ use Rattle.mt_border.proofs.ContentsKeys.{IsApart, owned_at, owned_once, missing
 use Rattle.mt_border.proofs.ContentsLists.{get-apart}
 use Rattle.mt_border.proofs.ContentsEdits.{each-publish, keys-publish}
 use Rattle.mt_arena.specs.declared.tree.Tree.{Tree}
+use Rattle.mt_arena.specs.declared.tree.Standing.TheVariants.{Live}
 use Rattle.mt_arena.specs.Shape.{Shape, node_at, no_node}
 use Rattle.mt_arena.specs.Forests.{tree_at}
 use Rattle.mt_arena.specs.Contents.{live_pairs, content}
@@ -33,6 +34,7 @@ use Rattle.mt_arena.specs.Ways.{AreBegun, BelongsIn, StandsFor, HasSlots, IsUnfi
 use Rattle.mt_arena.proofs.Joins.{map_of, tied_owner, get-append, or_none, or_none_right, only_at, agree_by}
 use Rattle.mt_arena.proofs.Counted.{HasNone, content-is, contents_of-is, pairs-live, pairs-nil}
 use Rattle.mt_arena.proofs.Owners.{keys_of, nodes_missing, others, published}
+use Rattle.mt_arena.proofs.ContentQuiet.{stands_unchanged}
 
 -- what holds of each of two joined lists
 All-left : (P : Entry → Type 0) (xs ys : List Entry) → All P (xs ++ ys) → All P xs
@@ -133,6 +135,88 @@ module _ (trees : List Tree) (nodes : List Shape) (k j : ℕ) (x y z : Shape) (d
   pub parted : content trees two ≡ content trees one
   parted = content-is trees two ∙ same_contents _ _ (λ q. parted_at q (at q y) refl) ∙ sym (content-is trees one)
 
+-- a node whose slots are parted, where no other node has the owner of any of them
+module _ (nodes : List Shape) (trees : List Tree) (layer k j : ℕ) (within : k < length nodes) (live : (node_at nodes k).version.deleted ≡ false) (tree_live : (tree_at trees (node_at nodes k).tree).standing ≡ Live) (half : IsUnfilled nodes k j) where
+  abbrev parted_one : Shape
+  parted_one = node_at nodes k
+
+  abbrev bytes : Bytes
+  bytes = (tree_at trees parted_one.tree).prefix
+
+  -- the owner of an entry is in no other node
+  abbrev IsAlone : Entry → Type 0
+  IsAlone d = (p : Pair) → pair_of d.held ≡ Some p → (l : ℕ) → l < length nodes → l ≢ k → HasNone trees nodes (owned (key_at bytes d p)) l
+
+  module _ (x y : Shape) (left right : List Entry) (separator : ℕ) (all_keys : AreKeys bytes layer (left ++ right)) (all_alone : All IsAlone (left ++ right)) (below : All (λ e. e.slice < separator) left) (above : All (λ e. separator ≤ e.slice) right)
+      (first : HasSlots parted_one x left) (second : HasSlots (node_at nodes j) y right) where
+    abbrev joined_one : Shape
+    joined_one = record parted_one { slots = left ++ right }
+
+    -- the pairs of the three nodes
+    x_is : map_of (live_pairs trees x) ≡ map_of (filter_map (pair_in bytes) left)
+    x_is = pairs-live trees x (first.deleted ∙ live) (ap (λ t. (tree_at trees t).standing) first.tree ∙ tree_live)
+        ∙ (λ a. contents_of (tree_at trees (first.tree a)).prefix (first.slots a)) ∙ contents_of-is bytes left
+
+    y_is : map_of (live_pairs trees y) ≡ map_of (filter_map (pair_in bytes) right)
+    y_is = pairs-live trees y (second.deleted ∙ half.live) (ap (λ t. (tree_at trees t).standing) (second.tree ∙ half.tree) ∙ tree_live)
+        ∙ (λ a. contents_of (tree_at trees ((second.tree ∙ half.tree) a)).prefix (second.slots a)) ∙ contents_of-is bytes right
+
+    z_is : map_of (live_pairs trees joined_one) ≡ map_of (filter_map (pair_in bytes) left ++ filter_map (pair_in bytes) right)
+    z_is = pairs-live trees joined_one live tree_live ∙ contents_of-is bytes (left ++ right) ∙ ap map_of (filter_map-append (pair_in bytes) left right)
+
+    whole : (q : ℕ × Bytes) → get (map_of (live_pairs trees joined_one)) q ≡ option_or (get (map_of (live_pairs trees x)) q) (get (map_of (live_pairs trees y)) q)
+    whole q = ap (λ c. get c q) z_is ∙ get-append (filter_map (pair_in bytes) left) (filter_map (pair_in bytes) right) q ∙ (λ a. option_or (get (sym x_is a) q) (get (sym y_is a) q))
+
+    empty : (q : ℕ × Bytes) → HasNone trees nodes q j
+    empty q = ap (λ ps. get (map_of ps) q) (pairs-nil trees (node_at nodes j) half.empty) ∙ get-empty owned_cmp q
+
+    right_owns : (q : ℕ × Bytes) (row : Columns) → get (map_of (live_pairs trees y)) q ≡ Some row → Owns bytes right q
+    right_owns q row some = owns bytes right q row (ap (λ c. get c q) (sym y_is) ∙ some)
+
+    -- entries of the left half have other slices, and so other owners
+    left_apart : (q : ℕ × Bytes) → Owns bytes right q → All (IsApart bytes q) left
+    left_apart q o = All-from_get_or (IsApart bytes q) left any_entry (λ i inside p some same.
+        let this = All-left (λ d. (k : Bytes) × HasKey bytes layer d k) left right all_keys i any_entry inside in
+        let that = All-right (λ d. (k : Bytes) × HasKey bytes layer d k) left right all_keys o.place any_entry o.within in
+        let one : this.0 ≡ that.0 = owned_once this.0 that.0 this.1.of_tree.stored that.1.of_tree.stored
+        (sym (owned_at bytes layer (get_or left i any_entry) this.0 p this.1 some) ∙ same ∙ sym o.owner ∙ owned_at bytes layer (get_or right o.place any_entry) that.0 o.pair that.1 o.is) in
+        let slices : (get_or left i any_entry).slice ≡ (get_or right o.place any_entry).slice = this.1.slice ∙ ap (λ k. slice_of k layer) one ∙ sym that.1.slice in
+        omega (arith, slices, below i any_entry inside, above o.place any_entry o.within))
+
+    left_none : (q : ℕ × Bytes) (row : Columns) → get (map_of (live_pairs trees y)) q ≡ Some row → get (map_of (live_pairs trees x)) q ≡ None
+    left_none q row some = ap (λ c. get c q) (x_is ∙ sym (contents_of-is bytes left)) ∙ get-apart bytes q left (left_apart q (right_owns q row some))
+
+    others_none : (q : ℕ × Bytes) (row : Columns) → get (map_of (live_pairs trees y)) q ≡ Some row → (l : ℕ) → l < length nodes → l ≢ k → HasNone trees nodes q l
+    others_none q row some l lt differ =
+        let o = right_owns q row some in
+        subst (λ r. HasNone trees nodes r l) o.owner (All-right IsAlone left right all_alone o.place any_entry o.within o.pair o.is l lt differ)
+
+    -- to part the slots is for the contents as if they stood in one node
+    pub as_one : content trees (set (set nodes k x) j y) ≡ content trees (set nodes k joined_one)
+    as_one = parted trees nodes k j x y joined_one half.other within half.there whole empty left_none others_none
+
+-- a node of a live tree that is parted
+module _ (nodes : List Shape) (trees : List Tree) (arena : IsArena nodes trees) (begun : AreBegun nodes) (layer k j : ℕ) (within : k < length nodes) (live : (node_at nodes k).version.deleted ≡ false)
+    (tree_live : (tree_at trees (node_at nodes k).tree).standing ≡ Live) (half : IsUnfilled nodes k j) (keys : AreKeys (tree_at trees (node_at nodes k).tree).prefix layer (node_at nodes k).slots) where
+  abbrev was : Shape
+  was = node_at nodes k
+
+  abbrev start : Bytes
+  start = (tree_at trees was.tree).prefix
+
+  old_alone : All (IsAlone nodes trees layer k j within live tree_live half) was.slots
+  old_alone = All-from_get_or (IsAlone nodes trees layer k j within live tree_live half) was.slots any_entry (λ i inside p some l lt differ.
+      let own = keys i any_entry inside in
+      let at : StandsFor nodes trees own.0 layer k i p = record { there = within; live = live; tree_live = tree_live; in_range = inside; has = own.1; pair_is = some } in
+      subst (λ q. HasNone trees nodes q l) (sym (owned_at start layer (get_or was.slots i any_entry) own.0 p own.1 some)) (others nodes trees arena begun own.0 layer k i p at l lt differ))
+
+  module _ (x y : Shape) (left right : List Entry) (separator : ℕ) (first : HasSlots was x left) (second : HasSlots (node_at nodes j) y right) where
+    -- without a new key the contents stay
+    pub parted_as_were : IsParted was.slots left right separator → content trees (set (set nodes k x) j y) ≡ content trees nodes
+    parted_as_were parts =
+        as_one nodes trees layer k j within live tree_live half x y left right separator (subst (AreKeys start layer) (sym parts.joined) keys) (subst (All (IsAlone nodes trees layer k j within live tree_live half)) (sym parts.joined) old_alone) parts.below parts.above first second
+        ∙ stands_unchanged trees nodes k (record was { slots = left ++ right }) (record { slots = parts.joined; deleted = refl; tree = refl })
+
 -- a node that is parted and has one key more
 module _ (nodes : List Shape) (trees : List Tree) (arena : IsArena nodes trees) (begun : AreBegun nodes) (key : Bytes) (layer k j : ℕ) (in_k : BelongsIn nodes trees key layer k) (half : IsUnfilled nodes k j) where
   abbrev n : Shape
@@ -149,68 +233,19 @@ module _ (nodes : List Shape) (trees : List Tree) (arena : IsArena nodes trees) 
     keys : AreKeys begins layer n.slots
     keys = keys_of nodes trees arena begun key layer k in_k.border.there in_k.of_tree
 
-    all_keys : AreKeys begins layer (left ++ right)
-    all_keys = subst (AreKeys begins layer) (sym parts.joined) (keys-publish begins layer n.slots e key keys has)
+    abbrev IsOnly : Entry → Type 0
+    IsOnly = IsAlone nodes trees layer k j in_k.border.there in_k.border.live in_k.tree_live half
 
-    -- the owner of each entry is in no other node
-    abbrev IsAlone : Entry → Type 0
-    IsAlone d = (p : Pair) → pair_of d.held ≡ Some p → (l : ℕ) → l < length nodes → l ≢ k → HasNone trees nodes (owned (key_at begins d p)) l
-
-    old_alone : All IsAlone n.slots
-    old_alone = All-from_get_or IsAlone n.slots any_entry (λ i inside p some l lt differ.
-        let own = keys i any_entry inside in
-        let at : StandsFor nodes trees own.0 layer k i p = record { there = in_k.border.there; live = in_k.border.live; tree_live = in_k.tree_live; in_range = inside; has = own.1; pair_is = some } in
-        subst (λ q. HasNone trees nodes q l) (sym (owned_at begins layer (get_or n.slots i any_entry) own.0 p own.1 some)) (others nodes trees arena begun own.0 layer k i p at l lt differ))
-
-    new_alone : IsAlone e
+    new_alone : IsOnly e
     new_alone p some l lt differ =
         subst (λ q. HasNone trees nodes q l) (sym (owned_at begins layer e key p has some))
         (nodes_missing nodes trees arena begun key layer k in_k (missing_key begins layer n.slots e key has missing) l lt)
 
-    all_alone : All IsAlone (left ++ right)
-    all_alone = subst (All IsAlone) (sym parts.joined) (each-publish IsAlone n.slots e old_alone new_alone)
-
-    -- the pairs of the three nodes
-    x_is : map_of (live_pairs trees x) ≡ map_of (filter_map (pair_in begins) left)
-    x_is = pairs-live trees x (first.deleted ∙ in_k.border.live) (ap (λ t. (tree_at trees t).standing) first.tree ∙ in_k.tree_live)
-        ∙ (λ a. contents_of (tree_at trees (first.tree a)).prefix (first.slots a)) ∙ contents_of-is begins left
-
-    y_is : map_of (live_pairs trees y) ≡ map_of (filter_map (pair_in begins) right)
-    y_is = pairs-live trees y (second.deleted ∙ half.live) (ap (λ t. (tree_at trees t).standing) (second.tree ∙ half.tree) ∙ in_k.tree_live)
-        ∙ (λ a. contents_of (tree_at trees ((second.tree ∙ half.tree) a)).prefix (second.slots a)) ∙ contents_of-is begins right
-
-    z_is : map_of (live_pairs trees z) ≡ map_of (filter_map (pair_in begins) left ++ filter_map (pair_in begins) right)
-    z_is = pairs-live trees z in_k.border.live in_k.tree_live ∙ contents_of-is begins (left ++ right) ∙ ap map_of (filter_map-append (pair_in begins) left right)
-
-    whole : (q : ℕ × Bytes) → get (map_of (live_pairs trees z)) q ≡ option_or (get (map_of (live_pairs trees x)) q) (get (map_of (live_pairs trees y)) q)
-    whole q = ap (λ c. get c q) z_is ∙ get-append (filter_map (pair_in begins) left) (filter_map (pair_in begins) right) q ∙ (λ a. option_or (get (sym x_is a) q) (get (sym y_is a) q))
-
-    empty : (q : ℕ × Bytes) → HasNone trees nodes q j
-    empty q = ap (λ ps. get (map_of ps) q) (pairs-nil trees (node_at nodes j) half.empty) ∙ get-empty owned_cmp q
-
-    right_owns : (q : ℕ × Bytes) (row : Columns) → get (map_of (live_pairs trees y)) q ≡ Some row → Owns begins right q
-    right_owns q row some = owns begins right q row (ap (λ c. get c q) (sym y_is) ∙ some)
-
-    -- entries of the left half have other slices, and so other owners
-    left_apart : (q : ℕ × Bytes) → Owns begins right q → All (IsApart begins q) left
-    left_apart q o = All-from_get_or (IsApart begins q) left any_entry (λ i inside p some same.
-        let this = All-left (λ d. (k : Bytes) × HasKey begins layer d k) left right all_keys i any_entry inside in
-        let that = All-right (λ d. (k : Bytes) × HasKey begins layer d k) left right all_keys o.place any_entry o.within in
-        let one : this.0 ≡ that.0 = owned_once this.0 that.0 this.1.of_tree.stored that.1.of_tree.stored
-        (sym (owned_at begins layer (get_or left i any_entry) this.0 p this.1 some) ∙ same ∙ sym o.owner ∙ owned_at begins layer (get_or right o.place any_entry) that.0 o.pair that.1 o.is) in
-        let slices : (get_or left i any_entry).slice ≡ (get_or right o.place any_entry).slice = this.1.slice ∙ ap (λ k. slice_of k layer) one ∙ sym that.1.slice in
-        omega (arith, slices, parts.below i any_entry inside, parts.above o.place any_entry o.within))
-
-    left_none : (q : ℕ × Bytes) (row : Columns) → get (map_of (live_pairs trees y)) q ≡ Some row → get (map_of (live_pairs trees x)) q ≡ None
-    left_none q row some = ap (λ c. get c q) (x_is ∙ sym (contents_of-is begins left)) ∙ get-apart begins q left (left_apart q (right_owns q row some))
-
-    others_none : (q : ℕ × Bytes) (row : Columns) → get (map_of (live_pairs trees y)) q ≡ Some row → (l : ℕ) → l < length nodes → l ≢ k → HasNone trees nodes q l
-    others_none q row some l lt differ =
-        let o = right_owns q row some in
-        subst (λ r. HasNone trees nodes r l) o.owner (All-right IsAlone left right all_alone o.place any_entry o.within o.pair o.is l lt differ)
-
     -- to part a node with the key's entry in one of the halves inserts its pair
     pub halved : content trees (set (set nodes k x) j y) ≡ insert (content trees nodes) (owned key) pair.row
     halved =
-        parted trees nodes k j x y z half.other in_k.border.there half.there whole empty left_none others_none
+        as_one nodes trees layer k j in_k.border.there in_k.border.live in_k.tree_live half x y left right separator
+        (subst (AreKeys begins layer) (sym parts.joined) (keys-publish begins layer n.slots e key keys has))
+        (subst (All IsOnly) (sym parts.joined) (each-publish IsOnly n.slots e (old_alone nodes trees arena begun layer k j in_k.border.there in_k.border.live in_k.tree_live half keys) new_alone))
+        parts.below parts.above first second
         ∙ published nodes trees arena begun key layer k in_k z e pair has missing is (record { slots = parts.joined; deleted = refl; tree = refl })

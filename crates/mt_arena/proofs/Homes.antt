@@ -1,5 +1,5 @@
 -- Facts of trees and their nodes, where a node changes, or a node or a tree is added.
-use Rattle.std.proofs.Common.{◌≡◌, ◌≢◌, ℕ, ◌+◌, ◌<◌, ◌≤◌, List, [], ◌∷◌, ◌++◌, length, set, false, refl, sym, subst, ◌∙◌, inl, inr, arith, length-append}
+use Rattle.std.proofs.Common.{◌≡◌, ◌≢◌, ℕ, ◌+◌, ◌<◌, ◌≤◌, List, [], ◌∷◌, ◌++◌, length, set, Bool, true, false, None, refl, sym, subst, ◌∙◌, inl, inr, arith, length-append}
 use Rattle.std.proofs.lemmas.Bool.{cases_eq}
 use Rattle.std.proofs.lemmas.List.{length-set}
 use Rattle.mt_arena.specs.declared.tree.Tree.{Tree}
@@ -79,3 +79,14 @@ forest_push xs trees y forest there_is stands no_root keys =
       peers = forest.peers;
       top = forest.top;
     }
+
+-- a node that has a parent is no root
+pub no_root : (xs : List Shape) (trees : List Tree) (k : ℕ) → IsForest xs trees → k < length xs → (node_at xs k).version.deleted ≡ false → (node_at xs k).parent ≢ None → (node_at xs k).version.root ≡ false
+no_root xs trees k forest lt live some = by (node_at xs k).version.root refl
+  where
+    by : (b : Bool) → (node_at xs k).version.root ≡ b → (node_at xs k).version.root ≡ false
+    by false is = is
+    by true is =
+        let lt_t = forest.tree_there k lt in
+        let home = forest.homes k (node_at xs k).tree lt lt_t in
+        absurd (some ((home.root_is (home.root_named refl live is) (home.standing refl live)).parentless))

@@ -200,6 +200,7 @@ module _ (ws : List Shape) (i h k : ℕ) (p : Shape) (separators children : List
     next_level = λ e. absurd (let none = f.next in cc);
     next_live = λ e. absurd (let none = f.next in cc);
     previous_back = g.previous_back;
+    previous_live = g.previous_live;
     parent_knows = g.parent_knows;
     child = λ b lt e _. left_child m n g b lt e;
     apart = λ d tree level one also s hy hn. g.apart d tree level one also s (hy.0, omega (arith, hy.1, middle_high)) hn;
@@ -212,6 +213,7 @@ module _ (ws : List Shape) (i h k : ℕ) (p : Shape) (separators children : List
     next_level = g.next_level;
     next_live = g.next_live;
     previous_back = λ e _ free. absurd (held free);
+    previous_live = λ e _ free. absurd (held free);
     parent_knows = λ e _ free. absurd (held free);
     child = λ b lt e one.
         let c = g.child b lt e one in
@@ -227,6 +229,7 @@ module _ (ws : List Shape) (i h k : ℕ) (p : Shape) (separators children : List
     next_level = λ is. absurd (let none = f.right_next in cc);
     next_live = λ is. absurd (let none = f.right_next in cc);
     previous_back = e.previous_back;
+    previous_live = e.previous_live;
     parent_knows = e.parent_knows;
     child = λ b lt is _. right_child m n g b lt is;
     apart = λ d tree level _ also s hu hn. g.apart (λ same. ni (sym same)) (sym f.right_tree ∙ tree) (sym f.right_level ∙ level) live also s (omega (arith, hu.0, low_middle, f.right_low), hu.1) hn;
@@ -239,6 +242,7 @@ module _ (ws : List Shape) (i h k : ℕ) (p : Shape) (separators children : List
     next_level = e.next_level;
     next_live = e.next_live;
     previous_back = λ is _ free. absurd (f.right_held free);
+    previous_live = λ is _ free. absurd (f.right_held free);
     parent_knows = λ is _ free. absurd (f.right_held free);
     child = λ b lt is alive. absurd (omega (arith, child_ranges (length ws) n b t one lt (e.child b lt is alive), rw f.right_reach at (child_ranges (length ws) n b t one lt (e.child b lt is alive))));
     apart = λ d tree level alive _ s hn hu. g.apart ni (tree ∙ f.right_tree) (level ∙ f.right_level) alive live s hn (omega (arith, hu.0, low_middle, f.right_low), hu.1);
@@ -254,6 +258,7 @@ module _ (ws : List Shape) (i h k : ℕ) (p : Shape) (separators children : List
     next_level = λ is. absurd (let none = f.right_next in cc);
     next_live = λ is. absurd (let none = f.right_next in cc);
     previous_back = λ is _ free. absurd (f.right_held free);
+    previous_live = λ is _ free. absurd (f.right_held free);
     parent_knows = λ is _ free. absurd (f.right_held free);
     child = λ b lt is _. absurd (wide_child (suc k + b) (omega (arith, lt, right_count)) (sym (get_or-drop (suc k) children b 0) ∙ is));
     apart = λ d. absurd (d refl);
@@ -266,6 +271,7 @@ module _ (ws : List Shape) (i h k : ℕ) (p : Shape) (separators children : List
     next_level = λ is. absurd (let none = f.next in cc);
     next_live = λ is. absurd (let none = f.next in cc);
     previous_back = λ is _ free. absurd (f.right_held free);
+    previous_live = λ is _ free. absurd (f.right_held free);
     parent_knows = λ is _ free. absurd (f.right_held free);
     child = λ b lt is _.
         let small : b < suc k = omega (arith, lt, left_count) in
@@ -280,6 +286,7 @@ module _ (ws : List Shape) (i h k : ℕ) (p : Shape) (separators children : List
     next_level = λ is. absurd (let none = f.right_next in cc);
     next_live = λ is. absurd (let none = f.right_next in cc);
     previous_back = λ is _ free. absurd (held free);
+    previous_live = λ is _ free. absurd (held free);
     parent_knows = λ is _ free. absurd (held free);
     child = λ b lt is _. absurd (own_child (suc k + b) (omega (arith, lt, right_count)) (sym (get_or-drop (suc k) children b 0) ∙ is));
     apart = λ d tree level _ _ s hu hy. absurd (omega (arith, hy.1, hu.0, f.right_low));

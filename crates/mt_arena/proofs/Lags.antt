@@ -26,15 +26,15 @@ not_theirs op q old new were are i evolves other within holder e = other (same_S
 pub follows_before : (op q : ℕ) (old new : List Shape) (were are : List Tree) (i k : ℕ) → Evolves op old new were are → PointsOnly op old new → q ≢ op → i < length old → (node_at old i).holder ≡ Some q
     → Follows new i k → Follows old i k
 follows_before op q old new were are i k evolves points other within holder is = elim (cases_lt k (length old)) [
-  | inl was ↦ (was, points.previous k i was is.1 (not_theirs op q old new were are i evolves other within holder), alive _ _ (evolves.nodes k was).ages.deleted is.2)
-  | inr new_one ↦ absurd (not_theirs op q old new were are i evolves other within holder (points.new_previous k i (omega (arith, new_one)) is.0 is.1))
+  | inl was ↦ (was, points.previous k i was within is.1 (not_theirs op q old new were are i evolves other within holder), alive _ _ (evolves.nodes k was).ages.deleted is.2)
+  | inr new_one ↦ absurd (not_theirs op q old new were are i evolves other within holder (points.new_previous k i (omega (arith, new_one)) is.0 within is.1))
 ]
 
 pub under_before : (op q : ℕ) (old new : List Shape) (were are : List Tree) (i k : ℕ) → Evolves op old new were are → PointsOnly op old new → q ≢ op → i < length old → (node_at old i).holder ≡ Some q
     → IsUnder new i k → IsUnder old i k
 under_before op q old new were are i k evolves points other within holder is = elim (cases_lt k (length old)) [
-  | inl was ↦ (was, points.parent k i was is.1 (not_theirs op q old new were are i evolves other within holder), alive _ _ (evolves.nodes k was).ages.deleted is.2)
-  | inr new_one ↦ absurd (not_theirs op q old new were are i evolves other within holder (points.new_parent k i (omega (arith, new_one)) is.0 is.1))
+  | inl was ↦ (was, points.parent k i was within is.1 (not_theirs op q old new were are i evolves other within holder), alive _ _ (evolves.nodes k was).ages.deleted is.2)
+  | inr new_one ↦ absurd (not_theirs op q old new were are i evolves other within holder (points.new_parent k i (omega (arith, new_one)) is.0 within is.1))
 ]
 
 -- a live node in a list where one node is another
@@ -150,10 +150,11 @@ followers_of xs i x settled k is = settled.previous k is.0 is.1 is.2
 pub children_of : (xs : List Shape) (i : ℕ) (x : Shape) → IsSettled xs i x → AreChildren xs i x
 children_of xs i x settled k is = settled.parent k is.0 is.1 is.2
 
-pub settled_of : (xs : List Shape) (i : ℕ) (x : Shape) → AreFollowers xs i x.next → AreChildren xs i x → x.reach ≡ x.high → All (λ e. ¬ IsUnstable e.held) x.slots
+pub settled_of : (xs : List Shape) (i : ℕ) (x : Shape) → AreFollowers xs i x.next → ((k : ℕ) → Follows xs i k → x.version.deleted ≡ false) → AreChildren xs i x → x.reach ≡ x.high → All (λ e. ¬ IsUnstable e.held) x.slots
     → (x.version.deleted ≡ false → x.parent ≡ None → x.version.root ≡ true) → IsSettled xs i x
-settled_of xs i x followers children reach stable rooted = record {
+settled_of xs i x followers followed children reach stable rooted = record {
   previous = λ k lt e live. followers k (lt, e, live);
+  previous_live = λ k lt e live. followed k (lt, e, live);
   parent = λ k lt e live. children k (lt, e, live);
   reach = reach;
   stable = stable;

@@ -38,3 +38,13 @@ pub mod SettledEdits
 pub mod Unlink
 pub mod Lags
 pub mod HeldChanges
+pub mod SplitStep
+pub mod GrowStep
+pub mod Two
+pub mod Naming
+pub mod Halving
+pub mod Several
+pub mod Topping
+pub mod Inserting
+pub mod Parting
+pub mod Levels

@@ -1,5 +1,7 @@
 -- A lock is taken or given back, or a mark is set.
-use Rattle.std.proofs.Common.{◌≡◌, ◌≢◌, ℕ, ◌<◌, List, length, set, Some, None, refl, sym, ◌∙◌, arith}
+use Rattle.std.proofs.Common.{◌≡◌, ◌≢◌, ℕ, ◌<◌, List, length, set, false, Option, Some, None, refl, sym, ap, ◌∙◌, arith}
+use Rattle.mt_interior.specs.Fences.{end_of}
+use Rattle.mt_arena.specs.Nodes.{HasRange}
 use Rattle.std.proofs.lemmas.Option.{same_Some}
 use Rattle.mt_version.proofs.Aging.{ages-locked, ages-unlocked, ages-marked_splitting}
 use Rattle.mt_arena.specs.Settled.{IsSettled}
@@ -8,7 +10,7 @@ use Rattle.mt_arena.specs.declared.retired.Retired.{Retired}
 use Rattle.mt_arena.specs.Shape.{Shape, node_at}
 use Rattle.mt_arena.specs.Evolves.{Changes}
 use Rattle.mt_arena.specs.Edits.{locked, unlocked, splitting}
-use Rattle.mt_arena.specs.Arena.{Sound, View, IsStep}
+use Rattle.mt_arena.specs.Arena.{IsArena, Sound, View, IsStep}
 use Rattle.mt_arena.specs.Accesses.{at, IsOpen, with_node}
 use Rattle.mt_arena.proofs.Quiet.{nodes_locked, nodes_splitting}
 use Rattle.mt_arena.proofs.Ranged.{ranged_turned}
@@ -19,7 +21,7 @@ use Rattle.mt_arena.proofs.Steps.{sound_set, keys_of, step_set}
 pub sound_locked : (xs : List Shape) (trees : List Tree) (gone : List Retired) (room i op : ℕ) → i < length xs → Sound xs trees gone room → Sound (set xs i (locked (node_at xs i) op)) trees gone room
 sound_locked xs trees gone room i op within sound =
     let x = node_at xs i in
-    sound_set xs trees gone room i (locked x op) within sound (nodes_locked xs i op within sound.arena.nodes) (ranged_turned xs i x.slots (locked x op).version (Some op) within sound.arena.ranged)
+    sound_set xs trees gone room i (locked x op) within sound (nodes_locked xs i op within sound.arena.nodes) (ranged_turned xs i x.slots (locked x op).version (Some op) within sound.arena.ranged (sound.arena.ranged i within).unmarked)
     record { tree = refl; deleted = refl; flag = refl; root = λ r. record { live = r.live; flag = r.flag; parentless = r.parentless; low = r.low; reach = r.reach } }
     (keys_of xs trees i within sound.arena.forest)
     record { tree = refl; deleted = refl; forth = same_links x.slots; back = same_links x.slots }
@@ -41,11 +43,23 @@ pub step_locked : (v : View) (i op : ℕ) → i < length v.nodes → (at v i).ho
 step_locked v i op within free mine =
     step_set op v i (locked (at v i) op) within (changes_locked op (at v i) free) mine record { previous = λ j e not_mine. e; parent = λ j e not_mine. e }
 
+-- a live node behind which nothing lags has a range: it has a parent, or is a root
+settled_range : (xs : List Shape) (trees : List Tree) (i : ℕ) → i < length xs → IsArena xs trees → IsSettled xs i (node_at xs i) → (node_at xs i).version.deleted ≡ false → HasRange (node_at xs i)
+settled_range xs trees i within arena settled live = by (node_at xs i).parent refl
+  where
+    by : (p : Option ℕ) → (node_at xs i).parent ≡ p → HasRange (node_at xs i)
+    by (Some p) is = (arena.ranged i within).parent (λ none. absurd (let both = sym is ∙ none in cc))
+    by None is =
+        let x = node_at xs i in
+        let home = arena.forest.homes i x.tree within (arena.forest.tree_there i within) in
+        let root = home.root_is (home.root_named refl live (settled.rooted live is)) (home.standing refl live) in
+        omega (arith, root.low, ap end_of (sym settled.reach ∙ root.reach))
+
 -- a lock is given back
 pub sound_unlocked : (xs : List Shape) (trees : List Tree) (gone : List Retired) (room i : ℕ) → i < length xs → Sound xs trees gone room → IsSettled xs i (node_at xs i) → Sound (set xs i (unlocked (node_at xs i))) trees gone room
 sound_unlocked xs trees gone room i within sound settled =
     let x = node_at xs i in
-    sound_set xs trees gone room i (unlocked x) within sound (nodes_unlocked xs i within sound.arena.nodes settled) (ranged_turned xs i x.slots (unlocked x).version None within sound.arena.ranged)
+    sound_set xs trees gone room i (unlocked x) within sound (nodes_unlocked xs i within sound.arena.nodes settled) (ranged_turned xs i x.slots (unlocked x).version None within sound.arena.ranged (λ whole live. settled_range xs trees i within sound.arena settled live))
     record { tree = refl; deleted = refl; flag = refl; root = λ r. record { live = r.live; flag = r.flag; parentless = r.parentless; low = r.low; reach = r.reach } }
     (keys_of xs trees i within sound.arena.forest)
     record { tree = refl; deleted = refl; forth = same_links x.slots; back = same_links x.slots }
@@ -75,7 +89,7 @@ step_unlocked v i op within held mine =
 pub sound_splitting : (xs : List Shape) (trees : List Tree) (gone : List Retired) (room i : ℕ) → i < length xs → Sound xs trees gone room → (node_at xs i).holder ≢ None → Sound (set xs i (splitting (node_at xs i))) trees gone room
 sound_splitting xs trees gone room i within sound held =
     let x = node_at xs i in
-    sound_set xs trees gone room i (splitting x) within sound (nodes_splitting xs i within sound.arena.nodes held) (ranged_turned xs i x.slots (splitting x).version x.holder within sound.arena.ranged)
+    sound_set xs trees gone room i (splitting x) within sound (nodes_splitting xs i within sound.arena.nodes held) (ranged_turned xs i x.slots (splitting x).version x.holder within sound.arena.ranged (λ whole live. absurd (cc)))
     record { tree = refl; deleted = refl; flag = refl; root = λ r. record { live = r.live; flag = r.flag; parentless = r.parentless; low = r.low; reach = r.reach } }
     (keys_of xs trees i within sound.arena.forest)
     record { tree = refl; deleted = refl; forth = same_links x.slots; back = same_links x.slots }

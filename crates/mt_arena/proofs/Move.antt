@@ -97,6 +97,7 @@ module _ (xs : List Shape) (i j : ℕ) (kept moved : List Entry) (nodes : AreNod
     next_level = λ e. absurd (other (sym (same_Some _ _ e)));
     next_live = λ e. absurd (other (sym (same_Some _ _ e)));
     previous_back = p.previous_back;
+    previous_live = p.previous_live;
     parent_knows = p.parent_knows;
     child = λ a lt. absurd (no_child a lt);
     apart = λ d t l live also s hy hm. p.apart d t l live also s (hy.0, omega (arith, hy.1, splits.below)) hm;
@@ -109,6 +110,7 @@ module _ (xs : List Shape) (i j : ℕ) (kept moved : List Entry) (nodes : AreNod
     next_level = p.next_level;
     next_live = p.next_live;
     previous_back = λ e live free. absurd (splits.held free);
+    previous_live = λ e live free. absurd (splits.held free);
     parent_knows = λ e live free. absurd (splits.held free);
     child = λ a lt e live.
         let c = p.child a lt e live in
@@ -124,6 +126,7 @@ module _ (xs : List Shape) (i j : ℕ) (kept moved : List Entry) (nodes : AreNod
     next_level = λ e. p.next_level e ∙ sym splits.right_level;
     next_live = λ e _. p.next_live e splits.live;
     previous_back = λ e. absurd (other (sym (same_Some _ _ e)));
+    previous_live = λ e. absurd (other (sym (same_Some _ _ e)));
     parent_knows = q.parent_knows;
     child = λ a lt. absurd (no_right_child a lt);
     apart = λ d t l _ also s hz hm. p.apart (λ e. other (sym e)) (sym splits.right_tree ∙ t) (sym splits.right_level ∙ l) splits.live also s (omega (arith, hz.0, splits.above), hz.1) hm;
@@ -136,6 +139,7 @@ module _ (xs : List Shape) (i j : ℕ) (kept moved : List Entry) (nodes : AreNod
     next_level = q.next_level;
     next_live = q.next_live;
     previous_back = λ e live free. absurd (splits.right_held free);
+    previous_live = λ e live free. absurd (splits.right_held free);
     parent_knows = λ e live free. absurd (splits.right_held free);
     child = λ a lt e live. absurd (omega (arith, child_ranges (length xs) m a r one lt (q.child a lt e live), rw splits.right_reach at (child_ranges (length xs) m a r one lt (q.child a lt e live))));
     apart = λ d t l live _ s hm hz. p.apart other (t ∙ splits.right_tree) (l ∙ splits.right_level) live splits.live s hm (omega (arith, hz.0, splits.above), hz.1);
@@ -149,6 +153,7 @@ module _ (xs : List Shape) (i j : ℕ) (kept moved : List Entry) (nodes : AreNod
     next_level = λ e. splits.right_level;
     next_live = λ e live. splits.right_live;
     previous_back = λ e live free. absurd (splits.right_held free);
+    previous_live = λ e live free. absurd (splits.right_held free);
     parent_knows = λ e live free. absurd (splits.right_held free);
     child = λ a lt. absurd (no_child a lt);
     apart = λ d t l live also s hy hz. absurd (omega (arith, hy.1, hz.0));
@@ -161,6 +166,7 @@ module _ (xs : List Shape) (i j : ℕ) (kept moved : List Entry) (nodes : AreNod
     next_level = λ e. sym splits.right_level;
     next_live = λ e _. splits.live;
     previous_back = λ e live free. absurd (splits.held free);
+    previous_live = λ e live free. absurd (splits.held free);
     parent_knows = λ e live free. absurd (splits.held free);
     child = λ a lt. absurd (no_right_child a lt);
     apart = λ d t l live also s hz hy. absurd (omega (arith, hy.1, hz.0));
@@ -173,6 +179,7 @@ module _ (xs : List Shape) (i j : ℕ) (kept moved : List Entry) (nodes : AreNod
     next_level = λ e. refl;
     next_live = λ e live. live;
     previous_back = λ e live free. absurd (splits.right_held free);
+    previous_live = λ e live free. absurd (splits.right_held free);
     parent_knows = λ e live free. absurd (splits.right_held free);
     child = λ a lt. absurd (no_right_child a lt);
     apart = λ d. absurd (d refl);

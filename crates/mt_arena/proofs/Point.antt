@@ -13,6 +13,7 @@ pointed_to k n j m previous parent h stays = record {
   next_level = h.next_level;
   next_live = h.next_live;
   previous_back = h.previous_back;
+  previous_live = h.previous_live;
   parent_knows = λ e live free.
       let c = h.parent_knows e live free in
       record { live = c.live; place = c.place; in_range = c.in_range; is = c.is };
@@ -33,6 +34,10 @@ pointed_from k n j m previous parent h back up = record {
   next_live = h.next_live;
   previous_back = λ e live free. elim (back e) [
     | inl was ↦ h.previous_back was live free
+    | inr held ↦ absurd (held free)
+  ];
+  previous_live = λ e live free. elim (back e) [
+    | inl was ↦ h.previous_live was live free
     | inr held ↦ absurd (held free)
   ];
   parent_knows = λ e live free. elim (up e) [

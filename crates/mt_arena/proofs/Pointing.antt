@@ -27,8 +27,8 @@ sound_pointed xs trees gone room i previous parent within sound points no_root r
     (keys_of xs trees i within sound.arena.forest)
     record { tree = refl; deleted = refl; forth = same_links x.slots; back = same_links x.slots }
 
-changes_pointed : (op : ℕ) (x : Shape) (previous parent : Option ℕ) → (parent ≡ None → x.parent ≡ None) → Changes op x (pointed x previous parent)
-changes_pointed op x previous parent stays = record {
+changes_pointed : (op : ℕ) (x : Shape) (previous parent : Option ℕ) → (parent ≡ None → x.parent ≡ None) → ((q : ℕ) → q ≢ op → x.holder ≡ Some q → x.parent ≡ None → parent ≡ None) → Changes op x (pointed x previous parent)
+changes_pointed op x previous parent stays first = record {
   tree = refl;
   level = refl;
   low = refl;
@@ -36,7 +36,7 @@ changes_pointed op x previous parent stays = record {
   peopled = λ some. some;
   widens = λ same whole live. omega arith;
   keys = λ range insertion whole still. record { slots = refl; separators = refl; children = refl };
-  held = λ q other e. record { holder = refl; version = refl; slots = refl; separators = refl; children = refl; next = refl; high = refl; reach = refl; parented = λ some none. some (stays none) };
+  held = λ q other e. record { holder = refl; version = refl; slots = refl; separators = refl; children = refl; next = refl; high = refl; reach = refl; parented = λ some none. some (stays none); orphaned = first q other e };
   taken = λ q other e. e;
 }
 
@@ -58,10 +58,10 @@ own_or_old op nodes was is j own e not_mine = elim (own.names j e) [
 ]
 
 pub step_pointed : (v : View) (i op : ℕ) (previous parent : Option ℕ) → i < length v.nodes → IsOpen v i op → NamesOwn op v.nodes (at v i).previous previous → NamesOwn op v.nodes (at v i).parent parent
-    → (parent ≡ None → (at v i).parent ≡ None) → IsStep op v (with_node v i (pointed (at v i) previous parent))
-step_pointed v i op previous parent within mine before above stays =
+    → (parent ≡ None → (at v i).parent ≡ None) → ((q : ℕ) → q ≢ op → (at v i).holder ≡ Some q → (at v i).parent ≡ None → parent ≡ None) → IsStep op v (with_node v i (pointed (at v i) previous parent))
+step_pointed v i op previous parent within mine before above stays first =
     let x = at v i in
-    step_set op v i (pointed x previous parent) within (changes_pointed op x previous parent stays) mine record {
+    step_set op v i (pointed x previous parent) within (changes_pointed op x previous parent stays first) mine record {
       previous = λ j e not_mine. own_or_old op v.nodes x.previous previous j before e (λ held. not_mine (holder_pointed v.nodes i j previous parent within ∙ held));
       parent = λ j e not_mine. own_or_old op v.nodes x.parent parent j above e (λ held. not_mine (holder_pointed v.nodes i j previous parent within ∙ held));
     }
@@ -88,7 +88,7 @@ sound_previous xs trees gone room i k op within inside held sound =
 
 pub step_previous : (v : View) (i k op : ℕ) → i < length v.nodes → (at v k).holder ≡ Some op → IsOpen v i op → IsStep op v (with_node v i (pointed (at v i) (Some k) (at v i).parent))
 step_previous v i k op within held mine =
-    step_pointed v i op (Some k) (at v i).parent within mine (names_own op v.nodes (at v i).previous k held) (names_same op v.nodes (at v i).parent) (λ none. none)
+    step_pointed v i op (Some k) (at v i).parent within mine (names_own op v.nodes (at v i).previous k held) (names_same op v.nodes (at v i).parent) (λ none. none) (λ q other e none. none)
 
 -- the parent of a node that is no root is one that the operation holds
 pub sound_parent : (xs : List Shape) (trees : List Tree) (gone : List Retired) (room i k op : ℕ) → i < length xs → k < length xs → (node_at xs k).holder ≡ Some op → Sound xs trees gone room
@@ -104,6 +104,6 @@ sound_parent xs trees gone room i k op within inside held sound no_root range =
       parent_stays = λ none. absurd (cc);
     } (λ root. absurd (cc)) (λ some. range)
 
-pub step_parent : (v : View) (i k op : ℕ) → i < length v.nodes → (at v k).holder ≡ Some op → IsOpen v i op → IsStep op v (with_node v i (pointed (at v i) (at v i).previous (Some k)))
-step_parent v i k op within held mine =
-    step_pointed v i op (at v i).previous (Some k) within mine (names_same op v.nodes (at v i).previous) (names_own op v.nodes (at v i).parent k held) (λ none. absurd (cc))
+pub step_parent : (v : View) (i k op : ℕ) → i < length v.nodes → (at v k).holder ≡ Some op → IsOpen v i op → ((q : ℕ) → (at v i).holder ≡ Some q → q ≢ op → (at v i).parent ≢ None) → IsStep op v (with_node v i (pointed (at v i) (at v i).previous (Some k)))
+step_parent v i k op within held mine theirs =
+    step_pointed v i op (at v i).previous (Some k) within mine (names_same op v.nodes (at v i).previous) (names_own op v.nodes (at v i).parent k held) (λ none. absurd (cc)) (λ q other e none. absurd (theirs q e other none))

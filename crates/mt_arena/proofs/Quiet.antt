@@ -17,6 +17,7 @@ turned_from k n j m slots version holder h same = record {
   next_level = h.next_level;
   next_live = λ e live. h.next_live e (sym same ∙ live);
   previous_back = λ e live free. h.previous_back e (sym same ∙ live) free;
+  previous_live = λ e live free. h.previous_live e (sym same ∙ live) free;
   parent_knows = λ e live free. h.parent_knows e (sym same ∙ live) free;
   child = λ i lt e live.
       let c = h.child i lt e (sym same ∙ live) in
@@ -38,6 +39,7 @@ turned_to k n j m slots version holder h same held = record {
   next_level = h.next_level;
   next_live = λ e live. same ∙ h.next_live e live;
   previous_back = λ e live free. h.previous_back e live (was_free m.holder holder held free);
+  previous_live = λ e live free. same ∙ h.previous_live e live (was_free m.holder holder held free);
   parent_knows = λ e live free.
       let c = h.parent_knows e live (was_free m.holder holder held free) in
       record { live = same ∙ c.live; place = c.place; in_range = c.in_range; is = c.is };

@@ -1,5 +1,5 @@
 -- Nodes keep their ranges through each edit.
-use Rattle.std.proofs.Common.{◌≢◌, ℕ, ◌<◌, List, [], ◌∷◌, ◌++◌, length, Option, None, set, refl, ap, arith}
+use Rattle.std.proofs.Common.{◌≡◌, ◌≢◌, false, ℕ, ◌<◌, List, [], ◌∷◌, ◌++◌, length, Option, None, set, refl, ap, arith}
 use Rattle.mt_version.specs.Parts.{Parts}
 use Rattle.mt_border.specs.declared.entry.Entry.{Entry}
 use Rattle.mt_interior.specs.Fences.{end_of}
@@ -14,10 +14,12 @@ use Rattle.mt_arena.proofs.Pairs.{nodes_set, nodes_push}
 use Rattle.std.proofs.lemmas.List.{length-set}
 
 -- other slots, another version and another holder: locked, unlocked, marked and retired nodes too
-pub ranged_turned : (xs : List Shape) (i : ℕ) (slots : List Entry) (version : Parts) (holder : Option ℕ) → i < length xs → AreRanged xs → AreRanged (set xs i (turned (node_at xs i) slots version holder))
-ranged_turned xs i slots version holder within ranged = nodes_set IsRanged xs i (turned (node_at xs i) slots version holder) within ranged record {
+pub ranged_turned : (xs : List Shape) (i : ℕ) (slots : List Entry) (version : Parts) (holder : Option ℕ) → i < length xs → AreRanged xs → (version.splitting ≡ false → version.deleted ≡ false → HasRange (node_at xs i))
+    → AreRanged (set xs i (turned (node_at xs i) slots version holder))
+ranged_turned xs i slots version holder within ranged unmarked = nodes_set IsRanged xs i (turned (node_at xs i) slots version holder) within ranged record {
   next = (ranged i within).next;
   parent = (ranged i within).parent;
+  unmarked = unmarked;
 }
 
 -- another node before it and another parent: only a node with a range comes to have one
@@ -25,14 +27,15 @@ pub ranged_pointed : (xs : List Shape) (i : ℕ) (previous parent : Option ℕ) 
 ranged_pointed xs i previous parent within ranged range = nodes_set IsRanged xs i (pointed (node_at xs i) previous parent) within ranged record {
   next = (ranged i within).next;
   parent = range;
+  unmarked = (ranged i within).unmarked;
 }
 
 -- one node more
 pub ranged_half : (xs : List Shape) (n : Shape) (low op : ℕ) → AreRanged xs → AreRanged (xs ++ fresh_half n low op ∷ [])
-ranged_half xs n low op ranged = nodes_push IsRanged xs (fresh_half n low op) ranged record { next = λ some. absurd (some refl); parent = λ some. absurd (some refl) }
+ranged_half xs n low op ranged = nodes_push IsRanged xs (fresh_half n low op) ranged record { next = λ some. absurd (some refl); parent = λ some. absurd (some refl); unmarked = λ whole live. absurd (cc) }
 
 pub ranged_root : (xs : List Shape) (tree : ℕ) → AreRanged xs → AreRanged (xs ++ fresh_root tree ∷ [])
-ranged_root xs tree ranged = nodes_push IsRanged xs (fresh_root tree) ranged record { next = λ some. absurd (some refl); parent = λ some. absurd (some refl) }
+ranged_root xs tree ranged = nodes_push IsRanged xs (fresh_root tree) ranged record { next = λ some. absurd (some refl); parent = λ some. absurd (some refl); unmarked = λ whole live. omega arith }
 
 -- both halves of a split have a range
 pub ranged_split_move : (xs : List Shape) (i j : ℕ) (kept moved : List Entry) → i < length xs → j < length xs → AreRanged xs → Splits (node_at xs i) (node_at xs j) kept moved
@@ -40,16 +43,16 @@ pub ranged_split_move : (xs : List Shape) (i j : ℕ) (kept moved : List Entry) 
 ranged_split_move xs i j kept moved li lj ranged splits =
     let y = left_half (node_at xs i) kept (node_at xs j).low j in
     nodes_set IsRanged (set xs i y) j (right_half (node_at xs i) (node_at xs j) moved i) (omega (arith, lj, length-set xs i y))
-    (nodes_set IsRanged xs i y li ranged (record { next = λ some. splits.above; parent = λ some. splits.above }))
-    (record { next = λ some. splits.below; parent = λ some. splits.below })
+    (nodes_set IsRanged xs i y li ranged (record { next = λ some. splits.above; parent = λ some. splits.above; unmarked = λ whole live. splits.above }))
+    (record { next = λ some. splits.below; parent = λ some. splits.below; unmarked = λ whole live. splits.below })
 
 -- a right half that comes to stand in the parent changes no range
 pub ranged_insert_child : (xs : List Shape) (i j q : ℕ) → AreRanged xs → Inserts xs i j q → AreRanged (set (set xs i (with_child (node_at xs i) (node_at xs q).low q)) j (exact (node_at xs j)))
 ranged_insert_child xs i j q ranged f =
     let y = with_child (node_at xs i) (node_at xs q).low q in
     nodes_set IsRanged (set xs i y) j (exact (node_at xs j)) (omega (arith, f.left_there, length-set xs i y))
-    (nodes_set IsRanged xs i y f.parent_there ranged (record { next = (ranged i f.parent_there).next; parent = (ranged i f.parent_there).parent }))
-    (record { next = (ranged j f.left_there).next; parent = (ranged j f.left_there).parent })
+    (nodes_set IsRanged xs i y f.parent_there ranged (record { next = (ranged i f.parent_there).next; parent = (ranged i f.parent_there).parent; unmarked = (ranged i f.parent_there).unmarked }))
+    (record { next = (ranged j f.left_there).next; parent = (ranged j f.left_there).parent; unmarked = (ranged j f.left_there).unmarked })
 
 -- the halves of a root have one each
 pub ranged_root_grow : (xs : List Shape) (i j op : ℕ) → AreRanged xs → Grows xs i j
@@ -60,9 +63,9 @@ ranged_root_grow xs i j op ranged f =
     let g = fresh_top (node_at xs i) i (node_at xs j).low j op in
     nodes_push IsRanged (set (set xs i y) j z) g
     (nodes_set IsRanged (set xs i y) j z (omega (arith, f.right_there, length-set xs i y))
-    (nodes_set IsRanged xs i y f.left_there ranged (record { next = (ranged i f.left_there).next; parent = λ some. omega (arith, f.left_low, f.above, ap end_of f.fence) }))
-    (record { next = (ranged j f.right_there).next; parent = λ some. omega (arith, f.below, ap end_of f.right_high) }))
-    (record { next = λ some. absurd (some refl); parent = λ some. absurd (some refl) })
+    (nodes_set IsRanged xs i y f.left_there ranged (record { next = (ranged i f.left_there).next; parent = λ some. omega (arith, f.left_low, f.above, ap end_of f.fence); unmarked = (ranged i f.left_there).unmarked }))
+    (record { next = (ranged j f.right_there).next; parent = λ some. omega (arith, f.below, ap end_of f.right_high); unmarked = (ranged j f.right_there).unmarked }))
+    (record { next = λ some. absurd (some refl); parent = λ some. absurd (some refl); unmarked = λ whole live. omega arith })
 
 -- the left neighbour of a node that is taken out ends where that ended
 pub ranged_unlinked : (xs : List Shape) (i j q a : ℕ) → AreNodes xs → AreRanged xs → Unlinks xs i j q a
@@ -79,9 +82,9 @@ ranged_unlinked xs i j q a nodes ranged f =
     let range : HasRange y = omega (arith, (ranged i f.left_there).next some, (ranged j f.removed_there).parent old.knows, ap end_of ((nodes.pairs i j f.left_there f.removed_there).next_follows f.next)) in
     nodes_set IsRanged (set (set xs i y) j (retired x)) q (without_child p a) (omega (arith, f.parent_there, size, size2))
     (nodes_set IsRanged (set xs i y) j (retired x) (omega (arith, f.removed_there, size))
-    (nodes_set IsRanged xs i y f.left_there ranged (record { next = λ e. range; parent = λ e. range }))
-    (record { next = (ranged j f.removed_there).next; parent = (ranged j f.removed_there).parent }))
-    (record { next = (ranged q f.parent_there).next; parent = (ranged q f.parent_there).parent })
+    (nodes_set IsRanged xs i y f.left_there ranged (record { next = λ e. range; parent = λ e. range; unmarked = λ whole live. range }))
+    (record { next = (ranged j f.removed_there).next; parent = (ranged j f.removed_there).parent; unmarked = λ whole live. absurd (cc) }))
+    (record { next = (ranged q f.parent_there).next; parent = (ranged q f.parent_there).parent; unmarked = (ranged q f.parent_there).unmarked })
 
 -- so do those of an interior node that is parted
 pub ranged_parted : (xs : List Shape) (i j q h : ℕ) → AreRanged xs → Inserts xs i j q → h < length xs
@@ -95,6 +98,6 @@ ranged_parted xs i j q h ranged f lh left right =
     let size2 = length-set (set xs i y) j z in
     nodes_set IsRanged (set (set xs i y) j z) h (inner_right wide (node_at xs h)) (omega (arith, lh, size, size2))
     (nodes_set IsRanged (set xs i y) j z (omega (arith, f.left_there, size))
-    (nodes_set IsRanged xs i y f.parent_there ranged (record { next = λ some. left; parent = λ some. left }))
-    (record { next = (ranged j f.left_there).next; parent = (ranged j f.left_there).parent }))
-    (record { next = λ some. right; parent = λ some. right })
+    (nodes_set IsRanged xs i y f.parent_there ranged (record { next = λ some. left; parent = λ some. left; unmarked = λ whole live. left }))
+    (record { next = (ranged j f.left_there).next; parent = (ranged j f.left_there).parent; unmarked = (ranged j f.left_there).unmarked }))
+    (record { next = λ some. right; parent = λ some. right; unmarked = λ whole live. right })

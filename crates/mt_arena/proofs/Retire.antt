@@ -13,6 +13,7 @@ retired_from k n j m h = record {
   next_level = h.next_level;
   next_live = λ e live. absurd (cc);
   previous_back = λ e live. absurd (cc);
+  previous_live = λ e live. absurd (cc);
   parent_knows = λ e live. absurd (cc);
   child = λ i lt e live. absurd (cc);
   apart = λ differ tree level live. absurd (cc);
@@ -26,6 +27,7 @@ retired_to nodes k i x within held left h = record {
   next_level = h.next_level;
   next_live = λ e live. absurd (let dead = left.nobodys_next k within e in cc);
   previous_back = λ e live free. absurd (held free);
+  previous_live = λ e live free. absurd (held free);
   parent_knows = λ e live free. absurd (held free);
   child = λ a lt e live. absurd (let dead = left.nobodys_child k a within lt e in cc);
   apart = λ differ tree level live also. absurd (cc);

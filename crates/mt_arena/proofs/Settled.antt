@@ -37,19 +37,23 @@ settled_stays op q old new were are i evolves points other within holder settled
     = λ k lt live. alive _ _ (evolves.nodes k lt).ages.deleted live in
     record {
       previous = λ k lt e live. elim (cases_lt k (length old)) [
-        | inl was ↦ kept.next ∙ settled.previous k was (points.previous k i was e not_mine) (live_before k was live)
-        | inr new_one ↦ absurd (not_mine (points.new_previous k i (omega (arith, new_one)) lt e))
+        | inl was ↦ kept.next ∙ settled.previous k was (points.previous k i was within e not_mine) (live_before k was live)
+        | inr new_one ↦ absurd (not_mine (points.new_previous k i (omega (arith, new_one)) lt within e))
+      ];
+      previous_live = λ k lt e live. elim (cases_lt k (length old)) [
+        | inl was ↦ ap (λ (v : Parts). v.deleted) kept.version ∙ settled.previous_live k was (points.previous k i was within e not_mine) (live_before k was live)
+        | inr new_one ↦ absurd (not_mine (points.new_previous k i (omega (arith, new_one)) lt within e))
       ];
       parent = λ k lt e live. elim (cases_lt k (length old)) [
         | inl was ↦
-            let c = settled.parent k was (points.parent k i was e not_mine) (live_before k was live) in
+            let c = settled.parent k was (points.parent k i was within e not_mine) (live_before k was live) in
             record {
               live = ap (λ (v : Parts). v.deleted) kept.version ∙ c.live;
               place = c.place;
               in_range = subst (λ cs. c.place < length cs) (sym kept.children) c.in_range;
               is = ap (λ cs. get_or cs c.place 0) kept.children ∙ c.is;
             }
-        | inr new_one ↦ absurd (not_mine (points.new_parent k i (omega (arith, new_one)) lt e))
+        | inr new_one ↦ absurd (not_mine (points.new_parent k i (omega (arith, new_one)) lt within e))
       ];
       reach = kept.reach ∙ settled.reach ∙ sym kept.high;
       stable = subst (λ (slots : List Entry). All (λ (e : Entry). ¬ IsUnstable e.held) slots) (sym kept.slots) settled.stable;
@@ -63,6 +67,7 @@ settled_free xs i within nodes free =
     let h = nodes.each i within in
     record {
       previous = λ k lt e live. (nodes.pairs k i lt within).previous_back e live free;
+      previous_live = λ k lt e live. (nodes.pairs k i lt within).previous_live e live free;
       parent = λ k lt e live. (nodes.pairs k i lt within).parent_knows e live free;
       reach = h.reach_exact (not_true x.version.splitting (λ marked. h.splitting_held marked free));
       stable = h.unstable_held free;

@@ -12,15 +12,19 @@ use Rattle.mt_arena.proofs.Settled.{settled_free}
 
 -- another node changes: it comes to name this one only where this one leads to it
 pub settled_beside : (xs : List Shape) (i k : ℕ) (y : Shape) → k < length xs → i ≢ k → IsSettled xs i (node_at xs i)
-    → (y.previous ≡ Some i → y.version.deleted ≡ false → (node_at xs i).next ≡ Some k) → (y.parent ≡ Some i → y.version.deleted ≡ false → HasChild (node_at xs i) k)
+    → (y.previous ≡ Some i → y.version.deleted ≡ false → (node_at xs i).next ≡ Some k) → (y.previous ≡ Some i → y.version.deleted ≡ false → (node_at xs i).version.deleted ≡ false) → (y.parent ≡ Some i → y.version.deleted ≡ false → HasChild (node_at xs i) k)
     → IsSettled (set xs k y) i (node_at (set xs k y) i)
-settled_beside xs i k y within differ settled back up =
+settled_beside xs i k y within differ settled back back_live up =
     let ys = set xs k y in
     let size = length-set xs k y in
     subst (λ (w : Shape). IsSettled ys i w) (sym (there xs k i y differ)) (record {
       previous = λ j lt. elim (cases_eq j k) [
         | inl same ↦ rw (same, here xs k y within) back
         | inr other ↦ rw (there xs k j y other) (settled.previous j (omega (arith, lt, size)))
+      ];
+      previous_live = λ j lt. elim (cases_eq j k) [
+        | inl same ↦ rw (same, here xs k y within) back_live
+        | inr other ↦ rw (there xs k j y other) (settled.previous_live j (omega (arith, lt, size)))
       ];
       parent = λ j lt. elim (cases_eq j k) [
         | inl same ↦ rw (same, here xs k y within) up
@@ -59,6 +63,10 @@ settled_self xs i y within settled keeps stable =
         | inl same ↦ rw (same, here xs i y within) (λ e live. keeps.next ∙ settled.previous i within (sym keeps.previous ∙ e) (sym keeps.deleted ∙ live))
         | inr other ↦ rw (there xs i j y other) (λ e live. keeps.next ∙ settled.previous j (omega (arith, lt, size)) e live)
       ];
+      previous_live = λ j lt. elim (cases_eq j i) [
+        | inl same ↦ rw (same, here xs i y within) (λ e live. live)
+        | inr other ↦ rw (there xs i j y other) (λ e live. keeps.deleted ∙ settled.previous_live j (omega (arith, lt, size)) e live)
+      ];
       parent = λ j lt. elim (cases_eq j i) [
         | inl same ↦ rw (same, here xs i y within) (λ e live. child i (settled.parent i within (sym keeps.parent ∙ e) (sym keeps.deleted ∙ live)))
         | inr other ↦ rw (there xs i j y other) (λ e live. child j (settled.parent j (omega (arith, lt, size)) e live))
@@ -78,6 +86,10 @@ settled_push xs i y within settled no_previous no_parent =
       previous = λ j lt. elim (cases_eq j (length xs)) [
         | inl same ↦ rw (same, last xs y) (λ e. absurd (cc))
         | inr other ↦ rw (before xs y j (omega arith)) (settled.previous j (omega arith))
+      ];
+      previous_live = λ j lt. elim (cases_eq j (length xs)) [
+        | inl same ↦ rw (same, last xs y) (λ e. absurd (cc))
+        | inr other ↦ rw (before xs y j (omega arith)) (settled.previous_live j (omega arith))
       ];
       parent = λ j lt. elim (cases_eq j (length xs)) [
         | inl same ↦ rw (same, last xs y) (λ e. absurd (cc))

@@ -59,12 +59,12 @@ pub sound_slots : (xs : List Shape) (trees : List Tree) (gone : List Retired) (r
     → MayHold trees (node_at xs i) slots → Sound (set xs i (with_slots (node_at xs i) slots)) trees gone room
 sound_slots xs trees gone room i slots within sound held level may =
     let x = node_at xs i in
-    sound_set xs trees gone room i (with_slots x slots) within sound (nodes_slots xs i slots within sound.arena.nodes held level may.border (within_all x slots may.inside)) (ranged_turned xs i slots (with_slots x slots).version x.holder within sound.arena.ranged)
+    sound_set xs trees gone room i (with_slots x slots) within sound (nodes_slots xs i slots within sound.arena.nodes held level may.border (within_all x slots may.inside)) (ranged_turned xs i slots (with_slots x slots).version x.holder within sound.arena.ranged (sound.arena.ranged i within).unmarked)
     record { tree = refl; deleted = refl; flag = refl; root = λ r. record { live = r.live; flag = r.flag; parentless = r.parentless; low = r.low; reach = r.reach } }
     may.keys
     record { tree = refl; deleted = refl; forth = may.forth; back = may.back }
 
-changes_slots : (op : ℕ) (x : Shape) (slots : List Entry) → x.holder ≡ Some op → Changes op x (with_slots x slots)
+pub changes_slots : (op : ℕ) (x : Shape) (slots : List Entry) → x.holder ≡ Some op → Changes op x (with_slots x slots)
 changes_slots op x slots mine = record {
   tree = refl;
   level = refl;
@@ -159,7 +159,7 @@ module _ (xs : List Shape) (trees : List Tree) (gone : List Retired) (room i : �
       }
 
 -- the mark of a key that has a byte in the layer is not that of none
-begun_mark : (key : Bytes) (layer : ℕ) → 8 * layer < length key → mark_of key layer ≢ Short 0
+pub begun_mark : (key : Bytes) (layer : ℕ) → 8 * layer < length key → mark_of key layer ≢ Short 0
 begun_mark key layer some = by_length (length (rest_of key layer)) (omega (arith, length-drop (8 * layer) key))
   where
     by_length : (n : ℕ) → 0 < n → (if nat_le n 8 then Short n else Long) ≢ Short 0

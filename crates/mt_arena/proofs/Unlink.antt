@@ -294,6 +294,7 @@ module _ (xs : List Shape) (i j q a : ℕ) (nodes : AreNodes xs) (ranged : AreRa
     next_level = λ e. h.next_level e ∙ (nodes.pairs i j li lj).next_level f.next;
     next_live = λ e live. h.next_live e f.removed_live;
     previous_back = g.previous_back;
+    previous_live = g.previous_live;
     parent_knows = g.parent_knows;
     child = λ b lt. absurd (no_child b lt);
     apart = λ differ tree level live also s hy hm. elim (cases_lt s x.low) [
@@ -309,6 +310,7 @@ module _ (xs : List Shape) (i j q a : ℕ) (nodes : AreNodes xs) (ranged : AreRa
     next_level = g.next_level;
     next_live = g.next_live;
     previous_back = λ e live free. absurd (f.left_held free);
+    previous_live = λ e live free. absurd (f.left_held free);
     parent_knows = λ e live free. absurd (f.left_held free);
     child = child;
     apart = λ differ tree level live also s hm hy. elim (cases_lt s x.low) [
@@ -325,6 +327,7 @@ module _ (xs : List Shape) (i j q a : ℕ) (nodes : AreNodes xs) (ranged : AreRa
     next_level = h.next_level;
     next_live = λ e live. absurd (cc);
     previous_back = λ e live. absurd (cc);
+    previous_live = λ e live. absurd (cc);
     parent_knows = λ e live. absurd (cc);
     child = λ b lt e live. absurd (cc);
     apart = λ differ tree level live. absurd (cc);
@@ -337,6 +340,7 @@ module _ (xs : List Shape) (i j q a : ℕ) (nodes : AreNodes xs) (ranged : AreRa
     next_level = h.next_level;
     next_live = λ e live. absurd (none e live);
     previous_back = λ e live free. absurd (f.removed_held free);
+    previous_live = λ e live free. absurd (f.removed_held free);
     parent_knows = λ e live free. absurd (f.removed_held free);
     child = λ b lt e live. absurd (childless b lt e live);
     apart = λ differ tree level live also. absurd (cc);
@@ -350,6 +354,7 @@ module _ (xs : List Shape) (i j q a : ℕ) (nodes : AreNodes xs) (ranged : AreRa
     next_level = g.next_level;
     next_live = g.next_live;
     previous_back = g.previous_back;
+    previous_live = g.previous_live;
     parent_knows = g.parent_knows;
     child = λ b lt e live. child b lt e;
     apart = g.apart;
@@ -362,6 +367,7 @@ module _ (xs : List Shape) (i j q a : ℕ) (nodes : AreNodes xs) (ranged : AreRa
     next_level = g.next_level;
     next_live = g.next_live;
     previous_back = λ e live free. absurd (f.parent_held free);
+    previous_live = λ e live free. absurd (f.parent_held free);
     parent_knows = λ e live free. absurd (f.parent_held free);
     child = λ b lt e live.
         let c = g.child b lt e live in
@@ -390,6 +396,7 @@ module _ (xs : List Shape) (i j q a : ℕ) (nodes : AreNodes xs) (ranged : AreRa
         next_level = g.next_level;
         next_live = g.next_live;
         previous_back = λ e live free. absurd (f.left_held free);
+        previous_live = λ e live free. absurd (f.left_held free);
         parent_knows = λ e live free. absurd (f.left_held free);
         child = λ b lt e live. left_child_of b lt e;
         apart = λ differ tree level. absurd (omega (arith, level, left_child.level));
@@ -404,6 +411,7 @@ module _ (xs : List Shape) (i j q a : ℕ) (nodes : AreNodes xs) (ranged : AreRa
         next_level = h.next_level;
         next_live = λ e live. absurd (only_next q lq (λ e. differ_iq (sym e)) e live);
         previous_back = λ e live free. absurd (f.removed_held free);
+        previous_live = λ e live free. absurd (f.removed_held free);
         parent_knows = λ e live free. absurd (f.removed_held free);
         child = λ b lt e live. absurd (removed_no_child b lt e);
         apart = λ differ tree level live also. absurd (cc);
@@ -418,6 +426,7 @@ module _ (xs : List Shape) (i j q a : ℕ) (nodes : AreNodes xs) (ranged : AreRa
         next_level = λ e. absurd (not_own_next e);
         next_live = λ e. absurd (not_own_next e);
         previous_back = λ e live free. absurd (f.removed_held free);
+        previous_live = λ e live free. absurd (f.removed_held free);
         parent_knows = λ e live free. absurd (f.removed_held free);
         child = λ b lt. absurd (no_child b lt);
         apart = λ differ tree level live also. absurd (cc);
@@ -432,6 +441,7 @@ module _ (xs : List Shape) (i j q a : ℕ) (nodes : AreNodes xs) (ranged : AreRa
         next_level = h.next_level;
         next_live = λ e live. absurd (cc);
         previous_back = λ e live. absurd (cc);
+        previous_live = λ e live. absurd (cc);
         parent_knows = λ e live. absurd (cc);
         child = λ b lt e live. absurd (cc);
         apart = λ differ tree level live. absurd (cc);
@@ -446,6 +456,7 @@ module _ (xs : List Shape) (i j q a : ℕ) (nodes : AreNodes xs) (ranged : AreRa
         next_level = λ e. refl;
         next_live = λ e live. live;
         previous_back = λ e live free. absurd (f.left_held free);
+        previous_live = λ e live free. absurd (f.left_held free);
         parent_knows = λ e live free. absurd (f.left_held free);
         child = λ b lt. absurd (no_child b lt);
         apart = λ differ. absurd (differ refl);
@@ -460,6 +471,7 @@ module _ (xs : List Shape) (i j q a : ℕ) (nodes : AreNodes xs) (ranged : AreRa
         next_level = h.next_level;
         next_live = λ e live. absurd (cc);
         previous_back = λ e live. absurd (cc);
+        previous_live = λ e live. absurd (cc);
         parent_knows = λ e live. absurd (cc);
         child = λ b lt e live. absurd (cc);
         apart = λ differ. absurd (differ refl);

@@ -14,6 +14,7 @@ unlocked_from k n j m h = record {
   next_level = h.next_level;
   next_live = h.next_live;
   previous_back = h.previous_back;
+  previous_live = h.previous_live;
   parent_knows = h.parent_knows;
   child = λ i lt e live.
       let c = h.child i lt e live in
@@ -29,6 +30,7 @@ unlocked_to nodes k i x within settled h = record {
   next_level = h.next_level;
   next_live = h.next_live;
   previous_back = λ e live free. settled.previous k within e live;
+  previous_live = λ e live free. settled.previous_live k within e live;
   parent_knows = λ e live free.
       let c = settled.parent k within e live in
       record { live = c.live; place = c.place; in_range = c.in_range; is = c.is };

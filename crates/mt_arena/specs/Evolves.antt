@@ -3,7 +3,7 @@ use Rattle.std.specs.Prelude.{◌≡◌, ◌≢◌, ℕ, ◌<◌, ◌≤◌, fal
 use Rattle.mt_version.specs.Changes.{Ages, range_age, insert_age}
 use Rattle.mt_interior.specs.Fences.{end_of}
 use Rattle.mt_arena.specs.declared.tree.Tree.{Tree}
-use Rattle.mt_arena.specs.declared.tree.Standing.TheVariants.{Made, Dead}
+use Rattle.mt_arena.specs.declared.tree.Standing.TheVariants.{Made, Live, Dead}
 use Rattle.mt_arena.specs.Shape.{Shape, node_at}
 use Rattle.mt_arena.specs.Forests.{tree_at}
 
@@ -18,6 +18,7 @@ pub record IsUntouched (n m : Shape) : Type 0 where
   pub high : m.high ≡ n.high
   pub reach : m.reach ≡ n.reach
   pub parented : n.parent ≢ None → m.parent ≢ None
+  pub orphaned : n.parent ≡ None → m.parent ≡ None
 
 -- what stands while the version does
 pub record HasSameKeys (n m : Shape) : Type 0 where
@@ -46,6 +47,7 @@ pub record TreeChanges (op : ℕ) (tree after : Tree) : Type 0 where
   pub prefix : after.prefix ≡ tree.prefix
   pub dead : tree.standing ≡ Dead → after ≡ tree
   pub made : (q : ℕ) → q ≢ op → tree.standing ≡ Made q → after ≡ tree
+  pub live : tree.standing ≡ Live → (q : ℕ) → after.standing ≢ Made q
 
 -- what a step of operation op may change
 pub record Evolves (op : ℕ) (old new : List Shape) (were are : List Tree) : Type 0 where
@@ -55,10 +57,13 @@ pub record Evolves (op : ℕ) (old new : List Shape) (were are : List Tree) : Ty
   pub trees : (t : ℕ) → t < length were → TreeChanges op (tree_at were t) (tree_at are t)
   -- nobody else touches the nodes of a tree that an operation is making
   pub made : (k q : ℕ) → k < length old → q ≢ op → (tree_at were (node_at old k).tree).standing ≡ Made q → node_at new k ≡ node_at old k
+  pub made_new : (k q : ℕ) → length old ≤ k → k < length new → q ≢ op → (tree_at were (node_at new k).tree).standing ≢ Made q
+  -- nor holds a new node
+  pub taken_new : (k q : ℕ) → length old ≤ k → k < length new → q ≢ op → (node_at new k).holder ≢ Some q
 
 -- neighbours before and parents come to be named by this operation alone: each is as it was, or names a node that it holds
 pub record PointsOnly (op : ℕ) (old new : List Shape) : Type 0 where
-  pub previous : (k j : ℕ) → k < length old → (node_at new k).previous ≡ Some j → (node_at new j).holder ≢ Some op → (node_at old k).previous ≡ Some j
-  pub parent : (k j : ℕ) → k < length old → (node_at new k).parent ≡ Some j → (node_at new j).holder ≢ Some op → (node_at old k).parent ≡ Some j
-  pub new_previous : (k j : ℕ) → length old ≤ k → k < length new → (node_at new k).previous ≡ Some j → (node_at new j).holder ≡ Some op
-  pub new_parent : (k j : ℕ) → length old ≤ k → k < length new → (node_at new k).parent ≡ Some j → (node_at new j).holder ≡ Some op
+  pub previous : (k j : ℕ) → k < length old → j < length old → (node_at new k).previous ≡ Some j → (node_at new j).holder ≢ Some op → (node_at old k).previous ≡ Some j
+  pub parent : (k j : ℕ) → k < length old → j < length old → (node_at new k).parent ≡ Some j → (node_at new j).holder ≢ Some op → (node_at old k).parent ≡ Some j
+  pub new_previous : (k j : ℕ) → length old ≤ k → k < length new → j < length old → (node_at new k).previous ≡ Some j → (node_at new j).holder ≡ Some op
+  pub new_parent : (k j : ℕ) → length old ≤ k → k < length new → j < length old → (node_at new k).parent ≡ Some j → (node_at new j).holder ≡ Some op

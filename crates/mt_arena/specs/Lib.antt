@@ -16,3 +16,4 @@ pub mod Growth
 pub mod Unlinks
 pub mod Collapses
 pub mod Lags
+pub mod Several

@@ -85,6 +85,7 @@ pub record IsPair (k : ℕ) (n : Shape) (j : ℕ) (m : Shape) : Type 0 where
   pub next_live : n.next ≡ Some j → n.version.deleted ≡ false → m.version.deleted ≡ false
   -- where nobody holds the node before, it is the one before; where nobody holds the parent, it is the parent
   pub previous_back : n.previous ≡ Some j → n.version.deleted ≡ false → m.holder ≡ None → m.next ≡ Some k
+  pub previous_live : n.previous ≡ Some j → n.version.deleted ≡ false → m.holder ≡ None → m.version.deleted ≡ false
   pub parent_knows : n.parent ≡ Some j → n.version.deleted ≡ false → m.holder ≡ None → HasChild m k
   -- children never lag, and have the ranges between separators
   pub child : (i : ℕ) → i < length n.children → slice_index n.children i ≡ j → n.version.deleted ≡ false → IsChild n i m

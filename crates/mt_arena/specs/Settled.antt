@@ -7,6 +7,7 @@ use Rattle.mt_arena.specs.Nodes.{HasChild, IsUnstable}
 pub record IsSettled (nodes : List Shape) (i : ℕ) (x : Shape) : Type 0 where
   -- a live node that names it as the one before is the next one, and one that names it as its parent is its child
   pub previous : (k : ℕ) → k < length nodes → (node_at nodes k).previous ≡ Some i → (node_at nodes k).version.deleted ≡ false → x.next ≡ Some k
+  pub previous_live : (k : ℕ) → k < length nodes → (node_at nodes k).previous ≡ Some i → (node_at nodes k).version.deleted ≡ false → x.version.deleted ≡ false
   pub parent : (k : ℕ) → k < length nodes → (node_at nodes k).parent ≡ Some i → (node_at nodes k).version.deleted ≡ false → HasChild x k
   -- its range in its parent ends at its high fence
   pub reach : x.reach ≡ x.high

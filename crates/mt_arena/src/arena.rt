@@ -6,7 +6,7 @@
 //! Owns its nodes. Errors: `AllocError`, from `new`, `alloc_node` and `new_tree` alone. Units: nodes,
 //! trees and operations by their numbers, from 0.
 
-ghost use Rattle.std.specs.Prelude.{◌≡◌, ◌<◌, ◌≤◌, ℕ, [], ◌∷◌, ◌++◌, ◌+◌, length, true, false, Some, None, IfOk, OnOk, OnErr};
+ghost use Rattle.std.specs.Prelude.{◌≡◌, ◌≢◌, ◌<◌, ◌≤◌, ℕ, [], ◌∷◌, ◌++◌, ◌+◌, length, slice_set, true, false, Some, None, IfOk, OnOk, OnErr};
 ghost use Rattle.std.specs.Vec.{vec_len, vec_capacity};
 ghost use Rattle.std.specs.FinMap as finite;
 ghost use Rattle.mt_rows.specs.Rows.{Bytes};
@@ -25,7 +25,12 @@ ghost use Rattle.mt_arena.specs.Layers.{slot_at};
 ghost use Rattle.mt_arena.specs.Settled.{IsSettled};
 ghost use Rattle.mt_arena.specs.Nodes.{HasRange};
 ghost use Rattle.mt_arena.specs.Edits.{locked, unlocked, splitting, retired, with_slots, pointed, fresh_root, Points};
-ghost use Rattle.mt_arena.specs.Arena.{content_of, IsStep};
+ghost use Rattle.mt_arena.specs.Arena.{IsArena, AreRetired, content_of, IsStep};
+ghost use Rattle.mt_slices.specs.Marks.{IsMark};
+ghost use Rattle.mt_border.specs.Split.{IsParted, IsSeparator, slices_with};
+ghost use Rattle.mt_arena.specs.Splits.{with_child, inner_left, inner_right};
+ghost use Rattle.mt_interior.specs.Places.{IsNew};
+ghost use Rattle.mt_arena.specs.Several.{AreHalved, MaySplit, MayPlace, MayGrow, with_top, with_root, MayInsert, with_right, MaySplitInner, with_parts};
 ghost use Rattle.mt_arena.specs.Accesses.{new_arena, at, tree_of, IsHeld, IsOpen, with_node, with_half, with_tree, with_row, IsFreshPrefix, MayPublish, MayChange, MayRetire};
 
 use crate::node::Node;
@@ -34,6 +39,7 @@ use crate::tree::{Prefix, Standing, Tree};
 use mt_border::{Border, Entry};
 use mt_interior::Interior;
 use mt_rows::Row;
+use mt_slices::Mark;
 use std::alloc::{AllocError, Global};
 use std::marker::Model;
 
@@ -80,6 +86,14 @@ impl Arena {
         })
     }
 
+    /// What holds of all nodes, all trees and the retired, for the proofs of callers.
+    pub fn facts(&self)
+        ensures arena { IsArena self.now.nodes self.now.trees }
+        ensures retired { AreRetired self.now.nodes self.now.retired }
+    {
+        let _ = &self.nodes;
+    }
+
     /// The border node of a number.
     pub fn border(&self, node: usize) -> &Border
         requires there { node < length self.now.nodes }
@@ -102,6 +116,13 @@ impl Arena {
             Some(interior) => interior,
             None => unreachable!(),
         }
+    }
+
+    /// Nothing runs: what holds of all nodes, trees and links after every step, for a caller's proof.
+    pub fn fits_together(&self)
+        ensures { IsArena self.now.nodes self.now.trees }
+    {
+        let _nodes = &self.nodes;
     }
 
     /// The node of a number.
@@ -175,6 +196,7 @@ impl Arena {
         requires no_root { (at self.old node).version.root ≡ false }
         requires range { HasRange (at self.old node) }
         requires held { IsHeld self.old parent operation }
+        requires theirs { (q : ℕ) → (at self.old node).holder ≡ Some q → q ≢ operation → (at self.old node).parent ≢ None }
         requires mine { IsOpen self.old node operation }
         ensures is { self.new ≡ with_node self.old node (pointed (at self.old node) (at self.old node).previous (Some parent)) }
         ensures step { IsStep operation self.old self.new }
@@ -232,6 +254,7 @@ impl Arena {
     ) -> Result<usize, AllocError>
         requires held { IsHeld self.old left operation }
         requires live { (at self.old left).version.deleted ≡ false }
+        requires mine { IsOpen self.old left operation }
         ensures number { IfOk result (λ node. node ≡ length self.old.nodes) }
         ensures is { OnOk result (self.new ≡ with_half self.old left low operation) }
         ensures unchanged_on_err { OnErr result (self.new ≡ self.old) }
@@ -267,6 +290,93 @@ impl Arena {
         Ok(number)
     }
 
+    /// Parts the slots of a full border node and the pair of a missing key, which belongs in it, among
+    /// it and its right half: keys from that one's low fence on stand there from now on.
+    pub fn split_border(&mut self, left: usize, right: usize, entry: Entry, operation: usize)
+        requires may { MaySplit self.old left right operation entry.slice entry.mark }
+        requires place { (key : Bytes) × MayPlace self.old left operation key entry }
+        ensures nodes { AreHalved (with_entry (at self.old left).slots entry) self.old.nodes self.new.nodes left right }
+        ensures others { self.new ≡ record self.old { nodes = self.new.nodes } }
+        ensures step { IsStep operation self.old self.new }
+        ensures contents { (key : Bytes) (pair : Pair) → MayPlace self.old left operation key entry → entry.held ≡ Stable pair →
+            content_of self.new ≡ finite.insert (content_of self.old) (owned key) pair.row }
+    {
+        halve_with(&mut self.nodes, left, right, entry);
+    }
+
+    /// Parts the slots of a full border node among it and its right half, as `split_border` would with
+    /// the key of this slice and mark, which is left out.
+    pub fn split_border_without(
+        &mut self,
+        left: usize,
+        right: usize,
+        slice: u64,
+        mark: Mark,
+        operation: usize,
+    )
+        requires may { MaySplit self.old left right operation slice mark }
+        requires live { (tree_of self.old left).standing ≡ Live }
+        ensures nodes { AreHalved (at self.old left).slots self.old.nodes self.new.nodes left right }
+        ensures others { self.new ≡ record self.old { nodes = self.new.nodes } }
+        ensures step { IsStep operation self.old self.new }
+        ensures contents { content_of self.new ≡ content_of self.old }
+    {
+        halve_without(&mut self.nodes, left, right, slice, mark);
+    }
+
+    /// Makes an interior root over the two halves of one, which the operation holds: it may unlock it at
+    /// once. An error leaves all as it was.
+    pub fn grow_root(
+        &mut self,
+        left: usize,
+        right: usize,
+        operation: usize,
+    ) -> Result<usize, AllocError>
+        requires { MayGrow self.old left right operation }
+        ensures number { IfOk result (λ top. top ≡ length self.old.nodes) }
+        ensures is { OnOk result (self.new ≡ with_root self.old left right operation) }
+        ensures settled { IfOk result (λ top. IsSettled self.new.nodes top (at self.new top)) }
+        ensures unchanged_on_err { OnErr result (self.new ≡ self.old) }
+        ensures step { IsStep operation self.old self.new }
+        ensures contents { content_of self.new ≡ content_of self.old }
+    {
+        make_room(&mut self.nodes, &mut self.trees, &mut self.retired)?;
+        let top = self.nodes.len();
+        let tree = self.nodes[left].tree();
+        put_top(&mut self.nodes, left, right, operation);
+        self.trees[tree].root = top;
+        Ok(top)
+    }
+
+    /// Puts a right half into its parent, behind the left one, and marks the parent for readers of its
+    /// children. The range of the left half in it ends at its fence from now on.
+    pub fn insert_child(&mut self, parent: usize, left: usize, right: usize, operation: usize)
+        requires { MayInsert self.old parent left right operation }
+        ensures is { self.new ≡ record self.old { nodes = with_right self.old.nodes parent left right } }
+        ensures step { IsStep operation self.old self.new }
+        ensures contents { content_of self.new ≡ content_of self.old }
+    {
+        put_child(&mut self.nodes, parent, left, right);
+    }
+
+    /// Puts a right half into a full parent, behind the left one, and parts the parent's children among
+    /// it and its own right half, which gets its range from the middle on.
+    pub fn split_interior(
+        &mut self,
+        parent: usize,
+        left: usize,
+        right: usize,
+        half: usize,
+        operation: usize,
+    )
+        requires { MaySplitInner self.old parent left right half operation }
+        ensures is { self.new ≡ record self.old { nodes = with_parts self.old.nodes parent left right half } }
+        ensures step { IsStep operation self.old self.new }
+        ensures contents { content_of self.new ≡ content_of self.old }
+    {
+        part_parent(&mut self.nodes, parent, left, right, half);
+    }
+
     /// Takes a node out by the step of this number. Takes no memory.
     pub fn retire(&mut self, node: usize, step: u64, operation: usize)
         requires may { MayRetire self.old node operation }
@@ -280,6 +390,129 @@ impl Arena {
         self.nodes[node].retire();
         self.retired.push_reserved(Retired { node, step });
     }
+}
+
+// Parts the slots of a full node and an entry among it and its right half.
+fn halve_with(nodes: &mut [Node], left: usize, right: usize, entry: Entry)
+    requires there { left < length nodes.old }
+    requires right_there { right < length nodes.old }
+    requires differ { left ≢ right }
+    requires border { (node_at nodes.old left).level ≡ 0 }
+    requires right_border { (node_at nodes.old right).level ≡ 0 }
+    requires full { length (node_at nodes.old left).slots ≡ SLOTS }
+    requires entry { IsEntry entry }
+    requires missing { IsMissing (node_at nodes.old left).slots entry.slice entry.mark }
+    requires empty { (node_at nodes.old right).slots ≡ [] }
+    requires separator { IsSeparator (slices_with (node_at nodes.old left).slots entry.slice entry.mark) (node_at nodes.old right).low }
+    ensures { AreHalved (with_entry (node_at nodes.old left).slots entry) nodes.old nodes.new left right }
+{
+    if left < right {
+        let (front, back) = nodes.split_at_mut(right);
+        front[left].split_with(entry, &mut back[0], left, right);
+    } else {
+        let (front, back) = nodes.split_at_mut(left);
+        back[0].split_with(entry, &mut front[right], left, right);
+    }
+}
+
+// Parts the slots of a full node among it and its right half.
+fn halve_without(nodes: &mut [Node], left: usize, right: usize, slice: u64, mark: Mark)
+    requires there { left < length nodes.old }
+    requires right_there { right < length nodes.old }
+    requires differ { left ≢ right }
+    requires border { (node_at nodes.old left).level ≡ 0 }
+    requires right_border { (node_at nodes.old right).level ≡ 0 }
+    requires full { length (node_at nodes.old left).slots ≡ SLOTS }
+    requires mark { IsMark mark }
+    requires missing { IsMissing (node_at nodes.old left).slots slice mark }
+    requires empty { (node_at nodes.old right).slots ≡ [] }
+    requires separator { IsSeparator (slices_with (node_at nodes.old left).slots slice mark) (node_at nodes.old right).low }
+    ensures { AreHalved (node_at nodes.old left).slots nodes.old nodes.new left right }
+{
+    if left < right {
+        let (front, back) = nodes.split_at_mut(right);
+        front[left].split_without(slice, mark, &mut back[0], left, right);
+    } else {
+        let (front, back) = nodes.split_at_mut(left);
+        back[0].split_without(slice, mark, &mut front[right], left, right);
+    }
+}
+
+// Puts a child into a full node, and parts its children among it and its right half.
+fn part_inner(nodes: &mut [Node], left: usize, right: usize, separator: u64, child: usize)
+    requires there { left < length nodes.old }
+    requires right_there { right < length nodes.old }
+    requires differ { left ≢ right }
+    requires interior { 0 < (node_at nodes.old left).level }
+    requires right_interior { 0 < (node_at nodes.old right).level }
+    requires full { length (node_at nodes.old left).separators ≡ 15 }
+    requires missing { IsNew (node_at nodes.old left).separators separator }
+    requires childless { (node_at nodes.old right).children ≡ [] }
+    ensures { let wide = with_child (node_at nodes.old left) separator child in
+        nodes.new ≡ slice_set (slice_set nodes.old left (inner_left wide)) right (inner_right wide (node_at nodes.old right)) }
+{
+    if left < right {
+        let (front, back) = nodes.split_at_mut(right);
+        front[left].split_inner(separator, child, &mut back[0]);
+    } else {
+        let (front, back) = nodes.split_at_mut(left);
+        back[0].split_inner(separator, child, &mut front[right]);
+    }
+}
+
+// Puts a new root over two nodes.
+fn put_top(nodes: &mut Vec<Node>, left: usize, right: usize, operation: usize)
+    requires there { left < length nodes.old.items }
+    requires right_there { right < length nodes.old.items }
+    requires differ { left ≢ right }
+    requires not_too_high { (node_at nodes.old.items left).level < 18446744073709551615 }
+    requires room { vec_len nodes.old < vec_capacity nodes.old }
+    ensures { nodes.new.items ≡ with_top nodes.old.items left right operation }
+{
+    let number = nodes.len();
+    let separator = nodes[right].low();
+    let top = nodes[left].top(left, separator, right, operation);
+    nodes[left].put_below(number);
+    nodes[right].set_parent(Some(number));
+    nodes.push_reserved(top);
+}
+
+// Puts a child into a node, behind another one.
+fn put_child(nodes: &mut Vec<Node>, parent: usize, left: usize, right: usize)
+    requires there { parent < length nodes.old.items }
+    requires left_there { left < length nodes.old.items }
+    requires right_there { right < length nodes.old.items }
+    requires differ { parent ≢ left }
+    requires interior { 0 < (node_at nodes.old.items parent).level }
+    requires room { length (node_at nodes.old.items parent).separators < 15 }
+    requires some_child { (node_at nodes.old.items parent).children ≢ [] }
+    requires missing { IsNew (node_at nodes.old.items parent).separators (node_at nodes.old.items right).low }
+    ensures { nodes.new.items ≡ with_right nodes.old.items parent left right }
+{
+    let separator = nodes[right].low();
+    nodes[parent].insert_child(separator, right);
+    nodes[left].make_exact();
+}
+
+// Puts a child into a full node, behind another one, and parts the node among it and its right half.
+fn part_parent(nodes: &mut Vec<Node>, parent: usize, left: usize, right: usize, half: usize)
+    requires there { parent < length nodes.old.items }
+    requires left_there { left < length nodes.old.items }
+    requires right_there { right < length nodes.old.items }
+    requires half_there { half < length nodes.old.items }
+    requires differ { parent ≢ left }
+    requires differ_half { parent ≢ half }
+    requires apart { left ≢ half }
+    requires interior { 0 < (node_at nodes.old.items parent).level }
+    requires half_interior { 0 < (node_at nodes.old.items half).level }
+    requires full { length (node_at nodes.old.items parent).separators ≡ 15 }
+    requires missing { IsNew (node_at nodes.old.items parent).separators (node_at nodes.old.items right).low }
+    requires childless { (node_at nodes.old.items half).children ≡ [] }
+    ensures { nodes.new.items ≡ with_parts nodes.old.items parent left right half }
+{
+    let separator = nodes[right].low();
+    part_inner(nodes, parent, half, separator, right);
+    nodes[left].make_exact();
 }
 
 // Takes the memory for one more node and one more tree, and for the number of each node among the

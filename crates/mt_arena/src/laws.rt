@@ -1,7 +1,7 @@
 //! What follows from the facts of nodes, trees and links, and what steps make of the contents. Each
 //! is a contract alone: no code runs.
 
-ghost use Rattle.std.specs.Prelude.{◌≡◌, ◌≢◌, ℕ, ◌+◌, ◌*◌, ◌<◌, ◌≤◌, ◌⊎◌, true, List, [], ◌∷◌, ◌++◌, length, take, slice_set, Some, None};
+ghost use Rattle.std.specs.Prelude.{◌≡◌, ◌≢◌, ℕ, ◌+◌, ◌*◌, ◌<◌, ◌≤◌, ◌⊎◌, true, false, List, [], ◌∷◌, ◌++◌, length, take, slice_set, Some, None};
 ghost use Rattle.std.specs.List.{remove};
 ghost use Rattle.std.specs.FinMap as pairs;
 ghost use Rattle.mt_slices.specs.Keys.{IsStoredKey};
@@ -19,7 +19,7 @@ ghost use Rattle.mt_border.specs.Contents.{owned, HasKey};
 ghost use Rattle.mt_arena.specs.declared.tree.Tree.{Tree};
 ghost use Rattle.mt_arena.specs.declared.tree.Standing.TheVariants.{Live};
 ghost use Rattle.mt_arena.specs.Shape.{Shape, node_at};
-ghost use Rattle.mt_arena.specs.Nodes.{Holds};
+ghost use Rattle.mt_arena.specs.Nodes.{Holds, HasRange};
 ghost use Rattle.mt_arena.specs.Forests.{tree_at};
 ghost use Rattle.mt_arena.specs.Layers.{slot_at};
 ghost use Rattle.mt_arena.specs.Contents.{content};
@@ -121,13 +121,19 @@ pub fn contents_by_slot()
 {}
 
 /// What leaves the contents as they are: a change of a node but for its slots, its tree and whether
-/// it is deleted, a slot that holds its pair otherwise, a link that is taken out, any change of a
+/// it is deleted, slots that are parted among two nodes, a slot that holds its pair otherwise, a link that is taken out, any change of a
 /// node without slots, one more such node, one more tree, another root in a tree's record, and any
 /// change of a tree whose nodes are deleted or have no slots.
 pub fn contents_stand()
     ensures same_slots { (nodes : List Shape) (trees : List Tree) (k : ℕ) (y : Shape) →
         HasSlots (node_at nodes k) y (node_at nodes k).slots →
         content trees (slice_set nodes k y) ≡ content trees nodes }
+    ensures parted { (nodes : List Shape) (trees : List Tree) (k j : ℕ) (x y : Shape) (left right : List Entry) (separator : ℕ) →
+        IsArena nodes trees → k < length nodes → (node_at nodes k).version.deleted ≡ false →
+        (tree_at trees (node_at nodes k).tree).standing ≡ Live → IsUnfilled nodes k j →
+        IsParted (node_at nodes k).slots left right separator →
+        HasSlots (node_at nodes k) x left → HasSlots (node_at nodes j) y right →
+        content trees (slice_set (slice_set nodes k x) j y) ≡ content trees nodes }
     ensures same_pair { (nodes : List Shape) (trees : List Tree) (k i : ℕ) (y : Shape) (held : Held) →
         pair_of held ≡ pair_of (slot_at (node_at nodes k) i).held →
         HasSlots (node_at nodes k) y (slice_set (node_at nodes k).slots i (record (slot_at (node_at nodes k) i) { held = held })) →
@@ -163,12 +169,21 @@ pub fn contents_stand_as_a_tree_goes_live()
         content (slice_set trees t tree) (slice_set nodes k y) ≡ content trees nodes }
 {}
 
+/// A node that has a parent has a range, and is no root: another parent may be written into it.
+pub fn a_child_is_no_root()
+    ensures { (nodes : List Shape) (trees : List Tree) (k : ℕ) → IsArena nodes trees → k < length nodes →
+        (node_at nodes k).version.deleted ≡ false → (node_at nodes k).parent ≢ None →
+        HasRange (node_at nodes k) × ((node_at nodes k).version.root ≡ false) }
+{}
+
 /// What steps of one operation leave to others adds up: nothing is done by no step, and two steps are
-/// as one. While another operation goes on, nothing comes to lag behind a node that is held.
+/// as one, also for whom nodes name where the second one gives no lock back. While another operation goes on, nothing comes to lag behind a node that is held.
 pub fn steps_add_up()
     ensures none { (op : ℕ) (nodes : List Shape) (trees : List Tree) → Evolves op nodes nodes trees trees }
     ensures two { (op : ℕ) (old mid new : List Shape) (were between are : List Tree) → IsArena old were →
         Evolves op old mid were between → Evolves op mid new between are → Evolves op old new were are }
+    ensures points { (op : ℕ) (old mid new : List Shape) → length old ≤ length mid → PointsOnly op old mid → PointsOnly op mid new →
+        ((j : ℕ) → j < length mid → (node_at mid j).holder ≡ Some op → (node_at new j).holder ≡ Some op) → PointsOnly op old new }
     ensures settled { (op holder : ℕ) (old new : List Shape) (were are : List Tree) (k : ℕ) →
         Evolves op old new were are → PointsOnly op old new → holder ≢ op → k < length old →
         (node_at old k).holder ≡ Some holder → IsSettled old k (node_at old k) → IsSettled new k (node_at new k) }

@@ -4,11 +4,12 @@
 //! No call takes memory; all change the node in place. What fits together between nodes is the
 //! arena's to keep: whoever changes a node does it through a call of `arena.rt`.
 
-ghost use Rattle.std.specs.Prelude.{◌≡◌, ◌<◌, ℕ, [], IfSome, IsSome, IfNone, Some, None, length, true, false, ◌↔◌};
+ghost use Rattle.std.specs.Prelude.{◌≡◌, ◌≢◌, ◌<◌, ℕ, [], IfSome, IsSome, IfNone, Some, None, length, true, false, ◌↔◌};
 
 use mt_border::{Border, Entry};
 use mt_interior::Interior;
 use mt_rows::Row;
+use mt_slices::Mark;
 use mt_version::Version;
 use std::alloc::Global;
 use std::marker::Model;
@@ -51,6 +52,11 @@ impl Node {
     ghost use Rattle.mt_arena.specs.Shape.{Shape, border_shape, interior_shape, IsOfKind};
     ghost use Rattle.mt_arena.specs.Layers.{slot_at};
     ghost use Rattle.mt_arena.specs.Edits.{locked, unlocked, inserting, splitting, retired, with_slots, pointed, fresh_half, fresh_root};
+    ghost use Rattle.mt_slices.specs.Marks.{IsMark};
+    ghost use Rattle.mt_border.specs.Split.{IsParted, IsSeparator, slices_with};
+    ghost use Rattle.mt_interior.specs.Places.{IsNew};
+    ghost use Rattle.mt_arena.specs.Splits.{left_half, right_half, with_child, exact, middle, inner_left, inner_right};
+    ghost use Rattle.mt_arena.specs.Growth.{fresh_top, below_top, left_below};
 
     /// The first node of a tree.
     pub(crate) fn root(alloc: Global, tree: usize) -> Self
@@ -303,4 +309,160 @@ impl Node {
         self.mark_inserting();
         old
     }
+
+    /// Parts the slots of a full border node and a missing key's entry among it and its right half,
+    /// which gets its range from its low fence on. The nodes' numbers are those behind.
+    pub(crate) fn split_with(
+        &mut self,
+        entry: Entry,
+        right: &mut Node,
+        left_number: usize,
+        right_number: usize,
+    )
+        requires border { self.old.level ≡ 0 }
+        requires right_border { right.old.level ≡ 0 }
+        requires full { length self.old.slots ≡ SLOTS }
+        requires entry { IsEntry entry }
+        requires missing { IsMissing self.old.slots entry.slice entry.mark }
+        requires empty { right.old.slots ≡ [] }
+        requires separator { IsSeparator (slices_with self.old.slots entry.slice entry.mark) right.old.low }
+        ensures parted { IsParted (with_entry self.old.slots entry) self.new.slots right.new.slots right.old.low }
+        ensures some_left { 0 < length self.new.slots }
+        ensures some_right { 0 < length right.new.slots }
+        ensures left { self.new ≡ left_half self.old self.new.slots right.old.low right_number }
+        ensures right { right.new ≡ right_half self.old right.old right.new.slots left_number }
+    {
+        match &mut self.kind {
+            Kind::Leaf(left) => match &mut right.kind {
+                Kind::Leaf(half) => {
+                    left.split_into(entry, half);
+                    hand_over(left, half, left_number, right_number);
+                }
+                Kind::Inner(_) => unreachable!(),
+            },
+            Kind::Inner(_) => unreachable!(),
+        }
+        right.reach = self.reach;
+    }
+
+    /// Parts the slots of a full border node among it and its right half, which gets its range from
+    /// its low fence on: where they would be parted with the key of this slice and mark.
+    pub(crate) fn split_without(
+        &mut self,
+        slice: u64,
+        mark: Mark,
+        right: &mut Node,
+        left_number: usize,
+        right_number: usize,
+    )
+        requires border { self.old.level ≡ 0 }
+        requires right_border { right.old.level ≡ 0 }
+        requires full { length self.old.slots ≡ SLOTS }
+        requires mark { IsMark mark }
+        requires missing { IsMissing self.old.slots slice mark }
+        requires empty { right.old.slots ≡ [] }
+        requires separator { IsSeparator (slices_with self.old.slots slice mark) right.old.low }
+        ensures parted { IsParted self.old.slots self.new.slots right.new.slots right.old.low }
+        ensures some_left { 0 < length self.new.slots }
+        ensures some_right { 0 < length right.new.slots }
+        ensures left { self.new ≡ left_half self.old self.new.slots right.old.low right_number }
+        ensures right { right.new ≡ right_half self.old right.old right.new.slots left_number }
+    {
+        match &mut self.kind {
+            Kind::Leaf(left) => match &mut right.kind {
+                Kind::Leaf(half) => {
+                    left.split_without(slice, mark, half);
+                    hand_over(left, half, left_number, right_number);
+                }
+                Kind::Inner(_) => unreachable!(),
+            },
+            Kind::Inner(_) => unreachable!(),
+        }
+        right.reach = self.reach;
+    }
+
+    /// A root over two halves of one, which meet at the separator: this node is the left one. The
+    /// operation holds it.
+    pub(crate) fn top(&self, left: usize, separator: u64, right: usize, operation: usize) -> Self
+        requires { self.now.level < 18446744073709551615 }
+        ensures { result ≡ fresh_top self.now left separator right operation }
+    {
+        let mut root = Interior::new(0, None, Version::root_interior().locked());
+        root.put_over(left, separator, right);
+        Node {
+            kind: Kind::Inner(root),
+            tree: self.tree,
+            level: self.level + 1,
+            reach: None,
+            holder: Some(operation),
+        }
+    }
+
+    /// Puts a left half that was the root below a new one, in which its range ends at its fence.
+    pub(crate) fn put_below(&mut self, top: usize)
+        ensures { self.new ≡ left_below self.old top }
+    {
+        self.set_version(self.version().made_child());
+        self.set_parent(Some(top));
+        self.reach = self.high();
+    }
+
+    /// Its range in its parent ends at its fence from now on.
+    pub(crate) fn make_exact(&mut self)
+        ensures { self.new ≡ exact self.old }
+    {
+        self.reach = self.high();
+    }
+
+    /// Puts a child in that begins at the separator, and marks the node for readers of its children.
+    pub(crate) fn insert_child(&mut self, separator: u64, child: usize)
+        requires interior { 0 < self.old.level }
+        requires room { length self.old.separators < 15 }
+        requires some_child { self.old.children ≢ [] }
+        requires missing { IsNew self.old.separators separator }
+        ensures { self.new ≡ with_child (inserting self.old) separator child }
+    {
+        match &mut self.kind {
+            Kind::Leaf(_) => unreachable!(),
+            Kind::Inner(interior) => interior.insert_child(separator, child),
+        }
+        self.mark_inserting();
+    }
+
+    /// Puts a child that begins at the separator into a full node, and parts its children among it and
+    /// its right half, which gets its range from the middle on.
+    pub(crate) fn split_inner(&mut self, separator: u64, child: usize, right: &mut Node)
+        requires interior { 0 < self.old.level }
+        requires right_interior { 0 < right.old.level }
+        requires full { length self.old.separators ≡ 15 }
+        requires missing { IsNew self.old.separators separator }
+        requires childless { right.old.children ≡ [] }
+        ensures left { self.new ≡ inner_left (with_child self.old separator child) }
+        ensures right { right.new ≡ inner_right (with_child self.old separator child) right.old }
+    {
+        match &mut self.kind {
+            Kind::Leaf(_) => unreachable!(),
+            Kind::Inner(left) => match &mut right.kind {
+                Kind::Leaf(_) => unreachable!(),
+                Kind::Inner(half) => {
+                    let middle = left.split_into(separator, child, half);
+                    half.set_high(left.high());
+                    left.set_high(Some(middle));
+                }
+            },
+        }
+        right.reach = self.reach;
+    }
+}
+
+// The right half gets the range from its low fence on, and stands between the left one and the next.
+fn hand_over(left: &mut Border, right: &mut Border, left_number: usize, right_number: usize)
+    ensures left { left.new ≡ record left.old { high = Some right.old.low; next = Some right_number } }
+    ensures right { right.new ≡ record right.old { high = left.old.high; next = left.old.next; previous = Some left_number } }
+{
+    right.set_high(left.high());
+    right.set_next(left.next());
+    right.set_previous(Some(left_number));
+    left.set_high(Some(right.low()));
+    left.set_next(Some(right_number));
 }

@@ -27,6 +27,7 @@ right_start quotas first base map_at changed begun =
       changes = λ m from le e. absurd (omega arith);
       once = λ m n o e f own owns. absurd (unowned m o own);
       one_end = λ m n o a b e f. absurd (unfinished o a (m, e));
+      last_end = λ m k o a e own. absurd (unfinished o a (m, e));
       answers = λ o answer done. absurd (unfinished o answer done);
       scans = λ o answer a done asked_a. absurd (unfinished o answer done);
     }
@@ -53,6 +54,7 @@ right_asked quotas first story map_at changed o what r = record {
   };
   once = r.once;
   one_end = r.one_end;
+  last_end = r.last_end;
   answers = λ q a done. let h = r.answers q a done in record {
     what = h.what;
     asked_so = asked_stays story o what q h.what h.asked_so;
@@ -146,6 +148,16 @@ module _ (quotas : Quotas) (first : Maps) (story : Story) (map_at now_at : ℕ �
       by (inl (le, at)) (inr (last, is)) = absurd (never m a b at is)
       by (inr (last, is)) (inl (le, at)) = absurd (never n b a at is)
 
+  -- an operation's end is its last step
+  last_ends : (m k q : ℕ) (a : Answer) → step_of (with_step story o answer) m ≡ Some (record { op = q; answer = Some a }) → owner (with_step story o answer) k ≡ Some q → k ≤ m
+  last_ends m k q a e own = by (step_cases story o answer m _ e) (owner_cases story o answer k q own)
+    where
+      by : EndsAt story o answer q m a → OwnsAt story o q k → k ≤ m
+      by (inl (le, at)) (inl (lo, was)) = r.last_end m k q a at was
+      by (inl (le, at)) (inr (last, is)) = absurd (g.open_still a (subst (λ n. Finished story n a) is (m, at)))
+      by (inr (last, is)) (inl (lo, was)) = omega arith
+      by (inr (last, is)) (inr (end, so)) = omega arith
+
   -- an old scan is as lawful by the longer story
   scan_stays : (q : ℕ) (a : Answer) (w : Asked) → Finished story q a → story.asked q ≡ Some w → IsLawfulScan (now_at w.tenant) (IsBetween (with_step story o answer) q) w.command a.reply
   scan_stays q a w done asked_w =
@@ -175,6 +187,7 @@ module _ (quotas : Quotas) (first : Maps) (story : Story) (map_at now_at : ℕ �
     ];
     once = both_changes;
     one_end = both_ends;
+    last_end = last_ends;
     answers = λ q a done. elim (finished_cases story o answer q a done) [
       | inl before ↦ answer_stays q a (r.answers q a before)
       | inr (is, now) ↦ subst (λ n. IsAnswered quotas (with_step story o answer) now_at now_changed n a) (sym is) (g.answered a now)

@@ -213,6 +213,7 @@ one_order quotas first story map_at changed r =
           let inside = answer_in_run quotas first story map_at changed r o answer done placed in
           count_of_stands quotas first story map_at changed r o answer.at n (omega arith) inside.1 (answer_stands quotas first story map_at changed r o answer done placed);
       others = λ o. count_small quotas first story map_at changed r o n;
+      ends = r.last_end;
     } in
     let legal = (upto_along quotas first story map_at changed r (HasReply quotas story) (change_has_reply quotas first story map_at changed r) (look_has_reply quotas first story map_at changed r) n from (omega arith)).0 in
     let scans = λ (o : ℕ) (answer : Answer) (a : Asked) (done : Finished story o answer) (asked_a : story.asked o ≡ Some a).

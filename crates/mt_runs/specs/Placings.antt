@@ -8,7 +8,7 @@ use Rattle.mt_rows.specs.declared.reply.Reply.{Reply}
 use Rattle.mt_runs.specs.Scans.{IsLawfulScan}
 use Rattle.mt_rows.specs.Maps.{Map, reply_of, map_after, is_change, is_scan, is_no_memory}
 use Rattle.mt_runs.specs.declared.event.Answer.{Answer}
-use Rattle.mt_runs.specs.Runs.{Story, Asked, last_step, owner, Finished, IsSinceFirst, IsUpToLast, IsBetween}
+use Rattle.mt_runs.specs.Runs.{Story, Asked, last_step, step_of, owner, Finished, IsSinceFirst, IsUpToLast, IsBetween}
 
 -- operations with their numbers, in order
 abbrev pub Placing : Type 0
@@ -69,6 +69,8 @@ pub record Fits (quotas : Quotas) (first : Maps) (story : Story) (placing : Plac
   pub stands : Along (MayStand quotas story) quotas story first story.base placing
   pub finished : (o : ℕ) (answer : Answer) → Finished story o answer → is_placed answer ≡ true → count_of o placing ≡ 1
   pub others : (o : ℕ) → count_of o placing ≤ 1
+  -- an operation that is finished makes no step after that
+  pub ends : (m k o : ℕ) (a : Answer) → step_of story m ≡ Some (record { op = o; answer = Some a }) → owner story k ≡ Some o → k ≤ m
 
 -- a finished operation has the reply to its own command on its tenant's map
 abbrev pub HasReply : Quotas → Story → Maps → ℕ → ℕ → ℕ → Type 0

@@ -1,4 +1,5 @@
 use Rattle.mt_arena.proofs.Evolving.{evolves_none, evolves_on}
+use Rattle.mt_arena.proofs.Naming.{points_on}
 use Rattle.mt_arena.proofs.Settled.{settled_stays}
 use Rattle.mt_arena.proofs.laws.steps_add_up.Goals as goal
 
@@ -10,3 +11,6 @@ returns-clause-two c = λ op old mid new were between are arena a b. evolves_on 
 
 pub returns-clause-settled : goal.returns-clause-settled
 returns-clause-settled c = λ op holder old new were are k. settled_stays op holder old new were are k
+
+pub returns-clause-points : goal.returns-clause-points
+returns-clause-points c = points_on

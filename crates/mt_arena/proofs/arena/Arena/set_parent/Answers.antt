@@ -16,7 +16,7 @@ returns-clause-step c =
     let within = rw (← c.self.view_is) at c.requires.there in
     let held = rw (← c.self.view_is) at c.requires.held in
     rw (← c.self.view_is, c.set_parent.ensures, read c.self.inside.nodes.items c.args.node c.index_mut.result.now within c.index_mut.ensures.value)
-    (step_parent _ c.args.node c.args.parent c.args.operation within held.holder (rw (← c.self.view_is) at c.requires.mine))
+    (step_parent _ c.args.node c.args.parent c.args.operation within held.holder (rw (← c.self.view_is) at c.requires.mine) (rw (← c.self.view_is) at c.requires.theirs))
 
 pub returns-clause-contents : goal.returns-clause-contents
 returns-clause-contents c =

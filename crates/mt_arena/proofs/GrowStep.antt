@@ -1,0 +1,237 @@
+-- A new root as one step.
+use Rattle.std.proofs.Common.{◌≡◌, ◌≢◌, ℕ, ◌+◌, ◌<◌, ◌++◌, List, [], ◌∷◌, length, set, true, false, refl, sym, ap, ◌∙◌, inl, inr, arith, length-append}
+use Rattle.std.proofs.lemmas.Bool.{cases_eq}
+use Rattle.std.proofs.lemmas.List.{length-set, get_or-set_same, get_or-set_other}
+use Rattle.mt_rows.specs.Rows.{Bytes}
+use Rattle.mt_arena.specs.declared.tree.Tree.{Tree}
+use Rattle.mt_arena.specs.declared.tree.Standing.TheVariants.{Dead}
+use Rattle.mt_arena.specs.Shape.{Shape, node_at}
+use Rattle.mt_arena.specs.Forests.{IsForest, IsHome, IsTree, HaveKeys, tree_at, no_tree}
+use Rattle.mt_arena.specs.Growth.{Grows, fresh_top, left_below, right_below}
+use Rattle.mt_arena.proofs.Pairs.{here, there, last, before}
+
+no_keys_at_all : (prefix : Bytes) → HaveKeys prefix []
+no_keys_at_all prefix = record { keys = λ k d inside. absurd (omega arith); begun = λ k d inside. absurd (omega arith) }
+
+module _ (xs : List Shape) (trees : List Tree) (i j op : ℕ) (f : Grows xs i j) (forest : IsForest xs trees)
+    (is_root : (node_at xs i).version.root ≡ true) (no_root : (node_at xs j).version.root ≡ false) where
+  abbrev l : Shape
+  l = node_at xs i
+
+  abbrev r : Shape
+  r = node_at xs j
+
+  abbrev t : ℕ
+  t = l.tree
+
+  abbrev tree : Tree
+  tree = tree_at trees t
+
+  abbrev grown : Tree
+  grown = record tree { root = length xs }
+
+  abbrev ts : List Tree
+  ts = set trees t grown
+
+  abbrev y : Shape
+  y = left_below l (length xs)
+
+  abbrev z : Shape
+  z = right_below r (length xs)
+
+  abbrev g : Shape
+  g = fresh_top l i r.low j op
+
+  abbrev ws : List Shape
+  ws = set (set xs i y) j z
+
+  abbrev vs : List Shape
+  vs = ws ++ g ∷ []
+
+  li : i < length xs
+  li = f.left_there
+
+  lj : j < length xs
+  lj = f.right_there
+
+  size : length ws ≡ length xs
+  size = length-set (set xs i y) j z ∙ length-set xs i y
+
+  more : length vs ≡ length xs + 1
+  more = omega (arith, length-append ws (g ∷ []), size)
+
+  at_i : node_at vs i ≡ y
+  at_i = before ws g i (omega (arith, li, size)) ∙ there (set xs i y) j i z f.differ ∙ here xs i y li
+
+  at_j : node_at vs j ≡ z
+  at_j = before ws g j (omega (arith, lj, size)) ∙ here (set xs i y) j z (omega (arith, lj, length-set xs i y))
+
+  at : (k : ℕ) → k < length xs → k ≢ i → k ≢ j → node_at vs k ≡ node_at xs k
+  at k lt ni nj = before ws g k (omega (arith, lt, size)) ∙ there (set xs i y) j k z nj ∙ there xs i k y ni
+
+  at_top : node_at vs (length xs) ≡ g
+  at_top = ap (node_at vs) (sym size) ∙ last ws g
+
+  lt_t : t < length trees
+  lt_t = forest.tree_there i li
+
+  home : IsHome i l t tree
+  home = forest.homes i t li lt_t
+
+  was_root : tree.root ≡ i
+  was_root = home.root_named refl f.left_live is_root
+
+  stands : tree.standing ≢ Dead
+  stands = home.standing refl f.left_live
+
+  tree_t : tree_at ts t ≡ grown
+  tree_t = get_or-set_same trees t grown no_tree lt_t
+
+  tree_u : (u : ℕ) → u ≢ t → tree_at ts u ≡ tree_at trees u
+  tree_u u other = get_or-set_other trees t u grown no_tree other
+
+  trees_size : length ts ≡ length trees
+  trees_size = length-set trees t grown
+
+  pub same_prefix : (u : ℕ) → (tree_at ts u).prefix ≡ (tree_at trees u).prefix
+  same_prefix u = elim (cases_eq u t) [
+    | inl is ↦ ap (λ u. (tree_at ts u).prefix) is ∙ ap (λ (w : Tree). w.prefix) tree_t ∙ ap (λ u. (tree_at trees u).prefix) (sym is)
+    | inr other ↦ ap (λ (w : Tree). w.prefix) (tree_u u other)
+  ]
+
+  pub same_standing : (u : ℕ) → (tree_at ts u).standing ≡ (tree_at trees u).standing
+  same_standing u = elim (cases_eq u t) [
+    | inl is ↦ ap (λ u. (tree_at ts u).standing) is ∙ ap (λ (w : Tree). w.standing) tree_t ∙ ap (λ u. (tree_at trees u).standing) (sym is)
+    | inr other ↦ ap (λ (w : Tree). w.standing) (tree_u u other)
+  ]
+
+  -- each node and the tree that grew
+  top_home : IsHome (length xs) g t grown
+  top_home = record {
+    root_tree = λ e standing. refl;
+    root_is = λ e standing. record { live = refl; flag = refl; parentless = refl; low = refl; reach = refl };
+    root_named = λ e live flag. refl;
+    standing = λ e live. stands;
+    keys = λ e. no_keys_at_all grown.prefix;
+  }
+
+  left_home : IsHome i y t grown
+  left_home = record {
+    root_tree = λ e standing. refl;
+    root_is = λ e standing. absurd (omega (arith, e, li));
+    root_named = λ e live flag. absurd (cc);
+    standing = λ e live. stands;
+    keys = λ e. home.keys refl;
+  }
+
+  right_home : IsHome j z t grown
+  right_home =
+      let h = forest.homes j t lj lt_t in
+      record {
+        root_tree = λ e standing. f.right_tree;
+        root_is = λ e standing. absurd (omega (arith, e, lj));
+        root_named = λ e live flag. absurd (let both = sym flag ∙ no_root in cc);
+        standing = λ e live. stands;
+        keys = λ e. h.keys e;
+      }
+
+  kept_home : (k : ℕ) → k < length xs → k ≢ i → IsHome k (node_at xs k) t grown
+  kept_home k lt ni =
+      let h = forest.homes k t lt lt_t in
+      record {
+        root_tree = λ e standing. absurd (omega (arith, e, lt));
+        root_is = λ e standing. absurd (omega (arith, e, lt));
+        root_named = λ e live flag. absurd (ni (sym (h.root_named e live flag) ∙ was_root));
+        standing = h.standing;
+        keys = h.keys;
+      }
+
+  -- and any other tree
+  top_away : (u : ℕ) → u < length trees → u ≢ t → IsHome (length xs) g u (tree_at trees u)
+  top_away u lt other = record {
+    root_tree = λ e standing. absurd (omega (arith, e, (forest.each u lt).root_there));
+    root_is = λ e standing. absurd (omega (arith, e, (forest.each u lt).root_there));
+    root_named = λ e live flag. absurd (other (sym e));
+    standing = λ e live. absurd (other (sym e));
+    keys = λ e. no_keys_at_all (tree_at trees u).prefix;
+  }
+
+  left_away : (u : ℕ) → u < length trees → u ≢ t → IsHome i y u (tree_at trees u)
+  left_away u lt other =
+      let h = forest.homes i u li lt in
+      record {
+        root_tree = h.root_tree;
+        root_is = λ e standing. absurd (other (sym (h.root_tree e standing)));
+        root_named = λ e live flag. absurd (other (sym e));
+        standing = h.standing;
+        keys = h.keys;
+      }
+
+  right_away : (u : ℕ) → u < length trees → u ≢ t → IsHome j z u (tree_at trees u)
+  right_away u lt other =
+      let h = forest.homes j u lj lt in
+      record {
+        root_tree = h.root_tree;
+        root_is = λ e standing. absurd (other (sym (h.root_tree e standing) ∙ f.right_tree));
+        root_named = h.root_named;
+        standing = h.standing;
+        keys = h.keys;
+      }
+
+  home_at : (k : ℕ) → k < length vs → (u : ℕ) → u < length trees → IsHome k (node_at vs k) u (tree_at ts u)
+  home_at k lk u lu = elim (cases_eq u t) [
+    | inl is ↦ rw (is, tree_t) (elim (cases_eq k (length xs)) [
+      | inl top ↦ rw (top, at_top) top_home
+      | inr ntop ↦ elim (cases_eq k i) [
+        | inl k_i ↦ rw (k_i, at_i) left_home
+        | inr ni ↦ elim (cases_eq k j) [
+          | inl k_j ↦ rw (k_j, at_j) right_home
+          | inr nj ↦ rw (at k (omega (arith, lk, more, ntop)) ni nj) (kept_home k (omega (arith, lk, more, ntop)) ni)
+        ]
+      ]
+    ])
+    | inr other ↦ rw (tree_u u other) (elim (cases_eq k (length xs)) [
+      | inl top ↦ rw (top, at_top) (top_away u lu other)
+      | inr ntop ↦ elim (cases_eq k i) [
+        | inl k_i ↦ rw (k_i, at_i) (left_away u lu other)
+        | inr ni ↦ elim (cases_eq k j) [
+          | inl k_j ↦ rw (k_j, at_j) (right_away u lu other)
+          | inr nj ↦ rw (at k (omega (arith, lk, more, ntop)) ni nj) (forest.homes k u (omega (arith, lk, more, ntop)) lu)
+        ]
+      ]
+    ])
+  ]
+
+  tree_of_node : (k : ℕ) → k < length vs → (node_at vs k).tree < length trees
+  tree_of_node k lk = elim (cases_eq k (length xs)) [
+    | inl top ↦ rw (top, at_top) lt_t
+    | inr ntop ↦ elim (cases_eq k i) [
+      | inl k_i ↦ rw (k_i, at_i) lt_t
+      | inr ni ↦ elim (cases_eq k j) [
+        | inl k_j ↦ rw (k_j, at_j) (forest.tree_there j lj)
+        | inr nj ↦ rw (at k (omega (arith, lk, more, ntop)) ni nj) (forest.tree_there k (omega (arith, lk, more, ntop)))
+      ]
+    ]
+  ]
+
+  each_tree : (u : ℕ) → u < length trees → IsTree (length vs) (tree_at ts u)
+  each_tree u lu = elim (cases_eq u t) [
+    | inl is ↦ rw (is, tree_t) (record { root_there = omega (arith, more); whole = (forest.each t lt_t).whole })
+    | inr other ↦ rw (tree_u u other) (record { root_there = omega (arith, more, (forest.each u lu).root_there); whole = (forest.each u lu).whole })
+  ]
+
+  pub forest_grown : IsForest vs ts
+  forest_grown = record {
+    tree_there = λ k lk. omega (arith, tree_of_node k lk, trees_size);
+    homes = λ k u lk lu. home_at k lk u (omega (arith, lu, trees_size));
+    each = λ u lu. each_tree u (omega (arith, lu, trees_size));
+    peers = λ a b la lb. record {
+      one_live = λ d live also e. (forest.peers a b (omega (arith, la, trees_size)) (omega (arith, lb, trees_size))).one_live d
+          (sym (same_standing a) ∙ live) (sym (same_standing b) ∙ also) (sym (same_prefix a) ∙ e ∙ same_prefix b);
+    };
+    top = record {
+      there = omega (arith, forest.top.there, trees_size);
+      live = same_standing 0 ∙ forest.top.live;
+      prefix = same_prefix 0 ∙ forest.top.prefix;
+    };
+  }

@@ -1,0 +1,234 @@
+-- The slots of a border node are parted among it and its right half, with a new key's or without: what holds, and what others rely on.
+use Rattle.std.proofs.Common.{◌≡◌, ◌≢◌, ◌⊎◌, ℕ, ◌+◌, ◌-◌, ◌<◌, ◌≤◌, List, ◌++◌, length, take, drop, get_or, set, Some, refl, sym, ap, subst, ◌∙◌, inl, inr, arith, length-append}
+use Rattle.std.specs.List.{All}
+use Rattle.std.specs.FinMap as finite
+use Rattle.std.proofs.lemmas.Bool.{cases_lt}
+use Rattle.std.proofs.lemmas.Option.{same_Some}
+use Rattle.std.proofs.lemmas.List.{length-set, get_or-map, get_or_append_left, get_or-append-add, take_at, drop_at}
+use Rattle.mt_slices.specs.declared.mark.Mark.{Mark}
+use Rattle.mt_slices.specs.declared.mark.Mark.TheVariants.{Short}
+use Rattle.mt_rows.specs.Rows.{Bytes}
+use Rattle.mt_border.specs.declared.entry.Entry.{Entry}
+use Rattle.mt_border.specs.declared.entry.Pair.{Pair}
+use Rattle.mt_border.specs.declared.entry.Held.TheVariants.{Stable}
+use Rattle.mt_border.specs.Entry.{IsEntry, order_of, pair_of}
+use Rattle.mt_border.specs.Entries.{IsBorder, IsRising, orders, slices, place_in, with_entry}
+use Rattle.mt_border.specs.Split.{IsParted}
+use Rattle.mt_border.specs.Contents.{HasKey, owned}
+use Rattle.mt_border.proofs.Edits.{any_entry, place_in-le, All-insert, border_take, border_drop, orders-insert, rising_with}
+use Rattle.mt_border.proofs.Parts.{All-left, All-right}
+use Rattle.mt_border.proofs.ContentsEdits.{keys-publish, length-publish}
+use Rattle.mt_interior.specs.Fences.{end_of}
+use Rattle.mt_arena.specs.declared.tree.Tree.{Tree}
+use Rattle.mt_arena.specs.declared.retired.Retired.{Retired}
+use Rattle.mt_arena.specs.Shape.{Shape, node_at}
+use Rattle.mt_arena.specs.Nodes.{Holds}
+use Rattle.mt_arena.specs.Forests.{HaveKeys, tree_at, layer_of}
+use Rattle.mt_arena.specs.Contents.{content}
+use Rattle.mt_arena.specs.Ways.{IsUnfilled}
+use Rattle.mt_arena.specs.declared.tree.Standing.TheVariants.{Live}
+use Rattle.mt_arena.specs.Arena.{Sound, View, IsStep}
+use Rattle.mt_arena.specs.Accesses.{at, tree_of}
+use Rattle.mt_arena.specs.Splits.{Splits, left_half, right_half}
+use Rattle.mt_arena.specs.Several.{IsHalf, MaySplit, MayPlace}
+use Rattle.mt_arena.proofs.LinkEdits.{HasSlot, HasLinksOf, same_links, links_insert, links_insert_back}
+use Rattle.mt_arena.proofs.Homes.{begun}
+use Rattle.mt_arena.proofs.Locks.{is_held}
+use Rattle.mt_arena.proofs.Steps.{keys_of}
+use Rattle.mt_arena.proofs.Slots.{within_each, no_link, begun_mark}
+use Rattle.mt_arena.proofs.SplitStep.{sound_split, evolves_split}
+use Rattle.mt_arena.proofs.Naming.{names_same, points_each, each_set2}
+use Rattle.mt_arena.proofs.Halves.{halved, parted_as_were}
+use Rattle.mt_arena.proofs.Evolving.{PointsSo}
+
+-- links of links
+links_on : (a b c : List Entry) → HasLinksOf a b → HasLinksOf b c → HasLinksOf a c
+links_on a b c ab bc j u lt is =
+    let one = bc j u lt is in
+    let two = ab one.slot u one.in_range one.is in
+    record { slot = two.slot; in_range = two.in_range; is = two.is; slice_is = two.slice_is ∙ one.slice_is }
+
+links_left : (l r : List Entry) → HasLinksOf (l ++ r) l
+links_left l r j u lt is =
+    let same = get_or_append_left l r any_entry j lt in
+    record { slot = j; in_range = omega (arith, lt, length-append l r); is = ap (λ (x : Entry). x.held) same ∙ is; slice_is = ap (λ (x : Entry). x.slice) same }
+
+links_right : (l r : List Entry) → HasLinksOf (l ++ r) r
+links_right l r j u lt is =
+    let same = get_or-append-add l r j any_entry in
+    record { slot = length l + j; in_range = omega (arith, lt, length-append l r); is = ap (λ (x : Entry). x.held) same ∙ is; slice_is = ap (λ (x : Entry). x.slice) same }
+
+-- a link is in one of two parts
+slot_parted : (l r : List Entry) (u slice : ℕ) → HasSlot (l ++ r) u slice → HasSlot l u slice ⊎ HasSlot r u slice
+slot_parted l r u slice h = elim (cases_lt h.slot (length l)) [
+  | inl low ↦
+      let same = get_or_append_left l r any_entry h.slot low in
+      inl (record { slot = h.slot; in_range = low; is = ap (λ (x : Entry). x.held) (sym same) ∙ h.is; slice_is = ap (λ (x : Entry). x.slice) (sym same) ∙ h.slice_is })
+  | inr high ↦
+      let same : get_or (l ++ r) h.slot any_entry ≡ get_or r (h.slot - length l) any_entry = ap (λ k. get_or (l ++ r) k any_entry) {x = h.slot} {y = length l + (h.slot - length l)} (omega (arith, high)) ∙ get_or-append-add l r (h.slot - length l) any_entry in
+      inr (record { slot = h.slot - length l; in_range = omega (arith, high, h.in_range, length-append l r); is = ap (λ (x : Entry). x.held) (sym same) ∙ h.is; slice_is = ap (λ (x : Entry). x.slice) (sym same) ∙ h.slice_is })
+]
+
+-- slots that may stand in a node and its right half together
+pub record Gathers (trees : List Tree) (x : Shape) (all : List Entry) : Type 0 where
+  pub few : length all ≤ 16
+  pub rising : IsRising (orders all)
+  pub each : All IsEntry all
+  pub inside : All (λ (e : Entry). Holds x e.slice) all
+  pub keys : HaveKeys (tree_at trees x.tree).prefix all
+  pub forth : HasLinksOf all x.slots
+  pub back : HasLinksOf x.slots all
+
+-- those of a node, and those with one key more
+pub gathers_same : (xs : List Shape) (trees : List Tree) (gone : List Retired) (room i : ℕ) → i < length xs → Sound xs trees gone room → Gathers trees (node_at xs i) (node_at xs i).slots
+gathers_same xs trees gone room i within sound =
+    let x = node_at xs i in
+    let h = sound.arena.nodes.each i within in
+    record {
+      few = omega (arith, h.border.within);
+      rising = h.border.rising;
+      each = h.border.each;
+      inside = within_each x x.slots h.slots_within;
+      keys = keys_of xs trees i within sound.arena.forest;
+      forth = same_links x.slots;
+      back = same_links x.slots;
+    }
+
+pub gathers_with : (v : View) (room left right op : ℕ) (key : Bytes) (e : Entry) → Sound v.nodes v.trees v.retired room → MaySplit v left right op e.slice e.mark → MayPlace v left op key e → Gathers v.trees (at v left) (with_entry (at v left).slots e)
+gathers_with v room left right op key e sound may place =
+    let x = at v left in
+    let layer = layer_of (tree_of v left).prefix in
+    let was = gathers_same v.nodes v.trees v.retired room left may.half.held.there sound in
+    let p = place_in x.slots (order_of e) in
+    let le = place_in-le x.slots (order_of e) in
+    record {
+      few = omega (arith, may.full, length-publish x.slots e);
+      rising = rw (orders-insert x.slots p e) (rising_with x.slots e.slice e.mark (sound.arena.nodes.each left may.half.held.there).border place.entry.mark may.missing);
+      each = All-insert IsEntry x.slots p e was.each place.entry;
+      inside = All-insert (λ (e : Entry). Holds x e.slice) x.slots p e was.inside (subst (Holds x) (sym place.has.slice) place.belongs.holds);
+      keys = record {
+        keys = keys-publish (tree_of v left).prefix layer x.slots e key was.keys.keys place.has;
+        begun = All-insert (λ (e : Entry). e.mark ≢ Short 0) x.slots p e was.keys.begun (λ none. begun_mark key layer place.belongs.begun (sym place.has.mark ∙ none));
+      };
+      forth = links_insert x.slots p e le;
+      back = links_insert_back x.slots p e le (no_link e.held place.stable);
+    }
+
+-- slices entry by entry
+each_slice : (P : ℕ → Type 0) (es : List Entry) → All (λ (e : Entry). P e.slice) es → (i : ℕ) → i < length es → P (get_or (slices es) i 0)
+each_slice P es each i lt = subst P (sym (get_or-map (λ (e : Entry). e.slice) es i any_entry 0 lt)) (each i any_entry lt)
+
+module _ (v : View) (room left right op : ℕ) (all kept moved : List Entry) (sound : Sound v.nodes v.trees v.retired room) (half : IsHalf v left right op) (border : (at v left).level ≡ 0) (ok : Gathers v.trees (at v left) all)
+    (parted : IsParted all kept moved (at v right).low) (some_kept : 0 < length kept) (some_moved : 0 < length moved) where
+  abbrev x : Shape
+  x = at v left
+
+  abbrev r : Shape
+  r = at v right
+
+  abbrev new : List Shape
+  new = set (set v.nodes left (left_half x kept r.low right)) right (right_half x r moved left)
+
+  size : length kept + length moved ≤ 16
+  size = omega (arith, ok.few, ap length parted.joined, length-append kept moved)
+
+  inside : All (λ (e : Entry). Holds x e.slice) (kept ++ moved)
+  inside = subst (All (λ (e : Entry). Holds x e.slice)) (sym parted.joined) ok.inside
+
+  inside_kept : All (λ (e : Entry). Holds x e.slice) kept
+  inside_kept = All-left (λ (e : Entry). Holds x e.slice) kept moved inside
+
+  inside_moved : All (λ (e : Entry). Holds x e.slice) moved
+  inside_moved = All-right (λ (e : Entry). Holds x e.slice) kept moved inside
+
+  is_kept : take (length kept) all ≡ kept
+  is_kept = ap (take (length kept)) (sym parted.joined) ∙ take_at kept moved (length kept) refl
+
+  is_moved : drop (length kept) all ≡ moved
+  is_moved = ap (drop (length kept)) (sym parted.joined) ∙ drop_at kept moved (length kept) refl
+
+  splits : Splits x r kept moved
+  splits = record {
+    held = is_held op x half.held.holder;
+    marked = half.marked;
+    live = half.live;
+    border = border;
+    right_held = is_held op r half.right_held.holder;
+    right_marked = half.right_marked;
+    right_live = half.right_live;
+    right_tree = half.right_tree;
+    right_level = half.right_level;
+    right_reach = half.right_reach;
+    above = omega (arith, (inside_kept 0 any_entry some_kept).0, parted.below 0 any_entry some_kept);
+    below = omega (arith, (inside_moved 0 any_entry some_moved).1, parted.above 0 any_entry some_moved);
+    kept_border = subst IsBorder is_kept (border_take all (length kept) ok.rising ok.each (omega (arith, size, some_moved)));
+    moved_border = subst IsBorder is_moved (border_drop all (length kept) ok.rising ok.each (omega (arith, ok.few, some_kept)));
+    kept_within = λ i lt. (
+      each_slice (λ s. x.low ≤ s) kept (λ k d lt. (inside_kept k d lt).0) i lt,
+      each_slice (λ s. s < r.low) kept parted.below i lt,
+    );
+    moved_within = λ i lt. (
+      each_slice (λ s. r.low ≤ s) moved parted.above i lt,
+      each_slice (λ s. s < end_of x.high) moved (λ k d lt. (inside_moved k d lt).1) i lt,
+    );
+  }
+
+  keys_all : HaveKeys (tree_at v.trees x.tree).prefix (kept ++ moved)
+  keys_all = subst (HaveKeys (tree_at v.trees x.tree).prefix) (sym parted.joined) ok.keys
+
+  keys_kept : HaveKeys (tree_at v.trees x.tree).prefix kept
+  keys_kept = record {
+    keys = All-left (λ e. (key : Bytes) × HasKey (tree_at v.trees x.tree).prefix (layer_of (tree_at v.trees x.tree).prefix) e key) kept moved keys_all.keys;
+    begun = All-left (λ (e : Entry). e.mark ≢ Short 0) kept moved keys_all.begun;
+  }
+
+  keys_moved : HaveKeys (tree_at v.trees x.tree).prefix moved
+  keys_moved = record {
+    keys = All-right (λ e. (key : Bytes) × HasKey (tree_at v.trees x.tree).prefix (layer_of (tree_at v.trees x.tree).prefix) e key) kept moved keys_all.keys;
+    begun = All-right (λ (e : Entry). e.mark ≢ Short 0) kept moved keys_all.begun;
+  }
+
+  pub sound_halved : Sound new v.trees v.retired room
+  sound_halved = sound_split v.nodes v.trees left right kept moved half.held.there half.right_held.there half.differ splits v.retired room sound half.empty half.no_root
+      keys_kept (subst (λ t. HaveKeys (tree_at v.trees t).prefix moved) (sym half.right_tree) keys_moved)
+      (links_on x.slots all kept ok.back (subst (λ (es : List Entry). HasLinksOf es kept) parted.joined (links_left kept moved)))
+      (links_on x.slots all moved ok.back (subst (λ (es : List Entry). HasLinksOf es moved) parted.joined (links_right kept moved)))
+      (λ a u lt is. slot_parted kept moved u (get_or x.slots a any_entry).slice (subst (λ (es : List Entry). HasSlot es u (get_or x.slots a any_entry).slice) (sym parted.joined) (ok.forth a u lt is)))
+
+  still_held : (node_at new left).holder ≡ Some op
+  still_held = each_set2 (λ k n. k ≡ left → n.holder ≡ Some op) v.nodes left right (left_half x kept r.low right) (right_half x r moved left) half.held.there half.right_held.there half.differ
+      (λ _. half.held.holder) (λ e. absurd (half.differ (sym e))) (λ k lt ni nj e. absurd (ni e)) left half.held.there refl
+
+  pub step_halved : IsStep op v (record v { nodes = new })
+  step_halved = record {
+    evolves = evolves_split v.nodes v.trees left right kept moved half.held.there half.right_held.there half.differ splits op half.held.holder half.right_held.holder sound.arena.forest half.mine;
+    points = points_each op v.nodes new (length-set (set v.nodes left (left_half x kept r.low right)) right (right_half x r moved left) ∙ length-set v.nodes left (left_half x kept r.low right))
+        (each_set2 (λ k n. PointsSo op new (at v k) n) v.nodes left right (left_half x kept r.low right) (right_half x r moved left) half.held.there half.right_held.there half.differ
+        (names_same op new x (left_half x kept r.low right) refl refl)
+        (record {
+          previous = λ j e not_mine. absurd (not_mine (ap (λ k. (node_at new k).holder) (sym (same_Some _ _ e)) ∙ still_held));
+          parent = λ j e not_mine. e;
+        })
+        (λ k lt ni nj. names_same op new (at v k) (at v k) refl refl));
+  }
+
+-- the right half is a node without slots of the same tree
+unfilled : (v : View) (left right op : ℕ) → IsHalf v left right op → IsUnfilled v.nodes left right
+unfilled v left right op half = record { other = half.differ; there = half.right_held.there; live = half.right_live; tree = half.right_tree; empty = half.empty }
+
+pub content_halved : (v : View) (room left right op : ℕ) (key : Bytes) (e : Entry) (pair : Pair) (kept moved : List Entry) → Sound v.nodes v.trees v.retired room → MaySplit v left right op e.slice e.mark → MayPlace v left op key e → e.held ≡ Stable pair
+    → IsParted (with_entry (at v left).slots e) kept moved (at v right).low
+    → content v.trees (set (set v.nodes left (left_half (at v left) kept (at v right).low right)) right (right_half (at v left) (at v right) moved left)) ≡ finite.insert (content v.trees v.nodes) (owned key) pair.row
+content_halved v room left right op key e pair kept moved sound may place is parted =
+    halved v.nodes v.trees sound.arena (begun v.nodes v.trees sound.arena.forest) key (layer_of (tree_of v left).prefix) left right place.belongs (unfilled v left right op may.half)
+    (left_half (at v left) kept (at v right).low right) (right_half (at v left) (at v right) moved left) kept moved (at v right).low e pair place.has may.missing (ap pair_of is) parted
+    (record { slots = refl; deleted = refl; tree = refl }) (record { slots = refl; deleted = refl; tree = refl })
+
+pub content_parted : (v : View) (room left right op slice : ℕ) (mark : Mark) (kept moved : List Entry) → Sound v.nodes v.trees v.retired room → MaySplit v left right op slice mark → (tree_of v left).standing ≡ Live
+    → IsParted (at v left).slots kept moved (at v right).low
+    → content v.trees (set (set v.nodes left (left_half (at v left) kept (at v right).low right)) right (right_half (at v left) (at v right) moved left)) ≡ content v.trees v.nodes
+content_parted v room left right op slice mark kept moved sound may live parted =
+    parted_as_were v.nodes v.trees sound.arena (begun v.nodes v.trees sound.arena.forest) (layer_of (tree_of v left).prefix) left right may.half.held.there may.half.live live (unfilled v left right op may.half)
+    (keys_of v.nodes v.trees left may.half.held.there sound.arena.forest).keys
+    (left_half (at v left) kept (at v right).low right) (right_half (at v left) (at v right) moved left) kept moved (at v right).low
+    (record { slots = refl; deleted = refl; tree = refl }) (record { slots = refl; deleted = refl; tree = refl }) parted

@@ -1,0 +1,172 @@
+-- A right half comes to stand in its parent, as one step: what holds, and what others rely on.
+use Rattle.std.proofs.Common.{◌≡◌, ◌≢◌, ℕ, suc, ◌+◌, ◌<◌, List, ◌∷◌, [], length, get_or, set, Some, refl, sym, ap, subst, ◌∙◌, inl, inr, arith}
+use Rattle.std.proofs.lemmas.Bool.{cases_lt}
+use Rattle.std.proofs.lemmas.List.{length-set, set-set, get_or_append_left}
+use Rattle.mt_interior.specs.Places.{IsNew}
+use Rattle.mt_interior.specs.Fences.{end_of}
+use Rattle.mt_arena.specs.declared.tree.Tree.{Tree}
+use Rattle.mt_arena.specs.Shape.{Shape, node_at}
+use Rattle.mt_arena.specs.declared.tree.Standing.TheVariants.{Made}
+use Rattle.mt_arena.specs.Forests.{IsForest, tree_at}
+use Rattle.mt_arena.specs.Ranges.{AreRanged}
+use Rattle.mt_arena.specs.Nodes.{AreNodes, IsChild, bounds}
+use Rattle.mt_arena.specs.Contents.{content}
+use Rattle.mt_arena.specs.Arena.{Sound, View, IsStep}
+use Rattle.mt_arena.specs.Accesses.{at}
+use Rattle.mt_arena.specs.Edits.{inserting}
+use Rattle.mt_arena.specs.Splits.{Inserts, with_child, exact}
+use Rattle.mt_arena.specs.Several.{MayInsert, with_right}
+use Rattle.mt_arena.proofs.Pairs.{here, there}
+use Rattle.mt_arena.proofs.Quiet.{nodes_inserting}
+use Rattle.mt_arena.proofs.Ranges.{rises, not_empty, length_bounds}
+use Rattle.mt_arena.proofs.Ranged.{ranged_turned, ranged_insert_child}
+use Rattle.mt_arena.proofs.Child.{nodes_insert_child, left_child, differ_ij}
+use Rattle.mt_arena.proofs.Steps.{keys_of}
+use Rattle.mt_arena.proofs.Slots.{changes_slots}
+use Rattle.mt_arena.proofs.HeldChanges.{changes_with_child, changes_exact}
+use Rattle.mt_arena.proofs.Evolving.{changes_on, PointsSo}
+use Rattle.mt_arena.proofs.Naming.{names_same, points_each, each_set2}
+use Rattle.mt_arena.proofs.Several.{AreKept, kept_set2, KeepsPlace, forest_set2, MayTurn, evolves_set2}
+
+module _ (xs : List Shape) (i j q : ℕ) (nodes : AreNodes xs) (f : Inserts xs i j q) where
+  abbrev p : Shape
+  p = node_at xs i
+
+  abbrev l : Shape
+  l = node_at xs j
+
+  abbrev r : Shape
+  r = node_at xs q
+
+  child : IsChild p f.child.place l
+  child = left_child xs i j q nodes f
+
+  pub is_interior : 0 < p.level
+  is_interior = omega (arith, f.right_level)
+
+  pub some_child : p.children ≢ []
+  some_child = not_empty p.children f.child.place f.child.in_range
+
+  pub apart_j : i ≢ j
+  apart_j = differ_ij xs i j q nodes f
+
+  pub left_level : l.level + 1 ≡ p.level
+  left_level = child.level
+
+  apart_q : q ≢ i
+  apart_q e = omega (arith, f.right_level, ap (λ k. (node_at xs k).level) e)
+
+  -- no separator is the new one
+  pub is_new : IsNew p.separators r.low
+  is_new b lt same =
+      let a = f.child.place in
+      let size = length_bounds p in
+      let rise = (nodes.each i f.parent_there).bounds_rise some_child in
+      let between = (nodes.each i f.parent_there).interior.between in
+      let at : get_or (bounds p) (b + 1) 0 ≡ get_or p.separators b 0 = ap (λ k. get_or (bounds p) k 0) {x = b + 1} {y = suc b} (omega arith) ∙ get_or_append_left p.separators (end_of p.high ∷ []) 0 b lt in
+      elim (cases_lt b a) [
+        | inl low ↦ omega (arith, same, at, rises (bounds p) (b + 1) a rise (omega (arith, low)) (omega (arith, size, between, f.child.in_range)), child.low, f.above)
+        | inr high ↦ omega (arith, same, at, rises (bounds p) (a + 1) (b + 1) rise (omega (arith, high)) (omega (arith, size, lt)), child.reach, f.below)
+      ]
+
+  -- of the marked parent too
+  abbrev ys : List Shape
+  ys = set xs i (inserting p)
+
+  at_i : node_at ys i ≡ inserting p
+  at_i = here xs i (inserting p) f.parent_there
+
+  at_j : node_at ys j ≡ l
+  at_j = there xs i j (inserting p) (λ e. apart_j (sym e))
+
+  at_q : node_at ys q ≡ r
+  at_q = there xs i q (inserting p) apart_q
+
+  size : length ys ≡ length xs
+  size = length-set xs i (inserting p)
+
+  marked : Inserts ys i j q
+  marked = record {
+    parent_there = omega (arith, size, f.parent_there);
+    left_there = omega (arith, size, f.left_there);
+    right_there = omega (arith, size, f.right_there);
+    parent_held = rw at_i f.parent_held;
+    parent_live = rw at_i f.parent_live;
+    child = rw at_i (record { live = f.child.live; place = f.child.place; in_range = f.child.in_range; is = f.child.is });
+    differ = f.differ;
+    right_live = rw at_q f.right_live;
+    right_tree = rw (at_q, at_i) f.right_tree;
+    right_level = rw (at_q, at_i) f.right_level;
+    right_knows = rw at_q f.right_knows;
+    fence = rw (at_j, at_q) f.fence;
+    right_reach = rw (at_j, at_q) f.right_reach;
+    above = rw (at_j, at_q) f.above;
+    below = rw (at_j, at_q) f.below;
+  }
+
+  same : set (set ys i (with_child (node_at ys i) (node_at ys q).low q)) j (exact (node_at ys j)) ≡ with_right xs i j q
+  same = (λ a. set (set ys i (with_child (at_i a) (at_q a).low q)) j (exact (at_j a))) ∙ ap (λ zs. set zs j (exact l)) (set-set xs i (inserting p) (with_child (inserting p) r.low q))
+
+  pub nodes_right : length p.separators < 15 → AreNodes (with_right xs i j q)
+  nodes_right room = subst AreNodes same (nodes_insert_child ys i j q (nodes_inserting xs i f.parent_there nodes f.parent_held) marked (rw at_i room))
+
+  pub ranged_right : AreRanged xs → AreRanged (with_right xs i j q)
+  ranged_right ranged = subst AreRanged same (ranged_insert_child ys i j q (ranged_turned xs i p.slots (inserting p).version p.holder f.parent_there ranged (ranged i f.parent_there).unmarked) marked)
+
+  -- a child is no root
+  pub exact_place : (trees : List Tree) → IsForest xs trees → KeepsPlace trees l (exact l)
+  exact_place trees forest = record {
+    home = record { tree = refl; deleted = refl; flag = refl; root = λ root. absurd (child.knows root.parentless) };
+    keys = keys_of xs trees j f.left_there forest;
+  }
+
+  -- and of the parent's tree
+  pub exact_turn : (op : ℕ) (trees : List Tree) → l.holder ≡ Some op → ((q : ℕ) → (tree_at trees p.tree).standing ≡ Made q → q ≡ op) → MayTurn op trees l (exact l)
+  exact_turn op trees held mine = record {
+    changes = changes_exact op l held;
+    mine = λ q e. mine q (ap (λ t. (tree_at trees t).standing) (sym child.tree) ∙ e);
+  }
+
+module _ (v : View) (room parent left right op : ℕ) (sound : Sound v.nodes v.trees v.retired room) (may : MayInsert v parent left right op) where
+  abbrev y : Shape
+  y = with_child (inserting (at v parent)) (at v right).low right
+
+  abbrev z : Shape
+  z = exact (at v left)
+
+  abbrev new : List Shape
+  new = with_right v.nodes parent left right
+
+  apart : parent ≢ left
+  apart = apart_j v.nodes parent left right sound.arena.nodes may.inserts
+
+  kept : AreKept v.nodes new v.trees v.retired
+  kept = kept_set2 v.nodes v.trees v.retired parent left y z may.held.there may.left_held.there apart (record { slots = refl; deleted = refl; tree = refl }) (record { slots = refl; deleted = refl; tree = refl })
+
+  pub sound_right : Sound new v.trees v.retired room
+  sound_right = record {
+    arena = record {
+      nodes = nodes_right v.nodes parent left right sound.arena.nodes may.inserts may.room;
+      ranged = ranged_right v.nodes parent left right sound.arena.nodes may.inserts sound.arena.ranged;
+      forest = forest_set2 v.nodes v.trees parent left y z may.held.there may.left_held.there apart sound.arena.forest (record {
+        home = record { tree = refl; deleted = refl; flag = refl; root = λ h. record { live = h.live; flag = h.flag; parentless = h.parentless; low = h.low; reach = h.reach } };
+        keys = keys_of v.nodes v.trees parent may.held.there sound.arena.forest;
+      }) (exact_place v.nodes parent left right sound.arena.nodes may.inserts v.trees sound.arena.forest);
+      layers = kept.layers sound.arena.layers;
+    };
+    retired = kept.retired sound.retired;
+    enough = omega (arith, kept.count, sound.enough);
+  }
+
+  pub step_right : IsStep op v (record v { nodes = new })
+  step_right = record {
+    evolves = evolves_set2 op v.nodes v.trees parent left y z may.held.there may.left_held.there apart sound.arena.forest (record {
+      changes = changes_on op (at v parent) (inserting (at v parent)) y (changes_slots op (at v parent) (at v parent).slots may.held.holder) (changes_with_child op (inserting (at v parent)) (at v right).low right may.held.holder refl);
+      mine = may.mine;
+    }) (exact_turn v.nodes parent left right sound.arena.nodes may.inserts op v.trees may.left_held.holder may.mine);
+    points = points_each op v.nodes new kept.count (each_set2 (λ k n. PointsSo op new (at v k) n) v.nodes parent left y z may.held.there may.left_held.there apart
+        (names_same op new (at v parent) y refl refl) (names_same op new (at v left) z refl refl) (λ k lt ni nj. names_same op new (at v k) (at v k) refl refl));
+  }
+
+  pub content_right : content v.trees new ≡ content v.trees v.nodes
+  content_right = kept.content
