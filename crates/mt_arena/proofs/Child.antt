@@ -10,7 +10,7 @@ use Rattle.mt_interior.specs.Fences.{end_of}
 use Rattle.mt_interior.proofs.Rises.{rising_insert}
 use Rattle.mt_interior.proofs.PlaceLemmas.{place_of-between}
 use Rattle.mt_interior.proofs.CallerLemmas.{bounds_of-insert}
-use Rattle.mt_arena.specs.Shape.{Shape, node_at}
+use Rattle.mt_arena.specs.NodeView.{NodeView, node_at}
 use Rattle.mt_arena.specs.Nodes.{AreNodes, AllNodes, AllPairs, IsNode, IsPair, IsChild, bounds}
 use Rattle.mt_arena.specs.Splits.{Inserts, with_child, exact}
 use Rattle.mt_arena.proofs.Pairs.{pairs_set2, nodes_set}
@@ -30,23 +30,23 @@ all_insert P xs at x within new old i lt = elim (cases_eq i at) [
   ]
 ]
 
-module _ (xs : List Shape) (i j q : ℕ) (nodes : AreNodes xs) (f : Inserts xs i j q) where
-  abbrev p : Shape
+module _ (xs : List NodeView) (i j q : ℕ) (nodes : AreNodes xs) (f : Inserts xs i j q) where
+  abbrev p : NodeView
   p = node_at xs i
 
-  abbrev l : Shape
+  abbrev l : NodeView
   l = node_at xs j
 
-  abbrev r : Shape
+  abbrev r : NodeView
   r = node_at xs q
 
   abbrev a : ℕ
   a = f.child.place
 
-  abbrev y : Shape
+  abbrev y : NodeView
   y = record p { separators = insert p.separators a r.low; children = insert p.children (a + 1) q }
 
-  abbrev z : Shape
+  abbrev z : NodeView
   z = exact l
 
   h : IsNode (length xs) p
@@ -131,10 +131,10 @@ module _ (xs : List Shape) (i j q : ℕ) (nodes : AreNodes xs) (f : Inserts xs i
       }
 
   -- the children before the new one, and those behind it
-  lower_kept : (b : ℕ) (m : Shape) → b < a → IsChild p b m → IsChild y b m
+  lower_kept : (b : ℕ) (m : NodeView) → b < a → IsChild p b m → IsChild y b m
   lower_kept b m lt c = record { live = c.live; tree = c.tree; level = c.level; knows = c.knows; low = c.low ∙ sym (bounds_below b (omega arith)); reach = c.reach ∙ sym (bounds_below (b + 1) (omega arith)) }
 
-  upper_kept : (b : ℕ) (m : Shape) → a + 1 < b → IsChild p (b - 1) m → IsChild y b m
+  upper_kept : (b : ℕ) (m : NodeView) → a + 1 < b → IsChild p (b - 1) m → IsChild y b m
   upper_kept b m lt c = record {
     live = c.live;
     tree = c.tree;
@@ -202,7 +202,7 @@ module _ (xs : List Shape) (i j q : ℕ) (nodes : AreNodes xs) (f : Inserts xs i
   ]
 
   -- a node beside the changed parent
-  parent_from : (k : ℕ) (m : Shape) → IsPair i p k m → ((b : ℕ) → b < length y.children → get_or y.children b 0 ≡ k → IsChild y b m) → IsPair i y k m
+  parent_from : (k : ℕ) (m : NodeView) → IsPair i p k m → ((b : ℕ) → b < length y.children → get_or y.children b 0 ≡ k → IsChild y b m) → IsPair i y k m
   parent_from k m g child = record {
     next_follows = g.next_follows;
     next_tree = g.next_tree;
@@ -215,7 +215,7 @@ module _ (xs : List Shape) (i j q : ℕ) (nodes : AreNodes xs) (f : Inserts xs i
     apart = g.apart;
   }
 
-  parent_to : (k : ℕ) (n : Shape) → IsPair k n i p → IsPair k n i y
+  parent_to : (k : ℕ) (n : NodeView) → IsPair k n i p → IsPair k n i y
   parent_to k n g = record {
     next_follows = g.next_follows;
     next_tree = g.next_tree;
@@ -230,7 +230,7 @@ module _ (xs : List Shape) (i j q : ℕ) (nodes : AreNodes xs) (f : Inserts xs i
     apart = g.apart;
   }
 
-  left_from : (k : ℕ) (m : Shape) → IsPair j l k m → IsPair j z k m
+  left_from : (k : ℕ) (m : NodeView) → IsPair j l k m → IsPair j z k m
   left_from k m g = record {
     next_follows = g.next_follows;
     next_tree = g.next_tree;
@@ -245,7 +245,7 @@ module _ (xs : List Shape) (i j q : ℕ) (nodes : AreNodes xs) (f : Inserts xs i
     apart = g.apart;
   }
 
-  left_to : (k : ℕ) (n : Shape) → IsPair k n j l → ((b : ℕ) → b < length n.children → get_or n.children b 0 ≡ j → n.version.deleted ≡ false → ⊥) → IsPair k n j z
+  left_to : (k : ℕ) (n : NodeView) → IsPair k n j l → ((b : ℕ) → b < length n.children → get_or n.children b 0 ≡ j → n.version.deleted ≡ false → ⊥) → IsPair k n j z
   left_to k n g none = record {
     next_follows = g.next_follows;
     next_tree = g.next_tree;
@@ -332,11 +332,11 @@ module _ (xs : List Shape) (i j q : ℕ) (nodes : AreNodes xs) (f : Inserts xs i
   inserts_at = place_of-between p.low p.separators p.high r.low a h.interior.rising at_separators (omega (arith, left_child.low, f.above), omega (arith, left_child.reach, f.below))
 
 -- node q becomes a child of node i, which has room, and the range of node j in its parent ends at its fence
-pub nodes_insert_child : (xs : List Shape) (i j q : ℕ) → AreNodes xs → Inserts xs i j q → length (node_at xs i).separators < 15
+pub nodes_insert_child : (xs : List NodeView) (i j q : ℕ) → AreNodes xs → Inserts xs i j q → length (node_at xs i).separators < 15
     → AreNodes (set (set xs i (with_child (node_at xs i) (node_at xs q).low q)) j (exact (node_at xs j)))
 nodes_insert_child xs i j q nodes f room =
-    let y : Shape = with_child (node_at xs i) (node_at xs q).low q in
-    let z : Shape = exact (node_at xs j) in
+    let y : NodeView = with_child (node_at xs i) (node_at xs q).low q in
+    let z : NodeView = exact (node_at xs j) in
     let size = length-set xs i y in
     let size2 = length-set (set xs i y) j z in
     record {

@@ -3,7 +3,7 @@ use Rattle.std.proofs.Common.{◌≡◌, ◌≢◌, ℕ, ◌<◌, List, length, 
 use Rattle.std.proofs.lemmas.Bool.{cases_eq}
 use Rattle.std.proofs.lemmas.List.{length-set}
 use Rattle.mt_interior.specs.Fences.{end_of}
-use Rattle.mt_arena.specs.Shape.{Shape, node_at}
+use Rattle.mt_arena.specs.NodeView.{NodeView, node_at}
 use Rattle.mt_arena.specs.Nodes.{AreNodes, IsPair}
 use Rattle.mt_arena.specs.Ranges.{IsRanged, AreRanged}
 use Rattle.mt_arena.specs.Edits.{retired, IsLeft}
@@ -22,7 +22,7 @@ is_true true live = refl
 is_true false live = absurd (live refl)
 
 -- no live node leads to a root
-pub root_left : (xs : List Shape) (i : ℕ) → i < length xs → AreNodes xs → AreRanged xs → (node_at xs i).low ≡ 0 → (node_at xs i).parent ≡ None → IsLeft xs i
+pub root_left : (xs : List NodeView) (i : ℕ) → i < length xs → AreNodes xs → AreRanged xs → (node_at xs i).low ≡ 0 → (node_at xs i).parent ≡ None → IsLeft xs i
 root_left xs i within nodes ranged low parentless = record {
   nobodys_next = λ k lt e. is_true _ (λ live.
       let high = ap end_of ((nodes.pairs k i lt within).next_follows e) in
@@ -32,7 +32,7 @@ root_left xs i within nodes ranged low parentless = record {
 }
 
 -- a node that is no live node's child becomes the root
-crowned_from : (k : ℕ) (n : Shape) (j : ℕ) (m : Shape) → IsPair k n j m → IsPair k (crowned n) j m
+crowned_from : (k : ℕ) (n : NodeView) (j : ℕ) (m : NodeView) → IsPair k n j m → IsPair k (crowned n) j m
 crowned_from k n j m h = record {
   next_follows = h.next_follows;
   next_tree = h.next_tree;
@@ -47,7 +47,7 @@ crowned_from k n j m h = record {
   apart = h.apart;
 }
 
-crowned_to : (k : ℕ) (n : Shape) (j : ℕ) (m : Shape) → IsPair k n j m → ((i : ℕ) → i < length n.children → get_or n.children i 0 ≡ j → n.version.deleted ≡ true) → IsPair k n j (crowned m)
+crowned_to : (k : ℕ) (n : NodeView) (j : ℕ) (m : NodeView) → IsPair k n j m → ((i : ℕ) → i < length n.children → get_or n.children i 0 ≡ j → n.version.deleted ≡ true) → IsPair k n j (crowned m)
 crowned_to k n j m h none = record {
   next_follows = h.next_follows;
   next_tree = h.next_tree;
@@ -62,7 +62,7 @@ crowned_to k n j m h none = record {
   apart = h.apart;
 }
 
-pub nodes_crowned : (xs : List Shape) (i : ℕ) → i < length xs → AreNodes xs
+pub nodes_crowned : (xs : List NodeView) (i : ℕ) → i < length xs → AreNodes xs
     → ((k a : ℕ) → k < length xs → a < length (node_at xs k).children → get_or (node_at xs k).children a 0 ≡ i → (node_at xs k).version.deleted ≡ true)
     → AreNodes (set xs i (crowned (node_at xs i)))
 nodes_crowned xs i within nodes none =
@@ -97,13 +97,13 @@ nodes_crowned xs i within nodes none =
     (λ j lt other. crowned_to j (node_at xs j) i x (nodes.pairs j i lt within) (λ a. none j a lt))
 
 -- a child is another node
-differ_from : (xs : List Shape) (i q : ℕ) → AreNodes xs → Collapses xs i q → i ≢ q
+differ_from : (xs : List NodeView) (i q : ℕ) → AreNodes xs → Collapses xs i q → i ≢ q
 differ_from xs i q nodes f e =
     let c = (nodes.pairs q i f.root_there f.child_there).child f.child.place f.child.in_range f.child.is f.child.live in
     omega (arith, c.level, ap (λ k. (node_at xs k).level) e)
 
 -- the root is taken out, and its child is the root
-pub nodes_collapsed : (xs : List Shape) (i q : ℕ) → AreNodes xs → AreRanged xs → Collapses xs i q
+pub nodes_collapsed : (xs : List NodeView) (i q : ℕ) → AreNodes xs → AreRanged xs → Collapses xs i q
     → AreNodes (set (set xs q (retired (node_at xs q))) i (crowned (node_at xs i)))
 nodes_collapsed xs i q nodes ranged f =
     let p = node_at xs q in
@@ -112,13 +112,13 @@ nodes_collapsed xs i q nodes ranged f =
     let differ = differ_from xs i q nodes f in
     let old : node_at ys i ≡ node_at xs i = there xs q i (retired p) differ in
     let gone : AreNodes ys = nodes_retired xs q f.root_there nodes f.root_held (root_left xs q f.root_there nodes ranged f.root_low f.parentless) in
-    subst (λ (w : Shape). AreNodes (set ys i (crowned w))) old (nodes_crowned ys i (omega (arith, f.child_there, size)) gone (λ k a lk. elim (cases_eq k q) [
+    subst (λ (w : NodeView). AreNodes (set ys i (crowned w))) old (nodes_crowned ys i (omega (arith, f.child_there, size)) gone (λ k a lk. elim (cases_eq k q) [
       | inl same ↦ rw (same, here xs q (retired p) f.root_there) (λ la e. refl)
       | inr other ↦ rw (there xs q k (retired p) other) (λ la e. is_true _ (λ live.
           other (one_parent xs q k i f.child.place a nodes f.root_there (omega (arith, lk, size)) f.child_there f.child.live live f.child.in_range f.child.is la e)))
     ]))
 
-pub ranged_collapsed : (xs : List Shape) (i q : ℕ) → AreRanged xs → Collapses xs i q → AreRanged (set (set xs q (retired (node_at xs q))) i (crowned (node_at xs i)))
+pub ranged_collapsed : (xs : List NodeView) (i q : ℕ) → AreRanged xs → Collapses xs i q → AreRanged (set (set xs q (retired (node_at xs q))) i (crowned (node_at xs i)))
 ranged_collapsed xs i q ranged f =
     let p = node_at xs q in
     nodes_set IsRanged (set xs q (retired p)) i (crowned (node_at xs i)) (omega (arith, f.child_there, length-set xs q (retired p)))

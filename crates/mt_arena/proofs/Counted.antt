@@ -24,7 +24,7 @@ use Rattle.mt_border.proofs.ContentsFinds.{apart_beside}
 use Rattle.mt_arena.specs.declared.tree.Tree.{Tree}
 use Rattle.mt_arena.specs.declared.tree.Standing.{Standing}
 use Rattle.mt_arena.specs.declared.tree.Standing.TheVariants.{Made, Live, Dead}
-use Rattle.mt_arena.specs.Shape.{Shape, node_at, no_node}
+use Rattle.mt_arena.specs.NodeView.{NodeView, node_at, no_node}
 use Rattle.mt_arena.specs.Forests.{tree_at, no_tree, layer_of}
 use Rattle.mt_arena.specs.Layers.{slot_at}
 use Rattle.mt_arena.specs.Contents.{is_live, live_pairs, content}
@@ -33,7 +33,7 @@ use Rattle.mt_arena.specs.Ways.{StandsFor, HasSlots}
 use Rattle.mt_arena.proofs.Joins.{Pairs, map_of, all_none, some_at, insert_at, remove_at, remove-second, tied_owner}
 
 -- the contents as the map of a list
-pub content-is : (trees : List Tree) (nodes : List Shape) → content trees nodes ≡ map_of (flat_map (live_pairs trees) nodes)
+pub content-is : (trees : List Tree) (nodes : List NodeView) → content trees nodes ≡ map_of (flat_map (live_pairs trees) nodes)
 unfolding content
 content-is trees nodes = refl
 
@@ -64,19 +64,19 @@ counted-nil false Live = refl
 counted-nil false Dead = refl
 
 -- the pairs of a live node of a live tree
-pub pairs-live : (trees : List Tree) (n : Shape) → n.version.deleted ≡ false → (tree_at trees n.tree).standing ≡ Live → map_of (live_pairs trees n) ≡ contents_of (tree_at trees n.tree).prefix n.slots
+pub pairs-live : (trees : List Tree) (n : NodeView) → n.version.deleted ≡ false → (tree_at trees n.tree).standing ≡ Live → map_of (live_pairs trees n) ≡ contents_of (tree_at trees n.tree).prefix n.slots
 pairs-live trees n live tree = ap map_of (counted-live n.version.deleted (tree_at trees n.tree).standing _ live tree) ∙ sym (contents_of-is (tree_at trees n.tree).prefix n.slots)
 
 -- a node without slots has none
-pub pairs-nil : (trees : List Tree) (n : Shape) → n.slots ≡ [] → live_pairs trees n ≡ []
+pub pairs-nil : (trees : List Tree) (n : NodeView) → n.slots ≡ [] → live_pairs trees n ≡ []
 pairs-nil trees n none = ap (λ es. counted n.version.deleted (tree_at trees n.tree).standing (filter_map (pair_in (tree_at trees n.tree).prefix) es)) none ∙ counted-nil n.version.deleted (tree_at trees n.tree).standing
 
 -- nor has a deleted one
-pub pairs-gone : (trees : List Tree) (n : Shape) → n.version.deleted ≡ true → live_pairs trees n ≡ []
+pub pairs-gone : (trees : List Tree) (n : NodeView) → n.version.deleted ≡ true → live_pairs trees n ≡ []
 pairs-gone trees n gone = ap (λ b. counted b (tree_at trees n.tree).standing (filter_map (pair_in (tree_at trees n.tree).prefix) n.slots)) gone
 
 -- nor has a node of a tree that is being made
-pub pairs-made : (trees : List Tree) (n : Shape) (maker : ℕ) → (tree_at trees n.tree).standing ≡ Made maker → live_pairs trees n ≡ []
+pub pairs-made : (trees : List Tree) (n : NodeView) (maker : ℕ) → (tree_at trees n.tree).standing ≡ Made maker → live_pairs trees n ≡ []
 pairs-made trees n maker made = ap (λ s. counted n.version.deleted s (filter_map (pair_in (tree_at trees n.tree).prefix) n.slots)) made ∙ by n.version.deleted
   where
     by : (b : Bool) → counted b (Made maker) (filter_map (pair_in (tree_at trees n.tree).prefix) n.slots) ≡ []
@@ -84,7 +84,7 @@ pairs-made trees n maker made = ap (λ s. counted n.version.deleted s (filter_ma
     by false = refl
 
 -- what becomes of one tree leaves the pairs of another's nodes
-pub pairs-other : (trees : List Tree) (t : ℕ) (tree : Tree) (n : Shape) → n.tree ≢ t → live_pairs (set trees t tree) n ≡ live_pairs trees n
+pub pairs-other : (trees : List Tree) (t : ℕ) (tree : Tree) (n : NodeView) → n.tree ≢ t → live_pairs (set trees t tree) n ≡ live_pairs trees n
 pairs-other trees t tree n differ = ap (λ (u : Tree). counted n.version.deleted u.standing (filter_map (pair_in u.prefix) n.slots)) (get_or-set_other trees t n.tree tree no_tree differ)
 
 -- the entry of one place taken out of a list, behind and before entries of other keys
@@ -123,7 +123,7 @@ apart_behind prefix layer es key slot border keys of_tree live place k d inside 
     subst (IsApart prefix (owned key)) (sym (get_or-drop (suc slot) es k d)) (apart_beside prefix layer es key slot border keys of_tree live place (suc slot + k) d (omega (arith, size, inside)) (omega arith))
 
 -- where one node changes
-module _ (trees : List Tree) (nodes : List Shape) (q : ℕ × Bytes) where
+module _ (trees : List Tree) (nodes : List NodeView) (q : ℕ × Bytes) where
   -- it has no pair of that owner
   abbrev pub HasNone : ℕ → Type 0
   HasNone k = get (map_of (live_pairs trees (node_at nodes k))) q ≡ None
@@ -142,7 +142,7 @@ module _ (trees : List Tree) (nodes : List Shape) (q : ℕ × Bytes) where
     pub content-some : (row : Columns) → get (contents_of prefix (node_at nodes i).slots) q ≡ Some row → get (content trees nodes) q ≡ Some row
     content-some row some = ap (λ c. get c q) (content-is trees nodes) ∙ some_at (live_pairs trees) q no_node nodes i row there none (ap (λ c. get c q) here ∙ some)
 
-    module _ (y : Shape) (entries : List Entry) (has : HasSlots (node_at nodes i) y entries) where
+    module _ (y : NodeView) (entries : List Entry) (has : HasSlots (node_at nodes i) y entries) where
       changed : map_of (live_pairs trees y) ≡ contents_of prefix entries
       changed =
           pairs-live trees y (has.deleted ∙ live) (ap (λ t. (tree_at trees t).standing) has.tree ∙ tree_live)
@@ -161,9 +161,9 @@ module _ (trees : List Tree) (nodes : List Shape) (q : ℕ × Bytes) where
           ∙ ap (λ c. remove c q) (sym (content-is trees nodes))
 
 -- a node in which no slot stands for the key has no pair of its owner
-module _ (nodes : List Shape) (trees : List Tree) (arena : IsArena nodes trees) (top : Bytes) (low : ℕ) (key : Bytes) (of_tree : IsOfTree top low key)
+module _ (nodes : List NodeView) (trees : List Tree) (arena : IsArena nodes trees) (top : Bytes) (low : ℕ) (key : Bytes) (of_tree : IsOfTree top low key)
     (k : ℕ) (there : k < length nodes) (no : (layer j : ℕ) (pair : Pair) → StandsFor nodes trees key layer k j pair → ⊥) where
-  abbrev n : Shape
+  abbrev n : NodeView
   n = node_at nodes k
 
   abbrev begins : Bytes

@@ -14,7 +14,7 @@ use Rattle.mt_border.specs.declared.entry.Held.TheVariants.{Link}
 use Rattle.mt_border.specs.Contents.{IsOfTree}
 use Rattle.mt_border.proofs.Edits.{any_entry}
 use Rattle.mt_arena.specs.declared.tree.Tree.{Tree}
-use Rattle.mt_arena.specs.Shape.{Shape, node_at}
+use Rattle.mt_arena.specs.NodeView.{NodeView, node_at}
 use Rattle.mt_arena.specs.Nodes.{Holds}
 use Rattle.mt_arena.specs.Forests.{tree_at}
 use Rattle.mt_arena.specs.Layers.{slot_at, LeadsTo}
@@ -44,7 +44,7 @@ next_prefix prefix key layer slice bytes reaches begins is =
     ∙ ap (λ m. take m key) more
 
 -- the tree of a link at the key's slice and mark is live, and the key is one of it
-pub goes_on : (nodes : List Shape) (trees : List Tree) (key : Bytes) (layer k i u : ℕ) → IsArena nodes trees → BelongsIn nodes trees key layer k
+pub goes_on : (nodes : List NodeView) (trees : List Tree) (key : Bytes) (layer k i u : ℕ) → IsArena nodes trees → BelongsIn nodes trees key layer k
     → StandsAt nodes (node_at nodes k).tree (slice_of key layer) (mark_of key layer) k i → (slot_at (node_at nodes k) i).held ≡ Link u → GoesOn trees key (layer + 1) u
 goes_on nodes trees key layer k i u arena in_k at link =
     let e = slot_at (node_at nodes k) i in
@@ -63,7 +63,7 @@ goes_on nodes trees key layer k i u arena in_k at link =
     }
 
 -- a key is one of the top tree
-pub goes_on_top : (nodes : List Shape) (trees : List Tree) (key : Bytes) → IsArena nodes trees → IsStoredKey key → GoesOn trees key 0 0
+pub goes_on_top : (nodes : List NodeView) (trees : List Tree) (key : Bytes) → IsArena nodes trees → IsStoredKey key → GoesOn trees key 0 0
 goes_on_top nodes trees key arena stored = record {
   there = arena.forest.top.there;
   live = arena.forest.top.live;
@@ -72,7 +72,7 @@ goes_on_top nodes trees key arena stored = record {
 }
 
 -- where the descent ends, in the live border node that has the slice in its range, the key belongs
-pub belongs_here : (nodes : List Shape) (trees : List Tree) (key : Bytes) (layer u k : ℕ) → GoesOn trees key layer u → IsLiveBorder nodes u k → Holds (node_at nodes k) (slice_of key layer) → BelongsIn nodes trees key layer k
+pub belongs_here : (nodes : List NodeView) (trees : List Tree) (key : Bytes) (layer u k : ℕ) → GoesOn trees key layer u → IsLiveBorder nodes u k → Holds (node_at nodes k) (slice_of key layer) → BelongsIn nodes trees key layer k
 belongs_here nodes trees key layer u k goes border holds = record {
   border = record { there = border.there; live = border.live; level = border.level; tree_is = refl };
   tree_live = ap (λ t. (tree_at trees t).standing) border.tree_is ∙ goes.live;

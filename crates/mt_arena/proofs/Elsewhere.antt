@@ -17,7 +17,7 @@ use Rattle.mt_border.specs.Entries.{IsMissing}
 use Rattle.mt_border.specs.Contents.{IsOfTree, HasKey}
 use Rattle.mt_border.proofs.Edits.{any_entry}
 use Rattle.mt_arena.specs.declared.tree.Tree.{Tree}
-use Rattle.mt_arena.specs.Shape.{Shape, node_at}
+use Rattle.mt_arena.specs.NodeView.{NodeView, node_at}
 use Rattle.mt_arena.specs.Nodes.{Holds}
 use Rattle.mt_arena.specs.Forests.{tree_at, layer_of}
 use Rattle.mt_arena.specs.Layers.{slot_at}
@@ -55,7 +55,7 @@ layer_is prefix key layer of_tree = let size = ap length of_tree.begins ∙ leng
 no_pair : (held : Held) (u : ℕ) (pair : Pair) → held ≡ Link u → pair_of held ≡ Some pair → ⊥
 no_pair held u pair link is = none-some pair (sym (ap pair_of link) ∙ is)
 
-module _ (nodes : List Shape) (trees : List Tree) (arena : IsArena nodes trees) (begun : AreBegun nodes) where
+module _ (nodes : List NodeView) (trees : List Tree) (arena : IsArena nodes trees) (begun : AreBegun nodes) where
   -- a node with a slot is a border node
   level_of : (k i : ℕ) → k < length nodes → i < length (node_at nodes k).slots → (node_at nodes k).level ≡ 0
   level_of k i there within = elim (cases_lt 0 (node_at nodes k).level) [

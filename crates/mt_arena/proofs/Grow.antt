@@ -5,16 +5,16 @@ use Rattle.std.proofs.lemmas.List.{length-set}
 use Rattle.std.proofs.lemmas.Option.{same_Some}
 use Rattle.mt_interior.specs.Rising.{IsRising}
 use Rattle.mt_interior.specs.Fences.{end_of}
-use Rattle.mt_arena.specs.Shape.{Shape, node_at}
+use Rattle.mt_arena.specs.NodeView.{NodeView, node_at}
 use Rattle.mt_arena.specs.Nodes.{AreNodes, AllNodes, AllPairs, IsNode, IsPair, IsChild, HasChild, Holds, HasRange}
 use Rattle.mt_arena.specs.Settled.{IsSettled}
 use Rattle.mt_arena.specs.Ranges.{AreRanged}
-use Rattle.mt_arena.specs.Growth.{Grows, fresh_top, below_top, left_below, right_below}
+use Rattle.mt_arena.specs.Growth.{AreRootHalves, fresh_top, below_top, left_below, right_below}
 use Rattle.mt_arena.proofs.Pairs.{here, there, last, before, nodes_set, nodes_push, node_more, pairs_set2, pairs_push}
 use Rattle.mt_arena.proofs.Push.{no_slots}
 
 -- a node without parent comes below a new one, which is behind all others
-below_from : (top k : ℕ) (n : Shape) (j : ℕ) (m : Shape) (reach : Option ℕ) (root : Bool) → j < top → IsPair k n j m → IsPair k (below_top n top reach root) j m
+below_from : (top k : ℕ) (n : NodeView) (j : ℕ) (m : NodeView) (reach : Option ℕ) (root : Bool) → j < top → IsPair k n j m → IsPair k (below_top n top reach root) j m
 below_from top k n j m reach root lt h = record {
   next_follows = h.next_follows;
   next_tree = h.next_tree;
@@ -29,7 +29,7 @@ below_from top k n j m reach root lt h = record {
   apart = h.apart;
 }
 
-below_to : (top k : ℕ) (n : Shape) (j : ℕ) (m : Shape) (reach : Option ℕ) (root : Bool) → m.parent ≡ None → IsPair k n j m → IsPair k n j (below_top m top reach root)
+below_to : (top k : ℕ) (n : NodeView) (j : ℕ) (m : NodeView) (reach : Option ℕ) (root : Bool) → m.parent ≡ None → IsPair k n j m → IsPair k n j (below_top m top reach root)
 below_to top k n j m reach root parentless h = record {
   next_follows = h.next_follows;
   next_tree = h.next_tree;
@@ -44,7 +44,7 @@ below_to top k n j m reach root parentless h = record {
   apart = h.apart;
 }
 
-below_node : (count : ℕ) (n : Shape) (reach : Option ℕ) (root : Bool) → IsNode count n → end_of n.high ≤ end_of reach → (n.version.splitting ≡ false → reach ≡ n.high) → IsNode (count + 1) (below_top n count reach root)
+below_node : (count : ℕ) (n : NodeView) (reach : Option ℕ) (root : Bool) → IsNode count n → end_of n.high ≤ end_of reach → (n.version.splitting ≡ false → reach ≡ n.high) → IsNode (count + 1) (below_top n count reach root)
 below_node count n reach root node within exact =
     let h = node_more count (count + 1) n (omega arith) node in
     record {
@@ -86,28 +86,28 @@ three_rise a b c ab bc i (suc (suc (suc j))) lt within = absurd (omega arith)
 one_rises : (a : ℕ) → IsRising (a ∷ [])
 one_rises a i j lt within = absurd (omega arith)
 
-module _ (xs : List Shape) (i j op : ℕ) (nodes : AreNodes xs) (f : Grows xs i j)
+module _ (xs : List NodeView) (i j op : ℕ) (nodes : AreNodes xs) (f : AreRootHalves xs i j)
     (alone : (k : ℕ) → k < length xs → (node_at xs k).tree ≡ (node_at xs i).tree → (node_at xs k).level ≡ (node_at xs i).level + 1 → (node_at xs k).version.deleted ≡ false
     → (s : ℕ) → Holds (node_at xs k) s → 18446744073709551616 ≤ s) where
-  abbrev l : Shape
+  abbrev l : NodeView
   l = node_at xs i
 
-  abbrev r : Shape
+  abbrev r : NodeView
   r = node_at xs j
 
   abbrev n : ℕ
   n = length xs
 
-  abbrev y : Shape
+  abbrev y : NodeView
   y = left_below l n
 
-  abbrev z : Shape
+  abbrev z : NodeView
   z = right_below r n
 
-  abbrev g : Shape
+  abbrev g : NodeView
   g = fresh_top l i r.low j op
 
-  abbrev ws : List Shape
+  abbrev ws : List NodeView
   ws = set (set xs i y) j z
 
   li : i < length xs
@@ -129,16 +129,16 @@ module _ (xs : List Shape) (i j op : ℕ) (nodes : AreNodes xs) (f : Grows xs i 
   at k ni nj = there (set xs i y) j k z nj ∙ there xs i k y ni
 
   -- the halves beside all but the new root
-  from_left : (k : ℕ) (m : Shape) → k < length xs → IsPair i l k m → IsPair i y k m
+  from_left : (k : ℕ) (m : NodeView) → k < length xs → IsPair i l k m → IsPair i y k m
   from_left k m lt = below_from n i l k m l.high false lt
 
-  from_right : (k : ℕ) (m : Shape) → k < length xs → IsPair j r k m → IsPair j z k m
+  from_right : (k : ℕ) (m : NodeView) → k < length xs → IsPair j r k m → IsPair j z k m
   from_right k m lt = below_from n j r k m r.reach r.version.root lt
 
-  to_left : (k : ℕ) (m : Shape) → IsPair k m i l → IsPair k m i y
+  to_left : (k : ℕ) (m : NodeView) → IsPair k m i l → IsPair k m i y
   to_left k m = below_to n k m i l l.high false f.left_parentless
 
-  to_right : (k : ℕ) (m : Shape) → IsPair k m j r → IsPair k m j z
+  to_right : (k : ℕ) (m : NodeView) → IsPair k m j r → IsPair k m j z
   to_right k m = below_to n k m j r r.reach r.version.root f.right_parentless
 
   halves : AllPairs IsPair ws
@@ -201,8 +201,8 @@ module _ (xs : List Shape) (i j op : ℕ) (nodes : AreNodes xs) (f : Grows xs i 
   right_child = record { live = f.right_live; tree = f.right_tree; level = omega (arith, f.right_level); knows = λ e. absurd (cc); low = refl; reach = ap end_of f.right_reach }
 
   top_child : (k a : ℕ) → a < 2 → get_or (i ∷ j ∷ []) a 0 ≡ k → IsChild g a (node_at ws k)
-  top_child k zero lt is = subst (λ (c : ℕ). IsChild g 0 (node_at ws c)) is (subst (λ (w : Shape). IsChild g 0 w) (sym at_i) left_child)
-  top_child k (suc zero) lt is = subst (λ (c : ℕ). IsChild g 1 (node_at ws c)) is (subst (λ (w : Shape). IsChild g 1 w) (sym at_j) right_child)
+  top_child k zero lt is = subst (λ (c : ℕ). IsChild g 0 (node_at ws c)) is (subst (λ (w : NodeView). IsChild g 0 w) (sym at_i) left_child)
+  top_child k (suc zero) lt is = subst (λ (c : ℕ). IsChild g 1 (node_at ws c)) is (subst (λ (w : NodeView). IsChild g 1 w) (sym at_j) right_child)
   top_child k (suc (suc a)) lt is = absurd (omega arith)
 
   -- it is on a level of its own
@@ -247,7 +247,7 @@ module _ (xs : List Shape) (i j op : ℕ) (nodes : AreNodes xs) (f : Grows xs i 
       beyond (suc (suc a)) la is = omega arith
 
   -- nobody but its children names it
-  to_top : (k : ℕ) (m : Shape) → IsNode (length xs + 1) m → ((c : ℕ) → m.next ≡ Some c → c < length xs) → ((c : ℕ) → m.previous ≡ Some c → c < length xs) → ((a : ℕ) → a < length m.children → get_or m.children a 0 < length xs)
+  to_top : (k : ℕ) (m : NodeView) → IsNode (length xs + 1) m → ((c : ℕ) → m.next ≡ Some c → c < length xs) → ((c : ℕ) → m.previous ≡ Some c → c < length xs) → ((a : ℕ) → a < length m.children → get_or m.children a 0 < length xs)
       → (m.parent ≡ Some (length ws) → HasChild g k) → (m.tree ≡ l.tree → m.level ≡ l.level + 1 → m.version.deleted ≡ false → (s : ℕ) → Holds m s → 18446744073709551616 ≤ s) → IsPair k m (length ws) g
   to_top k m h next previous children knows lonely = record {
     next_follows = λ e. absurd (omega (arith, next (length ws) e, size));
@@ -324,7 +324,7 @@ not_none [] some = absurd (some refl)
 not_none (c ∷ cs) some = omega arith
 
 -- no other node of the tree stands above the halves of its root: its first child would overlap one of them
-pub none_above : (xs : List Shape) (i j : ℕ) → AreNodes xs → AreRanged xs → Grows xs i j
+pub none_above : (xs : List NodeView) (i j : ℕ) → AreNodes xs → AreRanged xs → AreRootHalves xs i j
     → (k : ℕ) → k < length xs → (node_at xs k).tree ≡ (node_at xs i).tree → (node_at xs k).level ≡ (node_at xs i).level + 1 → (node_at xs k).version.deleted ≡ false
     → (s : ℕ) → Holds (node_at xs k) s → 18446744073709551616 ≤ s
 none_above xs i j nodes ranged f k lk tree level live s holds =
@@ -351,12 +351,12 @@ none_above xs i j nodes ranged f k lk tree level live s holds =
     ]
 
 -- the halves of a root get a new root above them
-pub nodes_root_grow : (xs : List Shape) (i j op : ℕ) → AreNodes xs → AreRanged xs → Grows xs i j
+pub nodes_root_grow : (xs : List NodeView) (i j op : ℕ) → AreNodes xs → AreRanged xs → AreRootHalves xs i j
     → AreNodes (set (set xs i (left_below (node_at xs i) (length xs))) j (right_below (node_at xs j) (length xs)) ++ fresh_top (node_at xs i) i (node_at xs j).low j op ∷ [])
 nodes_root_grow xs i j op nodes ranged f = grown_nodes xs i j op nodes f (none_above xs i j nodes ranged f)
 
 -- and nothing lags behind it
-pub settled_root_grow : (xs : List Shape) (i j op : ℕ) → AreNodes xs → AreRanged xs → Grows xs i j
+pub settled_root_grow : (xs : List NodeView) (i j op : ℕ) → AreNodes xs → AreRanged xs → AreRootHalves xs i j
     → IsSettled (set (set xs i (left_below (node_at xs i) (length xs))) j (right_below (node_at xs j) (length xs)) ++ fresh_top (node_at xs i) i (node_at xs j).low j op ∷ [])
     (length xs) (fresh_top (node_at xs i) i (node_at xs j).low j op)
 settled_root_grow xs i j op nodes ranged f =

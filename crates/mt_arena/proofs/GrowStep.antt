@@ -5,20 +5,20 @@ use Rattle.std.proofs.lemmas.List.{length-set, get_or-set_same, get_or-set_other
 use Rattle.mt_rows.specs.Rows.{Bytes}
 use Rattle.mt_arena.specs.declared.tree.Tree.{Tree}
 use Rattle.mt_arena.specs.declared.tree.Standing.TheVariants.{Dead}
-use Rattle.mt_arena.specs.Shape.{Shape, node_at}
+use Rattle.mt_arena.specs.NodeView.{NodeView, node_at}
 use Rattle.mt_arena.specs.Forests.{IsForest, IsHome, IsTree, HaveKeys, tree_at, no_tree}
-use Rattle.mt_arena.specs.Growth.{Grows, fresh_top, left_below, right_below}
+use Rattle.mt_arena.specs.Growth.{AreRootHalves, fresh_top, left_below, right_below}
 use Rattle.mt_arena.proofs.Pairs.{here, there, last, before}
 
 no_keys_at_all : (prefix : Bytes) → HaveKeys prefix []
 no_keys_at_all prefix = record { keys = λ k d inside. absurd (omega arith); begun = λ k d inside. absurd (omega arith) }
 
-module _ (xs : List Shape) (trees : List Tree) (i j op : ℕ) (f : Grows xs i j) (forest : IsForest xs trees)
+module _ (xs : List NodeView) (trees : List Tree) (i j op : ℕ) (f : AreRootHalves xs i j) (forest : IsForest xs trees)
     (is_root : (node_at xs i).version.root ≡ true) (no_root : (node_at xs j).version.root ≡ false) where
-  abbrev l : Shape
+  abbrev l : NodeView
   l = node_at xs i
 
-  abbrev r : Shape
+  abbrev r : NodeView
   r = node_at xs j
 
   abbrev t : ℕ
@@ -33,19 +33,19 @@ module _ (xs : List Shape) (trees : List Tree) (i j op : ℕ) (f : Grows xs i j)
   abbrev ts : List Tree
   ts = set trees t grown
 
-  abbrev y : Shape
+  abbrev y : NodeView
   y = left_below l (length xs)
 
-  abbrev z : Shape
+  abbrev z : NodeView
   z = right_below r (length xs)
 
-  abbrev g : Shape
+  abbrev g : NodeView
   g = fresh_top l i r.low j op
 
-  abbrev ws : List Shape
+  abbrev ws : List NodeView
   ws = set (set xs i y) j z
 
-  abbrev vs : List Shape
+  abbrev vs : List NodeView
   vs = ws ++ g ∷ []
 
   li : i < length xs

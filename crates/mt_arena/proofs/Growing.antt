@@ -9,13 +9,13 @@ use Rattle.std.proofs.lemmas.Option.{same_Some}
 use Rattle.mt_arena.specs.declared.tree.Tree.{Tree}
 use Rattle.mt_arena.specs.declared.tree.Standing.TheVariants.{Made, Dead}
 use Rattle.mt_arena.specs.declared.retired.Retired.{Retired}
-use Rattle.mt_arena.specs.Shape.{Shape, node_at}
+use Rattle.mt_arena.specs.NodeView.{NodeView, node_at}
 use Rattle.mt_arena.specs.Forests.{IsForest, HaveKeys, tree_at, layer_of}
 use Rattle.mt_arena.specs.Layers.{AreLayered, LeadsTo, HasLink, slot_at}
-use Rattle.mt_arena.specs.Evolves.{Changes}
+use Rattle.mt_arena.specs.Guarantee.{Changes}
 use Rattle.mt_arena.specs.Edits.{fresh_half, fresh_root, retired}
 use Rattle.mt_arena.specs.Contents.{content}
-use Rattle.mt_arena.specs.Arena.{IsArena, Sound, View, IsStep}
+use Rattle.mt_arena.specs.Arena.{IsArena, ArenaInvariant, ArenaView, Guarantee}
 use Rattle.mt_arena.specs.Accesses.{at, IsOpen, with_node, with_half, with_tree, MayRetire}
 use Rattle.mt_arena.proofs.Pairs.{here, there, last, before}
 use Rattle.mt_arena.proofs.Push.{nodes_half, nodes_root}
@@ -25,25 +25,25 @@ use Rattle.mt_arena.proofs.Homes.{forest_push}
 use Rattle.mt_arena.proofs.Trees.{forest_tree, made, last_tree, before_tree}
 use Rattle.mt_arena.proofs.LinkEdits.{layers_empty, no_links}
 use Rattle.mt_arena.proofs.Retiring.{retired_push, retired_more}
-use Rattle.mt_arena.proofs.Evolving.{evolves_push, evolves_tree, points_push}
+use Rattle.mt_arena.proofs.Guarantees.{guarantee_push, guarantee_tree, points_push}
 use Rattle.mt_arena.proofs.ContentQuiet.{stands_pushed, stands_tree_pushed}
 use Rattle.mt_arena.proofs.Locks.{not_others, is_held}
 use Rattle.mt_arena.proofs.Steps.{step_set}
 
 -- a link stays where a node is added
-has_link_push : (xs : List Shape) (y : Shape) (u : ℕ) → HasLink xs u → HasLink (xs ++ y ∷ []) u
+has_link_push : (xs : List NodeView) (y : NodeView) (u : ℕ) → HasLink xs u → HasLink (xs ++ y ∷ []) u
 has_link_push xs y u h =
     let at = before xs y h.node h.there in
     record {
       node = h.node;
       slot = h.slot;
       there = omega (arith, length-append xs (y ∷ []), h.there);
-      live = ap (λ (n : Shape). n.version.deleted) at ∙ h.live;
-      in_range = subst (λ (n : Shape). h.slot < length n.slots) (sym at) h.in_range;
-      is = ap (λ (n : Shape). (slot_at n h.slot).held) at ∙ h.is;
+      live = ap (λ (n : NodeView). n.version.deleted) at ∙ h.live;
+      in_range = subst (λ (n : NodeView). h.slot < length n.slots) (sym at) h.in_range;
+      is = ap (λ (n : NodeView). (slot_at n h.slot).held) at ∙ h.is;
     }
 
-pub layers_push : (xs : List Shape) (trees : List Tree) (y : Shape) → y.slots ≡ [] → AreLayered xs trees → AreLayered (xs ++ y ∷ []) trees
+pub layers_push : (xs : List NodeView) (trees : List Tree) (y : NodeView) → y.slots ≡ [] → AreLayered xs trees → AreLayered (xs ++ y ∷ []) trees
 layers_push xs trees y none layers = record {
   links = λ k lt. elim (cases_eq k (length xs)) [
     | inl is ↦ rw (is, last xs y) (no_links trees y none)
@@ -57,8 +57,8 @@ no_keys : (prefix : Bytes) (slots : List Entry) → slots ≡ [] → HaveKeys pr
 no_keys prefix slots none = subst (HaveKeys prefix) (sym none) record { keys = λ k d inside. absurd (omega arith); begun = λ k d inside. absurd (omega arith) }
 
 -- a right half more, beside a live node
-pub sound_half : (xs : List Shape) (trees : List Tree) (gone : List Retired) (room more i low op : ℕ) → i < length xs → Sound xs trees gone room → length xs + 1 ≤ more → (node_at xs i).version.deleted ≡ false
-    → Sound (xs ++ fresh_half (node_at xs i) low op ∷ []) trees gone more
+pub sound_half : (xs : List NodeView) (trees : List Tree) (gone : List Retired) (room more i low op : ℕ) → i < length xs → ArenaInvariant xs trees gone room → length xs + 1 ≤ more → (node_at xs i).version.deleted ≡ false
+    → ArenaInvariant (xs ++ fresh_half (node_at xs i) low op ∷ []) trees gone more
 sound_half xs trees gone room more i low op within sound enough live =
     let x = node_at xs i in
     let y = fresh_half x low op in
@@ -75,14 +75,14 @@ sound_half xs trees gone room more i low op within sound enough live =
       enough = omega (arith, length-append xs (y ∷ []), enough);
     }
 
-pub step_half : (v : View) (i low op : ℕ) → IsOpen v i op → IsStep op v (with_half v i low op)
+pub step_half : (v : ArenaView) (i low op : ℕ) → IsOpen v i op → Guarantee op v (with_half v i low op)
 step_half v i low op mine = record {
-  evolves = evolves_push op v.nodes v.trees (fresh_half (at v i) low op) mine (λ q other e. other (same_Some q op (sym e)));
+  nodes = guarantee_push op v.nodes v.trees (fresh_half (at v i) low op) mine (λ q other e. other (same_Some q op (sym e)));
   points = points_push op v.nodes (fresh_half (at v i) low op) refl refl;
 }
 
 -- links where a tree is added that is not live
-leads_more : (trees : List Tree) (u : Tree) (n : Shape) (i k : ℕ) → n.tree < length trees → LeadsTo trees n i k → LeadsTo (trees ++ u ∷ []) n i k
+leads_more : (trees : List Tree) (u : Tree) (n : NodeView) (i k : ℕ) → n.tree < length trees → LeadsTo trees n i k → LeadsTo (trees ++ u ∷ []) n i k
 leads_more trees u n i k lt leads = record {
   from = ap (λ (t : Tree). t.standing) (before_tree trees u n.tree lt) ∙ leads.from;
   there = omega (arith, length-append trees (u ∷ []), leads.there);
@@ -90,7 +90,7 @@ leads_more trees u n i k lt leads = record {
   prefix = rw (before_tree trees u k leads.there, before_tree trees u n.tree lt) leads.prefix;
 }
 
-layers_tree : (xs : List Shape) (trees : List Tree) (y : Shape) (u : Tree) (op : ℕ) → y.slots ≡ [] → u.standing ≡ Made op → IsForest xs trees → AreLayered xs trees → AreLayered (xs ++ y ∷ []) (trees ++ u ∷ [])
+layers_tree : (xs : List NodeView) (trees : List Tree) (y : NodeView) (u : Tree) (op : ℕ) → y.slots ≡ [] → u.standing ≡ Made op → IsForest xs trees → AreLayered xs trees → AreLayered (xs ++ y ∷ []) (trees ++ u ∷ [])
 layers_tree xs trees y u op none standing forest layers = record {
   links = λ k lt. elim (cases_eq k (length xs)) [
     | inl is ↦ rw (is, last xs y) (no_links (trees ++ u ∷ []) y none)
@@ -108,8 +108,8 @@ layers_tree xs trees y u op none standing forest layers = record {
 }
 
 -- a tree more that an operation makes
-pub sound_tree : (xs : List Shape) (trees : List Tree) (gone : List Retired) (room more op : ℕ) (prefix : Bytes) → Sound xs trees gone room → length xs + 1 ≤ more → 8 * layer_of prefix ≡ length prefix
-    → Sound (xs ++ fresh_root (length trees) ∷ []) (trees ++ made prefix (length xs) op ∷ []) gone more
+pub sound_tree : (xs : List NodeView) (trees : List Tree) (gone : List Retired) (room more op : ℕ) (prefix : Bytes) → ArenaInvariant xs trees gone room → length xs + 1 ≤ more → 8 * layer_of prefix ≡ length prefix
+    → ArenaInvariant (xs ++ fresh_root (length trees) ∷ []) (trees ++ made prefix (length xs) op ∷ []) gone more
 sound_tree xs trees gone room more op prefix sound enough whole =
     let y = fresh_root (length trees) in
     let forest = sound.arena.forest in
@@ -124,17 +124,17 @@ sound_tree xs trees gone room more op prefix sound enough whole =
       enough = omega (arith, length-append xs (y ∷ []), enough);
     }
 
-pub step_tree : (v : View) (prefix : Bytes) (op : ℕ) → IsStep op v (with_tree v prefix op)
+pub step_tree : (v : ArenaView) (prefix : Bytes) (op : ℕ) → Guarantee op v (with_tree v prefix op)
 step_tree v prefix op = record {
-  evolves = evolves_tree op v.nodes v.trees (fresh_root (length v.trees)) (made prefix (length v.nodes) op) (omega arith) (λ q other e. absurd (cc));
+  nodes = guarantee_tree op v.nodes v.trees (fresh_root (length v.trees)) (made prefix (length v.nodes) op) (omega arith) (λ q other e. absurd (cc));
   points = points_push op v.nodes (fresh_root (length v.trees)) refl refl;
 }
 
-pub content_tree : (xs : List Shape) (trees : List Tree) (y : Shape) (u : Tree) → IsArena xs trees → y.slots ≡ [] → content (trees ++ u ∷ []) (xs ++ y ∷ []) ≡ content trees xs
+pub content_tree : (xs : List NodeView) (trees : List Tree) (y : NodeView) (u : Tree) → IsArena xs trees → y.slots ≡ [] → content (trees ++ u ∷ []) (xs ++ y ∷ []) ≡ content trees xs
 content_tree xs trees y u arena none = stands_pushed (trees ++ u ∷ []) xs y none ∙ stands_tree_pushed trees xs u arena
 
 -- a node is taken out that is empty, that no live node names, and that is no root
-forest_retired : (xs : List Shape) (trees : List Tree) (i : ℕ) → i < length xs → IsForest xs trees → ((t : ℕ) → t < length trees → (tree_at trees t).root ≡ i → (tree_at trees t).standing ≡ Dead) → IsForest (set xs i (retired (node_at xs i))) trees
+forest_retired : (xs : List NodeView) (trees : List Tree) (i : ℕ) → i < length xs → IsForest xs trees → ((t : ℕ) → t < length trees → (tree_at trees t).root ≡ i → (tree_at trees t).standing ≡ Dead) → IsForest (set xs i (retired (node_at xs i))) trees
 forest_retired xs trees i within forest no_root =
     let x = node_at xs i in
     let y = retired x in
@@ -159,8 +159,8 @@ forest_retired xs trees i within forest no_root =
       top = forest.top;
     }
 
-pub sound_retired : (v : View) (room i op step : ℕ) → Sound v.nodes v.trees v.retired room → MayRetire v i op
-    → Sound (set v.nodes i (retired (at v i))) v.trees (v.retired ++ (record { node = i; step = step }) ∷ []) room
+pub sound_retired : (v : ArenaView) (room i op step : ℕ) → ArenaInvariant v.nodes v.trees v.retired room → MayRetire v i op
+    → ArenaInvariant (set v.nodes i (retired (at v i))) v.trees (v.retired ++ (record { node = i; step = step }) ∷ []) room
 sound_retired v room i op step sound may =
     let within = may.held.there in
     record {
@@ -174,7 +174,7 @@ sound_retired v room i op step sound may =
       enough = omega (arith, length-set v.nodes i (retired (at v i)), sound.enough);
     }
 
-changes_retired : (op : ℕ) (x : Shape) → x.holder ≡ Some op → Changes op x (retired x)
+changes_retired : (op : ℕ) (x : NodeView) → x.holder ≡ Some op → Changes op x (retired x)
 changes_retired op x mine = record {
   tree = refl;
   level = refl;
@@ -187,6 +187,6 @@ changes_retired op x mine = record {
   taken = λ q other e. e;
 }
 
-pub step_retired : (v : View) (i op : ℕ) → i < length v.nodes → (at v i).holder ≡ Some op → IsOpen v i op → IsStep op v (with_node v i (retired (at v i)))
+pub step_retired : (v : ArenaView) (i op : ℕ) → i < length v.nodes → (at v i).holder ≡ Some op → IsOpen v i op → Guarantee op v (with_node v i (retired (at v i)))
 step_retired v i op within held mine =
     step_set op v i (retired (at v i)) within (changes_retired op (at v i) held) mine record { previous = λ j e not_mine. e; parent = λ j e not_mine. e }

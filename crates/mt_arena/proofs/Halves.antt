@@ -26,7 +26,7 @@ use Rattle.mt_border.proofs.ContentsLists.{get-apart}
 use Rattle.mt_border.proofs.ContentsEdits.{each-publish, keys-publish}
 use Rattle.mt_arena.specs.declared.tree.Tree.{Tree}
 use Rattle.mt_arena.specs.declared.tree.Standing.TheVariants.{Live}
-use Rattle.mt_arena.specs.Shape.{Shape, node_at, no_node}
+use Rattle.mt_arena.specs.NodeView.{NodeView, node_at, no_node}
 use Rattle.mt_arena.specs.Forests.{tree_at}
 use Rattle.mt_arena.specs.Contents.{live_pairs, content}
 use Rattle.mt_arena.specs.Arena.{IsArena}
@@ -70,18 +70,18 @@ owns prefix [] q row some = absurd (none-some row (sym (get-empty owned_cmp q) �
 owns prefix (e ∷ es) q row some = owns_by prefix e es q row (owns prefix es q row) (pair_of e.held) refl some
 
 -- the pairs of a node in two nodes
-module _ (trees : List Tree) (nodes : List Shape) (k j : ℕ) (x y z : Shape) (differ : k ≢ j) (there : k < length nodes) (also : j < length nodes)
+module _ (trees : List Tree) (nodes : List NodeView) (k j : ℕ) (x y z : NodeView) (differ : k ≢ j) (there : k < length nodes) (also : j < length nodes)
     (whole : (q : ℕ × Bytes) → get (map_of (live_pairs trees z)) q ≡ option_or (get (map_of (live_pairs trees x)) q) (get (map_of (live_pairs trees y)) q))
     (empty : (q : ℕ × Bytes) → HasNone trees nodes q j)
     (left_none : (q : ℕ × Bytes) (row : Columns) → get (map_of (live_pairs trees y)) q ≡ Some row → get (map_of (live_pairs trees x)) q ≡ None)
     (others_none : (q : ℕ × Bytes) (row : Columns) → get (map_of (live_pairs trees y)) q ≡ Some row → (l : ℕ) → l < length nodes → l ≢ k → HasNone trees nodes q l) where
-  abbrev two : List Shape
+  abbrev two : List NodeView
   two = set (set nodes k x) j y
 
-  abbrev one : List Shape
+  abbrev one : List NodeView
   one = set nodes k z
 
-  abbrev at : (ℕ × Bytes) → Shape → Option Columns
+  abbrev at : (ℕ × Bytes) → NodeView → Option Columns
   at q n = get (map_of (live_pairs trees n)) q
 
   two_j : node_at two j ≡ y
@@ -136,8 +136,8 @@ module _ (trees : List Tree) (nodes : List Shape) (k j : ℕ) (x y z : Shape) (d
   parted = content-is trees two ∙ same_contents _ _ (λ q. parted_at q (at q y) refl) ∙ sym (content-is trees one)
 
 -- a node whose slots are parted, where no other node has the owner of any of them
-module _ (nodes : List Shape) (trees : List Tree) (layer k j : ℕ) (within : k < length nodes) (live : (node_at nodes k).version.deleted ≡ false) (tree_live : (tree_at trees (node_at nodes k).tree).standing ≡ Live) (half : IsUnfilled nodes k j) where
-  abbrev parted_one : Shape
+module _ (nodes : List NodeView) (trees : List Tree) (layer k j : ℕ) (within : k < length nodes) (live : (node_at nodes k).version.deleted ≡ false) (tree_live : (tree_at trees (node_at nodes k).tree).standing ≡ Live) (half : IsUnfilled nodes k j) where
+  abbrev parted_one : NodeView
   parted_one = node_at nodes k
 
   abbrev bytes : Bytes
@@ -147,9 +147,9 @@ module _ (nodes : List Shape) (trees : List Tree) (layer k j : ℕ) (within : k 
   abbrev IsAlone : Entry → Type 0
   IsAlone d = (p : Pair) → pair_of d.held ≡ Some p → (l : ℕ) → l < length nodes → l ≢ k → HasNone trees nodes (owned (key_at bytes d p)) l
 
-  module _ (x y : Shape) (left right : List Entry) (separator : ℕ) (all_keys : AreKeys bytes layer (left ++ right)) (all_alone : All IsAlone (left ++ right)) (below : All (λ e. e.slice < separator) left) (above : All (λ e. separator ≤ e.slice) right)
+  module _ (x y : NodeView) (left right : List Entry) (separator : ℕ) (all_keys : AreKeys bytes layer (left ++ right)) (all_alone : All IsAlone (left ++ right)) (below : All (λ e. e.slice < separator) left) (above : All (λ e. separator ≤ e.slice) right)
       (first : HasSlots parted_one x left) (second : HasSlots (node_at nodes j) y right) where
-    abbrev joined_one : Shape
+    abbrev joined_one : NodeView
     joined_one = record parted_one { slots = left ++ right }
 
     -- the pairs of the three nodes
@@ -196,9 +196,9 @@ module _ (nodes : List Shape) (trees : List Tree) (layer k j : ℕ) (within : k 
     as_one = parted trees nodes k j x y joined_one half.other within half.there whole empty left_none others_none
 
 -- a node of a live tree that is parted
-module _ (nodes : List Shape) (trees : List Tree) (arena : IsArena nodes trees) (begun : AreBegun nodes) (layer k j : ℕ) (within : k < length nodes) (live : (node_at nodes k).version.deleted ≡ false)
+module _ (nodes : List NodeView) (trees : List Tree) (arena : IsArena nodes trees) (begun : AreBegun nodes) (layer k j : ℕ) (within : k < length nodes) (live : (node_at nodes k).version.deleted ≡ false)
     (tree_live : (tree_at trees (node_at nodes k).tree).standing ≡ Live) (half : IsUnfilled nodes k j) (keys : AreKeys (tree_at trees (node_at nodes k).tree).prefix layer (node_at nodes k).slots) where
-  abbrev was : Shape
+  abbrev was : NodeView
   was = node_at nodes k
 
   abbrev start : Bytes
@@ -210,7 +210,7 @@ module _ (nodes : List Shape) (trees : List Tree) (arena : IsArena nodes trees) 
       let at : StandsFor nodes trees own.0 layer k i p = record { there = within; live = live; tree_live = tree_live; in_range = inside; has = own.1; pair_is = some } in
       subst (λ q. HasNone trees nodes q l) (sym (owned_at start layer (get_or was.slots i any_entry) own.0 p own.1 some)) (others nodes trees arena begun own.0 layer k i p at l lt differ))
 
-  module _ (x y : Shape) (left right : List Entry) (separator : ℕ) (first : HasSlots was x left) (second : HasSlots (node_at nodes j) y right) where
+  module _ (x y : NodeView) (left right : List Entry) (separator : ℕ) (first : HasSlots was x left) (second : HasSlots (node_at nodes j) y right) where
     -- without a new key the contents stay
     pub parted_as_were : IsParted was.slots left right separator → content trees (set (set nodes k x) j y) ≡ content trees nodes
     parted_as_were parts =
@@ -218,16 +218,16 @@ module _ (nodes : List Shape) (trees : List Tree) (arena : IsArena nodes trees) 
         ∙ stands_unchanged trees nodes k (record was { slots = left ++ right }) (record { slots = parts.joined; deleted = refl; tree = refl })
 
 -- a node that is parted and has one key more
-module _ (nodes : List Shape) (trees : List Tree) (arena : IsArena nodes trees) (begun : AreBegun nodes) (key : Bytes) (layer k j : ℕ) (in_k : BelongsIn nodes trees key layer k) (half : IsUnfilled nodes k j) where
-  abbrev n : Shape
+module _ (nodes : List NodeView) (trees : List Tree) (arena : IsArena nodes trees) (begun : AreBegun nodes) (key : Bytes) (layer k j : ℕ) (in_k : BelongsIn nodes trees key layer k) (half : IsUnfilled nodes k j) where
+  abbrev n : NodeView
   n = node_at nodes k
 
   abbrev begins : Bytes
   begins = (tree_at trees n.tree).prefix
 
-  module _ (x y : Shape) (left right : List Entry) (separator : ℕ) (e : Entry) (pair : Pair) (has : HasKey begins layer e key) (missing : IsMissing n.slots e.slice e.mark) (is : pair_of e.held ≡ Some pair)
+  module _ (x y : NodeView) (left right : List Entry) (separator : ℕ) (e : Entry) (pair : Pair) (has : HasKey begins layer e key) (missing : IsMissing n.slots e.slice e.mark) (is : pair_of e.held ≡ Some pair)
       (parts : IsParted (with_entry n.slots e) left right separator) (first : HasSlots n x left) (second : HasSlots (node_at nodes j) y right) where
-    abbrev z : Shape
+    abbrev z : NodeView
     z = record n { slots = left ++ right }
 
     keys : AreKeys begins layer n.slots

@@ -21,13 +21,13 @@ use Rattle.mt_border.proofs.ContentsEdits.{keys-publish, length-publish}
 use Rattle.mt_interior.specs.Fences.{end_of}
 use Rattle.mt_arena.specs.declared.tree.Tree.{Tree}
 use Rattle.mt_arena.specs.declared.retired.Retired.{Retired}
-use Rattle.mt_arena.specs.Shape.{Shape, node_at}
+use Rattle.mt_arena.specs.NodeView.{NodeView, node_at}
 use Rattle.mt_arena.specs.Nodes.{Holds}
 use Rattle.mt_arena.specs.Forests.{HaveKeys, tree_at, layer_of}
 use Rattle.mt_arena.specs.Contents.{content}
 use Rattle.mt_arena.specs.Ways.{IsUnfilled}
 use Rattle.mt_arena.specs.declared.tree.Standing.TheVariants.{Live}
-use Rattle.mt_arena.specs.Arena.{Sound, View, IsStep}
+use Rattle.mt_arena.specs.Arena.{ArenaInvariant, ArenaView, Guarantee}
 use Rattle.mt_arena.specs.Accesses.{at, tree_of}
 use Rattle.mt_arena.specs.Splits.{Splits, left_half, right_half}
 use Rattle.mt_arena.specs.Several.{IsHalf, MaySplit, MayPlace}
@@ -36,10 +36,10 @@ use Rattle.mt_arena.proofs.Homes.{begun}
 use Rattle.mt_arena.proofs.Locks.{is_held}
 use Rattle.mt_arena.proofs.Steps.{keys_of}
 use Rattle.mt_arena.proofs.Slots.{within_each, no_link, begun_mark}
-use Rattle.mt_arena.proofs.SplitStep.{sound_split, evolves_split}
+use Rattle.mt_arena.proofs.SplitStep.{sound_split, guarantee_split}
 use Rattle.mt_arena.proofs.Naming.{names_same, points_each, each_set2}
 use Rattle.mt_arena.proofs.Halves.{halved, parted_as_were}
-use Rattle.mt_arena.proofs.Evolving.{PointsSo}
+use Rattle.mt_arena.proofs.Guarantees.{PointsSo}
 
 -- links of links
 links_on : (a b c : List Entry) → HasLinksOf a b → HasLinksOf b c → HasLinksOf a c
@@ -70,7 +70,7 @@ slot_parted l r u slice h = elim (cases_lt h.slot (length l)) [
 ]
 
 -- slots that may stand in a node and its right half together
-pub record Gathers (trees : List Tree) (x : Shape) (all : List Entry) : Type 0 where
+pub record Gathers (trees : List Tree) (x : NodeView) (all : List Entry) : Type 0 where
   pub few : length all ≤ 16
   pub rising : IsRising (orders all)
   pub each : All IsEntry all
@@ -80,7 +80,7 @@ pub record Gathers (trees : List Tree) (x : Shape) (all : List Entry) : Type 0 w
   pub back : HasLinksOf x.slots all
 
 -- those of a node, and those with one key more
-pub gathers_same : (xs : List Shape) (trees : List Tree) (gone : List Retired) (room i : ℕ) → i < length xs → Sound xs trees gone room → Gathers trees (node_at xs i) (node_at xs i).slots
+pub gathers_same : (xs : List NodeView) (trees : List Tree) (gone : List Retired) (room i : ℕ) → i < length xs → ArenaInvariant xs trees gone room → Gathers trees (node_at xs i) (node_at xs i).slots
 gathers_same xs trees gone room i within sound =
     let x = node_at xs i in
     let h = sound.arena.nodes.each i within in
@@ -94,7 +94,7 @@ gathers_same xs trees gone room i within sound =
       back = same_links x.slots;
     }
 
-pub gathers_with : (v : View) (room left right op : ℕ) (key : Bytes) (e : Entry) → Sound v.nodes v.trees v.retired room → MaySplit v left right op e.slice e.mark → MayPlace v left op key e → Gathers v.trees (at v left) (with_entry (at v left).slots e)
+pub gathers_with : (v : ArenaView) (room left right op : ℕ) (key : Bytes) (e : Entry) → ArenaInvariant v.nodes v.trees v.retired room → MaySplit v left right op e.slice e.mark → MayPlace v left op key e → Gathers v.trees (at v left) (with_entry (at v left).slots e)
 gathers_with v room left right op key e sound may place =
     let x = at v left in
     let layer = layer_of (tree_of v left).prefix in
@@ -118,15 +118,15 @@ gathers_with v room left right op key e sound may place =
 each_slice : (P : ℕ → Type 0) (es : List Entry) → All (λ (e : Entry). P e.slice) es → (i : ℕ) → i < length es → P (get_or (slices es) i 0)
 each_slice P es each i lt = subst P (sym (get_or-map (λ (e : Entry). e.slice) es i any_entry 0 lt)) (each i any_entry lt)
 
-module _ (v : View) (room left right op : ℕ) (all kept moved : List Entry) (sound : Sound v.nodes v.trees v.retired room) (half : IsHalf v left right op) (border : (at v left).level ≡ 0) (ok : Gathers v.trees (at v left) all)
+module _ (v : ArenaView) (room left right op : ℕ) (all kept moved : List Entry) (sound : ArenaInvariant v.nodes v.trees v.retired room) (half : IsHalf v left right op) (border : (at v left).level ≡ 0) (ok : Gathers v.trees (at v left) all)
     (parted : IsParted all kept moved (at v right).low) (some_kept : 0 < length kept) (some_moved : 0 < length moved) where
-  abbrev x : Shape
+  abbrev x : NodeView
   x = at v left
 
-  abbrev r : Shape
+  abbrev r : NodeView
   r = at v right
 
-  abbrev new : List Shape
+  abbrev new : List NodeView
   new = set (set v.nodes left (left_half x kept r.low right)) right (right_half x r moved left)
 
   size : length kept + length moved ≤ 16
@@ -188,7 +188,7 @@ module _ (v : View) (room left right op : ℕ) (all kept moved : List Entry) (so
     begun = All-right (λ (e : Entry). e.mark ≢ Short 0) kept moved keys_all.begun;
   }
 
-  pub sound_halved : Sound new v.trees v.retired room
+  pub sound_halved : ArenaInvariant new v.trees v.retired room
   sound_halved = sound_split v.nodes v.trees left right kept moved half.held.there half.right_held.there half.differ splits v.retired room sound half.empty half.no_root
       keys_kept (subst (λ t. HaveKeys (tree_at v.trees t).prefix moved) (sym half.right_tree) keys_moved)
       (links_on x.slots all kept ok.back (subst (λ (es : List Entry). HasLinksOf es kept) parted.joined (links_left kept moved)))
@@ -199,9 +199,9 @@ module _ (v : View) (room left right op : ℕ) (all kept moved : List Entry) (so
   still_held = each_set2 (λ k n. k ≡ left → n.holder ≡ Some op) v.nodes left right (left_half x kept r.low right) (right_half x r moved left) half.held.there half.right_held.there half.differ
       (λ _. half.held.holder) (λ e. absurd (half.differ (sym e))) (λ k lt ni nj e. absurd (ni e)) left half.held.there refl
 
-  pub step_halved : IsStep op v (record v { nodes = new })
+  pub step_halved : Guarantee op v (record v { nodes = new })
   step_halved = record {
-    evolves = evolves_split v.nodes v.trees left right kept moved half.held.there half.right_held.there half.differ splits op half.held.holder half.right_held.holder sound.arena.forest half.mine;
+    nodes = guarantee_split v.nodes v.trees left right kept moved half.held.there half.right_held.there half.differ splits op half.held.holder half.right_held.holder sound.arena.forest half.mine;
     points = points_each op v.nodes new (length-set (set v.nodes left (left_half x kept r.low right)) right (right_half x r moved left) ∙ length-set v.nodes left (left_half x kept r.low right))
         (each_set2 (λ k n. PointsSo op new (at v k) n) v.nodes left right (left_half x kept r.low right) (right_half x r moved left) half.held.there half.right_held.there half.differ
         (names_same op new x (left_half x kept r.low right) refl refl)
@@ -213,10 +213,10 @@ module _ (v : View) (room left right op : ℕ) (all kept moved : List Entry) (so
   }
 
 -- the right half is a node without slots of the same tree
-unfilled : (v : View) (left right op : ℕ) → IsHalf v left right op → IsUnfilled v.nodes left right
+unfilled : (v : ArenaView) (left right op : ℕ) → IsHalf v left right op → IsUnfilled v.nodes left right
 unfilled v left right op half = record { other = half.differ; there = half.right_held.there; live = half.right_live; tree = half.right_tree; empty = half.empty }
 
-pub content_halved : (v : View) (room left right op : ℕ) (key : Bytes) (e : Entry) (pair : Pair) (kept moved : List Entry) → Sound v.nodes v.trees v.retired room → MaySplit v left right op e.slice e.mark → MayPlace v left op key e → e.held ≡ Stable pair
+pub content_halved : (v : ArenaView) (room left right op : ℕ) (key : Bytes) (e : Entry) (pair : Pair) (kept moved : List Entry) → ArenaInvariant v.nodes v.trees v.retired room → MaySplit v left right op e.slice e.mark → MayPlace v left op key e → e.held ≡ Stable pair
     → IsParted (with_entry (at v left).slots e) kept moved (at v right).low
     → content v.trees (set (set v.nodes left (left_half (at v left) kept (at v right).low right)) right (right_half (at v left) (at v right) moved left)) ≡ finite.insert (content v.trees v.nodes) (owned key) pair.row
 content_halved v room left right op key e pair kept moved sound may place is parted =
@@ -224,7 +224,7 @@ content_halved v room left right op key e pair kept moved sound may place is par
     (left_half (at v left) kept (at v right).low right) (right_half (at v left) (at v right) moved left) kept moved (at v right).low e pair place.has may.missing (ap pair_of is) parted
     (record { slots = refl; deleted = refl; tree = refl }) (record { slots = refl; deleted = refl; tree = refl })
 
-pub content_parted : (v : View) (room left right op slice : ℕ) (mark : Mark) (kept moved : List Entry) → Sound v.nodes v.trees v.retired room → MaySplit v left right op slice mark → (tree_of v left).standing ≡ Live
+pub content_parted : (v : ArenaView) (room left right op slice : ℕ) (mark : Mark) (kept moved : List Entry) → ArenaInvariant v.nodes v.trees v.retired room → MaySplit v left right op slice mark → (tree_of v left).standing ≡ Live
     → IsParted (at v left).slots kept moved (at v right).low
     → content v.trees (set (set v.nodes left (left_half (at v left) kept (at v right).low right)) right (right_half (at v left) (at v right) moved left)) ≡ content v.trees v.nodes
 content_parted v room left right op slice mark kept moved sound may live parted =

@@ -4,27 +4,27 @@ use Rattle.std.proofs.lemmas.Bool.{cases_eq}
 use Rattle.std.proofs.lemmas.List.{length-set}
 use Rattle.mt_arena.specs.declared.tree.Tree.{Tree}
 use Rattle.mt_arena.specs.declared.tree.Standing.TheVariants.{Dead}
-use Rattle.mt_arena.specs.Shape.{Shape, node_at}
+use Rattle.mt_arena.specs.NodeView.{NodeView, node_at}
 use Rattle.mt_arena.specs.Forests.{IsForest, IsHome, IsTree, IsRoot, HaveKeys, tree_at}
 use Rattle.mt_arena.specs.Ways.{AreBegun}
 use Rattle.mt_arena.proofs.Pairs.{here, there, last, before}
 
 -- what a node that changes keeps of its place among the trees
-pub record KeepsHome (x y : Shape) : Type 0 where
+pub record KeepsHome (x y : NodeView) : Type 0 where
   pub tree : y.tree ≡ x.tree
   pub deleted : y.version.deleted ≡ x.version.deleted
   pub flag : y.version.root ≡ x.version.root
   pub root : IsRoot x → IsRoot y
 
 -- its keys are those of its tree
-abbrev pub HasKeysOf : List Tree → Shape → Type 0
+abbrev pub HasKeysOf : List Tree → NodeView → Type 0
 HasKeysOf trees n = HaveKeys (tree_at trees n.tree).prefix n.slots
 
 -- each slot's key has a byte in its layer
-pub begun : (xs : List Shape) (trees : List Tree) → IsForest xs trees → AreBegun xs
+pub begun : (xs : List NodeView) (trees : List Tree) → IsForest xs trees → AreBegun xs
 begun xs trees forest k lt = ((forest.homes k (node_at xs k).tree lt (forest.tree_there k lt)).keys refl).begun
 
-home_kept : (k : ℕ) (x y : Shape) (t : ℕ) (tree : Tree) → KeepsHome x y → (x.tree ≡ t → HaveKeys tree.prefix y.slots) → IsHome k x t tree → IsHome k y t tree
+home_kept : (k : ℕ) (x y : NodeView) (t : ℕ) (tree : Tree) → KeepsHome x y → (x.tree ≡ t → HaveKeys tree.prefix y.slots) → IsHome k x t tree → IsHome k y t tree
 home_kept k x y t tree keeps keys h = record {
   root_tree = λ e standing. keeps.tree ∙ h.root_tree e standing;
   root_is = λ e standing. keeps.root (h.root_is e standing);
@@ -36,7 +36,7 @@ home_kept k x y t tree keeps keys h = record {
 tree_more : (count more : ℕ) (tree : Tree) → count ≤ more → IsTree count tree → IsTree more tree
 tree_more count more tree le h = record { root_there = omega (arith, h.root_there); whole = h.whole }
 
-pub forest_set : (xs : List Shape) (trees : List Tree) (i : ℕ) (y : Shape) → i < length xs → IsForest xs trees → KeepsHome (node_at xs i) y → HasKeysOf trees y → IsForest (set xs i y) trees
+pub forest_set : (xs : List NodeView) (trees : List Tree) (i : ℕ) (y : NodeView) → i < length xs → IsForest xs trees → KeepsHome (node_at xs i) y → HasKeysOf trees y → IsForest (set xs i y) trees
 forest_set xs trees i y within forest keeps keys =
     let x = node_at xs i in
     let size = length-set xs i y in
@@ -56,7 +56,7 @@ forest_set xs trees i y within forest keeps keys =
     }
 
 -- a node more that is no root, of a tree that stands
-pub forest_push : (xs : List Shape) (trees : List Tree) (y : Shape) → IsForest xs trees → y.tree < length trees → (tree_at trees y.tree).standing ≢ Dead → y.version.root ≡ false → HasKeysOf trees y
+pub forest_push : (xs : List NodeView) (trees : List Tree) (y : NodeView) → IsForest xs trees → y.tree < length trees → (tree_at trees y.tree).standing ≢ Dead → y.version.root ≡ false → HasKeysOf trees y
     → IsForest (xs ++ y ∷ []) trees
 forest_push xs trees y forest there_is stands no_root keys =
     let size : length (xs ++ y ∷ []) ≡ length xs + 1 = length-append xs (y ∷ []) in
@@ -81,7 +81,7 @@ forest_push xs trees y forest there_is stands no_root keys =
     }
 
 -- a node that has a parent is no root
-pub no_root : (xs : List Shape) (trees : List Tree) (k : ℕ) → IsForest xs trees → k < length xs → (node_at xs k).version.deleted ≡ false → (node_at xs k).parent ≢ None → (node_at xs k).version.root ≡ false
+pub no_root : (xs : List NodeView) (trees : List Tree) (k : ℕ) → IsForest xs trees → k < length xs → (node_at xs k).version.deleted ≡ false → (node_at xs k).parent ≢ None → (node_at xs k).version.root ≡ false
 no_root xs trees k forest lt live some = by (node_at xs k).version.root refl
   where
     by : (b : Bool) → (node_at xs k).version.root ≡ b → (node_at xs k).version.root ≡ false

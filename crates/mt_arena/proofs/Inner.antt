@@ -6,7 +6,7 @@ use Rattle.mt_interior.specs.Fences.{end_of, bounds_of}
 use Rattle.mt_interior.proofs.Rises.{rising_take, rising_drop}
 use Rattle.mt_interior.proofs.PlaceLemmas.{bounds_of-inner, bounds_of-end}
 use Rattle.mt_interior.proofs.CallerLemmas.{bounds_of-take, bounds_of-drop}
-use Rattle.mt_arena.specs.Shape.{Shape, node_at}
+use Rattle.mt_arena.specs.NodeView.{NodeView, node_at}
 use Rattle.mt_arena.specs.Nodes.{AllPairs, IsNode, IsPair, IsChild, HasRange, bounds}
 use Rattle.mt_arena.specs.Splits.{SplitsInner}
 use Rattle.mt_arena.proofs.Pairs.{pairs_set2}
@@ -21,36 +21,36 @@ pub record IsWide (count : ℕ) (low : ℕ) (high : Option ℕ) (separators chil
   pub rise : IsRising (bounds_of low separators high)
   pub there : (b : ℕ) → b < length children → get_or children b 0 < count
 
-module _ (ws : List Shape) (i h k : ℕ) (p : Shape) (separators children : List ℕ) (node_is : node_at ws i ≡ record p { separators = separators; children = children })
+module _ (ws : List NodeView) (i h k : ℕ) (p : NodeView) (separators children : List ℕ) (node_is : node_at ws i ≡ record p { separators = separators; children = children })
     (pairs : AllPairs IsPair ws) (others : (m : ℕ) → m < length ws → m ≢ i → IsNode (length ws) (node_at ws m)) (hp : IsNode (length ws) p)
     (li : i < length ws) (lh : h < length ws) (differ : i ≢ h) (held : p.holder ≢ None) (live : p.version.deleted ≡ false) (above : 0 < p.level)
     (wide : IsWide (length ws) p.low p.high separators children k) (f : SplitsInner p (node_at ws h) (get_or separators k 0)) where
-  abbrev w : Shape
+  abbrev w : NodeView
   w = record p { separators = separators; children = children }
 
-  abbrev t : Shape
+  abbrev t : NodeView
   t = node_at ws h
 
   abbrev middle : ℕ
   middle = get_or separators k 0
 
-  abbrev y : Shape
+  abbrev y : NodeView
   y = record w { separators = take k separators; children = take (suc k) children; high = Some middle }
 
-  abbrev u : Shape
+  abbrev u : NodeView
   u = record t { separators = drop (suc k) separators; children = drop (suc k) children; high = p.high; reach = p.reach }
 
   ht : IsNode (length ws) t
   ht = others h lh (λ e. differ (sym e))
 
   from_w : (m : ℕ) → m < length ws → IsPair i w m (node_at ws m)
-  from_w m lm = subst (λ (n : Shape). IsPair i n m (node_at ws m)) node_is (pairs i m li lm)
+  from_w m lm = subst (λ (n : NodeView). IsPair i n m (node_at ws m)) node_is (pairs i m li lm)
 
   to_w : (m : ℕ) → m < length ws → IsPair m (node_at ws m) i w
-  to_w m lm = subst (λ (n : Shape). IsPair m (node_at ws m) i n) node_is (pairs m i lm li)
+  to_w m lm = subst (λ (n : NodeView). IsPair m (node_at ws m) i n) node_is (pairs m i lm li)
 
   self_w : IsPair i w i w
-  self_w = subst (λ (n : Shape). IsPair i n i w) node_is (to_w i li)
+  self_w = subst (λ (n : NodeView). IsPair i n i w) node_is (to_w i li)
 
   -- where the halves meet
   middle_is : get_or (bounds w) (suc k) 0 ≡ middle
@@ -160,7 +160,7 @@ module _ (ws : List Shape) (i h k : ℕ) (p : Shape) (separators children : List
   }
 
   -- no node without range is a child
-  not_target : (n : Shape) (b : ℕ) → IsChild n b t → get_or (bounds n) b 0 < get_or (bounds n) (b + 1) 0 → ⊥
+  not_target : (n : NodeView) (b : ℕ) → IsChild n b t → get_or (bounds n) b 0 < get_or (bounds n) (b + 1) 0 → ⊥
   not_target n b c lt = omega (arith, c.low, c.reach, ap end_of f.right_reach, lt)
 
   wide_child : (b : ℕ) → b < length children → get_or children b 0 ≡ h → ⊥
@@ -171,10 +171,10 @@ module _ (ws : List Shape) (i h k : ℕ) (p : Shape) (separators children : List
   own_child b lt is = omega (arith, (self_w.child b lt is live).level)
 
   -- the children of the halves
-  left_kept : (b : ℕ) (m : Shape) → b < suc k → IsChild w b m → IsChild y b m
+  left_kept : (b : ℕ) (m : NodeView) → b < suc k → IsChild w b m → IsChild y b m
   left_kept b m lt c = record { live = c.live; tree = c.tree; level = c.level; knows = c.knows; low = c.low ∙ sym (left_bound b (omega (arith, lt))); reach = c.reach ∙ sym (left_bound (b + 1) (omega (arith, lt))) }
 
-  right_kept : (b : ℕ) (m : Shape) → IsChild w (suc k + b) m → IsChild u b m
+  right_kept : (b : ℕ) (m : NodeView) → IsChild w (suc k + b) m → IsChild u b m
   right_kept b m c = record {
     live = c.live;
     tree = c.tree ∙ sym f.right_tree;
@@ -184,16 +184,16 @@ module _ (ws : List Shape) (i h k : ℕ) (p : Shape) (separators children : List
     reach = c.reach ∙ ap (λ q. get_or (bounds w) q 0) {x = suc k + b + 1} {y = suc k + (b + 1)} (omega arith) ∙ sym (right_bound (b + 1));
   }
 
-  left_child : (m : ℕ) (n : Shape) → IsPair i w m n → (b : ℕ) → b < length y.children → get_or y.children b 0 ≡ m → IsChild y b n
+  left_child : (m : ℕ) (n : NodeView) → IsPair i w m n → (b : ℕ) → b < length y.children → get_or y.children b 0 ≡ m → IsChild y b n
   left_child m n g b lt is =
       let small : b < suc k = omega (arith, lt, left_count) in
       left_kept b n small (g.child b (omega (arith, small, wide.between, wide.in_range)) (sym (get_or-take (suc k) children b 0 small) ∙ is) live)
 
-  right_child : (m : ℕ) (n : Shape) → IsPair i w m n → (b : ℕ) → b < length u.children → get_or u.children b 0 ≡ m → IsChild u b n
+  right_child : (m : ℕ) (n : NodeView) → IsPair i w m n → (b : ℕ) → b < length u.children → get_or u.children b 0 ≡ m → IsChild u b n
   right_child m n g b lt is = right_kept b n (g.child (suc k + b) (omega (arith, lt, right_count)) (sym (get_or-drop (suc k) children b 0) ∙ is) live)
 
   -- the left half beside any node
-  left_from : (m : ℕ) (n : Shape) → IsPair i w m n → IsPair i y m n
+  left_from : (m : ℕ) (n : NodeView) → IsPair i w m n → IsPair i y m n
   left_from m n g = record {
     next_follows = λ e. absurd (let none = f.next in cc);
     next_tree = λ e. absurd (let none = f.next in cc);
@@ -206,7 +206,7 @@ module _ (ws : List Shape) (i h k : ℕ) (p : Shape) (separators children : List
     apart = λ d tree level one also s hy hn. g.apart d tree level one also s (hy.0, omega (arith, hy.1, middle_high)) hn;
   }
 
-  left_to : (m : ℕ) (n : Shape) → IsPair m n i w → IsPair m n i y
+  left_to : (m : ℕ) (n : NodeView) → IsPair m n i w → IsPair m n i y
   left_to m n g = record {
     next_follows = g.next_follows;
     next_tree = g.next_tree;
@@ -222,7 +222,7 @@ module _ (ws : List Shape) (i h k : ℕ) (p : Shape) (separators children : List
   }
 
   -- the right half beside any node but the left one
-  right_from : (m : ℕ) (n : Shape) → m ≢ i → IsPair i w m n → IsPair h t m n → IsPair h u m n
+  right_from : (m : ℕ) (n : NodeView) → m ≢ i → IsPair i w m n → IsPair h t m n → IsPair h u m n
   right_from m n ni g e = record {
     next_follows = λ is. absurd (let none = f.right_next in cc);
     next_tree = λ is. absurd (let none = f.right_next in cc);
@@ -235,7 +235,7 @@ module _ (ws : List Shape) (i h k : ℕ) (p : Shape) (separators children : List
     apart = λ d tree level _ also s hu hn. g.apart (λ same. ni (sym same)) (sym f.right_tree ∙ tree) (sym f.right_level ∙ level) live also s (omega (arith, hu.0, low_middle, f.right_low), hu.1) hn;
   }
 
-  right_to : (m : ℕ) (n : Shape) → m ≢ i → IsNode (length ws) n → IsPair m n i w → IsPair m n h t → IsPair m n h u
+  right_to : (m : ℕ) (n : NodeView) → m ≢ i → IsNode (length ws) n → IsPair m n i w → IsPair m n h t → IsPair m n h u
   right_to m n ni one g e = record {
     next_follows = e.next_follows;
     next_tree = e.next_tree;

@@ -3,7 +3,7 @@ use Rattle.std.proofs.Common.{◌≡◌, ◌≢◌, ℕ, ◌+◌, ◌<◌, List,
 use Rattle.std.specs.List.{insert}
 use Rattle.std.proofs.lemmas.Bool.{cases_eq}
 use Rattle.std.proofs.lemmas.List.{length-set, set-set, set_comm}
-use Rattle.mt_arena.specs.Shape.{Shape, node_at}
+use Rattle.mt_arena.specs.NodeView.{NodeView, node_at}
 use Rattle.mt_arena.specs.Nodes.{AreNodes, AllNodes, AllPairs, IsNode, IsPair, HasRange}
 use Rattle.mt_arena.specs.Ranges.{AreRanged}
 use Rattle.mt_arena.proofs.Ranged.{ranged_parted}
@@ -12,12 +12,12 @@ use Rattle.mt_arena.proofs.Pairs.{here, there, nodes_set}
 use Rattle.mt_arena.proofs.Child.{inserts_at, inserted_pairs, children_within, sizes, still_rise, differ_ij, left_child, left_node as exact_node}
 use Rattle.mt_arena.proofs.Inner.{IsWide, parted_pairs, left_node, right_node, halves_range}
 
-module _ (xs : List Shape) (i j q h : ℕ) (nodes : AreNodes xs) (f : Inserts xs i j q) (full : length (node_at xs i).separators ≡ 15) (lh : h < length xs) (differ : i ≢ h)
+module _ (xs : List NodeView) (i j q h : ℕ) (nodes : AreNodes xs) (f : Inserts xs i j q) (full : length (node_at xs i).separators ≡ 15) (lh : h < length xs) (differ : i ≢ h)
     (s : SplitsInner (node_at xs i) (node_at xs h) (get_or (insert (node_at xs i).separators f.child.place (node_at xs q).low) 8 0)) where
-  abbrev p : Shape
+  abbrev p : NodeView
   p = node_at xs i
 
-  abbrev t : Shape
+  abbrev t : NodeView
   t = node_at xs h
 
   abbrev separators : List ℕ
@@ -26,19 +26,19 @@ module _ (xs : List Shape) (i j q h : ℕ) (nodes : AreNodes xs) (f : Inserts xs
   abbrev children : List ℕ
   children = insert p.children (f.child.place + 1) q
 
-  abbrev w : Shape
+  abbrev w : NodeView
   w = record p { separators = separators; children = children }
 
-  abbrev z : Shape
+  abbrev z : NodeView
   z = exact (node_at xs j)
 
-  abbrev y : Shape
+  abbrev y : NodeView
   y = inner_left w
 
-  abbrev u : Shape
+  abbrev u : NodeView
   u = inner_right w t
 
-  abbrev ws : List Shape
+  abbrev ws : List NodeView
   ws = set (set xs i w) j z
 
   li : i < length xs
@@ -92,7 +92,7 @@ module _ (xs : List Shape) (i j q h : ℕ) (nodes : AreNodes xs) (f : Inserts xs
   }
 
   s_ws : SplitsInner p (node_at ws h) (get_or separators 8 0)
-  s_ws = subst (λ (n : Shape). SplitsInner p n (get_or separators 8 0)) (sym at_h) s
+  s_ws = subst (λ (n : NodeView). SplitsInner p n (get_or separators 8 0)) (sym at_h) s
 
   lh_ws : h < length ws
   lh_ws = omega (arith, lh, size)
@@ -101,21 +101,21 @@ module _ (xs : List Shape) (i j q h : ℕ) (nodes : AreNodes xs) (f : Inserts xs
   li_ws = omega (arith, li, size)
 
   pairs : AllPairs IsPair (set (set ws i y) h u)
-  pairs = subst (λ (n : Shape). AllPairs IsPair (set (set ws i y) h (inner_right w n))) at_h
+  pairs = subst (λ (n : NodeView). AllPairs IsPair (set (set ws i y) h (inner_right w n))) at_h
       (parted_pairs ws i h 8 p separators children at_i (inserted_pairs xs i j q nodes f) each hp li_ws lh_ws differ f.parent_held f.parent_live above wide s_ws)
 
   left : IsNode (length xs) y
   left = subst (λ n. IsNode n y) size (left_node ws i h 8 p separators children at_i (inserted_pairs xs i j q nodes f) each hp li_ws lh_ws differ f.parent_held f.parent_live above wide s_ws)
 
   right : IsNode (length xs) u
-  right = subst (λ (n : Shape). IsNode (length xs) (inner_right w n)) at_h
+  right = subst (λ (n : NodeView). IsNode (length xs) (inner_right w n)) at_h
       (subst (λ n. IsNode n (inner_right w (node_at ws h))) size (right_node ws i h 8 p separators children at_i (inserted_pairs xs i j q nodes f) each hp li_ws lh_ws differ f.parent_held f.parent_live above wide s_ws))
 
   -- the node that was too wide is nowhere
   same : set ws i y ≡ set (set xs i y) j z
   same = set_comm (set xs i w) j i z y (λ e. ij (sym e)) ∙ ap (λ vs. set vs j z) (set-set xs i w y)
 
-  abbrev ys : List Shape
+  abbrev ys : List NodeView
   ys = set (set (set xs i y) j z) h u
 
   size_ys : length ys ≡ length xs
@@ -126,28 +126,28 @@ module _ (xs : List Shape) (i j q h : ℕ) (nodes : AreNodes xs) (f : Inserts xs
     each = subst (λ n. AllNodes (IsNode n) ys) (sym size_ys)
         (nodes_set (IsNode (length xs)) (set (set xs i y) j z) h u (omega (arith, lh, length-set xs i y, length-set (set xs i y) j z))
         (nodes_set (IsNode (length xs)) (set xs i y) j z (omega (arith, lj, length-set xs i y)) (nodes_set (IsNode (length xs)) xs i y li nodes.each left) (exact_node xs i j q nodes f)) right);
-    pairs = subst (λ (vs : List Shape). AllPairs IsPair (set vs h u)) same pairs;
+    pairs = subst (λ (vs : List NodeView). AllPairs IsPair (set vs h u)) same pairs;
   }
 
   -- both halves have a range
   pub parted_ranges : HasRange y × HasRange u
   parted_ranges =
       let ranges = halves_range ws i h 8 p separators children at_i (inserted_pairs xs i j q nodes f) each hp li_ws lh_ws differ f.parent_held f.parent_live above wide s_ws in
-      (ranges.0, subst (λ (n : Shape). HasRange (inner_right w n)) at_h ranges.1)
+      (ranges.0, subst (λ (n : NodeView). HasRange (inner_right w n)) at_h ranges.1)
 
 -- node q becomes a child of node i, which is full and is parted: node h gets its upper children
-pub nodes_split_inner : (xs : List Shape) (i j q h : ℕ) → AreNodes xs → Inserts xs i j q → length (node_at xs i).separators ≡ 15 → h < length xs → i ≢ h
+pub nodes_split_inner : (xs : List NodeView) (i j q h : ℕ) → AreNodes xs → Inserts xs i j q → length (node_at xs i).separators ≡ 15 → h < length xs → i ≢ h
     → SplitsInner (node_at xs i) (node_at xs h) (middle (with_child (node_at xs i) (node_at xs q).low q))
     → AreNodes (set (set (set xs i (inner_left (with_child (node_at xs i) (node_at xs q).low q))) j (exact (node_at xs j))) h (inner_right (with_child (node_at xs i) (node_at xs q).low q) (node_at xs h)))
 nodes_split_inner xs i j q h nodes f full lh differ s = rw (inserts_at xs i j q nodes f) (parted_nodes xs i j q h nodes f full lh differ (rw (inserts_at xs i j q nodes f) at s))
 
 -- and both halves have a range
-pub ranges_split_inner : (xs : List Shape) (i j q h : ℕ) → AreNodes xs → Inserts xs i j q → length (node_at xs i).separators ≡ 15 → h < length xs → i ≢ h
+pub ranges_split_inner : (xs : List NodeView) (i j q h : ℕ) → AreNodes xs → Inserts xs i j q → length (node_at xs i).separators ≡ 15 → h < length xs → i ≢ h
     → SplitsInner (node_at xs i) (node_at xs h) (middle (with_child (node_at xs i) (node_at xs q).low q))
     → HasRange (inner_left (with_child (node_at xs i) (node_at xs q).low q)) × HasRange (inner_right (with_child (node_at xs i) (node_at xs q).low q) (node_at xs h))
 ranges_split_inner xs i j q h nodes f full lh differ s = rw (inserts_at xs i j q nodes f) (parted_ranges xs i j q h nodes f full lh differ (rw (inserts_at xs i j q nodes f) at s))
 
-pub ranged_split_inner : (xs : List Shape) (i j q h : ℕ) → AreNodes xs → AreRanged xs → Inserts xs i j q → length (node_at xs i).separators ≡ 15 → h < length xs → i ≢ h
+pub ranged_split_inner : (xs : List NodeView) (i j q h : ℕ) → AreNodes xs → AreRanged xs → Inserts xs i j q → length (node_at xs i).separators ≡ 15 → h < length xs → i ≢ h
     → SplitsInner (node_at xs i) (node_at xs h) (middle (with_child (node_at xs i) (node_at xs q).low q))
     → AreRanged (set (set (set xs i (inner_left (with_child (node_at xs i) (node_at xs q).low q))) j (exact (node_at xs j))) h (inner_right (with_child (node_at xs i) (node_at xs q).low q) (node_at xs h)))
 ranged_split_inner xs i j q h nodes ranged f full lh differ s =

@@ -5,13 +5,13 @@ use Rattle.std.proofs.lemmas.List.{length-set, set-set, get_or_append_left}
 use Rattle.mt_interior.specs.Places.{IsNew}
 use Rattle.mt_interior.specs.Fences.{end_of}
 use Rattle.mt_arena.specs.declared.tree.Tree.{Tree}
-use Rattle.mt_arena.specs.Shape.{Shape, node_at}
+use Rattle.mt_arena.specs.NodeView.{NodeView, node_at}
 use Rattle.mt_arena.specs.declared.tree.Standing.TheVariants.{Made}
 use Rattle.mt_arena.specs.Forests.{IsForest, tree_at}
 use Rattle.mt_arena.specs.Ranges.{AreRanged}
 use Rattle.mt_arena.specs.Nodes.{AreNodes, IsChild, bounds}
 use Rattle.mt_arena.specs.Contents.{content}
-use Rattle.mt_arena.specs.Arena.{Sound, View, IsStep}
+use Rattle.mt_arena.specs.Arena.{ArenaInvariant, ArenaView, Guarantee}
 use Rattle.mt_arena.specs.Accesses.{at}
 use Rattle.mt_arena.specs.Edits.{inserting}
 use Rattle.mt_arena.specs.Splits.{Inserts, with_child, exact}
@@ -24,18 +24,18 @@ use Rattle.mt_arena.proofs.Child.{nodes_insert_child, left_child, differ_ij}
 use Rattle.mt_arena.proofs.Steps.{keys_of}
 use Rattle.mt_arena.proofs.Slots.{changes_slots}
 use Rattle.mt_arena.proofs.HeldChanges.{changes_with_child, changes_exact}
-use Rattle.mt_arena.proofs.Evolving.{changes_on, PointsSo}
+use Rattle.mt_arena.proofs.Guarantees.{changes_on, PointsSo}
 use Rattle.mt_arena.proofs.Naming.{names_same, points_each, each_set2}
-use Rattle.mt_arena.proofs.Several.{AreKept, kept_set2, KeepsPlace, forest_set2, MayTurn, evolves_set2}
+use Rattle.mt_arena.proofs.Several.{AreKept, kept_set2, KeepsPlace, forest_set2, MayTurn, guarantee_set2}
 
-module _ (xs : List Shape) (i j q : ℕ) (nodes : AreNodes xs) (f : Inserts xs i j q) where
-  abbrev p : Shape
+module _ (xs : List NodeView) (i j q : ℕ) (nodes : AreNodes xs) (f : Inserts xs i j q) where
+  abbrev p : NodeView
   p = node_at xs i
 
-  abbrev l : Shape
+  abbrev l : NodeView
   l = node_at xs j
 
-  abbrev r : Shape
+  abbrev r : NodeView
   r = node_at xs q
 
   child : IsChild p f.child.place l
@@ -70,7 +70,7 @@ module _ (xs : List Shape) (i j q : ℕ) (nodes : AreNodes xs) (f : Inserts xs i
       ]
 
   -- of the marked parent too
-  abbrev ys : List Shape
+  abbrev ys : List NodeView
   ys = set xs i (inserting p)
 
   at_i : node_at ys i ≡ inserting p
@@ -127,14 +127,14 @@ module _ (xs : List Shape) (i j q : ℕ) (nodes : AreNodes xs) (f : Inserts xs i
     mine = λ q e. mine q (ap (λ t. (tree_at trees t).standing) (sym child.tree) ∙ e);
   }
 
-module _ (v : View) (room parent left right op : ℕ) (sound : Sound v.nodes v.trees v.retired room) (may : MayInsert v parent left right op) where
-  abbrev y : Shape
+module _ (v : ArenaView) (room parent left right op : ℕ) (sound : ArenaInvariant v.nodes v.trees v.retired room) (may : MayInsert v parent left right op) where
+  abbrev y : NodeView
   y = with_child (inserting (at v parent)) (at v right).low right
 
-  abbrev z : Shape
+  abbrev z : NodeView
   z = exact (at v left)
 
-  abbrev new : List Shape
+  abbrev new : List NodeView
   new = with_right v.nodes parent left right
 
   apart : parent ≢ left
@@ -143,7 +143,7 @@ module _ (v : View) (room parent left right op : ℕ) (sound : Sound v.nodes v.t
   kept : AreKept v.nodes new v.trees v.retired
   kept = kept_set2 v.nodes v.trees v.retired parent left y z may.held.there may.left_held.there apart (record { slots = refl; deleted = refl; tree = refl }) (record { slots = refl; deleted = refl; tree = refl })
 
-  pub sound_right : Sound new v.trees v.retired room
+  pub sound_right : ArenaInvariant new v.trees v.retired room
   sound_right = record {
     arena = record {
       nodes = nodes_right v.nodes parent left right sound.arena.nodes may.inserts may.room;
@@ -158,9 +158,9 @@ module _ (v : View) (room parent left right op : ℕ) (sound : Sound v.nodes v.t
     enough = omega (arith, kept.count, sound.enough);
   }
 
-  pub step_right : IsStep op v (record v { nodes = new })
+  pub step_right : Guarantee op v (record v { nodes = new })
   step_right = record {
-    evolves = evolves_set2 op v.nodes v.trees parent left y z may.held.there may.left_held.there apart sound.arena.forest (record {
+    nodes = guarantee_set2 op v.nodes v.trees parent left y z may.held.there may.left_held.there apart sound.arena.forest (record {
       changes = changes_on op (at v parent) (inserting (at v parent)) y (changes_slots op (at v parent) (at v parent).slots may.held.holder) (changes_with_child op (inserting (at v parent)) (at v right).low right may.held.holder refl);
       mine = may.mine;
     }) (exact_turn v.nodes parent left right sound.arena.nodes may.inserts op v.trees may.left_held.holder may.mine);

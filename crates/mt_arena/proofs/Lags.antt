@@ -9,10 +9,10 @@ use Rattle.mt_border.specs.declared.entry.Entry.{Entry}
 use Rattle.mt_interior.specs.Places.{place_of}
 use Rattle.mt_interior.proofs.CallerLemmas.{place_of-le-length}
 use Rattle.mt_arena.specs.declared.tree.Tree.{Tree}
-use Rattle.mt_arena.specs.Shape.{Shape, node_at}
+use Rattle.mt_arena.specs.NodeView.{NodeView, node_at}
 use Rattle.mt_arena.specs.Nodes.{AreNodes, HasChild, IsUnstable}
 use Rattle.mt_arena.specs.Settled.{IsSettled}
-use Rattle.mt_arena.specs.Evolves.{Evolves, PointsOnly}
+use Rattle.mt_arena.specs.Guarantee.{NodesGuarantee, PointsOnly}
 use Rattle.mt_arena.specs.Lags.{Follows, IsUnder, AreFollowers, AreFollowersBut, AreChildren, AreChildrenBut}
 use Rattle.mt_arena.specs.Edits.{pointed}
 use Rattle.mt_arena.specs.Splits.{Splits, Inserts, left_half, right_half, with_child, exact, inner_left, inner_right}
@@ -20,44 +20,44 @@ use Rattle.mt_arena.proofs.Pairs.{here, there, last, before}
 use Rattle.mt_arena.proofs.Settled.{alive}
 
 -- other operations let no node name one that this operation holds
-not_theirs : (op q : ℕ) (old new : List Shape) (were are : List Tree) (i : ℕ) → Evolves op old new were are → q ≢ op → i < length old → (node_at old i).holder ≡ Some q → (node_at new i).holder ≢ Some op
-not_theirs op q old new were are i evolves other within holder e = other (same_Some _ _ (sym (((evolves.nodes i within).held q other holder).holder ∙ holder) ∙ e))
+not_theirs : (op q : ℕ) (old new : List NodeView) (were are : List Tree) (i : ℕ) → NodesGuarantee op old new were are → q ≢ op → i < length old → (node_at old i).holder ≡ Some q → (node_at new i).holder ≢ Some op
+not_theirs op q old new were are i guarantee other within holder e = other (same_Some _ _ (sym (((guarantee.nodes i within).held q other holder).holder ∙ holder) ∙ e))
 
-pub follows_before : (op q : ℕ) (old new : List Shape) (were are : List Tree) (i k : ℕ) → Evolves op old new were are → PointsOnly op old new → q ≢ op → i < length old → (node_at old i).holder ≡ Some q
+pub follows_before : (op q : ℕ) (old new : List NodeView) (were are : List Tree) (i k : ℕ) → NodesGuarantee op old new were are → PointsOnly op old new → q ≢ op → i < length old → (node_at old i).holder ≡ Some q
     → Follows new i k → Follows old i k
-follows_before op q old new were are i k evolves points other within holder is = elim (cases_lt k (length old)) [
-  | inl was ↦ (was, points.previous k i was within is.1 (not_theirs op q old new were are i evolves other within holder), alive _ _ (evolves.nodes k was).ages.deleted is.2)
-  | inr new_one ↦ absurd (not_theirs op q old new were are i evolves other within holder (points.new_previous k i (omega (arith, new_one)) is.0 within is.1))
+follows_before op q old new were are i k guarantee points other within holder is = elim (cases_lt k (length old)) [
+  | inl was ↦ (was, points.previous k i was within is.1 (not_theirs op q old new were are i guarantee other within holder), alive _ _ (guarantee.nodes k was).ages.deleted is.2)
+  | inr new_one ↦ absurd (not_theirs op q old new were are i guarantee other within holder (points.new_previous k i (omega (arith, new_one)) is.0 within is.1))
 ]
 
-pub under_before : (op q : ℕ) (old new : List Shape) (were are : List Tree) (i k : ℕ) → Evolves op old new were are → PointsOnly op old new → q ≢ op → i < length old → (node_at old i).holder ≡ Some q
+pub under_before : (op q : ℕ) (old new : List NodeView) (were are : List Tree) (i k : ℕ) → NodesGuarantee op old new were are → PointsOnly op old new → q ≢ op → i < length old → (node_at old i).holder ≡ Some q
     → IsUnder new i k → IsUnder old i k
-under_before op q old new were are i k evolves points other within holder is = elim (cases_lt k (length old)) [
-  | inl was ↦ (was, points.parent k i was within is.1 (not_theirs op q old new were are i evolves other within holder), alive _ _ (evolves.nodes k was).ages.deleted is.2)
-  | inr new_one ↦ absurd (not_theirs op q old new were are i evolves other within holder (points.new_parent k i (omega (arith, new_one)) is.0 within is.1))
+under_before op q old new were are i k guarantee points other within holder is = elim (cases_lt k (length old)) [
+  | inl was ↦ (was, points.parent k i was within is.1 (not_theirs op q old new were are i guarantee other within holder), alive _ _ (guarantee.nodes k was).ages.deleted is.2)
+  | inr new_one ↦ absurd (not_theirs op q old new were are i guarantee other within holder (points.new_parent k i (omega (arith, new_one)) is.0 within is.1))
 ]
 
 -- a live node in a list where one node is another
-follows_in : (xs : List Shape) (i k b : ℕ) (y : Shape) → b < length xs → Follows (set xs b y) i k → ((k ≡ b) × (y.previous ≡ Some i)) ⊎ ((k ≢ b) × Follows xs i k)
+follows_in : (xs : List NodeView) (i k b : ℕ) (y : NodeView) → b < length xs → Follows (set xs b y) i k → ((k ≡ b) × (y.previous ≡ Some i)) ⊎ ((k ≢ b) × Follows xs i k)
 follows_in xs i k b y within is = elim (cases_eq k b) [
-  | inl same ↦ inl (same, sym (ap (λ (n : Shape). n.previous) (ap (node_at (set xs b y)) same ∙ here xs b y within)) ∙ is.1)
+  | inl same ↦ inl (same, sym (ap (λ (n : NodeView). n.previous) (ap (node_at (set xs b y)) same ∙ here xs b y within)) ∙ is.1)
   | inr other ↦
       let old = there xs b k y other in
-      inr (other, (omega (arith, is.0, length-set xs b y), sym (ap (λ (n : Shape). n.previous) old) ∙ is.1, sym (ap (λ (n : Shape). n.version.deleted) old) ∙ is.2))
+      inr (other, (omega (arith, is.0, length-set xs b y), sym (ap (λ (n : NodeView). n.previous) old) ∙ is.1, sym (ap (λ (n : NodeView). n.version.deleted) old) ∙ is.2))
 ]
 
-under_in : (xs : List Shape) (i k b : ℕ) (y : Shape) → b < length xs → IsUnder (set xs b y) i k → ((k ≡ b) × (y.parent ≡ Some i) × (y.version.deleted ≡ false)) ⊎ ((k ≢ b) × IsUnder xs i k)
+under_in : (xs : List NodeView) (i k b : ℕ) (y : NodeView) → b < length xs → IsUnder (set xs b y) i k → ((k ≡ b) × (y.parent ≡ Some i) × (y.version.deleted ≡ false)) ⊎ ((k ≢ b) × IsUnder xs i k)
 under_in xs i k b y within is = elim (cases_eq k b) [
   | inl same ↦
       let new = ap (node_at (set xs b y)) same ∙ here xs b y within in
-      inl (same, sym (ap (λ (n : Shape). n.parent) new) ∙ is.1, sym (ap (λ (n : Shape). n.version.deleted) new) ∙ is.2)
+      inl (same, sym (ap (λ (n : NodeView). n.parent) new) ∙ is.1, sym (ap (λ (n : NodeView). n.version.deleted) new) ∙ is.2)
   | inr other ↦
       let old = there xs b k y other in
-      inr (other, (omega (arith, is.0, length-set xs b y), sym (ap (λ (n : Shape). n.parent) old) ∙ is.1, sym (ap (λ (n : Shape). n.version.deleted) old) ∙ is.2))
+      inr (other, (omega (arith, is.0, length-set xs b y), sym (ap (λ (n : NodeView). n.parent) old) ∙ is.1, sym (ap (λ (n : NodeView). n.version.deleted) old) ∙ is.2))
 ]
 
 -- after the slots were parted, all that name the left half as the one before are the right half and the one that was next
-pub left_followers : (xs : List Shape) (i j : ℕ) (kept moved : List Entry) → i < length xs → j < length xs → i ≢ j → Splits (node_at xs i) (node_at xs j) kept moved → AreFollowers xs i (node_at xs i).next
+pub left_followers : (xs : List NodeView) (i j : ℕ) (kept moved : List Entry) → i < length xs → j < length xs → i ≢ j → Splits (node_at xs i) (node_at xs j) kept moved → AreFollowers xs i (node_at xs i).next
     → AreFollowersBut (set (set xs i (left_half (node_at xs i) kept (node_at xs j).low j)) j (right_half (node_at xs i) (node_at xs j) moved i)) i (node_at xs i).next j
 left_followers xs i j kept moved li lj differ splits followers k nj is =
     let y = left_half (node_at xs i) kept (node_at xs j).low j in
@@ -70,7 +70,7 @@ left_followers xs i j kept moved li lj differ splits followers k nj is =
     ]
 
 -- and none names the right half
-pub right_followers : (xs : List Shape) (i j : ℕ) (kept moved : List Entry) → i < length xs → j < length xs → i ≢ j → Splits (node_at xs i) (node_at xs j) kept moved → AreFollowers xs j None
+pub right_followers : (xs : List NodeView) (i j : ℕ) (kept moved : List Entry) → i < length xs → j < length xs → i ≢ j → Splits (node_at xs i) (node_at xs j) kept moved → AreFollowers xs j None
     → AreFollowers (set (set xs i (left_half (node_at xs i) kept (node_at xs j).low j)) j (right_half (node_at xs i) (node_at xs j) moved i)) j None
 right_followers xs i j kept moved li lj differ splits followers k is =
     let y = left_half (node_at xs i) kept (node_at xs j).low j in
@@ -83,7 +83,7 @@ right_followers xs i j kept moved li lj differ splits followers k is =
     ]
 
 -- the one behind names the right half: then each half has the follower that it names as its next
-pub left_again : (xs : List Shape) (i j b : ℕ) (parent : Option ℕ) → i ≢ j → b < length xs → AreFollowersBut xs i (Some b) j → AreFollowers (set xs b (pointed (node_at xs b) (Some j) parent)) i (Some j)
+pub left_again : (xs : List NodeView) (i j b : ℕ) (parent : Option ℕ) → i ≢ j → b < length xs → AreFollowersBut xs i (Some b) j → AreFollowers (set xs b (pointed (node_at xs b) (Some j) parent)) i (Some j)
 left_again xs i j b parent differ lb followers k is = elim (follows_in xs i k b (pointed (node_at xs b) (Some j) parent) lb is) [
   | inl behind ↦ absurd (differ (sym (same_Some _ _ behind.1)))
   | inr other ↦ elim (cases_eq k j) [
@@ -92,21 +92,21 @@ left_again xs i j b parent differ lb followers k is = elim (follows_in xs i k b 
   ]
 ]
 
-pub right_again : (xs : List Shape) (j b : ℕ) (parent : Option ℕ) → b < length xs → AreFollowers xs j None → AreFollowers (set xs b (pointed (node_at xs b) (Some j) parent)) j (Some b)
+pub right_again : (xs : List NodeView) (j b : ℕ) (parent : Option ℕ) → b < length xs → AreFollowers xs j None → AreFollowers (set xs b (pointed (node_at xs b) (Some j) parent)) j (Some b)
 right_again xs j b parent lb followers k is = elim (follows_in xs j k b (pointed (node_at xs b) (Some j) parent) lb is) [
   | inl behind ↦ ap (λ (c : ℕ). Some c) (sym behind.0)
   | inr other ↦ absurd (let none = followers k other.1 in cc)
 ]
 
 -- where there is none behind
-pub left_last : (xs : List Shape) (i j : ℕ) → AreFollowersBut xs i None j → AreFollowers xs i (Some j)
+pub left_last : (xs : List NodeView) (i j : ℕ) → AreFollowersBut xs i None j → AreFollowers xs i (Some j)
 left_last xs i j followers k is = elim (cases_eq k j) [
   | inl right ↦ ap (λ (c : ℕ). Some c) (sym right)
   | inr nj ↦ absurd (let none = followers k nj is in cc)
 ]
 
 -- what was a child is one among one more
-child_more : (p : Shape) (separator q k : ℕ) → length p.children ≡ length p.separators + 1 → HasChild p k → HasChild (with_child p separator q) k
+child_more : (p : NodeView) (separator q k : ℕ) → length p.children ≡ length p.separators + 1 → HasChild p k → HasChild (with_child p separator q) k
 child_more p separator q k size c =
     let a : ℕ = place_of p.separators separator + 1 in
     let within : a ≤ length p.children = omega (arith, place_of-le-length p.separators separator, size) in
@@ -117,7 +117,7 @@ child_more p separator q k size c =
     ]
 
 -- the new child is one
-new_child : (p : Shape) (separator q : ℕ) → length p.children ≡ length p.separators + 1 → p.version.deleted ≡ false → HasChild (with_child p separator q) q
+new_child : (p : NodeView) (separator q : ℕ) → length p.children ≡ length p.separators + 1 → p.version.deleted ≡ false → HasChild (with_child p separator q) q
 new_child p separator q size live =
     let a : ℕ = place_of p.separators separator + 1 in
     let within : a ≤ length p.children = omega (arith, place_of-le-length p.separators separator, size) in
@@ -125,7 +125,7 @@ new_child p separator q size live =
     record { live = live; place = a; in_range = omega (arith, within, more); is = get_or-insert_at p.children a q 0 within }
 
 -- once the right half stands in the parent, all that name the parent are its children
-pub children_again : (xs : List Shape) (i j q : ℕ) → AreNodes xs → Inserts xs i j q → AreChildrenBut xs i (node_at xs i) q
+pub children_again : (xs : List NodeView) (i j q : ℕ) → AreNodes xs → Inserts xs i j q → AreChildrenBut xs i (node_at xs i) q
     → AreChildren (set (set xs i (with_child (node_at xs i) (node_at xs q).low q)) j (exact (node_at xs j))) i (with_child (node_at xs i) (node_at xs q).low q)
 children_again xs i j q nodes f children k is =
     let p = node_at xs i in
@@ -144,13 +144,13 @@ children_again xs i j q nodes f children k is =
     ]
 
 -- how the words speak of a settled node
-pub followers_of : (xs : List Shape) (i : ℕ) (x : Shape) → IsSettled xs i x → AreFollowers xs i x.next
+pub followers_of : (xs : List NodeView) (i : ℕ) (x : NodeView) → IsSettled xs i x → AreFollowers xs i x.next
 followers_of xs i x settled k is = settled.previous k is.0 is.1 is.2
 
-pub children_of : (xs : List Shape) (i : ℕ) (x : Shape) → IsSettled xs i x → AreChildren xs i x
+pub children_of : (xs : List NodeView) (i : ℕ) (x : NodeView) → IsSettled xs i x → AreChildren xs i x
 children_of xs i x settled k is = settled.parent k is.0 is.1 is.2
 
-pub settled_of : (xs : List Shape) (i : ℕ) (x : Shape) → AreFollowers xs i x.next → ((k : ℕ) → Follows xs i k → x.version.deleted ≡ false) → AreChildren xs i x → x.reach ≡ x.high → All (λ e. ¬ IsUnstable e.held) x.slots
+pub settled_of : (xs : List NodeView) (i : ℕ) (x : NodeView) → AreFollowers xs i x.next → ((k : ℕ) → Follows xs i k → x.version.deleted ≡ false) → AreChildren xs i x → x.reach ≡ x.high → All (λ e. ¬ IsUnstable e.held) x.slots
     → (x.version.deleted ≡ false → x.parent ≡ None → x.version.root ≡ true) → IsSettled xs i x
 settled_of xs i x followers followed children reach stable rooted = record {
   previous = λ k lt e live. followers k (lt, e, live);
@@ -162,41 +162,41 @@ settled_of xs i x followers followed children reach stable rooted = record {
 }
 
 -- nobody names a new node
-pub fresh_followers : (xs : List Shape) (y : Shape) → AreNodes xs → y.previous ≡ None → AreFollowers (xs ++ y ∷ []) (length xs) None
+pub fresh_followers : (xs : List NodeView) (y : NodeView) → AreNodes xs → y.previous ≡ None → AreFollowers (xs ++ y ∷ []) (length xs) None
 fresh_followers xs y nodes none k is =
     let size : length (xs ++ y ∷ []) ≡ length xs + 1 = length-append xs (y ∷ []) in
     elim (cases_eq k (length xs)) [
       | inl same ↦
-          let own = sym (ap (λ (n : Shape). n.previous) (ap (node_at (xs ++ y ∷ [])) same ∙ last xs y)) ∙ is.1 in
+          let own = sym (ap (λ (n : NodeView). n.previous) (ap (node_at (xs ++ y ∷ [])) same ∙ last xs y)) ∙ is.1 in
           absurd (cc)
       | inr other ↦
           let lt : k < length xs = omega (arith, is.0, size) in
-          let old = sym (ap (λ (n : Shape). n.previous) (before xs y k lt)) ∙ is.1 in
+          let old = sym (ap (λ (n : NodeView). n.previous) (before xs y k lt)) ∙ is.1 in
           absurd (omega (arith, (nodes.each k lt).previous_there (length xs) old))
     ]
 
-pub fresh_children : (xs : List Shape) (y n : Shape) → AreNodes xs → y.parent ≡ None → AreChildren (xs ++ y ∷ []) (length xs) n
+pub fresh_children : (xs : List NodeView) (y n : NodeView) → AreNodes xs → y.parent ≡ None → AreChildren (xs ++ y ∷ []) (length xs) n
 fresh_children xs y n nodes none k is =
     let size : length (xs ++ y ∷ []) ≡ length xs + 1 = length-append xs (y ∷ []) in
     elim (cases_eq k (length xs)) [
       | inl same ↦
-          let own = sym (ap (λ (n : Shape). n.parent) (ap (node_at (xs ++ y ∷ [])) same ∙ last xs y)) ∙ is.1 in
+          let own = sym (ap (λ (n : NodeView). n.parent) (ap (node_at (xs ++ y ∷ [])) same ∙ last xs y)) ∙ is.1 in
           absurd (cc)
       | inr other ↦
           let lt : k < length xs = omega (arith, is.0, size) in
-          let old = sym (ap (λ (n : Shape). n.parent) (before xs y k lt)) ∙ is.1 in
+          let old = sym (ap (λ (n : NodeView). n.parent) (before xs y k lt)) ∙ is.1 in
           absurd (omega (arith, (nodes.each k lt).parent_there (length xs) old))
     ]
 
 -- one node comes to name node i as its parent
-pub children_but : (xs : List Shape) (i q : ℕ) (n : Shape) (previous : Option ℕ) → q < length xs → AreChildren xs i n → AreChildrenBut (set xs q (pointed (node_at xs q) previous (Some i))) i n q
+pub children_but : (xs : List NodeView) (i q : ℕ) (n : NodeView) (previous : Option ℕ) → q < length xs → AreChildren xs i n → AreChildrenBut (set xs q (pointed (node_at xs q) previous (Some i))) i n q
 children_but xs i q n previous within children k nq is = elim (under_in xs i k q (pointed (node_at xs q) previous (Some i)) within is) [
   | inl own ↦ absurd (nq own.0)
   | inr old ↦ children k old.1
 ]
 
 -- a child of a node that is parted is one of a half
-pub child_parted : (wide t : Shape) (k : ℕ) → t.version.deleted ≡ false → HasChild wide k → HasChild (inner_left wide) k ⊎ HasChild (inner_right wide t) k
+pub child_parted : (wide t : NodeView) (k : ℕ) → t.version.deleted ≡ false → HasChild wide k → HasChild (inner_left wide) k ⊎ HasChild (inner_right wide t) k
 child_parted wide t k live c = elim (cases_lt c.place 9) [
   | inl low ↦ inl (record {
     live = c.live;
@@ -213,7 +213,7 @@ child_parted wide t k live c = elim (cases_lt c.place 9) [
 ]
 
 -- as one node is told that the right half is its parent, one less names the left one
-pub reparented : (xs : List Shape) (i h b : ℕ) (y u : Shape) (previous : Option ℕ) → i ≢ h → b < length xs → ((k : ℕ) → IsUnder xs i k → HasChild y k ⊎ HasChild u k)
+pub reparented : (xs : List NodeView) (i h b : ℕ) (y u : NodeView) (previous : Option ℕ) → i ≢ h → b < length xs → ((k : ℕ) → IsUnder xs i k → HasChild y k ⊎ HasChild u k)
     → (k : ℕ) → IsUnder (set xs b (pointed (node_at xs b) previous (Some h))) i k → (k ≢ b) × (HasChild y k ⊎ HasChild u k)
 reparented xs i h b y u previous differ within children k is = elim (under_in xs i k b (pointed (node_at xs b) previous (Some h)) within is) [
   | inl own ↦ absurd (differ (sym (same_Some _ _ own.1)))

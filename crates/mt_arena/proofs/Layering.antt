@@ -22,7 +22,7 @@ use Rattle.mt_border.proofs.ContentsLists.{get-apart, get-other, insert-this}
 use Rattle.mt_border.proofs.ContentsFinds.{apart_beside}
 use Rattle.mt_arena.specs.declared.tree.Tree.{Tree}
 use Rattle.mt_arena.specs.declared.tree.Standing.TheVariants.{Made, Live}
-use Rattle.mt_arena.specs.Shape.{Shape, node_at, no_node}
+use Rattle.mt_arena.specs.NodeView.{NodeView, node_at, no_node}
 use Rattle.mt_arena.specs.Forests.{tree_at, no_tree}
 use Rattle.mt_arena.specs.Layers.{slot_at}
 use Rattle.mt_arena.specs.Contents.{live_pairs, content}
@@ -51,10 +51,10 @@ get-set prefix q [] i e within new old = absurd (omega arith)
 get-set prefix q (x ∷ es) zero e within new old = get-other prefix q e es new ∙ sym (get-other prefix q x es old)
 get-set prefix q (x ∷ es) (suc i) e within new old = more_of prefix x (set es i e) es q (get-set prefix q es i e (omega arith) new old)
 
-module _ (nodes : List Shape) (trees : List Tree) (arena : IsArena nodes trees) (begun : AreBegun nodes) (key : Bytes) (layer k i : ℕ) (pair : Pair) (at : StandsFor nodes trees key layer k i pair)
+module _ (nodes : List NodeView) (trees : List Tree) (arena : IsArena nodes trees) (begun : AreBegun nodes) (key : Bytes) (layer k i : ℕ) (pair : Pair) (at : StandsFor nodes trees key layer k i pair)
     (low t r : ℕ) (made : IsMadeFor nodes trees key low t r pair.row) (tree : Tree) (prefix : tree.prefix ≡ (tree_at trees t).prefix) (standing : tree.standing ≡ Live)
-    (y : Shape) (e : Entry) (none : pair_of e.held ≡ None) (has : HasSlots (node_at nodes k) y (set (node_at nodes k).slots i e)) where
-  abbrev n : Shape
+    (y : NodeView) (e : Entry) (none : pair_of e.held ≡ None) (has : HasSlots (node_at nodes k) y (set (node_at nodes k).slots i e)) where
+  abbrev n : NodeView
   n = node_at nodes k
 
   abbrev begins : Bytes
@@ -63,7 +63,7 @@ module _ (nodes : List Shape) (trees : List Tree) (arena : IsArena nodes trees) 
   abbrev are : List Tree
   are = set trees t tree
 
-  abbrev new : List Shape
+  abbrev new : List NodeView
   new = set nodes k y
 
   -- the made tree is another one than the node's

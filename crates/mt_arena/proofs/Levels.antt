@@ -3,7 +3,7 @@ use Rattle.std.proofs.Common.{◌≡◌, ℕ, zero, suc, ◌+◌, ◌<◌, ◌�
 use Rattle.std.specs.Prelude.{if◌then◌else◌, nat_lt}
 use Rattle.std.proofs.lemmas.Bool.{cases_eq, cases_lt}
 use Rattle.mt_border.proofs.Edits.{step_on, step_off}
-use Rattle.mt_arena.specs.Shape.{Shape, node_at}
+use Rattle.mt_arena.specs.NodeView.{NodeView, node_at}
 use Rattle.mt_arena.specs.Nodes.{AreNodes, IsChild, HasRange}
 use Rattle.mt_arena.specs.Ranges.{AreRanged}
 use Rattle.mt_arena.proofs.Grow.{not_none}
@@ -12,7 +12,7 @@ use Rattle.mt_arena.proofs.Grow.{not_none}
 abbrev one : ℕ → ℕ → ℕ
 one l m = if nat_lt l m then 1 else 0
 
-abbrev count : ℕ → List Shape → ℕ
+abbrev count : ℕ → List NodeView → ℕ
 count m [] = 0
 count m (n ∷ ns) = one n.level m + count m ns
 
@@ -28,31 +28,31 @@ one_more l m = elim (cases_lt l m) [
   | inr ge ↦ omega (arith, step_off l m 0 ge)
 ]
 
-count_le : (m : ℕ) (ns : List Shape) → count m ns ≤ length ns
+count_le : (m : ℕ) (ns : List NodeView) → count m ns ≤ length ns
 count_le m [] = omega arith
 count_le m (n ∷ ns) = omega (arith, one_le n.level m, count_le m ns)
 
-count_up : (m : ℕ) (ns : List Shape) → count m ns ≤ count (suc m) ns
+count_up : (m : ℕ) (ns : List NodeView) → count m ns ≤ count (suc m) ns
 count_up m [] = omega arith
 count_up m (n ∷ ns) = omega (arith, one_more n.level m, count_up m ns)
 
 -- one more, where a node is of this level
-count_hit : (m : ℕ) (ns : List Shape) (d : ℕ) → d < length ns → (node_at ns d).level ≡ m → count m ns < count (suc m) ns
+count_hit : (m : ℕ) (ns : List NodeView) (d : ℕ) → d < length ns → (node_at ns d).level ≡ m → count m ns < count (suc m) ns
 count_hit m [] d lt is = absurd (omega (arith, lt))
 count_hit m (n ∷ ns) zero lt is = omega (arith, step_off n.level m 0 (omega (arith, is)), step_on n.level (suc m) 0 (omega (arith, is)), count_up m ns)
 count_hit m (n ∷ ns) (suc d) lt is = omega (arith, one_more n.level m, count_hit m ns d (omega (arith, lt)) is)
 
 -- a node of the level is there
-abbrev HasLevel : List Shape → ℕ → Type 0
+abbrev HasLevel : List NodeView → ℕ → Type 0
 HasLevel ns m = (d : ℕ) × (d < length ns) × ((node_at ns d).level ≡ m)
 
-all_levels : (ns : List Shape) (l : ℕ) → ((m : ℕ) → m < l → HasLevel ns m) → l ≤ count l ns
+all_levels : (ns : List NodeView) (l : ℕ) → ((m : ℕ) → m < l → HasLevel ns m) → l ≤ count l ns
 all_levels ns zero each = omega arith
 all_levels ns (suc l) each =
     let h = each l (omega arith) in
     omega (arith, all_levels ns l (λ m lt. each m (omega (arith, lt))), count_hit l ns h.0 h.1 h.2)
 
-module _ (xs : List Shape) (nodes : AreNodes xs) (ranged : AreRanged xs) where
+module _ (xs : List NodeView) (nodes : AreNodes xs) (ranged : AreRanged xs) where
   down : (l k : ℕ) → k < length xs → (node_at xs k).version.deleted ≡ false → HasRange (node_at xs k) → (node_at xs k).level ≡ l → (m : ℕ) → m < suc l → HasLevel xs m
   down zero k lk live range is m lt = (k, lk, omega (arith, is, lt))
   down (suc l) k lk live range is m lt = elim (cases_eq m (suc l)) [

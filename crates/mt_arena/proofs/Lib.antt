@@ -9,7 +9,7 @@ pub mod Homes
 pub mod Trees
 pub mod LinkEdits
 pub mod Retiring
-pub mod Evolving
+pub mod Guarantees
 pub mod Steps
 pub mod Locks
 pub mod Pointing

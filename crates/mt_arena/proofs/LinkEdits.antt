@@ -10,7 +10,7 @@ use Rattle.mt_border.specs.declared.entry.Entry.{Entry}
 use Rattle.mt_border.specs.declared.entry.Held.TheVariants.{Link}
 use Rattle.mt_border.proofs.Edits.{any_entry}
 use Rattle.mt_arena.specs.declared.tree.Tree.{Tree}
-use Rattle.mt_arena.specs.Shape.{Shape, node_at}
+use Rattle.mt_arena.specs.NodeView.{NodeView, node_at}
 use Rattle.mt_arena.specs.Forests.{tree_at}
 use Rattle.mt_arena.specs.Layers.{AreLayered, AreLinks, HasLink, slot_at}
 use Rattle.mt_arena.proofs.Pairs.{here, there}
@@ -96,13 +96,13 @@ links_remove_back es at within j u lt is =
     ]
 
 -- what a node that changes keeps of its links
-pub record KeepsLinks (x y : Shape) : Type 0 where
+pub record KeepsLinks (x y : NodeView) : Type 0 where
   pub tree : y.tree ≡ x.tree
   pub deleted : y.version.deleted ≡ x.version.deleted
   pub forth : HasLinksOf y.slots x.slots
   pub back : HasLinksOf x.slots y.slots
 
-links_kept : (trees : List Tree) (x y : Shape) → KeepsLinks x y → AreLinks trees x → AreLinks trees y
+links_kept : (trees : List Tree) (x y : NodeView) → KeepsLinks x y → AreLinks trees x → AreLinks trees y
 links_kept trees x y keeps links live i u lt is =
     let was = keeps.back i u lt is in
     let leads = links (sym keeps.deleted ∙ live) was.slot u was.in_range was.is in
@@ -113,7 +113,7 @@ links_kept trees x y keeps links live i u lt is =
       prefix = leads.prefix ∙ ap (λ s. (tree_at trees x.tree).prefix ++ piece_bytes s Long) was.slice_is ∙ ap (λ t. (tree_at trees t).prefix ++ piece_bytes (slot_at y i).slice Long) (sym keeps.tree);
     }
 
-has_link_set : (xs : List Shape) (i : ℕ) (y : Shape) (u : ℕ) → i < length xs → KeepsLinks (node_at xs i) y → HasLink xs u → HasLink (set xs i y) u
+has_link_set : (xs : List NodeView) (i : ℕ) (y : NodeView) (u : ℕ) → i < length xs → KeepsLinks (node_at xs i) y → HasLink xs u → HasLink (set xs i y) u
 has_link_set xs i y u within keeps h =
     let size = length-set xs i y in
     elim (cases_eq h.node i) [
@@ -124,9 +124,9 @@ has_link_set xs i y u within keeps h =
             node = i;
             slot = new.slot;
             there = omega arith;
-            live = ap (λ (n : Shape). n.version.deleted) at ∙ keeps.deleted ∙ subst (λ k. (node_at xs k).version.deleted ≡ false) is h.live;
-            in_range = subst (λ (n : Shape). new.slot < length n.slots) (sym at) new.in_range;
-            is = ap (λ (n : Shape). (slot_at n new.slot).held) at ∙ new.is;
+            live = ap (λ (n : NodeView). n.version.deleted) at ∙ keeps.deleted ∙ subst (λ k. (node_at xs k).version.deleted ≡ false) is h.live;
+            in_range = subst (λ (n : NodeView). new.slot < length n.slots) (sym at) new.in_range;
+            is = ap (λ (n : NodeView). (slot_at n new.slot).held) at ∙ new.is;
           }
       | inr other ↦
           let at = there xs i h.node y other in
@@ -134,13 +134,13 @@ has_link_set xs i y u within keeps h =
             node = h.node;
             slot = h.slot;
             there = omega (arith, size, h.there);
-            live = ap (λ (n : Shape). n.version.deleted) at ∙ h.live;
-            in_range = subst (λ (n : Shape). h.slot < length n.slots) (sym at) h.in_range;
-            is = ap (λ (n : Shape). (slot_at n h.slot).held) at ∙ h.is;
+            live = ap (λ (n : NodeView). n.version.deleted) at ∙ h.live;
+            in_range = subst (λ (n : NodeView). h.slot < length n.slots) (sym at) h.in_range;
+            is = ap (λ (n : NodeView). (slot_at n h.slot).held) at ∙ h.is;
           }
     ]
 
-pub layers_set : (xs : List Shape) (trees : List Tree) (i : ℕ) (y : Shape) → i < length xs → AreLayered xs trees → KeepsLinks (node_at xs i) y → AreLayered (set xs i y) trees
+pub layers_set : (xs : List NodeView) (trees : List Tree) (i : ℕ) (y : NodeView) → i < length xs → AreLayered xs trees → KeepsLinks (node_at xs i) y → AreLayered (set xs i y) trees
 layers_set xs trees i y within layers keeps = record {
   links = λ k lt. elim (cases_eq k i) [
     | inl is ↦ rw (is, here xs i y within) (links_kept trees (node_at xs i) y keeps (layers.links i within))
@@ -150,14 +150,14 @@ layers_set xs trees i y within layers keeps = record {
 }
 
 -- a node without slots may change and be taken out as it likes
-pub record HasNoSlots (x y : Shape) : Type 0 where
+pub record HasNoSlots (x y : NodeView) : Type 0 where
   pub old : x.slots ≡ []
   pub new : y.slots ≡ []
 
-pub no_links : (trees : List Tree) (y : Shape) → y.slots ≡ [] → AreLinks trees y
+pub no_links : (trees : List Tree) (y : NodeView) → y.slots ≡ [] → AreLinks trees y
 no_links trees y none live i u lt is = absurd (omega (arith, subst (λ (es : List Entry). i < length es) none lt))
 
-pub layers_empty : (xs : List Shape) (trees : List Tree) (i : ℕ) (y : Shape) → i < length xs → AreLayered xs trees → HasNoSlots (node_at xs i) y → AreLayered (set xs i y) trees
+pub layers_empty : (xs : List NodeView) (trees : List Tree) (i : ℕ) (y : NodeView) → i < length xs → AreLayered xs trees → HasNoSlots (node_at xs i) y → AreLayered (set xs i y) trees
 layers_empty xs trees i y within layers empty = record {
   links = λ k lt. elim (cases_eq k i) [
     | inl is ↦ rw (is, here xs i y within) (no_links trees y empty.new)
@@ -173,9 +173,9 @@ layers_empty xs trees i y within layers empty = record {
               node = h.node;
               slot = h.slot;
               there = omega (arith, length-set xs i y, h.there);
-              live = ap (λ (n : Shape). n.version.deleted) at ∙ h.live;
-              in_range = subst (λ (n : Shape). h.slot < length n.slots) (sym at) h.in_range;
-              is = ap (λ (n : Shape). (slot_at n h.slot).held) at ∙ h.is;
+              live = ap (λ (n : NodeView). n.version.deleted) at ∙ h.live;
+              in_range = subst (λ (n : NodeView). h.slot < length n.slots) (sym at) h.in_range;
+              is = ap (λ (n : NodeView). (slot_at n h.slot).held) at ∙ h.is;
             }
       ];
 }

@@ -16,7 +16,7 @@ use Rattle.mt_border.specs.Entry.{CanHold}
 use Rattle.mt_border.proofs.Edits.{any_entry}
 use Rattle.mt_arena.specs.declared.tree.Tree.{Tree}
 use Rattle.mt_arena.specs.declared.tree.Standing.TheVariants.{Live, Dead}
-use Rattle.mt_arena.specs.Shape.{Shape, node_at}
+use Rattle.mt_arena.specs.NodeView.{NodeView, node_at}
 use Rattle.mt_arena.specs.Forests.{IsForest, tree_at, no_tree, layer_of}
 use Rattle.mt_arena.specs.Layers.{slot_at, HasLink, LeadsTo}
 use Rattle.mt_arena.specs.Arena.{IsArena}
@@ -30,7 +30,7 @@ live_there trees t live = elim (cases_lt t (length trees)) [
 ]
 
 -- two live trees of one prefix are one
-pub one_tree : (nodes : List Shape) (trees : List Tree) (t u : ℕ) → IsForest nodes trees → (tree_at trees t).standing ≡ Live → (tree_at trees u).standing ≡ Live → (tree_at trees t).prefix ≡ (tree_at trees u).prefix → t ≡ u
+pub one_tree : (nodes : List NodeView) (trees : List Tree) (t u : ℕ) → IsForest nodes trees → (tree_at trees t).standing ≡ Live → (tree_at trees u).standing ≡ Live → (tree_at trees t).prefix ≡ (tree_at trees u).prefix → t ≡ u
 one_tree nodes trees t u forest live also same = elim (cases_eq t u) [
   | inl is ↦ is
   | inr differ ↦ absurd ((forest.peers t u (live_there trees t live) (live_there trees u also)).one_live differ live also same)
@@ -60,7 +60,7 @@ slice_again xs slice long fits is =
 pub long_link : (mark : Mark) (e : Entry) (u : ℕ) → CanHold e.mark e.held → e.held ≡ Link u → e.mark ≡ Long
 long_link mark e u can is = subst (CanHold e.mark) is can
 
-module _ (nodes : List Shape) (trees : List Tree) (arena : IsArena nodes trees) (key : Bytes) where
+module _ (nodes : List NodeView) (trees : List Tree) (arena : IsArena nodes trees) (key : Bytes) where
   -- the link to a live tree below the top
   module _ (t layer : ℕ) (live : (tree_at trees t).standing ≡ Live) (prefix : (tree_at trees t).prefix ≡ take (8 * (layer + 1)) key) (reaches : 8 * (layer + 1) ≤ length key) where
     long : length (tree_at trees t).prefix ≡ 8 * (layer + 1)
@@ -69,7 +69,7 @@ module _ (nodes : List Shape) (trees : List Tree) (arena : IsArena nodes trees) 
     link : HasLink nodes t
     link = arena.layers.linked t (live_there trees t live) live (λ none. let zero_long = ap length none in omega (arith, long, zero_long))
 
-    abbrev n : Shape
+    abbrev n : NodeView
     n = node_at nodes link.node
 
     leads : LeadsTo trees n link.slot t

@@ -7,10 +7,10 @@ use Rattle.mt_version.proofs.Aging.{ages-locked, ages-unlocked, ages-marked_spli
 use Rattle.mt_arena.specs.Settled.{IsSettled}
 use Rattle.mt_arena.specs.declared.tree.Tree.{Tree}
 use Rattle.mt_arena.specs.declared.retired.Retired.{Retired}
-use Rattle.mt_arena.specs.Shape.{Shape, node_at}
-use Rattle.mt_arena.specs.Evolves.{Changes}
+use Rattle.mt_arena.specs.NodeView.{NodeView, node_at}
+use Rattle.mt_arena.specs.Guarantee.{Changes}
 use Rattle.mt_arena.specs.Edits.{locked, unlocked, splitting}
-use Rattle.mt_arena.specs.Arena.{IsArena, Sound, View, IsStep}
+use Rattle.mt_arena.specs.Arena.{IsArena, ArenaInvariant, ArenaView, Guarantee}
 use Rattle.mt_arena.specs.Accesses.{at, IsOpen, with_node}
 use Rattle.mt_arena.proofs.Quiet.{nodes_locked, nodes_splitting}
 use Rattle.mt_arena.proofs.Ranged.{ranged_turned}
@@ -18,7 +18,7 @@ use Rattle.mt_arena.proofs.Unlock.{nodes_unlocked}
 use Rattle.mt_arena.proofs.LinkEdits.{same_links}
 use Rattle.mt_arena.proofs.Steps.{sound_set, keys_of, step_set}
 
-pub sound_locked : (xs : List Shape) (trees : List Tree) (gone : List Retired) (room i op : ℕ) → i < length xs → Sound xs trees gone room → Sound (set xs i (locked (node_at xs i) op)) trees gone room
+pub sound_locked : (xs : List NodeView) (trees : List Tree) (gone : List Retired) (room i op : ℕ) → i < length xs → ArenaInvariant xs trees gone room → ArenaInvariant (set xs i (locked (node_at xs i) op)) trees gone room
 sound_locked xs trees gone room i op within sound =
     let x = node_at xs i in
     sound_set xs trees gone room i (locked x op) within sound (nodes_locked xs i op within sound.arena.nodes) (ranged_turned xs i x.slots (locked x op).version (Some op) within sound.arena.ranged (sound.arena.ranged i within).unmarked)
@@ -26,7 +26,7 @@ sound_locked xs trees gone room i op within sound =
     (keys_of xs trees i within sound.arena.forest)
     record { tree = refl; deleted = refl; forth = same_links x.slots; back = same_links x.slots }
 
-changes_locked : (op : ℕ) (x : Shape) → x.holder ≡ None → Changes op x (locked x op)
+changes_locked : (op : ℕ) (x : NodeView) → x.holder ≡ None → Changes op x (locked x op)
 changes_locked op x free = record {
   tree = refl;
   level = refl;
@@ -39,12 +39,12 @@ changes_locked op x free = record {
   taken = λ q other e. absurd (other (sym (let is = e in cc)));
 }
 
-pub step_locked : (v : View) (i op : ℕ) → i < length v.nodes → (at v i).holder ≡ None → IsOpen v i op → IsStep op v (with_node v i (locked (at v i) op))
+pub step_locked : (v : ArenaView) (i op : ℕ) → i < length v.nodes → (at v i).holder ≡ None → IsOpen v i op → Guarantee op v (with_node v i (locked (at v i) op))
 step_locked v i op within free mine =
     step_set op v i (locked (at v i) op) within (changes_locked op (at v i) free) mine record { previous = λ j e not_mine. e; parent = λ j e not_mine. e }
 
 -- a live node behind which nothing lags has a range: it has a parent, or is a root
-settled_range : (xs : List Shape) (trees : List Tree) (i : ℕ) → i < length xs → IsArena xs trees → IsSettled xs i (node_at xs i) → (node_at xs i).version.deleted ≡ false → HasRange (node_at xs i)
+settled_range : (xs : List NodeView) (trees : List Tree) (i : ℕ) → i < length xs → IsArena xs trees → IsSettled xs i (node_at xs i) → (node_at xs i).version.deleted ≡ false → HasRange (node_at xs i)
 settled_range xs trees i within arena settled live = by (node_at xs i).parent refl
   where
     by : (p : Option ℕ) → (node_at xs i).parent ≡ p → HasRange (node_at xs i)
@@ -56,7 +56,7 @@ settled_range xs trees i within arena settled live = by (node_at xs i).parent re
         omega (arith, root.low, ap end_of (sym settled.reach ∙ root.reach))
 
 -- a lock is given back
-pub sound_unlocked : (xs : List Shape) (trees : List Tree) (gone : List Retired) (room i : ℕ) → i < length xs → Sound xs trees gone room → IsSettled xs i (node_at xs i) → Sound (set xs i (unlocked (node_at xs i))) trees gone room
+pub sound_unlocked : (xs : List NodeView) (trees : List Tree) (gone : List Retired) (room i : ℕ) → i < length xs → ArenaInvariant xs trees gone room → IsSettled xs i (node_at xs i) → ArenaInvariant (set xs i (unlocked (node_at xs i))) trees gone room
 sound_unlocked xs trees gone room i within sound settled =
     let x = node_at xs i in
     sound_set xs trees gone room i (unlocked x) within sound (nodes_unlocked xs i within sound.arena.nodes settled) (ranged_turned xs i x.slots (unlocked x).version None within sound.arena.ranged (λ whole live. settled_range xs trees i within sound.arena settled live))
@@ -65,10 +65,10 @@ sound_unlocked xs trees gone room i within sound settled =
     record { tree = refl; deleted = refl; forth = same_links x.slots; back = same_links x.slots }
 
 -- what another operation would hold is not this one's
-pub not_others : (op q : ℕ) (x : Shape) → x.holder ≡ Some op → q ≢ op → x.holder ≢ Some q
+pub not_others : (op q : ℕ) (x : NodeView) → x.holder ≡ Some op → q ≢ op → x.holder ≢ Some q
 not_others op q x mine other e = other (same_Some q op (sym e ∙ mine))
 
-changes_unlocked : (op : ℕ) (x : Shape) → x.holder ≡ Some op → Changes op x (unlocked x)
+changes_unlocked : (op : ℕ) (x : NodeView) → x.holder ≡ Some op → Changes op x (unlocked x)
 changes_unlocked op x mine = record {
   tree = refl;
   level = refl;
@@ -81,12 +81,12 @@ changes_unlocked op x mine = record {
   taken = λ q other e. absurd (cc);
 }
 
-pub step_unlocked : (v : View) (i op : ℕ) → i < length v.nodes → (at v i).holder ≡ Some op → IsOpen v i op → IsStep op v (with_node v i (unlocked (at v i)))
+pub step_unlocked : (v : ArenaView) (i op : ℕ) → i < length v.nodes → (at v i).holder ≡ Some op → IsOpen v i op → Guarantee op v (with_node v i (unlocked (at v i)))
 step_unlocked v i op within held mine =
     step_set op v i (unlocked (at v i)) within (changes_unlocked op (at v i) held) mine record { previous = λ j e not_mine. e; parent = λ j e not_mine. e }
 
 -- the mark that readers of the range wait for
-pub sound_splitting : (xs : List Shape) (trees : List Tree) (gone : List Retired) (room i : ℕ) → i < length xs → Sound xs trees gone room → (node_at xs i).holder ≢ None → Sound (set xs i (splitting (node_at xs i))) trees gone room
+pub sound_splitting : (xs : List NodeView) (trees : List Tree) (gone : List Retired) (room i : ℕ) → i < length xs → ArenaInvariant xs trees gone room → (node_at xs i).holder ≢ None → ArenaInvariant (set xs i (splitting (node_at xs i))) trees gone room
 sound_splitting xs trees gone room i within sound held =
     let x = node_at xs i in
     sound_set xs trees gone room i (splitting x) within sound (nodes_splitting xs i within sound.arena.nodes held) (ranged_turned xs i x.slots (splitting x).version x.holder within sound.arena.ranged (λ whole live. absurd (cc)))
@@ -94,7 +94,7 @@ sound_splitting xs trees gone room i within sound held =
     (keys_of xs trees i within sound.arena.forest)
     record { tree = refl; deleted = refl; forth = same_links x.slots; back = same_links x.slots }
 
-changes_splitting : (op : ℕ) (x : Shape) → x.holder ≡ Some op → Changes op x (splitting x)
+changes_splitting : (op : ℕ) (x : NodeView) → x.holder ≡ Some op → Changes op x (splitting x)
 changes_splitting op x mine = record {
   tree = refl;
   level = refl;
@@ -107,10 +107,10 @@ changes_splitting op x mine = record {
   taken = λ q other e. e;
 }
 
-pub step_splitting : (v : View) (i op : ℕ) → i < length v.nodes → (at v i).holder ≡ Some op → IsOpen v i op → IsStep op v (with_node v i (splitting (at v i)))
+pub step_splitting : (v : ArenaView) (i op : ℕ) → i < length v.nodes → (at v i).holder ≡ Some op → IsOpen v i op → Guarantee op v (with_node v i (splitting (at v i)))
 step_splitting v i op within held mine =
     step_set op v i (splitting (at v i)) within (changes_splitting op (at v i) held) mine record { previous = λ j e not_mine. e; parent = λ j e not_mine. e }
 
 -- who holds a node holds it
-pub is_held : (op : ℕ) (x : Shape) → x.holder ≡ Some op → x.holder ≢ None
+pub is_held : (op : ℕ) (x : NodeView) → x.holder ≡ Some op → x.holder ≢ None
 is_held op x mine none = absurd (cc)

@@ -2,24 +2,24 @@
 use Rattle.std.proofs.Common.{◌≡◌, ◌≢◌, ℕ, ◌<◌, List, length, set, refl, sym, ap, ◌∙◌, arith}
 use Rattle.std.proofs.lemmas.Option.{same_Some}
 use Rattle.mt_border.specs.declared.entry.Entry.{Entry}
-use Rattle.mt_arena.specs.Shape.{Shape, node_at}
+use Rattle.mt_arena.specs.NodeView.{NodeView, node_at}
 use Rattle.mt_arena.specs.Nodes.{AreNodes, IsNode, IsPair}
 use Rattle.mt_arena.specs.Splits.{Splits, left_half, right_half}
 use Rattle.mt_arena.proofs.Pairs.{are_set2}
 use Rattle.mt_arena.proofs.Ranges.{child_ranges}
 
-module _ (xs : List Shape) (i j : ℕ) (kept moved : List Entry) (nodes : AreNodes xs) (differ : i ≢ j) (li : i < length xs) (lj : j < length xs)
+module _ (xs : List NodeView) (i j : ℕ) (kept moved : List Entry) (nodes : AreNodes xs) (differ : i ≢ j) (li : i < length xs) (lj : j < length xs)
     (splits : Splits (node_at xs i) (node_at xs j) kept moved) where
-  abbrev x : Shape
+  abbrev x : NodeView
   x = node_at xs i
 
-  abbrev r : Shape
+  abbrev r : NodeView
   r = node_at xs j
 
-  abbrev y : Shape
+  abbrev y : NodeView
   y = left_half x kept r.low j
 
-  abbrev z : Shape
+  abbrev z : NodeView
   z = right_half x r moved i
 
   h : IsNode (length xs) x
@@ -90,7 +90,7 @@ module _ (xs : List Shape) (i j : ℕ) (kept moved : List Entry) (nodes : AreNod
   no_right_child a lt = omega (arith, lt, ap length (g.childless right_border))
 
   -- the left half and any node but the right half
-  left_from : (k : ℕ) (m : Shape) → k ≢ j → IsPair i x k m → IsPair i y k m
+  left_from : (k : ℕ) (m : NodeView) → k ≢ j → IsPair i x k m → IsPair i y k m
   left_from k m other p = record {
     next_follows = λ e. absurd (other (sym (same_Some _ _ e)));
     next_tree = λ e. absurd (other (sym (same_Some _ _ e)));
@@ -103,7 +103,7 @@ module _ (xs : List Shape) (i j : ℕ) (kept moved : List Entry) (nodes : AreNod
     apart = λ d t l live also s hy hm. p.apart d t l live also s (hy.0, omega (arith, hy.1, splits.below)) hm;
   }
 
-  left_to : (k : ℕ) (m : Shape) → IsPair k m i x → IsPair k m i y
+  left_to : (k : ℕ) (m : NodeView) → IsPair k m i x → IsPair k m i y
   left_to k m p = record {
     next_follows = p.next_follows;
     next_tree = p.next_tree;
@@ -119,7 +119,7 @@ module _ (xs : List Shape) (i j : ℕ) (kept moved : List Entry) (nodes : AreNod
   }
 
   -- the right half and any node but the left half
-  right_from : (k : ℕ) (m : Shape) → k ≢ i → IsPair i x k m → IsPair j r k m → IsPair j z k m
+  right_from : (k : ℕ) (m : NodeView) → k ≢ i → IsPair i x k m → IsPair j r k m → IsPair j z k m
   right_from k m other p q = record {
     next_follows = p.next_follows;
     next_tree = λ e. p.next_tree e ∙ sym splits.right_tree;
@@ -132,7 +132,7 @@ module _ (xs : List Shape) (i j : ℕ) (kept moved : List Entry) (nodes : AreNod
     apart = λ d t l _ also s hz hm. p.apart (λ e. other (sym e)) (sym splits.right_tree ∙ t) (sym splits.right_level ∙ l) splits.live also s (omega (arith, hz.0, splits.above), hz.1) hm;
   }
 
-  right_to : (k : ℕ) (m : Shape) → k ≢ i → IsNode (length xs) m → IsPair k m i x → IsPair k m j r → IsPair k m j z
+  right_to : (k : ℕ) (m : NodeView) → k ≢ i → IsNode (length xs) m → IsPair k m i x → IsPair k m j r → IsPair k m j z
   right_to k m other one p q = record {
     next_follows = q.next_follows;
     next_tree = q.next_tree;
@@ -197,6 +197,6 @@ module _ (xs : List Shape) (i j : ℕ) (kept moved : List Entry) (nodes : AreNod
       ))
 
 -- node i keeps some of its slots, and node j gets the others
-pub nodes_split_move : (xs : List Shape) (i j : ℕ) (kept moved : List Entry) → i < length xs → j < length xs → i ≢ j → AreNodes xs → Splits (node_at xs i) (node_at xs j) kept moved
+pub nodes_split_move : (xs : List NodeView) (i j : ℕ) (kept moved : List Entry) → i < length xs → j < length xs → i ≢ j → AreNodes xs → Splits (node_at xs i) (node_at xs j) kept moved
     → AreNodes (set (set xs i (left_half (node_at xs i) kept (node_at xs j).low j)) j (right_half (node_at xs i) (node_at xs j) moved i))
 nodes_split_move xs i j kept moved li lj differ nodes splits = moved_nodes xs i j kept moved nodes differ li lj splits

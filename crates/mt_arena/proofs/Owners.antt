@@ -16,7 +16,7 @@ use Rattle.mt_border.proofs.ContentsLists.{contents-set, get-at}
 use Rattle.mt_border.proofs.ContentsFinds.{apart_before}
 use Rattle.mt_border.proofs.ContentsEdits.{contents-publish}
 use Rattle.mt_arena.specs.declared.tree.Tree.{Tree}
-use Rattle.mt_arena.specs.Shape.{Shape, node_at}
+use Rattle.mt_arena.specs.NodeView.{NodeView, node_at}
 use Rattle.mt_arena.specs.Forests.{tree_at}
 use Rattle.mt_arena.specs.Layers.{slot_at}
 use Rattle.mt_arena.specs.Contents.{content}
@@ -26,8 +26,8 @@ use Rattle.mt_arena.specs.Ways.{AreBegun, BelongsIn, StandsFor, HasSlots}
 use Rattle.mt_arena.proofs.Elsewhere.{layer_is, nowhere_missing, nowhere_other, stands_once}
 use Rattle.mt_arena.proofs.Counted.{HasNone, none_at, content-none, content-some, content-insert, content-remove, contents-remove, apart_behind}
 
-module _ (nodes : List Shape) (trees : List Tree) (arena : IsArena nodes trees) (begun : AreBegun nodes) (key : Bytes) (layer k : ℕ) where
-  abbrev n : Shape
+module _ (nodes : List NodeView) (trees : List Tree) (arena : IsArena nodes trees) (begun : AreBegun nodes) (key : Bytes) (layer k : ℕ) where
+  abbrev n : NodeView
   n = node_at nodes k
 
   abbrev begins : Bytes
@@ -52,7 +52,7 @@ module _ (nodes : List Shape) (trees : List Tree) (arena : IsArena nodes trees) 
         (λ low j pair also. nowhere_other nodes trees arena begun key layer k in_k low l j pair also i other at is differ))
 
     -- to publish its entry there is to insert its pair
-    pub published : (y : Shape) (e : Entry) (pair : Pair) → HasKey begins layer e key → IsMissing n.slots e.slice e.mark → pair_of e.held ≡ Some pair → HasSlots n y (with_entry n.slots e) → content trees (set nodes k y) ≡ insert (content trees nodes) (owned key) pair.row
+    pub published : (y : NodeView) (e : Entry) (pair : Pair) → HasKey begins layer e key → IsMissing n.slots e.slice e.mark → pair_of e.held ≡ Some pair → HasSlots n y (with_entry n.slots e) → content trees (set nodes k y) ≡ insert (content trees nodes) (owned key) pair.row
     published y e pair has missing is slots =
         let there = in_k.border.there in
         let none = nodes_missing (missing_key begins layer n.slots e key has missing) in
@@ -84,17 +84,17 @@ module _ (nodes : List Shape) (trees : List Tree) (arena : IsArena nodes trees) 
         (get-at begins (owned key) n.slots i any_entry pair at.in_range at.pair_is (owned_at begins layer (slot_at n i) key pair at.has at.pair_is) before)
 
     -- another entry of the key in its place inserts that one's row
-    pub replaced : (y : Shape) (e : Entry) (new : Pair) → HasKey begins layer e key → pair_of e.held ≡ Some new → HasSlots n y (set n.slots i e) → content trees (set nodes k y) ≡ insert (content trees nodes) (owned key) new.row
+    pub replaced : (y : NodeView) (e : Entry) (new : Pair) → HasKey begins layer e key → pair_of e.held ≡ Some new → HasSlots n y (set n.slots i e) → content trees (set nodes k y) ≡ insert (content trees nodes) (owned key) new.row
     replaced y e new has is slots = content-insert trees nodes (owned key) k at.there at.live at.tree_live others y (set n.slots i e) slots new.row
         (contents-set begins (owned key) n.slots i e any_entry pair new at.in_range at.pair_is (owned_at begins layer (slot_at n i) key pair at.has at.pair_is) is (owned_at begins layer e key new has is) before)
 
     -- as another row with its stamp does
-    pub stored : (y : Shape) (row : Columns) (stamp : ℕ) → HasSlots n y (set n.slots i (record (slot_at n i) { held = Stable (record pair { row = row; stamp = stamp }) })) → content trees (set nodes k y) ≡ insert (content trees nodes) (owned key) row
+    pub stored : (y : NodeView) (row : Columns) (stamp : ℕ) → HasSlots n y (set n.slots i (record (slot_at n i) { held = Stable (record pair { row = row; stamp = stamp }) })) → content trees (set nodes k y) ≡ insert (content trees nodes) (owned key) row
     stored y row stamp slots = replaced y (record (slot_at n i) { held = Stable (record pair { row = row; stamp = stamp }) }) (record pair { row = row; stamp = stamp })
         (has_rewritten_key begins layer (slot_at n i) key pair row stamp at.has at.pair_is) refl slots
 
     -- to drop the slot is to remove its pair
-    pub dropped : (y : Shape) → HasSlots n y (remove_at_place n.slots i) → content trees (set nodes k y) ≡ remove (content trees nodes) (owned key)
+    pub dropped : (y : NodeView) → HasSlots n y (remove_at_place n.slots i) → content trees (set nodes k y) ≡ remove (content trees nodes) (owned key)
     dropped y slots = content-remove trees nodes (owned key) k at.there at.live at.tree_live others y (remove_at_place n.slots i) slots
         (contents-remove begins (owned key) n.slots i pair at.in_range at.pair_is (owned_at begins layer (slot_at n i) key pair at.has at.pair_is) before
         (apart_behind begins layer n.slots key i border keys at.has.of_tree at.in_range place))

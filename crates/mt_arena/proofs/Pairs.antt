@@ -2,37 +2,37 @@
 use Rattle.std.proofs.Common.{◌≡◌, ◌≢◌, ℕ, zero, suc, ◌+◌, ◌<◌, ◌≤◌, List, [], ◌∷◌, ◌++◌, length, get_or, set, refl, sym, ap, subst, ◌∙◌, inl, inr, arith, length-append}
 use Rattle.std.proofs.lemmas.Bool.{cases_eq}
 use Rattle.std.proofs.lemmas.List.{get_or-set_same, get_or-set_other, length-set, get_or_default}
-use Rattle.mt_arena.specs.Shape.{Shape, node_at, no_node}
+use Rattle.mt_arena.specs.NodeView.{NodeView, node_at, no_node}
 use Rattle.mt_arena.specs.Nodes.{AllPairs, AllNodes, AreNodes, IsNode, IsPair}
 
-pub here : (xs : List Shape) (i : ℕ) (y : Shape) → i < length xs → node_at (set xs i y) i ≡ y
+pub here : (xs : List NodeView) (i : ℕ) (y : NodeView) → i < length xs → node_at (set xs i y) i ≡ y
 here xs i y within = get_or-set_same xs i y no_node within
 
-pub there : (xs : List Shape) (i k : ℕ) (y : Shape) → k ≢ i → node_at (set xs i y) k ≡ node_at xs k
+pub there : (xs : List NodeView) (i k : ℕ) (y : NodeView) → k ≢ i → node_at (set xs i y) k ≡ node_at xs k
 there xs i k y other = get_or-set_other xs i k y no_node other
 
 -- what was read is the node
-pub read : (xs : List Shape) (i : ℕ) (x : Shape) → i < length xs → x ≡ get_or xs i x → x ≡ node_at xs i
+pub read : (xs : List NodeView) (i : ℕ) (x : NodeView) → i < length xs → x ≡ get_or xs i x → x ≡ node_at xs i
 read xs i x within is = is ∙ get_or_default xs i x no_node within
 
 -- a list with one more: the last one, and those before it
-pub last : (xs : List Shape) (y : Shape) → node_at (xs ++ y ∷ []) (length xs) ≡ y
+pub last : (xs : List NodeView) (y : NodeView) → node_at (xs ++ y ∷ []) (length xs) ≡ y
 last [] y = refl
 last (x ∷ xs) y = last xs y
 
-pub before : (xs : List Shape) (y : Shape) (k : ℕ) → k < length xs → node_at (xs ++ y ∷ []) k ≡ node_at xs k
+pub before : (xs : List NodeView) (y : NodeView) (k : ℕ) → k < length xs → node_at (xs ++ y ∷ []) k ≡ node_at xs k
 before [] y k lt = absurd (omega arith)
 before (x ∷ xs) y zero lt = refl
 before (x ∷ xs) y (suc k) lt = before xs y k (omega arith)
 
-pub nodes_set : (P : Shape → Type 0) (xs : List Shape) (i : ℕ) (y : Shape) → i < length xs → AllNodes P xs → P y → AllNodes P (set xs i y)
+pub nodes_set : (P : NodeView → Type 0) (xs : List NodeView) (i : ℕ) (y : NodeView) → i < length xs → AllNodes P xs → P y → AllNodes P (set xs i y)
 nodes_set P xs i y within all new k lt = elim (cases_eq k i) [
   | inl is ↦ subst P (sym (here xs i y within) ∙ ap (node_at (set xs i y)) (sym is)) new
   | inr other ↦ subst P (sym (there xs i k y other)) (all k (omega (arith, lt, length-set xs i y)))
 ]
 
 -- one node is another: what is left are the pairs with it
-pub pairs_set : (R : ℕ → Shape → ℕ → Shape → Type 0) (xs : List Shape) (i : ℕ) (y : Shape) → i < length xs → AllPairs R xs
+pub pairs_set : (R : ℕ → NodeView → ℕ → NodeView → Type 0) (xs : List NodeView) (i : ℕ) (y : NodeView) → i < length xs → AllPairs R xs
     → R i y i y
     → ((j : ℕ) → j < length xs → j ≢ i → R i y j (node_at xs j))
     → ((j : ℕ) → j < length xs → j ≢ i → R j (node_at xs j) i y)
@@ -53,7 +53,7 @@ pairs_set R xs i y within all self from to k j lk lj =
     ]
 
 -- two nodes are others
-pub pairs_set2 : (R : ℕ → Shape → ℕ → Shape → Type 0) (xs : List Shape) (i j : ℕ) (y z : Shape) → i < length xs → j < length xs → i ≢ j → AllPairs R xs
+pub pairs_set2 : (R : ℕ → NodeView → ℕ → NodeView → Type 0) (xs : List NodeView) (i j : ℕ) (y z : NodeView) → i < length xs → j < length xs → i ≢ j → AllPairs R xs
     → R i y i y → R j z j z → R i y j z → R j z i y
     → ((k : ℕ) → k < length xs → k ≢ i → k ≢ j → (R i y k (node_at xs k) × R k (node_at xs k) i y) × (R j z k (node_at xs k) × R k (node_at xs k) j z))
     → AllPairs R (set (set xs i y) j z)
@@ -95,7 +95,7 @@ pairs_set2 R xs i j y z li lj differ all yy zz yz zy others =
     ]
 
 -- one node is another, where nothing was known of it
-pairs_off : (R : ℕ → Shape → ℕ → Shape → Type 0) (xs : List Shape) (i : ℕ) (y : Shape) → i < length xs
+pairs_off : (R : ℕ → NodeView → ℕ → NodeView → Type 0) (xs : List NodeView) (i : ℕ) (y : NodeView) → i < length xs
     → ((k j : ℕ) → k < length xs → j < length xs → k ≢ i → j ≢ i → R k (node_at xs k) j (node_at xs j))
     → R i y i y
     → ((j : ℕ) → j < length xs → j ≢ i → R i y j (node_at xs j) × R j (node_at xs j) i y)
@@ -116,7 +116,7 @@ pairs_off R xs i y within all self beside k j lk lj =
     ]
 
 -- three nodes are others
-pub pairs_set3 : (R : ℕ → Shape → ℕ → Shape → Type 0) (xs : List Shape) (i j q : ℕ) (y z w : Shape) → i < length xs → j < length xs → q < length xs → i ≢ j → i ≢ q → j ≢ q → AllPairs R xs
+pub pairs_set3 : (R : ℕ → NodeView → ℕ → NodeView → Type 0) (xs : List NodeView) (i j q : ℕ) (y z w : NodeView) → i < length xs → j < length xs → q < length xs → i ≢ j → i ≢ q → j ≢ q → AllPairs R xs
     → R i y i y → R j z j z → R q w q w → (R i y j z × R j z i y) → (R i y q w × R q w i y) → (R j z q w × R q w j z)
     → ((k : ℕ) → k < length xs → k ≢ i → k ≢ j → k ≢ q → (R i y k (node_at xs k) × R k (node_at xs k) i y) × (R j z k (node_at xs k) × R k (node_at xs k) j z) × (R q w k (node_at xs k) × R k (node_at xs k) q w))
     → AllPairs R (set (set (set xs i y) j z) q w)
@@ -139,7 +139,7 @@ pairs_set3 R xs i j q y z w li lj lq ij iq jq all yy zz ww yz yw zw others =
     ])
 
 -- one node more
-pub nodes_push : (P : Shape → Type 0) (xs : List Shape) (y : Shape) → AllNodes P xs → P y → AllNodes P (xs ++ y ∷ [])
+pub nodes_push : (P : NodeView → Type 0) (xs : List NodeView) (y : NodeView) → AllNodes P xs → P y → AllNodes P (xs ++ y ∷ [])
 nodes_push P xs y all new k lt =
     let size : length (xs ++ y ∷ []) ≡ length xs + 1 = length-append xs (y ∷ []) in
     elim (cases_eq k (length xs)) [
@@ -147,7 +147,7 @@ nodes_push P xs y all new k lt =
       | inr other ↦ rw (before xs y k (omega arith)) (all k (omega arith))
     ]
 
-pub pairs_push : (R : ℕ → Shape → ℕ → Shape → Type 0) (xs : List Shape) (y : Shape) → AllPairs R xs
+pub pairs_push : (R : ℕ → NodeView → ℕ → NodeView → Type 0) (xs : List NodeView) (y : NodeView) → AllPairs R xs
     → R (length xs) y (length xs) y
     → ((j : ℕ) → j < length xs → R (length xs) y j (node_at xs j))
     → ((j : ℕ) → j < length xs → R j (node_at xs j) (length xs) y)
@@ -166,7 +166,7 @@ pairs_push R xs y all self from to k j lk lj =
     ]
 
 -- what holds of a node among so many holds of it among more
-pub node_more : (count more : ℕ) (n : Shape) → count ≤ more → IsNode count n → IsNode more n
+pub node_more : (count more : ℕ) (n : NodeView) → count ≤ more → IsNode count n → IsNode more n
 node_more count more n le h = record {
   next_there = λ j e. omega (arith, h.next_there j e);
   previous_there = λ j e. omega (arith, h.previous_there j e);
@@ -193,7 +193,7 @@ node_more count more n le h = record {
 }
 
 -- the facts of all nodes, where one of them is another
-pub are_set : (xs : List Shape) (i : ℕ) (y : Shape) → i < length xs → AreNodes xs → IsNode (length xs) y
+pub are_set : (xs : List NodeView) (i : ℕ) (y : NodeView) → i < length xs → AreNodes xs → IsNode (length xs) y
     → IsPair i y i y
     → ((j : ℕ) → j < length xs → j ≢ i → IsPair i y j (node_at xs j))
     → ((j : ℕ) → j < length xs → j ≢ i → IsPair j (node_at xs j) i y)
@@ -204,7 +204,7 @@ are_set xs i y within nodes one self from to = record {
 }
 
 -- and where two are
-pub are_set2 : (xs : List Shape) (i j : ℕ) (y z : Shape) → i < length xs → j < length xs → i ≢ j → AreNodes xs → IsNode (length xs) y → IsNode (length xs) z
+pub are_set2 : (xs : List NodeView) (i j : ℕ) (y z : NodeView) → i < length xs → j < length xs → i ≢ j → AreNodes xs → IsNode (length xs) y → IsNode (length xs) z
     → IsPair i y i y → IsPair j z j z → IsPair i y j z → IsPair j z i y
     → ((k : ℕ) → k < length xs → k ≢ i → k ≢ j → (IsPair i y k (node_at xs k) × IsPair k (node_at xs k) i y) × (IsPair j z k (node_at xs k) × IsPair k (node_at xs k) j z))
     → AreNodes (set (set xs i y) j z)
@@ -217,7 +217,7 @@ are_set2 xs i j y z li lj differ nodes one two yy zz yz zy others =
     }
 
 -- and where three are
-pub are_set3 : (xs : List Shape) (i j q : ℕ) (y z w : Shape) → i < length xs → j < length xs → q < length xs → i ≢ j → i ≢ q → j ≢ q → AreNodes xs
+pub are_set3 : (xs : List NodeView) (i j q : ℕ) (y z w : NodeView) → i < length xs → j < length xs → q < length xs → i ≢ j → i ≢ q → j ≢ q → AreNodes xs
     → IsNode (length xs) y → IsNode (length xs) z → IsNode (length xs) w
     → IsPair i y i y → IsPair j z j z → IsPair q w q w → (IsPair i y j z × IsPair j z i y) → (IsPair i y q w × IsPair q w i y) → (IsPair j z q w × IsPair q w j z)
     → ((k : ℕ) → k < length xs → k ≢ i → k ≢ j → k ≢ q → (IsPair i y k (node_at xs k) × IsPair k (node_at xs k) i y) × (IsPair j z k (node_at xs k) × IsPair k (node_at xs k) j z) × (IsPair q w k (node_at xs k) × IsPair k (node_at xs k) q w))
@@ -233,7 +233,7 @@ are_set3 xs i j q y z w li lj lq ij iq jq nodes one two three yy zz ww yz yw zw 
     }
 
 -- and where one more is added
-pub nodes_pushed : (xs : List Shape) (y : Shape) → AreNodes xs → IsNode (length xs + 1) y
+pub nodes_pushed : (xs : List NodeView) (y : NodeView) → AreNodes xs → IsNode (length xs + 1) y
     → IsPair (length xs) y (length xs) y
     → ((j : ℕ) → j < length xs → IsPair (length xs) y j (node_at xs j))
     → ((j : ℕ) → j < length xs → IsPair j (node_at xs j) (length xs) y)

@@ -1,9 +1,9 @@
 -- A right half comes to stand in a full parent, which is parted, as one step: what holds, and what others rely on.
 use Rattle.std.proofs.Common.{◌≡◌, ◌≢◌, ℕ, ◌<◌, List, length, refl, sym, ap, ◌∙◌, arith}
-use Rattle.mt_arena.specs.Shape.{Shape}
+use Rattle.mt_arena.specs.NodeView.{NodeView}
 use Rattle.mt_arena.specs.Forests.{tree_at}
 use Rattle.mt_arena.specs.Contents.{content}
-use Rattle.mt_arena.specs.Arena.{Sound, View, IsStep}
+use Rattle.mt_arena.specs.Arena.{ArenaInvariant, ArenaView, Guarantee}
 use Rattle.mt_arena.specs.Accesses.{at}
 use Rattle.mt_arena.specs.Splits.{SplitsInner, with_child, exact, middle, inner_left, inner_right}
 use Rattle.mt_arena.specs.Several.{MaySplitInner, with_parts}
@@ -11,31 +11,31 @@ use Rattle.mt_arena.proofs.Locks.{is_held}
 use Rattle.mt_arena.proofs.Steps.{keys_of}
 use Rattle.mt_arena.proofs.InnerSplit.{nodes_split_inner, ranged_split_inner}
 use Rattle.mt_arena.proofs.HeldChanges.{changes_inner_left, changes_inner_right, marks}
-use Rattle.mt_arena.proofs.Evolving.{PointsSo}
+use Rattle.mt_arena.proofs.Guarantees.{PointsSo}
 use Rattle.mt_arena.proofs.Naming.{names_same, points_each, each_set3}
-use Rattle.mt_arena.proofs.Several.{AreKept, kept_set3, forest_set3, evolves_set3}
+use Rattle.mt_arena.proofs.Several.{AreKept, kept_set3, forest_set3, guarantee_set3}
 use Rattle.mt_arena.proofs.Inserting.{apart_j, left_level, exact_place, exact_turn}
 
-module _ (v : View) (room parent left right half op : ℕ) (sound : Sound v.nodes v.trees v.retired room) (may : MaySplitInner v parent left right half op) where
-  abbrev p : Shape
+module _ (v : ArenaView) (room parent left right half op : ℕ) (sound : ArenaInvariant v.nodes v.trees v.retired room) (may : MaySplitInner v parent left right half op) where
+  abbrev p : NodeView
   p = at v parent
 
-  abbrev t : Shape
+  abbrev t : NodeView
   t = at v half
 
-  abbrev wide : Shape
+  abbrev wide : NodeView
   wide = with_child p (at v right).low right
 
-  abbrev y : Shape
+  abbrev y : NodeView
   y = inner_left wide
 
-  abbrev z : Shape
+  abbrev z : NodeView
   z = exact (at v left)
 
-  abbrev u : Shape
+  abbrev u : NodeView
   u = inner_right wide t
 
-  abbrev new : List Shape
+  abbrev new : List NodeView
   new = with_parts v.nodes parent left right half
 
   li : parent < length v.nodes
@@ -75,7 +75,7 @@ module _ (v : View) (room parent left right half op : ℕ) (sound : Sound v.node
   kept = kept_set3 v.nodes v.trees v.retired parent left half y z u li lj lh ij ih apart_half
       (record { slots = refl; deleted = refl; tree = refl }) (record { slots = refl; deleted = refl; tree = refl }) (record { slots = refl; deleted = refl; tree = refl })
 
-  pub sound_parts : Sound new v.trees v.retired room
+  pub sound_parts : ArenaInvariant new v.trees v.retired room
   sound_parts = record {
     arena = record {
       nodes = nodes_split_inner v.nodes parent left right half sound.arena.nodes may.inserts may.full lh ih splits;
@@ -96,9 +96,9 @@ module _ (v : View) (room parent left right half op : ℕ) (sound : Sound v.node
     enough = omega (arith, kept.count, sound.enough);
   }
 
-  pub step_parts : IsStep op v (record v { nodes = new })
+  pub step_parts : Guarantee op v (record v { nodes = new })
   step_parts = record {
-    evolves = evolves_set3 op v.nodes v.trees parent left half y z u li lj lh ij ih apart_half sound.arena.forest
+    nodes = guarantee_set3 op v.nodes v.trees parent left half y z u li lj lh ij ih apart_half sound.arena.forest
         (record { changes = changes_inner_left op p (at v right).low right may.parted.held.holder may.parted.marked; mine = may.parted.mine })
         (exact_turn v.nodes parent left right sound.arena.nodes may.inserts op v.trees may.left_held.holder may.parted.mine)
         (record {

@@ -1,12 +1,12 @@
 -- A node before and a parent that are as they were, or held.
 use Rattle.std.proofs.Common.{◌≡◌, ◌≢◌, ◌⊎◌, ℕ, ◌<◌, List, length, Option, Some, None, set, inl, inr}
-use Rattle.mt_arena.specs.Shape.{Shape, node_at}
+use Rattle.mt_arena.specs.NodeView.{NodeView, node_at}
 use Rattle.mt_arena.specs.Nodes.{AreNodes, IsPair}
 use Rattle.mt_arena.specs.Edits.{Points, pointed}
 use Rattle.mt_arena.proofs.Pairs.{are_set}
 
 -- the second node of a pair
-pointed_to : (k : ℕ) (n : Shape) (j : ℕ) (m : Shape) (previous parent : Option ℕ) → IsPair k n j m → (parent ≡ None → m.parent ≡ None) → IsPair k n j (pointed m previous parent)
+pointed_to : (k : ℕ) (n : NodeView) (j : ℕ) (m : NodeView) (previous parent : Option ℕ) → IsPair k n j m → (parent ≡ None → m.parent ≡ None) → IsPair k n j (pointed m previous parent)
 pointed_to k n j m previous parent h stays = record {
   next_follows = h.next_follows;
   next_tree = h.next_tree;
@@ -24,7 +24,7 @@ pointed_to k n j m previous parent h stays = record {
 }
 
 -- the first one
-pointed_from : (k : ℕ) (n : Shape) (j : ℕ) (m : Shape) (previous parent : Option ℕ) → IsPair k n j m
+pointed_from : (k : ℕ) (n : NodeView) (j : ℕ) (m : NodeView) (previous parent : Option ℕ) → IsPair k n j m
     → (previous ≡ Some j → (n.previous ≡ Some j) ⊎ (m.holder ≢ None)) → (parent ≡ Some j → (n.parent ≡ Some j) ⊎ (m.holder ≢ None))
     → IsPair k (pointed n previous parent) j m
 pointed_from k n j m previous parent h back up = record {
@@ -50,7 +50,7 @@ pointed_from k n j m previous parent h back up = record {
   apart = h.apart;
 }
 
-pub nodes_pointed : (xs : List Shape) (i : ℕ) (previous parent : Option ℕ) → i < length xs → AreNodes xs → Points xs (node_at xs i) previous parent
+pub nodes_pointed : (xs : List NodeView) (i : ℕ) (previous parent : Option ℕ) → i < length xs → AreNodes xs → Points xs (node_at xs i) previous parent
     → AreNodes (set xs i (pointed (node_at xs i) previous parent))
 nodes_pointed xs i previous parent within nodes points =
     let x = node_at xs i in

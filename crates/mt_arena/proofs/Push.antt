@@ -2,7 +2,7 @@
 use Rattle.std.proofs.Common.{◌≢◌, ℕ, ◌+◌, ◌<◌, List, [], ◌∷◌, ◌++◌, length, refl, sym, arith}
 use Rattle.mt_border.specs.Entries.{IsBorder}
 use Rattle.mt_interior.specs.Node.{IsInterior}
-use Rattle.mt_arena.specs.Shape.{Shape, node_at}
+use Rattle.mt_arena.specs.NodeView.{NodeView, node_at}
 use Rattle.mt_arena.specs.Nodes.{AreNodes, IsNode, IsPair}
 use Rattle.mt_arena.specs.Edits.{fresh_half, fresh_root}
 use Rattle.mt_arena.proofs.Pairs.{nodes_pushed}
@@ -15,7 +15,7 @@ pub no_children : IsInterior [] []
 no_children = record { room = omega arith; between = refl; rising = λ i j lt within. absurd (omega arith) }
 
 -- the right half of a split, before it has a range
-half_node : (count seen : ℕ) (n : Shape) (low op : ℕ) → IsNode seen n → IsNode count (fresh_half n low op)
+half_node : (count seen : ℕ) (n : NodeView) (low op : ℕ) → IsNode seen n → IsNode count (fresh_half n low op)
 half_node count seen n low op h = record {
   next_there = λ j e. absurd (cc);
   previous_there = λ j e. absurd (cc);
@@ -42,7 +42,7 @@ half_node count seen n low op h = record {
 }
 
 -- beside a node that it does not name
-half_from : (k : ℕ) (n : Shape) (low op j : ℕ) (m : Shape) → IsPair k (fresh_half n low op) j m
+half_from : (k : ℕ) (n : NodeView) (low op j : ℕ) (m : NodeView) → IsPair k (fresh_half n low op) j m
 half_from k n low op j m = record {
   next_follows = λ e. absurd (cc);
   next_tree = λ e. absurd (cc);
@@ -55,7 +55,7 @@ half_from k n low op j m = record {
   apart = λ differ tree level live also s holds _. absurd (omega (arith, holds.0, holds.1));
 }
 
-half_to : (count k : ℕ) (m n : Shape) (low op : ℕ) → IsNode count m → IsPair k m count (fresh_half n low op)
+half_to : (count k : ℕ) (m n : NodeView) (low op : ℕ) → IsNode count m → IsPair k m count (fresh_half n low op)
 half_to count k m n low op h = record {
   next_follows = λ e. absurd (omega (arith, h.next_there count e));
   next_tree = λ e. absurd (omega (arith, h.next_there count e));
@@ -68,7 +68,7 @@ half_to count k m n low op h = record {
   apart = λ differ tree level live also s _ holds. absurd (omega (arith, holds.0, holds.1));
 }
 
-pub nodes_half : (xs : List Shape) (i low op : ℕ) → i < length xs → AreNodes xs → AreNodes (xs ++ fresh_half (node_at xs i) low op ∷ [])
+pub nodes_half : (xs : List NodeView) (i low op : ℕ) → i < length xs → AreNodes xs → AreNodes (xs ++ fresh_half (node_at xs i) low op ∷ [])
 nodes_half xs i low op within nodes =
     let x = node_at xs i in
     let y = fresh_half x low op in
@@ -104,7 +104,7 @@ root_node count tree = record {
   rooted = λ live free none. refl;
 }
 
-root_from : (k tree j : ℕ) (m : Shape) → (k ≢ j → m.tree ≢ tree) → IsPair k (fresh_root tree) j m
+root_from : (k tree j : ℕ) (m : NodeView) → (k ≢ j → m.tree ≢ tree) → IsPair k (fresh_root tree) j m
 root_from k tree j m new = record {
   next_follows = λ e. absurd (cc);
   next_tree = λ e. absurd (cc);
@@ -117,7 +117,7 @@ root_from k tree j m new = record {
   apart = λ differ same. absurd (new differ (sym same));
 }
 
-root_to : (count k : ℕ) (m : Shape) (tree : ℕ) → IsNode count m → m.tree ≢ tree → IsPair k m count (fresh_root tree)
+root_to : (count k : ℕ) (m : NodeView) (tree : ℕ) → IsNode count m → m.tree ≢ tree → IsPair k m count (fresh_root tree)
 root_to count k m tree h new = record {
   next_follows = λ e. absurd (omega (arith, h.next_there count e));
   next_tree = λ e. absurd (omega (arith, h.next_there count e));
@@ -130,7 +130,7 @@ root_to count k m tree h new = record {
   apart = λ differ same. absurd (new same);
 }
 
-pub nodes_root : (xs : List Shape) (tree : ℕ) → AreNodes xs → ((k : ℕ) → k < length xs → (node_at xs k).tree ≢ tree) → AreNodes (xs ++ fresh_root tree ∷ [])
+pub nodes_root : (xs : List NodeView) (tree : ℕ) → AreNodes xs → ((k : ℕ) → k < length xs → (node_at xs k).tree ≢ tree) → AreNodes (xs ++ fresh_root tree ∷ [])
 nodes_root xs tree nodes new =
     nodes_pushed xs (fresh_root tree) nodes (root_node (length xs + 1) tree)
     (root_from (length xs) tree (length xs) (fresh_root tree) (λ differ. absurd (differ refl)))

@@ -3,13 +3,13 @@ use Rattle.std.proofs.Common.{◌≡◌, ◌≢◌, ℕ, ◌<◌, List, [], leng
 use Rattle.mt_version.specs.Parts.{Parts}
 use Rattle.mt_border.specs.declared.entry.Entry.{Entry}
 use Rattle.mt_border.specs.Entries.{IsBorder, slices}
-use Rattle.mt_arena.specs.Shape.{Shape, node_at}
+use Rattle.mt_arena.specs.NodeView.{NodeView, node_at}
 use Rattle.mt_arena.specs.Nodes.{AreNodes, IsNode, IsPair, Holds}
 use Rattle.mt_arena.specs.Edits.{turned, locked, inserting, splitting, with_slots}
 use Rattle.mt_arena.proofs.Pairs.{are_set}
 
 -- the first node of a pair
-turned_from : (k : ℕ) (n : Shape) (j : ℕ) (m : Shape) (slots : List Entry) (version : Parts) (holder : Option ℕ) → IsPair k n j m
+turned_from : (k : ℕ) (n : NodeView) (j : ℕ) (m : NodeView) (slots : List Entry) (version : Parts) (holder : Option ℕ) → IsPair k n j m
     → version.deleted ≡ n.version.deleted → IsPair k (turned n slots version holder) j m
 turned_from k n j m slots version holder h same = record {
   next_follows = h.next_follows;
@@ -31,7 +31,7 @@ was_free None new held free = refl
 was_free (Some q) new held free = absurd (held (λ e. absurd (cc)) free)
 
 -- the second one
-turned_to : (k : ℕ) (n : Shape) (j : ℕ) (m : Shape) (slots : List Entry) (version : Parts) (holder : Option ℕ) → IsPair k n j m
+turned_to : (k : ℕ) (n : NodeView) (j : ℕ) (m : NodeView) (slots : List Entry) (version : Parts) (holder : Option ℕ) → IsPair k n j m
     → version.deleted ≡ m.version.deleted → (m.holder ≢ None → holder ≢ None) → IsPair k n j (turned m slots version holder)
 turned_to k n j m slots version holder h same held = record {
   next_follows = h.next_follows;
@@ -50,7 +50,7 @@ turned_to k n j m slots version holder h same held = record {
 }
 
 -- a node turns into another one of the same standing
-pub nodes_quiet : (xs : List Shape) (i : ℕ) (slots : List Entry) (version : Parts) (holder : Option ℕ) → i < length xs → AreNodes xs
+pub nodes_quiet : (xs : List NodeView) (i : ℕ) (slots : List Entry) (version : Parts) (holder : Option ℕ) → i < length xs → AreNodes xs
     → version.deleted ≡ (node_at xs i).version.deleted → ((node_at xs i).holder ≢ None → holder ≢ None)
     → IsNode (length xs) (turned (node_at xs i) slots version holder)
     → AreNodes (set xs i (turned (node_at xs i) slots version holder))
@@ -63,7 +63,7 @@ nodes_quiet xs i slots version holder within nodes same held one =
     (λ j lt other. turned_to j (node_at xs j) i x slots version holder (nodes.pairs j i lt within) same held)
 
 -- a node that is held, with other marks and slots that may stand in it
-held_node : (count : ℕ) (n : Shape) (slots : List Entry) (version : Parts) (holder : Option ℕ) → IsNode count n → holder ≢ None
+held_node : (count : ℕ) (n : NodeView) (slots : List Entry) (version : Parts) (holder : Option ℕ) → IsNode count n → holder ≢ None
     → version.locked ≡ is_some holder → version.border ≡ n.version.border → version.deleted ≡ n.version.deleted → (version.splitting ≡ false → n.version.splitting ≡ false)
     → IsBorder slots → ((i : ℕ) → i < length slots → Holds n (slice_index (slices slots) i)) → (0 < n.level → slots ≡ [])
     → IsNode count (turned n slots version holder)
@@ -92,7 +92,7 @@ held_node count n slots version holder h held lock kind standing marked border w
   rooted = λ live free. absurd (held free);
 }
 
-pub nodes_locked : (xs : List Shape) (i op : ℕ) → i < length xs → AreNodes xs → AreNodes (set xs i (locked (node_at xs i) op))
+pub nodes_locked : (xs : List NodeView) (i op : ℕ) → i < length xs → AreNodes xs → AreNodes (set xs i (locked (node_at xs i) op))
 nodes_locked xs i op within nodes =
     let x = node_at xs i in
     let h = nodes.each i within in
@@ -100,7 +100,7 @@ nodes_locked xs i op within nodes =
     nodes_quiet xs i x.slots version (Some op) within nodes refl (λ e f. absurd (cc))
     (held_node (length xs) x x.slots version (Some op) h (λ e. absurd (cc)) refl refl refl (λ e. e) h.border h.slots_within h.slotless)
 
-pub nodes_inserting : (xs : List Shape) (i : ℕ) → i < length xs → AreNodes xs → (node_at xs i).holder ≢ None → AreNodes (set xs i (inserting (node_at xs i)))
+pub nodes_inserting : (xs : List NodeView) (i : ℕ) → i < length xs → AreNodes xs → (node_at xs i).holder ≢ None → AreNodes (set xs i (inserting (node_at xs i)))
 nodes_inserting xs i within nodes held =
     let x = node_at xs i in
     let h = nodes.each i within in
@@ -108,7 +108,7 @@ nodes_inserting xs i within nodes held =
     nodes_quiet xs i x.slots version x.holder within nodes refl (λ e. e)
     (held_node (length xs) x x.slots version x.holder h held h.locked refl refl (λ e. e) h.border h.slots_within h.slotless)
 
-pub nodes_splitting : (xs : List Shape) (i : ℕ) → i < length xs → AreNodes xs → (node_at xs i).holder ≢ None → AreNodes (set xs i (splitting (node_at xs i)))
+pub nodes_splitting : (xs : List NodeView) (i : ℕ) → i < length xs → AreNodes xs → (node_at xs i).holder ≢ None → AreNodes (set xs i (splitting (node_at xs i)))
 nodes_splitting xs i within nodes held =
     let x = node_at xs i in
     let h = nodes.each i within in
@@ -117,7 +117,7 @@ nodes_splitting xs i within nodes held =
     (held_node (length xs) x x.slots version x.holder h held h.locked refl refl (λ e. absurd (cc)) h.border h.slots_within h.slotless)
 
 -- other slots of a held border node
-pub nodes_slots : (xs : List Shape) (i : ℕ) (slots : List Entry) → i < length xs → AreNodes xs → (node_at xs i).holder ≢ None → (node_at xs i).level ≡ 0
+pub nodes_slots : (xs : List NodeView) (i : ℕ) (slots : List Entry) → i < length xs → AreNodes xs → (node_at xs i).holder ≢ None → (node_at xs i).level ≡ 0
     → IsBorder slots → ((j : ℕ) → j < length slots → Holds (node_at xs i) (slice_index (slices slots) j))
     → AreNodes (set xs i (with_slots (node_at xs i) slots))
 nodes_slots xs i slots within nodes held level border inside =

@@ -3,18 +3,18 @@ use Rattle.std.proofs.Common.{◌≡◌, ◌≢◌, false, ℕ, ◌<◌, List, [
 use Rattle.mt_version.specs.Parts.{Parts}
 use Rattle.mt_border.specs.declared.entry.Entry.{Entry}
 use Rattle.mt_interior.specs.Fences.{end_of}
-use Rattle.mt_arena.specs.Shape.{Shape, node_at}
+use Rattle.mt_arena.specs.NodeView.{NodeView, node_at}
 use Rattle.mt_arena.specs.Nodes.{AreNodes, HasRange}
 use Rattle.mt_arena.specs.Ranges.{IsRanged, AreRanged}
 use Rattle.mt_arena.specs.Edits.{turned, retired, pointed, fresh_half, fresh_root}
 use Rattle.mt_arena.specs.Unlinks.{Unlinks, joined, without_child}
 use Rattle.mt_arena.specs.Splits.{Splits, Inserts, left_half, right_half, with_child, exact, inner_left, inner_right}
-use Rattle.mt_arena.specs.Growth.{Grows, fresh_top, left_below, right_below}
+use Rattle.mt_arena.specs.Growth.{AreRootHalves, fresh_top, left_below, right_below}
 use Rattle.mt_arena.proofs.Pairs.{nodes_set, nodes_push}
 use Rattle.std.proofs.lemmas.List.{length-set}
 
 -- other slots, another version and another holder: locked, unlocked, marked and retired nodes too
-pub ranged_turned : (xs : List Shape) (i : ℕ) (slots : List Entry) (version : Parts) (holder : Option ℕ) → i < length xs → AreRanged xs → (version.splitting ≡ false → version.deleted ≡ false → HasRange (node_at xs i))
+pub ranged_turned : (xs : List NodeView) (i : ℕ) (slots : List Entry) (version : Parts) (holder : Option ℕ) → i < length xs → AreRanged xs → (version.splitting ≡ false → version.deleted ≡ false → HasRange (node_at xs i))
     → AreRanged (set xs i (turned (node_at xs i) slots version holder))
 ranged_turned xs i slots version holder within ranged unmarked = nodes_set IsRanged xs i (turned (node_at xs i) slots version holder) within ranged record {
   next = (ranged i within).next;
@@ -23,7 +23,7 @@ ranged_turned xs i slots version holder within ranged unmarked = nodes_set IsRan
 }
 
 -- another node before it and another parent: only a node with a range comes to have one
-pub ranged_pointed : (xs : List Shape) (i : ℕ) (previous parent : Option ℕ) → i < length xs → AreRanged xs → (parent ≢ None → HasRange (node_at xs i)) → AreRanged (set xs i (pointed (node_at xs i) previous parent))
+pub ranged_pointed : (xs : List NodeView) (i : ℕ) (previous parent : Option ℕ) → i < length xs → AreRanged xs → (parent ≢ None → HasRange (node_at xs i)) → AreRanged (set xs i (pointed (node_at xs i) previous parent))
 ranged_pointed xs i previous parent within ranged range = nodes_set IsRanged xs i (pointed (node_at xs i) previous parent) within ranged record {
   next = (ranged i within).next;
   parent = range;
@@ -31,14 +31,14 @@ ranged_pointed xs i previous parent within ranged range = nodes_set IsRanged xs 
 }
 
 -- one node more
-pub ranged_half : (xs : List Shape) (n : Shape) (low op : ℕ) → AreRanged xs → AreRanged (xs ++ fresh_half n low op ∷ [])
+pub ranged_half : (xs : List NodeView) (n : NodeView) (low op : ℕ) → AreRanged xs → AreRanged (xs ++ fresh_half n low op ∷ [])
 ranged_half xs n low op ranged = nodes_push IsRanged xs (fresh_half n low op) ranged record { next = λ some. absurd (some refl); parent = λ some. absurd (some refl); unmarked = λ whole live. absurd (cc) }
 
-pub ranged_root : (xs : List Shape) (tree : ℕ) → AreRanged xs → AreRanged (xs ++ fresh_root tree ∷ [])
+pub ranged_root : (xs : List NodeView) (tree : ℕ) → AreRanged xs → AreRanged (xs ++ fresh_root tree ∷ [])
 ranged_root xs tree ranged = nodes_push IsRanged xs (fresh_root tree) ranged record { next = λ some. absurd (some refl); parent = λ some. absurd (some refl); unmarked = λ whole live. omega arith }
 
 -- both halves of a split have a range
-pub ranged_split_move : (xs : List Shape) (i j : ℕ) (kept moved : List Entry) → i < length xs → j < length xs → AreRanged xs → Splits (node_at xs i) (node_at xs j) kept moved
+pub ranged_split_move : (xs : List NodeView) (i j : ℕ) (kept moved : List Entry) → i < length xs → j < length xs → AreRanged xs → Splits (node_at xs i) (node_at xs j) kept moved
     → AreRanged (set (set xs i (left_half (node_at xs i) kept (node_at xs j).low j)) j (right_half (node_at xs i) (node_at xs j) moved i))
 ranged_split_move xs i j kept moved li lj ranged splits =
     let y = left_half (node_at xs i) kept (node_at xs j).low j in
@@ -47,7 +47,7 @@ ranged_split_move xs i j kept moved li lj ranged splits =
     (record { next = λ some. splits.below; parent = λ some. splits.below; unmarked = λ whole live. splits.below })
 
 -- a right half that comes to stand in the parent changes no range
-pub ranged_insert_child : (xs : List Shape) (i j q : ℕ) → AreRanged xs → Inserts xs i j q → AreRanged (set (set xs i (with_child (node_at xs i) (node_at xs q).low q)) j (exact (node_at xs j)))
+pub ranged_insert_child : (xs : List NodeView) (i j q : ℕ) → AreRanged xs → Inserts xs i j q → AreRanged (set (set xs i (with_child (node_at xs i) (node_at xs q).low q)) j (exact (node_at xs j)))
 ranged_insert_child xs i j q ranged f =
     let y = with_child (node_at xs i) (node_at xs q).low q in
     nodes_set IsRanged (set xs i y) j (exact (node_at xs j)) (omega (arith, f.left_there, length-set xs i y))
@@ -55,7 +55,7 @@ ranged_insert_child xs i j q ranged f =
     (record { next = (ranged j f.left_there).next; parent = (ranged j f.left_there).parent; unmarked = (ranged j f.left_there).unmarked })
 
 -- the halves of a root have one each
-pub ranged_root_grow : (xs : List Shape) (i j op : ℕ) → AreRanged xs → Grows xs i j
+pub ranged_root_grow : (xs : List NodeView) (i j op : ℕ) → AreRanged xs → AreRootHalves xs i j
     → AreRanged (set (set xs i (left_below (node_at xs i) (length xs))) j (right_below (node_at xs j) (length xs)) ++ fresh_top (node_at xs i) i (node_at xs j).low j op ∷ [])
 ranged_root_grow xs i j op ranged f =
     let y = left_below (node_at xs i) (length xs) in
@@ -68,7 +68,7 @@ ranged_root_grow xs i j op ranged f =
     (record { next = λ some. absurd (some refl); parent = λ some. absurd (some refl); unmarked = λ whole live. omega arith })
 
 -- the left neighbour of a node that is taken out ends where that ended
-pub ranged_unlinked : (xs : List Shape) (i j q a : ℕ) → AreNodes xs → AreRanged xs → Unlinks xs i j q a
+pub ranged_unlinked : (xs : List NodeView) (i j q a : ℕ) → AreNodes xs → AreRanged xs → Unlinks xs i j q a
     → AreRanged (set (set (set xs i (joined (node_at xs i) (node_at xs j))) j (retired (node_at xs j))) q (without_child (node_at xs q) a))
 ranged_unlinked xs i j q a nodes ranged f =
     let l = node_at xs i in
@@ -87,7 +87,7 @@ ranged_unlinked xs i j q a nodes ranged f =
     (record { next = (ranged q f.parent_there).next; parent = (ranged q f.parent_there).parent; unmarked = (ranged q f.parent_there).unmarked })
 
 -- so do those of an interior node that is parted
-pub ranged_parted : (xs : List Shape) (i j q h : ℕ) → AreRanged xs → Inserts xs i j q → h < length xs
+pub ranged_parted : (xs : List NodeView) (i j q h : ℕ) → AreRanged xs → Inserts xs i j q → h < length xs
     → HasRange (inner_left (with_child (node_at xs i) (node_at xs q).low q)) → HasRange (inner_right (with_child (node_at xs i) (node_at xs q).low q) (node_at xs h))
     → AreRanged (set (set (set xs i (inner_left (with_child (node_at xs i) (node_at xs q).low q))) j (exact (node_at xs j))) h (inner_right (with_child (node_at xs i) (node_at xs q).low q) (node_at xs h)))
 ranged_parted xs i j q h ranged f lh left right =

@@ -4,7 +4,7 @@ use Rattle.std.proofs.lemmas.Bool.{cases_eq}
 use Rattle.mt_interior.specs.Rising.{IsRising}
 use Rattle.mt_interior.specs.Fences.{end_of, bounds_of}
 use Rattle.mt_interior.proofs.PlaceLemmas.{bounds_of-inner, bounds_of-end}
-use Rattle.mt_arena.specs.Shape.{Shape, node_at}
+use Rattle.mt_arena.specs.NodeView.{NodeView, node_at}
 use Rattle.mt_arena.specs.Nodes.{AreNodes, IsNode, IsChild, Holds, bounds}
 
 -- a rising list, place by place
@@ -20,10 +20,10 @@ not_empty [] a lt e = absurd (omega arith)
 not_empty (x ∷ xs) a lt e = absurd (cc)
 
 -- how many bounds there are, beside separators and beside children
-pub length_bounds : (n : Shape) → length (bounds n) ≡ length n.separators + 2
+pub length_bounds : (n : NodeView) → length (bounds n) ≡ length n.separators + 2
 length_bounds n = omega (arith, length-append n.separators (end_of n.high ∷ []))
 
-pub length_children : (count : ℕ) (n : Shape) (a : ℕ) → IsNode count n → a < length n.children → length (bounds n) ≡ length n.children + 1
+pub length_children : (count : ℕ) (n : NodeView) (a : ℕ) → IsNode count n → a < length n.children → length (bounds n) ≡ length n.children + 1
 length_children count n a h lt = omega (arith, length_bounds n, h.interior.between)
 
 -- where bounds rise, the separators between them do
@@ -33,14 +33,14 @@ separators_rise low xs high rising i j lt within =
     omega (arith, bounds_of-inner low xs high i (omega arith), bounds_of-inner low xs high j within, rising (suc i) (suc j) (omega arith) (omega arith))
 
 -- a child's range is not empty
-pub child_ranges : (count : ℕ) (n : Shape) (a : ℕ) (m : Shape) → IsNode count n → a < length n.children → IsChild n a m → m.low < end_of m.reach
+pub child_ranges : (count : ℕ) (n : NodeView) (a : ℕ) (m : NodeView) → IsNode count n → a < length n.children → IsChild n a m → m.low < end_of m.reach
 child_ranges count n a m h lt c =
     let size = length_children count n a h lt in
     let some = not_empty n.children a lt in
     omega (arith, c.low, c.reach, (h.bounds_rise some) a (a + 1) (omega arith) (omega arith))
 
 -- where a child begins lies within the node's fences
-pub holds_low : (count : ℕ) (n : Shape) (a : ℕ) → IsNode count n → a < length n.children → Holds n (get_or (bounds n) a 0)
+pub holds_low : (count : ℕ) (n : NodeView) (a : ℕ) → IsNode count n → a < length n.children → Holds n (get_or (bounds n) a 0)
 holds_low count n a h lt =
     let size = length_children count n a h lt in
     let all = length_bounds n in
@@ -49,7 +49,7 @@ holds_low count n a h lt =
     (rises (bounds n) 0 a (h.bounds_rise some) (omega arith) (omega arith), omega (arith, end, (h.bounds_rise some) a (suc (length n.separators)) (omega arith) (omega arith)))
 
 -- a node is a child of one live node
-pub one_parent : (xs : List Shape) (i k j a b : ℕ) → AreNodes xs → i < length xs → k < length xs → j < length xs
+pub one_parent : (xs : List NodeView) (i k j a b : ℕ) → AreNodes xs → i < length xs → k < length xs → j < length xs
     → (node_at xs i).version.deleted ≡ false → (node_at xs k).version.deleted ≡ false
     → a < length (node_at xs i).children → get_or (node_at xs i).children a 0 ≡ j → b < length (node_at xs k).children → get_or (node_at xs k).children b 0 ≡ j → k ≡ i
 one_parent xs i k j a b nodes li lk lj live also la ca lb cb =
@@ -63,7 +63,7 @@ one_parent xs i k j a b nodes li lk lj live also la ca lb cb =
     ]
 
 -- and it is there once
-pub one_place : (count : ℕ) (n : Shape) (a b : ℕ) (m : Shape) → IsNode count n → a < length n.children → b < length n.children → IsChild n a m → IsChild n b m → a ≡ b
+pub one_place : (count : ℕ) (n : NodeView) (a b : ℕ) (m : NodeView) → IsNode count n → a < length n.children → b < length n.children → IsChild n a m → IsChild n b m → a ≡ b
 one_place count n a b m h la lb first second =
     let size = length_children count n a h la in
     let some = not_empty n.children a la in

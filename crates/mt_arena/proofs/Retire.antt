@@ -1,12 +1,12 @@
 -- A node that is taken out of its tree.
 use Rattle.std.proofs.Common.{◌≢◌, ℕ, ◌<◌, List, length, None, set}
-use Rattle.mt_arena.specs.Shape.{Shape, node_at}
+use Rattle.mt_arena.specs.NodeView.{NodeView, node_at}
 use Rattle.mt_arena.specs.Nodes.{AreNodes, IsPair}
 use Rattle.mt_arena.specs.Edits.{retired, IsLeft}
 use Rattle.mt_arena.proofs.Pairs.{are_set}
 
 -- the first node of a pair
-retired_from : (k : ℕ) (n : Shape) (j : ℕ) (m : Shape) → IsPair k n j m → IsPair k (retired n) j m
+retired_from : (k : ℕ) (n : NodeView) (j : ℕ) (m : NodeView) → IsPair k n j m → IsPair k (retired n) j m
 retired_from k n j m h = record {
   next_follows = h.next_follows;
   next_tree = h.next_tree;
@@ -20,7 +20,7 @@ retired_from k n j m h = record {
 }
 
 -- the second one, which no live node names
-retired_to : (nodes : List Shape) (k i : ℕ) (x : Shape) → k < length nodes → x.holder ≢ None → IsLeft nodes i → IsPair k (node_at nodes k) i x → IsPair k (node_at nodes k) i (retired x)
+retired_to : (nodes : List NodeView) (k i : ℕ) (x : NodeView) → k < length nodes → x.holder ≢ None → IsLeft nodes i → IsPair k (node_at nodes k) i x → IsPair k (node_at nodes k) i (retired x)
 retired_to nodes k i x within held left h = record {
   next_follows = h.next_follows;
   next_tree = h.next_tree;
@@ -33,7 +33,7 @@ retired_to nodes k i x within held left h = record {
   apart = λ differ tree level live also. absurd (cc);
 }
 
-pub nodes_retired : (xs : List Shape) (i : ℕ) → i < length xs → AreNodes xs → (node_at xs i).holder ≢ None → IsLeft xs i → AreNodes (set xs i (retired (node_at xs i)))
+pub nodes_retired : (xs : List NodeView) (i : ℕ) → i < length xs → AreNodes xs → (node_at xs i).holder ≢ None → IsLeft xs i → AreNodes (set xs i (retired (node_at xs i)))
 nodes_retired xs i within nodes held left =
     let x = node_at xs i in
     let h = nodes.each i within in

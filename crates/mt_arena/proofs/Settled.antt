@@ -6,10 +6,10 @@ use Rattle.mt_version.specs.Parts.{Parts}
 use Rattle.mt_border.specs.declared.entry.Entry.{Entry}
 use Rattle.std.specs.List.{All}
 use Rattle.mt_arena.specs.declared.tree.Tree.{Tree}
-use Rattle.mt_arena.specs.Shape.{Shape, node_at}
+use Rattle.mt_arena.specs.NodeView.{NodeView, node_at}
 use Rattle.mt_arena.specs.Nodes.{AreNodes, IsUnstable}
 use Rattle.mt_arena.specs.Settled.{IsSettled}
-use Rattle.mt_arena.specs.Evolves.{Evolves, PointsOnly}
+use Rattle.mt_arena.specs.Guarantee.{NodesGuarantee, PointsOnly}
 
 -- what is not deleted was not
 pub alive : (a b : Bool) → (a ≡ true → b ≡ true) → b ≡ false → a ≡ false
@@ -27,14 +27,14 @@ was_none None new stays none = refl
 was_none (Some p) new stays none = absurd (stays (λ e. absurd (cc)) none)
 
 -- as other operations go on, nothing comes to lag behind the node
-pub settled_stays : (op q : ℕ) (old new : List Shape) (were are : List Tree) (i : ℕ) → Evolves op old new were are → PointsOnly op old new → q ≢ op
+pub settled_stays : (op q : ℕ) (old new : List NodeView) (were are : List Tree) (i : ℕ) → NodesGuarantee op old new were are → PointsOnly op old new → q ≢ op
     → i < length old → (node_at old i).holder ≡ Some q
     → IsSettled old i (node_at old i) → IsSettled new i (node_at new i)
-settled_stays op q old new were are i evolves points other within holder settled =
-    let kept = (evolves.nodes i within).held q other holder in
+settled_stays op q old new were are i guarantee points other within holder settled =
+    let kept = (guarantee.nodes i within).held q other holder in
     let not_mine : (node_at new i).holder ≢ Some op = λ e. other (same_Some _ _ (sym (kept.holder ∙ holder) ∙ e)) in
     let live_before : (k : ℕ) → k < length old → (node_at new k).version.deleted ≡ false → (node_at old k).version.deleted ≡ false
-    = λ k lt live. alive _ _ (evolves.nodes k lt).ages.deleted live in
+    = λ k lt live. alive _ _ (guarantee.nodes k lt).ages.deleted live in
     record {
       previous = λ k lt e live. elim (cases_lt k (length old)) [
         | inl was ↦ kept.next ∙ settled.previous k was (points.previous k i was within e not_mine) (live_before k was live)
@@ -61,7 +61,7 @@ settled_stays op q old new were are i evolves points other within holder settled
     }
 
 -- behind a node that nobody holds nothing lags
-pub settled_free : (xs : List Shape) (i : ℕ) → i < length xs → AreNodes xs → (node_at xs i).holder ≡ None → IsSettled xs i (node_at xs i)
+pub settled_free : (xs : List NodeView) (i : ℕ) → i < length xs → AreNodes xs → (node_at xs i).holder ≡ None → IsSettled xs i (node_at xs i)
 settled_free xs i within nodes free =
     let x = node_at xs i in
     let h = nodes.each i within in

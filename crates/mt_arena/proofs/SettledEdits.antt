@@ -3,7 +3,7 @@ use Rattle.std.proofs.Common.{◌≡◌, ◌≢◌, ℕ, ◌+◌, ◌<◌, List,
 use Rattle.std.proofs.lemmas.Bool.{cases_eq}
 use Rattle.std.proofs.lemmas.List.{length-set}
 use Rattle.std.specs.List.{All}
-use Rattle.mt_arena.specs.Shape.{Shape, node_at}
+use Rattle.mt_arena.specs.NodeView.{NodeView, node_at}
 use Rattle.mt_arena.specs.Nodes.{AreNodes, HasChild, IsUnstable}
 use Rattle.mt_arena.specs.Settled.{IsSettled}
 use Rattle.mt_arena.specs.Edits.{locked}
@@ -11,13 +11,13 @@ use Rattle.mt_arena.proofs.Pairs.{here, there, last, before}
 use Rattle.mt_arena.proofs.Settled.{settled_free}
 
 -- another node changes: it comes to name this one only where this one leads to it
-pub settled_beside : (xs : List Shape) (i k : ℕ) (y : Shape) → k < length xs → i ≢ k → IsSettled xs i (node_at xs i)
+pub settled_beside : (xs : List NodeView) (i k : ℕ) (y : NodeView) → k < length xs → i ≢ k → IsSettled xs i (node_at xs i)
     → (y.previous ≡ Some i → y.version.deleted ≡ false → (node_at xs i).next ≡ Some k) → (y.previous ≡ Some i → y.version.deleted ≡ false → (node_at xs i).version.deleted ≡ false) → (y.parent ≡ Some i → y.version.deleted ≡ false → HasChild (node_at xs i) k)
     → IsSettled (set xs k y) i (node_at (set xs k y) i)
 settled_beside xs i k y within differ settled back back_live up =
     let ys = set xs k y in
     let size = length-set xs k y in
-    subst (λ (w : Shape). IsSettled ys i w) (sym (there xs k i y differ)) (record {
+    subst (λ (w : NodeView). IsSettled ys i w) (sym (there xs k i y differ)) (record {
       previous = λ j lt. elim (cases_eq j k) [
         | inl same ↦ rw (same, here xs k y within) back
         | inr other ↦ rw (there xs k j y other) (settled.previous j (omega (arith, lt, size)))
@@ -36,7 +36,7 @@ settled_beside xs i k y within differ settled back back_live up =
     })
 
 -- what a settled node keeps as it changes itself
-pub record KeepsSettled (x y : Shape) : Type 0 where
+pub record KeepsSettled (x y : NodeView) : Type 0 where
   pub next : y.next ≡ x.next
   pub children : y.children ≡ x.children
   pub previous : y.previous ≡ x.previous
@@ -46,7 +46,7 @@ pub record KeepsSettled (x y : Shape) : Type 0 where
   pub high : y.high ≡ x.high
   pub reach : y.reach ≡ x.reach
 
-pub settled_self : (xs : List Shape) (i : ℕ) (y : Shape) → i < length xs → IsSettled xs i (node_at xs i) → KeepsSettled (node_at xs i) y → All (λ e. ¬ IsUnstable e.held) y.slots
+pub settled_self : (xs : List NodeView) (i : ℕ) (y : NodeView) → i < length xs → IsSettled xs i (node_at xs i) → KeepsSettled (node_at xs i) y → All (λ e. ¬ IsUnstable e.held) y.slots
     → IsSettled (set xs i y) i (node_at (set xs i y) i)
 settled_self xs i y within settled keeps stable =
     let ys = set xs i y in
@@ -58,7 +58,7 @@ settled_self xs i y within settled keeps stable =
       in_range = subst (λ cs. c.place < length cs) (sym keeps.children) c.in_range;
       is = ap (λ cs. get_or cs c.place 0) keeps.children ∙ c.is;
     } in
-    subst (λ (w : Shape). IsSettled ys i w) (sym (here xs i y within)) (record {
+    subst (λ (w : NodeView). IsSettled ys i w) (sym (here xs i y within)) (record {
       previous = λ j lt. elim (cases_eq j i) [
         | inl same ↦ rw (same, here xs i y within) (λ e live. keeps.next ∙ settled.previous i within (sym keeps.previous ∙ e) (sym keeps.deleted ∙ live))
         | inr other ↦ rw (there xs i j y other) (λ e live. keeps.next ∙ settled.previous j (omega (arith, lt, size)) e live)
@@ -77,12 +77,12 @@ settled_self xs i y within settled keeps stable =
     })
 
 -- one node more, which names none
-pub settled_push : (xs : List Shape) (i : ℕ) (y : Shape) → i < length xs → IsSettled xs i (node_at xs i) → y.previous ≡ None → y.parent ≡ None
+pub settled_push : (xs : List NodeView) (i : ℕ) (y : NodeView) → i < length xs → IsSettled xs i (node_at xs i) → y.previous ≡ None → y.parent ≡ None
     → IsSettled (xs ++ y ∷ []) i (node_at (xs ++ y ∷ []) i)
 settled_push xs i y within settled no_previous no_parent =
     let ys = xs ++ y ∷ [] in
     let size : length ys ≡ length xs + 1 = length-append xs (y ∷ []) in
-    subst (λ (w : Shape). IsSettled ys i w) (sym (before xs y i within)) (record {
+    subst (λ (w : NodeView). IsSettled ys i w) (sym (before xs y i within)) (record {
       previous = λ j lt. elim (cases_eq j (length xs)) [
         | inl same ↦ rw (same, last xs y) (λ e. absurd (cc))
         | inr other ↦ rw (before xs y j (omega arith)) (settled.previous j (omega arith))
@@ -101,7 +101,7 @@ settled_push xs i y within settled no_previous no_parent =
     })
 
 -- as a lock is taken, nothing lags behind the node
-pub settled_locked : (xs : List Shape) (i op : ℕ) → i < length xs → AreNodes xs → (node_at xs i).holder ≡ None
+pub settled_locked : (xs : List NodeView) (i op : ℕ) → i < length xs → AreNodes xs → (node_at xs i).holder ≡ None
     → IsSettled (set xs i (locked (node_at xs i) op)) i (node_at (set xs i (locked (node_at xs i) op)) i)
 settled_locked xs i op within nodes free =
     let settled = settled_free xs i within nodes free in

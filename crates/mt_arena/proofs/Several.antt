@@ -4,11 +4,11 @@ use Rattle.std.proofs.lemmas.List.{length-set}
 use Rattle.mt_border.specs.declared.entry.Entry.{Entry}
 use Rattle.mt_arena.specs.declared.tree.Tree.{Tree}
 use Rattle.mt_arena.specs.declared.retired.Retired.{Retired}
-use Rattle.mt_arena.specs.Shape.{Shape, node_at}
+use Rattle.mt_arena.specs.NodeView.{NodeView, node_at}
 use Rattle.mt_arena.specs.declared.tree.Standing.TheVariants.{Made}
 use Rattle.mt_arena.specs.Forests.{IsForest, tree_at}
 use Rattle.mt_arena.specs.Layers.{AreLayered}
-use Rattle.mt_arena.specs.Evolves.{Evolves, Changes}
+use Rattle.mt_arena.specs.Guarantee.{NodesGuarantee, Changes}
 use Rattle.mt_arena.specs.Contents.{content}
 use Rattle.mt_arena.specs.Arena.{AreRetired}
 use Rattle.mt_arena.specs.Ways.{HasSlots}
@@ -16,21 +16,21 @@ use Rattle.mt_arena.proofs.Pairs.{there}
 use Rattle.mt_arena.proofs.LinkEdits.{HasLinksOf, same_links, layers_set}
 use Rattle.mt_arena.proofs.Retiring.{retired_set}
 use Rattle.mt_arena.proofs.Homes.{KeepsHome, HasKeysOf, forest_set}
-use Rattle.mt_arena.proofs.Evolving.{evolves_set, evolves_on}
+use Rattle.mt_arena.proofs.Guarantees.{guarantee_set, guarantee_on}
 use Rattle.mt_arena.proofs.ContentQuiet.{stands_unchanged}
 
 -- the node keeps its slots
-abbrev pub KeepsSlots : Shape → Shape → Type 0
+abbrev pub KeepsSlots : NodeView → NodeView → Type 0
 KeepsSlots x y = HasSlots x y x.slots
 
 -- links, the list of the retired, and the contents
-pub record AreKept (old new : List Shape) (trees : List Tree) (gone : List Retired) : Type 0 where
+pub record AreKept (old new : List NodeView) (trees : List Tree) (gone : List Retired) : Type 0 where
   pub count : length new ≡ length old
   pub layers : AreLayered old trees → AreLayered new trees
   pub retired : AreRetired old gone → AreRetired new gone
   pub content : content trees new ≡ content trees old
 
-kept_on : (a b c : List Shape) (trees : List Tree) (gone : List Retired) → AreKept a b trees gone → AreKept b c trees gone → AreKept a c trees gone
+kept_on : (a b c : List NodeView) (trees : List Tree) (gone : List Retired) → AreKept a b trees gone → AreKept b c trees gone → AreKept a c trees gone
 kept_on a b c trees gone one two = record {
   count = two.count ∙ one.count;
   layers = λ h. two.layers (one.layers h);
@@ -38,7 +38,7 @@ kept_on a b c trees gone one two = record {
   content = two.content ∙ one.content;
 }
 
-kept_set : (xs : List Shape) (trees : List Tree) (gone : List Retired) (i : ℕ) (y : Shape) → i < length xs → KeepsSlots (node_at xs i) y → AreKept xs (set xs i y) trees gone
+kept_set : (xs : List NodeView) (trees : List Tree) (gone : List Retired) (i : ℕ) (y : NodeView) → i < length xs → KeepsSlots (node_at xs i) y → AreKept xs (set xs i y) trees gone
 kept_set xs trees gone i y within same = record {
   count = length-set xs i y;
   layers = λ layers. layers_set xs trees i y within layers (record {
@@ -52,15 +52,15 @@ kept_set xs trees gone i y within same = record {
 }
 
 -- beside a node that was changed before
-beside : (xs : List Shape) (i j : ℕ) (y z : Shape) → i ≢ j → KeepsSlots (node_at xs j) z → KeepsSlots (node_at (set xs i y) j) z
-beside xs i j y z differ = subst (λ (n : Shape). KeepsSlots n z) (sym (there xs i j y (λ e. differ (sym e))))
+beside : (xs : List NodeView) (i j : ℕ) (y z : NodeView) → i ≢ j → KeepsSlots (node_at xs j) z → KeepsSlots (node_at (set xs i y) j) z
+beside xs i j y z differ = subst (λ (n : NodeView). KeepsSlots n z) (sym (there xs i j y (λ e. differ (sym e))))
 
-pub kept_set2 : (xs : List Shape) (trees : List Tree) (gone : List Retired) (i j : ℕ) (y z : Shape) → i < length xs → j < length xs → i ≢ j → KeepsSlots (node_at xs i) y → KeepsSlots (node_at xs j) z → AreKept xs (set (set xs i y) j z) trees gone
+pub kept_set2 : (xs : List NodeView) (trees : List Tree) (gone : List Retired) (i j : ℕ) (y z : NodeView) → i < length xs → j < length xs → i ≢ j → KeepsSlots (node_at xs i) y → KeepsSlots (node_at xs j) z → AreKept xs (set (set xs i y) j z) trees gone
 kept_set2 xs trees gone i j y z li lj ij one two =
     kept_on xs (set xs i y) (set (set xs i y) j z) trees gone (kept_set xs trees gone i y li one)
     (kept_set (set xs i y) trees gone j z (omega (arith, lj, length-set xs i y)) (beside xs i j y z ij two))
 
-pub kept_set3 : (xs : List Shape) (trees : List Tree) (gone : List Retired) (i j q : ℕ) (y z w : Shape) → i < length xs → j < length xs → q < length xs → i ≢ j → i ≢ q → j ≢ q → KeepsSlots (node_at xs i) y → KeepsSlots (node_at xs j) z → KeepsSlots (node_at xs q) w
+pub kept_set3 : (xs : List NodeView) (trees : List Tree) (gone : List Retired) (i j q : ℕ) (y z w : NodeView) → i < length xs → j < length xs → q < length xs → i ≢ j → i ≢ q → j ≢ q → KeepsSlots (node_at xs i) y → KeepsSlots (node_at xs j) z → KeepsSlots (node_at xs q) w
     → AreKept xs (set (set (set xs i y) j z) q w) trees gone
 kept_set3 xs trees gone i j q y z w li lj lq ij iq jq one two three =
     let two_set = kept_set2 xs trees gone i j y z li lj ij one two in
@@ -68,37 +68,37 @@ kept_set3 xs trees gone i j q y z w li lj lq ij iq jq one two three =
     (kept_set (set (set xs i y) j z) trees gone q w (omega (arith, lq, two_set.count)) (beside (set xs i y) j q z w jq (beside xs i q y w iq three)))
 
 -- nodes that keep their places among the trees
-pub record KeepsPlace (trees : List Tree) (x y : Shape) : Type 0 where
+pub record KeepsPlace (trees : List Tree) (x y : NodeView) : Type 0 where
   pub home : KeepsHome x y
   pub keys : HasKeysOf trees y
 
-pub forest_set2 : (xs : List Shape) (trees : List Tree) (i j : ℕ) (y z : Shape) → i < length xs → j < length xs → i ≢ j → IsForest xs trees → KeepsPlace trees (node_at xs i) y → KeepsPlace trees (node_at xs j) z → IsForest (set (set xs i y) j z) trees
+pub forest_set2 : (xs : List NodeView) (trees : List Tree) (i j : ℕ) (y z : NodeView) → i < length xs → j < length xs → i ≢ j → IsForest xs trees → KeepsPlace trees (node_at xs i) y → KeepsPlace trees (node_at xs j) z → IsForest (set (set xs i y) j z) trees
 forest_set2 xs trees i j y z li lj ij forest one two =
     forest_set (set xs i y) trees j z (omega (arith, lj, length-set xs i y)) (forest_set xs trees i y li forest one.home one.keys)
-    (subst (λ (n : Shape). KeepsHome n z) (sym (there xs i j y (λ e. ij (sym e)))) two.home) two.keys
+    (subst (λ (n : NodeView). KeepsHome n z) (sym (there xs i j y (λ e. ij (sym e)))) two.home) two.keys
 
-pub forest_set3 : (xs : List Shape) (trees : List Tree) (i j q : ℕ) (y z w : Shape) → i < length xs → j < length xs → q < length xs → i ≢ j → i ≢ q → j ≢ q → IsForest xs trees → KeepsPlace trees (node_at xs i) y → KeepsPlace trees (node_at xs j) z → KeepsPlace trees (node_at xs q) w
+pub forest_set3 : (xs : List NodeView) (trees : List Tree) (i j q : ℕ) (y z w : NodeView) → i < length xs → j < length xs → q < length xs → i ≢ j → i ≢ q → j ≢ q → IsForest xs trees → KeepsPlace trees (node_at xs i) y → KeepsPlace trees (node_at xs j) z → KeepsPlace trees (node_at xs q) w
     → IsForest (set (set (set xs i y) j z) q w) trees
 forest_set3 xs trees i j q y z w li lj lq ij iq jq forest one two three =
     forest_set (set (set xs i y) j z) trees q w (omega (arith, lq, length-set xs i y, length-set (set xs i y) j z)) (forest_set2 xs trees i j y z li lj ij forest one two)
-    (subst (λ (n : Shape). KeepsHome n w) (sym (there (set xs i y) j q z (λ e. jq (sym e)) ∙ there xs i q y (λ e. iq (sym e)))) three.home) three.keys
+    (subst (λ (n : NodeView). KeepsHome n w) (sym (there (set xs i y) j q z (λ e. jq (sym e)) ∙ there xs i q y (λ e. iq (sym e)))) three.home) three.keys
 
 -- nodes of trees that no other operation is making change as an operation may change them
-pub record MayTurn (op : ℕ) (trees : List Tree) (x y : Shape) : Type 0 where
+pub record MayTurn (op : ℕ) (trees : List Tree) (x y : NodeView) : Type 0 where
   pub changes : Changes op x y
   pub mine : (q : ℕ) → (tree_at trees x.tree).standing ≡ Made q → q ≡ op
 
-evolves_beside : (op : ℕ) (xs ys : List Shape) (trees : List Tree) (j : ℕ) (z : Shape) → j < length ys → node_at ys j ≡ node_at xs j → MayTurn op trees (node_at xs j) z → Evolves op ys (set ys j z) trees trees
-evolves_beside op xs ys trees j z lj same may =
-    evolves_set op ys trees j z lj (subst (λ (n : Shape). Changes op n z) (sym same) may.changes) (λ q e. may.mine q (ap (λ (n : Shape). (tree_at trees n.tree).standing) (sym same) ∙ e))
+guarantee_beside : (op : ℕ) (xs ys : List NodeView) (trees : List Tree) (j : ℕ) (z : NodeView) → j < length ys → node_at ys j ≡ node_at xs j → MayTurn op trees (node_at xs j) z → NodesGuarantee op ys (set ys j z) trees trees
+guarantee_beside op xs ys trees j z lj same may =
+    guarantee_set op ys trees j z lj (subst (λ (n : NodeView). Changes op n z) (sym same) may.changes) (λ q e. may.mine q (ap (λ (n : NodeView). (tree_at trees n.tree).standing) (sym same) ∙ e))
 
-pub evolves_set2 : (op : ℕ) (xs : List Shape) (trees : List Tree) (i j : ℕ) (y z : Shape) → i < length xs → j < length xs → i ≢ j → IsForest xs trees → MayTurn op trees (node_at xs i) y → MayTurn op trees (node_at xs j) z → Evolves op xs (set (set xs i y) j z) trees trees
-evolves_set2 op xs trees i j y z li lj ij forest one two =
-    evolves_on op xs (set xs i y) (set (set xs i y) j z) trees trees trees (evolves_set op xs trees i y li one.changes one.mine)
-    (evolves_beside op xs (set xs i y) trees j z (omega (arith, lj, length-set xs i y)) (there xs i j y (λ e. ij (sym e))) two) forest.tree_there
+pub guarantee_set2 : (op : ℕ) (xs : List NodeView) (trees : List Tree) (i j : ℕ) (y z : NodeView) → i < length xs → j < length xs → i ≢ j → IsForest xs trees → MayTurn op trees (node_at xs i) y → MayTurn op trees (node_at xs j) z → NodesGuarantee op xs (set (set xs i y) j z) trees trees
+guarantee_set2 op xs trees i j y z li lj ij forest one two =
+    guarantee_on op xs (set xs i y) (set (set xs i y) j z) trees trees trees (guarantee_set op xs trees i y li one.changes one.mine)
+    (guarantee_beside op xs (set xs i y) trees j z (omega (arith, lj, length-set xs i y)) (there xs i j y (λ e. ij (sym e))) two) forest.tree_there
 
-pub evolves_set3 : (op : ℕ) (xs : List Shape) (trees : List Tree) (i j q : ℕ) (y z w : Shape) → i < length xs → j < length xs → q < length xs → i ≢ j → i ≢ q → j ≢ q → IsForest xs trees → MayTurn op trees (node_at xs i) y → MayTurn op trees (node_at xs j) z → MayTurn op trees (node_at xs q) w
-    → Evolves op xs (set (set (set xs i y) j z) q w) trees trees
-evolves_set3 op xs trees i j q y z w li lj lq ij iq jq forest one two three =
-    evolves_on op xs (set (set xs i y) j z) (set (set (set xs i y) j z) q w) trees trees trees (evolves_set2 op xs trees i j y z li lj ij forest one two)
-    (evolves_beside op xs (set (set xs i y) j z) trees q w (omega (arith, lq, length-set xs i y, length-set (set xs i y) j z)) (there (set xs i y) j q z (λ e. jq (sym e)) ∙ there xs i q y (λ e. iq (sym e))) three) forest.tree_there
+pub guarantee_set3 : (op : ℕ) (xs : List NodeView) (trees : List Tree) (i j q : ℕ) (y z w : NodeView) → i < length xs → j < length xs → q < length xs → i ≢ j → i ≢ q → j ≢ q → IsForest xs trees → MayTurn op trees (node_at xs i) y → MayTurn op trees (node_at xs j) z → MayTurn op trees (node_at xs q) w
+    → NodesGuarantee op xs (set (set (set xs i y) j z) q w) trees trees
+guarantee_set3 op xs trees i j q y z w li lj lq ij iq jq forest one two three =
+    guarantee_on op xs (set (set xs i y) j z) (set (set (set xs i y) j z) q w) trees trees trees (guarantee_set2 op xs trees i j y z li lj ij forest one two)
+    (guarantee_beside op xs (set (set xs i y) j z) trees q w (omega (arith, lq, length-set xs i y, length-set (set xs i y) j z)) (there (set xs i y) j q z (λ e. jq (sym e)) ∙ there xs i q y (λ e. iq (sym e))) three) forest.tree_there

@@ -15,7 +15,7 @@ use Rattle.mt_border.specs.declared.entry.Entry.{Entry}
 use Rattle.mt_border.specs.declared.entry.Pair.{Pair}
 use Rattle.mt_border.specs.declared.entry.Held.{Held}
 use Rattle.mt_border.specs.declared.entry.Held.TheVariants.{Stable, Unstable, Link}
-use Rattle.mt_border.specs.Entry.{IsEntry, IsStable, CanHold, order_of, pair_of}
+use Rattle.mt_border.specs.Entry.{IsEntry, IsStablePair, CanHold, order_of, pair_of}
 use Rattle.mt_border.specs.Entries.{IsBorder, IsMissing, slices, place_in, with_entry, without, replaced}
 use Rattle.mt_border.specs.Contents.{HasKey, owned}
 use Rattle.mt_border.proofs.Edits.{any_entry, place_in-le, All-insert, All-remove, border_with_entry, border_without, border_set, without_at, replaced_at}
@@ -23,13 +23,13 @@ use Rattle.mt_border.proofs.ContentsKeys.{has_rewritten_key}
 use Rattle.mt_border.proofs.ContentsEdits.{keys-publish}
 use Rattle.mt_arena.specs.declared.tree.Tree.{Tree}
 use Rattle.mt_arena.specs.declared.retired.Retired.{Retired}
-use Rattle.mt_arena.specs.Shape.{Shape, node_at}
+use Rattle.mt_arena.specs.NodeView.{NodeView, node_at}
 use Rattle.mt_arena.specs.Nodes.{Holds}
 use Rattle.mt_arena.specs.Layers.{slot_at}
 use Rattle.mt_arena.specs.Forests.{HaveKeys, tree_at, layer_of}
-use Rattle.mt_arena.specs.Evolves.{Changes}
+use Rattle.mt_arena.specs.Guarantee.{Changes}
 use Rattle.mt_arena.specs.Edits.{with_slots}
-use Rattle.mt_arena.specs.Arena.{Sound, View, IsStep}
+use Rattle.mt_arena.specs.Arena.{ArenaInvariant, ArenaView, Guarantee}
 use Rattle.mt_arena.specs.Contents.{content}
 use Rattle.mt_arena.specs.Accesses.{at, tree_of, IsOpen, with_node, with_row, MayPublish, MayChange}
 use Rattle.mt_arena.proofs.Quiet.{nodes_slots}
@@ -41,22 +41,22 @@ use Rattle.mt_arena.proofs.Locks.{not_others, is_held}
 use Rattle.mt_arena.proofs.Steps.{sound_set, keys_of, step_set}
 
 -- slots that lie within the fences, entry by entry
-pub within_each : (n : Shape) (es : List Entry) → ((i : ℕ) → i < length es → Holds n (get_or (slices es) i 0)) → All (λ (e : Entry). Holds n e.slice) es
+pub within_each : (n : NodeView) (es : List Entry) → ((i : ℕ) → i < length es → Holds n (get_or (slices es) i 0)) → All (λ (e : Entry). Holds n e.slice) es
 within_each n es inside k d lt = subst (Holds n) (get_or-map (λ (e : Entry). e.slice) es k d 0 lt) (inside k lt)
 
-pub within_all : (n : Shape) (es : List Entry) → All (λ (e : Entry). Holds n e.slice) es → (i : ℕ) → i < length es → Holds n (get_or (slices es) i 0)
+pub within_all : (n : NodeView) (es : List Entry) → All (λ (e : Entry). Holds n e.slice) es → (i : ℕ) → i < length es → Holds n (get_or (slices es) i 0)
 within_all n es each i lt = subst (Holds n) (sym (get_or-map (λ (e : Entry). e.slice) es i any_entry 0 lt)) (each i any_entry lt)
 
 -- what a change of slots needs
-pub record MayHold (trees : List Tree) (x : Shape) (slots : List Entry) : Type 0 where
+pub record MayHold (trees : List Tree) (x : NodeView) (slots : List Entry) : Type 0 where
   pub border : IsBorder slots
   pub inside : All (λ (e : Entry). Holds x e.slice) slots
   pub keys : HaveKeys (tree_at trees x.tree).prefix slots
   pub forth : HasLinksOf slots x.slots
   pub back : HasLinksOf x.slots slots
 
-pub sound_slots : (xs : List Shape) (trees : List Tree) (gone : List Retired) (room i : ℕ) (slots : List Entry) → i < length xs → Sound xs trees gone room → (node_at xs i).holder ≢ None → (node_at xs i).level ≡ 0
-    → MayHold trees (node_at xs i) slots → Sound (set xs i (with_slots (node_at xs i) slots)) trees gone room
+pub sound_slots : (xs : List NodeView) (trees : List Tree) (gone : List Retired) (room i : ℕ) (slots : List Entry) → i < length xs → ArenaInvariant xs trees gone room → (node_at xs i).holder ≢ None → (node_at xs i).level ≡ 0
+    → MayHold trees (node_at xs i) slots → ArenaInvariant (set xs i (with_slots (node_at xs i) slots)) trees gone room
 sound_slots xs trees gone room i slots within sound held level may =
     let x = node_at xs i in
     sound_set xs trees gone room i (with_slots x slots) within sound (nodes_slots xs i slots within sound.arena.nodes held level may.border (within_all x slots may.inside)) (ranged_turned xs i slots (with_slots x slots).version x.holder within sound.arena.ranged (sound.arena.ranged i within).unmarked)
@@ -64,7 +64,7 @@ sound_slots xs trees gone room i slots within sound held level may =
     may.keys
     record { tree = refl; deleted = refl; forth = may.forth; back = may.back }
 
-pub changes_slots : (op : ℕ) (x : Shape) (slots : List Entry) → x.holder ≡ Some op → Changes op x (with_slots x slots)
+pub changes_slots : (op : ℕ) (x : NodeView) (slots : List Entry) → x.holder ≡ Some op → Changes op x (with_slots x slots)
 changes_slots op x slots mine = record {
   tree = refl;
   level = refl;
@@ -77,18 +77,18 @@ changes_slots op x slots mine = record {
   taken = λ q other e. e;
 }
 
-pub step_slots : (v : View) (i op : ℕ) (slots : List Entry) → i < length v.nodes → (at v i).holder ≡ Some op → IsOpen v i op → IsStep op v (with_node v i (with_slots (at v i) slots))
+pub step_slots : (v : ArenaView) (i op : ℕ) (slots : List Entry) → i < length v.nodes → (at v i).holder ≡ Some op → IsOpen v i op → Guarantee op v (with_node v i (with_slots (at v i) slots))
 step_slots v i op slots within held mine =
     step_set op v i (with_slots (at v i) slots) within (changes_slots op (at v i) slots held) mine record { previous = λ j e not_mine. e; parent = λ j e not_mine. e }
 
 -- a pair is no link
-pub no_link : (held : Held) → IsStable held → (u : ℕ) → held ≢ Link u
+pub no_link : (held : Held) → IsStablePair held → (u : ℕ) → held ≢ Link u
 no_link (Stable pair) stable u e = absurd (cc)
 no_link (Unstable pair tree) stable u e = absurd stable
 no_link (Link tree) stable u e = absurd stable
 
-module _ (xs : List Shape) (trees : List Tree) (gone : List Retired) (room i : ℕ) (within : i < length xs) (sound : Sound xs trees gone room) where
-  abbrev x : Shape
+module _ (xs : List NodeView) (trees : List Tree) (gone : List Retired) (room i : ℕ) (within : i < length xs) (sound : ArenaInvariant xs trees gone room) where
+  abbrev x : NodeView
   x = node_at xs i
 
   abbrev prefix : Bytes
@@ -105,7 +105,7 @@ module _ (xs : List Shape) (trees : List Tree) (gone : List Retired) (room i : �
   was_keys = keys_of xs trees i within sound.arena.forest
 
   -- one key more
-  pub may_publish : (e : Entry) (key : Bytes) → length x.slots < 15 → IsEntry e → IsMissing x.slots e.slice e.mark → Holds x e.slice → IsStable e.held → HasKey prefix (layer_of prefix) e key → e.mark ≢ Short 0
+  pub may_publish : (e : Entry) (key : Bytes) → length x.slots < 15 → IsEntry e → IsMissing x.slots e.slice e.mark → Holds x e.slice → IsStablePair e.held → HasKey prefix (layer_of prefix) e key → e.mark ≢ Short 0
       → MayHold trees x (with_entry x.slots e)
   may_publish e key few entry missing inside stable has begun =
       let at = place_in x.slots (order_of e) in
@@ -122,7 +122,7 @@ module _ (xs : List Shape) (trees : List Tree) (gone : List Retired) (room i : �
       }
 
   -- one key less, which is no link
-  pub may_drop : (slot : ℕ) → slot < length x.slots → IsStable (get_or x.slots slot any_entry).held → MayHold trees x (without x.slots (get_or x.slots slot any_entry))
+  pub may_drop : (slot : ℕ) → slot < length x.slots → IsStablePair (get_or x.slots slot any_entry).held → MayHold trees x (without x.slots (get_or x.slots slot any_entry))
   may_drop slot inside stable =
       let e = get_or x.slots slot any_entry in
       let at : without x.slots e ≡ remove x.slots slot = without_at x.slots slot e was_border.rising inside (get_or_default x.slots slot any_entry e inside) in
@@ -170,11 +170,11 @@ begun_mark key layer some = by_length (length (rest_of key layer)) (omega (arith
         by false e = absurd (cc)
 
 -- what the calls of an arena make of it: all that holds, and the contents
-module _ (v : View) (room k op : ℕ) (key : Bytes) (sound : Sound v.nodes v.trees v.retired room) where
-  abbrev n : Shape
+module _ (v : ArenaView) (room k op : ℕ) (key : Bytes) (sound : ArenaInvariant v.nodes v.trees v.retired room) where
+  abbrev n : NodeView
   n = at v k
 
-  pub sound_published : (e : Entry) → MayPublish v k op key e → Sound (set v.nodes k (with_slots n (with_entry n.slots e))) v.trees v.retired room
+  pub sound_published : (e : Entry) → MayPublish v k op key e → ArenaInvariant (set v.nodes k (with_slots n (with_entry n.slots e))) v.trees v.retired room
   sound_published e may =
       sound_slots v.nodes v.trees v.retired room k (with_entry n.slots e) may.held.there sound (is_held op n may.held.holder) may.belongs.border.level
       (may_publish v.nodes v.trees v.retired room k may.held.there sound e key may.room may.entry may.missing (subst (Holds n) (sym may.has.slice) may.belongs.holds) may.stable may.has
@@ -190,10 +190,10 @@ module _ (v : View) (room k op : ℕ) (key : Bytes) (sound : Sound v.nodes v.tre
     abbrev was : Entry
     was = slot_at n i
 
-    is_stable : IsStable was.held
-    is_stable = subst IsStable (sym may.stable) tt
+    is_stable : IsStablePair was.held
+    is_stable = subst IsStablePair (sym may.stable) tt
 
-    pub sound_stored : (row : Columns) (stamp : ℕ) → Sound (set v.nodes k (with_slots n (replaced n.slots (with_row was pair row stamp)))) v.trees v.retired room
+    pub sound_stored : (row : Columns) (stamp : ℕ) → ArenaInvariant (set v.nodes k (with_slots n (replaced n.slots (with_row was pair row stamp)))) v.trees v.retired room
     sound_stored row stamp =
         sound_slots v.nodes v.trees v.retired room k (replaced n.slots (with_row was pair row stamp)) may.held.there sound (is_held op n may.held.holder) may.level
         (may_store v.nodes v.trees v.retired room k may.held.there sound i pair row stamp may.stands.in_range may.stable)
@@ -203,7 +203,7 @@ module _ (v : View) (room k op : ℕ) (key : Bytes) (sound : Sound v.nodes v.tre
         stored v.nodes v.trees sound.arena (begun v.nodes v.trees sound.arena.forest) key (layer_of (tree_of v k).prefix) k i pair may.stands (with_slots n (replaced n.slots (with_row was pair row stamp))) row stamp
         record { slots = replaced_at n.slots i (with_row was pair row stamp) any_entry (sound.arena.nodes.each k may.held.there).border.rising may.stands.in_range refl; deleted = refl; tree = refl }
 
-    pub sound_dropped : Sound (set v.nodes k (with_slots n (without n.slots was))) v.trees v.retired room
+    pub sound_dropped : ArenaInvariant (set v.nodes k (with_slots n (without n.slots was))) v.trees v.retired room
     sound_dropped =
         sound_slots v.nodes v.trees v.retired room k (without n.slots was) may.held.there sound (is_held op n may.held.holder) may.level
         (may_drop v.nodes v.trees v.retired room k may.held.there sound i may.stands.in_range is_stable)

@@ -10,11 +10,11 @@ use Rattle.mt_border.proofs.Edits.{any_entry}
 use Rattle.mt_arena.specs.declared.tree.Tree.{Tree}
 use Rattle.mt_arena.specs.declared.tree.Standing.TheVariants.{Made}
 use Rattle.mt_arena.specs.declared.retired.Retired.{Retired}
-use Rattle.mt_arena.specs.Shape.{Shape, node_at}
+use Rattle.mt_arena.specs.NodeView.{NodeView, node_at}
 use Rattle.mt_arena.specs.Forests.{IsForest, tree_at, HaveKeys}
 use Rattle.mt_arena.specs.Layers.{AreLayered, AreLinks, HasLink, slot_at}
-use Rattle.mt_arena.specs.Evolves.{Evolves, Changes}
-use Rattle.mt_arena.specs.Arena.{Sound}
+use Rattle.mt_arena.specs.Guarantee.{NodesGuarantee, Changes}
+use Rattle.mt_arena.specs.Arena.{ArenaInvariant}
 use Rattle.mt_arena.specs.Splits.{Splits, left_half, right_half}
 use Rattle.mt_arena.proofs.Pairs.{here, there}
 use Rattle.mt_arena.proofs.Homes.{KeepsHome, forest_set}
@@ -22,27 +22,27 @@ use Rattle.mt_arena.proofs.LinkEdits.{HasSlot, HasLinksOf}
 use Rattle.mt_arena.proofs.Retiring.{retired_set}
 use Rattle.mt_arena.proofs.Ranged.{ranged_split_move}
 use Rattle.mt_arena.proofs.Move.{nodes_split_move}
-use Rattle.mt_arena.proofs.Evolving.{evolves_set, evolves_on}
+use Rattle.mt_arena.proofs.Guarantees.{guarantee_set, guarantee_on}
 use Rattle.mt_arena.proofs.HeldChanges.{changes_left_half, changes_right_half}
 
-module _ (xs : List Shape) (trees : List Tree) (i j : ℕ) (kept moved : List Entry) (li : i < length xs) (lj : j < length xs) (differ : i ≢ j)
+module _ (xs : List NodeView) (trees : List Tree) (i j : ℕ) (kept moved : List Entry) (li : i < length xs) (lj : j < length xs) (differ : i ≢ j)
     (s : Splits (node_at xs i) (node_at xs j) kept moved) where
-  abbrev x : Shape
+  abbrev x : NodeView
   x = node_at xs i
 
-  abbrev r : Shape
+  abbrev r : NodeView
   r = node_at xs j
 
-  abbrev y : Shape
+  abbrev y : NodeView
   y = left_half x kept r.low j
 
-  abbrev z : Shape
+  abbrev z : NodeView
   z = right_half x r moved i
 
-  abbrev ys : List Shape
+  abbrev ys : List NodeView
   ys = set xs i y
 
-  abbrev zs : List Shape
+  abbrev zs : List NodeView
   zs = set ys j z
 
   size : length zs ≡ length xs
@@ -67,7 +67,7 @@ module _ (xs : List Shape) (trees : List Tree) (i j : ℕ) (kept moved : List En
   forest_split forest left right no_root =
       let one = forest_set xs trees i y li forest (record { tree = refl; deleted = refl; flag = refl; root = λ h. record { live = h.live; flag = h.flag; parentless = h.parentless; low = h.low; reach = h.reach } }) left in
       forest_set ys trees j z ljy one
-      (subst (λ (n : Shape). KeepsHome n z) (sym old_j) (record { tree = refl; deleted = refl; flag = refl; root = λ h. absurd (let e = h.flag in cc) })) right
+      (subst (λ (n : NodeView). KeepsHome n z) (sym old_j) (record { tree = refl; deleted = refl; flag = refl; root = λ h. absurd (let e = h.flag in cc) })) right
 
   layers_split : AreLayered xs trees → r.slots ≡ [] → HasLinksOf x.slots kept → HasLinksOf x.slots moved
       → ((a u : ℕ) → a < length x.slots → (get_or x.slots a any_entry).held ≡ Link u → HasSlot kept u (get_or x.slots a any_entry).slice ⊎ HasSlot moved u (get_or x.slots a any_entry).slice)
@@ -107,17 +107,17 @@ module _ (xs : List Shape) (trees : List Tree) (i j : ℕ) (kept moved : List En
             node = i;
             slot = new.slot;
             there = omega (arith, li, size);
-            live = ap (λ (n : Shape). n.version.deleted) at_i ∙ s.live;
-            in_range = subst (λ (n : Shape). new.slot < length n.slots) (sym at_i) new.in_range;
-            is = ap (λ (n : Shape). (slot_at n new.slot).held) at_i ∙ new.is;
+            live = ap (λ (n : NodeView). n.version.deleted) at_i ∙ s.live;
+            in_range = subst (λ (n : NodeView). new.slot < length n.slots) (sym at_i) new.in_range;
+            is = ap (λ (n : NodeView). (slot_at n new.slot).held) at_i ∙ new.is;
           }
           | inr new ↦ record {
             node = j;
             slot = new.slot;
             there = omega (arith, lj, size);
-            live = ap (λ (n : Shape). n.version.deleted) at_j ∙ s.right_live;
-            in_range = subst (λ (n : Shape). new.slot < length n.slots) (sym at_j) new.in_range;
-            is = ap (λ (n : Shape). (slot_at n new.slot).held) at_j ∙ new.is;
+            live = ap (λ (n : NodeView). n.version.deleted) at_j ∙ s.right_live;
+            in_range = subst (λ (n : NodeView). new.slot < length n.slots) (sym at_j) new.in_range;
+            is = ap (λ (n : NodeView). (slot_at n new.slot).held) at_j ∙ new.is;
           }
         ]
         | inr ni ↦ elim (cases_eq h.node j) [
@@ -128,16 +128,16 @@ module _ (xs : List Shape) (trees : List Tree) (i j : ℕ) (kept moved : List En
                 node = h.node;
                 slot = h.slot;
                 there = omega (arith, size, h.there);
-                live = ap (λ (n : Shape). n.version.deleted) same ∙ h.live;
-                in_range = subst (λ (n : Shape). h.slot < length n.slots) (sym same) h.in_range;
-                is = ap (λ (n : Shape). (slot_at n h.slot).held) same ∙ h.is;
+                live = ap (λ (n : NodeView). n.version.deleted) same ∙ h.live;
+                in_range = subst (λ (n : NodeView). h.slot < length n.slots) (sym same) h.in_range;
+                is = ap (λ (n : NodeView). (slot_at n h.slot).held) same ∙ h.is;
               }
         ]
       ]
 
-  pub sound_split : (gone : List Retired) (room : ℕ) → Sound xs trees gone room → r.slots ≡ [] → r.version.root ≡ false → HaveKeys (tree_at trees x.tree).prefix kept → HaveKeys (tree_at trees r.tree).prefix moved → HasLinksOf x.slots kept → HasLinksOf x.slots moved
+  pub sound_split : (gone : List Retired) (room : ℕ) → ArenaInvariant xs trees gone room → r.slots ≡ [] → r.version.root ≡ false → HaveKeys (tree_at trees x.tree).prefix kept → HaveKeys (tree_at trees r.tree).prefix moved → HasLinksOf x.slots kept → HasLinksOf x.slots moved
       → ((a u : ℕ) → a < length x.slots → (get_or x.slots a any_entry).held ≡ Link u → HasSlot kept u (get_or x.slots a any_entry).slice ⊎ HasSlot moved u (get_or x.slots a any_entry).slice)
-      → Sound zs trees gone room
+      → ArenaInvariant zs trees gone room
   sound_split gone room sound empty no_root left right back_kept back_moved forth = record {
     arena = record {
       nodes = nodes_split_move xs i j kept moved li lj differ sound.arena.nodes s;
@@ -145,14 +145,14 @@ module _ (xs : List Shape) (trees : List Tree) (i j : ℕ) (kept moved : List En
       forest = forest_split sound.arena.forest left right no_root;
       layers = layers_split sound.arena.layers empty back_kept back_moved forth;
     };
-    retired = retired_set ys gone j z ljy (retired_set xs gone i y li sound.retired refl) (ap (λ (n : Shape). n.version.deleted) (sym old_j));
+    retired = retired_set ys gone j z ljy (retired_set xs gone i y li sound.retired refl) (ap (λ (n : NodeView). n.version.deleted) (sym old_j));
     enough = omega (arith, size, sound.enough);
   }
 
-  pub evolves_split : (op : ℕ) → x.holder ≡ Some op → r.holder ≡ Some op → IsForest xs trees → ((q : ℕ) → (tree_at trees x.tree).standing ≡ Made q → q ≡ op) → Evolves op xs zs trees trees
-  evolves_split op held also forest mine =
-      evolves_on op xs ys zs trees trees trees
-      (evolves_set op xs trees i y li (changes_left_half op x kept r.low j held s.marked) mine)
-      (evolves_set op ys trees j z ljy (subst (λ (n : Shape). Changes op n z) (sym old_j) (changes_right_half op x r moved i also s.right_marked))
-      (λ q e. mine q (ap (λ t. (tree_at trees t).standing) (sym s.right_tree) ∙ ap (λ (n : Shape). (tree_at trees n.tree).standing) (sym old_j) ∙ e)))
+  pub guarantee_split : (op : ℕ) → x.holder ≡ Some op → r.holder ≡ Some op → IsForest xs trees → ((q : ℕ) → (tree_at trees x.tree).standing ≡ Made q → q ≡ op) → NodesGuarantee op xs zs trees trees
+  guarantee_split op held also forest mine =
+      guarantee_on op xs ys zs trees trees trees
+      (guarantee_set op xs trees i y li (changes_left_half op x kept r.low j held s.marked) mine)
+      (guarantee_set op ys trees j z ljy (subst (λ (n : NodeView). Changes op n z) (sym old_j) (changes_right_half op x r moved i also s.right_marked))
+      (λ q e. mine q (ap (λ t. (tree_at trees t).standing) (sym s.right_tree) ∙ ap (λ (n : NodeView). (tree_at trees n.tree).standing) (sym old_j) ∙ e)))
       forest.tree_there

@@ -1,17 +1,17 @@
 -- An arena with an empty top tree.
 use Rattle.std.proofs.Common.{◌≢◌, ℕ, zero, suc, ◌<◌, ◌≤◌, List, [], ◌∷◌, refl, arith}
 use Rattle.mt_arena.specs.declared.tree.Tree.{Tree}
-use Rattle.mt_arena.specs.Shape.{Shape, node_at}
+use Rattle.mt_arena.specs.NodeView.{NodeView, node_at}
 use Rattle.mt_arena.specs.Forests.{IsForest, IsHome, IsTree, tree_at}
 use Rattle.mt_arena.specs.Layers.{AreLinks}
 use Rattle.mt_arena.specs.Edits.{fresh_root}
-use Rattle.mt_arena.specs.Arena.{Sound}
+use Rattle.mt_arena.specs.Arena.{ArenaInvariant}
 use Rattle.mt_arena.specs.Accesses.{top_tree}
 use Rattle.mt_arena.proofs.Ranged.{ranged_root}
 use Rattle.mt_arena.proofs.Push.{nodes_root}
 
 -- what there is at first
-abbrev first_nodes : List Shape
+abbrev first_nodes : List NodeView
 first_nodes = fresh_root 0 ∷ []
 
 abbrev first_trees : List Tree
@@ -45,7 +45,7 @@ first_forest = record {
     at zero lt = record { root_there = omega arith; whole = refl }
     at (suc t) lt = absurd (omega arith)
 
-pub sound_first : (room : ℕ) → 1 ≤ room → Sound first_nodes first_trees [] room
+pub sound_first : (room : ℕ) → 1 ≤ room → ArenaInvariant first_nodes first_trees [] room
 sound_first room enough = record {
   arena = record {
     nodes = nodes_root [] 0 record { each = λ k lt. absurd (omega arith); pairs = λ k j lt. absurd (omega arith) } (λ k lt. absurd (omega arith));

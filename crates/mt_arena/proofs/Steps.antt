@@ -3,21 +3,21 @@ use Rattle.std.proofs.Common.{ℕ, ◌<◌, List, length, set, refl, arith}
 use Rattle.std.proofs.lemmas.List.{length-set}
 use Rattle.mt_arena.specs.declared.tree.Tree.{Tree}
 use Rattle.mt_arena.specs.declared.retired.Retired.{Retired}
-use Rattle.mt_arena.specs.Shape.{Shape, node_at}
+use Rattle.mt_arena.specs.NodeView.{NodeView, node_at}
 use Rattle.mt_arena.specs.Nodes.{AreNodes}
 use Rattle.mt_arena.specs.Ranges.{AreRanged}
 use Rattle.mt_arena.specs.Forests.{IsForest}
-use Rattle.mt_arena.specs.Evolves.{Changes}
-use Rattle.mt_arena.specs.Arena.{Sound, View, IsStep}
+use Rattle.mt_arena.specs.Guarantee.{Changes}
+use Rattle.mt_arena.specs.Arena.{ArenaInvariant, ArenaView, Guarantee}
 use Rattle.mt_arena.specs.Accesses.{at, IsOpen, with_node}
 use Rattle.mt_arena.proofs.Homes.{KeepsHome, HasKeysOf, forest_set}
 use Rattle.mt_arena.proofs.LinkEdits.{KeepsLinks, layers_set}
 use Rattle.mt_arena.proofs.Retiring.{retired_set}
-use Rattle.mt_arena.proofs.Evolving.{evolves_set, points_set, PointsSo}
+use Rattle.mt_arena.proofs.Guarantees.{guarantee_set, points_set, PointsSo}
 
 -- a node changes and keeps its place among nodes, trees and links
-pub sound_set : (xs : List Shape) (trees : List Tree) (gone : List Retired) (room i : ℕ) (y : Shape) → i < length xs → Sound xs trees gone room → AreNodes (set xs i y) → AreRanged (set xs i y)
-    → KeepsHome (node_at xs i) y → HasKeysOf trees y → KeepsLinks (node_at xs i) y → Sound (set xs i y) trees gone room
+pub sound_set : (xs : List NodeView) (trees : List Tree) (gone : List Retired) (room i : ℕ) (y : NodeView) → i < length xs → ArenaInvariant xs trees gone room → AreNodes (set xs i y) → AreRanged (set xs i y)
+    → KeepsHome (node_at xs i) y → HasKeysOf trees y → KeepsLinks (node_at xs i) y → ArenaInvariant (set xs i y) trees gone room
 sound_set xs trees gone room i y within sound nodes ranged home keys links = record {
   arena = record {
     nodes = nodes;
@@ -30,12 +30,12 @@ sound_set xs trees gone room i y within sound nodes ranged home keys links = rec
 }
 
 -- the keys of a node are those of its tree
-pub keys_of : (xs : List Shape) (trees : List Tree) (k : ℕ) → k < length xs → IsForest xs trees → HasKeysOf trees (node_at xs k)
+pub keys_of : (xs : List NodeView) (trees : List Tree) (k : ℕ) → k < length xs → IsForest xs trees → HasKeysOf trees (node_at xs k)
 keys_of xs trees k within forest = (forest.homes k (node_at xs k).tree within (forest.tree_there k within)).keys refl
 
 -- one node changes: what others rely on
-pub step_set : (op : ℕ) (v : View) (i : ℕ) (y : Shape) → i < length v.nodes → Changes op (at v i) y → IsOpen v i op → PointsSo op (set v.nodes i y) (at v i) y → IsStep op v (with_node v i y)
+pub step_set : (op : ℕ) (v : ArenaView) (i : ℕ) (y : NodeView) → i < length v.nodes → Changes op (at v i) y → IsOpen v i op → PointsSo op (set v.nodes i y) (at v i) y → Guarantee op v (with_node v i y)
 step_set op v i y within changes mine points = record {
-  evolves = evolves_set op v.nodes v.trees i y within changes mine;
+  nodes = guarantee_set op v.nodes v.trees i y within changes mine;
   points = points_set op v.nodes i y within points;
 }

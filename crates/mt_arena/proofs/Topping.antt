@@ -7,13 +7,13 @@ use Rattle.mt_slices.specs.Slices.{piece_bytes}
 use Rattle.mt_slices.specs.declared.mark.Mark.TheVariants.{Long}
 use Rattle.mt_rows.specs.Rows.{Bytes}
 use Rattle.mt_arena.specs.declared.tree.Tree.{Tree}
-use Rattle.mt_arena.specs.Shape.{Shape, node_at}
+use Rattle.mt_arena.specs.NodeView.{NodeView, node_at}
 use Rattle.mt_arena.specs.Forests.{tree_at, no_tree}
 use Rattle.mt_arena.specs.Layers.{AreLayered, slot_at}
 use Rattle.mt_arena.specs.Contents.{content}
-use Rattle.mt_arena.specs.Evolves.{Evolves, Changes, TreeChanges}
+use Rattle.mt_arena.specs.Guarantee.{NodesGuarantee, Changes, TreeChanges}
 use Rattle.mt_arena.specs.Settled.{IsSettled}
-use Rattle.mt_arena.specs.Arena.{Sound, View, IsStep}
+use Rattle.mt_arena.specs.Arena.{ArenaInvariant, ArenaView, Guarantee}
 use Rattle.mt_arena.specs.Accesses.{at, tree_of}
 use Rattle.mt_arena.specs.Growth.{fresh_top, left_below, right_below}
 use Rattle.mt_arena.specs.Several.{MayGrow, with_root}
@@ -23,7 +23,7 @@ use Rattle.mt_arena.proofs.Ranged.{ranged_root_grow}
 use Rattle.mt_arena.proofs.GrowStep.{forest_grown, same_prefix, same_standing}
 use Rattle.mt_arena.proofs.Growing.{layers_push}
 use Rattle.mt_arena.proofs.Retiring.{retired_push}
-use Rattle.mt_arena.proofs.Evolving.{changes_none, evolves_set, evolves_push, evolves_on, tree_changes_none, PointsSo}
+use Rattle.mt_arena.proofs.Guarantees.{changes_none, guarantee_set, guarantee_push, guarantee_on, tree_changes_none, PointsSo}
 use Rattle.mt_arena.proofs.HeldChanges.{changes_left_below, changes_right_below}
 use Rattle.mt_arena.proofs.Naming.{names_same, points_more, each_set2}
 use Rattle.mt_arena.proofs.Several.{AreKept, kept_set2}
@@ -34,7 +34,7 @@ pub read_tree : (trees : List Tree) (t : ℕ) (tree : Tree) → t < length trees
 read_tree trees t tree within is = is ∙ get_or_default trees t tree no_tree within
 
 -- links, where the records of trees keep prefix and standing
-layers_trees : (xs : List Shape) (were are : List Tree) → length are ≡ length were → ((u : ℕ) → (tree_at are u).prefix ≡ (tree_at were u).prefix) → ((u : ℕ) → (tree_at are u).standing ≡ (tree_at were u).standing) → AreLayered xs were → AreLayered xs are
+layers_trees : (xs : List NodeView) (were are : List Tree) → length are ≡ length were → ((u : ℕ) → (tree_at are u).prefix ≡ (tree_at were u).prefix) → ((u : ℕ) → (tree_at are u).standing ≡ (tree_at were u).standing) → AreLayered xs were → AreLayered xs are
 layers_trees xs were are count prefix standing layers = record {
   links = λ k lt live a u lt_a is.
       let leads = layers.links k lt live a u lt_a is in
@@ -49,8 +49,8 @@ layers_trees xs were are count prefix standing layers = record {
 }
 
 -- one tree's record changes
-evolves_record : (op : ℕ) (nodes : List Shape) (trees : List Tree) (t : ℕ) (tree : Tree) → t < length trees → TreeChanges op (tree_at trees t) tree → Evolves op nodes nodes trees (set trees t tree)
-evolves_record op nodes trees t tree within change = record {
+guarantee_record : (op : ℕ) (nodes : List NodeView) (trees : List Tree) (t : ℕ) (tree : Tree) → t < length trees → TreeChanges op (tree_at trees t) tree → NodesGuarantee op nodes nodes trees (set trees t tree)
+guarantee_record op nodes trees t tree within change = record {
   count = omega arith;
   tree_count = omega (arith, length-set trees t tree);
   nodes = λ k lt. changes_none op (node_at nodes k);
@@ -63,26 +63,26 @@ evolves_record op nodes trees t tree within change = record {
   taken_new = λ k q from lt. absurd (omega (arith, from, lt));
 }
 
-module _ (v : View) (room more left right op : ℕ) (sound : Sound v.nodes v.trees v.retired room) (may : MayGrow v left right op) where
-  abbrev xs : List Shape
+module _ (v : ArenaView) (room more left right op : ℕ) (sound : ArenaInvariant v.nodes v.trees v.retired room) (may : MayGrow v left right op) where
+  abbrev xs : List NodeView
   xs = v.nodes
 
-  abbrev l : Shape
+  abbrev l : NodeView
   l = at v left
 
-  abbrev r : Shape
+  abbrev r : NodeView
   r = at v right
 
-  abbrev y : Shape
+  abbrev y : NodeView
   y = left_below l (length xs)
 
-  abbrev z : Shape
+  abbrev z : NodeView
   z = right_below r (length xs)
 
-  abbrev g : Shape
+  abbrev g : NodeView
   g = fresh_top l left r.low right op
 
-  abbrev ws : List Shape
+  abbrev ws : List NodeView
   ws = set (set xs left y) right z
 
   abbrev grown : Tree
@@ -103,7 +103,7 @@ module _ (v : View) (room more left right op : ℕ) (sound : Sound v.nodes v.tre
   lt_t : l.tree < length v.trees
   lt_t = sound.arena.forest.tree_there left li
 
-  pub sound_grown : length xs + 1 ≤ more → Sound (ws ++ g ∷ []) ts v.retired more
+  pub sound_grown : length xs + 1 ≤ more → ArenaInvariant (ws ++ g ∷ []) ts v.retired more
   sound_grown enough =
       let forest = sound.arena.forest in
       record {
@@ -130,41 +130,41 @@ module _ (v : View) (room more left right op : ℕ) (sound : Sound v.nodes v.tre
     live = λ e q f. absurd (let both = sym e ∙ f in cc);
   }
 
-  evolves_grown : Evolves op xs (ws ++ g ∷ []) v.trees ts
-  evolves_grown =
+  guarantee_grown : NodesGuarantee op xs (ws ++ g ∷ []) v.trees ts
+  guarantee_grown =
       let inside = sound.arena.forest.tree_there in
-      evolves_on op xs (ws ++ g ∷ []) (ws ++ g ∷ []) v.trees v.trees ts
-      (evolves_on op xs ws (ws ++ g ∷ []) v.trees v.trees v.trees
-      (evolves_on op xs (set xs left y) ws v.trees v.trees v.trees
-      (evolves_set op xs v.trees left y li (changes_left_below op l (length xs) may.held.holder may.marked) may.mine)
-      (evolves_set op (set xs left y) v.trees right z (omega (arith, lj, length-set xs left y)) (subst (λ (n : Shape). Changes op n z) (sym old_right) (changes_right_below op r (length xs) may.right_held.holder may.right_marked))
-      (λ q e. may.mine q (ap (λ t. (tree_at v.trees t).standing) (sym may.grows.right_tree) ∙ ap (λ (n : Shape). (tree_at v.trees n.tree).standing) (sym old_right) ∙ e)))
+      guarantee_on op xs (ws ++ g ∷ []) (ws ++ g ∷ []) v.trees v.trees ts
+      (guarantee_on op xs ws (ws ++ g ∷ []) v.trees v.trees v.trees
+      (guarantee_on op xs (set xs left y) ws v.trees v.trees v.trees
+      (guarantee_set op xs v.trees left y li (changes_left_below op l (length xs) may.held.holder may.marked) may.mine)
+      (guarantee_set op (set xs left y) v.trees right z (omega (arith, lj, length-set xs left y)) (subst (λ (n : NodeView). Changes op n z) (sym old_right) (changes_right_below op r (length xs) may.right_held.holder may.right_marked))
+      (λ q e. may.mine q (ap (λ t. (tree_at v.trees t).standing) (sym may.grows.right_tree) ∙ ap (λ (n : NodeView). (tree_at v.trees n.tree).standing) (sym old_right) ∙ e)))
       inside)
-      (evolves_push op ws v.trees g may.mine (λ q other e. other (same_Some q op (sym e))))
+      (guarantee_push op ws v.trees g may.mine (λ q other e. other (same_Some q op (sym e))))
       inside)
-      (evolves_record op (ws ++ g ∷ []) v.trees l.tree grown lt_t record_changes)
+      (guarantee_record op (ws ++ g ∷ []) v.trees l.tree grown lt_t record_changes)
       inside
 
   top_is : node_at (ws ++ g ∷ []) (length xs) ≡ g
   top_is = ap (node_at (ws ++ g ∷ [])) (sym kept.count) ∙ last ws g
 
   top_holder : (node_at (ws ++ g ∷ []) (length xs)).holder ≡ Some op
-  top_holder = ap (λ (n : Shape). n.holder) top_is
+  top_holder = ap (λ (n : NodeView). n.holder) top_is
 
   -- nothing lags behind the new root
   pub settled_grown : IsSettled (ws ++ g ∷ []) (length xs) (node_at (ws ++ g ∷ []) (length xs))
-  settled_grown = subst (λ (n : Shape). IsSettled (ws ++ g ∷ []) (length xs) n) (sym top_is) (settled_root_grow xs left right op sound.arena.nodes sound.arena.ranged may.grows)
+  settled_grown = subst (λ (n : NodeView). IsSettled (ws ++ g ∷ []) (length xs) n) (sym top_is) (settled_root_grow xs left right op sound.arena.nodes sound.arena.ranged may.grows)
 
   -- a half names the new root, which the operation holds
-  names_top : (x y : Shape) → y.previous ≡ x.previous → y.parent ≡ Some (length xs) → PointsSo op (ws ++ g ∷ []) x y
+  names_top : (x y : NodeView) → y.previous ≡ x.previous → y.parent ≡ Some (length xs) → PointsSo op (ws ++ g ∷ []) x y
   names_top x y same up = record {
     previous = λ j e not_mine. sym same ∙ e;
     parent = λ j e not_mine. absurd (not_mine (ap (λ k. (node_at (ws ++ g ∷ []) k).holder) (same_Some _ _ (sym e ∙ up)) ∙ top_holder));
   }
 
-  pub step_grown : IsStep op v (with_root v left right op)
+  pub step_grown : Guarantee op v (with_root v left right op)
   step_grown = record {
-    evolves = evolves_grown;
+    nodes = guarantee_grown;
     points = points_more op xs ws g kept.count refl refl (each_set2 (λ k n. PointsSo op (ws ++ g ∷ []) (at v k) n) xs left right y z li lj may.grows.differ
         (names_top l y refl refl) (names_top r z refl refl) (λ k lt ni nj. names_same op (ws ++ g ∷ []) (at v k) (at v k) refl refl));
   }

@@ -4,7 +4,7 @@ use Rattle.std.proofs.lemmas.Bool.{cases_eq}
 use Rattle.mt_rows.specs.Rows.{Bytes}
 use Rattle.mt_arena.specs.declared.tree.Tree.{Tree}
 use Rattle.mt_arena.specs.declared.tree.Standing.TheVariants.{Made}
-use Rattle.mt_arena.specs.Shape.{Shape, node_at}
+use Rattle.mt_arena.specs.NodeView.{NodeView, node_at}
 use Rattle.mt_arena.specs.Forests.{IsForest, IsHome, tree_at, layer_of}
 use Rattle.mt_arena.specs.Edits.{fresh_root}
 use Rattle.mt_arena.proofs.Pairs.{last, before}
@@ -24,7 +24,7 @@ abbrev pub made : Bytes → ℕ → ℕ → Tree
 made prefix root op = record { prefix = prefix; root = root; standing = Made op }
 
 -- the new root and a tree that was there
-old_home : (xs : List Shape) (trees : List Tree) (t : ℕ) → IsForest xs trees → t < length trees → IsHome (length xs) (fresh_root (length trees)) t (tree_at trees t)
+old_home : (xs : List NodeView) (trees : List Tree) (t : ℕ) → IsForest xs trees → t < length trees → IsHome (length xs) (fresh_root (length trees)) t (tree_at trees t)
 old_home xs trees t forest lt = record {
   root_tree = λ e standing. absurd (omega (arith, e, (forest.each t lt).root_there));
   root_is = λ e standing. absurd (omega (arith, e, (forest.each t lt).root_there));
@@ -34,7 +34,7 @@ old_home xs trees t forest lt = record {
 }
 
 -- a node that was there and the new tree
-other_home : (xs : List Shape) (trees : List Tree) (k op : ℕ) (prefix : Bytes) → IsForest xs trees → k < length xs → IsHome k (node_at xs k) (length trees) (made prefix (length xs) op)
+other_home : (xs : List NodeView) (trees : List Tree) (k op : ℕ) (prefix : Bytes) → IsForest xs trees → k < length xs → IsHome k (node_at xs k) (length trees) (made prefix (length xs) op)
 other_home xs trees k op prefix forest lt = record {
   root_tree = λ e standing. absurd (omega (arith, e));
   root_is = λ e standing. absurd (omega (arith, e));
@@ -53,7 +53,7 @@ new_home k t op prefix = record {
   keys = λ e. record { keys = λ k d inside. absurd (omega arith); begun = λ k d inside. absurd (omega arith) };
 }
 
-pub forest_tree : (xs : List Shape) (trees : List Tree) (prefix : Bytes) (op : ℕ) → IsForest xs trees → 8 * layer_of prefix ≡ length prefix
+pub forest_tree : (xs : List NodeView) (trees : List Tree) (prefix : Bytes) (op : ℕ) → IsForest xs trees → 8 * layer_of prefix ≡ length prefix
     → IsForest (xs ++ fresh_root (length trees) ∷ []) (trees ++ made prefix (length xs) op ∷ [])
 forest_tree xs trees prefix op forest whole =
     let y = fresh_root (length trees) in

@@ -3,54 +3,54 @@ use Rattle.std.proofs.Common.{◌≡◌, ◌≢◌, ℕ, zero, suc, ◌+◌, ◌
 use Rattle.std.proofs.lemmas.List.{get_or-take, get_or-drop, get_or_default, set_comm, length-set, take_at}
 use Rattle.mt_border.specs.declared.entry.Entry.{Entry}
 use Rattle.mt_border.specs.Split.{IsParted}
-use Rattle.mt_arena.specs.Shape.{Shape, node_at, no_node}
+use Rattle.mt_arena.specs.NodeView.{NodeView, node_at, no_node}
 use Rattle.mt_arena.specs.Splits.{left_half, right_half, with_child, exact, inner_left, inner_right}
 use Rattle.mt_arena.specs.Several.{AreHalved, with_parts}
 use Rattle.mt_arena.proofs.Pairs.{read, there}
 
 -- the first node behind is another
-back_set : (xs : List Shape) (j : ℕ) (z : Shape) → j < length xs → take j xs ++ set (drop j xs) 0 z ≡ set xs j z
+back_set : (xs : List NodeView) (j : ℕ) (z : NodeView) → j < length xs → take j xs ++ set (drop j xs) 0 z ≡ set xs j z
 back_set [] j z lt = absurd (omega (arith, lt))
 back_set (x ∷ xs) zero z lt = refl
 back_set (x ∷ xs) (suc j) z lt = ap (λ ys. x ∷ ys) (back_set xs j z (omega (arith, lt)))
 
 -- and one before it too
-pub both_set : (xs : List Shape) (i j : ℕ) (y z : Shape) → i < j → j < length xs → set (take j xs) i y ++ set (drop j xs) 0 z ≡ set (set xs i y) j z
+pub both_set : (xs : List NodeView) (i j : ℕ) (y z : NodeView) → i < j → j < length xs → set (take j xs) i y ++ set (drop j xs) 0 z ≡ set (set xs i y) j z
 both_set [] i j y z lt within = absurd (omega (arith, within))
 both_set (x ∷ xs) i zero y z lt within = absurd (omega (arith, lt))
 both_set (x ∷ xs) zero (suc j) y z lt within = ap (λ ys. y ∷ ys) (back_set xs j z (omega (arith, within)))
 both_set (x ∷ xs) (suc i) (suc j) y z lt within = ap (λ ys. x ∷ ys) (both_set xs i j y z (omega (arith, lt)) (omega (arith, within)))
 
 -- a node and its right half, of which one stands before the other
-module _ (all : List Entry) (xs : List Shape) (i j : ℕ) (y z : Shape) where
-  abbrev x : Shape
+module _ (all : List Entry) (xs : List NodeView) (i j : ℕ) (y z : NodeView) where
+  abbrev x : NodeView
   x = node_at xs i
 
-  abbrev r : Shape
+  abbrev r : NodeView
   r = node_at xs j
 
-  pub halved : (ys : List Shape) → ys ≡ set (set xs i y) j z → IsParted all y.slots z.slots r.low → 0 < length y.slots → 0 < length z.slots → y ≡ left_half x y.slots r.low j → z ≡ right_half x r z.slots i → AreHalved all xs ys i j
+  pub halved : (ys : List NodeView) → ys ≡ set (set xs i y) j z → IsParted all y.slots z.slots r.low → 0 < length y.slots → 0 < length z.slots → y ≡ left_half x y.slots r.low j → z ≡ right_half x r z.slots i → AreHalved all xs ys i j
   halved ys are parted some_kept some_moved left right = record {
     kept = y.slots;
     moved = z.slots;
     parted = parted;
     some_kept = some_kept;
     some_moved = some_moved;
-    is = are ∙ ap (λ (n : Shape). set (set xs i n) j z) left ∙ ap (λ (n : Shape). set (set xs i (left_half x y.slots r.low j)) j n) right;
+    is = are ∙ ap (λ (n : NodeView). set (set xs i n) j z) left ∙ ap (λ (n : NodeView). set (set xs i (left_half x y.slots r.low j)) j n) right;
   }
 
-pub both_back : (xs : List Shape) (i j : ℕ) (y z : Shape) → i ≢ j → j ≤ i → i < length xs → set (take i xs) j z ++ set (drop i xs) 0 y ≡ set (set xs i y) j z
+pub both_back : (xs : List NodeView) (i j : ℕ) (y z : NodeView) → i ≢ j → j ≤ i → i < length xs → set (take i xs) j z ++ set (drop i xs) 0 y ≡ set (set xs i y) j z
 both_back xs i j y z differ le within = both_set xs j i z y (omega (arith, differ, le)) within ∙ set_comm xs j i z y (λ e. differ (sym e))
 
 -- what was read of the two parts
-pub in_front : (xs front : List Shape) (i j : ℕ) (d : Shape) → front ≡ take j xs → i < j → j < length xs → get_or front i d ≡ node_at xs i
+pub in_front : (xs front : List NodeView) (i j : ℕ) (d : NodeView) → front ≡ take j xs → i < j → j < length xs → get_or front i d ≡ node_at xs i
 in_front xs front i j d is lt within = ap (λ ys. get_or ys i d) is ∙ get_or-take j xs i d lt ∙ get_or_default xs i d no_node (omega (arith, lt, within))
 
-pub in_back : (xs back : List Shape) (j : ℕ) (d : Shape) → back ≡ drop j xs → j < length xs → get_or back 0 d ≡ node_at xs j
+pub in_back : (xs back : List NodeView) (j : ℕ) (d : NodeView) → back ≡ drop j xs → j < length xs → get_or back 0 d ≡ node_at xs j
 in_back xs back j d is within = ap (λ ys. get_or ys 0 d) is ∙ get_or-drop j xs 0 d ∙ ap (λ k. get_or xs k d) {x = j + 0} {y = j} (omega arith) ∙ get_or_default xs j d no_node within
 
 -- both halves, where the left one stands before the right one, and behind it
-module _ (all : List Entry → List Entry) (xs front back : List Shape) (i j : ℕ) (d e y z : Shape) where
+module _ (all : List Entry → List Entry) (xs front back : List NodeView) (i j : ℕ) (d e y z : NodeView) where
   pub halved_front : front ≡ take j xs → back ≡ drop j xs → i < j → j < length xs → IsParted (all (get_or front i d).slots) y.slots z.slots (get_or back 0 e).low → 0 < length y.slots → 0 < length z.slots
       → y ≡ left_half (get_or front i d) y.slots (get_or back 0 e).low j → z ≡ right_half (get_or front i d) (get_or back 0 e) z.slots i → AreHalved (all (node_at xs i).slots) xs (set front i y ++ set back 0 z) i j
   halved_front first second lt within parted some_kept some_moved left right =
@@ -68,37 +68,37 @@ module _ (all : List Entry → List Entry) (xs front back : List Shape) (i j : �
       (rw (x_is, r_is) at parted) some_kept some_moved (rw (x_is, r_is) at left) (rw (x_is, r_is) at right)
 
 -- and of an interior node
-pub inner_front : (xs front back : List Shape) (i j s q : ℕ) (d e y z : Shape) → front ≡ take j xs → back ≡ drop j xs → i < j → j < length xs → y ≡ inner_left (with_child (get_or front i d) s q) → z ≡ inner_right (with_child (get_or front i d) s q) (get_or back 0 e)
+pub inner_front : (xs front back : List NodeView) (i j s q : ℕ) (d e y z : NodeView) → front ≡ take j xs → back ≡ drop j xs → i < j → j < length xs → y ≡ inner_left (with_child (get_or front i d) s q) → z ≡ inner_right (with_child (get_or front i d) s q) (get_or back 0 e)
     → set front i y ++ set back 0 z ≡ set (set xs i (inner_left (with_child (node_at xs i) s q))) j (inner_right (with_child (node_at xs i) s q) (node_at xs j))
 inner_front xs front back i j s q d e y z first second lt within left right =
     let x_is = in_front xs front i j d first lt within in
     let r_is = in_back xs back j e second within in
     let y_is = rw (x_is) at left in
     let z_is = rw (x_is, r_is) at right in
-    rw (first, second) (both_set xs i j y z lt within) ∙ ap (λ (n : Shape). set (set xs i n) j z) y_is ∙ ap (λ (n : Shape). set (set xs i (inner_left (with_child (node_at xs i) s q))) j n) z_is
+    rw (first, second) (both_set xs i j y z lt within) ∙ ap (λ (n : NodeView). set (set xs i n) j z) y_is ∙ ap (λ (n : NodeView). set (set xs i (inner_left (with_child (node_at xs i) s q))) j n) z_is
 
-pub inner_back : (xs front back : List Shape) (i j s q : ℕ) (d e y z : Shape) → front ≡ take i xs → back ≡ drop i xs → i ≢ j → j ≤ i → i < length xs → y ≡ inner_left (with_child (get_or back 0 d) s q) → z ≡ inner_right (with_child (get_or back 0 d) s q) (get_or front j e)
+pub inner_back : (xs front back : List NodeView) (i j s q : ℕ) (d e y z : NodeView) → front ≡ take i xs → back ≡ drop i xs → i ≢ j → j ≤ i → i < length xs → y ≡ inner_left (with_child (get_or back 0 d) s q) → z ≡ inner_right (with_child (get_or back 0 d) s q) (get_or front j e)
     → set front j z ++ set back 0 y ≡ set (set xs i (inner_left (with_child (node_at xs i) s q))) j (inner_right (with_child (node_at xs i) s q) (node_at xs j))
 inner_back xs front back i j s q d e y z first second differ le within left right =
     let r_is = in_front xs front j i e first (omega (arith, differ, le)) within in
     let x_is = in_back xs back i d second within in
     let y_is = rw (x_is) at left in
     let z_is = rw (x_is, r_is) at right in
-    rw (first, second) (both_back xs i j y z differ le within) ∙ ap (λ (n : Shape). set (set xs i n) j z) y_is ∙ ap (λ (n : Shape). set (set xs i (inner_left (with_child (node_at xs i) s q))) j n) z_is
+    rw (first, second) (both_back xs i j y z differ le within) ∙ ap (λ (n : NodeView). set (set xs i n) j z) y_is ∙ ap (λ (n : NodeView). set (set xs i (inner_left (with_child (node_at xs i) s q))) j n) z_is
 
 -- the whole list, written back
-pub written : (xs ws : List Shape) (n : ℕ) → length xs ≡ n → length ws ≡ length xs → take n (ws ++ drop (length ws) xs) ≡ ws
+pub written : (xs ws : List NodeView) (n : ℕ) → length xs ≡ n → length ws ≡ length xs → take n (ws ++ drop (length ws) xs) ≡ ws
 written xs ws n all same = take_at ws (drop (length ws) xs) n (same ∙ all)
 
-pub two_long : (xs ys : List Shape) (i j : ℕ) (y z : Shape) → ys ≡ set (set xs i y) j z → length ys ≡ length xs
+pub two_long : (xs ys : List NodeView) (i j : ℕ) (y z : NodeView) → ys ≡ set (set xs i y) j z → length ys ≡ length xs
 two_long xs ys i j y z is = ap length is ∙ length-set (set xs i y) j z ∙ length-set xs i y
 
 -- as a full node is parted
-pub parts_long : (xs ys : List Shape) (i q h : ℕ) → ys ≡ set (set xs i (inner_left (with_child (node_at xs i) (node_at xs q).low q))) h (inner_right (with_child (node_at xs i) (node_at xs q).low q) (node_at xs h)) → length ys ≡ length xs
+pub parts_long : (xs ys : List NodeView) (i q h : ℕ) → ys ≡ set (set xs i (inner_left (with_child (node_at xs i) (node_at xs q).low q))) h (inner_right (with_child (node_at xs i) (node_at xs q).low q) (node_at xs h)) → length ys ≡ length xs
 parts_long xs ys i q h is = two_long xs ys i h (inner_left (with_child (node_at xs i) (node_at xs q).low q)) (inner_right (with_child (node_at xs i) (node_at xs q).low q) (node_at xs h)) is
 
 -- and a third node, which keeps what it had but its reach
-pub parts_is : (xs ys : List Shape) (i j q h : ℕ) (n m : Shape) → ys ≡ set (set xs i (inner_left (with_child (node_at xs i) (node_at xs q).low q))) h (inner_right (with_child (node_at xs i) (node_at xs q).low q) (node_at xs h)) → i ≢ j → j ≢ h → j < length xs
+pub parts_is : (xs ys : List NodeView) (i j q h : ℕ) (n m : NodeView) → ys ≡ set (set xs i (inner_left (with_child (node_at xs i) (node_at xs q).low q))) h (inner_right (with_child (node_at xs i) (node_at xs q).low q) (node_at xs h)) → i ≢ j → j ≢ h → j < length xs
     → n ≡ get_or ys j n → m ≡ exact n → set ys j m ≡ with_parts xs i j q h
 parts_is xs ys i j q h n m is ij jh lj read_is after =
     let wide = with_child (node_at xs i) (node_at xs q).low q in

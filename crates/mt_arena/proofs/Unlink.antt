@@ -7,7 +7,7 @@ use Rattle.mt_interior.specs.Rising.{IsRising}
 use Rattle.mt_interior.specs.Fences.{end_of}
 use Rattle.mt_interior.proofs.Rises.{rising_remove}
 use Rattle.mt_interior.proofs.CallerLemmas.{bounds_of-remove}
-use Rattle.mt_arena.specs.Shape.{Shape, node_at}
+use Rattle.mt_arena.specs.NodeView.{NodeView, node_at}
 use Rattle.mt_arena.specs.Nodes.{AreNodes, IsNode, IsPair, IsChild, bounds}
 use Rattle.mt_arena.specs.Ranges.{AreRanged}
 use Rattle.mt_arena.specs.Edits.{retired}
@@ -24,23 +24,23 @@ all_remove P xs at within all i lt =
       | inr above ↦ rw (get_or-remove_above xs at 0 i above within) (all (i + 1) (omega arith))
     ]
 
-module _ (xs : List Shape) (i j q a : ℕ) (nodes : AreNodes xs) (ranged : AreRanged xs) (f : Unlinks xs i j q a) where
-  abbrev l : Shape
+module _ (xs : List NodeView) (i j q a : ℕ) (nodes : AreNodes xs) (ranged : AreRanged xs) (f : Unlinks xs i j q a) where
+  abbrev l : NodeView
   l = node_at xs i
 
-  abbrev x : Shape
+  abbrev x : NodeView
   x = node_at xs j
 
-  abbrev p : Shape
+  abbrev p : NodeView
   p = node_at xs q
 
-  abbrev y : Shape
+  abbrev y : NodeView
   y = joined l x
 
-  abbrev w : Shape
+  abbrev w : NodeView
   w = retired x
 
-  abbrev v : Shape
+  abbrev v : NodeView
   v = without_child p a
 
   li : i < length xs
@@ -238,10 +238,10 @@ module _ (xs : List Shape) (i j q a : ℕ) (nodes : AreNodes xs) (ranged : AreRa
   }
 
   -- children before the removed one but the left neighbour, the left neighbour, and those behind
-  lower_kept : (b : ℕ) (m : Shape) → b < a - 1 → IsChild p b m → IsChild v b m
+  lower_kept : (b : ℕ) (m : NodeView) → b < a - 1 → IsChild p b m → IsChild v b m
   lower_kept b m lt c = record { live = c.live; tree = c.tree; level = c.level; knows = c.knows; low = c.low ∙ sym (bounds_below b (omega arith)); reach = c.reach ∙ sym (bounds_below (b + 1) (omega arith)) }
 
-  upper_kept : (b : ℕ) (m : Shape) → a ≤ b → IsChild p (b + 1) m → IsChild v b m
+  upper_kept : (b : ℕ) (m : NodeView) → a ≤ b → IsChild p (b + 1) m → IsChild v b m
   upper_kept b m le c = record { live = c.live; tree = c.tree; level = c.level; knows = c.knows; low = c.low ∙ sym (bounds_above b le); reach = c.reach ∙ sym (bounds_above (b + 1) (omega arith)) }
 
   left_wider : IsChild v (a - 1) y
@@ -287,7 +287,7 @@ module _ (xs : List Shape) (i j q a : ℕ) (nodes : AreNodes xs) (ranged : AreRa
   ]
 
   -- the left neighbour beside any node but the removed one
-  left_from : (k : ℕ) (m : Shape) → k ≢ j → IsPair i l k m → IsPair j x k m → IsPair i y k m
+  left_from : (k : ℕ) (m : NodeView) → k ≢ j → IsPair i l k m → IsPair j x k m → IsPair i y k m
   left_from k m nj g h = record {
     next_follows = h.next_follows;
     next_tree = λ e. h.next_tree e ∙ (nodes.pairs i j li lj).next_tree f.next;
@@ -303,7 +303,7 @@ module _ (xs : List Shape) (i j q a : ℕ) (nodes : AreNodes xs) (ranged : AreRa
     ];
   }
 
-  left_to : (k : ℕ) (m : Shape) → k ≢ j → IsPair k m i l → IsPair k m j x → ((b : ℕ) → b < length m.children → get_or m.children b 0 ≡ i → m.version.deleted ≡ false → IsChild m b y) → IsPair k m i y
+  left_to : (k : ℕ) (m : NodeView) → k ≢ j → IsPair k m i l → IsPair k m j x → ((b : ℕ) → b < length m.children → get_or m.children b 0 ≡ i → m.version.deleted ≡ false → IsChild m b y) → IsPair k m i y
   left_to k m nj g h child = record {
     next_follows = g.next_follows;
     next_tree = g.next_tree;
@@ -320,7 +320,7 @@ module _ (xs : List Shape) (i j q a : ℕ) (nodes : AreNodes xs) (ranged : AreRa
   }
 
   -- the removed node
-  removed_from : (k : ℕ) (m : Shape) → IsPair j x k m → IsPair j w k m
+  removed_from : (k : ℕ) (m : NodeView) → IsPair j x k m → IsPair j w k m
   removed_from k m h = record {
     next_follows = h.next_follows;
     next_tree = h.next_tree;
@@ -333,7 +333,7 @@ module _ (xs : List Shape) (i j q a : ℕ) (nodes : AreNodes xs) (ranged : AreRa
     apart = λ differ tree level live. absurd (cc);
   }
 
-  removed_to : (k : ℕ) (m : Shape) → IsPair k m j x → (m.next ≡ Some j → m.version.deleted ≡ false → ⊥) → ((b : ℕ) → b < length m.children → get_or m.children b 0 ≡ j → m.version.deleted ≡ false → ⊥) → IsPair k m j w
+  removed_to : (k : ℕ) (m : NodeView) → IsPair k m j x → (m.next ≡ Some j → m.version.deleted ≡ false → ⊥) → ((b : ℕ) → b < length m.children → get_or m.children b 0 ≡ j → m.version.deleted ≡ false → ⊥) → IsPair k m j w
   removed_to k m h none childless = record {
     next_follows = h.next_follows;
     next_tree = h.next_tree;
@@ -347,7 +347,7 @@ module _ (xs : List Shape) (i j q a : ℕ) (nodes : AreNodes xs) (ranged : AreRa
   }
 
   -- the parent
-  parent_from : (k : ℕ) (m : Shape) → IsPair q p k m → ((b : ℕ) → b < length v.children → get_or v.children b 0 ≡ k → IsChild v b m) → IsPair q v k m
+  parent_from : (k : ℕ) (m : NodeView) → IsPair q p k m → ((b : ℕ) → b < length v.children → get_or v.children b 0 ≡ k → IsChild v b m) → IsPair q v k m
   parent_from k m g child = record {
     next_follows = g.next_follows;
     next_tree = g.next_tree;
@@ -360,7 +360,7 @@ module _ (xs : List Shape) (i j q a : ℕ) (nodes : AreNodes xs) (ranged : AreRa
     apart = g.apart;
   }
 
-  parent_to : (k : ℕ) (m : Shape) → IsPair k m q p → IsPair k m q v
+  parent_to : (k : ℕ) (m : NodeView) → IsPair k m q p → IsPair k m q v
   parent_to k m g = record {
     next_follows = g.next_follows;
     next_tree = g.next_tree;
@@ -490,6 +490,6 @@ module _ (xs : List Shape) (i j q a : ℕ) (nodes : AreNodes xs) (ranged : AreRa
       ))
 
 -- node j is taken out of the tree: node i before it gets its range, and their parent q loses child a
-pub nodes_unlinked : (xs : List Shape) (i j q a : ℕ) → AreNodes xs → AreRanged xs → Unlinks xs i j q a
+pub nodes_unlinked : (xs : List NodeView) (i j q a : ℕ) → AreNodes xs → AreRanged xs → Unlinks xs i j q a
     → AreNodes (set (set (set xs i (joined (node_at xs i) (node_at xs j))) j (retired (node_at xs j))) q (without_child (node_at xs q) a))
 nodes_unlinked xs i j q a nodes ranged f = unlinked_nodes xs i j q a nodes ranged f

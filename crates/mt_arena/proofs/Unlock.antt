@@ -1,13 +1,13 @@
 -- The end of a lock.
 use Rattle.std.proofs.Common.{ℕ, ◌<◌, List, length, set, refl}
-use Rattle.mt_arena.specs.Shape.{Shape, node_at}
+use Rattle.mt_arena.specs.NodeView.{NodeView, node_at}
 use Rattle.mt_arena.specs.Nodes.{AreNodes, IsPair}
 use Rattle.mt_arena.specs.Settled.{IsSettled}
 use Rattle.mt_arena.specs.Edits.{unlocked}
 use Rattle.mt_arena.proofs.Pairs.{are_set}
 
 -- the first node of a pair
-unlocked_from : (k : ℕ) (n : Shape) (j : ℕ) (m : Shape) → IsPair k n j m → IsPair k (unlocked n) j m
+unlocked_from : (k : ℕ) (n : NodeView) (j : ℕ) (m : NodeView) → IsPair k n j m → IsPair k (unlocked n) j m
 unlocked_from k n j m h = record {
   next_follows = h.next_follows;
   next_tree = h.next_tree;
@@ -23,7 +23,7 @@ unlocked_from k n j m h = record {
 }
 
 -- the second one, behind which nothing lags
-unlocked_to : (nodes : List Shape) (k i : ℕ) (x : Shape) → k < length nodes → IsSettled nodes i x → IsPair k (node_at nodes k) i x → IsPair k (node_at nodes k) i (unlocked x)
+unlocked_to : (nodes : List NodeView) (k i : ℕ) (x : NodeView) → k < length nodes → IsSettled nodes i x → IsPair k (node_at nodes k) i x → IsPair k (node_at nodes k) i (unlocked x)
 unlocked_to nodes k i x within settled h = record {
   next_follows = h.next_follows;
   next_tree = h.next_tree;
@@ -40,7 +40,7 @@ unlocked_to nodes k i x within settled h = record {
   apart = h.apart;
 }
 
-pub nodes_unlocked : (xs : List Shape) (i : ℕ) → i < length xs → AreNodes xs → IsSettled xs i (node_at xs i) → AreNodes (set xs i (unlocked (node_at xs i)))
+pub nodes_unlocked : (xs : List NodeView) (i : ℕ) → i < length xs → AreNodes xs → IsSettled xs i (node_at xs i) → AreNodes (set xs i (unlocked (node_at xs i)))
 nodes_unlocked xs i within nodes settled =
     let x = node_at xs i in
     let h = nodes.each i within in

@@ -2,7 +2,7 @@
 use Rattle.std.specs.Prelude.{◌≡◌, ◌≢◌, ℕ, ◌*◌, ◌<◌, false, [], ◌∷◌, ◌++◌, length, Some, slice_set}
 use Rattle.mt_rows.specs.Rows.{Bytes, Columns}
 use Rattle.mt_border.specs.Contents.{HasKey}
-use Rattle.mt_border.specs.Entry.{IsEntry, IsStable}
+use Rattle.mt_border.specs.Entry.{IsEntry, IsStablePair}
 use Rattle.mt_border.specs.Entries.{IsMissing}
 use Rattle.mt_border.specs.declared.entry.Entry.{Entry}
 use Rattle.mt_border.specs.declared.entry.Pair.{Pair}
@@ -11,51 +11,51 @@ use Rattle.mt_arena.specs.Layers.{slot_at}
 use Rattle.mt_arena.specs.Ways.{BelongsIn, StandsFor}
 use Rattle.mt_arena.specs.declared.tree.Tree.{Tree}
 use Rattle.mt_arena.specs.declared.tree.Standing.TheVariants.{Made, Live, Dead}
-use Rattle.mt_arena.specs.Shape.{Shape, node_at}
+use Rattle.mt_arena.specs.NodeView.{NodeView, node_at}
 use Rattle.mt_arena.specs.Forests.{tree_at, layer_of}
 use Rattle.mt_arena.specs.Edits.{fresh_half, fresh_root, IsLeft}
-use Rattle.mt_arena.specs.Arena.{View}
+use Rattle.mt_arena.specs.Arena.{ArenaView}
 
 -- the top tree of a new arena, and what such an arena shows
 abbrev pub top_tree : Tree
 top_tree = record { prefix = []; root = 0; standing = Live }
 
-abbrev pub new_arena : View
+abbrev pub new_arena : ArenaView
 new_arena = record { nodes = fresh_root 0 ∷ []; trees = top_tree ∷ []; retired = [] }
 
 -- the node of a number, and the tree of it
-abbrev pub at : View → ℕ → Shape
+abbrev pub at : ArenaView → ℕ → NodeView
 at v k = node_at v.nodes k
 
-abbrev pub tree_of : View → ℕ → Tree
+abbrev pub tree_of : ArenaView → ℕ → Tree
 tree_of v k = tree_at v.trees (at v k).tree
 
 -- the operation holds the node
-pub record IsHeld (v : View) (k op : ℕ) : Type 0 where
+pub record IsHeld (v : ArenaView) (k op : ℕ) : Type 0 where
   pub there : k < length v.nodes
   pub holder : (at v k).holder ≡ Some op
 
 -- no other operation is making the node's tree
-abbrev pub IsOpen : View → ℕ → ℕ → Type 0
+abbrev pub IsOpen : ArenaView → ℕ → ℕ → Type 0
 IsOpen v k op = (q : ℕ) → (tree_of v k).standing ≡ Made q → q ≡ op
 
 -- the arena with another node at the place of one
-abbrev pub with_node : View → ℕ → Shape → View
+abbrev pub with_node : ArenaView → ℕ → NodeView → ArenaView
 with_node v k n = record v { nodes = slice_set v.nodes k n }
 
 -- the operation may put a missing key's pair into a border node: the one in which the key belongs, with room
-pub record MayPublish (v : View) (k op : ℕ) (key : Bytes) (e : Entry) : Type 0 where
+pub record MayPublish (v : ArenaView) (k op : ℕ) (key : Bytes) (e : Entry) : Type 0 where
   pub held : IsHeld v k op
   pub mine : IsOpen v k op
   pub belongs : BelongsIn v.nodes v.trees key (layer_of (tree_of v k).prefix) k
   pub has : HasKey (tree_of v k).prefix (layer_of (tree_of v k).prefix) e key
   pub entry : IsEntry e
-  pub stable : IsStable e.held
+  pub stable : IsStablePair e.held
   pub missing : IsMissing (at v k).slots e.slice e.mark
   pub room : length (at v k).slots < 15
 
 -- the operation may change the key's pair, which stands in slot i of the node
-pub record MayChange (v : View) (k op : ℕ) (key : Bytes) (i : ℕ) (pair : Pair) : Type 0 where
+pub record MayChange (v : ArenaView) (k op : ℕ) (key : Bytes) (i : ℕ) (pair : Pair) : Type 0 where
   pub held : IsHeld v k op
   pub mine : IsOpen v k op
   pub level : (at v k).level ≡ 0
@@ -67,23 +67,23 @@ abbrev pub with_row : Entry → Pair → Columns → ℕ → Entry
 with_row e pair row stamp = record e { held = Stable (record pair { row = row; stamp = stamp }) }
 
 -- the first bytes of a tree: eight for each layer above, and those of no other live tree
-pub record IsFreshPrefix (v : View) (prefix : Bytes) : Type 0 where
+pub record IsFreshPrefix (v : ArenaView) (prefix : Bytes) : Type 0 where
   pub whole : 8 * layer_of prefix ≡ length prefix
   pub fresh : (t : ℕ) → t < length v.trees → (tree_at v.trees t).standing ≡ Live → (tree_at v.trees t).prefix ≢ prefix
 
 -- one more node, without range, at the right of one that an operation splits
-abbrev pub with_half : View → ℕ → ℕ → ℕ → View
+abbrev pub with_half : ArenaView → ℕ → ℕ → ℕ → ArenaView
 with_half v k low op = record v { nodes = v.nodes ++ fresh_half (at v k) low op ∷ [] }
 
 -- one more tree, with its root
-abbrev pub with_tree : View → Bytes → ℕ → View
+abbrev pub with_tree : ArenaView → Bytes → ℕ → ArenaView
 with_tree v prefix op = record v {
   nodes = v.nodes ++ fresh_root (length v.trees) ∷ [];
   trees = v.trees ++ (record { prefix = prefix; root = length v.nodes; standing = Made op }) ∷ [];
 }
 
 -- the operation may take a node out: it is empty, no live node leads to it, and it is no root of a tree that stands
-pub record MayRetire (v : View) (k op : ℕ) : Type 0 where
+pub record MayRetire (v : ArenaView) (k op : ℕ) : Type 0 where
   pub held : IsHeld v k op
   pub live : (at v k).version.deleted ≡ false
   pub empty : (at v k).slots ≡ []

@@ -8,7 +8,7 @@ use Rattle.mt_border.specs.Contents.{pair_in}
 use Rattle.mt_arena.specs.declared.tree.Tree.{Tree}
 use Rattle.mt_arena.specs.declared.tree.Standing.{Standing}
 use Rattle.mt_arena.specs.declared.tree.Standing.TheVariants.{Made, Live, Dead}
-use Rattle.mt_arena.specs.Shape.{Shape}
+use Rattle.mt_arena.specs.NodeView.{NodeView}
 use Rattle.mt_arena.specs.Forests.{tree_at}
 
 -- whether a tree's pairs count
@@ -18,13 +18,13 @@ is_live Live = true
 is_live Dead = false
 
 -- a node's pairs count where it is live and its tree is
-abbrev pub counts : List Tree → Shape → Bool
+abbrev pub counts : List Tree → NodeView → Bool
 counts trees n = if n.version.deleted then false else is_live (tree_at trees n.tree).standing
 
 -- the pairs for which a node's slots stand, each with its owner
-abbrev pub live_pairs : List Tree → Shape → List ((ℕ × Bytes) × Columns)
+abbrev pub live_pairs : List Tree → NodeView → List ((ℕ × Bytes) × Columns)
 live_pairs trees n = if counts trees n then filter_map (pair_in (tree_at trees n.tree).prefix) n.slots else []
 
 -- the map of all tenants
-unfoldable pub content : List Tree → List Shape → Contents
+unfoldable pub content : List Tree → List NodeView → Contents
 content trees nodes = finite.from_entries (flat_map (live_pairs trees) nodes)

@@ -3,41 +3,41 @@ use Rattle.std.specs.Prelude.{◌≡◌, ◌≢◌, ℕ, ◌<◌, ◌⊎◌, tru
 use Rattle.mt_version.specs.Parts.{Parts, fresh_parts}
 use Rattle.mt_version.specs.Changes.{unlocked_parts}
 use Rattle.mt_border.specs.declared.entry.Entry.{Entry}
-use Rattle.mt_arena.specs.Shape.{Shape, node_at, no_node}
+use Rattle.mt_arena.specs.NodeView.{NodeView, node_at, no_node}
 
 -- a node with other slots, another version and another holder
-abbrev pub turned : Shape → List Entry → Parts → Option ℕ → Shape
+abbrev pub turned : NodeView → List Entry → Parts → Option ℕ → NodeView
 turned n slots version holder = record n { slots = slots; version = version; holder = holder }
 
 -- a node whose lock an operation has taken
-abbrev pub locked : Shape → ℕ → Shape
+abbrev pub locked : NodeView → ℕ → NodeView
 locked n op = record n { version = record n.version { locked = true }; holder = Some op }
 
 -- a node whose lock was given back
-abbrev pub unlocked : Shape → Shape
+abbrev pub unlocked : NodeView → NodeView
 unlocked n = record n { version = unlocked_parts n.version; holder = None }
 
 -- a node that readers of its keys or children wait for, and one that readers of its range wait for
-abbrev pub inserting : Shape → Shape
+abbrev pub inserting : NodeView → NodeView
 inserting n = record n { version = record n.version { inserting = true } }
 
-abbrev pub splitting : Shape → Shape
+abbrev pub splitting : NodeView → NodeView
 splitting n = record n { version = record n.version { splitting = true } }
 
 -- a node that was taken out of its tree
-abbrev pub retired : Shape → Shape
+abbrev pub retired : NodeView → NodeView
 retired n = record n { version = record n.version { deleted = true } }
 
 -- a border node with other slots: readers of its keys wait for it
-abbrev pub with_slots : Shape → List Entry → Shape
+abbrev pub with_slots : NodeView → List Entry → NodeView
 with_slots n slots = record n { slots = slots; version = record n.version { inserting = true } }
 
 -- a node with another one before it and another parent
-abbrev pub pointed : Shape → Option ℕ → Option ℕ → Shape
+abbrev pub pointed : NodeView → Option ℕ → Option ℕ → NodeView
 pointed n previous parent = record n { previous = previous; parent = parent }
 
 -- another one before a node and another parent: each is as it was, or names a held node; and none is forgotten
-pub record Points (nodes : List Shape) (x : Shape) (previous parent : Option ℕ) : Type 0 where
+pub record Points (nodes : List NodeView) (x : NodeView) (previous parent : Option ℕ) : Type 0 where
   pub previous_there : (j : ℕ) → previous ≡ Some j → j < length nodes
   pub parent_there : (j : ℕ) → parent ≡ Some j → j < length nodes
   pub previous_held : (j : ℕ) → previous ≡ Some j → (x.previous ≡ Some j) ⊎ ((node_at nodes j).holder ≢ None)
@@ -46,7 +46,7 @@ pub record Points (nodes : List Shape) (x : Shape) (previous parent : Option ℕ
   pub parent_stays : parent ≡ None → x.parent ≡ None
 
 -- a new node without range, at the right of the one that an operation splits
-abbrev pub fresh_half : Shape → ℕ → ℕ → Shape
+abbrev pub fresh_half : NodeView → ℕ → ℕ → NodeView
 fresh_half n low op = record no_node {
   low = low;
   high = Some low;
@@ -58,10 +58,10 @@ fresh_half n low op = record no_node {
 }
 
 -- the first node of a tree
-abbrev pub fresh_root : ℕ → Shape
+abbrev pub fresh_root : ℕ → NodeView
 fresh_root tree = record no_node { version = fresh_parts true true; tree = tree }
 
 -- nobody names the node any more, as far as it is live: it may be taken out
-pub record IsLeft (nodes : List Shape) (i : ℕ) : Type 0 where
+pub record IsLeft (nodes : List NodeView) (i : ℕ) : Type 0 where
   pub nobodys_next : (k : ℕ) → k < length nodes → (node_at nodes k).next ≡ Some i → (node_at nodes k).version.deleted ≡ true
   pub nobodys_child : (k a : ℕ) → k < length nodes → a < length (node_at nodes k).children → slice_index (node_at nodes k).children a ≡ i → (node_at nodes k).version.deleted ≡ true

@@ -7,7 +7,7 @@ use Rattle.mt_border.specs.declared.entry.Entry.{Entry}
 use Rattle.mt_border.specs.Contents.{AreKeys}
 use Rattle.mt_arena.specs.declared.tree.Tree.{Tree}
 use Rattle.mt_arena.specs.declared.tree.Standing.TheVariants.{Live, Dead}
-use Rattle.mt_arena.specs.Shape.{Shape, node_at}
+use Rattle.mt_arena.specs.NodeView.{NodeView, node_at}
 
 -- what a read behind the last tree gives
 abbrev pub no_tree : Tree
@@ -27,7 +27,7 @@ pub record HaveKeys (prefix : Bytes) (slots : List Entry) : Type 0 where
   pub begun : All (λ e. e.mark ≢ Short 0) slots
 
 -- the root of a tree: it has the whole range, and its version says that it is one
-pub record IsRoot (n : Shape) : Type 0 where
+pub record IsRoot (n : NodeView) : Type 0 where
   pub live : n.version.deleted ≡ false
   pub flag : n.version.root ≡ true
   pub parentless : n.parent ≡ None
@@ -35,7 +35,7 @@ pub record IsRoot (n : Shape) : Type 0 where
   pub reach : n.reach ≡ None
 
 -- what holds of node k and tree t
-pub record IsHome (k : ℕ) (n : Shape) (t : ℕ) (tree : Tree) : Type 0 where
+pub record IsHome (k : ℕ) (n : NodeView) (t : ℕ) (tree : Tree) : Type 0 where
   -- the record names the root, and no other live node of the tree says that it is one
   pub root_tree : tree.root ≡ k → tree.standing ≢ Dead → n.tree ≡ t
   pub root_is : tree.root ≡ k → tree.standing ≢ Dead → IsRoot n
@@ -60,7 +60,7 @@ pub record IsTop (trees : List Tree) : Type 0 where
   pub live : (tree_at trees 0).standing ≡ Live
   pub prefix : (tree_at trees 0).prefix ≡ []
 
-pub record IsForest (nodes : List Shape) (trees : List Tree) : Type 0 where
+pub record IsForest (nodes : List NodeView) (trees : List Tree) : Type 0 where
   pub tree_there : (k : ℕ) → k < length nodes → (node_at nodes k).tree < length trees
   pub homes : (k t : ℕ) → k < length nodes → t < length trees → IsHome k (node_at nodes k) t (tree_at trees t)
   pub each : (t : ℕ) → t < length trees → IsTree (length nodes) (tree_at trees t)

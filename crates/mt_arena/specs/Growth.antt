@@ -1,10 +1,10 @@
 -- What a new root makes of the two halves of the old one, and what it needs.
 use Rattle.std.specs.Prelude.{◌≡◌, ◌≢◌, ℕ, ◌+◌, ◌<◌, Bool, true, false, List, [], ◌∷◌, length, Option, Some, None}
 use Rattle.mt_version.specs.Parts.{fresh_parts}
-use Rattle.mt_arena.specs.Shape.{Shape, node_at, no_node}
+use Rattle.mt_arena.specs.NodeView.{NodeView, node_at, no_node}
 
 -- the new root over nodes i and j, which meet at the separator, held by the operation; the first is n
-abbrev pub fresh_top : Shape → ℕ → ℕ → ℕ → ℕ → Shape
+abbrev pub fresh_top : NodeView → ℕ → ℕ → ℕ → ℕ → NodeView
 fresh_top n i separator j op = record no_node {
   separators = separator ∷ [];
   children = i ∷ j ∷ [];
@@ -15,18 +15,18 @@ fresh_top n i separator j op = record no_node {
 }
 
 -- a node that was without parent, below this one
-abbrev pub below_top : Shape → ℕ → Option ℕ → Bool → Shape
+abbrev pub below_top : NodeView → ℕ → Option ℕ → Bool → NodeView
 below_top n parent reach root = record n { parent = Some parent; reach = reach; version = record n.version { root = root } }
 
 -- the halves below the new root: the range of the left one in it ends at its fence
-abbrev pub left_below : Shape → ℕ → Shape
+abbrev pub left_below : NodeView → ℕ → NodeView
 left_below n top = below_top n top n.high false
 
-abbrev pub right_below : Shape → ℕ → Shape
+abbrev pub right_below : NodeView → ℕ → NodeView
 right_below n top = below_top n top n.reach n.version.root
 
 -- nodes i and j are the halves of a root: they have the whole range, and no parent
-pub record Grows (nodes : List Shape) (i j : ℕ) : Type 0 where
+pub record AreRootHalves (nodes : List NodeView) (i j : ℕ) : Type 0 where
   pub left_there : i < length nodes
   pub right_there : j < length nodes
   pub differ : i ≢ j

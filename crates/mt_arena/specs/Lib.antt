@@ -1,10 +1,10 @@
-pub mod Shape
+pub mod NodeView
 pub mod Nodes
 pub mod Ranges
 pub mod Forests
 pub mod Layers
 pub mod Contents
-pub mod Evolves
+pub mod Guarantee
 pub mod Settled
 pub mod Arena
 pub mod Stands

@@ -7,18 +7,18 @@ use Rattle.mt_border.specs.declared.entry.Held.TheVariants.{Stable, Unstable, Li
 use Rattle.mt_border.specs.Entries.{IsBorder, IsRising, slices}
 use Rattle.mt_interior.specs.Node.{IsInterior}
 use Rattle.mt_interior.specs.Fences.{end_of, bounds_of}
-use Rattle.mt_arena.specs.Shape.{Shape, node_at}
+use Rattle.mt_arena.specs.NodeView.{NodeView, node_at}
 
 -- the slice lies within the node's fences
-abbrev pub Holds : Shape → ℕ → Type 0
+abbrev pub Holds : NodeView → ℕ → Type 0
 Holds n slice = (n.low ≤ slice) × (slice < end_of n.high)
 
 -- the node has a range: a right half that is not filled yet has none
-abbrev pub HasRange : Shape → Type 0
+abbrev pub HasRange : NodeView → Type 0
 HasRange n = n.low < end_of n.high
 
 -- where the ranges of an interior node's children begin and end
-abbrev pub bounds : Shape → List ℕ
+abbrev pub bounds : NodeView → List ℕ
 bounds n = bounds_of n.low n.separators n.high
 
 -- a pair that is on its way to a tree of its own
@@ -28,7 +28,7 @@ IsUnstable (Unstable pair tree) = Unit {0}
 IsUnstable (Link tree) = ⊥
 
 -- what holds of one node among so many
-pub record IsNode (count : ℕ) (n : Shape) : Type 0 where
+pub record IsNode (count : ℕ) (n : NodeView) : Type 0 where
   -- what it names is there
   pub next_there : (j : ℕ) → n.next ≡ Some j → j < count
   pub previous_there : (j : ℕ) → n.previous ≡ Some j → j < count
@@ -61,14 +61,14 @@ pub record IsNode (count : ℕ) (n : Shape) : Type 0 where
   pub rooted : n.version.deleted ≡ false → n.holder ≡ None → n.parent ≡ None → n.version.root ≡ true
 
 -- the node of number k is a child of this one
-pub record HasChild (m : Shape) (k : ℕ) : Type 0 where
+pub record HasChild (m : NodeView) (k : ℕ) : Type 0 where
   pub live : m.version.deleted ≡ false
   pub place : ℕ
   pub in_range : place < length m.children
   pub is : slice_index m.children place ≡ k
 
 -- child i of a node
-pub record IsChild (n : Shape) (i : ℕ) (m : Shape) : Type 0 where
+pub record IsChild (n : NodeView) (i : ℕ) (m : NodeView) : Type 0 where
   pub live : m.version.deleted ≡ false
   pub tree : m.tree ≡ n.tree
   pub level : m.level + 1 ≡ n.level
@@ -77,7 +77,7 @@ pub record IsChild (n : Shape) (i : ℕ) (m : Shape) : Type 0 where
   pub reach : end_of m.reach ≡ slice_index (bounds n) (i + 1)
 
 -- what holds of nodes k and j, also where they are one
-pub record IsPair (k : ℕ) (n : Shape) (j : ℕ) (m : Shape) : Type 0 where
+pub record IsPair (k : ℕ) (n : NodeView) (j : ℕ) (m : NodeView) : Type 0 where
   -- the next node begins where this one ends; that of a live one is live
   pub next_follows : n.next ≡ Some j → n.high ≡ Some m.low
   pub next_tree : n.next ≡ Some j → m.tree ≡ n.tree
@@ -93,12 +93,12 @@ pub record IsPair (k : ℕ) (n : Shape) (j : ℕ) (m : Shape) : Type 0 where
   pub apart : k ≢ j → n.tree ≡ m.tree → n.level ≡ m.level → n.version.deleted ≡ false → m.version.deleted ≡ false → (s : ℕ) → Holds n s → Holds m s → ⊥
 
 -- what holds of each node, and of each two
-abbrev pub AllNodes : (Shape → Type 0) → List Shape → Type 0
+abbrev pub AllNodes : (NodeView → Type 0) → List NodeView → Type 0
 AllNodes P nodes = (k : ℕ) → k < length nodes → P (node_at nodes k)
 
-abbrev pub AllPairs : (ℕ → Shape → ℕ → Shape → Type 0) → List Shape → Type 0
+abbrev pub AllPairs : (ℕ → NodeView → ℕ → NodeView → Type 0) → List NodeView → Type 0
 AllPairs R nodes = (k j : ℕ) → k < length nodes → j < length nodes → R k (node_at nodes k) j (node_at nodes j)
 
-pub record AreNodes (nodes : List Shape) : Type 0 where
+pub record AreNodes (nodes : List NodeView) : Type 0 where
   pub each : AllNodes (IsNode (length nodes)) nodes
   pub pairs : AllPairs IsPair nodes

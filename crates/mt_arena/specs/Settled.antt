@@ -1,10 +1,10 @@
 -- What the operation that holds a node has to know before it gives the lock back: nothing lags behind the node any more.
 use Rattle.std.specs.Prelude.{◌≡◌, ℕ, ◌<◌, true, false, List, length, Some, None}
 use Rattle.std.specs.List.{All}
-use Rattle.mt_arena.specs.Shape.{Shape, node_at}
+use Rattle.mt_arena.specs.NodeView.{NodeView, node_at}
 use Rattle.mt_arena.specs.Nodes.{HasChild, IsUnstable}
 
-pub record IsSettled (nodes : List Shape) (i : ℕ) (x : Shape) : Type 0 where
+pub record IsSettled (nodes : List NodeView) (i : ℕ) (x : NodeView) : Type 0 where
   -- a live node that names it as the one before is the next one, and one that names it as its parent is its child
   pub previous : (k : ℕ) → k < length nodes → (node_at nodes k).previous ≡ Some i → (node_at nodes k).version.deleted ≡ false → x.next ≡ Some k
   pub previous_live : (k : ℕ) → k < length nodes → (node_at nodes k).previous ≡ Some i → (node_at nodes k).version.deleted ≡ false → x.version.deleted ≡ false

@@ -4,21 +4,21 @@ use Rattle.mt_slices.specs.declared.mark.Mark.{Mark}
 use Rattle.mt_slices.specs.Marks.{IsMark}
 use Rattle.mt_rows.specs.Rows.{Bytes}
 use Rattle.mt_border.specs.Contents.{HasKey}
-use Rattle.mt_border.specs.Entry.{IsEntry, IsStable}
+use Rattle.mt_border.specs.Entry.{IsEntry, IsStablePair}
 use Rattle.mt_border.specs.Entries.{IsMissing}
 use Rattle.mt_border.specs.Split.{IsParted, IsSeparator, slices_with}
 use Rattle.mt_border.specs.declared.entry.Entry.{Entry}
-use Rattle.mt_arena.specs.Shape.{Shape, node_at}
+use Rattle.mt_arena.specs.NodeView.{NodeView, node_at}
 use Rattle.mt_arena.specs.Ways.{BelongsIn}
 use Rattle.mt_arena.specs.Forests.{layer_of}
 use Rattle.mt_arena.specs.Splits.{Inserts, left_half, right_half, with_child, exact, middle, inner_left, inner_right}
 use Rattle.mt_arena.specs.Edits.{inserting}
-use Rattle.mt_arena.specs.Growth.{Grows, fresh_top, left_below, right_below}
-use Rattle.mt_arena.specs.Arena.{View}
+use Rattle.mt_arena.specs.Growth.{AreRootHalves, fresh_top, left_below, right_below}
+use Rattle.mt_arena.specs.Arena.{ArenaView}
 use Rattle.mt_arena.specs.Accesses.{at, tree_of, IsHeld, IsOpen}
 
 -- the operation splits the left node: it holds both, both are marked, and the right one has neither range nor keys nor children yet
-pub record IsHalf (v : View) (left right op : ℕ) : Type 0 where
+pub record IsHalf (v : ArenaView) (left right op : ℕ) : Type 0 where
   pub held : IsHeld v left op
   pub right_held : IsHeld v right op
   pub differ : left ≢ right
@@ -36,7 +36,7 @@ pub record IsHalf (v : View) (left right op : ℕ) : Type 0 where
 
 -- the operation may part the slots of a full border node among it and its right half, which begins where they would be parted with the
 -- missing key of this slice and mark
-pub record MaySplit (v : View) (left right op slice : ℕ) (mark : Mark) : Type 0 where
+pub record MaySplit (v : ArenaView) (left right op slice : ℕ) (mark : Mark) : Type 0 where
   pub half : IsHalf v left right op
   pub border : (at v left).level ≡ 0
   pub full : length (at v left).slots ≡ 15
@@ -45,14 +45,14 @@ pub record MaySplit (v : View) (left right op slice : ℕ) (mark : Mark) : Type 
   pub separator : IsSeparator (slices_with (at v left).slots slice mark) (at v right).low
 
 -- and put this key's pair into one of the halves: the key belongs in the node
-pub record MayPlace (v : View) (left op : ℕ) (key : Bytes) (e : Entry) : Type 0 where
+pub record MayPlace (v : ArenaView) (left op : ℕ) (key : Bytes) (e : Entry) : Type 0 where
   pub belongs : BelongsIn v.nodes v.trees key (layer_of (tree_of v left).prefix) left
   pub has : HasKey (tree_of v left).prefix (layer_of (tree_of v left).prefix) e key
   pub entry : IsEntry e
-  pub stable : IsStable e.held
+  pub stable : IsStablePair e.held
 
 -- the nodes, of which one has kept some of these slots, and its right half has got the others
-pub record AreHalved (all : List Entry) (old new : List Shape) (left right : ℕ) : Type 0 where
+pub record AreHalved (all : List Entry) (old new : List NodeView) (left right : ℕ) : Type 0 where
   pub kept : List Entry
   pub moved : List Entry
   pub parted : IsParted all kept moved (node_at old right).low
@@ -61,8 +61,8 @@ pub record AreHalved (all : List Entry) (old new : List Shape) (left right : ℕ
   pub is : new ≡ slice_set (slice_set old left (left_half (node_at old left) kept (node_at old right).low right)) right (right_half (node_at old left) (node_at old right) moved left)
 
 -- the operation may put a new root over the halves of one: it holds both, both are marked, and the left one is the root
-pub record MayGrow (v : View) (left right op : ℕ) : Type 0 where
-  pub grows : Grows v.nodes left right
+pub record MayGrow (v : ArenaView) (left right op : ℕ) : Type 0 where
+  pub grows : AreRootHalves v.nodes left right
   pub held : IsHeld v left op
   pub right_held : IsHeld v right op
   pub mine : IsOpen v left op
@@ -72,20 +72,20 @@ pub record MayGrow (v : View) (left right op : ℕ) : Type 0 where
   pub no_root : (at v right).version.root ≡ false
 
 -- the halves of a root below a new one, which the operation holds, and the nodes with it
-abbrev pub with_top : List Shape → ℕ → ℕ → ℕ → List Shape
+abbrev pub with_top : List NodeView → ℕ → ℕ → ℕ → List NodeView
 with_top nodes left right op =
     slice_set (slice_set nodes left (left_below (node_at nodes left) (length nodes))) right (right_below (node_at nodes right) (length nodes))
     ++ fresh_top (node_at nodes left) left (node_at nodes right).low right op ∷ []
 
 -- one more node, which is the root from now on
-abbrev pub with_root : View → ℕ → ℕ → ℕ → View
+abbrev pub with_root : ArenaView → ℕ → ℕ → ℕ → ArenaView
 with_root v left right op = record v {
   nodes = with_top v.nodes left right op;
   trees = slice_set v.trees (at v left).tree (record (tree_of v left) { root = length v.nodes });
 }
 
 -- the operation may put a right half into the parent, behind the left one: it holds both the parent and the left half
-pub record MayInsert (v : View) (parent left right op : ℕ) : Type 0 where
+pub record MayInsert (v : ArenaView) (parent left right op : ℕ) : Type 0 where
   pub inserts : Inserts v.nodes parent left right
   pub held : IsHeld v parent op
   pub left_held : IsHeld v left op
@@ -93,12 +93,12 @@ pub record MayInsert (v : View) (parent left right op : ℕ) : Type 0 where
   pub room : length (at v parent).separators < 15
 
 -- a marked parent with the right half as a child, and the left half, whose range in it ends at its fence
-abbrev pub with_right : List Shape → ℕ → ℕ → ℕ → List Shape
+abbrev pub with_right : List NodeView → ℕ → ℕ → ℕ → List NodeView
 with_right nodes parent left right =
     slice_set (slice_set nodes parent (with_child (inserting (node_at nodes parent)) (node_at nodes right).low right)) left (exact (node_at nodes left))
 
 -- and where the parent is full: it is split, and its right half begins in the middle of its children and the new one
-pub record MaySplitInner (v : View) (parent left right half op : ℕ) : Type 0 where
+pub record MaySplitInner (v : ArenaView) (parent left right half op : ℕ) : Type 0 where
   pub inserts : Inserts v.nodes parent left right
   pub parted : IsHalf v parent half op
   pub left_held : IsHeld v left op
@@ -108,7 +108,7 @@ pub record MaySplitInner (v : View) (parent left right half op : ℕ) : Type 0 w
   pub begins : (at v half).low ≡ middle (with_child (at v parent) (at v right).low right)
 
 -- a parent with one more child, parted among it and its right half, and the left half of the two children
-abbrev pub with_parts : List Shape → ℕ → ℕ → ℕ → ℕ → List Shape
+abbrev pub with_parts : List NodeView → ℕ → ℕ → ℕ → ℕ → List NodeView
 with_parts nodes parent left right half =
     let wide = with_child (node_at nodes parent) (node_at nodes right).low right in
     slice_set (slice_set (slice_set nodes parent (inner_left wide)) left (exact (node_at nodes left))) half (inner_right wide (node_at nodes half))

@@ -4,15 +4,15 @@ use Rattle.mt_border.specs.declared.entry.Entry.{Entry}
 use Rattle.mt_border.specs.Entries.{IsBorder, slices}
 use Rattle.mt_interior.specs.Places.{place_of}
 use Rattle.mt_interior.specs.Fences.{end_of}
-use Rattle.mt_arena.specs.Shape.{Shape, node_at}
+use Rattle.mt_arena.specs.NodeView.{NodeView, node_at}
 use Rattle.mt_arena.specs.Nodes.{HasChild}
 
 -- what is left of a border node that keeps these slots and ends where the right half begins
-abbrev pub left_half : Shape → List Entry → ℕ → ℕ → Shape
+abbrev pub left_half : NodeView → List Entry → ℕ → ℕ → NodeView
 left_half x kept low right = record x { slots = kept; high = Some low; next = Some right }
 
 -- the right half with the other slots, which ends where the node ended
-abbrev pub right_half : Shape → Shape → List Entry → ℕ → Shape
+abbrev pub right_half : NodeView → NodeView → List Entry → ℕ → NodeView
 right_half x r moved left = record r { slots = moved; high = x.high; reach = x.reach; next = x.next; previous = Some left }
 
 -- each slice of the slots is one of these
@@ -20,7 +20,7 @@ abbrev pub AreWithin : List Entry → ℕ → ℕ → Type 0
 AreWithin slots low end = (i : ℕ) → i < length slots → (low ≤ slice_index (slices slots) i) × (slice_index (slices slots) i < end)
 
 -- a marked border node x and a right half r without range, which begins within it; the slots that x keeps, and those that r gets
-pub record Splits (x r : Shape) (kept moved : List Entry) : Type 0 where
+pub record Splits (x r : NodeView) (kept moved : List Entry) : Type 0 where
   pub held : x.holder ≢ None
   pub marked : x.version.splitting ≡ true
   pub live : x.version.deleted ≡ false
@@ -39,18 +39,18 @@ pub record Splits (x r : Shape) (kept moved : List Entry) : Type 0 where
   pub moved_within : AreWithin moved r.low (end_of x.high)
 
 -- an interior node with one more child, which begins at the separator
-abbrev pub with_child : Shape → ℕ → ℕ → Shape
+abbrev pub with_child : NodeView → ℕ → ℕ → NodeView
 with_child p separator child = record p {
   separators = insert p.separators (place_of p.separators separator) separator;
   children = insert p.children (place_of p.separators separator + 1) child;
 }
 
 -- a node whose range in its parent ends at its high fence
-abbrev pub exact : Shape → Shape
+abbrev pub exact : NodeView → NodeView
 exact n = record n { reach = n.high }
 
 -- node i, which is held, gets node q as a child behind its child j, which ends where q begins
-pub record Inserts (nodes : List Shape) (i j q : ℕ) : Type 0 where
+pub record Inserts (nodes : List NodeView) (i j q : ℕ) : Type 0 where
   pub parent_there : i < length nodes
   pub left_there : j < length nodes
   pub right_there : q < length nodes
@@ -68,18 +68,18 @@ pub record Inserts (nodes : List Shape) (i j q : ℕ) : Type 0 where
   pub below : (node_at nodes q).low < end_of (node_at nodes j).reach
 
 -- where an interior node with one child too many is parted: its ninth separator
-abbrev pub middle : Shape → ℕ
+abbrev pub middle : NodeView → ℕ
 middle wide = slice_index wide.separators 8
 
 -- what is left of it, and what its right half gets
-abbrev pub inner_left : Shape → Shape
+abbrev pub inner_left : NodeView → NodeView
 inner_left wide = record wide { separators = take 8 wide.separators; children = take 9 wide.children; high = Some (middle wide) }
 
-abbrev pub inner_right : Shape → Shape → Shape
+abbrev pub inner_right : NodeView → NodeView → NodeView
 inner_right wide r = record r { separators = drop 9 wide.separators; children = drop 9 wide.children; high = wide.high; reach = wide.reach }
 
 -- a marked interior node p, and a right half r without range, which begins in the middle of it
-pub record SplitsInner (p r : Shape) (middle : ℕ) : Type 0 where
+pub record SplitsInner (p r : NodeView) (middle : ℕ) : Type 0 where
   pub marked : p.version.splitting ≡ true
   pub next : p.next ≡ None
   pub right_held : r.holder ≢ None

@@ -1,17 +1,17 @@
 -- What the removal of a border node makes of its left neighbour and of their parent, and what it needs.
 use Rattle.std.specs.Prelude.{◌≡◌, ◌≢◌, ℕ, ◌-◌, ◌<◌, false, List, length, remove, Some, None, slice_index}
-use Rattle.mt_arena.specs.Shape.{Shape, node_at}
+use Rattle.mt_arena.specs.NodeView.{NodeView, node_at}
 
 -- a node that gets the range of the one behind it
-abbrev pub joined : Shape → Shape → Shape
+abbrev pub joined : NodeView → NodeView → NodeView
 joined n x = record n { high = x.high; reach = x.reach; next = x.next }
 
 -- an interior node without child a, which is not the first, and without the separator before it
-abbrev pub without_child : Shape → ℕ → Shape
+abbrev pub without_child : NodeView → ℕ → NodeView
 without_child p a = record p { separators = remove p.separators (a - 1); children = remove p.children a }
 
 -- border node j, child a of node q, and node i, the child before it: all three are held, and neither child is being split
-pub record Unlinks (nodes : List Shape) (i j q a : ℕ) : Type 0 where
+pub record Unlinks (nodes : List NodeView) (i j q a : ℕ) : Type 0 where
   pub left_there : i < length nodes
   pub removed_there : j < length nodes
   pub parent_there : q < length nodes

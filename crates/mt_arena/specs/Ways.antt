@@ -11,18 +11,18 @@ use Rattle.mt_border.specs.Entry.{pair_of}
 use Rattle.mt_border.specs.Contents.{HasKey, IsOfTree}
 use Rattle.mt_arena.specs.declared.tree.Tree.{Tree}
 use Rattle.mt_arena.specs.declared.tree.Standing.TheVariants.{Made, Live}
-use Rattle.mt_arena.specs.Shape.{Shape, node_at}
+use Rattle.mt_arena.specs.NodeView.{NodeView, node_at}
 use Rattle.mt_arena.specs.Nodes.{Holds}
 use Rattle.mt_arena.specs.Forests.{tree_at}
 use Rattle.mt_arena.specs.Layers.{slot_at}
 use Rattle.mt_arena.specs.Stands.{IsLiveBorder, StandsAt}
 
 -- each slot's key has a byte in its layer
-abbrev pub AreBegun : List Shape → Type 0
+abbrev pub AreBegun : List NodeView → Type 0
 AreBegun nodes = (k : ℕ) → k < length nodes → All (λ e. e.mark ≢ Short 0) (node_at nodes k).slots
 
 -- a link on a key's way: from the live tree of a layer, at the key's slice there, to the live tree of the next layer
-pub record LinksOn (nodes : List Shape) (trees : List Tree) (key : Bytes) (layer : ℕ) : Type 0 where
+pub record LinksOn (nodes : List NodeView) (trees : List Tree) (key : Bytes) (layer : ℕ) : Type 0 where
   pub tree : ℕ
   pub node : ℕ
   pub slot : ℕ
@@ -36,7 +36,7 @@ pub record LinksOn (nodes : List Shape) (trees : List Tree) (key : Bytes) (layer
 
 -- the key belongs in live border node k of a live tree: it is a key of the tree, has a byte in the layer, and its slice there lies
 -- within the node's fences
-pub record BelongsIn (nodes : List Shape) (trees : List Tree) (key : Bytes) (layer k : ℕ) : Type 0 where
+pub record BelongsIn (nodes : List NodeView) (trees : List Tree) (key : Bytes) (layer k : ℕ) : Type 0 where
   pub border : IsLiveBorder nodes (node_at nodes k).tree k
   pub tree_live : (tree_at trees (node_at nodes k).tree).standing ≡ Live
   pub of_tree : IsOfTree (tree_at trees (node_at nodes k).tree).prefix layer key
@@ -44,7 +44,7 @@ pub record BelongsIn (nodes : List Shape) (trees : List Tree) (key : Bytes) (lay
   pub holds : Holds (node_at nodes k) (slice_of key layer)
 
 -- slot i of live node k of a live tree has the key's pair
-pub record StandsFor (nodes : List Shape) (trees : List Tree) (key : Bytes) (layer k i : ℕ) (pair : Pair) : Type 0 where
+pub record StandsFor (nodes : List NodeView) (trees : List Tree) (key : Bytes) (layer k i : ℕ) (pair : Pair) : Type 0 where
   pub there : k < length nodes
   pub live : (node_at nodes k).version.deleted ≡ false
   pub tree_live : (tree_at trees (node_at nodes k).tree).standing ≡ Live
@@ -53,13 +53,13 @@ pub record StandsFor (nodes : List Shape) (trees : List Tree) (key : Bytes) (lay
   pub pair_is : pair_of (slot_at (node_at nodes k) i).held ≡ Some pair
 
 -- a node that is another one but for its slots, as far as the contents ask
-pub record HasSlots (x y : Shape) (entries : List Entry) : Type 0 where
+pub record HasSlots (x y : NodeView) (entries : List Entry) : Type 0 where
   pub slots : y.slots ≡ entries
   pub deleted : y.version.deleted ≡ x.version.deleted
   pub tree : y.tree ≡ x.tree
 
 -- node j is live, of the tree of node k, and has no slots yet: a right half before it is filled
-pub record IsUnfilled (nodes : List Shape) (k j : ℕ) : Type 0 where
+pub record IsUnfilled (nodes : List NodeView) (k j : ℕ) : Type 0 where
   pub other : k ≢ j
   pub there : j < length nodes
   pub live : (node_at nodes j).version.deleted ≡ false
@@ -67,7 +67,7 @@ pub record IsUnfilled (nodes : List Shape) (k j : ℕ) : Type 0 where
   pub empty : (node_at nodes j).slots ≡ []
 
 -- tree t is being made: node r alone is of it, and its one slot has the key with this row
-pub record IsMadeFor (nodes : List Shape) (trees : List Tree) (key : Bytes) (layer t r : ℕ) (row : Columns) : Type 0 where
+pub record IsMadeFor (nodes : List NodeView) (trees : List Tree) (key : Bytes) (layer t r : ℕ) (row : Columns) : Type 0 where
   pub maker : ℕ
   pub made : (tree_at trees t).standing ≡ Made maker
   pub there : r < length nodes

@@ -2,7 +2,7 @@
 //!
 //! Invariant: `IsArena`, fact by fact in `specs/Nodes.antt`, `specs/Forests.antt` and
 //! `specs/Layers.antt`; it names no operation but those that hold a node or make a tree. Each call that
-//! changes a node does it in place, and says in `IsStep` what others may rely on.
+//! changes a node does it in place, and says in `Guarantee` what others may rely on.
 //! Owns its nodes. Errors: `AllocError`, from `new`, `alloc_node` and `new_tree` alone. Units: nodes,
 //! trees and operations by their numbers, from 0.
 
@@ -14,18 +14,18 @@ ghost use Rattle.mt_version.specs.Changes.{CanUnlock};
 ghost use Rattle.mt_border.specs.declared.border.TheConstants.{SLOTS};
 ghost use Rattle.mt_border.specs.declared.entry.Pair.{Pair};
 ghost use Rattle.mt_border.specs.declared.entry.Held.TheVariants.{Stable};
-ghost use Rattle.mt_border.specs.Entry.{IsEntry, IsStable};
+ghost use Rattle.mt_border.specs.Entry.{IsEntry, IsStablePair};
 ghost use Rattle.mt_border.specs.Entries.{IsMissing, with_entry, without, replaced};
 ghost use Rattle.mt_border.specs.Contents.{HasKey, owned};
 ghost use Rattle.mt_arena.specs.declared.tree.Standing.TheVariants.{Live};
-ghost use Rattle.mt_arena.specs.Shape.{node_at, border_shape, interior_shape};
+ghost use Rattle.mt_arena.specs.NodeView.{node_at, border_view, interior_view};
 ghost use Rattle.mt_arena.specs.Nodes.{Holds};
 ghost use Rattle.mt_arena.specs.Forests.{tree_at, layer_of};
 ghost use Rattle.mt_arena.specs.Layers.{slot_at};
 ghost use Rattle.mt_arena.specs.Settled.{IsSettled};
 ghost use Rattle.mt_arena.specs.Nodes.{HasRange};
 ghost use Rattle.mt_arena.specs.Edits.{locked, unlocked, splitting, retired, with_slots, pointed, fresh_root, Points};
-ghost use Rattle.mt_arena.specs.Arena.{IsArena, AreRetired, content_of, IsStep};
+ghost use Rattle.mt_arena.specs.Arena.{IsArena, AreRetired, content_of, Guarantee};
 ghost use Rattle.mt_slices.specs.Marks.{IsMark};
 ghost use Rattle.mt_border.specs.Split.{IsParted, IsSeparator, slices_with};
 ghost use Rattle.mt_arena.specs.Splits.{with_child, inner_left, inner_right};
@@ -54,13 +54,13 @@ pub struct Arena {
 
 impl Model for Arena {
     ghost use Rattle.std.specs.Vec.{vec_capacity};
-    ghost use Rattle.mt_arena.specs.Arena.{View, Sound};
+    ghost use Rattle.mt_arena.specs.Arena.{ArenaView, ArenaInvariant};
 
-    ghost Value = { View };
+    ghost Value = { ArenaView };
 
     ghost view = { λ a. record { nodes = a.nodes.items; trees = a.trees.items; retired = a.retired.items } };
 
-    ghost invariant = { λ a. Sound a.nodes.items a.trees.items a.retired.items (vec_capacity a.retired) };
+    ghost invariant = { λ a. ArenaInvariant a.nodes.items a.trees.items a.retired.items (vec_capacity a.retired) };
 }
 
 impl Arena {
@@ -98,7 +98,7 @@ impl Arena {
     pub fn border(&self, node: usize) -> &Border
         requires there { node < length self.now.nodes }
         requires kind { (at self.now node).level ≡ 0 }
-        ensures { let n = at self.now node in n ≡ border_shape result.now n.tree n.level n.reach n.holder }
+        ensures { let n = at self.now node in n ≡ border_view result.now n.tree n.level n.reach n.holder }
     {
         match self.nodes[node].border() {
             Some(border) => border,
@@ -110,7 +110,7 @@ impl Arena {
     pub fn interior(&self, node: usize) -> &Interior
         requires there { node < length self.now.nodes }
         requires kind { 0 < (at self.now node).level }
-        ensures { let n = at self.now node in n ≡ interior_shape result.now n.tree n.level n.reach n.holder }
+        ensures { let n = at self.now node in n ≡ interior_view result.now n.tree n.level n.reach n.holder }
     {
         match self.nodes[node].interior() {
             Some(interior) => interior,
@@ -147,7 +147,7 @@ impl Arena {
         requires free { (at self.old node).holder ≡ None }
         requires mine { IsOpen self.old node operation }
         ensures is { self.new ≡ with_node self.old node (locked (at self.old node) operation) }
-        ensures step { IsStep operation self.old self.new }
+        ensures step { Guarantee operation self.old self.new }
         ensures contents { content_of self.new ≡ content_of self.old }
     {
         self.nodes[node].lock(operation);
@@ -160,7 +160,7 @@ impl Arena {
         requires room { CanUnlock (at self.old node).version }
         requires mine { IsOpen self.old node operation }
         ensures is { self.new ≡ with_node self.old node (unlocked (at self.old node)) }
-        ensures step { IsStep operation self.old self.new }
+        ensures step { Guarantee operation self.old self.new }
         ensures contents { content_of self.new ≡ content_of self.old }
     {
         self.nodes[node].unlock();
@@ -171,7 +171,7 @@ impl Arena {
         requires held { IsHeld self.old node operation }
         requires mine { IsOpen self.old node operation }
         ensures is { self.new ≡ with_node self.old node (splitting (at self.old node)) }
-        ensures step { IsStep operation self.old self.new }
+        ensures step { Guarantee operation self.old self.new }
         ensures contents { content_of self.new ≡ content_of self.old }
     {
         self.nodes[node].mark_splitting();
@@ -184,7 +184,7 @@ impl Arena {
         requires held { IsHeld self.old previous operation }
         requires mine { IsOpen self.old node operation }
         ensures is { self.new ≡ with_node self.old node (pointed (at self.old node) (Some previous) (at self.old node).parent) }
-        ensures step { IsStep operation self.old self.new }
+        ensures step { Guarantee operation self.old self.new }
         ensures contents { content_of self.new ≡ content_of self.old }
     {
         self.nodes[node].set_previous(Some(previous));
@@ -199,7 +199,7 @@ impl Arena {
         requires theirs { (q : ℕ) → (at self.old node).holder ≡ Some q → q ≢ operation → (at self.old node).parent ≢ None }
         requires mine { IsOpen self.old node operation }
         ensures is { self.new ≡ with_node self.old node (pointed (at self.old node) (at self.old node).previous (Some parent)) }
-        ensures step { IsStep operation self.old self.new }
+        ensures step { Guarantee operation self.old self.new }
         ensures contents { content_of self.new ≡ content_of self.old }
     {
         self.nodes[node].set_parent(Some(parent));
@@ -210,7 +210,7 @@ impl Arena {
     pub fn publish(&mut self, node: usize, entry: Entry, operation: usize)
         requires may { (key : Bytes) × MayPublish self.old node operation key entry }
         ensures is { self.new ≡ with_node self.old node (with_slots (at self.old node) (with_entry (at self.old node).slots entry)) }
-        ensures step { IsStep operation self.old self.new }
+        ensures step { Guarantee operation self.old self.new }
         ensures contents { (key : Bytes) (pair : Pair) → MayPublish self.old node operation key entry → entry.held ≡ Stable pair →
             content_of self.new ≡ finite.insert (content_of self.old) (owned key) pair.row }
     {
@@ -225,7 +225,7 @@ impl Arena {
         ensures is { (pair : Pair) → (slot_at (at self.old node) slot).held ≡ Stable pair →
             self.new ≡ with_node self.old node (with_slots (at self.old node)
             (replaced (at self.old node).slots (with_row (slot_at (at self.old node) slot) pair row stamp))) }
-        ensures step { IsStep operation self.old self.new }
+        ensures step { Guarantee operation self.old self.new }
         ensures contents { (key : Bytes) (pair : Pair) → MayChange self.old node operation key slot pair →
             content_of self.new ≡ finite.insert (content_of self.old) (owned key) row }
     {
@@ -237,7 +237,7 @@ impl Arena {
         requires may { (key : Bytes) × (pair : Pair) × MayChange self.old node operation key slot pair }
         ensures before { result ≡ slot_at (at self.old node) slot }
         ensures is { self.new ≡ with_node self.old node (with_slots (at self.old node) (without (at self.old node).slots result)) }
-        ensures step { IsStep operation self.old self.new }
+        ensures step { Guarantee operation self.old self.new }
         ensures contents { (key : Bytes) (pair : Pair) → MayChange self.old node operation key slot pair →
             content_of self.new ≡ finite.remove (content_of self.old) (owned key) }
     {
@@ -258,7 +258,7 @@ impl Arena {
         ensures number { IfOk result (λ node. node ≡ length self.old.nodes) }
         ensures is { OnOk result (self.new ≡ with_half self.old left low operation) }
         ensures unchanged_on_err { OnErr result (self.new ≡ self.old) }
-        ensures step { IsStep operation self.old self.new }
+        ensures step { Guarantee operation self.old self.new }
         ensures contents { content_of self.new ≡ content_of self.old }
     {
         make_room(&mut self.nodes, &mut self.trees, &mut self.retired)?;
@@ -275,7 +275,7 @@ impl Arena {
         ensures number { IfOk result (λ tree. tree ≡ length self.old.trees) }
         ensures is { OnOk result (self.new ≡ with_tree self.old prefix operation) }
         ensures unchanged_on_err { OnErr result (self.new ≡ self.old) }
-        ensures step { IsStep operation self.old self.new }
+        ensures step { Guarantee operation self.old self.new }
         ensures contents { content_of self.new ≡ content_of self.old }
     {
         make_room(&mut self.nodes, &mut self.trees, &mut self.retired)?;
@@ -297,7 +297,7 @@ impl Arena {
         requires place { (key : Bytes) × MayPlace self.old left operation key entry }
         ensures nodes { AreHalved (with_entry (at self.old left).slots entry) self.old.nodes self.new.nodes left right }
         ensures others { self.new ≡ record self.old { nodes = self.new.nodes } }
-        ensures step { IsStep operation self.old self.new }
+        ensures step { Guarantee operation self.old self.new }
         ensures contents { (key : Bytes) (pair : Pair) → MayPlace self.old left operation key entry → entry.held ≡ Stable pair →
             content_of self.new ≡ finite.insert (content_of self.old) (owned key) pair.row }
     {
@@ -318,7 +318,7 @@ impl Arena {
         requires live { (tree_of self.old left).standing ≡ Live }
         ensures nodes { AreHalved (at self.old left).slots self.old.nodes self.new.nodes left right }
         ensures others { self.new ≡ record self.old { nodes = self.new.nodes } }
-        ensures step { IsStep operation self.old self.new }
+        ensures step { Guarantee operation self.old self.new }
         ensures contents { content_of self.new ≡ content_of self.old }
     {
         halve_without(&mut self.nodes, left, right, slice, mark);
@@ -337,7 +337,7 @@ impl Arena {
         ensures is { OnOk result (self.new ≡ with_root self.old left right operation) }
         ensures settled { IfOk result (λ top. IsSettled self.new.nodes top (at self.new top)) }
         ensures unchanged_on_err { OnErr result (self.new ≡ self.old) }
-        ensures step { IsStep operation self.old self.new }
+        ensures step { Guarantee operation self.old self.new }
         ensures contents { content_of self.new ≡ content_of self.old }
     {
         make_room(&mut self.nodes, &mut self.trees, &mut self.retired)?;
@@ -353,7 +353,7 @@ impl Arena {
     pub fn insert_child(&mut self, parent: usize, left: usize, right: usize, operation: usize)
         requires { MayInsert self.old parent left right operation }
         ensures is { self.new ≡ record self.old { nodes = with_right self.old.nodes parent left right } }
-        ensures step { IsStep operation self.old self.new }
+        ensures step { Guarantee operation self.old self.new }
         ensures contents { content_of self.new ≡ content_of self.old }
     {
         put_child(&mut self.nodes, parent, left, right);
@@ -371,7 +371,7 @@ impl Arena {
     )
         requires { MaySplitInner self.old parent left right half operation }
         ensures is { self.new ≡ record self.old { nodes = with_parts self.old.nodes parent left right half } }
-        ensures step { IsStep operation self.old self.new }
+        ensures step { Guarantee operation self.old self.new }
         ensures contents { content_of self.new ≡ content_of self.old }
     {
         part_parent(&mut self.nodes, parent, left, right, half);
@@ -384,7 +384,7 @@ impl Arena {
         ensures nodes { self.new.nodes ≡ (with_node self.old node (retired (at self.old node))).nodes }
         ensures trees { self.new.trees ≡ self.old.trees }
         ensures retired { self.new.retired ≡ self.old.retired ++ (record { node = node; step = step }) ∷ [] }
-        ensures step { IsStep operation self.old self.new }
+        ensures step { Guarantee operation self.old self.new }
         ensures contents { content_of self.new ≡ content_of self.old }
     {
         self.nodes[node].retire();

@@ -18,13 +18,13 @@ ghost use Rattle.mt_border.specs.Split.{IsParted};
 ghost use Rattle.mt_border.specs.Contents.{owned, HasKey};
 ghost use Rattle.mt_arena.specs.declared.tree.Tree.{Tree};
 ghost use Rattle.mt_arena.specs.declared.tree.Standing.TheVariants.{Live};
-ghost use Rattle.mt_arena.specs.Shape.{Shape, node_at};
+ghost use Rattle.mt_arena.specs.NodeView.{NodeView, node_at};
 ghost use Rattle.mt_arena.specs.Nodes.{Holds, HasRange};
 ghost use Rattle.mt_arena.specs.Forests.{tree_at};
 ghost use Rattle.mt_arena.specs.Layers.{slot_at};
 ghost use Rattle.mt_arena.specs.Contents.{content};
 ghost use Rattle.mt_arena.specs.Arena.{IsArena};
-ghost use Rattle.mt_arena.specs.Evolves.{Evolves, PointsOnly};
+ghost use Rattle.mt_arena.specs.Guarantee.{NodesGuarantee, PointsOnly};
 ghost use Rattle.mt_arena.specs.Settled.{IsSettled};
 ghost use Rattle.mt_arena.specs.Stands.{IsLiveBorder, StandsAt};
 ghost use Rattle.mt_arena.specs.Ways.{LinksOn, BelongsIn, StandsFor, GoesOn, HasSlots, IsUnfilled, IsMadeFor};
@@ -32,13 +32,13 @@ ghost use Rattle.mt_arena.specs.Ways.{LinksOn, BelongsIn, StandsFor, GoesOn, Has
 /// In a tree a slice and a mark stand in one slot of one live border node, and all slots of one
 /// slice stand in one node: the one that has the slice in its range.
 pub fn one_place()
-    ensures one_border { (nodes : List Shape) (trees : List Tree) (tree slice k l : ℕ) →
+    ensures one_border { (nodes : List NodeView) (trees : List Tree) (tree slice k l : ℕ) →
         IsArena nodes trees → IsLiveBorder nodes tree k → IsLiveBorder nodes tree l →
         Holds (node_at nodes k) slice → Holds (node_at nodes l) slice → k ≡ l }
-    ensures one_node { (nodes : List Shape) (trees : List Tree) (tree slice : ℕ) (mark other : Mark) (k i l j : ℕ) →
+    ensures one_node { (nodes : List NodeView) (trees : List Tree) (tree slice : ℕ) (mark other : Mark) (k i l j : ℕ) →
         IsArena nodes trees → StandsAt nodes tree slice mark k i →
         StandsAt nodes tree slice other l j → k ≡ l }
-    ensures one_slot { (nodes : List Shape) (trees : List Tree) (tree slice : ℕ) (mark : Mark) (k i l j : ℕ) →
+    ensures one_slot { (nodes : List NodeView) (trees : List Tree) (tree slice : ℕ) (mark : Mark) (k i l j : ℕ) →
         IsArena nodes trees → StandsAt nodes tree slice mark k i →
         StandsAt nodes tree slice mark l j → (k ≡ l) × (i ≡ j) }
 {}
@@ -48,20 +48,20 @@ pub fn one_place()
 /// be looked for in the top tree, and on behind a link at its slice and mark; it belongs in that live
 /// border node of the tree that has its slice in its range.
 pub fn linked_from_the_top()
-    ensures one_tree { (nodes : List Shape) (trees : List Tree) (t u : ℕ) → IsArena nodes trees →
+    ensures one_tree { (nodes : List NodeView) (trees : List Tree) (t u : ℕ) → IsArena nodes trees →
         (tree_at trees t).standing ≡ Live → (tree_at trees u).standing ≡ Live →
         (tree_at trees t).prefix ≡ (tree_at trees u).prefix → t ≡ u }
-    ensures links { (nodes : List Shape) (trees : List Tree) (key : Bytes) (t layer above : ℕ) →
+    ensures links { (nodes : List NodeView) (trees : List Tree) (key : Bytes) (t layer above : ℕ) →
         IsArena nodes trees → (tree_at trees t).standing ≡ Live →
         (tree_at trees t).prefix ≡ take (8 * layer) key → 8 * layer ≤ length key →
         above < layer → LinksOn nodes trees key above }
-    ensures top { (nodes : List Shape) (trees : List Tree) (key : Bytes) →
+    ensures top { (nodes : List NodeView) (trees : List Tree) (key : Bytes) →
         IsArena nodes trees → IsStoredKey key → GoesOn trees key 0 0 }
-    ensures down { (nodes : List Shape) (trees : List Tree) (key : Bytes) (layer k i u : ℕ) →
+    ensures down { (nodes : List NodeView) (trees : List Tree) (key : Bytes) (layer k i u : ℕ) →
         IsArena nodes trees → BelongsIn nodes trees key layer k →
         StandsAt nodes (node_at nodes k).tree (slice_of key layer) (mark_of key layer) k i →
         (slot_at (node_at nodes k) i).held ≡ Link u → GoesOn trees key (layer + 1) u }
-    ensures here { (nodes : List Shape) (trees : List Tree) (key : Bytes) (layer u k : ℕ) →
+    ensures here { (nodes : List NodeView) (trees : List Tree) (key : Bytes) (layer u k : ℕ) →
         GoesOn trees key layer u → IsLiveBorder nodes u k →
         Holds (node_at nodes k) (slice_of key layer) → BelongsIn nodes trees key layer k }
 {}
@@ -70,20 +70,20 @@ pub fn linked_from_the_top()
 /// or has another one at its slice and mark, the contents have none, and where it has the key's
 /// pair, they have that one's row and no other slot has the key.
 pub fn none_elsewhere()
-    ensures missing { (nodes : List Shape) (trees : List Tree) (key : Bytes) (layer k : ℕ) →
+    ensures missing { (nodes : List NodeView) (trees : List Tree) (key : Bytes) (layer k : ℕ) →
         IsArena nodes trees → BelongsIn nodes trees key layer k →
         IsMissing (node_at nodes k).slots (slice_of key layer) (mark_of key layer) →
         pairs.get (content trees nodes) (owned key) ≡ None }
-    ensures other { (nodes : List Shape) (trees : List Tree) (key : Bytes) (layer k i : ℕ) (other : Pair) →
+    ensures other { (nodes : List NodeView) (trees : List Tree) (key : Bytes) (layer k i : ℕ) (other : Pair) →
         IsArena nodes trees → BelongsIn nodes trees key layer k →
         StandsAt nodes (node_at nodes k).tree (slice_of key layer) (mark_of key layer) k i →
         pair_of (slot_at (node_at nodes k) i).held ≡ Some other →
         other.suffix ≢ suffix_of key layer →
         pairs.get (content trees nodes) (owned key) ≡ None }
-    ensures found { (nodes : List Shape) (trees : List Tree) (key : Bytes) (layer k i : ℕ) (pair : Pair) →
+    ensures found { (nodes : List NodeView) (trees : List Tree) (key : Bytes) (layer k i : ℕ) (pair : Pair) →
         IsArena nodes trees → StandsFor nodes trees key layer k i pair →
         pairs.get (content trees nodes) (owned key) ≡ Some pair.row }
-    ensures once { (nodes : List Shape) (trees : List Tree) (key : Bytes) (layer k i : ℕ) (pair : Pair) (low l j : ℕ) (other : Pair) →
+    ensures once { (nodes : List NodeView) (trees : List Tree) (key : Bytes) (layer k i : ℕ) (pair : Pair) (low l j : ℕ) (other : Pair) →
         IsArena nodes trees → StandsFor nodes trees key layer k i pair →
         StandsFor nodes trees key low l j other → (k ≡ l) × (i ≡ j) }
 {}
@@ -92,29 +92,29 @@ pub fn none_elsewhere()
 /// pair, also where the node's slots are parted among two nodes in the same step; to store a row in
 /// its slot, or to replace its entry, inserts the new row, and to drop the slot removes the pair.
 pub fn contents_by_slot()
-    ensures publish { (nodes : List Shape) (trees : List Tree) (key : Bytes) (layer k : ℕ) (y : Shape) (e : Entry) (pair : Pair) →
+    ensures publish { (nodes : List NodeView) (trees : List Tree) (key : Bytes) (layer k : ℕ) (y : NodeView) (e : Entry) (pair : Pair) →
         IsArena nodes trees → BelongsIn nodes trees key layer k →
         HasKey (tree_at trees (node_at nodes k).tree).prefix layer e key →
         IsMissing (node_at nodes k).slots e.slice e.mark → pair_of e.held ≡ Some pair →
         HasSlots (node_at nodes k) y (with_entry (node_at nodes k).slots e) →
         content trees (slice_set nodes k y) ≡ pairs.insert (content trees nodes) (owned key) pair.row }
-    ensures split { (nodes : List Shape) (trees : List Tree) (key : Bytes) (layer k j : ℕ) (x y : Shape) (left right : List Entry) (separator : ℕ) (e : Entry) (pair : Pair) →
+    ensures split { (nodes : List NodeView) (trees : List Tree) (key : Bytes) (layer k j : ℕ) (x y : NodeView) (left right : List Entry) (separator : ℕ) (e : Entry) (pair : Pair) →
         IsArena nodes trees → BelongsIn nodes trees key layer k → IsUnfilled nodes k j →
         HasKey (tree_at trees (node_at nodes k).tree).prefix layer e key →
         IsMissing (node_at nodes k).slots e.slice e.mark → pair_of e.held ≡ Some pair →
         IsParted (with_entry (node_at nodes k).slots e) left right separator →
         HasSlots (node_at nodes k) x left → HasSlots (node_at nodes j) y right →
         content trees (slice_set (slice_set nodes k x) j y) ≡ pairs.insert (content trees nodes) (owned key) pair.row }
-    ensures store { (nodes : List Shape) (trees : List Tree) (key : Bytes) (layer k i : ℕ) (pair : Pair) (y : Shape) (row : Columns) (stamp : ℕ) →
+    ensures store { (nodes : List NodeView) (trees : List Tree) (key : Bytes) (layer k i : ℕ) (pair : Pair) (y : NodeView) (row : Columns) (stamp : ℕ) →
         IsArena nodes trees → StandsFor nodes trees key layer k i pair →
         HasSlots (node_at nodes k) y (slice_set (node_at nodes k).slots i (record (slot_at (node_at nodes k) i) { held = Stable (record pair { row = row; stamp = stamp }) })) →
         content trees (slice_set nodes k y) ≡ pairs.insert (content trees nodes) (owned key) row }
-    ensures replace { (nodes : List Shape) (trees : List Tree) (key : Bytes) (layer k i : ℕ) (pair : Pair) (y : Shape) (e : Entry) (new : Pair) →
+    ensures replace { (nodes : List NodeView) (trees : List Tree) (key : Bytes) (layer k i : ℕ) (pair : Pair) (y : NodeView) (e : Entry) (new : Pair) →
         IsArena nodes trees → StandsFor nodes trees key layer k i pair →
         HasKey (tree_at trees (node_at nodes k).tree).prefix layer e key → pair_of e.held ≡ Some new →
         HasSlots (node_at nodes k) y (slice_set (node_at nodes k).slots i e) →
         content trees (slice_set nodes k y) ≡ pairs.insert (content trees nodes) (owned key) new.row }
-    ensures drop { (nodes : List Shape) (trees : List Tree) (key : Bytes) (layer k i : ℕ) (pair : Pair) (y : Shape) →
+    ensures drop { (nodes : List NodeView) (trees : List Tree) (key : Bytes) (layer k i : ℕ) (pair : Pair) (y : NodeView) →
         IsArena nodes trees → StandsFor nodes trees key layer k i pair →
         HasSlots (node_at nodes k) y (remove (node_at nodes k).slots i) →
         content trees (slice_set nodes k y) ≡ pairs.remove (content trees nodes) (owned key) }
@@ -125,34 +125,34 @@ pub fn contents_by_slot()
 /// node without slots, one more such node, one more tree, another root in a tree's record, and any
 /// change of a tree whose nodes are deleted or have no slots.
 pub fn contents_stand()
-    ensures same_slots { (nodes : List Shape) (trees : List Tree) (k : ℕ) (y : Shape) →
+    ensures same_slots { (nodes : List NodeView) (trees : List Tree) (k : ℕ) (y : NodeView) →
         HasSlots (node_at nodes k) y (node_at nodes k).slots →
         content trees (slice_set nodes k y) ≡ content trees nodes }
-    ensures parted { (nodes : List Shape) (trees : List Tree) (k j : ℕ) (x y : Shape) (left right : List Entry) (separator : ℕ) →
+    ensures parted { (nodes : List NodeView) (trees : List Tree) (k j : ℕ) (x y : NodeView) (left right : List Entry) (separator : ℕ) →
         IsArena nodes trees → k < length nodes → (node_at nodes k).version.deleted ≡ false →
         (tree_at trees (node_at nodes k).tree).standing ≡ Live → IsUnfilled nodes k j →
         IsParted (node_at nodes k).slots left right separator →
         HasSlots (node_at nodes k) x left → HasSlots (node_at nodes j) y right →
         content trees (slice_set (slice_set nodes k x) j y) ≡ content trees nodes }
-    ensures same_pair { (nodes : List Shape) (trees : List Tree) (k i : ℕ) (y : Shape) (held : Held) →
+    ensures same_pair { (nodes : List NodeView) (trees : List Tree) (k i : ℕ) (y : NodeView) (held : Held) →
         pair_of held ≡ pair_of (slot_at (node_at nodes k) i).held →
         HasSlots (node_at nodes k) y (slice_set (node_at nodes k).slots i (record (slot_at (node_at nodes k) i) { held = held })) →
         content trees (slice_set nodes k y) ≡ content trees nodes }
-    ensures no_link { (nodes : List Shape) (trees : List Tree) (k i u : ℕ) (y : Shape) →
+    ensures no_link { (nodes : List NodeView) (trees : List Tree) (k i u : ℕ) (y : NodeView) →
         (slot_at (node_at nodes k) i).held ≡ Link u →
         HasSlots (node_at nodes k) y (remove (node_at nodes k).slots i) →
         content trees (slice_set nodes k y) ≡ content trees nodes }
-    ensures no_slots { (nodes : List Shape) (trees : List Tree) (k : ℕ) (y : Shape) →
+    ensures no_slots { (nodes : List NodeView) (trees : List Tree) (k : ℕ) (y : NodeView) →
         (node_at nodes k).slots ≡ [] → y.slots ≡ [] →
         content trees (slice_set nodes k y) ≡ content trees nodes }
-    ensures push { (nodes : List Shape) (trees : List Tree) (y : Shape) → y.slots ≡ [] →
+    ensures push { (nodes : List NodeView) (trees : List Tree) (y : NodeView) → y.slots ≡ [] →
         content trees (nodes ++ y ∷ []) ≡ content trees nodes }
-    ensures push_tree { (nodes : List Shape) (trees : List Tree) (tree : Tree) → IsArena nodes trees →
+    ensures push_tree { (nodes : List NodeView) (trees : List Tree) (tree : Tree) → IsArena nodes trees →
         content (trees ++ tree ∷ []) nodes ≡ content trees nodes }
-    ensures set_tree { (nodes : List Shape) (trees : List Tree) (t : ℕ) (tree : Tree) → t < length trees →
+    ensures set_tree { (nodes : List NodeView) (trees : List Tree) (t : ℕ) (tree : Tree) → t < length trees →
         tree.prefix ≡ (tree_at trees t).prefix → tree.standing ≡ (tree_at trees t).standing →
         content (slice_set trees t tree) nodes ≡ content trees nodes }
-    ensures left_tree { (nodes : List Shape) (trees : List Tree) (t : ℕ) (tree : Tree) →
+    ensures left_tree { (nodes : List NodeView) (trees : List Tree) (t : ℕ) (tree : Tree) →
         ((l : ℕ) → l < length nodes → (node_at nodes l).tree ≡ t →
         ((node_at nodes l).version.deleted ≡ true) ⊎ ((node_at nodes l).slots ≡ [])) →
         content (slice_set trees t tree) nodes ≡ content trees nodes }
@@ -161,7 +161,7 @@ pub fn contents_stand()
 /// A slot whose entry gives way to one without a pair, as the tree that was made for its key and
 /// row goes live, leaves the contents as they are.
 pub fn contents_stand_as_a_tree_goes_live()
-    ensures { (nodes : List Shape) (trees : List Tree) (key : Bytes) (layer k i : ℕ) (pair : Pair) (low t r : ℕ) (tree : Tree) (y : Shape) (e : Entry) →
+    ensures { (nodes : List NodeView) (trees : List Tree) (key : Bytes) (layer k i : ℕ) (pair : Pair) (low t r : ℕ) (tree : Tree) (y : NodeView) (e : Entry) →
         IsArena nodes trees → StandsFor nodes trees key layer k i pair →
         IsMadeFor nodes trees key low t r pair.row →
         tree.prefix ≡ (tree_at trees t).prefix → tree.standing ≡ Live → pair_of e.held ≡ None →
@@ -171,7 +171,7 @@ pub fn contents_stand_as_a_tree_goes_live()
 
 /// A node that has a parent has a range, and is no root: another parent may be written into it.
 pub fn a_child_is_no_root()
-    ensures { (nodes : List Shape) (trees : List Tree) (k : ℕ) → IsArena nodes trees → k < length nodes →
+    ensures { (nodes : List NodeView) (trees : List Tree) (k : ℕ) → IsArena nodes trees → k < length nodes →
         (node_at nodes k).version.deleted ≡ false → (node_at nodes k).parent ≢ None →
         HasRange (node_at nodes k) × ((node_at nodes k).version.root ≡ false) }
 {}
@@ -179,12 +179,12 @@ pub fn a_child_is_no_root()
 /// What steps of one operation leave to others adds up: nothing is done by no step, and two steps are
 /// as one, also for whom nodes name where the second one gives no lock back. While another operation goes on, nothing comes to lag behind a node that is held.
 pub fn steps_add_up()
-    ensures none { (op : ℕ) (nodes : List Shape) (trees : List Tree) → Evolves op nodes nodes trees trees }
-    ensures two { (op : ℕ) (old mid new : List Shape) (were between are : List Tree) → IsArena old were →
-        Evolves op old mid were between → Evolves op mid new between are → Evolves op old new were are }
-    ensures points { (op : ℕ) (old mid new : List Shape) → length old ≤ length mid → PointsOnly op old mid → PointsOnly op mid new →
+    ensures none { (op : ℕ) (nodes : List NodeView) (trees : List Tree) → NodesGuarantee op nodes nodes trees trees }
+    ensures two { (op : ℕ) (old mid new : List NodeView) (were between are : List Tree) → IsArena old were →
+        NodesGuarantee op old mid were between → NodesGuarantee op mid new between are → NodesGuarantee op old new were are }
+    ensures points { (op : ℕ) (old mid new : List NodeView) → length old ≤ length mid → PointsOnly op old mid → PointsOnly op mid new →
         ((j : ℕ) → j < length mid → (node_at mid j).holder ≡ Some op → (node_at new j).holder ≡ Some op) → PointsOnly op old new }
-    ensures settled { (op holder : ℕ) (old new : List Shape) (were are : List Tree) (k : ℕ) →
-        Evolves op old new were are → PointsOnly op old new → holder ≢ op → k < length old →
+    ensures settled { (op holder : ℕ) (old new : List NodeView) (were are : List Tree) (k : ℕ) →
+        NodesGuarantee op old new were are → PointsOnly op old new → holder ≢ op → k < length old →
         (node_at old k).holder ≡ Some holder → IsSettled old k (node_at old k) → IsSettled new k (node_at new k) }
 {}

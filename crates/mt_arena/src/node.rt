@@ -16,7 +16,7 @@ use std::marker::Model;
 
 /// The two kinds of node.
 #[derive(Drop)]
-pub enum Kind {
+pub enum NodeKind {
     Leaf(Border),
     Inner(Interior),
 }
@@ -25,7 +25,7 @@ pub enum Kind {
 /// from its high fence as long as a right half that was split off is in no parent.
 #[derive(Drop)]
 pub struct Node {
-    kind: Kind,
+    kind: NodeKind,
     tree: usize,
     level: usize,
     reach: Option<u64>,
@@ -33,23 +33,23 @@ pub struct Node {
 }
 
 impl Model for Node {
-    ghost use Rattle.mt_arena.specs.Shape.{Shape, shape_of, IsOfKind};
+    ghost use Rattle.mt_arena.specs.NodeView.{NodeView, node_view, IsOfKind};
 
-    ghost Value = { Shape };
+    ghost Value = { NodeView };
 
-    ghost view = { λ n. shape_of n.kind n.tree n.level n.reach n.holder };
+    ghost view = { λ n. node_view n.kind n.tree n.level n.reach n.holder };
 
     ghost invariant = { λ n. IsOfKind n.kind n.level };
 }
 
 impl Node {
     ghost use Rattle.mt_version.specs.Changes.{CanUnlock};
-    ghost use Rattle.mt_border.specs.Entry.{IsEntry, IsStable};
+    ghost use Rattle.mt_border.specs.Entry.{IsEntry, IsStablePair};
     ghost use Rattle.mt_border.specs.Entries.{IsMissing, with_entry, without, replaced};
     ghost use Rattle.mt_border.specs.declared.border.TheConstants.{SLOTS};
     ghost use Rattle.mt_border.specs.declared.entry.Pair.{Pair};
     ghost use Rattle.mt_border.specs.declared.entry.Held.TheVariants.{Stable};
-    ghost use Rattle.mt_arena.specs.Shape.{Shape, border_shape, interior_shape, IsOfKind};
+    ghost use Rattle.mt_arena.specs.NodeView.{NodeView, border_view, interior_view, IsOfKind};
     ghost use Rattle.mt_arena.specs.Layers.{slot_at};
     ghost use Rattle.mt_arena.specs.Edits.{locked, unlocked, inserting, splitting, retired, with_slots, pointed, fresh_half, fresh_root};
     ghost use Rattle.mt_slices.specs.Marks.{IsMark};
@@ -63,7 +63,7 @@ impl Node {
         ensures { result ≡ fresh_root tree }
     {
         Node {
-            kind: Kind::Leaf(Border::new(alloc, 0, None, Version::root_border())),
+            kind: NodeKind::Leaf(Border::new(alloc, 0, None, Version::root_border())),
             tree,
             level: 0,
             reach: None,
@@ -78,13 +78,13 @@ impl Node {
         ensures { result ≡ fresh_half self.now low operation }
     {
         let kind = match &self.kind {
-            Kind::Leaf(_) => {
+            NodeKind::Leaf(_) => {
                 let version = Version::child_border().locked().marked_splitting();
-                Kind::Leaf(Border::new(alloc, low, Some(low), version))
+                NodeKind::Leaf(Border::new(alloc, low, Some(low), version))
             }
-            Kind::Inner(_) => {
+            NodeKind::Inner(_) => {
                 let version = Version::child_interior().locked().marked_splitting();
-                Kind::Inner(Interior::new(low, Some(low), version))
+                NodeKind::Inner(Interior::new(low, Some(low), version))
             }
         };
         Node {
@@ -99,22 +99,22 @@ impl Node {
     /// The border node that it is, if it is one.
     pub fn border(&self) -> Option<&Border>
         ensures kind { IsSome result ↔ (self.now.level ≡ 0) }
-        ensures value { IfSome result (λ b. self.now ≡ border_shape b.now self.now.tree self.now.level self.now.reach self.now.holder) }
+        ensures value { IfSome result (λ b. self.now ≡ border_view b.now self.now.tree self.now.level self.now.reach self.now.holder) }
     {
         match &self.kind {
-            Kind::Leaf(border) => Some(border),
-            Kind::Inner(_) => None,
+            NodeKind::Leaf(border) => Some(border),
+            NodeKind::Inner(_) => None,
         }
     }
 
     /// The interior node that it is, if it is one.
     pub fn interior(&self) -> Option<&Interior>
         ensures kind { IsSome result ↔ (0 < self.now.level) }
-        ensures value { IfSome result (λ i. self.now ≡ interior_shape i.now self.now.tree self.now.level self.now.reach self.now.holder) }
+        ensures value { IfSome result (λ i. self.now ≡ interior_view i.now self.now.tree self.now.level self.now.reach self.now.holder) }
     {
         match &self.kind {
-            Kind::Leaf(_) => None,
-            Kind::Inner(interior) => Some(interior),
+            NodeKind::Leaf(_) => None,
+            NodeKind::Inner(interior) => Some(interior),
         }
     }
 
@@ -143,8 +143,8 @@ impl Node {
         ensures { result ≡ self.now.version }
     {
         match &self.kind {
-            Kind::Leaf(border) => border.version(),
-            Kind::Inner(interior) => interior.version(),
+            NodeKind::Leaf(border) => border.version(),
+            NodeKind::Inner(interior) => interior.version(),
         }
     }
 
@@ -153,8 +153,8 @@ impl Node {
         ensures { result ≡ self.now.low }
     {
         match &self.kind {
-            Kind::Leaf(border) => border.low(),
-            Kind::Inner(interior) => interior.low(),
+            NodeKind::Leaf(border) => border.low(),
+            NodeKind::Inner(interior) => interior.low(),
         }
     }
 
@@ -163,8 +163,8 @@ impl Node {
         ensures { result ≡ self.now.high }
     {
         match &self.kind {
-            Kind::Leaf(border) => border.high(),
-            Kind::Inner(interior) => interior.high(),
+            NodeKind::Leaf(border) => border.high(),
+            NodeKind::Inner(interior) => interior.high(),
         }
     }
 
@@ -173,8 +173,8 @@ impl Node {
         ensures { result ≡ self.now.parent }
     {
         match &self.kind {
-            Kind::Leaf(border) => border.parent(),
-            Kind::Inner(interior) => interior.parent(),
+            NodeKind::Leaf(border) => border.parent(),
+            NodeKind::Inner(interior) => interior.parent(),
         }
     }
 
@@ -183,8 +183,8 @@ impl Node {
         ensures { result ≡ self.now.next }
     {
         match &self.kind {
-            Kind::Leaf(border) => border.next(),
-            Kind::Inner(_) => None,
+            NodeKind::Leaf(border) => border.next(),
+            NodeKind::Inner(_) => None,
         }
     }
 
@@ -194,8 +194,8 @@ impl Node {
         ensures { result ≡ self.now.previous }
     {
         match &self.kind {
-            Kind::Leaf(border) => border.previous(),
-            Kind::Inner(_) => None,
+            NodeKind::Leaf(border) => border.previous(),
+            NodeKind::Inner(_) => None,
         }
     }
 
@@ -204,8 +204,8 @@ impl Node {
         ensures { self.new ≡ record self.old { version = version } }
     {
         match &mut self.kind {
-            Kind::Leaf(border) => border.set_version(version),
-            Kind::Inner(interior) => interior.set_version(version),
+            NodeKind::Leaf(border) => border.set_version(version),
+            NodeKind::Inner(interior) => interior.set_version(version),
         }
     }
 
@@ -246,8 +246,8 @@ impl Node {
         ensures { self.new ≡ pointed self.old self.old.previous parent }
     {
         match &mut self.kind {
-            Kind::Leaf(border) => border.set_parent(parent),
-            Kind::Inner(interior) => interior.set_parent(parent),
+            NodeKind::Leaf(border) => border.set_parent(parent),
+            NodeKind::Inner(interior) => interior.set_parent(parent),
         }
     }
 
@@ -256,8 +256,8 @@ impl Node {
         ensures { self.new ≡ pointed self.old previous self.old.parent }
     {
         match &mut self.kind {
-            Kind::Leaf(border) => border.set_previous(previous),
-            Kind::Inner(_) => unreachable!(),
+            NodeKind::Leaf(border) => border.set_previous(previous),
+            NodeKind::Inner(_) => unreachable!(),
         }
     }
 
@@ -270,8 +270,8 @@ impl Node {
         ensures { self.new ≡ with_slots self.old (with_entry self.old.slots entry) }
     {
         match &mut self.kind {
-            Kind::Leaf(border) => border.publish(entry),
-            Kind::Inner(_) => unreachable!(),
+            NodeKind::Leaf(border) => border.publish(entry),
+            NodeKind::Inner(_) => unreachable!(),
         }
         self.mark_inserting();
     }
@@ -281,15 +281,15 @@ impl Node {
     pub(crate) fn store(&mut self, slot: usize, row: Row, stamp: u64) -> Row
         requires border { self.old.level ≡ 0 }
         requires live { slot < length self.old.slots }
-        requires stable { IsStable (slot_at self.old slot).held }
+        requires stable { IsStablePair (slot_at self.old slot).held }
         ensures before { (pair : Pair) → (slot_at self.old slot).held ≡ Stable pair → result ≡ pair.row }
         ensures after { (pair : Pair) → (slot_at self.old slot).held ≡ Stable pair →
             self.new ≡ with_slots self.old (replaced self.old.slots
             (record (slot_at self.old slot) { held = Stable (record pair { row = row; stamp = stamp }) })) }
     {
         let old = match &mut self.kind {
-            Kind::Leaf(border) => border.store(slot, row, stamp),
-            Kind::Inner(_) => unreachable!(),
+            NodeKind::Leaf(border) => border.store(slot, row, stamp),
+            NodeKind::Inner(_) => unreachable!(),
         };
         self.mark_inserting();
         old
@@ -303,8 +303,8 @@ impl Node {
         ensures after { self.new ≡ with_slots self.old (without self.old.slots result) }
     {
         let old = match &mut self.kind {
-            Kind::Leaf(border) => border.drop_key(slot),
-            Kind::Inner(_) => unreachable!(),
+            NodeKind::Leaf(border) => border.drop_key(slot),
+            NodeKind::Inner(_) => unreachable!(),
         };
         self.mark_inserting();
         old
@@ -333,14 +333,14 @@ impl Node {
         ensures right { right.new ≡ right_half self.old right.old right.new.slots left_number }
     {
         match &mut self.kind {
-            Kind::Leaf(left) => match &mut right.kind {
-                Kind::Leaf(half) => {
+            NodeKind::Leaf(left) => match &mut right.kind {
+                NodeKind::Leaf(half) => {
                     left.split_into(entry, half);
                     hand_over(left, half, left_number, right_number);
                 }
-                Kind::Inner(_) => unreachable!(),
+                NodeKind::Inner(_) => unreachable!(),
             },
-            Kind::Inner(_) => unreachable!(),
+            NodeKind::Inner(_) => unreachable!(),
         }
         right.reach = self.reach;
     }
@@ -369,14 +369,14 @@ impl Node {
         ensures right { right.new ≡ right_half self.old right.old right.new.slots left_number }
     {
         match &mut self.kind {
-            Kind::Leaf(left) => match &mut right.kind {
-                Kind::Leaf(half) => {
+            NodeKind::Leaf(left) => match &mut right.kind {
+                NodeKind::Leaf(half) => {
                     left.split_without(slice, mark, half);
                     hand_over(left, half, left_number, right_number);
                 }
-                Kind::Inner(_) => unreachable!(),
+                NodeKind::Inner(_) => unreachable!(),
             },
-            Kind::Inner(_) => unreachable!(),
+            NodeKind::Inner(_) => unreachable!(),
         }
         right.reach = self.reach;
     }
@@ -390,7 +390,7 @@ impl Node {
         let mut root = Interior::new(0, None, Version::root_interior().locked());
         root.put_over(left, separator, right);
         Node {
-            kind: Kind::Inner(root),
+            kind: NodeKind::Inner(root),
             tree: self.tree,
             level: self.level + 1,
             reach: None,
@@ -423,8 +423,8 @@ impl Node {
         ensures { self.new ≡ with_child (inserting self.old) separator child }
     {
         match &mut self.kind {
-            Kind::Leaf(_) => unreachable!(),
-            Kind::Inner(interior) => interior.insert_child(separator, child),
+            NodeKind::Leaf(_) => unreachable!(),
+            NodeKind::Inner(interior) => interior.insert_child(separator, child),
         }
         self.mark_inserting();
     }
@@ -441,10 +441,10 @@ impl Node {
         ensures right { right.new ≡ inner_right (with_child self.old separator child) right.old }
     {
         match &mut self.kind {
-            Kind::Leaf(_) => unreachable!(),
-            Kind::Inner(left) => match &mut right.kind {
-                Kind::Leaf(_) => unreachable!(),
-                Kind::Inner(half) => {
+            NodeKind::Leaf(_) => unreachable!(),
+            NodeKind::Inner(left) => match &mut right.kind {
+                NodeKind::Leaf(_) => unreachable!(),
+                NodeKind::Inner(half) => {
                     let middle = left.split_into(separator, child, half);
                     half.set_high(left.high());
                     left.set_high(Some(middle));

@@ -5,7 +5,7 @@ use Rattle.mt_border.specs.declared.entry.Pair.{Pair}
 use Rattle.mt_border.specs.declared.entry.Entry.{Entry}
 use Rattle.mt_border.specs.declared.entry.Held.{Held}
 use Rattle.mt_border.specs.declared.entry.Held.TheVariants.{Stable, Unstable, Link}
-use Rattle.mt_border.specs.Entry.{IsStable, pair_of}
+use Rattle.mt_border.specs.Entry.{IsStablePair, pair_of}
 use Rattle.mt_border.specs.Entries.{IsRising, orders, replaced}
 use Rattle.mt_border.specs.Contents.{HasKey}
 use Rattle.mt_border.proofs.Edits.{any_entry, replaced_at}
@@ -14,12 +14,12 @@ use Rattle.mt_arena.specs.Layers.{slot_at}
 use Rattle.mt_arena.specs.Edits.{with_slots, splitting, fresh_half}
 use Rattle.mt_arena.specs.Splits.{left_half, right_half}
 use Rattle.mt_arena.specs.Several.{AreHalved, MayGrow}
-use Rattle.mt_arena.specs.Arena.{View}
+use Rattle.mt_arena.specs.Arena.{ArenaView}
 use Rattle.mt_arena.specs.Accesses.{at, with_node, with_row, MayChange}
 use Rattle.mt_arena_tests.specs.ArenaStory.{held_root, of_nodes, holding}
 
 -- a stable slot has a pair
-held_pair : (h : Held) → IsStable h → (pair : Pair) × (h ≡ Stable pair)
+held_pair : (h : Held) → IsStablePair h → (pair : Pair) × (h ≡ Stable pair)
 held_pair (Stable pair) stable = (pair, refl)
 held_pair (Unstable pair tree) stable = absurd stable
 held_pair (Link tree) stable = absurd stable
@@ -34,7 +34,7 @@ may_change_pair key e pair has is = record {
   stable = is;
 }
 
-pub may_change : (v : View) (key : Bytes) (e : Entry) → v ≡ holding (e ∷ []) → HasKey [] 0 e key → IsStable e.held → (x : Bytes) × (pair : Pair) × MayChange v 0 5 x 0 pair
+pub may_change : (v : ArenaView) (key : Bytes) (e : Entry) → v ≡ holding (e ∷ []) → HasKey [] 0 e key → IsStablePair e.held → (x : Bytes) × (pair : Pair) × MayChange v 0 5 x 0 pair
 may_change v key e is has stable =
     let found = held_pair e.held stable in
     rw is (key, found.0, may_change_pair key e found.0 has found.1)
@@ -44,9 +44,9 @@ one_rises : (e : Entry) → IsRising (orders (e ∷ []))
 one_rises e i j lt within = absurd (omega (arith, lt, within))
 
 -- and then the key stands there with another row
-pub changed : (v new : View) (key : Bytes) (e : Entry) (row : Columns) (stamp : ℕ) → v ≡ holding (e ∷ []) → HasKey [] 0 e key → IsStable e.held
+pub changed : (v new : ArenaView) (key : Bytes) (e : Entry) (row : Columns) (stamp : ℕ) → v ≡ holding (e ∷ []) → HasKey [] 0 e key → IsStablePair e.held
     → ((pair : Pair) → (slot_at (at v 0) 0).held ≡ Stable pair → new ≡ with_node v 0 (with_slots (at v 0) (replaced (at v 0).slots (with_row (slot_at (at v 0) 0) pair row stamp))))
-    → (x : Entry) × (new ≡ holding (x ∷ [])) × HasKey [] 0 x key × IsStable x.held
+    → (x : Entry) × (new ≡ holding (x ∷ [])) × HasKey [] 0 x key × IsStablePair x.held
 changed v new key e row stamp is has stable step =
     let found = held_pair e.held stable in
     let here = rw is at step found.0 in (
@@ -57,7 +57,7 @@ changed v new key e row stamp is has stable step =
     )
 
 -- the halves of the root may get a new root
-pub may_grow : (v new : View) (slots all : List Entry) (low half : ℕ) → v ≡ of_nodes (splitting (with_slots held_root slots) ∷ fresh_half (with_slots held_root slots) low 5 ∷ []) → half ≡ 1 → low < 18446744073709551616 → AreHalved all v.nodes new.nodes 0 half → new ≡ record v { nodes = new.nodes } → MayGrow new 0 half 5
+pub may_grow : (v new : ArenaView) (slots all : List Entry) (low half : ℕ) → v ≡ of_nodes (splitting (with_slots held_root slots) ∷ fresh_half (with_slots held_root slots) low 5 ∷ []) → half ≡ 1 → low < 18446744073709551616 → AreHalved all v.nodes new.nodes 0 half → new ≡ record v { nodes = new.nodes } → MayGrow new 0 half 5
 may_grow v new slots all low half is number fits halves others =
     let h = rw (is, number) at halves in
     let after : new ≡ of_nodes (left_half (splitting (with_slots held_root slots)) h.kept low 1 ∷ right_half (splitting (with_slots held_root slots)) (fresh_half (with_slots held_root slots) low 5) h.moved 0 ∷ []) = others ∙ (λ a. record (is a) { nodes = h.is a }) in

@@ -7,7 +7,7 @@ ghost use Rattle.mt_slices.specs.Slices.{slice_of, mark_of};
 ghost use Rattle.mt_border.specs.Entries.{IsMissing};
 ghost use Rattle.mt_border.specs.Split.{IsSeparator, slices_with};
 ghost use Rattle.mt_border.specs.declared.entry.Entry.{Entry as Slot};
-ghost use Rattle.mt_border.specs.Entry.{IsEntry, IsStable};
+ghost use Rattle.mt_border.specs.Entry.{IsEntry, IsStablePair};
 ghost use Rattle.mt_border.specs.Contents.{HasKey};
 ghost use Rattle.mt_arena.specs.Edits.{unlocked, retired};
 ghost use Rattle.mt_arena.specs.Accesses.{at, with_node, with_tree};
@@ -15,7 +15,7 @@ ghost use Rattle.mt_arena_tests.specs.ArenaStory.{held_root, of_nodes, holding, 
 
 use mt_arena::{Arena, Prefix, Standing};
 use mt_border::laws::suffix_fits_mark;
-use mt_border::{Entry, Find, Held, Kind, Pair, Suffix};
+use mt_border::{Entry, Find, Held, FoundKind, Pair, Suffix};
 use mt_rows::{Column, Row};
 use mt_slices::StoredKey;
 use std::alloc::{AllocError, Global};
@@ -34,7 +34,7 @@ fn row_of(rt: &impl Abort, alloc: Global, column: &[u8]) -> Result<Row, AllocErr
 fn entry_of(rt: &impl Abort, alloc: Global, key: &StoredKey) -> Result<Entry, AllocError>
     ensures entry { IfOk result (λ entry. IsEntry entry) }
     ensures has { IfOk result (λ entry. HasKey [] 0 entry key.now) }
-    ensures stable { IfOk result (λ entry. IsStable entry.held) }
+    ensures stable { IfOk result (λ entry. IsStablePair entry.held) }
 {
     suffix_fits_mark();
     let row = row_of(rt, alloc, b"v")?;
@@ -65,7 +65,7 @@ fn put(arena: &mut Arena, key: &StoredKey, entry: Entry)
     requires arena { arena.old ≡ of_nodes (held_root ∷ []) }
     requires entry { IsEntry entry }
     requires has { HasKey [] 0 entry key.now }
-    requires stable { IsStable entry.held }
+    requires stable { IsStablePair entry.held }
     ensures { arena.new ≡ holding (entry ∷ []) }
 {
     arena.publish(0, entry, 5);
@@ -73,15 +73,15 @@ fn put(arena: &mut Arena, key: &StoredKey, entry: Entry)
 
 // Puts another row, placed by step 8, in the place of the key's, and gives the old one back.
 fn replace(arena: &mut Arena, key: &StoredKey, row: Row) -> Row
-    requires { (entry : Slot) × (arena.old ≡ holding (entry ∷ [])) × HasKey [] 0 entry key.now × IsStable entry.held }
-    ensures { (entry : Slot) × (arena.new ≡ holding (entry ∷ [])) × HasKey [] 0 entry key.now × IsStable entry.held }
+    requires { (entry : Slot) × (arena.old ≡ holding (entry ∷ [])) × HasKey [] 0 entry key.now × IsStablePair entry.held }
+    ensures { (entry : Slot) × (arena.new ≡ holding (entry ∷ [])) × HasKey [] 0 entry key.now × IsStablePair entry.held }
 {
     arena.store(0, 0, row, 8, 5)
 }
 
 // Takes the key out again.
 fn drop_out(arena: &mut Arena, key: &StoredKey) -> Entry
-    requires { (entry : Slot) × (arena.old ≡ holding (entry ∷ [])) × HasKey [] 0 entry key.now × IsStable entry.held }
+    requires { (entry : Slot) × (arena.old ≡ holding (entry ∷ [])) × HasKey [] 0 entry key.now × IsStablePair entry.held }
     ensures { arena.new ≡ holding [] }
 {
     arena.drop_key(0, 0, 5)
@@ -103,7 +103,7 @@ fn stamp_of(arena: &Arena, key: &StoredKey) -> Option<u64>
     suffix_fits_mark();
     let border = arena.border(0);
     match border.find(key.slice(0), key.mark(0), key.suffix(0)) {
-        Find::Slot(slot, Kind::ThisKey) => match border.load(slot)? {
+        Find::Slot(slot, FoundKind::ThisKey) => match border.load(slot)? {
             Held::Stable(pair) => Some(pair.stamp),
             Held::Unstable(..) | Held::Link(_) => None,
         },
@@ -198,7 +198,7 @@ fn put_more(arena: &mut Arena, key: &StoredKey, entry: Entry) -> bool
     requires arena { (slots : List Slot) × (arena.old ≡ holding slots) }
     requires entry { IsEntry entry }
     requires has { HasKey [] 0 entry key.now }
-    requires stable { IsStable entry.held }
+    requires stable { IsStablePair entry.held }
     ensures { (slots : List Slot) × (arena.new ≡ holding slots) }
 {
     if !has_room(arena, key) {
@@ -258,7 +258,7 @@ fn split_and_grow(
     requires arena { (slots : List Slot) × (arena.old ≡ holding slots) }
     requires entry { IsEntry entry }
     requires has { HasKey [] 0 entry key.now }
-    requires stable { IsStable entry.held }
+    requires stable { IsStablePair entry.held }
     ensures { IfOk result (λ top. IfSome top (λ top. (top ≡ 2) × (length arena.new.nodes ≡ 3))) }
 {
     let low = match separator_of(arena, key) {

@@ -14,7 +14,7 @@ use Rattle.mt_border.specs.declared.entry.Pair.{Pair}
 use Rattle.mt_border.specs.declared.entry.Entry.{Entry}
 use Rattle.mt_border.specs.declared.entry.Held.{Held}
 use Rattle.mt_border.specs.declared.entry.Held.TheVariants.{Stable, Unstable, Link}
-use Rattle.mt_border.specs.Entry.{pair_of, order_of, IsRest, IsStable, CanHold}
+use Rattle.mt_border.specs.Entry.{pair_of, order_of, IsRest, IsStablePair, CanHold}
 use Rattle.mt_border.specs.Entries.{orders, IsRising, IsBorder, IsMissing, place_in, with_entry}
 use Rattle.mt_border.specs.Node.{Node, entries_of, entry_at, IsLive, Rewrites}
 use Rattle.mt_border.proofs.Edits.{any_entry, place_in-le, All-insert, border_set, replaced_at}
@@ -115,14 +115,14 @@ pub len-contents : (prefix : Bytes) (layer : ℕ) (entries : List Entry) → IsB
 len-contents prefix layer entries border keys each = len_rising prefix layer entries border.rising keys each
 
 -- a stable slot has a pair
-pub stable_pair : (held : Held) → IsStable held → (pair : Pair) × (held ≡ Stable pair)
+pub stable_pair : (held : Held) → IsStablePair held → (pair : Pair) × (held ≡ Stable pair)
 stable_pair (Stable pair) stable = (pair, refl)
 stable_pair (Unstable pair tree) stable = absurd stable
 stable_pair (Link tree) stable = absurd stable
 
-stable_some : (held : Held) → IsStable held → IsSome (pair_of held)
+stable_some : (held : Held) → IsStablePair held → IsSome (pair_of held)
 stable_some held stable = ap (λ h. is_some (pair_of h)) (stable_pair held stable).1
 
 -- so a node of stable slots has as many pairs as entries
-pub len-stable : (prefix : Bytes) (layer : ℕ) (entries : List Entry) → IsBorder entries → AreKeys prefix layer entries → All (λ e. IsStable e.held) entries → len (contents_of prefix entries) ≡ length entries
+pub len-stable : (prefix : Bytes) (layer : ℕ) (entries : List Entry) → IsBorder entries → AreKeys prefix layer entries → All (λ e. IsStablePair e.held) entries → len (contents_of prefix entries) ≡ length entries
 len-stable prefix layer entries border keys stable = len-contents prefix layer entries border keys (λ k d inside. stable_some (get_or entries k d).held (stable k d inside))

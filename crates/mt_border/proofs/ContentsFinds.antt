@@ -17,8 +17,8 @@ use Rattle.mt_border.specs.declared.entry.Held.{Held}
 use Rattle.mt_border.specs.declared.entry.Held.TheVariants.{Stable, Unstable, Link}
 use Rattle.mt_border.specs.declared.entry.Find.{Find}
 use Rattle.mt_border.specs.declared.entry.Find.TheVariants.{Missing, Slot}
-use Rattle.mt_border.specs.declared.entry.Kind.{Kind}
-use Rattle.mt_border.specs.declared.entry.Kind.TheVariants.{ThisKey, OtherLong, Link as ToTree}
+use Rattle.mt_border.specs.declared.entry.FoundKind.{FoundKind}
+use Rattle.mt_border.specs.declared.entry.FoundKind.TheVariants.{ThisKey, OtherLong, Link as ToTree}
 use Rattle.mt_border.specs.Entry.{pair_of, order_at, order_of, IsLink, IsKind}
 use Rattle.mt_border.specs.Entries.{orders, IsRising, IsBorder, IsMissing}
 use Rattle.mt_border.specs.Node.{Node, entries_of, entry_at, IsLive, IsFound, Finds}
@@ -77,7 +77,7 @@ find_here prefix layer node key slot pair border keys of_tree found is =
     row_at prefix layer node key slot pair border keys found.live (has_found_key prefix layer node key slot of_tree found) is
 
 -- another long key, or a link, goes on otherwise
-goes_otherwise : (e : Entry) (suffix : List ℕ) (kind : Kind) → kind ≢ ThisKey → IsKind e suffix kind → ForSome (pair_of e.held) (λ pair. pair.suffix ≢ suffix)
+goes_otherwise : (e : Entry) (suffix : List ℕ) (kind : FoundKind) → kind ≢ ThisKey → IsKind e suffix kind → ForSome (pair_of e.held) (λ pair. pair.suffix ≢ suffix)
 goes_otherwise e suffix ThisKey other is = absurd (other refl)
 goes_otherwise e suffix OtherLong other is = by_equation (λ (pair : Pair). pair.suffix ≢ suffix) (pair_of e.held) is.1
 goes_otherwise e suffix ToTree other is = by e.held is.1
@@ -88,7 +88,7 @@ goes_otherwise e suffix ToTree other is = by e.held is.1
     by (Link tree) is = λ pair same. absurd (none-some pair same)
 
 -- where a slot was found that holds another long key or a link, the key is in no pair of this node
-pub find_other : (prefix : Bytes) (layer : ℕ) (node : Node) (key : Bytes) (slot : ℕ) (kind : Kind) → IsBorder (entries_of node) → AreKeys prefix layer (entries_of node) → IsOfTree prefix layer key → kind ≢ ThisKey → IsFound node (slice_of key layer) (mark_of key layer) (suffix_of key layer) slot kind
+pub find_other : (prefix : Bytes) (layer : ℕ) (node : Node) (key : Bytes) (slot : ℕ) (kind : FoundKind) → IsBorder (entries_of node) → AreKeys prefix layer (entries_of node) → IsOfTree prefix layer key → kind ≢ ThisKey → IsFound node (slice_of key layer) (mark_of key layer) (suffix_of key layer) slot kind
     → get (contents_of prefix (entries_of node)) (owned key) ≡ None
 find_other prefix layer node key slot kind border keys of_tree other found =
     get-apart prefix (owned key) node.slots
@@ -119,7 +119,7 @@ found_where_there prefix layer node key row found border keys of_tree there is =
     by (Slot slot ToTree) some = absurd (none-some row some)
 
 -- a key that ends in its slice is found as itself, if at all
-pub short_is_this : (node : Node) (slice n : ℕ) (suffix : List ℕ) (slot : ℕ) (kind : Kind) → IsFound node slice (Short n) suffix slot kind → kind ≡ ThisKey
+pub short_is_this : (node : Node) (slice n : ℕ) (suffix : List ℕ) (slot : ℕ) (kind : FoundKind) → IsFound node slice (Short n) suffix slot kind → kind ≡ ThisKey
 short_is_this node slice n suffix slot ThisKey found = refl
 short_is_this node slice n suffix slot OtherLong found = absurd (cc (found.mark_is, found.kind_is.0))
 short_is_this node slice n suffix slot ToTree found = absurd (cc (found.mark_is, found.kind_is.0))

@@ -8,7 +8,7 @@ use Rattle.mt_border.specs.declared.entry.Held.{Held}
 use Rattle.mt_border.specs.declared.entry.Held.TheVariants.{Link}
 use Rattle.mt_border.specs.declared.entry.Find.{Find}
 use Rattle.mt_border.specs.declared.entry.Find.TheVariants.{Missing, Slot}
-use Rattle.mt_border.specs.declared.entry.Kind.{Kind}
+use Rattle.mt_border.specs.declared.entry.FoundKind.{FoundKind}
 use Rattle.mt_border.specs.Entry.{IsKind}
 use Rattle.mt_border.specs.Entries.{IsMissing, replaced}
 
@@ -52,7 +52,7 @@ abbrev pub held_at : Node → ℕ → Held
 held_at node slot = (entry_at node slot).held
 
 -- the slot has the slice and the mark, and holds this of the key that goes on with the suffix
-pub record IsFound (node : Node) (slice : ℕ) (mark : Mark) (suffix : List ℕ) (slot : ℕ) (kind : Kind)
+pub record IsFound (node : Node) (slice : ℕ) (mark : Mark) (suffix : List ℕ) (slot : ℕ) (kind : FoundKind)
     : Type 0 where
   pub live : IsLive node slot
   pub among : Contains (entries_of node) (entry_at node slot)

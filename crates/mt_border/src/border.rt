@@ -66,7 +66,7 @@ impl Model for Border {
 
 impl Border {
     ghost use Rattle.mt_border.specs.declared.entry.Pair.{Pair};
-    ghost use Rattle.mt_border.specs.Entry.{IsEntry, IsRest, IsStable, IsUnlinked, IsLinked};
+    ghost use Rattle.mt_border.specs.Entry.{IsEntry, IsRest, IsStablePair, IsUnlinked, IsLinked};
     ghost use Rattle.mt_border.specs.Entries.{IsBorder, IsMissing, with_entry, without};
     ghost use Rattle.mt_border.specs.Split.{IsCut, IsParted, IsSeparator, slices_with};
     ghost use Rattle.mt_border.specs.Node.{empty_node, entries_of, entry_at, held_at, IsLive, Finds, Rewrites};
@@ -166,7 +166,7 @@ impl Border {
     /// row back.
     pub fn store(&mut self, slot: usize, row: Row, stamp: u64) -> Row
         requires live { IsLive self.old slot }
-        requires stable { IsStable (held_at self.old slot) }
+        requires stable { IsStablePair (held_at self.old slot) }
         ensures before { (pair : Pair) → held_at self.old slot ≡ Held.Stable pair →
             result ≡ pair.row }
         ensures after { (pair : Pair) → held_at self.old slot ≡ Held.Stable pair →
@@ -181,7 +181,7 @@ impl Border {
     pub fn mark_unstable(&mut self, slot: usize)
         requires live { IsLive self.old slot }
         requires long { (entry_at self.old slot).mark ≡ Mark.Long }
-        requires stable { IsStable (held_at self.old slot) }
+        requires stable { IsStablePair (held_at self.old slot) }
         ensures { (pair : Pair) → held_at self.old slot ≡ Held.Stable pair →
             Rewrites self.old self.new slot (Held.Unstable pair None) }
     {

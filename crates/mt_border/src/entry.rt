@@ -83,7 +83,7 @@ impl MadeWith<Global> for Entry {
 
 /// What the slot with a key's slice and mark holds of that key.
 #[derive(Clone, Copy, Debug, PartialEq, Eq)]
-pub enum Kind {
+pub enum FoundKind {
     /// The key itself.
     ThisKey,
 
@@ -101,7 +101,7 @@ pub enum Find {
     Missing,
 
     /// The slot that has them, and what it holds of the key.
-    Slot(usize, Kind),
+    Slot(usize, FoundKind),
 }
 
 impl Entry {
@@ -123,18 +123,18 @@ impl Entry {
     }
 
     /// What the entry holds of the key that has its slice and mark, and this suffix.
-    pub(crate) fn kind(&self, suffix: &[u8]) -> Kind
+    pub(crate) fn kind(&self, suffix: &[u8]) -> FoundKind
         requires entry { IsEntry self.now }
         requires rest { IsRest self.now.mark suffix.now }
         ensures { IsKind self.now suffix.now result }
     {
         match &self.held {
-            Held::Link(_) => Kind::Link,
+            Held::Link(_) => FoundKind::Link,
             Held::Stable(pair) | Held::Unstable(pair, _) => {
                 if pair.suffix.as_bytes() == suffix {
-                    Kind::ThisKey
+                    FoundKind::ThisKey
                 } else {
-                    Kind::OtherLong
+                    FoundKind::OtherLong
                 }
             }
         }
@@ -144,11 +144,11 @@ impl Entry {
 impl Held {
     ghost use Rattle.mt_slices.specs.declared.mark.Mark.{Mark};
     ghost use Rattle.mt_border.specs.declared.entry.Pair.{Pair};
-    ghost use Rattle.mt_border.specs.Entry.{CanHold, IsStable, IsUnlinked, IsLinked};
+    ghost use Rattle.mt_border.specs.Entry.{CanHold, IsStablePair, IsUnlinked, IsLinked};
 
     /// Puts another row and its stamp into a pair, and gives the old row back.
     pub(crate) fn put_row(&mut self, row: Row, stamp: u64) -> Row
-        requires { IsStable self.old }
+        requires { IsStablePair self.old }
         ensures row { (pair : Pair) → self.old ≡ Held.Stable pair → result ≡ pair.row }
         ensures held { (pair : Pair) → self.old ≡ Held.Stable pair →
             self.new ≡ Held.Stable (record pair { row = row; stamp = stamp }) }
@@ -165,7 +165,7 @@ impl Held {
 
     /// Makes a pair unstable.
     pub(crate) fn unsettle(&mut self)
-        requires { IsStable self.old }
+        requires { IsStablePair self.old }
         ensures held { (pair : Pair) → self.old ≡ Held.Stable pair →
             self.new ≡ Held.Unstable pair None }
         ensures fits { (mark : Mark) → mark ≡ Mark.Long →

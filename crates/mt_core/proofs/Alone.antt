@@ -9,8 +9,8 @@ use Rattle.mt_core.specs.declared.operation.Operation.{Operation}
 use Rattle.mt_core.specs.declared.operation.Progress.{Progress}
 use Rattle.mt_core.specs.declared.operation.Progress.TheVariants.{Finished}
 use Rattle.mt_core.specs.Operations.{moved}
-use Rattle.mt_core.specs.Views.{View, Table, op_at}
-use Rattle.mt_core.specs.Sound.{is_unfinished}
+use Rattle.mt_core.specs.Views.{StateView, Table, op_at}
+use Rattle.mt_core.specs.Invariant.{is_unfinished}
 use Rattle.mt_core.specs.Promises.{IsStep, HasStep, Tells}
 use Rattle.mt_core.specs.Alone.{most_steps, IsSameAsked, Leads, IsDone, Runs}
 use Rattle.mt_core.proofs.Tables.{set_is, set_there}
@@ -19,7 +19,7 @@ same_asked : (op : Operation) → IsSameAsked op op
 same_asked op = record { worker = refl; tenant = refl; request = refl; key = refl }
 
 -- before the first step
-pub leads_none : (v : View) (o : ℕ) → Leads v v o 0
+pub leads_none : (v : StateView) (o : ℕ) → Leads v v o 0
 leads_none v o = record {
   number = omega arith;
   grows = record { steps = omega arith; quotas = λ t. refl; maps = λ t m le. refl; changes = λ m le. refl };
@@ -29,11 +29,11 @@ leads_none v o = record {
 }
 
 -- the operation once it has made the step
-pub stepped : (v w : View) (o : ℕ) {done : _} (s : IsStep v w o done) → op_at w.table o ≡ Some (moved s.before (v.steps + 1) s.progress)
+pub stepped : (v w : StateView) (o : ℕ) {done : _} (s : IsStep v w o done) → op_at w.table o ≡ Some (moved s.before (v.steps + 1) s.progress)
 stepped v w o s = ap (λ (t : Table). op_at t o) s.table ∙ set_is v.table o (moved s.before (v.steps + 1) s.progress) s.before s.there
 
 -- after one step more
-pub leads_on : (old v w : View) (o made : ℕ) {done : _} → Leads old v o made → IsStep v w o done → Leads old w o (made + 1)
+pub leads_on : (old v w : StateView) (o made : ℕ) {done : _} → Leads old v o made → IsStep v w o done → Leads old w o (made + 1)
 leads_on old v w o made l s = record {
   number = omega (arith, s.number, l.number);
   grows = record {
@@ -55,7 +55,7 @@ leads_on old v w o made l s = record {
 }
 
 -- an operation that moved has a step left
-pub still_going : (v w : View) (o : ℕ) → IsStep v w o false → HasStep w o
+pub still_going : (v w : StateView) (o : ℕ) → IsStep v w o false → HasStep w o
 still_going v w o s = (moved s.before (v.steps + 1) s.progress, stepped v w o s, not-false _ (sym s.ends))
 
 -- an operation with no step left is finished
@@ -64,7 +64,7 @@ finished_is (Finished reply at) e = (reply, at, refl)
 finished_is _ e = absurd (cc)
 
 -- one that was done is finished
-pub is_done : (v w : View) (o : ℕ) → IsStep v w o true → IsDone w o
+pub is_done : (v w : StateView) (o : ℕ) → IsStep v w o true → IsDone w o
 is_done v w o s = let f = finished_is s.progress (not-true _ (sym s.ends)) in record {
   op = moved s.before (v.steps + 1) s.progress;
   there = stepped v w o s;
@@ -75,33 +75,33 @@ is_done v w o s = let f = finished_is s.progress (not-true _ (sym s.ends)) in re
 }
 
 -- the run so far: its operation has a step left, once it has made one
-pub record IsGoing (old v : View) (o made : ℕ) : Type 0 where
+pub record IsGoing (old v : StateView) (o made : ℕ) : Type 0 where
   pub leads : Leads old v o made
   pub left : (made ≡ 0) ⊎ HasStep v o
 
 -- before the first step, and after one more
-pub going_first : (v : View) (o : ℕ) → IsGoing v v o 0
+pub going_first : (v : StateView) (o : ℕ) → IsGoing v v o 0
 going_first v o = record { leads = leads_none v o; left = inl refl }
 
-pub going_on : (old v w : View) (o made : ℕ) → IsGoing old v o made → IsStep v w o false → IsGoing old w o (made + 1)
+pub going_on : (old v w : StateView) (o made : ℕ) → IsGoing old v o made → IsStep v w o false → IsGoing old w o (made + 1)
 going_on old v w o made g s = record { leads = leads_on old v w o made g.leads s; left = inr (still_going v w o s) }
 
 -- each answer but Moved ends the run
-pub run_stops : (old v w : View) (o made : ℕ) (answer : Move) → made < most_steps → IsGoing old v o made → answer ≢ Moved → Tells v w o answer → Runs old w o answer
+pub run_stops : (old v w : StateView) (o made : ℕ) (answer : Move) → made < most_steps → IsGoing old v o made → answer ≢ Moved → Tells v w o answer → Runs old w o answer
 run_stops old v w o made Moved lt g other s = absurd (other refl)
 run_stops old v w o made Done lt g other s = record { made = made + 1; few = omega arith; leads = leads_on old v w o made g.leads s; stops = is_done v w o s }
 run_stops old v w o made (Again holder) lt g other (same, held) =
-    subst (λ (x : View). Runs old x o (Again holder)) (sym same) (record { made = made; few = omega arith; leads = g.leads; stops = held })
+    subst (λ (x : StateView). Runs old x o (Again holder)) (sym same) (record { made = made; few = omega arith; leads = g.leads; stops = held })
 run_stops old v w o made Spent lt g other (same, spent) =
-    subst (λ (x : View). Runs old x o Spent) (sym same) (record { made = made; few = omega arith; leads = g.leads; stops = spent })
+    subst (λ (x : StateView). Runs old x o Spent) (sym same) (record { made = made; few = omega arith; leads = g.leads; stops = spent })
 run_stops old v w o made NoSuch lt g other (same, none) = elim g.left [
-  | inl start ↦ subst (λ (x : View). Runs old x o NoSuch) (sym same) (record { made = made; few = omega arith; leads = g.leads; stops = (start, none) })
+  | inl start ↦ subst (λ (x : StateView). Runs old x o NoSuch) (sym same) (record { made = made; few = omega arith; leads = g.leads; stops = (start, none) })
   | inr left ↦ absurd (none left)
 ]
 run_stops old v w o made NoMemory lt g other s = absurd s
 
 -- and all steps may have been made
-pub run_over : (old v : View) (o made : ℕ) → made ≡ most_steps → IsGoing old v o made → Runs old v o Moved
+pub run_over : (old v : StateView) (o made : ℕ) → made ≡ most_steps → IsGoing old v o made → Runs old v o Moved
 run_over old v o made all g = record {
   made = made;
   few = omega arith;

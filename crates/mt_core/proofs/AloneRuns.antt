@@ -11,16 +11,16 @@ use Rattle.mt_rows.specs.Maps.{Map, reply_of, map_after, told_of_put, map_after_
 use Rattle.mt_rows.specs.Tenants.{Contents, tenant_map}
 use Rattle.mt_runs.specs.Placings.{maps_after_one}
 use Rattle.mt_core.specs.declared.answers.Move.{Move}
-use Rattle.mt_core.specs.declared.answers.Move.TheVariants.{Moved, Again, NoMemory as MemoryRefused, Done, Spent, NoSuch}
+use Rattle.mt_core.specs.declared.answers.Move.TheVariants.{Moved, Again, NoMemory as NoMemoryMove, Done, Spent, NoSuch}
 use Rattle.mt_core.specs.declared.operation.Operation.{Operation}
 use Rattle.mt_core.specs.declared.operation.Request.{Request}
 use Rattle.mt_core.specs.declared.operation.Request.TheVariants.{Get as GetOf, Put as PutOf}
 use Rattle.mt_core.specs.declared.operation.Progress.{Progress}
 use Rattle.mt_core.specs.declared.operation.Progress.TheVariants.{Enter, Search, Load, Confirm, Forward, Lock, Judge, Store, Publish, Unlock, Finished}
 use Rattle.mt_core.specs.Operations.{command_of, moved, steps_to, IsStraight}
-use Rattle.mt_core.specs.Views.{View, op_at, map_of, quota_of}
+use Rattle.mt_core.specs.Views.{StateView, op_at, map_of, quota_of}
 use Rattle.mt_core.specs.Kept.{ask}
-use Rattle.mt_core.specs.Sound.{is_unfinished}
+use Rattle.mt_core.specs.Invariant.{is_unfinished}
 use Rattle.mt_core.specs.Promises.{MayFollow, change_in, IsQuiet, IsPlacing, IsStep, Tells}
 use Rattle.mt_core.specs.Alone.{most_steps, IsSameAsked, Leads, IsAlone, IsRun, EndsAlone}
 use Rattle.mt_core.proofs.Quiet.{first_is}
@@ -56,7 +56,7 @@ looks_leave quota (GetOf key columns) m none = refl
 looks_leave quota (PutOf key change) m none = put_leaves quota key change m (get m key) none
 
 -- what is asked of the same map is the same, and so is what it makes
-module _ (v old : View) (a op : Operation) (same : IsSameAsked op a) (quotas : (t : ℕ) → quota_of v t ≡ quota_of old t) (x : Contents) where
+module _ (v old : StateView) (a op : Operation) (same : IsSameAsked op a) (quotas : (t : ℕ) → quota_of v t ≡ quota_of old t) (x : Contents) where
   same_reply : reply_of (quota_of v a.tenant) (ask a) (tenant_map a.tenant x) ≡ reply_of (quota_of old op.tenant) (ask op) (tenant_map op.tenant x)
   same_reply =
       ap (λ t. reply_of (quota_of v t) (ask a) (tenant_map t x)) same.tenant
@@ -71,7 +71,7 @@ module _ (v old : View) (a op : Operation) (same : IsSameAsked op a) (quotas : (
       ∙ ap (λ q. cond (eqb t op.tenant) (map_after q (ask op) (tenant_map t x)) (tenant_map t x)) (quotas t)
 
 -- a command whose reply tells of no change makes the maps that were there
-maps_stay : (old : View) (op : Operation) → is_change (reply_of (quota_of old op.tenant) (ask op) (tenant_map op.tenant old.contents)) ≡ false
+maps_stay : (old : StateView) (op : Operation) → is_change (reply_of (quota_of old op.tenant) (ask op) (tenant_map op.tenant old.contents)) ≡ false
     → (t : ℕ) → tenant_map t old.contents ≡ maps_after_one (quota_of old) (Some (record { tenant = op.tenant; command = ask op })) (λ u. tenant_map u old.contents) t
 maps_stay old op look t = by (eqb t op.tenant) refl
   where
@@ -82,20 +82,20 @@ maps_stay old op look t = by (eqb t op.tenant) refl
         (sym (looks_leave (quota_of old op.tenant) op.request (tenant_map op.tenant old.contents) look))
 
 -- the operation has changed nothing so far, nor has any other
-pub record HasLeft (old v : View) (p : Progress) : Type 0 where
+pub record HasLeft (old v : StateView) (p : Progress) : Type 0 where
   pub contents : v.contents ≡ old.contents
   pub change : change_in p ≡ None
   pub maps : (t m : ℕ) → old.steps < m → m ≤ v.steps → map_of v t m ≡ tenant_map t old.contents
 
 -- or it has made its change, and is about to give the lock back
-pub record HasPlaced (old v : View) (op : Operation) (p : Progress) : Type 0 where
+pub record HasPlaced (old v : StateView) (op : Operation) (p : Progress) : Type 0 where
   pub reply : Reply
   pub at : ℕ
   pub unlocks : p ≡ Unlock reply at
   pub run : IsRun old v op reply
 
 -- the run so far: the operation has a step left, and all steps were its own
-pub record IsRunning (old v : View) (o : ℕ) (op : Operation) (made : ℕ) : Type 0 where
+pub record IsRunning (old v : StateView) (o : ℕ) (op : Operation) (made : ℕ) : Type 0 where
   pub leads : Leads old v o made
   pub after : Operation
   pub there : op_at v.table o ≡ Some after
@@ -104,7 +104,7 @@ pub record IsRunning (old v : View) (o : ℕ) (op : Operation) (made : ℕ) : Ty
   pub first : ((made ≡ 0) × (after.first ≡ 0) × (after.progress ≡ Enter)) ⊎ ((after.first ≡ old.steps + 1) × IsStraight v.steps after)
   pub so_far : HasLeft old v after.progress ⊎ HasPlaced old v op after.progress
 
-pub running_first : (old : View) (o : ℕ) (op : Operation) → IsAlone old o op → IsRunning old old o op 0
+pub running_first : (old : StateView) (o : ℕ) (op : Operation) → IsAlone old o op → IsRunning old old o op 0
 running_first old o op alone = record {
   leads = leads_none old o;
   after = op;
@@ -130,7 +130,7 @@ memory_is : (reply : Reply) → is_no_memory reply ≡ true → reply ≡ NoMemo
 memory_is NoMemory e = refl
 memory_is _ e = absurd (cc)
 
-module _ (old v w : View) (o : ℕ) (op : Operation) (made : ℕ) (done : Bool) (r : IsRunning old v o op made) (s : IsStep v w o done) where
+module _ (old v w : StateView) (o : ℕ) (op : Operation) (made : ℕ) (done : Bool) (r : IsRunning old v o op made) (s : IsStep v w o done) where
   abbrev after : Operation
   after = moved s.before (v.steps + 1) s.progress
 
@@ -249,21 +249,21 @@ module _ (old v w : View) (o : ℕ) (op : Operation) (made : ℕ) (done : Bool) 
     }
 
 -- an operation that moved goes on
-pub alone_goes_on : (old v w : View) (o : ℕ) (op : Operation) (made : ℕ) → IsRunning old v o op made → IsStep v w o false → IsRunning old w o op (made + 1)
+pub alone_goes_on : (old v w : StateView) (o : ℕ) (op : Operation) (made : ℕ) → IsRunning old v o op made → IsStep v w o false → IsRunning old w o op (made + 1)
 alone_goes_on old v w o op made r s = running_on old v w o op made false r s (not-false _ (sym s.ends))
 
 -- each answer but Moved is Done
-pub alone_stops : (old v w : View) (o : ℕ) (op : Operation) (made : ℕ) (answer : Move) → made < most_steps → IsAlone old o op → IsRunning old v o op made → answer ≢ Moved → Tells v w o answer → EndsAlone old w o op answer
+pub alone_stops : (old v w : StateView) (o : ℕ) (op : Operation) (made : ℕ) (answer : Move) → made < most_steps → IsAlone old o op → IsRunning old v o op made → answer ≢ Moved → Tells v w o answer → EndsAlone old w o op answer
 alone_stops old v w o op made Moved lt alone r other s = absurd (other refl)
 alone_stops old v w o op made Done lt alone r other s = let f = finished_is s.progress (not-true _ (sym s.ends)) in running_ends old v w o op made true r s f.0 f.1 f.2 lt
 alone_stops old v w o op made (Again holder) lt alone r other (_, held) =
     absurd (both_ways _ (alone.free holder held.by (sym (r.leads.others holder held.other) ∙ held.there)) held.holds)
 alone_stops old v w o op made Spent lt alone r other (_, spent) = absurd (omega (arith, spent, r.leads.number, alone.numbers))
 alone_stops old v w o op made NoSuch lt alone r other (_, none) = absurd (none (r.after, r.there, r.left))
-alone_stops old v w o op made MemoryRefused lt alone r other s = absurd s
+alone_stops old v w o op made NoMemoryMove lt alone r other s = absurd s
 
 -- and not all steps are made, since each brings the operation further
-pub alone_over : (old v : View) (o : ℕ) (op : Operation) (made : ℕ) → made ≡ most_steps → IsRunning old v o op made → EndsAlone old v o op Moved
+pub alone_over : (old v : StateView) (o : ℕ) (op : Operation) (made : ℕ) → made ≡ most_steps → IsRunning old v o op made → EndsAlone old v o op Moved
 alone_over old v o op made all r = elim r.first [
   | inl (none, _, _) ↦ absurd (omega (arith, none))
   | inr (first, straight) ↦ absurd (omega (arith, first, straight, steps_upto r.after.progress, r.leads.number))

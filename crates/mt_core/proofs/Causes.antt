@@ -21,8 +21,8 @@ use Rattle.mt_rows.proofs.Indexes.{indexes_rise}
 use Rattle.mt_border.specs.Node.{entries_of}
 use Rattle.mt_core.specs.declared.operation.Operation.{Operation}
 use Rattle.mt_border.specs.Contents.{owned}
-use Rattle.mt_core.specs.Views.{Core, View, shown, pairs_of}
-use Rattle.mt_core.specs.Sound.{Sound}
+use Rattle.mt_core.specs.Views.{Core, StateView, shown, pairs_of}
+use Rattle.mt_core.specs.Invariant.{StateInvariant}
 use Rattle.mt_core.specs.Kept.{ask}
 use Rattle.mt_core.specs.Admitted.{IsAdmitted, HasRoomFor}
 use Rattle.mt_core.specs.Refused.{is_first_alone, names_first, are_short, fault_of, first_fault, has_room, first_lack, cause_of, IsRefusal, Refuses, LacksRoom}
@@ -105,14 +105,14 @@ any_one false false true h = refl
 any_one false false false h = elim (h refl) [ inl e ↦ e | inr e ↦ e ]
 
 -- an operation that is admitted, in a state that shows this
-module _ (c : Core) (now : View) (op : Operation) (worker tenant : ℕ) (command : Command) (is : shown c ≡ now) (h : Sound c) (admitted : IsAdmitted op worker tenant command) where
+module _ (c : Core) (now : StateView) (op : Operation) (worker tenant : ℕ) (command : Command) (is : shown c ≡ now) (h : StateInvariant c) (admitted : IsAdmitted op worker tenant command) where
   -- as many pairs as entries
   len_now : len now.contents ≡ length (entries_of c.node)
-  len_now = ap (λ (v : View). len v.contents) (sym is) ∙ len-stable [] 0 (entries_of c.node) h.node.border h.node.keys h.node.stable
+  len_now = ap (λ (v : StateView). len v.contents) (sym is) ∙ len-stable [] 0 (entries_of c.node) h.node.border h.node.keys h.node.stable
 
   row_now : get now.contents (tenant, key_of command) ≡ get (pairs_of c) (owned op.key)
   row_now =
-      ap (λ (v : View). get v.contents (tenant, key_of command)) (sym is)
+      ap (λ (v : StateView). get v.contents (tenant, key_of command)) (sym is)
       ∙ ap (get (pairs_of c)) (sym (admitted.owner ∙ ap (λ t. (t, key_of (ask op))) admitted.begun.tenant_is ∙ ap (λ x. (tenant, key_of x)) admitted.begun.command_is))
 
   -- where the node lacks room, the view shows none
@@ -137,7 +137,7 @@ module _ (c : Core) (now : View) (op : Operation) (worker tenant : ℕ) (command
   -- of a tenant that is there, with a command that has no fault
   module _ (account : Account) (known : account_of c.accounts tenant ≡ Some account) (faultless : fault_of command ≡ None) where
     first_none : first_fault now tenant command ≡ None
-    first_none = ap (λ b. if b then Some NoTenant else fault_of command) (ap (λ (v : View). is_none (account_of v.accounts tenant)) (sym is) ∙ ap is_none known) ∙ faultless
+    first_none = ap (λ b. if b then Some NoTenant else fault_of command) (ap (λ (v : StateView). is_none (account_of v.accounts tenant)) (sym is) ∙ ap is_none known) ∙ faultless
 
     -- the cause is then what the state lacks
     cause_is : (b s : Bool) → has_room now tenant command ≡ b → eqb now.steps (2 ^ 59) ≡ s → cause_of now tenant command ≡ (if not b then Some NoRoom else if s then Some Spent else None)
@@ -147,7 +147,7 @@ module _ (c : Core) (now : View) (op : Operation) (worker tenant : ℕ) (command
         ∙ ap (λ x. if not b then Some NoRoom else if x then Some Spent else None) spent
 
     steps_now : now.steps ≡ c.steps
-    steps_now = ap (λ (v : View). v.steps) (sym is)
+    steps_now = ap (λ (v : StateView). v.steps) (sym is)
 
     pub told_no_room : LacksRoom c.node op → cause_of now tenant command ≡ Some NoRoom
     told_no_room lacks = cause_is false (eqb now.steps (2 ^ 59)) (room_false lacks) refl

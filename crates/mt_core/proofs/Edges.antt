@@ -24,15 +24,15 @@ use Rattle.mt_rows.proofs.ContentLaws.{owned_total}
 use Rattle.mt_border.specs.declared.entry.Pair.{Pair}
 use Rattle.mt_border.specs.declared.entry.Entry.{Entry}
 use Rattle.mt_border.specs.declared.entry.Held.TheVariants.{Stable}
-use Rattle.mt_border.specs.Entry.{pair_of, order_at, IsStable}
+use Rattle.mt_border.specs.Entry.{pair_of, order_at, IsStablePair}
 use Rattle.mt_border.specs.Entries.{orders, IsRising}
 use Rattle.mt_border.specs.Node.{entries_of}
 use Rattle.mt_core.specs.declared.shape.Edge.{Edge}
 use Rattle.mt_core.specs.declared.shape.ShapeLine.{ShapeLine}
 use Rattle.mt_core.specs.declared.shape.ShapeLine.TheVariants.{Tree, Border}
 use Rattle.mt_border.specs.Contents.{owned, key_at, pair_in, contents_of, HasKey, AreKeys}
-use Rattle.mt_core.specs.Views.{Core, View, shown}
-use Rattle.mt_core.specs.Sound.{Sound}
+use Rattle.mt_core.specs.Views.{Core, StateView, shown}
+use Rattle.mt_core.specs.Invariant.{StateInvariant}
 use Rattle.mt_core.specs.Shapes.{is_link, edge_of, edge_in, edge_at, line_in, shape_of}
 use Rattle.mt_border.proofs.ContentsKeys.{owned_at, order_of_key}
 use Rattle.mt_border.proofs.ContentsLists.{contents-none, insert-this}
@@ -78,7 +78,7 @@ no_rows [] e = refl
 no_rows (x ∷ rows) e = absurd (omega (arith, e))
 
 -- the first pair goes before those of the entries behind it
-put_first : (e : Entry) (es : List Entry) (key : Bytes) (row : Columns) → IsRising (orders (e ∷ es)) → HasKey [] 0 e key → AreKeys [] 0 es → All (λ e. IsStable e.held) es
+put_first : (e : Entry) (es : List Entry) (key : Bytes) (row : Columns) → IsRising (orders (e ∷ es)) → HasKey [] 0 e key → AreKeys [] 0 es → All (λ e. IsStablePair e.held) es
     → put owned_cmp (owned key) row (filter_map (pair_in []) es) ≡ (owned key, row) ∷ filter_map (pair_in []) es
 put_first e [] key row rising has keys stable = refl
 put_first e (f ∷ es) key row rising has keys stable =
@@ -92,14 +92,14 @@ put_first e (f ∷ es) key row rising has keys stable =
     ∙ ap (λ rows. (owned key, row) ∷ rows) (sym first)
 
 -- the pairs of stable entries, in their order, are all pairs in theirs
-entries_listed : (es : List Entry) → IsRising (orders es) → AreKeys [] 0 es → All (λ e. IsStable e.held) es → entries (contents_of [] es) ≡ filter_map (pair_in []) es
+entries_listed : (es : List Entry) → IsRising (orders es) → AreKeys [] 0 es → All (λ e. IsStablePair e.held) es → entries (contents_of [] es) ≡ filter_map (pair_in []) es
 entries_listed [] rising keys stable = ap entries (contents-none []) ∙ no_rows (entries empty) (sym (len-entries {R = owned_cmp} empty) ∙ len-empty owned_cmp Columns)
 entries_listed (e ∷ es) rising keys stable =
     let has = keys 0 e (omega arith) in
     let pair = stable_held e (stable 0 e (omega arith)) in
     let is = ap pair_of pair.1 in
     let tail_keys = All-tail (λ e. (key : Bytes) × HasKey [] 0 e key) e es keys in
-    let tail_stable = All-tail (λ e. IsStable e.held) e es stable in
+    let tail_stable = All-tail (λ e. IsStablePair e.held) e es stable in
     ap entries (insert-this [] (owned has.0) e es pair.0 is (owned_at [] 0 e has.0 pair.0 has.1 is))
     ∙ entries-insert owned_total (contents_of [] es) (owned has.0) pair.0.row
     ∙ ap (put owned_cmp (owned has.0) pair.0.row) (entries_listed es (λ i j below within. rising (suc i) (suc j) (omega arith) (omega arith)) tail_keys tail_stable)
@@ -114,20 +114,20 @@ edge_is e key pair has held =
     ∙ ap (λ m. record { slice = e.slice; mark = m; is_link = false }) (sym has.mark)
     ∙ ap (λ h. record { slice = e.slice; mark = e.mark; is_link = is_link h }) (sym held)
 
-edges_listed : (es : List Entry) → AreKeys [] 0 es → All (λ e. IsStable e.held) es → map (λ p. edge_of p.0) (filter_map (pair_in []) es) ≡ map edge_in es
+edges_listed : (es : List Entry) → AreKeys [] 0 es → All (λ e. IsStablePair e.held) es → map (λ p. edge_of p.0) (filter_map (pair_in []) es) ≡ map edge_in es
 edges_listed [] keys stable = refl
 edges_listed (e ∷ es) keys stable =
     let has = keys 0 e (omega arith) in
     let pair = stable_held e (stable 0 e (omega arith)) in
     ap (map (λ p. edge_of p.0)) (listed_more e es (owned has.0, pair.0.row) (pair_in_is e has.0 pair.0 has.1 (ap pair_of pair.1)))
     ∙ ap (λ x. x ∷ map (λ p. edge_of p.0) (filter_map (pair_in []) es)) (edge_is e has.0 pair.0 has.1 pair.1)
-    ∙ ap (λ xs. edge_in e ∷ xs) (edges_listed es (All-tail (λ e. (key : Bytes) × HasKey [] 0 e key) e es keys) (All-tail (λ e. IsStable e.held) e es stable))
+    ∙ ap (λ xs. edge_in e ∷ xs) (edges_listed es (All-tail (λ e. (key : Bytes) × HasKey [] 0 e key) e es keys) (All-tail (λ e. IsStablePair e.held) e es stable))
 
 -- the line of the node is that of its pairs
-pub shape_told : (c : Core) (now : View) (line : ShapeLine) → shown c ≡ now → Sound c → line ≡ line_in (entries_of c.node) → Tree ∷ line ∷ [] ≡ shape_of now.contents
+pub shape_told : (c : Core) (now : StateView) (line : ShapeLine) → shown c ≡ now → StateInvariant c → line ≡ line_in (entries_of c.node) → Tree ∷ line ∷ [] ≡ shape_of now.contents
 shape_told c now line is h line_is =
     ap (λ l. Tree ∷ l ∷ []) (line_is ∙ ap (λ n. Border n (at 0) (at (n - 1))) (sym count) ∙ ap (λ o. Border (len all) o (at (len all - 1))) (edge 0) ∙ ap (λ o. Border (len all) (edge_at all 0) o) (edge (len all - 1)))
-    ∙ ap (λ (v : View). shape_of v.contents) is
+    ∙ ap (λ (v : StateView). shape_of v.contents) is
   where
     all : Contents
     all = contents_of [] (entries_of c.node)

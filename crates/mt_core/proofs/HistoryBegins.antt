@@ -8,7 +8,7 @@ use Rattle.mt_runs.specs.Runs.{Story, Asked, Made, owner, first_of, with_begin}
 use Rattle.mt_runs.specs.Placings.{Quotas, Maps}
 use Rattle.mt_runs.proofs.Growth.{right_asked}
 use Rattle.mt_core.specs.declared.operation.Operation.{Operation}
-use Rattle.mt_core.specs.Views.{View, op_at, map_of, changed_at}
+use Rattle.mt_core.specs.Views.{StateView, op_at, map_of, changed_at}
 use Rattle.mt_core.specs.Kept.{ask}
 use Rattle.mt_core.specs.Promises.{change_in}
 use Rattle.mt_core.specs.Begins.{Begins}
@@ -21,12 +21,12 @@ first_none : (w : Option Asked) → first_of w None ≡ w
 first_none None = refl
 first_none (Some a) = refl
 
-module _ (quotas : Quotas) (first : Maps) (story : Story) (old new : View) (names now : Names) (o n worker tenant : ℕ) (command : Command)
+module _ (quotas : Quotas) (first : Maps) (story : Story) (old new : StateView) (names now : Names) (o n worker tenant : ℕ) (command : Command)
     (h : History quotas first story names old) (b : Begins old new n worker tenant command) (unknown : names o ≡ None) (r : Renames names now o (Some n)) where
   abbrev what : Asked
   what = record { tenant = tenant; command = command }
 
-  abbrev after : View
+  abbrev after : StateView
   after = record old { table = new.table }
 
   -- what is asked by the name, and by any other

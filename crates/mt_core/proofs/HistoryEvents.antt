@@ -13,27 +13,27 @@ use Rattle.mt_runs.specs.Placings.{Quotas, Maps}
 use Rattle.mt_runs.proofs.Events.{story_begin, story_moved, story_done, story_quiet}
 use Rattle.mt_core.specs.declared.operation.Operation.{Operation}
 use Rattle.mt_core.specs.Operations.{moved}
-use Rattle.mt_core.specs.Views.{View, op_at}
+use Rattle.mt_core.specs.Views.{StateView, op_at}
 use Rattle.mt_core.specs.Promises.{IsStep}
 use Rattle.mt_core.specs.Begins.{Begins, IsAnswerOf, Takes}
-use Rattle.mt_core.specs.Histories.{Names, Renames, History, TellsEvent, LeadsTo}
+use Rattle.mt_core.specs.Histories.{Names, Renames, History, TellsEvent, BringsTo}
 use Rattle.mt_core.proofs.Tables.{set_here}
 use Rattle.mt_core.proofs.HistoryBegins.{history_begin}
 use Rattle.mt_core.proofs.HistoryRuns.{history_moved, history_done}
 
 -- an event with what it answered keeps the history of any run before it
-abbrev pub Keeps : Names → View → Names → View → Event → Told → Type 0
+abbrev pub Keeps : Names → StateView → Names → StateView → Event → Told → Type 0
 Keeps names old now new event told = (quotas : Quotas) (first : Maps) (base : ℕ) (run : Run) → History quotas first (story_of base run) names old
     → History quotas first (story_of base (run ++ (event, told) ∷ [])) now new
 
 -- an event that begins nothing and makes no step
-keeps_quiet : (names now : Names) (old new : View) (e : Event) (t : Told) → numbered (e, t) ≡ None → ((q : ℕ) → asked_by q (e, t) ≡ None) → now ≡ names → new ≡ old → Keeps names old now new e t
+keeps_quiet : (names now : Names) (old new : StateView) (e : Event) (t : Told) → numbered (e, t) ≡ None → ((q : ℕ) → asked_by q (e, t) ≡ None) → now ≡ names → new ≡ old → Keeps names old now new e t
 keeps_quiet names now old new e t no_step no_ask still same = λ quotas first base run h.
     subst (λ (w : Names). History quotas first (story_of base (run ++ (e, t) ∷ [])) w new) (sym still)
     (subst (λ s. History quotas first s names new) (sym (story_quiet base run (e, t) no_step no_ask)) (subst (History quotas first (story_of base run) names) (sym same) h))
 
 -- a begin
-keeps_begun : (names now : Names) (old new : View) (o n worker tenant : ℕ) (command : Command) → Begins old new n worker tenant command → names o ≡ None → Renames names now o (Some n)
+keeps_begun : (names now : Names) (old new : StateView) (o n worker tenant : ℕ) (command : Command) → Begins old new n worker tenant command → names o ≡ None → Renames names now o (Some n)
     → Keeps names old now new (Begin o worker tenant command) Begun
 keeps_begun names now old new o n worker tenant command b unknown r = λ quotas first base run h.
     subst (λ s. History quotas first s now new) (sym (story_begin base run o worker tenant command))
@@ -43,13 +43,13 @@ no_answer : (a : Answer) → ◌≡◌ {A = Option Answer} None (Some a) → ⊥
 no_answer a e = cc
 
 -- a step after which its operation goes on
-keeps_moved : (names : Names) (old new : View) (o n : ℕ) → names o ≡ Some (Some n) → IsStep old new n false → Keeps names old names new (Step o) Moved
+keeps_moved : (names : Names) (old new : StateView) (o n : ℕ) → names o ≡ Some (Some n) → IsStep old new n false → Keeps names old names new (Step o) Moved
 keeps_moved names old new o n known s = λ quotas first base run h.
     subst (λ w. History quotas first w names new) (sym (story_moved base run o))
     (history_moved quotas first (story_of base run) names old new o n false None h known s (λ a e. absurd (no_answer a e)) no_answer)
 
 -- a step that ends its operation, whose answer is then taken
-keeps_done : (names now : Names) (old mid new : View) (o n : ℕ) (a : Answer) → names o ≡ Some (Some n) → IsStep old mid n true → Takes mid new n a → Renames names now o None
+keeps_done : (names now : Names) (old mid new : StateView) (o n : ℕ) (a : Answer) → names o ≡ Some (Some n) → IsStep old mid n true → Takes mid new n a → Renames names now o None
     → Keeps names old now new (Step o) (Done a)
 keeps_done names now old mid new o n a known s t r = λ quotas first base run h.
     subst (λ w. History quotas first w now new) (sym (story_done base run o a))
@@ -61,7 +61,7 @@ keeps_done names now old mid new o n a known s t r = λ quotas first base run h.
     same = sym (set_here old.table n (moved s.before (old.steps + 1) s.progress) t.op (ap (λ w. op_at w n) (sym s.table) ∙ t.there))
 
 -- each event keeps the history
-pub keeps_event : (names now : Names) (old new : View) (e : Event) (t : Told) → TellsEvent names old now new e t → Keeps names old now new e t
+pub keeps_event : (names now : Names) (old new : StateView) (e : Event) (t : Told) → TellsEvent names old now new e t → Keeps names old now new e t
 keeps_event names now old new (Begin o worker tenant command) Begun h = keeps_begun names now old new o h.0 worker tenant command h.3 h.1 h.2
 keeps_event names now old new (Begin o worker tenant command) (Refused refusal) h = keeps_quiet names now old new _ _ refl (λ q. refl) h.1 h.2
 keeps_event names now old new (Begin o worker tenant command) NoSuch h = keeps_quiet names now old new _ _ refl (λ q. refl) h.1 h.2
@@ -74,10 +74,10 @@ keeps_event names now old new (Step o) NoSuch h = keeps_quiet names now old new 
 keeps_event names now old new _ _ h = absurd h
 
 -- a run with one event more
-pub leads_more : (names : Names) (old : View) (run : Run) (mids : Names) (mid : View) (now : Names) (new : View) (e : Event) (t : Told)
-    → LeadsTo names old run mids mid → TellsEvent mids mid now new e t → LeadsTo names old (run ++ (e, t) ∷ []) now new
+pub leads_more : (names : Names) (old : StateView) (run : Run) (mids : Names) (mid : StateView) (now : Names) (new : StateView) (e : Event) (t : Told)
+    → BringsTo names old run mids mid → TellsEvent mids mid now new e t → BringsTo names old (run ++ (e, t) ∷ []) now new
 leads_more names old [] mids mid now new e t h s =
-    (now, new, subst (λ (w : Names). TellsEvent w old now new e t) h.0 (subst (λ (v : View). TellsEvent mids v now new e t) h.1 s), (refl, refl))
+    (now, new, subst (λ (w : Names). TellsEvent w old now new e t) h.0 (subst (λ (v : StateView). TellsEvent mids v now new e t) h.1 s), (refl, refl))
 leads_more names old (x ∷ run) mids mid now new e t h s = (h.0, h.1, h.2, leads_more h.0 h.1 run mids mid now new e t h.3 s)
 
 zip_suc : (es : List Event) (ts : List Told) (i : ℕ) (e : Event) (t : Told) → i < length es → e ≡ get_or es i e → length ts ≡ i → zip (take (suc i) es) (ts ++ t ∷ []) ≡ zip (take i es) ts ++ (e, t) ∷ []

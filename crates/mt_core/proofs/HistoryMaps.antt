@@ -10,7 +10,7 @@ use Rattle.mt_tape.specs.Histories.{undone, is_changed}
 use Rattle.mt_tape.proofs.EntryLaws.{later_entries-none, is_changed-push}
 use Rattle.mt_core.specs.declared.operation.Operation.{Operation}
 use Rattle.mt_core.specs.declared.operation.Progress.{Progress}
-use Rattle.mt_core.specs.Views.{View, map_of, changed_at}
+use Rattle.mt_core.specs.Views.{StateView, map_of, changed_at}
 use Rattle.mt_core.specs.Promises.{IsQuiet, IsPlacing}
 
 -- every change was made by a step up to this one
@@ -21,14 +21,14 @@ pub made_later : (entries : List Entry) (m n : ℕ) → m ≤ n → AreMade entr
 made_later entries m n le h = λ k d in_. let up = h k d in_ in omega arith
 
 -- after the last step the map is the present one
-pub map_of-now : (v : View) (t m : ℕ) → AreMade v.tape.entries m → map_of v t m ≡ tenant_map t v.contents
+pub map_of-now : (v : StateView) (t m : ℕ) → AreMade v.tape.entries m → map_of v t m ≡ tenant_map t v.contents
 map_of-now v t m made = ap (λ es. tenant_map t (undone es v.contents)) (later_entries-none m v.tape.entries made)
 
 -- no step after it changed a map
 pub unchanged-after : (entries : List Entry) (m n : ℕ) → m < n → AreMade entries m → is_changed entries n ≡ false
 unchanged-after entries m n lt made = list_any_none (λ e. eqb e.step n) entries (λ k d in_. let up = made k d in_ in ne_eqb (get_or entries k d).step n (λ is. omega arith))
 
-module _ (old new : View) (op : Operation) (progress : Progress) (number : new.steps ≡ old.steps + 1) (made : AreMade old.tape.entries old.steps) where
+module _ (old new : StateView) (op : Operation) (progress : Progress) (number : new.steps ≡ old.steps + 1) (made : AreMade old.tape.entries old.steps) where
   -- a quiet step leaves the maps as they are, and changed none
   pub made-quiet : IsQuiet old new op progress → AreMade new.tape.entries new.steps
   made-quiet q = subst (λ es. AreMade es new.steps) (sym q.entries) (made_later old.tape.entries old.steps new.steps (omega (arith, number)) made)

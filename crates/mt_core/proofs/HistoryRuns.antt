@@ -9,7 +9,7 @@ use Rattle.mt_runs.specs.Right.{Right}
 use Rattle.mt_runs.proofs.Steps.{more_steps, owner_cases}
 use Rattle.mt_core.specs.declared.operation.Operation.{Operation}
 use Rattle.mt_core.specs.Operations.{moved}
-use Rattle.mt_core.specs.Views.{View, Table, op_at, map_of, changed_at}
+use Rattle.mt_core.specs.Views.{StateView, Table, op_at, map_of, changed_at}
 use Rattle.mt_core.specs.Promises.{IsStep}
 use Rattle.mt_core.specs.Begins.{IsAnswerOf, IsEnded, Takes}
 use Rattle.mt_core.specs.Histories.{Names, Renames, IsTold, History}
@@ -26,10 +26,10 @@ taken_none (x ∷ table) zero = refl
 taken_none (x ∷ table) (suc n) = taken_none table n
 
 -- what is told of an operation reads no table
-told_without : (story : Story) (v : View) (table : Table) (o : ℕ) (op : Operation) → IsTold story v o op → IsTold story (record v { table = table }) o op
+told_without : (story : Story) (v : StateView) (table : Table) (o : ℕ) (op : Operation) → IsTold story v o op → IsTold story (record v { table = table }) o op
 told_without story v table o op k = record { asked_so = k.asked_so; first = k.first; last = k.last; unfinished = k.unfinished; changes = k.changes; own = k.own }
 
-module _ (quotas : Quotas) (first : Maps) (story : Story) (names : Names) (old new : View) (o n : ℕ) (done : Bool) (answer : Option Answer)
+module _ (quotas : Quotas) (first : Maps) (story : Story) (names : Names) (old new : StateView) (o n : ℕ) (done : Bool) (answer : Option Answer)
     (h : History quotas first story names old) (known : names o ≡ Some (Some n)) (s : IsStep old new n done)
     (ends : (a : Answer) → answer ≡ Some a → IsAnswerOf (moved s.before (old.steps + 1) s.progress) a) where
   abbrev after : Operation
@@ -95,7 +95,7 @@ module _ (quotas : Quotas) (first : Maps) (story : Story) (names : Names) (old n
   }
 
   -- a step that ends its operation, whose answer is then taken
-  pub history_done : (last : View) (now : Names) (a : Answer) → Takes new last n a → Renames names now o None → History quotas first (with_step story o answer) now last
+  pub history_done : (last : StateView) (now : Names) (a : Answer) → Takes new last n a → Renames names now o None → History quotas first (with_step story o answer) now last
   history_done last now a t r = subst (History quotas first (with_step story o answer) now) (sym t.gone) (record {
     right = right_now;
     quota = λ u. s.grows.quotas u ∙ h.quota u;
@@ -121,5 +121,5 @@ module _ (quotas : Quotas) (first : Maps) (story : Story) (names : Names) (old n
       other q m e is = no_value (same_Some None (Some m) (sym r.here ∙ ap now (sym is) ∙ e))
 
 -- after a step that ends it, an operation has none left
-pub step_ended : (old new : View) (n : ℕ) → IsStep old new n true → IsEnded new.table n
+pub step_ended : (old new : StateView) (n : ℕ) → IsStep old new n true → IsEnded new.table n
 step_ended old new n s = (moved s.before (old.steps + 1) s.progress, ap (λ t. op_at t n) s.table ∙ set_is old.table n _ s.before s.there, not-true _ (sym s.ends))

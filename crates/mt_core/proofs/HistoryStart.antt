@@ -17,9 +17,9 @@ use Rattle.mt_runs.specs.Placings.{Maps, no_pairs}
 use Rattle.mt_runs.proofs.Steps.{owner_in}
 use Rattle.mt_runs.proofs.Growth.{no_story, right_start}
 use Rattle.mt_core.specs.declared.answers.Ticket.{Ticket}
-use Rattle.mt_core.specs.Views.{View, op_at, map_of, changed_at, quota_in, quota_of}
+use Rattle.mt_core.specs.Views.{StateView, op_at, map_of, changed_at, quota_in, quota_of}
 use Rattle.mt_core.specs.Begins.{new_state}
-use Rattle.mt_core.specs.Histories.{no_names, named, History, LeadsTo}
+use Rattle.mt_core.specs.Histories.{no_names, named, History, BringsTo}
 use Rattle.mt_core.proofs.HistoryNames.{number_in}
 use Rattle.mt_core.proofs.HistoryMaps.{AreMade, map_of-now}
 
@@ -27,7 +27,7 @@ no_value : {A : Type 0} {a : A} → ◌≡◌ {A = Option A} None (Some a) → �
 no_value e = cc
 
 -- a state without operations, of which no change is told, is one in which nothing has happened since its last step
-pub history_start : (v : View) (first : Maps) → ((n : ℕ) → op_at v.table n ≡ None) → v.tape.entries ≡ [] → ((t : ℕ) → tenant_map t v.contents ≡ first t) → History (quota_of v) first (no_story v.steps) no_names v
+pub history_start : (v : StateView) (first : Maps) → ((n : ℕ) → op_at v.table n ≡ None) → v.tape.entries ≡ [] → ((t : ℕ) → tenant_map t v.contents ≡ first t) → History (quota_of v) first (no_story v.steps) no_names v
 history_start v first none quiet begun =
     let made = subst (λ es. AreMade es v.steps) (sym quiet) (All-nil (λ e. e.step ≤ v.steps)) in
     record {
@@ -54,12 +54,12 @@ history_new logs accounts = history_start (new_state logs accounts) no_pairs (λ
 unnamed : (names : BTreeMap ℕ (Option Ticket)) → names.entries ≡ [] → named names ≡ no_names
 unnamed names none = fun_ext (λ o. ap (λ es. number_in (lookup (λ q. is_eq (nat_cmp o q)) es)) none)
 
-pub history_first : (logs : ℕ) (accounts : Accounts) (v : View) (names : BTreeMap ℕ (Option Ticket)) → v ≡ new_state logs accounts → names.entries ≡ []
+pub history_first : (logs : ℕ) (accounts : Accounts) (v : StateView) (names : BTreeMap ℕ (Option Ticket)) → v ≡ new_state logs accounts → names.entries ≡ []
     → History (λ t. quota_in (account_of accounts t)) no_pairs (story_of 0 []) (named names) v
 history_first logs accounts v names is none =
     subst (λ w. History (λ t. quota_in (account_of accounts t)) no_pairs (story_of 0 []) w v) (sym (unnamed names none))
     (subst (History (λ t. quota_in (account_of accounts t)) no_pairs (story_of 0 []) no_names) (sym is) (history_new logs accounts))
 
-pub leads_first : (logs : ℕ) (accounts : Accounts) (v : View) (names : BTreeMap ℕ (Option Ticket)) → v ≡ new_state logs accounts → names.entries ≡ []
-    → LeadsTo no_names (new_state logs accounts) [] (named names) v
+pub leads_first : (logs : ℕ) (accounts : Accounts) (v : StateView) (names : BTreeMap ℕ (Option Ticket)) → v ≡ new_state logs accounts → names.entries ≡ []
+    → BringsTo no_names (new_state logs accounts) [] (named names) v
 leads_first logs accounts v names is none = (unnamed names none, is)

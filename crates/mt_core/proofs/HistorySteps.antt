@@ -20,9 +20,9 @@ use Rattle.mt_core.specs.declared.operation.Request.TheVariants.{Get, Put}
 use Rattle.mt_core.specs.declared.operation.Progress.{Progress}
 use Rattle.mt_core.specs.declared.operation.Progress.TheVariants.{Unlock, Finished as Ended}
 use Rattle.mt_core.specs.Operations.{command_of, moved}
-use Rattle.mt_core.specs.Views.{View, map_of, changed_at, quota_of}
+use Rattle.mt_core.specs.Views.{StateView, map_of, changed_at, quota_of}
 use Rattle.mt_core.specs.Kept.{ask}
-use Rattle.mt_core.specs.Sound.{is_unfinished}
+use Rattle.mt_core.specs.Invariant.{is_unfinished}
 use Rattle.mt_core.specs.Promises.{MayFollow, IsQuiet, IsPlacing, IsStep, told_change, change_in}
 use Rattle.mt_core.specs.Begins.{IsAnswerOf}
 use Rattle.mt_core.specs.Histories.{IsTold}
@@ -69,7 +69,7 @@ changed_once (Unlock said n) m reply at left e follows = follows
 changed_once (Ended said n) m reply at left e follows = absurd (cc)
 changed_once _ m reply at left e follows = absurd (cc)
 
-module _ (quotas : Quotas) (first : Maps) (story : Story) (old new : View) (o n : ℕ) (done : Bool) (answer : Option Answer)
+module _ (quotas : Quotas) (first : Maps) (story : Story) (old new : StateView) (o n : ℕ) (done : Bool) (answer : Option Answer)
     (right : Right quotas first story (map_of old) (changed_at old)) (quota : (t : ℕ) → quota_of old t ≡ quotas t) (count : last_step story ≡ old.steps)
     (made : AreMade old.tape.entries old.steps) (s : IsStep old new n done) (k : IsTold story old o s.before)
     (ends : (a : Answer) → answer ≡ Some a → IsAnswerOf (moved s.before (old.steps + 1) s.progress) a) where

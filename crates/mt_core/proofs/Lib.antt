@@ -7,7 +7,7 @@ pub mod Writes
 pub mod Notes
 pub mod Looks
 pub mod Taken
-pub mod Holds
+pub mod HoldsKey
 pub mod Places
 pub mod Puts
 pub mod TableLaws

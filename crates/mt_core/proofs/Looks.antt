@@ -13,9 +13,9 @@ use Rattle.mt_core.specs.declared.operation.Operation.{Operation}
 use Rattle.mt_core.specs.declared.operation.Progress.{Progress}
 use Rattle.mt_core.specs.declared.operation.Progress.TheVariants.{Enter, Search, Load, Confirm, Forward, Lock, Unlock, Finished}
 use Rattle.mt_core.specs.Operations.{moved, steps_to, IsStraight}
-use Rattle.mt_core.specs.Views.{Core, View, Table, shown, pairs_of, op_at, map_of, quota_of}
-use Rattle.mt_core.specs.Kept.{ask, age, Holds, HasSeen, IsFresh, IsAtSearch, IsAtLoad, IsAtConfirm, IsAtLock, IsKept}
-use Rattle.mt_core.specs.Sound.{IsStampOf, Sound, has_lock, is_unfinished, is_unplaced}
+use Rattle.mt_core.specs.Views.{Core, StateView, Table, shown, pairs_of, op_at, map_of, quota_of}
+use Rattle.mt_core.specs.Kept.{ask, age, HoldsKey, HasSeen, IsFresh, IsAtSearch, IsAtLoad, IsAtConfirm, IsAtLock, IsKept}
+use Rattle.mt_core.specs.Invariant.{IsStampOf, StateInvariant, has_lock, is_unfinished, is_unplaced}
 use Rattle.mt_core.specs.Notes.{Notes, NotesAfter}
 use Rattle.mt_core.specs.Promises.{MayFollow, IsNext, change_in}
 use Rattle.mt_core.specs.Reads.{turned, left, searched, TellsSlot, TellsTaken}
@@ -27,7 +27,7 @@ use Rattle.std.proofs.lemmas.Bool.{cases_lt}
 use Rattle.mt_rows.specs.Commands.{key_of, HasColumns}
 use Rattle.mt_rows.proofs.ContentLaws.{get-tenant_map}
 use Rattle.mt_border.specs.Node.{entries_of}
-use Rattle.mt_tape.specs.Histories.{IsUntouched}
+use Rattle.mt_tape.specs.Histories.{IsUnwrittenSince}
 use Rattle.mt_tape.proofs.TapeLaws.{get-map_at}
 use Rattle.mt_border.proofs.ContentsKeys.{in_top_tree, has_found_key}
 use Rattle.mt_border.proofs.ContentsFinds.{find_missing, row_at}
@@ -35,10 +35,10 @@ use Rattle.mt_border.proofs.ContentsStamps.{stamped_here}
 use Rattle.mt_core.proofs.Quiet.{quiet, first_begun, first_upto, first_same, first_stays, IsAhead, Gives, quiet_gives, still_keeps, Written, quiet_done}
 
 -- the keys of operations are short, and the columns that they name are such as may be named
-pub short_key : (c : Core) (o : ℕ) → Sound c → (op : Operation) → op_at c.table o ≡ Some op → length op.key ≤ 8
+pub short_key : (c : Core) (o : ℕ) → StateInvariant c → (op : Operation) → op_at c.table o ≡ Some op → length op.key ≤ 8
 short_key c o h op there = (h.ops o op there).0.short
 
-pub has_columns : (c : Core) (o : ℕ) → Sound c → (op : Operation) → op_at c.table o ≡ Some op → HasColumns (ask op)
+pub has_columns : (c : Core) (o : ℕ) → StateInvariant c → (op : Operation) → op_at c.table o ≡ Some op → HasColumns (ask op)
 has_columns c o h op there = (h.ops o op there).0.columns
 
 -- the same progress is written
@@ -81,9 +81,9 @@ left_behind now version seen is whole (inr splits) same = splits (ap (λ (v : Pa
 abbrev pub still : Core → Table → Core
 still c table = quiet c c.node.version c.holder c.tape.reserved table
 
-module _ (c : Core) (now : View) (o : ℕ) (table : Table) (is : shown c ≡ now) (h : Sound c) (room : now.steps < 2 ^ 59) where
+module _ (c : Core) (now : StateView) (o : ℕ) (table : Table) (is : shown c ≡ now) (h : StateInvariant c) (room : now.steps < 2 ^ 59) where
   few : c.steps < 2 ^ 59
-  few = subst (λ (v : View). v.steps < 2 ^ 59) (sym is) room
+  few = subst (λ (v : StateView). v.steps < 2 ^ 59) (sym is) room
 
   still_gives : (op : Operation) (next : Progress) → op_at c.table o ≡ Some op → has_lock op.progress ≡ false → is_unplaced op.progress ≡ true → is_unfinished op.progress ≡ true → MayFollow op.progress next → Notes (shown c) op next
       → change_in next ≡ change_in op.progress → IsAhead c op next → IsKept (still c (set c.table o (Some (moved op (c.steps + 1) next)))) o (moved op (c.steps + 1) next) next → table ≡ set c.table o (Some (moved op (c.steps + 1) next))
@@ -138,7 +138,7 @@ module _ (c : Core) (now : View) (o : ℕ) (table : Table) (is : shown c ≡ now
 
   -- the operation of which the step's condition speaks
   there_is : (next : Progress) (n : IsNext now o next) → op_at c.table o ≡ Some n.0
-  there_is next n = ap (λ (v : View). op_at v.table o) is ∙ n.1
+  there_is next n = ap (λ (v : StateView). op_at v.table o) is ∙ n.1
 
   pub enter_done : (next : Progress) → IsNext now o Enter → ((op : Operation) → op_at c.table o ≡ Some op → next ≡ turned op c.node.version) → Written c o table next → Gives now (still c table) o false
   enter_done next n turns w =
@@ -233,7 +233,7 @@ module _ (c : Core) (now : View) (o : ℕ) (table : Table) (is : shown c ≡ now
   search_gives seen op (Some slot) there at found w =
       let k : IsAtSearch c op seen = subst (IsKept c o op) at (h.ops o op there).1 in
       let next = Load seen slot (c.steps + 1) in
-      let holds : Holds c.node slot op.key = record { live = found.live; key_is = has_found_key [] 0 c.node op.key slot (in_top_tree op.key (h.ops o op there).0.stored) found } in
+      let holds : HoldsKey c.node slot op.key = record { live = found.live; key_is = has_found_key [] 0 c.node op.key slot (in_top_tree op.key (h.ops o op there).0.stored) found } in
       still_gives op next there (ap has_lock at) (ap is_unplaced at) (ap is_unfinished at) (subst (λ p. MayFollow p next) (sym at) tt) (subst (λ p. NotesAfter (shown c) op p next) (sym at) (notes_slot c o op h there slot found)) (no_change op.progress (ap is_unplaced at)) (λ _ _. omega (arith, ap steps_to at))
       (record {
         get_is = k.get_is;
@@ -307,7 +307,7 @@ module _ (c : Core) (now : View) (o : ℕ) (table : Table) (is : shown c ≡ now
             let row = taken.row pair.0 holds.live pair.1 asked.0 asked.1 in
             let is_max : at ≡ max op.first pair.0.stamp = is_at ∙ ap (λ s. unwrap_or s looked) row.1 in
             let stamped = stamped_here (IsStampOf c.steps c.tape) [] 0 c.node slot op.key pair.0 holds.live holds.key_is pair.1 h.node.stamped in
-            let untouched : IsUntouched c.tape.entries (op.tenant, key_of (ask op)) pair.0.stamp = subst (λ q. IsUntouched c.tape.entries q pair.0.stamp) open_op.owner stamped.1 in
+            let untouched : IsUnwrittenSince c.tape.entries (op.tenant, key_of (ask op)) pair.0.stamp = subst (λ q. IsUnwrittenSince c.tape.entries q pair.0.stamp) open_op.owner stamped.1 in
             let there_row : get (pairs_of c) (op.tenant, key_of (ask op)) ≡ Some pair.0.row =
             ap (get (pairs_of c)) (sym open_op.owner) ∙ row_at [] 0 c.node op.key slot pair.0 h.node.border h.node.keys holds.live holds.key_is pair.1 in
             let at_number : get (map_of (shown c) op.tenant at) (key_of (ask op)) ≡ Some pair.0.row =

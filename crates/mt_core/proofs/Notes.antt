@@ -8,7 +8,7 @@ use Rattle.mt_rows.specs.declared.reply.Reply.{Reply}
 use Rattle.mt_rows.specs.declared.reply.Reply.TheVariants.{Absent}
 use Rattle.mt_rows.proofs.ContentLaws.{get-tenant_map}
 use Rattle.mt_version.specs.Parts.{Parts}
-use Rattle.mt_border.specs.declared.entry.Kind.TheVariants.{ThisKey}
+use Rattle.mt_border.specs.declared.entry.FoundKind.TheVariants.{ThisKey}
 use Rattle.mt_border.specs.Entries.{IsMissing}
 use Rattle.mt_border.specs.Node.{IsFound, IsLive, entries_of, entry_at}
 use Rattle.mt_tape.proofs.TapeLaws.{get-map_at}
@@ -16,9 +16,9 @@ use Rattle.mt_core.specs.declared.operation.Operation.{Operation}
 use Rattle.mt_core.specs.declared.operation.Progress.{Progress}
 use Rattle.mt_core.specs.declared.operation.Progress.TheVariants.{Search, Load, Confirm, Store, Publish, Unlock}
 use Rattle.mt_border.specs.Contents.{owned}
-use Rattle.mt_core.specs.Views.{Core, View, shown, pairs_of, op_at}
+use Rattle.mt_core.specs.Views.{Core, StateView, shown, pairs_of, op_at}
 use Rattle.mt_core.specs.Kept.{IsAtLoad}
-use Rattle.mt_core.specs.Sound.{IsStampOf, Sound}
+use Rattle.mt_core.specs.Invariant.{IsStampOf, StateInvariant}
 use Rattle.mt_core.specs.Reads.{TellsTaken}
 use Rattle.mt_core.specs.Notes.{NotesSlot, NotesAbsent, NotesTaken, NotesAfter}
 use Rattle.mt_core.proofs.Writes.{row_written}
@@ -36,7 +36,7 @@ looks_on (Unlock reply at) = true
 looks_on _ = false
 
 -- a step to another next notes nothing
-pub no_notes : (old : View) (op : Operation) (p next : Progress) → looks_on next ≡ false → NotesAfter old op p next
+pub no_notes : (old : StateView) (op : Operation) (p next : Progress) → looks_on next ≡ false → NotesAfter old op p next
 no_notes old op (Search seen) (Load same slot searched) e = absurd (cc)
 no_notes old op (Search seen) (Confirm same reply at) e = absurd (cc)
 no_notes old op (Load seen slot searched) (Confirm same reply at) e = absurd (cc)
@@ -45,12 +45,12 @@ no_notes old op (Publish suffix row entry) (Unlock reply at) e = absurd (cc)
 no_notes old op _ _ e = tt
 
 -- one that ends the placing notes this step's number
-pub placed_notes : (old : View) (op : Operation) (p : Progress) (reply : Reply) → NotesAfter old op p (Unlock reply (old.steps + 1))
+pub placed_notes : (old : StateView) (op : Operation) (p : Progress) (reply : Reply) → NotesAfter old op p (Unlock reply (old.steps + 1))
 placed_notes old op (Store slot row entry) reply = refl
 placed_notes old op (Publish suffix row entry) reply = refl
 placed_notes old op _ reply = tt
 
-module _ (c : Core) (o : ℕ) (op : Operation) (h : Sound c) (there : op_at c.table o ≡ Some op) where
+module _ (c : Core) (o : ℕ) (op : Operation) (h : StateInvariant c) (there : op_at c.table o ≡ Some op) where
   -- a key that was found is in the contents, with the row of its slot
   pub notes_slot : (slot : ℕ) → IsFound c.node (slice_of op.key 0) (mark_of op.key 0) (suffix_of op.key 0) slot ThisKey → NotesSlot (shown c) op (c.steps + 1)
   notes_slot slot found =

@@ -10,7 +10,7 @@ use Rattle.mt_core.specs.declared.operation.Progress.TheVariants.{Finished}
 use Rattle.mt_core.specs.Operations.{is_open_put, phase_of}
 use Rattle.mt_core.specs.Views.{Table, op_at}
 use Rattle.mt_core.specs.Kept.{ask}
-use Rattle.mt_core.specs.Sound.{is_unfinished}
+use Rattle.mt_core.specs.Invariant.{is_unfinished}
 use Rattle.mt_core.specs.Begins.{HasOpenPut}
 
 -- a step is left where there is a phase

@@ -16,12 +16,12 @@ use Rattle.mt_rows.specs.Tenants.{Contents, tenant_map}
 use Rattle.mt_rows.specs.Maps.{reply_of, map_after, is_change, is_no_memory}
 use Rattle.mt_rows.proofs.ContentLaws.{tenant_map-insert, tenant_map-insert_other}
 use Rattle.mt_version.specs.Parts.{Parts}
-use Rattle.mt_border.specs.Entry.{IsStable}
+use Rattle.mt_border.specs.Entry.{IsStablePair}
 use Rattle.mt_border.specs.Entries.{IsBorder}
 use Rattle.mt_border.specs.Node.{Node, entries_of}
 use Rattle.mt_tape.specs.declared.entry.Entry.{Entry as TapeEntry}
 use Rattle.mt_tape.specs.Tapes.{Kept}
-use Rattle.mt_tape.specs.Histories.{IsNextWrite, with_write, with_row, written_key, contents_at, IsLegal}
+use Rattle.mt_tape.specs.Histories.{IsNextWrite, with_write, with_row, written_key, contents_at, IsLegalTape}
 use Rattle.mt_tape.proofs.EntryLaws.{rises-push, last_step_over-push, is_changed-push, is_changed-push_other}
 use Rattle.mt_tape.proofs.TapeLaws.{contents_at-push, legal-push}
 use Rattle.mt_core.specs.declared.operation.Operation.{Operation}
@@ -29,9 +29,9 @@ use Rattle.mt_core.specs.declared.operation.Progress.{Progress}
 use Rattle.mt_core.specs.declared.operation.Progress.TheVariants.{Unlock}
 use Rattle.mt_border.specs.Contents.{contents_of, owned, AreKeys, AllStamped}
 use Rattle.mt_core.specs.Operations.{moved, steps_to}
-use Rattle.mt_core.specs.Views.{Core, Table, shown, pairs_of, op_at, map_of, quota_of, quota_in, Grows}
-use Rattle.mt_core.specs.Kept.{ask, change_of, age, IsAtJudge, IsReady, IsAtUnlock, IsOpen}
-use Rattle.mt_core.specs.Sound.{IsStampOf, IsTape, IsNode, IsLock, Sound, Evolves, is_unfinished}
+use Rattle.mt_core.specs.Views.{Core, Table, shown, pairs_of, op_at, map_of, quota_of, quota_in, KeepsPast}
+use Rattle.mt_core.specs.Kept.{ask, change_of, age, IsAtJudge, IsReady, IsAtUnlock, IsOpenOperation}
+use Rattle.mt_core.specs.Invariant.{IsStampOf, IsTape, IsOnlyNode, IsLock, StateInvariant, StateGuarantee, is_unfinished}
 use Rattle.mt_core.specs.Notes.{key_asked}
 use Rattle.mt_core.specs.Promises.{MayFollow}
 use Rattle.mt_core.proofs.Tables.{set_is}
@@ -57,7 +57,7 @@ pushed c entry = record { entries = c.tape.entries ++ stamped entry (c.steps + 1
 pub record Changes (c : Core) (op : Operation) (row : Columns) (entry : TapeEntry) (node : Node) : Type 0 where
   pub border : IsBorder (entries_of node)
   pub keys : AreKeys [] 0 (entries_of node)
-  pub stable : All (λ e. IsStable e.held) (entries_of node)
+  pub stable : All (λ e. IsStablePair e.held) (entries_of node)
   pub contents : contents_of [] (entries_of node) ≡ insert (pairs_of c) (owned op.key) row
   pub stamps : AllStamped (IsStampOf (c.steps + 1) (pushed c entry)) [] (entries_of node)
   pub version : node.version ≡ record c.node.version { inserting = true }
@@ -78,7 +78,7 @@ change_is_real Replaced e = refl
 change_is_real Removed e = refl
 change_is_real _ e = absurd (cc)
 
-module _ (c : Core) (o : ℕ) (op : Operation) (h : Sound c) (there : op_at c.table o ≡ Some op) (few : c.steps < 2 ^ 59) (reply : Reply) (row : Columns) (entry : TapeEntry) (accounts : Accounts) (node : Node)
+module _ (c : Core) (o : ℕ) (op : Operation) (h : StateInvariant c) (there : op_at c.table o ≡ Some op) (few : c.steps < 2 ^ 59) (reply : Reply) (row : Columns) (entry : TapeEntry) (accounts : Accounts) (node : Node)
     (judged : IsAtJudge c o op) (ready : IsReady c op row entry) (n : Changes c op row entry node) (a : Counts c accounts (contents_of [] (entries_of node))) where
   abbrev next : Progress
   next = Unlock reply (c.steps + 1)
@@ -102,7 +102,7 @@ module _ (c : Core) (o : ℕ) (op : Operation) (h : Sound c) (there : op_at c.ta
   pairs_are : pairs_of new ≡ with_write (pairs_of c) write
   pairs_are = n.contents ∙ ap (λ q. insert (pairs_of c) q row) (sym key_is) ∙ ap (λ r. with_row (pairs_of c) (written_key write) r) (sym ready.after)
 
-  grows : Grows (shown c) (shown new)
+  grows : KeepsPast (shown c) (shown new)
   grows = record {
     steps = omega arith;
     quotas = a.quotas;
@@ -114,8 +114,8 @@ module _ (c : Core) (o : ℕ) (op : Operation) (h : Sound c) (there : op_at c.ta
   ages : age c < age new
   ages = omega (arith, ap mark_age judged.unmarked, ap (λ (v : Parts). v.inserts) n.version, ap (λ (v : Parts). mark_age v.inserting) n.version)
 
-  evolves : Evolves c new o
-  evolves = record {
+  guarantee : StateGuarantee c new o
+  guarantee = record {
     grows = grows;
     ages = omega (arith, ages);
     stands = λ same. absurd (omega (arith, ages));
@@ -130,10 +130,10 @@ module _ (c : Core) (o : ℕ) (op : Operation) (h : Sound c) (there : op_at c.ta
   tape_is = record {
     rises = rises-push c.tape.floor c.tape.entries write h.tape.rises is_next.later;
     made = omega (arith, last_step_over-push c.tape.floor c.tape.entries write);
-    legal = subst (λ x. IsLegal (c.tape.entries ++ write ∷ []) x) (sym pairs_are) (legal-push c.tape.floor c.tape.entries (pairs_of c) write h.tape.rises is_next h.tape.legal);
+    legal = subst (λ x. IsLegalTape (c.tape.entries ++ write ∷ []) x) (sym pairs_are) (legal-push c.tape.floor c.tape.entries (pairs_of c) write h.tape.rises is_next h.tape.legal);
   }
 
-  node_is : IsNode new
+  node_is : IsOnlyNode new
   node_is = record {
     border = n.border;
     keys = n.keys;
@@ -186,7 +186,7 @@ module _ (c : Core) (o : ℕ) (op : Operation) (h : Sound c) (there : op_at c.ta
     pub placed_gives : steps_to op.progress ≡ 3 → Gives (shown c) new o false
     placed_gives third =
         let ahead : IsAhead c op next = λ left straight. omega (arith, third) in
-        let sound : Sound new = sound_step c new o done h evolves refl tape_is node_is lock_is a.counted
+        let sound : StateInvariant new = sound_step c new o done h guarantee refl tape_is node_is lock_is a.counted
         (one_put_step c new o op done h there refl refl refl (λ _. open_before) (λ e. absurd (cc)) (inr (judged.lock.put_is, open_before, refl))) (omega (arith, few))
         open_done own in (
           sound,
@@ -223,7 +223,7 @@ module _ (c : Core) (o : ℕ) (op : Operation) (h : Sound c) (there : op_at c.ta
           },
         )
       where
-        open_done : IsOpen new done
+        open_done : IsOpenOperation new done
         open_done =
             let k = moved_open c o op h there few next (record { steps = c.steps + 1; logs = c.logs; accounts = c.accounts; node = node; holder = c.holder; tape = pushed c entry; table = set c.table o (Some done) }) refl refl refl in
             record {

@@ -21,7 +21,7 @@ use Rattle.mt_rows.proofs.ContentLaws.{get-tenant_map}
 use Rattle.mt_border.specs.declared.entry.Entry.{Entry}
 use Rattle.mt_border.specs.declared.entry.Pair.{Pair}
 use Rattle.mt_border.specs.declared.entry.Held.TheVariants.{Stable}
-use Rattle.mt_border.specs.Entry.{IsStable, IsEntry, IsRest, pair_of}
+use Rattle.mt_border.specs.Entry.{IsStablePair, IsEntry, IsRest, pair_of}
 use Rattle.mt_border.specs.Entries.{IsBorder, IsMissing, with_entry}
 use Rattle.mt_border.specs.Node.{Node, entries_of, entry_at, IsLive, Rewrites}
 use Rattle.mt_border.proofs.Edits.{border_with_entry}
@@ -35,9 +35,9 @@ use Rattle.mt_core.specs.declared.operation.Progress.{Progress}
 use Rattle.mt_core.specs.declared.operation.Progress.TheVariants.{Store, Publish, Unlock}
 use Rattle.mt_border.specs.Contents.{contents_of, owned, HasKey, AllStamped}
 use Rattle.mt_core.specs.Operations.{moved, steps_to}
-use Rattle.mt_core.specs.Views.{Core, View, Table, shown, pairs_of, op_at, quota_of, quota_in}
+use Rattle.mt_core.specs.Views.{Core, StateView, Table, shown, pairs_of, op_at, quota_of, quota_in}
 use Rattle.mt_core.specs.Kept.{ask, change_of, IsAtStore, IsAtPublish, IsKept}
-use Rattle.mt_core.specs.Sound.{IsStampOf, Sound, is_unfinished}
+use Rattle.mt_core.specs.Invariant.{IsStampOf, StateInvariant, is_unfinished}
 use Rattle.mt_core.specs.Promises.{MayFollow, IsNext}
 use Rattle.mt_core.specs.Reads.{marked, new_entry, CountsNew}
 use Rattle.mt_border.proofs.ContentsMaps.{len_new, len_there, len_other}
@@ -83,7 +83,7 @@ room_left None count room is = absurd room
 room_left (Some a) count room is = omega (arith, room, is a refl)
 
 -- the tape's write and what it leaves untouched
-module _ (c : Core) (h : Sound c) (entry : TapeEntry) (key : ℕ × Bytes) (key_is : written_key entry ≡ key) where
+module _ (c : Core) (h : StateInvariant c) (entry : TapeEntry) (key : ℕ × Bytes) (key_is : written_key entry ≡ key) where
   -- what stood untouched at another key stands so
   pub untouched_beside : (q : ℕ × Bytes) (s : ℕ) → q ≢ key → IsStampOf c.steps c.tape q s → IsStampOf (c.steps + 1) (pushed c entry) q s
   untouched_beside q s other w = (
@@ -102,12 +102,12 @@ module _ (c : Core) (h : Sound c) (entry : TapeEntry) (key : ℕ × Bytes) (key_
     λ lt. (stamped entry (c.steps + 1), Contains-push c.tape.entries (stamped entry (c.steps + 1)), refl, key_is),
   )
 
-module _ (c : Core) (now : View) (o : ℕ) (table : Table) (is : shown c ≡ now) (h : Sound c) (room : now.steps < 2 ^ 59) where
+module _ (c : Core) (now : StateView) (o : ℕ) (table : Table) (is : shown c ≡ now) (h : StateInvariant c) (room : now.steps < 2 ^ 59) where
   few : c.steps < 2 ^ 59
-  few = subst (λ (v : View). v.steps < 2 ^ 59) (sym is) room
+  few = subst (λ (v : StateView). v.steps < 2 ^ 59) (sym is) room
 
   there_is : (next : Progress) (n : IsNext now o next) → op_at c.table o ≡ Some n.0
-  there_is next n = ap (λ (v : View). op_at v.table o) is ∙ n.1
+  there_is next n = ap (λ (v : StateView). op_at v.table o) is ∙ n.1
 
   kept_is : (next : Progress) (n : IsNext now o next) → IsKept c o n.0 next
   kept_is next n = subst (IsKept c o n.0) n.2 (h.ops o n.0 (there_is next n)).1
@@ -119,7 +119,7 @@ module _ (c : Core) (now : View) (o : ℕ) (table : Table) (is : shown c ≡ now
   pub store_live : (slot : ℕ) (row : Columns) (entry : TapeEntry) → IsNext now o (Store slot row entry) → IsLive c.node slot
   store_live slot row entry n = let k : IsAtStore c o n.0 slot row entry = kept_is (Store slot row entry) n in k.holds.live
 
-  pub store_stable : (slot : ℕ) (row : Columns) (entry : TapeEntry) → IsNext now o (Store slot row entry) → IsStable (entry_at c.node slot).held
+  pub store_stable : (slot : ℕ) (row : Columns) (entry : TapeEntry) → IsNext now o (Store slot row entry) → IsStablePair (entry_at c.node slot).held
   store_stable slot row entry n = h.node.stable slot any_entry (store_live slot row entry n)
 
   pub store_reserved : (slot : ℕ) (row : Columns) (entry : TapeEntry) → IsNext now o (Store slot row entry) → 0 < c.tape.reserved
@@ -147,7 +147,7 @@ module _ (c : Core) (now : View) (o : ℕ) (table : Table) (is : shown c ≡ now
       let changes : Changes c op row entry node = record {
         border = border-store (marked c.node) node slot pair.0 row (c.steps + 1) h.node.border live held r;
         keys = keys-store (marked c.node) node slot pair.0 row (c.steps + 1) h.node.border live held r [] 0 op.key h.node.keys k.holds.key_is;
-        stable = each-store (marked c.node) node slot _ h.node.border live r (λ (e : Entry). IsStable e.held) h.node.stable tt;
+        stable = each-store (marked c.node) node slot _ h.node.border live r (λ (e : Entry). IsStablePair e.held) h.node.stable tt;
         contents = contents;
         stamps = stamped_store (IsStampOf c.steps c.tape) (IsStampOf (c.steps + 1) (pushed c entry))
             (marked c.node) node slot pair.0 row (c.steps + 1) h.node.border live held r [] 0 op.key h.node.keys k.holds.key_is
@@ -235,7 +235,7 @@ module _ (c : Core) (now : View) (o : ℕ) (table : Table) (is : shown c ≡ now
       let changes : Changes c op row entry node = record {
         border = subst IsBorder (sym slots_are) (border_with_entry (entries_of c.node) e h.node.border fits k.missing k.few);
         keys = subst (λ (x : List Entry). All (λ e. (key : Bytes) × HasKey [] 0 e key) x) (sym slots_are) (keys-publish [] 0 (entries_of c.node) e op.key h.node.keys has);
-        stable = subst (λ (x : List Entry). All (λ e. IsStable e.held) x) (sym slots_are) (each-publish (λ (e : Entry). IsStable e.held) (entries_of c.node) e h.node.stable tt);
+        stable = subst (λ (x : List Entry). All (λ e. IsStablePair e.held) x) (sym slots_are) (each-publish (λ (e : Entry). IsStablePair e.held) (entries_of c.node) e h.node.stable tt);
         contents = contents;
         stamps = subst (λ (x : List Entry). AllStamped (IsStampOf (c.steps + 1) (pushed c entry)) [] x) (sym slots_are)
             (stamped_publish (IsStampOf c.steps c.tape) (IsStampOf (c.steps + 1) (pushed c entry))

@@ -11,9 +11,9 @@ use Rattle.mt_core.specs.declared.operation.Operation.{Operation}
 use Rattle.mt_core.specs.declared.operation.Progress.{Progress}
 use Rattle.mt_core.specs.declared.operation.Progress.TheVariants.{Enter}
 use Rattle.mt_core.specs.Operations.{moved, steps_to, IsStraight}
-use Rattle.mt_core.specs.Views.{Core, View, Table, shown, op_at, Grows}
-use Rattle.mt_core.specs.Kept.{age, IsKept, IsOpen, IsAnswered}
-use Rattle.mt_core.specs.Sound.{IsStampOf, IsTape, IsNode, IsLock, Sound, Evolves, has_lock, is_unfinished, is_unplaced}
+use Rattle.mt_core.specs.Views.{Core, StateView, Table, shown, op_at, KeepsPast}
+use Rattle.mt_core.specs.Kept.{age, IsKept, IsOpenOperation, HasRightAnswer}
+use Rattle.mt_core.specs.Invariant.{IsStampOf, IsTape, IsOnlyNode, IsLock, StateInvariant, StateGuarantee, has_lock, is_unfinished, is_unplaced}
 use Rattle.mt_core.specs.Notes.{Notes}
 use Rattle.mt_core.specs.Promises.{MayFollow, change_in, IsStep}
 use Rattle.mt_rows.specs.Accounts.{Accounts, account_of}
@@ -69,10 +69,10 @@ next_straight c o op next ahead begun straight left = let on = ahead left (inr s
 ]
 
 -- what the step gives: a state with the invariant, and a step that may be told
-abbrev pub Gives : View → Core → ℕ → Bool → Type 0
-Gives now new o done = Sound new × IsStep now (shown new) o done
+abbrev pub Gives : StateView → Core → ℕ → Bool → Type 0
+Gives now new o done = StateInvariant new × IsStep now (shown new) o done
 
-module _ (c : Core) (o : ℕ) (op : Operation) (h : Sound c) (there : op_at c.table o ≡ Some op) (few : c.steps < 2 ^ 59) (next : Progress) where
+module _ (c : Core) (o : ℕ) (op : Operation) (h : StateInvariant c) (there : op_at c.table o ≡ Some op) (few : c.steps < 2 ^ 59) (next : Progress) where
   -- the operation, once it has made the step
   abbrev pub after : Operation
   after = moved op (c.steps + 1) next
@@ -103,7 +103,7 @@ module _ (c : Core) (o : ℕ) (op : Operation) (h : Sound c) (there : op_at c.ta
   ]
 
   -- what is kept of every operation is kept of the one that made the step
-  pub moved_open : (new : Core) → new.steps ≡ c.steps + 1 → new.accounts ≡ c.accounts → new.tape.floor ≡ c.tape.floor → IsOpen new after
+  pub moved_open : (new : Core) → new.steps ≡ c.steps + 1 → new.accounts ≡ c.accounts → new.tape.floor ≡ c.tape.floor → IsOpenOperation new after
   moved_open new number accounts floor =
       let k = (h.ops o op there).0 in
       let floor_made : c.tape.floor ≤ c.steps = omega (arith, floor_upto_last c.tape.floor c.tape.entries h.tape.rises, h.tape.made) in
@@ -131,11 +131,11 @@ module _ (c : Core) (o : ℕ) (op : Operation) (h : Sound c) (there : op_at c.ta
     abbrev with_reserved : ℕ → Kept
     with_reserved r = record c.tape { reserved = r }
 
-    pub quiet_grows : Grows (shown c) (shown new)
+    pub quiet_grows : KeepsPast (shown c) (shown new)
     quiet_grows = record { steps = omega arith; quotas = λ t. refl; maps = λ t m le. refl; changes = λ m le. refl }
 
-    quiet_evolves : Evolves c new o
-    quiet_evolves = record {
+    quiet_guarantee : StateGuarantee c new o
+    quiet_guarantee = record {
       grows = quiet_grows;
       ages = k.ages;
       stands = λ same. refl;
@@ -153,7 +153,7 @@ module _ (c : Core) (o : ℕ) (op : Operation) (h : Sound c) (there : op_at c.ta
     quiet_tape : IsTape new
     quiet_tape = record { rises = h.tape.rises; made = omega (arith, h.tape.made); legal = h.tape.legal }
 
-    quiet_node : IsNode new
+    quiet_node : IsOnlyNode new
     quiet_node = record {
       border = h.node.border;
       keys = h.node.keys;
@@ -178,7 +178,7 @@ module _ (c : Core) (o : ℕ) (op : Operation) (h : Sound c) (there : op_at c.ta
     pub quiet_gives : is_unfinished op.progress ≡ true → (is_unplaced next ≡ true → is_unplaced op.progress ≡ true) → MayFollow op.progress next → Notes (shown c) op next → change_in next ≡ change_in op.progress → IsAhead c op next → IsKept new o after next
         → (done : Bool) → done ≡ not (is_unfinished next) → Gives (shown c) new o done
     quiet_gives open_before waits follows notes same_change ahead own done ends =
-        let sound : Sound new = sound_step c new o after h quiet_evolves refl quiet_tape quiet_node quiet_lock h.counts
+        let sound : StateInvariant new = sound_step c new o after h quiet_guarantee refl quiet_tape quiet_node quiet_lock h.counts
         (one_put_step c new o op after h there refl refl refl (λ _. open_before) waits (inl refl)) (omega (arith, few)) (moved_open new refl refl refl) own in (
           sound,
           record {
@@ -194,7 +194,7 @@ module _ (c : Core) (o : ℕ) (op : Operation) (h : Sound c) (there : op_at c.ta
             grows = quiet_grows;
             effect = inl (record { contents = refl; entries = refl; change = same_change });
             ends = ends;
-            answer = λ reply at is. let a : IsAnswered new after reply at = subst (IsKept new o after) is own in
+            answer = λ reply at is. let a : HasRightAnswer new after reply at = subst (IsKept new o after) is own in
                 record { begun = a.begun; since = a.since; upto = a.upto; placed = a.placed };
             present = λ t. map_now new sound t new.steps (omega arith);
             first = λ enters none left. first_straight c o op next ahead enters none left;
@@ -203,7 +203,7 @@ module _ (c : Core) (o : ℕ) (op : Operation) (h : Sound c) (there : op_at c.ta
         )
 
 -- an operation without the lock leaves node, lock and tape as they were
-pub still_keeps : (c : Core) (o : ℕ) (op : Operation) → Sound c → op_at c.table o ≡ Some op → has_lock op.progress ≡ false → (next : Progress) → KeepsLock c o c.node.version c.holder c.tape.reserved next
+pub still_keeps : (c : Core) (o : ℕ) (op : Operation) → StateInvariant c → op_at c.table o ≡ Some op → has_lock op.progress ≡ false → (next : Progress) → KeepsLock c o c.node.version c.holder c.tape.reserved next
 still_keeps c o op h there free next = record {
   whole = h.node.whole;
   undeleted = h.node.undeleted;
@@ -225,7 +225,7 @@ abbrev pub Written : Core → ℕ → Table → Progress → Type 0
 Written c o table next = (before : Operation) → op_at c.table o ≡ Some before → table ≡ set c.table o (Some (moved before (c.steps + 1) next))
 
 -- the same of the values that the code has
-pub quiet_done : (c : Core) (now : View) (o : ℕ) (op : Operation) (version : Parts) (holder : Option ℕ) (reserved : ℕ) (table : Table) (next : Progress) (done : Bool) → shown c ≡ now
+pub quiet_done : (c : Core) (now : StateView) (o : ℕ) (op : Operation) (version : Parts) (holder : Option ℕ) (reserved : ℕ) (table : Table) (next : Progress) (done : Bool) → shown c ≡ now
     → table ≡ set c.table o (Some (moved op (c.steps + 1) next)) → Gives (shown c) (quiet c version holder reserved (set c.table o (Some (moved op (c.steps + 1) next)))) o done
     → Gives now (quiet c version holder reserved table) o done
 quiet_done c now o op version holder reserved table next done is e g =

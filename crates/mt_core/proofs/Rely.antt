@@ -21,22 +21,22 @@ use Rattle.mt_core.specs.declared.operation.Operation.{Operation}
 use Rattle.mt_core.specs.declared.operation.Progress.{Progress}
 use Rattle.mt_core.specs.declared.operation.Progress.TheVariants.{Enter, Search, Load, Confirm, Forward, Lock, Judge, Store, Publish, Unlock, Finished}
 use Rattle.mt_border.specs.Contents.{contents_of, owned, HasKey}
-use Rattle.mt_core.specs.Views.{Core, View, shown, pairs_of, op_at, map_of, quota_of, Grows, IsPlaced}
-use Rattle.mt_core.specs.Kept.{ask, age, Holds, HasSeen, IsFresh, IsAtLoad, IsAtConfirm, HasLock, IsAtJudge, IsReady, IsAnswered, IsKept, IsOpen}
-use Rattle.mt_core.specs.Sound.{IsTape, IsNode, IsLock, AreCounted, IsOnePut, Sound, Evolves, is_unfinished, is_unplaced}
+use Rattle.mt_core.specs.Views.{Core, StateView, shown, pairs_of, op_at, map_of, quota_of, KeepsPast, IsPlaced}
+use Rattle.mt_core.specs.Kept.{ask, age, HoldsKey, HasSeen, IsFresh, IsAtLoad, IsAtConfirm, HasLock, IsAtJudge, IsReady, HasRightAnswer, IsKept, IsOpenOperation}
+use Rattle.mt_core.specs.Invariant.{IsTape, IsOnlyNode, IsLock, AreCounted, IsOnePut, StateInvariant, StateGuarantee, is_unfinished, is_unplaced}
 use Rattle.mt_core.specs.Operations.{command_of, steps_to}
 use Rattle.mt_core.specs.declared.operation.Request.{Request}
 use Rattle.mt_core.proofs.Tables.{set_here, set_there}
 
 -- what a slot has is told by the slots
-pub holds_same : (a b : Node) (slot : ℕ) (key : Bytes) → a.slots ≡ b.slots → Holds a slot key → Holds b slot key
+pub holds_same : (a b : Node) (slot : ℕ) (key : Bytes) → a.slots ≡ b.slots → HoldsKey a slot key → HoldsKey b slot key
 holds_same a b slot key e h = record {
   live = subst (λ (s : List Entry). slot < length s) e h.live;
   key_is = subst (λ (s : List Entry). HasKey [] 0 (get_or s slot (record { slice = 0; mark = Long; held = Link 0 })) key) e h.key_is;
 }
 
 -- what is placed stays so
-pub placed_stays : (old new : View) → Grows old new → (t : ℕ) (c : Command) (at : ℕ) (reply : Reply) → at ≤ old.steps → IsPlaced old t c at reply → IsPlaced new t c at reply
+pub placed_stays : (old new : StateView) → KeepsPast old new → (t : ℕ) (c : Command) (at : ℕ) (reply : Reply) → at ≤ old.steps → IsPlaced old t c at reply → IsPlaced new t c at reply
 placed_stays old new g t c at reply le h = record {
   changes = λ e. let w = h.changes e in (
     g.changes at le ∙ w.0,
@@ -45,7 +45,7 @@ placed_stays old new g t c at reply le h = record {
   looks = λ e. h.looks e ∙ ap (λ q. reply_of q c (map_of old t at)) (sym (g.quotas t)) ∙ ap (reply_of (quota_of new t) c) (sym (g.maps t at le));
 }
 
-module _ (old new : Core) (o q : ℕ) (g : Evolves old new o) (other : q ≢ o) (op : Operation) where
+module _ (old new : Core) (o q : ℕ) (g : StateGuarantee old new o) (other : q ≢ o) (op : Operation) where
   seen_stays : (seen : Parts) → HasSeen old op seen → HasSeen new op seen
   seen_stays seen h = record { begun = h.begun; upto = omega (arith, h.upto, g.ages) }
 
@@ -105,7 +105,7 @@ module _ (old new : Core) (o q : ℕ) (g : Evolves old new o) (other : q ≢ o) 
         room = subst (λ (t : Kept). 0 < t.reserved) (sym w.2) h.room;
       }
 
-  answered_stays : (reply : Reply) (at : ℕ) → IsOpen old op → IsAnswered old op reply at → IsAnswered new op reply at
+  answered_stays : (reply : Reply) (at : ℕ) → IsOpenOperation old op → HasRightAnswer old op reply at → HasRightAnswer new op reply at
   answered_stays reply at k h = record {
     begun = h.begun;
     since = h.since;
@@ -114,7 +114,7 @@ module _ (old new : Core) (o q : ℕ) (g : Evolves old new o) (other : q ≢ o) 
   }
 
   -- the rely: what is kept of an operation is stable under any step of another
-  pub kept_stays : (p : Progress) → IsOpen old op → IsKept old q op p → IsKept new q op p
+  pub kept_stays : (p : Progress) → IsOpenOperation old op → IsKept old q op p → IsKept new q op p
   kept_stays Enter k h = tt
   kept_stays (Search seen) k h = record { get_is = h.get_is; has_seen = seen_stays seen h.has_seen; fresh = fresh_stays seen (steps_to (Search seen)) h.fresh }
   kept_stays (Load seen slot searched) k h = load_stays seen slot searched h
@@ -139,7 +139,7 @@ module _ (old new : Core) (o q : ℕ) (g : Evolves old new o) (other : q ≢ o) 
   kept_stays (Unlock reply at) k h = record { lock = lock_stays h.lock; real = h.real; answered = answered_stays reply at k h.answered }
   kept_stays (Finished reply at) k h = answered_stays reply at k h
 
-  pub open_stays : IsOpen old op → IsOpen new op
+  pub open_stays : IsOpenOperation old op → IsOpenOperation new op
   open_stays h = record {
     stored = h.stored;
     owner = h.owner;
@@ -151,9 +151,9 @@ module _ (old new : Core) (o q : ℕ) (g : Evolves old new o) (other : q ≢ o) 
     floor = λ begun. subst (λ n. n < op.first) (sym g.floor) (h.floor begun);
   }
 
--- the invariant over all operations is kept by a step that evolves the state and keeps its own operation
-pub sound_step : (old new : Core) (o : ℕ) (after : Operation) → Sound old → Evolves old new o → new.table ≡ set old.table o (Some after)
-    → IsTape new → IsNode new → IsLock new → AreCounted new → IsOnePut new → new.steps ≤ 2 ^ 59 → IsOpen new after → IsKept new o after after.progress → Sound new
+-- the invariant over all operations is kept by a step that keeps the guarantee and keeps its own operation
+pub sound_step : (old new : Core) (o : ℕ) (after : Operation) → StateInvariant old → StateGuarantee old new o → new.table ≡ set old.table o (Some after)
+    → IsTape new → IsOnlyNode new → IsLock new → AreCounted new → IsOnePut new → new.steps ≤ 2 ^ 59 → IsOpenOperation new after → IsKept new o after after.progress → StateInvariant new
 sound_step old new o after h g table tape node lock counts one_put few open_after own = record {
   tape = tape;
   node = node;
@@ -164,7 +164,7 @@ sound_step old new o after h g table tape node lock counts one_put few open_afte
       elim (cases_eq q o) [
         | inl is ↦
             let same : after ≡ op = set_here old.table o after op (subst (λ k. op_at (set old.table o (Some after)) k ≡ Some op) is here) in
-            subst (λ (w : Operation). IsOpen new w × IsKept new q w w.progress) same (open_after, subst (λ k. IsKept new k after after.progress) (sym is) own)
+            subst (λ (w : Operation). IsOpenOperation new w × IsKept new q w w.progress) same (open_after, subst (λ k. IsKept new k after after.progress) (sym is) own)
         | inr other ↦
             let was = h.ops q op (sym (set_there old.table o q (Some after) other) ∙ here) in
             (open_stays old new o q g other op was.0, kept_stays old new o q g other op op.progress was.0 was.1)
@@ -174,7 +174,7 @@ sound_step old new o after h g table tape node lock counts one_put few open_afte
 }
 
 -- two unfinished puts stay one, and each that is not placed finds its key or room
-pub one_put_step : (old new : Core) (o : ℕ) (before after : Operation) → Sound old → op_at old.table o ≡ Some before → new.table ≡ set old.table o (Some after)
+pub one_put_step : (old new : Core) (o : ℕ) (before after : Operation) → StateInvariant old → op_at old.table o ≡ Some before → new.table ≡ set old.table o (Some after)
     → after.request ≡ before.request → after.key ≡ before.key
     → (is_unfinished after.progress ≡ true → is_unfinished before.progress ≡ true) → (is_unplaced after.progress ≡ true → is_unplaced before.progress ≡ true)
     → (new.node.slots ≡ old.node.slots) ⊎ ((is_get (ask before) ≡ false) × (is_unfinished before.progress ≡ true) × (is_unplaced after.progress ≡ false))

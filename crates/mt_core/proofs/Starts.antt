@@ -12,8 +12,8 @@ use Rattle.mt_rows.proofs.ContentLaws.{get-tenant_map}
 use Rattle.mt_border.specs.Node.{Node, empty_node}
 use Rattle.mt_version.specs.Parts.{Parts, fresh_parts}
 use Rattle.mt_tape.specs.Tapes.{Kept}
-use Rattle.mt_core.specs.Views.{Core, View, Table, pairs_of, shown}
-use Rattle.mt_core.specs.Sound.{Sound}
+use Rattle.mt_core.specs.Views.{Core, StateView, Table, pairs_of, shown}
+use Rattle.mt_core.specs.Invariant.{StateInvariant}
 use Rattle.mt_core.specs.Begins.{HaveNoPairs, new_state}
 use Rattle.mt_border.proofs.ContentsLists.{contents-none}
 
@@ -31,7 +31,7 @@ no_len t c is = ap (λ x. len (tenant_map t x)) is ∙ ap len (no_map t) ∙ len
 never : {P : Type 0} (k : ℕ) → k < 0 → P
 never k lt = absurd (omega (arith, lt))
 
-pub start_sound : (logs : ℕ) (accounts : Accounts) → HaveNoPairs accounts → Sound (start logs accounts)
+pub start_sound : (logs : ℕ) (accounts : Accounts) → HaveNoPairs accounts → StateInvariant (start logs accounts)
 start_sound logs accounts none = record {
   tape = record { rises = tt; made = omega arith; legal = λ k d lt. never k lt };
   node = record {
@@ -51,7 +51,7 @@ start_sound logs accounts none = record {
 }
 
 -- a new state with these pairs
-abbrev with_contents : ℕ → Accounts → Contents → View
+abbrev with_contents : ℕ → Accounts → Contents → StateView
 with_contents logs accounts x = record { steps = 0; logs = logs; accounts = accounts; contents = x; tape = record { entries = []; floor = 0; reserved = 0 }; table = [] }
 
 -- and shows nothing
@@ -61,10 +61,10 @@ start_shows logs accounts = ap (with_contents logs accounts) (contents-none [])
 -- the same of the values that the code has
 pub start_done : (logs : ℕ) (accounts : Accounts) (node : Node) (version : Parts) (tape : Kept) (table : Table) → HaveNoPairs accounts → node ≡ empty_node 0 None version → version ≡ fresh_parts true true
     → tape ≡ record { entries = []; floor = 0; reserved = 0 } → table ≡ []
-    → Sound (record { steps = 0; logs = logs; accounts = accounts; node = node; holder = None; tape = tape; table = table })
+    → StateInvariant (record { steps = 0; logs = logs; accounts = accounts; node = node; holder = None; tape = tape; table = table })
     × (shown (record { steps = 0; logs = logs; accounts = accounts; node = node; holder = None; tape = tape; table = table }) ≡ new_state logs accounts)
 start_done logs accounts node version tape table none n v t e =
     let C : Node → Kept → Table → Core = λ x y z. record { steps = 0; logs = logs; accounts = accounts; node = x; holder = None; tape = y; table = z } in
-    let P : Core → Type 0 = λ c. Sound c × (shown c ≡ new_state logs accounts) in
+    let P : Core → Type 0 = λ c. StateInvariant c × (shown c ≡ new_state logs accounts) in
     subst (λ x. P (C x tape table)) (sym (n ∙ ap (empty_node 0 None) v)) (subst (λ y. P (C (empty_node 0 None (fresh_parts true true)) y table)) (sym t)
     (subst (λ z. P (C (empty_node 0 None (fresh_parts true true)) (record { entries = []; floor = 0; reserved = 0 }) z)) (sym e) (start_sound logs accounts none, start_shows logs accounts)))

@@ -18,9 +18,9 @@ use Rattle.mt_border.specs.Node.{entries_of}
 use Rattle.mt_core.specs.declared.operation.Operation.{Operation}
 use Rattle.mt_core.specs.declared.operation.Progress.TheVariants.{Enter}
 use Rattle.mt_border.specs.Contents.{owned}
-use Rattle.mt_core.specs.Views.{Core, View, Table, shown, pairs_of, op_at}
-use Rattle.mt_core.specs.Kept.{ask, IsKept, IsOpen}
-use Rattle.mt_core.specs.Sound.{IsOnePut, Sound, Evolves, has_lock, is_unfinished, is_unplaced}
+use Rattle.mt_core.specs.Views.{Core, StateView, Table, shown, pairs_of, op_at}
+use Rattle.mt_core.specs.Kept.{ask, IsKept, IsOpenOperation}
+use Rattle.mt_core.specs.Invariant.{IsOnePut, StateInvariant, StateGuarantee, has_lock, is_unfinished, is_unplaced}
 use Rattle.mt_core.specs.Begins.{MayBegin, HasOpenPut, IsAnswerOf, IsEnded}
 use Rattle.mt_core.proofs.Rely.{kept_stays, open_stays}
 
@@ -28,9 +28,9 @@ use Rattle.mt_core.proofs.Rely.{kept_stays, open_stays}
 abbrev pub with_table : Core → Table → Core
 with_table c table = record { steps = c.steps; logs = c.logs; accounts = c.accounts; node = c.node; holder = c.holder; tape = c.tape; table = table }
 
-module _ (c : Core) (o : ℕ) (table : Table) (h : Sound c) (others : (q : ℕ) → q ≢ o → op_at table q ≡ op_at c.table q) where
-  table_evolves : Evolves c (with_table c table) o
-  table_evolves = record {
+module _ (c : Core) (o : ℕ) (table : Table) (h : StateInvariant c) (others : (q : ℕ) → q ≢ o → op_at table q ≡ op_at c.table q) where
+  table_guarantee : StateGuarantee c (with_table c table) o
+  table_guarantee = record {
     grows = record { steps = omega arith; quotas = λ t. refl; maps = λ t m le. refl; changes = λ m le. refl };
     ages = omega arith;
     stands = λ same. refl;
@@ -42,7 +42,7 @@ module _ (c : Core) (o : ℕ) (table : Table) (h : Sound c) (others : (q : ℕ) 
   }
 
   -- the invariant stays where it holds of that one operation
-  pub table_sound : (c.holder ≡ Some o → ⊥) → ((op : Operation) → op_at table o ≡ Some op → IsOpen (with_table c table) op × IsKept (with_table c table) o op op.progress) → IsOnePut (with_table c table) → Sound (with_table c table)
+  pub table_sound : (c.holder ≡ Some o → ⊥) → ((op : Operation) → op_at table o ≡ Some op → IsOpenOperation (with_table c table) op × IsKept (with_table c table) o op op.progress) → IsOnePut (with_table c table) → StateInvariant (with_table c table)
   table_sound free own one_put = record {
     tape = record { rises = h.tape.rises; made = h.tape.made; legal = h.tape.legal };
     node = record { border = h.node.border; keys = h.node.keys; stable = h.node.stable; stamped = h.node.stamped; whole = h.node.whole; undeleted = h.node.undeleted; inserts = h.node.inserts };
@@ -58,25 +58,25 @@ module _ (c : Core) (o : ℕ) (table : Table) (h : Sound c) (others : (q : ℕ) 
       | inl is ↦ let k = own op (ap (op_at table) (sym is) ∙ at) in (k.0, subst (λ n. IsKept (with_table c table) n op op.progress) (sym is) k.1)
       | inr other ↦
           let was = h.ops q op (sym (others q other) ∙ at) in
-          (open_stays c (with_table c table) o q table_evolves other op was.0, kept_stays c (with_table c table) o q table_evolves other op op.progress was.0 was.1)
+          (open_stays c (with_table c table) o q table_guarantee other op was.0, kept_stays c (with_table c table) o q table_guarantee other op op.progress was.0 was.1)
     ];
     one_put = one_put;
     few = h.few;
   }
 
 -- an operation more
-module _ (c : Core) (o : ℕ) (op : Operation) (table : Table) (h : Sound c) (vacant : op_at c.table o ≡ None) (there : op_at table o ≡ Some op) (others : (q : ℕ) → q ≢ o → op_at table q ≡ op_at c.table q) where
+module _ (c : Core) (o : ℕ) (op : Operation) (table : Table) (h : StateInvariant c) (vacant : op_at c.table o ≡ None) (there : op_at table o ≡ Some op) (others : (q : ℕ) → q ≢ o → op_at table q ≡ op_at c.table q) where
   no_holder : c.holder ≡ Some o → ⊥
   no_holder held = let w = h.lock.holder o held in none_some w.0 (sym vacant ∙ w.1)
     where
       none_some : (w : Operation) → ◌≡◌ {A = Option Operation} None (Some w) → ⊥
       none_some w e = cc
 
-  pub begun_sound : op.progress ≡ Enter → IsOpen c op → (is_get (ask op) ≡ false → ¬ HasOpenPut c.table)
-      → (is_get (ask op) ≡ false → (length (entries_of c.node) < 15) ⊎ IsSome (get (pairs_of c) (owned op.key))) → Sound (with_table c table)
+  pub begun_sound : op.progress ≡ Enter → IsOpenOperation c op → (is_get (ask op) ≡ false → ¬ HasOpenPut c.table)
+      → (is_get (ask op) ≡ false → (length (entries_of c.node) < 15) ⊎ IsSome (get (pairs_of c) (owned op.key))) → StateInvariant (with_table c table)
   begun_sound enters k alone room = table_sound c o table h others no_holder
       (λ x at. let same : op ≡ x = same_Some op x (sym there ∙ at) in
-      subst (λ (w : Operation). IsOpen (with_table c table) w × IsKept (with_table c table) o w w.progress) same (
+      subst (λ (w : Operation). IsOpenOperation (with_table c table) w × IsKept (with_table c table) o w w.progress) same (
         record { stored = k.stored; owner = k.owner; short = k.short; columns = k.columns; tenant = k.tenant; order = k.order; made = k.made; floor = k.floor },
         subst (IsKept (with_table c table) o op) (sym enters) tt,
       ))
@@ -121,7 +121,7 @@ gone_others (x ∷ table) (suc o) zero ne = refl
 gone_others (x ∷ table) (suc o) (suc q) ne = gone_others table o q (λ e. ne (ap suc e))
 
 -- an operation less, which was finished
-pub taken_sound : (c : Core) (o : ℕ) (op : Operation) → Sound c → op_at c.table o ≡ Some op → is_unfinished op.progress ≡ false → has_lock op.progress ≡ false → Sound (with_table c (set c.table o None))
+pub taken_sound : (c : Core) (o : ℕ) (op : Operation) → StateInvariant c → op_at c.table o ≡ Some op → is_unfinished op.progress ≡ false → has_lock op.progress ≡ false → StateInvariant (with_table c (set c.table o None))
 taken_sound c o op h there ended free =
     table_sound c o (set c.table o None) h (gone_others c.table o)
     (λ held. let w = h.lock.holder o held in both_ways _ (ap (λ (x : Operation). has_lock x.progress) (same_Some w.0 op (sym w.1 ∙ there)) ∙ free) w.2)
@@ -141,13 +141,13 @@ taken_sound c o op h there ended free =
     ]
 
 -- a take leaves the invariant, whatever it answers
-pub taken_by : (c : Core) (o : ℕ) (table : Table) (told : Option Answer) → Sound c
+pub taken_by : (c : Core) (o : ℕ) (table : Table) (told : Option Answer) → StateInvariant c
     → IfSome told (λ answer. (op : Operation) × (op_at c.table o ≡ Some op) × IsAnswerOf op answer × (table ≡ set c.table o None)) → IfNone told ((table ≡ c.table) × ¬ IsEnded c.table o)
-    → Sound (with_table c table)
-taken_by c o table None h took stays = subst (λ t. Sound (with_table c t)) (sym stays.0) h
+    → StateInvariant (with_table c table)
+taken_by c o table None h took stays = subst (λ t. StateInvariant (with_table c t)) (sym stays.0) h
 taken_by c o table (Some answer) h took stays =
     let done = took.2 in
-    subst (λ t. Sound (with_table c t)) (sym took.3) (taken_sound c o took.0 h took.1 (ap is_unfinished done.finished) (ap has_lock done.finished))
+    subst (λ t. StateInvariant (with_table c t)) (sym took.3) (taken_sound c o took.0 h took.1 (ap is_unfinished done.finished) (ap has_lock done.finished))
 
 -- a put that is begun is the only open one
 only_open : (table now : Table) (command : Command) → table ≡ now → MayBegin now command → is_get command ≡ false → ¬ HasOpenPut table
@@ -157,9 +157,9 @@ only_open table now (Remove key) is may put = absurd may
 only_open table now (Scan from after count columns) is may put = absurd may
 
 -- a begin that was not refused leaves the invariant
-pub begun_by : (c : Core) (now : View) (o : ℕ) (op : Operation) (table : Table) (worker tenant : ℕ) (command : Command) (account : Account) → shown c ≡ now → Sound c
+pub begun_by : (c : Core) (now : StateView) (o : ℕ) (op : Operation) (table : Table) (worker tenant : ℕ) (command : Command) (account : Account) → shown c ≡ now → StateInvariant c
     → op_at c.table o ≡ None → op_at table o ≡ Some op → ((q : ℕ) → q ≢ o → op_at table q ≡ op_at c.table q) → IsAdmitted op worker tenant command → MayBegin now.table command
-    → account_of c.accounts tenant ≡ Some account → HasRoomFor c.node op → Sound (with_table c table)
+    → account_of c.accounts tenant ≡ Some account → HasRoomFor c.node op → StateInvariant (with_table c table)
 begun_by c now o op table worker tenant command account is h vacant there others a may known room =
     let b = a.begun in
     begun_sound c o op table h vacant there others b.progress
@@ -173,7 +173,7 @@ begun_by c now o op table worker tenant command account is h vacant there others
       made = omega (arith, b.last);
       floor = λ begun. absurd (omega (arith, b.first));
     })
-    (λ put. only_open c.table now.table command (ap (λ (v : View). v.table) is) may (ap is_get (sym b.command_is) ∙ put))
+    (λ put. only_open c.table now.table command (ap (λ (v : StateView). v.table) is) may (ap is_get (sym b.command_is) ∙ put))
     (λ put. elim (room put) [
       | inl less ↦ inl less
       | inr (slot, found) ↦

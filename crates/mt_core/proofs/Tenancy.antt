@@ -6,7 +6,7 @@ use Rattle.std.proofs.lemmas.Option.{same_Some, none-some}
 use Rattle.mt_rows.specs.declared.refusal.Refusal.{Refusal}
 use Rattle.mt_rows.specs.declared.tenants.Account.{Account}
 use Rattle.mt_rows.specs.Accounts.{Accounts, account_of, OthersStay}
-use Rattle.mt_core.specs.Views.{View, op_at}
+use Rattle.mt_core.specs.Views.{StateView, op_at}
 use Rattle.mt_core.specs.Begins.{new_state, HaveNoPairs, HasOpenPut}
 
 -- a list without tenants
@@ -25,5 +25,5 @@ one_tenant_more old new tenant quota (Ok x) none added others stays t a at = eli
 one_tenant_more old new tenant quota (Err refusal) none added others stays t a at = none t a (ap (λ (x : Accounts). account_of x t) (sym stays) ∙ at)
 
 -- in a new state no put is open
-pub none_open : (logs : ℕ) (accounts : Accounts) (v : View) → v ≡ new_state logs accounts → ¬ HasOpenPut v.table
-none_open logs accounts v is open_put = absurd (none-some open_put.1 (ap (λ (w : View). op_at w.table open_put.0) (sym is) ∙ open_put.2))
+pub none_open : (logs : ℕ) (accounts : Accounts) (v : StateView) → v ≡ new_state logs accounts → ¬ HasOpenPut v.table
+none_open logs accounts v is open_put = absurd (none-some open_put.1 (ap (λ (w : StateView). op_at w.table open_put.0) (sym is) ∙ open_put.2))

@@ -15,9 +15,9 @@ use Rattle.mt_core.specs.declared.operation.Operation.{Operation}
 use Rattle.mt_core.specs.declared.operation.Progress.{Progress}
 use Rattle.mt_core.specs.declared.operation.Progress.TheVariants.{Enter, Search, Load, Confirm, Forward, Lock, Judge, Store, Publish, Unlock, Finished}
 use Rattle.mt_core.specs.Operations.{steps_to}
-use Rattle.mt_core.specs.Views.{Core, View, Table, shown, pairs_of, op_at, map_of, changed_at, quota_of, IsPlaced}
-use Rattle.mt_core.specs.Kept.{ask, IsAnswered, IsKept, IsOpen, IsAtJudge, HasSeen, IsFresh}
-use Rattle.mt_core.specs.Sound.{IsStampOf, Sound}
+use Rattle.mt_core.specs.Views.{Core, StateView, Table, shown, pairs_of, op_at, map_of, changed_at, quota_of, IsPlaced}
+use Rattle.mt_core.specs.Kept.{ask, HasRightAnswer, IsKept, IsOpenOperation, IsAtJudge, HasSeen, IsFresh}
+use Rattle.mt_core.specs.Invariant.{IsStampOf, StateInvariant}
 use Rattle.mt_core.specs.Tidies.{IsBeforeFirsts, IsFloorNeeded, Tidies, lowered}
 use Rattle.mt_border.proofs.ContentsStamps.{stamped_weaker}
 use Rattle.mt_core.proofs.Writes.{later_has}
@@ -86,7 +86,7 @@ over_past floor lower e es all at is = ap (λ n. floor_over n es) is ∙ sym (ap
 abbrev pub trimmed : Core → ℕ → Core
 trimmed c floor = record { steps = c.steps; logs = c.logs; accounts = c.accounts; node = c.node; holder = c.holder; tape = record { entries = later_entries floor c.tape.entries; floor = floor; reserved = c.tape.reserved }; table = c.table }
 
-module _ (c : Core) (floor : ℕ) (h : Sound c) (rises : c.tape.floor ≤ floor) (made : floor ≤ c.steps) (before : IsBeforeFirsts c.table floor) where
+module _ (c : Core) (floor : ℕ) (h : StateInvariant c) (rises : c.tape.floor ≤ floor) (made : floor ≤ c.steps) (before : IsBeforeFirsts c.table floor) where
   abbrev new : Core
   new = trimmed c floor
 
@@ -104,7 +104,7 @@ module _ (c : Core) (floor : ℕ) (h : Sound c) (rises : c.tape.floor ≤ floor)
   }
 
   module _ (o : ℕ) (op : Operation) (there : op_at c.table o ≡ Some op) where
-    open_trimmed : IsOpen c op → IsOpen new op
+    open_trimmed : IsOpenOperation c op → IsOpenOperation new op
     open_trimmed k = record {
       stored = k.stored;
       owner = k.owner;
@@ -125,7 +125,7 @@ module _ (c : Core) (floor : ℕ) (h : Sound c) (rises : c.tape.floor ≤ floor)
     judge_trimmed : IsAtJudge c o op → IsAtJudge new o op
     judge_trimmed k = record { lock = record { put_is = k.lock.put_is; begun = k.lock.begun; holder = k.lock.holder }; unmarked = k.unmarked }
 
-    answered_trimmed : (reply : Reply) (at : ℕ) → IsAnswered c op reply at → IsAnswered new op reply at
+    answered_trimmed : (reply : Reply) (at : ℕ) → HasRightAnswer c op reply at → HasRightAnswer new op reply at
     answered_trimmed reply at k = record {
       begun = k.begun;
       since = k.since;
@@ -169,7 +169,7 @@ module _ (c : Core) (floor : ℕ) (h : Sound c) (rises : c.tape.floor ≤ floor)
     kept_trimmed (Finished reply at) k = answered_trimmed reply at k
 
   -- a trim to a floor before the first step of each operation leaves the invariant
-  pub trimmed_sound : Sound new
+  pub trimmed_sound : StateInvariant new
   trimmed_sound = record {
     tape = record {
       rises = rises-later_entries c.tape.floor floor c.tape.entries h.tape.rises rises;
@@ -194,20 +194,20 @@ module _ (c : Core) (floor : ℕ) (h : Sound c) (rises : c.tape.floor ≤ floor)
   }
 
 -- the floor of before is at most the one that is needed
-pub floor_rises : (c : Core) (floor : ℕ) → Sound c → IsFloorNeeded c.table c.steps floor → c.tape.floor ≤ floor
+pub floor_rises : (c : Core) (floor : ℕ) → StateInvariant c → IsFloorNeeded c.table c.steps floor → c.tape.floor ≤ floor
 floor_rises c floor h needed =
     needed.greatest c.tape.floor (omega (arith, floor_upto_last c.tape.floor c.tape.entries h.tape.rises, h.tape.made))
     (λ o op there begun. (h.ops o op there).0.floor begun)
 
 -- what the code has after the trim: the invariant, and what the tidying tells
-pub tidied : (c : Core) (now : View) (floor : ℕ) (tape : Kept) → shown c ≡ now → Sound c → IsFloorNeeded c.table c.steps floor → tape ≡ record { entries = later_entries floor c.tape.entries; floor = floor; reserved = c.tape.reserved }
-    → Sound (record { steps = c.steps; logs = c.logs; accounts = c.accounts; node = c.node; holder = c.holder; tape = tape; table = c.table })
+pub tidied : (c : Core) (now : StateView) (floor : ℕ) (tape : Kept) → shown c ≡ now → StateInvariant c → IsFloorNeeded c.table c.steps floor → tape ≡ record { entries = later_entries floor c.tape.entries; floor = floor; reserved = c.tape.reserved }
+    → StateInvariant (record { steps = c.steps; logs = c.logs; accounts = c.accounts; node = c.node; holder = c.holder; tape = tape; table = c.table })
     × Tidies now (shown (record { steps = c.steps; logs = c.logs; accounts = c.accounts; node = c.node; holder = c.holder; tape = tape; table = c.table }))
 tidied c now floor tape is h needed trims =
     let up = floor_rises c floor h needed in
     let with_tape : Kept → Core = λ x. record { steps = c.steps; logs = c.logs; accounts = c.accounts; node = c.node; holder = c.holder; tape = x; table = c.table } in
-    subst (λ (v : View). Sound (with_tape tape) × Tidies v (shown (with_tape tape))) is
-    (subst (λ (x : Kept). Sound (with_tape x) × Tidies (shown c) (shown (with_tape x))) (sym trims) (
+    subst (λ (v : StateView). StateInvariant (with_tape tape) × Tidies v (shown (with_tape tape))) is
+    (subst (λ (x : Kept). StateInvariant (with_tape x) × Tidies (shown c) (shown (with_tape x))) (sym trims) (
       trimmed_sound c floor h up needed.made needed.before,
       record {
         steps = refl;

@@ -7,11 +7,11 @@ use Rattle.std.proofs.lemmas.List.Elements.{All-contains, Contains-push, Contain
 use Rattle.mt_rows.specs.Rows.{Bytes, Columns}
 use Rattle.mt_tape.specs.declared.entry.Entry.{Entry as TapeEntry}
 use Rattle.mt_tape.specs.Tapes.{later_entries}
-use Rattle.mt_tape.specs.Histories.{IsUntouched, written_key, contents_at}
+use Rattle.mt_tape.specs.Histories.{IsUnwrittenSince, written_key, contents_at}
 use Rattle.mt_tape.proofs.EntryLaws.{later_entries-kept, later_entries-dropped}
 use Rattle.mt_tape.proofs.TapeLaws.{get-contents_at}
 use Rattle.mt_core.specs.Views.{Core, pairs_of}
-use Rattle.mt_core.specs.Sound.{Sound}
+use Rattle.mt_core.specs.Invariant.{StateInvariant}
 
 -- an entry of a step after a floor is one of those that are kept
 pub later_has : (floor : ℕ) (entries : List TapeEntry) (e : TapeEntry) → Contains entries e → floor < e.step → Contains (later_entries floor entries) e
@@ -34,7 +34,7 @@ later_has floor (x ∷ entries) e has lt = elim (Contains-append_cases (x ∷ []
     ]
 
 -- the write of a row that stands since its step left that row
-pub row_written : (c : Core) (h : Sound c) (q : ℕ × Bytes) (row : Columns) (s : ℕ) (e : TapeEntry) → get (pairs_of c) q ≡ Some row → IsUntouched c.tape.entries q s → Contains c.tape.entries e → e.step ≡ s → written_key e ≡ q → e.after ≡ Some row
+pub row_written : (c : Core) (h : StateInvariant c) (q : ℕ × Bytes) (row : Columns) (s : ℕ) (e : TapeEntry) → get (pairs_of c) q ≡ Some row → IsUnwrittenSince c.tape.entries q s → Contains c.tape.entries e → e.step ≡ s → written_key e ≡ q → e.after ≡ Some row
 row_written c h q row s e there untouched has step key =
     sym (All-contains (λ x. get (contents_at c.tape.entries (pairs_of c) x.step) (written_key x) ≡ x.after) c.tape.entries e h.tape.legal has)
     ∙ ap (get (contents_at c.tape.entries (pairs_of c) e.step)) key

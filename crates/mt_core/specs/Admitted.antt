@@ -6,7 +6,7 @@ use Rattle.mt_rows.specs.declared.command.Command.{Command}
 use Rattle.mt_rows.specs.declared.command.Command.TheVariants.{Get, Put}
 use Rattle.mt_rows.specs.Commands.{key_of, HasColumns}
 use Rattle.mt_rows.specs.Maps.{is_get}
-use Rattle.mt_border.specs.declared.entry.Kind.TheVariants.{ThisKey}
+use Rattle.mt_border.specs.declared.entry.FoundKind.TheVariants.{ThisKey}
 use Rattle.mt_border.specs.Node.{Node, IsFound, entries_of}
 use Rattle.mt_core.specs.declared.operation.Operation.{Operation}
 use Rattle.mt_core.specs.declared.operation.Request.{Request}

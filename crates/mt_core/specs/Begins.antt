@@ -11,12 +11,12 @@ use Rattle.mt_runs.specs.declared.event.Answer.{Answer}
 use Rattle.mt_core.specs.declared.answers.Ticket.{Ticket}
 use Rattle.mt_core.specs.declared.operation.Operation.{Operation}
 use Rattle.mt_core.specs.declared.operation.Progress.TheVariants.{Enter, Finished}
-use Rattle.mt_core.specs.Views.{View, Table, op_at}
+use Rattle.mt_core.specs.Views.{StateView, Table, op_at}
 use Rattle.mt_core.specs.Kept.{ask}
-use Rattle.mt_core.specs.Sound.{is_unfinished}
+use Rattle.mt_core.specs.Invariant.{is_unfinished}
 
 -- a state in which nothing has happened
-abbrev pub new_state : ℕ → Accounts → View
+abbrev pub new_state : ℕ → Accounts → StateView
 new_state logs accounts = record {
   steps = 0;
   logs = logs;
@@ -54,7 +54,7 @@ pub record IsBegun (op : Operation) (worker tenant : ℕ) (command : Command) : 
   pub progress : op.progress ≡ Enter
 
 -- an operation more, at a number that was free; all else is as it was
-pub record Begins (old new : View) (o worker tenant : ℕ) (command : Command) : Type 0 where
+pub record Begins (old new : StateView) (o worker tenant : ℕ) (command : Command) : Type 0 where
   pub op : Operation
   pub begun : IsBegun op worker tenant command
   pub free : op_at old.table o ≡ None
@@ -63,7 +63,7 @@ pub record Begins (old new : View) (o worker tenant : ℕ) (command : Command) :
   pub stands : new ≡ record old { table = new.table }
 
 -- what a begin may answer: a refused one changes nothing
-abbrev pub TellsBegin : View → View → ℕ → ℕ → Command → Result Ticket Refusal → Type 0
+abbrev pub TellsBegin : StateView → StateView → ℕ → ℕ → Command → Result Ticket Refusal → Type 0
 TellsBegin old new worker tenant command (Ok ticket) = Begins old new ticket.number worker tenant command
 TellsBegin old new worker tenant command (Err refusal) = new ≡ old
 
@@ -75,7 +75,7 @@ pub record IsAnswerOf (op : Operation) (answer : Answer) : Type 0 where
   pub last : answer.last ≡ op.last
 
 -- the operation is gone, with its answer; all else is as it was
-pub record Takes (old new : View) (o : ℕ) (answer : Answer) : Type 0 where
+pub record Takes (old new : StateView) (o : ℕ) (answer : Answer) : Type 0 where
   pub op : Operation
   pub there : op_at old.table o ≡ Some op
   pub told : IsAnswerOf op answer
@@ -86,6 +86,6 @@ abbrev pub IsEnded : Table → ℕ → Type 0
 IsEnded table o = (op : Operation) × (op_at table o ≡ Some op) × (is_unfinished op.progress ≡ false)
 
 -- what a take may answer: the ticket of an operation that is not finished comes back, and nothing changes
-abbrev pub TellsTake : View → View → Ticket → Result Answer Ticket → Type 0
+abbrev pub TellsTake : StateView → StateView → Ticket → Result Answer Ticket → Type 0
 TellsTake old new ticket (Ok answer) = Takes old new ticket.number answer
 TellsTake old new ticket (Err back) = (back ≡ ticket) × (new ≡ old) × ¬ IsEnded old.table ticket.number

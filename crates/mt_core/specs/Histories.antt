@@ -14,9 +14,9 @@ use Rattle.mt_runs.specs.Placings.{Quotas, Maps}
 use Rattle.mt_runs.specs.Right.{Right}
 use Rattle.mt_core.specs.declared.answers.Ticket.{Ticket}
 use Rattle.mt_core.specs.declared.operation.Operation.{Operation}
-use Rattle.mt_core.specs.Views.{View, Table, op_at, map_of, changed_at, quota_of}
+use Rattle.mt_core.specs.Views.{StateView, Table, op_at, map_of, changed_at, quota_of}
 use Rattle.mt_core.specs.Kept.{ask}
-use Rattle.mt_core.specs.Promises.{change_in, IsStep, IsHeld, HasStep}
+use Rattle.mt_core.specs.Promises.{change_in, IsStep, IsHeldByOther, HasStep}
 use Rattle.mt_core.specs.Refused.{first_fault, cause_of, IsRefusal}
 use Rattle.mt_core.specs.Begins.{IsWorker, MayBegin, Begins, Takes}
 
@@ -43,7 +43,7 @@ AreNamed names table = (n : ℕ) (op : Operation) → op_at table n ≡ Some op 
 
 -- what a run's story tells of an open operation by its name: its command, its first and last step, that it is not finished, and that
 -- the change which it remembers, if any, is the one that it made
-pub record IsTold (story : Story) (v : View) (o : ℕ) (op : Operation) : Type 0 where
+pub record IsTold (story : Story) (v : StateView) (o : ℕ) (op : Operation) : Type 0 where
   pub asked_so : story.asked o ≡ Some (record { tenant = op.tenant; command = ask op })
   pub first : 0 < op.first → owner story op.first ≡ Some o
   pub last : 0 < op.last → owner story op.last ≡ Some o
@@ -52,7 +52,7 @@ pub record IsTold (story : Story) (v : View) (o : ℕ) (op : Operation) : Type 0
   pub own : (m : ℕ) → change_in op.progress ≡ Some m → owner story m ≡ Some o
 
 -- a right story led to this state: its quotas and numbers are the state's, and its names stand for the state's operations
-pub record History (quotas : Quotas) (first : Maps) (story : Story) (names : Names) (v : View) : Type 0 where
+pub record History (quotas : Quotas) (first : Maps) (story : Story) (names : Names) (v : StateView) : Type 0 where
   pub right : Right quotas first story (map_of v) (changed_at v)
   pub quota : (t : ℕ) → quota_of v t ≡ quotas t
   pub count : last_step story ≡ v.steps
@@ -65,7 +65,7 @@ pub record History (quotas : Quotas) (first : Maps) (story : Story) (names : Nam
 
 -- what an event may answer, by the names and the state before and after it; every answer but Begun, Moved and Done changes nothing, and a begin is
 -- refused for its first cause alone
-abbrev pub TellsEvent : Names → View → Names → View → Event → Told → Type 0
+abbrev pub TellsEvent : Names → StateView → Names → StateView → Event → Told → Type 0
 TellsEvent names old now new (Begin o worker tenant command) Begun =
     (n : ℕ) × (names o ≡ None) × Renames names now o (Some n) × Begins old new n worker tenant command × (cause_of old tenant command ≡ None)
 TellsEvent names old now new (Begin o worker tenant command) (Refused refusal) =
@@ -73,17 +73,17 @@ TellsEvent names old now new (Begin o worker tenant command) (Refused refusal) =
 TellsEvent names old now new (Begin o worker tenant command) NoSuch = (names o ≡ None → ¬ MayBegin old.table command) × (now ≡ names) × (new ≡ old)
 TellsEvent names old now new (Step o) Moved = (n : ℕ) × (names o ≡ Some (Some n)) × (now ≡ names) × IsStep old new n false
 TellsEvent names old now new (Step o) (Done answer) =
-    (n : ℕ) × (mid : View) × (names o ≡ Some (Some n)) × Renames names now o None × IsStep old mid n true × Takes mid new n answer
+    (n : ℕ) × (mid : StateView) × (names o ≡ Some (Some n)) × Renames names now o None × IsStep old mid n true × Takes mid new n answer
 TellsEvent names old now new (Step o) (Again q) =
-    (n : ℕ) × (m : ℕ) × (names o ≡ Some (Some n)) × (names q ≡ Some (Some m)) × IsHeld old n m × (now ≡ names) × (new ≡ old)
+    (n : ℕ) × (m : ℕ) × (names o ≡ Some (Some n)) × (names q ≡ Some (Some m)) × IsHeldByOther old n m × (now ≡ names) × (new ≡ old)
 TellsEvent names old now new (Step o) Spent = (n : ℕ) × (names o ≡ Some (Some n)) × (old.steps ≡ 2 ^ 59) × (now ≡ names) × (new ≡ old)
 TellsEvent names old now new (Step o) NoSuch = ((n : ℕ) → names o ≡ Some (Some n) → ¬ HasStep old n) × (now ≡ names) × (new ≡ old)
 TellsEvent names old now new _ _ = ⊥
 
 -- a run leads from a state to another
-abbrev pub LeadsTo : Names → View → Run → Names → View → Type 0
-LeadsTo names old [] now new = (now ≡ names) × (new ≡ old)
-LeadsTo names old (x ∷ run) now new = (next : Names) × (mid : View) × TellsEvent names old next mid x.0 x.1 × LeadsTo next mid run now new
+abbrev pub BringsTo : Names → StateView → Run → Names → StateView → Type 0
+BringsTo names old [] now new = (now ≡ names) × (new ≡ old)
+BringsTo names old (x ∷ run) now new = (next : Names) × (mid : StateView) × TellsEvent names old next mid x.0 x.1 × BringsTo next mid run now new
 
 -- an event's worker is one of those that the logs have
 abbrev pub IsServed : ℕ → Event → Type 0

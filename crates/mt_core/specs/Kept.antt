@@ -32,7 +32,7 @@ abbrev pub age : Core → ℕ
 age c = insert_age c.node.version
 
 -- the slot has the entry of a key
-pub record Holds (node : Node) (slot : ℕ) (key : Bytes) : Type 0 where
+pub record HoldsKey (node : Node) (slot : ℕ) (key : Bytes) : Type 0 where
   pub live : IsLive node slot
   pub key_is : HasKey [] 0 (entry_at node slot) key
 
@@ -59,8 +59,8 @@ pub record IsAtLoad (c : Core) (op : Operation) (seen : Parts) (slot searched : 
   pub has_seen : HasSeen c op seen
   pub since : op.first ≤ searched
   pub made : searched ≤ c.steps
-  pub found : insert_age seen ≡ age c → Holds c.node slot op.key
-  pub unwritten : IsUnchangedSince (shown c) searched → Holds c.node slot op.key
+  pub found : insert_age seen ≡ age c → HoldsKey c.node slot op.key
+  pub unwritten : IsUnchangedSince (shown c) searched → HoldsKey c.node slot op.key
   pub fresh : IsFresh c op seen (steps_to (Load seen slot searched))
 
 -- a get with its reply: while the version stands, it is that of the map at its number
@@ -109,7 +109,7 @@ pub record IsReady (c : Core) (op : Operation) (row : Columns) (entry : TapeEntr
 pub record IsAtStore (c : Core) (o : ℕ) (op : Operation) (slot : ℕ) (row : Columns) (entry : TapeEntry) : Type 0 where
   pub judged : IsAtJudge c o op
   pub ready : IsReady c op row entry
-  pub holds : Holds c.node slot op.key
+  pub holds : HoldsKey c.node slot op.key
 
 -- a put that makes a new pair
 pub record IsAtPublish (c : Core) (o : ℕ) (op : Operation) (suffix : Bytes) (row : Columns) (entry : TapeEntry) : Type 0 where
@@ -120,7 +120,7 @@ pub record IsAtPublish (c : Core) (o : ℕ) (op : Operation) (suffix : Bytes) (r
   pub suffix_is : suffix ≡ suffix_of op.key 0
 
 -- the reply is right at a number from the first step to the last, unless memory stopped the operation
-pub record IsAnswered (c : Core) (op : Operation) (reply : Reply) (at : ℕ) : Type 0 where
+pub record HasRightAnswer (c : Core) (op : Operation) (reply : Reply) (at : ℕ) : Type 0 where
   pub begun : 0 < op.first
   pub since : op.first ≤ at
   pub upto : at ≤ op.last
@@ -130,7 +130,7 @@ pub record IsAnswered (c : Core) (op : Operation) (reply : Reply) (at : ℕ) : T
 pub record IsAtUnlock (c : Core) (o : ℕ) (op : Operation) (reply : Reply) (at : ℕ) : Type 0 where
   pub lock : HasLock c o op
   pub real : is_no_memory reply ≡ false
-  pub answered : IsAnswered c op reply at
+  pub answered : HasRightAnswer c op reply at
 
 -- what is kept of an operation by its next phase
 abbrev pub IsKept : Core → ℕ → Operation → Progress → Type 0
@@ -144,11 +144,11 @@ IsKept c o op Judge = IsAtJudge c o op
 IsKept c o op (Store slot row entry) = IsAtStore c o op slot row entry
 IsKept c o op (Publish suffix row entry) = IsAtPublish c o op suffix row entry
 IsKept c o op (Unlock reply at) = IsAtUnlock c o op reply at
-IsKept c o op (Finished reply at) = IsAnswered c op reply at
+IsKept c o op (Finished reply at) = HasRightAnswer c op reply at
 
 -- what is kept of every operation: its key is its command's, of a tenant that is there and short enough for one slice, and its numbers are
 -- those of steps made
-pub record IsOpen (c : Core) (op : Operation) : Type 0 where
+pub record IsOpenOperation (c : Core) (op : Operation) : Type 0 where
   pub stored : IsStoredKey op.key
   pub owner : owned op.key ≡ (op.tenant, key_of (ask op))
   pub short : length op.key ≤ 8

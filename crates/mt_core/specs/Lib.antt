@@ -3,7 +3,7 @@ pub mod Operations
 pub mod Views
 pub mod Kept
 pub mod Reads
-pub mod Sound
+pub mod Invariant
 pub mod Notes
 pub mod Promises
 pub mod Begins

@@ -12,7 +12,7 @@ use Rattle.mt_tape.specs.Histories.{written_key}
 use Rattle.mt_core.specs.declared.operation.Operation.{Operation}
 use Rattle.mt_core.specs.declared.operation.Progress.{Progress}
 use Rattle.mt_core.specs.declared.operation.Progress.TheVariants.{Search, Load, Confirm, Store, Publish, Unlock}
-use Rattle.mt_core.specs.Views.{View, map_of, IsUnchangedSince}
+use Rattle.mt_core.specs.Views.{StateView, map_of, IsUnchangedSince}
 use Rattle.mt_core.specs.Kept.{ask}
 use Rattle.mt_core.specs.Reads.{columns_asked}
 
@@ -21,13 +21,13 @@ abbrev pub key_asked : Operation → ℕ × Bytes
 key_asked op = (op.tenant, key_of (ask op))
 
 -- a get that goes to load has found its key: a pair of it was there, and the search has this step's number
-pub record NotesSlot (old : View) (op : Operation) (searched : ℕ) : Type 0 where
+pub record NotesSlot (old : StateView) (op : Operation) (searched : ℕ) : Type 0 where
   pub row : Columns
   pub there : pairs.get old.contents (key_asked op) ≡ Some row
   pub number : searched ≡ old.steps + 1
 
 -- a get that goes to confirm from its search has not: no pair of it was there, and Absent is placed at this step
-pub record NotesAbsent (old : View) (op : Operation) (reply : Reply) (at : ℕ) : Type 0 where
+pub record NotesAbsent (old : StateView) (op : Operation) (reply : Reply) (at : ℕ) : Type 0 where
   pub missing : pairs.get old.contents (key_asked op) ≡ None
   pub absent : reply ≡ Absent
   pub number : at ≡ old.steps + 1
@@ -35,7 +35,7 @@ pub record NotesAbsent (old : View) (op : Operation) (reply : Reply) (at : ℕ) 
 -- What a load shows is what the get asks of one pair's row, which that pair had at this step, and after each step from the reply's number on.
 -- That number is the get's first step, or a later one by which the row was written, as the tape tells. The pair is that of the get's own key
 -- wherever no step since the search changed a map.
-pub record IsRowShown (old : View) (op : Operation) (searched : ℕ) (reply : Reply) (at : ℕ) : Type 0 where
+pub record IsRowShown (old : StateView) (op : Operation) (searched : ℕ) (reply : Reply) (at : ℕ) : Type 0 where
   pub columns : List ℕ
   pub asked : columns_asked op.request ≡ Some columns
   pub key : ℕ × Bytes
@@ -47,20 +47,20 @@ pub record IsRowShown (old : View) (op : Operation) (searched : ℕ) (reply : Re
   pub own : IsUnchangedSince old searched → key ≡ key_asked op
 
 -- or it shows none, for the slot was given up by a step since the search that changed a map: Absent, at the number of the search
-pub record IsNoneShown (old : View) (searched : ℕ) (reply : Reply) (at : ℕ) : Type 0 where
+pub record IsNoneShown (old : StateView) (searched : ℕ) (reply : Reply) (at : ℕ) : Type 0 where
   pub changed : ¬ IsUnchangedSince old searched
   pub absent : reply ≡ Absent
   pub number : at ≡ searched
 
 -- a get that goes to confirm from its load: the number is one from its first step on
-pub record NotesTaken (old : View) (op : Operation) (searched : ℕ) (reply : Reply) (at : ℕ) : Type 0 where
+pub record NotesTaken (old : StateView) (op : Operation) (searched : ℕ) (reply : Reply) (at : ℕ) : Type 0 where
   pub since : op.first ≤ at
   pub made : at ≤ old.steps
   pub taken : IsRowShown old op searched reply at ⊎ IsNoneShown old searched reply at
 
 -- by what was next and what is next now: a change that was placed, and one that was found full, have this step's number; no other step notes
 -- anything
-abbrev pub NotesAfter : View → Operation → Progress → Progress → Type 0
+abbrev pub NotesAfter : StateView → Operation → Progress → Progress → Type 0
 NotesAfter old op (Search seen) (Load same slot searched) = NotesSlot old op searched
 NotesAfter old op (Search seen) (Confirm same reply at) = NotesAbsent old op reply at
 NotesAfter old op (Load seen slot searched) (Confirm same reply at) = NotesTaken old op searched reply at
@@ -69,5 +69,5 @@ NotesAfter old op (Publish suffix row entry) (Unlock reply at) = at ≡ old.step
 NotesAfter old op _ _ = Unit {0}
 
 -- what the step that leads an operation on to this notes
-abbrev pub Notes : View → Operation → Progress → Type 0
+abbrev pub Notes : StateView → Operation → Progress → Type 0
 Notes old op progress = NotesAfter old op op.progress progress

@@ -17,7 +17,7 @@ use Rattle.mt_rows.specs.declared.reply.Reply.{Reply}
 use Rattle.mt_rows.specs.declared.reply.Reply.TheVariants.{Absent, Found}
 use Rattle.mt_rows.specs.Maps.{is_get}
 use Rattle.mt_rows.specs.Accounts.{Accounts, account_of, HasRoom, one_more, OthersStay}
-use Rattle.mt_border.specs.declared.entry.Kind.TheVariants.{ThisKey}
+use Rattle.mt_border.specs.declared.entry.FoundKind.TheVariants.{ThisKey}
 use Rattle.mt_tape.specs.declared.entry.Entry.{Entry as TapeEntry}
 use Rattle.mt_core.specs.declared.operation.Request.{Request}
 use Rattle.mt_core.specs.declared.operation.Request.TheVariants.{Get, Put}

@@ -16,7 +16,7 @@ use Rattle.mt_border.specs.Entries.{IsMissing}
 use Rattle.mt_border.specs.Node.{Node, entries_of}
 use Rattle.mt_core.specs.declared.answers.Ticket.{Ticket}
 use Rattle.mt_core.specs.declared.operation.Operation.{Operation}
-use Rattle.mt_core.specs.Views.{View}
+use Rattle.mt_core.specs.Views.{StateView}
 use Rattle.mt_core.specs.Kept.{ask}
 
 -- column 0 is named, and no other
@@ -56,21 +56,21 @@ fault_of command =
     if not (has_short_columns command) then Some ColumnLong else None
 
 -- the first fault of a tenant and its command: what is judged before any growth
-abbrev pub first_fault : View → ℕ → Command → Option Refusal
+abbrev pub first_fault : StateView → ℕ → Command → Option Refusal
 first_fault v tenant command = if is_none (account_of v.accounts tenant) then Some NoTenant else fault_of command
 
 -- a get needs no room, and a put none where its key is live or fewer than fifteen pairs are
-abbrev pub has_room : View → ℕ → Command → Bool
+abbrev pub has_room : StateView → ℕ → Command → Bool
 has_room v tenant command = is_get command || nat_lt (pairs.len v.contents) 15 || is_some (pairs.get v.contents (tenant, key_of command))
 
 -- what the state lacks first for a command without fault: room, or a step that has no number yet
-abbrev pub first_lack : View → ℕ → Command → Option Refusal
+abbrev pub first_lack : StateView → ℕ → Command → Option Refusal
 first_lack v tenant command =
     if not (has_room v tenant command) then Some NoRoom else
     if v.steps == 2 ^ 59 then Some Spent else None
 
 -- the first cause for which a begin is refused
-abbrev pub cause_of : View → ℕ → Command → Option Refusal
+abbrev pub cause_of : StateView → ℕ → Command → Option Refusal
 cause_of v tenant command = option_or (first_fault v tenant command) (first_lack v tenant command)
 
 -- a call is refused for its first cause; where it has no fault it may be refused for want of memory instead
@@ -84,7 +84,7 @@ Refuses fault cause (Ok x) = cause ≡ None
 Refuses fault cause (Err refusal) = IsRefusal fault cause refusal
 
 -- so a begin: Memory may stand in place of NoRoom, of Spent and of a success, and never of a fault
-abbrev pub TellsRefusal : View → ℕ → Command → Result Ticket Refusal → Type 0
+abbrev pub TellsRefusal : StateView → ℕ → Command → Result Ticket Refusal → Type 0
 TellsRefusal v tenant command result = Refuses (first_fault v tenant command) (cause_of v tenant command) result
 
 -- a put whose key has no slot in a node that has no room

@@ -2,7 +2,7 @@
 use Rattle.std.specs.Prelude.{◌≡◌, ℕ, ◌-◌, ◌<◌, ◌≤◌, ◌==◌, min, if◌then◌else◌, Some}
 use Rattle.mt_tape.specs.Tapes.{later_entries}
 use Rattle.mt_core.specs.declared.operation.Operation.{Operation}
-use Rattle.mt_core.specs.Views.{View, Table, op_at, map_of, changed_at}
+use Rattle.mt_core.specs.Views.{StateView, Table, op_at, map_of, changed_at}
 
 -- every operation of the table that has made a step made its first one after this number
 abbrev pub IsBeforeFirsts : Table → ℕ → Type 0
@@ -19,7 +19,7 @@ pub record IsFloorNeeded (table : Table) (steps floor : ℕ) : Type 0 where
   pub greatest : (n : ℕ) → n ≤ steps → IsBeforeFirsts table n → n ≤ floor
 
 -- the tape begins at the floor that it needs, and nothing else has changed: every map from there on stands, and so does every change after it
-pub record Tidies (old new : View) : Type 0 where
+pub record Tidies (old new : StateView) : Type 0 where
   pub steps : new.steps ≡ old.steps
   pub logs : new.logs ≡ old.logs
   pub accounts : new.accounts ≡ old.accounts

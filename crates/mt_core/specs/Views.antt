@@ -20,7 +20,7 @@ Table = List (Option Operation)
 
 -- what a state shows: how many steps it has made, how many logs it serves, the tenants' accounts, all pairs, the
 -- changes since a floor, and the operations
-pub record View : Type 0 where
+pub record StateView : Type 0 where
   pub steps : ℕ
   pub logs : ℕ
   pub accounts : Accounts
@@ -43,7 +43,7 @@ abbrev pub pairs_of : Core → Contents
 pairs_of c = contents_of [] (entries_of c.node)
 
 -- what is shown of what is inside
-abbrev pub shown : Core → View
+abbrev pub shown : Core → StateView
 shown c = record { steps = c.steps; logs = c.logs; accounts = c.accounts; contents = pairs_of c; tape = c.tape; table = c.table }
 
 -- the code of all pairs, for a type whose model has them
@@ -55,15 +55,15 @@ abbrev pub op_at : Table → ℕ → Option Operation
 op_at table o = slice_index_or table o None
 
 -- a tenant's map after step m
-abbrev pub map_of : View → ℕ → ℕ → Map
+abbrev pub map_of : StateView → ℕ → ℕ → Map
 map_of v t m = map_at v.tape.entries v.contents t m
 
 -- whether step m changed a map
-abbrev pub changed_at : View → ℕ → Bool
+abbrev pub changed_at : StateView → ℕ → Bool
 changed_at v m = is_changed v.tape.entries m
 
 -- no step after step m changed a map
-abbrev pub IsUnchangedSince : View → ℕ → Type 0
+abbrev pub IsUnchangedSince : StateView → ℕ → Type 0
 IsUnchangedSince v m = (n : ℕ) → m < n → n ≤ v.steps → changed_at v n ≡ false
 
 -- how many pairs an account may have, none where there is no account
@@ -72,16 +72,16 @@ quota_in None = 0
 quota_in (Some account) = account.quota
 
 -- how many pairs a tenant may have
-abbrev pub quota_of : View → ℕ → ℕ
+abbrev pub quota_of : StateView → ℕ → ℕ
 quota_of v t = quota_in (account_of v.accounts t)
 
 -- the reply to a command is right at a number: that of a change on the map just before it, any other on the map then
-pub record IsPlaced (v : View) (tenant : ℕ) (command : Command) (at : ℕ) (reply : Reply) : Type 0 where
+pub record IsPlaced (v : StateView) (tenant : ℕ) (command : Command) (at : ℕ) (reply : Reply) : Type 0 where
   pub changes : is_change reply ≡ true → (changed_at v at ≡ true) × (reply ≡ reply_of (quota_of v tenant) command (map_of v tenant (at - 1)))
   pub looks : is_change reply ≡ false → reply ≡ reply_of (quota_of v tenant) command (map_of v tenant at)
 
 -- what stays of what was: no number falls, and the maps, the changes and the quotas of all steps made stay
-pub record Grows (old new : View) : Type 0 where
+pub record KeepsPast (old new : StateView) : Type 0 where
   pub steps : old.steps ≤ new.steps
   pub quotas : (t : ℕ) → quota_of new t ≡ quota_of old t
   pub maps : (t m : ℕ) → m ≤ old.steps → map_of new t m ≡ map_of old t m

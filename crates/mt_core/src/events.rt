@@ -11,7 +11,7 @@ ghost use Rattle.mt_runs.specs.Runs.{story_of};
 ghost use Rattle.mt_runs.specs.Placings.{no_pairs, HasOneOrder};
 ghost use Rattle.mt_core.specs.Views.{quota_in};
 ghost use Rattle.mt_core.specs.Begins.{new_state, HaveNoPairs, IsWorker, MayBegin, IsEnded, Takes};
-ghost use Rattle.mt_core.specs.Histories.{named, Renames, AreNamed, IsServed, TellsEvent, LeadsTo, no_names, Names as AnyNames};
+ghost use Rattle.mt_core.specs.Histories.{named, Renames, AreNamed, IsServed, TellsEvent, BringsTo, no_names, Names as AnyNames};
 
 use crate::answers::{Move, Ticket};
 use crate::state::State;
@@ -62,7 +62,7 @@ pub fn run_events(
     requires workers { All (IsServed logs) events.now }
     ensures headline { IfOk result (λ r. HasOneOrder (λ t. quota_in (account_of tenants t)) no_pairs (story_of 0 (zip events.now r.1))) }
     ensures count { IfOk result (λ r. length r.1 ≡ length events.now) }
-    ensures run { IfOk result (λ r. (names : AnyNames) × LeadsTo no_names (new_state logs tenants) (zip events.now r.1) names r.0) }
+    ensures run { IfOk result (λ r. (names : AnyNames) × BringsTo no_names (new_state logs tenants) (zip events.now r.1) names r.0) }
 {
     let mut state = State::new(alloc, logs, tenants);
     let mut names = BTreeMap::new(alloc);

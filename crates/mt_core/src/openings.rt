@@ -5,7 +5,7 @@ ghost use Rattle.std.specs.Result.{result_err};
 ghost use Rattle.slab.specs.Slab.{get, Updates};
 ghost use Rattle.mt_core.specs.Operations.{command_of};
 ghost use Rattle.mt_core.specs.declared.operation.Operation.{Operation as AnyOperation};
-ghost use Rattle.mt_core.specs.Sound.{is_unfinished};
+ghost use Rattle.mt_core.specs.Invariant.{is_unfinished};
 ghost use Rattle.mt_core.specs.Begins.{HasOpenPut, IsAnswerOf, IsEnded};
 ghost use Rattle.mt_core.specs.Admitted.{IsPoint, IsRequest, IsAdmitted, HasRoomFor};
 ghost use Rattle.mt_core.specs.Refused.{asks_first, names_first, fault_of, Refuses, LacksRoom};

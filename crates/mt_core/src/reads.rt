@@ -7,7 +7,7 @@ ghost use Rattle.mt_rows.specs.Commands.{HasColumns, key_of};
 ghost use Rattle.mt_rows.specs.Changes.{changed};
 ghost use Rattle.mt_slices.specs.Slices.{slice_of, mark_of, suffix_of};
 ghost use Rattle.mt_border.specs.declared.entry.Pair.{Pair as AnyPair};
-ghost use Rattle.mt_border.specs.Entry.{pair_of, IsStable, IsEntry};
+ghost use Rattle.mt_border.specs.Entry.{pair_of, IsStablePair, IsEntry};
 ghost use Rattle.mt_border.specs.Entries.{IsMissing, with_entry};
 ghost use Rattle.mt_border.specs.Node.{IsFound, IsLive, entries_of, entry_at, Rewrites};
 ghost use Rattle.mt_core.specs.Operations.{command_of};
@@ -17,7 +17,7 @@ ghost use Rattle.mt_tape.specs.Tapes.{last_write};
 ghost use Rattle.slab.specs.Slab.{get, ContainsKey};
 
 use crate::operation::{Operation, Progress, Request};
-use mt_border::{Border, Find, Held, Kind, Pair, Suffix};
+use mt_border::{Border, Find, Held, FoundKind, Pair, Suffix};
 use mt_rows::{Reply, Row, Tenants, merge};
 use mt_slices::StoredKey;
 use mt_tape::{Entry, Tape};
@@ -28,12 +28,12 @@ use std::alloc::{AllocError, Global};
 /// The slot of a short key.
 pub(crate) fn slot_of(root: &Border, key: &StoredKey) -> Option<usize>
     requires { length key.now ≤ 8 }
-    ensures found { IfSome result (λ slot. IsFound root.now (slice_of key.now 0) (mark_of key.now 0) (suffix_of key.now 0) slot Kind.ThisKey) }
+    ensures found { IfSome result (λ slot. IsFound root.now (slice_of key.now 0) (mark_of key.now 0) (suffix_of key.now 0) slot FoundKind.ThisKey) }
     ensures missing { IfNone result (IsMissing (entries_of root.now) (slice_of key.now 0) (mark_of key.now 0)) }
 {
     match root.find(key.slice(0), key.mark(0), key.suffix(0)) {
-        Find::Slot(slot, Kind::ThisKey) => Some(slot),
-        Find::Slot(_, Kind::OtherLong | Kind::Link) => unreachable!(),
+        Find::Slot(slot, FoundKind::ThisKey) => Some(slot),
+        Find::Slot(_, FoundKind::OtherLong | FoundKind::Link) => unreachable!(),
         Find::Missing => None,
     }
 }
@@ -262,7 +262,7 @@ fn share_at(root: &Border, slot: usize) -> Result<Option<Row>, AllocError>
 /// Marks the node, and writes a row over the one of a slot.
 pub(crate) fn write_row(root: &mut Border, slot: usize, row: Row, step: u64)
     requires live { IsLive root.old slot }
-    requires stable { IsStable (entry_at root.old slot).held }
+    requires stable { IsStablePair (entry_at root.old slot).held }
     ensures { (pair : AnyPair) → (entry_at root.old slot).held ≡ Held.Stable pair →
         Rewrites (marked root.old) root.new slot (Held.Stable (record pair { row = row; stamp = step })) }
 {

@@ -1,6 +1,6 @@
 //! The state and its calls.
 //!
-//! Invariant: `Sound` of `specs/Sound.antt`. It owns its node, its tape and its operations. Errors:
+//! Invariant: `StateInvariant` of `specs/StateInvariant.antt`. It owns its node, its tape and its operations. Errors:
 //! refusals of `begin`, which change nothing. Units: steps by their numbers, which begin at 1.
 
 ghost use Rattle.std.specs.Prelude.{◌≡◌, ◌+◌, ◌<◌, ◌≤◌, ◌^◌, ◌↔◌, ℕ, IsTrue, IfOk, false, max, Some, None};
@@ -58,11 +58,11 @@ pub struct State {
 }
 
 impl Model for State {
-    ghost use Rattle.mt_core.specs.Views.{View, shown, contents_code};
-    ghost use Rattle.mt_core.specs.Sound.{Sound};
+    ghost use Rattle.mt_core.specs.Views.{StateView, shown, contents_code};
+    ghost use Rattle.mt_core.specs.Invariant.{StateInvariant};
     ghost use Rattle.std.specs.Coded.{codes};
 
-    ghost Value = { View };
+    ghost Value = { StateView };
 
     ghost coded = { Prim.hlevel (codes, contents_code) };
 
@@ -70,7 +70,7 @@ impl Model for State {
 
     ghost view = { λ s. shown (core_of s) };
 
-    ghost invariant = { λ s. Sound (core_of s) };
+    ghost invariant = { λ s. StateInvariant (core_of s) };
 }
 
 impl State {

@@ -10,7 +10,7 @@ use Rattle.std.proofs.lemmas.Bool.{cases_lt}
 use Rattle.std.proofs.lemmas.Bool.Decides.{nat_tests}
 use Rattle.mt_interior.specs.Rising.{IsRising}
 use Rattle.mt_interior.specs.Places.{place_of, IsPlace, IsNew}
-use Rattle.mt_interior.specs.Fences.{end_of, bounds_of, IsBetween}
+use Rattle.mt_interior.specs.Fences.{end_of, bounds_of, IsWithinBounds}
 
 -- a step of the count
 counted : (test : Bool) (n : ℕ) → test ≡ true → (if test then 1 else 0) + n ≡ suc n
@@ -97,7 +97,7 @@ pub bounds_of-end : (low : ℕ) (xs : List ℕ) (high : Option ℕ) → get_or (
 bounds_of-end low xs high = grind (arith, common_steps)
 
 -- within the fences, the place of a slice is the part that holds it
-pub between-place : (low : ℕ) (xs : List ℕ) (high : Option ℕ) (s i : ℕ) → IsPlace xs s i → low ≤ s → s < end_of high → IsBetween (bounds_of low xs high) i s
+pub between-place : (low : ℕ) (xs : List ℕ) (high : Option ℕ) (s i : ℕ) → IsPlace xs s i → low ≤ s → s < end_of high → IsWithinBounds (bounds_of low xs high) i s
 between-place low xs high s i place above below = (
   from i place,
   rw (add-one i) (elim (cases_lt i (length xs)) [
@@ -111,7 +111,7 @@ between-place low xs high s i place above below = (
     from (suc k) place = rw (bounds_of-inner low xs high k (omega (arith, place.in_range))) (place.at_most_before k (omega arith))
 
 -- and no other part holds it
-pub place_of-between : (low : ℕ) (xs : List ℕ) (high : Option ℕ) (s i : ℕ) → IsRising xs → i ≤ length xs → IsBetween (bounds_of low xs high) i s → place_of xs s ≡ i
+pub place_of-between : (low : ℕ) (xs : List ℕ) (high : Option ℕ) (s i : ℕ) → IsRising xs → i ≤ length xs → IsWithinBounds (bounds_of low xs high) i s → place_of xs s ≡ i
 place_of-between low xs high s i rising in_range between = place_of-unique xs s i (record {
   in_range = in_range;
   at_most_before = before i in_range between.0;

@@ -8,8 +8,8 @@ end_of None = 18446744073709551616
 end_of (Some high) = high
 
 -- the slice lies within the node's fences
-abbrev pub Holds : InteriorNode → ℕ → Type 0
-Holds n slice = (n.low ≤ slice) × (slice < end_of n.high)
+abbrev pub HoldsSlice : InteriorNode → ℕ → Type 0
+HoldsSlice n slice = (n.low ≤ slice) × (slice < end_of n.high)
 
 -- fences with separators between: part i begins at element i and ends before the next
 abbrev pub bounds_of : ℕ → List ℕ → Option ℕ → List ℕ
@@ -20,5 +20,5 @@ abbrev pub bounds : InteriorNode → List ℕ
 bounds n = bounds_of n.low n.separators n.high
 
 -- the slice lies in part i
-abbrev pub IsBetween : List ℕ → ℕ → ℕ → Type 0
-IsBetween bounds i slice = (slice_index bounds i ≤ slice) × (slice < slice_index bounds (i + 1))
+abbrev pub IsWithinBounds : List ℕ → ℕ → ℕ → Type 0
+IsWithinBounds bounds i slice = (slice_index bounds i ≤ slice) × (slice < slice_index bounds (i + 1))

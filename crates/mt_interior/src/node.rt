@@ -7,7 +7,7 @@
 ghost use Rattle.std.specs.Prelude.{◌≡◌, ◌+◌, ◌<◌, ◌≤◌, ◌↔◌, ℕ, List, [], ◌∷◌, IsTrue, length, slice_index, take, drop};
 ghost use Rattle.arrayvec.specs.ArrayVec.{array_vec_len};
 ghost use Rattle.mt_interior.specs.Places.{place_of, IsPlace, IsNew};
-ghost use Rattle.mt_interior.specs.Fences.{Holds, IsBetween, bounds};
+ghost use Rattle.mt_interior.specs.Fences.{HoldsSlice, IsWithinBounds, bounds};
 
 use arrayvec::ArrayVec;
 use mt_version::Version;
@@ -158,9 +158,9 @@ impl Interior {
     pub fn child_of(&self, slice: u64) -> usize
         requires { 0 < length self.now.children }
         ensures value { result ≡ slice_index self.now.children (place_of self.now.separators slice) }
-        ensures range { Holds self.now slice →
-            IsBetween (bounds self.now) (place_of self.now.separators slice) slice }
-        ensures only { (i : ℕ) → i < length self.now.children → IsBetween (bounds self.now) i slice →
+        ensures range { HoldsSlice self.now slice →
+            IsWithinBounds (bounds self.now) (place_of self.now.separators slice) slice }
+        ensures only { (i : ℕ) → i < length self.now.children → IsWithinBounds (bounds self.now) i slice →
             i ≡ place_of self.now.separators slice }
     {
         self.children[self.place_of(slice)]

@@ -2,7 +2,7 @@
 use Rattle.std.proofs.Common.{◌≡◌, ℕ, List, [], ◌++◌, Option, Some, None, sym, ◌∙◌, ap, append_assoc, append-nil, take, drop}
 use Rattle.std.specs.Io.KnownBytes.{Appends, Keeps}
 use Rattle.std.proofs.lemmas.List.{take-append-drop}
-use Rattle.mt_script.specs.Streams.{Grows}
+use Rattle.mt_script.specs.Streams.{OnlyAppends}
 
 -- what grows by one text and then another grows by both
 pub appends_twice : (a b c : Option (List ℕ)) (xs ys : List ℕ) → Appends a b xs → Appends b c ys → Appends a c (xs ++ ys)
@@ -16,14 +16,14 @@ pub appends_nothing : (a : Option (List ℕ)) → Appends a a []
 appends_nothing None = tt
 appends_nothing (Some a) = sym (append-nil a)
 
-pub grows_nothing : (a : Option (List ℕ)) → Grows a a
+pub grows_nothing : (a : Option (List ℕ)) → OnlyAppends a a
 grows_nothing a = ([], appends_nothing a)
 
-pub grows_by : (a b : Option (List ℕ)) (xs : List ℕ) → Appends a b xs → Grows a b
+pub grows_by : (a b : Option (List ℕ)) (xs : List ℕ) → Appends a b xs → OnlyAppends a b
 grows_by a b xs h = (xs, h)
 
 -- one growth after another
-pub grows_twice : (a b c : Option (List ℕ)) → Grows a b → Grows b c → Grows a c
+pub grows_twice : (a b c : Option (List ℕ)) → OnlyAppends a b → OnlyAppends b c → OnlyAppends a c
 grows_twice a b c (xs, h) (ys, k) = (xs ++ ys, appends_twice a b c xs ys h k)
 
 -- what keeps its bytes grows by nothing
@@ -32,7 +32,7 @@ keeps_appends None b h = tt
 keeps_appends (Some a) None h = absurd h
 keeps_appends (Some a) (Some b) h = h ∙ sym (append-nil a)
 
-pub keeps_grows : (a b : Option (List ℕ)) → Keeps a b → Grows a b
+pub keeps_grows : (a b : Option (List ℕ)) → Keeps a b → OnlyAppends a b
 keeps_grows a b h = ([], keeps_appends a b h)
 
 -- the front of a text was written, and then the front of what was left

@@ -9,7 +9,7 @@ use Rattle.mt_runs.specs.declared.event.Answer.{Answer}
 use Rattle.mt_core.specs.declared.answers.Move.{Move}
 use Rattle.mt_core.specs.declared.answers.Move.TheVariants as moves
 use Rattle.mt_core.specs.declared.phase.Phase.{Phase}
-use Rattle.mt_core.specs.Views.{View}
+use Rattle.mt_core.specs.Views.{StateView}
 use Rattle.mt_core.specs.Shows.{phase_at}
 use Rattle.mt_core.specs.Promises.{IsStep, Tells}
 use Rattle.mt_core.specs.Begins.{new_state, MayBegin, TellsBegin, Takes}
@@ -22,20 +22,20 @@ use Rattle.mt_script.specs.declared.line.Line.TheVariants as lines
 use Rattle.mt_script.specs.declared.session.Session.{Session}
 
 -- the last step of an operation: its answer is taken, and the store tidied
-pub record Ends (old new : View) (o : ℕ) (answer : Answer) : Type 0 where
-  pub made : View
-  pub taken : View
+pub record Ends (old new : StateView) (o : ℕ) (answer : Answer) : Type 0 where
+  pub made : StateView
+  pub taken : StateView
   pub last : IsStep old made o true
   pub takes : Takes made taken o answer
   pub tidies : Tidies taken new
 
 -- what a step tells; all numbers are given where there are as many steps as can be
-abbrev pub TellsMove : View → View → ℕ → Move → Type 0
+abbrev pub TellsMove : StateView → StateView → ℕ → Move → Type 0
 TellsMove old new o moves.Spent = (new ≡ old) × (2 ^ 59 ≤ old.steps)
 TellsMove old new o move = Tells old new o move
 
 -- what is said of a step of the operation of a number: what it tells
-abbrev pub TellsStep : View → View → ℕ → Response → Type 0
+abbrev pub TellsStep : StateView → StateView → ℕ → Response → Type 0
 TellsStep old new o Moved = TellsMove old new o moves.Moved
 TellsStep old new o (Again name) = (holder : ℕ) × TellsMove old new o (moves.Again holder)
 TellsStep old new o Memory = TellsMove old new o moves.NoMemory
@@ -50,32 +50,32 @@ StopsAt None here = ⊥
 StopsAt (Some phase) here = here ≡ Some phase
 
 -- so many steps that moved the operation on, each from where it was not to stop
-abbrev pub Walks : Option Phase → ℕ → View → View → ℕ → Type 0
+abbrev pub Walks : Option Phase → ℕ → StateView → StateView → ℕ → Type 0
 Walks stop zero old new o = new ≡ old
-Walks stop (suc n) old new o = (mid : View) × Walks stop n old mid o × ¬ StopsAt stop (phase_at mid.table o) × IsStep mid new o false
+Walks stop (suc n) old new o = (mid : StateView) × Walks stop n old mid o × ¬ StopsAt stop (phase_at mid.table o) × IsStep mid new o false
 
 -- how a walk ends: it stops, or a step tells anything but that the operation moved on
-abbrev pub EndsWalk : Option Phase → View → View → ℕ → Move → Type 0
+abbrev pub EndsWalk : Option Phase → StateView → StateView → ℕ → Move → Type 0
 EndsWalk stop mid new o moves.Moved = (new ≡ mid) × StopsAt stop (phase_at mid.table o)
 EndsWalk stop mid new o move = TellsMove mid new o move
 
 -- a walk and its end
-pub record IsWalk (stop : Option Phase) (old new : View) (o : ℕ) (move : Move) : Type 0 where
+pub record IsWalk (stop : Option Phase) (old new : StateView) (o : ℕ) (move : Move) : Type 0 where
   pub steps : ℕ
-  pub mid : View
+  pub mid : StateView
   pub walks : Walks stop steps old mid o
   pub ends : EndsWalk stop mid new o move
 
 -- what is said of a walk's end
-abbrev pub SaysEnd : Option Phase → View → View → ℕ → Response → Type 0
+abbrev pub SaysEnd : Option Phase → StateView → StateView → ℕ → Response → Type 0
 SaysEnd stop mid new o (At phase) = (stop ≡ Some phase) × (new ≡ mid) × (phase_at mid.table o ≡ Some phase)
 SaysEnd stop mid new o Moved = ⊥
 SaysEnd stop mid new o response = TellsStep mid new o response
 
 -- what is said of a walk
-pub record TellsWalk (stop : Option Phase) (old new : View) (o : ℕ) (response : Response) : Type 0 where
+pub record TellsWalk (stop : Option Phase) (old new : StateView) (o : ℕ) (response : Response) : Type 0 where
   pub steps : ℕ
-  pub mid : View
+  pub mid : StateView
   pub walks : Walks stop steps old mid o
   pub says : SaysEnd stop mid new o response
 

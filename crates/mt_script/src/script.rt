@@ -8,7 +8,7 @@ ghost use Rattle.std.specs.Io.KnownBytes.{IsAtEnd, Appends};
 ghost use Rattle.mt_script.specs.Line.{line_of};
 ghost use Rattle.mt_script.specs.Answers.{IsReplyTo};
 ghost use Rattle.mt_script.specs.Sessions.{TellsReply};
-ghost use Rattle.mt_script.specs.Streams.{Grows};
+ghost use Rattle.mt_script.specs.Streams.{OnlyAppends};
 ghost use Rattle.mt_script.specs.Text.{IsText};
 ghost use Rattle.mt_script.specs.declared.response.Response.{Response};
 ghost use Rattle.mt_script.specs.declared.script.ScriptFault.TheVariants.{Memory};
@@ -64,7 +64,7 @@ pub fn run_script<R: Read, W: Write>(
     writer: &mut W,
 ) -> Result<(), ScriptFault>
     ensures whole { OnOk result (IsAtEnd (R.remaining reader.new)) }
-    ensures grows { Grows (W.contents writer.old) (W.contents writer.new) }
+    ensures grows { OnlyAppends (W.contents writer.old) (W.contents writer.new) }
 {
     let mut session = Session::new(alloc);
     let mut line = LineBuffer::new(alloc);
@@ -105,7 +105,7 @@ fn take_byte<W: Write>(
     byte: u8,
     writer: &mut W,
 ) -> Result<(), ScriptFault>
-    ensures grows { Grows (W.contents writer.old) (W.contents writer.new) }
+    ensures grows { OnlyAppends (W.contents writer.old) (W.contents writer.new) }
 {
     if byte != b'\n' {
         line.push(byte)?;
@@ -125,7 +125,7 @@ fn answer<W: Write>(
     line: &LineBuffer,
     writer: &mut W,
 ) -> Result<(), ScriptFault>
-    ensures grows { Grows (W.contents writer.old) (W.contents writer.new) }
+    ensures grows { OnlyAppends (W.contents writer.old) (W.contents writer.new) }
 {
     if line.is_empty() || line.is_comment() {
         return Ok(());
@@ -145,7 +145,7 @@ fn answer_line<W: Write>(
     writer: &mut W,
 ) -> Result<(), ScriptFault>
     ensures answered { OnOk result ((response : Response) × (text : List ℕ) × IsReplyTo bytes.now response × TellsReply session.old session.new (line_of bytes.now) response × IsText response text × Appends (W.contents writer.old) (W.contents writer.new) text) }
-    ensures grows { Grows (W.contents writer.old) (W.contents writer.new) }
+    ensures grows { OnlyAppends (W.contents writer.old) (W.contents writer.new) }
 {
     let response = response_to(alloc, session, bytes)?;
     let mut text = String::new(alloc);
@@ -158,7 +158,7 @@ fn answer_line<W: Write>(
 // leaves.)
 fn write_text<W: Write>(writer: &mut W, text: &[u8]) -> io::Result<()>
     ensures written { OnOk result (Appends (W.contents writer.old) (W.contents writer.new) text.now) }
-    ensures grows { Grows (W.contents writer.old) (W.contents writer.new) }
+    ensures grows { OnlyAppends (W.contents writer.old) (W.contents writer.new) }
 {
     let mut rest = text;
     for _ in 0..u64::MAX {

@@ -7,7 +7,7 @@ ghost use Rattle.std.specs.Prelude.{◌≡◌, ◌≢◌, ◌↔◌, IfOk, IsTru
 ghost use Rattle.std.specs.Ordering.{nat_cmp};
 ghost use Rattle.std.specs.BTreeMap.{get};
 ghost use Rattle.mt_core.specs.declared.answers.Ticket.{Ticket as AnyTicket};
-ghost use Rattle.mt_core.specs.Views.{View};
+ghost use Rattle.mt_core.specs.Views.{StateView};
 ghost use Rattle.mt_core.specs.Shows.{phase_at};
 ghost use Rattle.mt_core.specs.Promises.{IsStep};
 ghost use Rattle.mt_core.specs.Begins.{MayBegin};
@@ -154,7 +154,7 @@ impl Session {
     fn response_to(&mut self, name: u32, answer: Move) -> Response
         ensures kind { IsStepAnswer result }
         ensures moved { answer ≢ Move.Moved → result ≢ Response.Moved }
-        ensures told { (ticket : AnyTicket) (before : View) → get nat_cmp self.old.tickets name ≡ Some ticket → TellsMove before self.old.state ticket.number answer → TellsStep before self.new.state ticket.number result }
+        ensures told { (ticket : AnyTicket) (before : StateView) → get nat_cmp self.old.tickets name ≡ Some ticket → TellsMove before self.old.state ticket.number answer → TellsStep before self.new.state ticket.number result }
     {
         match answer {
             Move::Moved => Response::Moved,
@@ -170,7 +170,7 @@ impl Session {
     fn done(&mut self, name: u32) -> Response
         ensures kind { IsStepAnswer result }
         ensures moved { result ≢ Response.Moved }
-        ensures told { (ticket : AnyTicket) (before : View) → get nat_cmp self.old.tickets name ≡ Some ticket → IsStep before self.old.state ticket.number true → TellsStep before self.new.state ticket.number result }
+        ensures told { (ticket : AnyTicket) (before : StateView) → get nat_cmp self.old.tickets name ≡ Some ticket → IsStep before self.old.state ticket.number true → TellsStep before self.new.state ticket.number result }
     {
         let Some(ticket) = self.tickets.remove(&name) else {
             return Response::NoSuch;

@@ -6,7 +6,7 @@ use Rattle.std.proofs.lemmas.List.Elements.{All-nil, All-cons, All-head, All-tai
 use Rattle.std.proofs.lemmas.List.Folds.{list_any-append, list_any_none, list_any_at}
 use Rattle.mt_tape.specs.declared.entry.Entry.{Entry}
 use Rattle.mt_tape.specs.Tapes.{RisesOver, last_step_over, later_entries, starts_by}
-use Rattle.mt_tape.specs.Histories.{is_changed, IsQuiet}
+use Rattle.mt_tape.specs.Histories.{is_changed, IsQuietStep}
 
 -- what rises over a number rises over a lower one
 pub rises_lower : (low high : ℕ) (entries : List Entry) → low ≤ high → RisesOver high entries → RisesOver low entries
@@ -144,7 +144,7 @@ later_entries-later_entries floor m (e ∷ entries) le = by (ltb floor e.step) r
     by false is rest = rest ∙ sym (later_entries-dropped m e entries (omega (arith, ltb-false floor e.step is)))
 
 -- where no step between two numbers wrote, the same entries are after both
-pub later_entries-quiet : (m n : ℕ) (entries : List Entry) → m ≤ n → IsQuiet entries m n → later_entries m entries ≡ later_entries n entries
+pub later_entries-quiet : (m n : ℕ) (entries : List Entry) → m ≤ n → IsQuietStep entries m n → later_entries m entries ≡ later_entries n entries
 later_entries-quiet m n [] le h = refl
 later_entries-quiet m n (e ∷ entries) le h =
     by (cases_lt n e.step) (All-head (λ x. m < x.step → n < x.step) e entries h) (later_entries-quiet m n entries le (All-tail (λ x. m < x.step → n < x.step) e entries h))
@@ -218,7 +218,7 @@ is_changed-later_entries floor m (e ∷ entries) lt = by (ltb floor e.step) refl
     by false is rest = rest ∙ sym (ap (λ b. b || is_changed entries m) (ne_eqb e.step m (λ same. let up = ltb-false floor e.step is in omega arith)))
 
 -- steps that are told not to have written
-pub quiet_where_unchanged : (m n : ℕ) (entries : List Entry) → ((k : ℕ) → m < k → k ≤ n → is_changed entries k ≡ false) → IsQuiet entries m n
+pub quiet_where_unchanged : (m n : ℕ) (entries : List Entry) → ((k : ℕ) → m < k → k ≤ n → is_changed entries k ≡ false) → IsQuietStep entries m n
 quiet_where_unchanged m n entries h = λ k d in_ after. ⊎_elim (λ lt. lt) (λ upto. absurd (clash _ (h _ after upto) (list_any_at (λ e. eqb e.step (get_or entries k d).step) entries k d in_ (eq-eqb _ _ refl)))) (cases_lt n (get_or entries k d).step)
   where
     clash : (b : Bool) → b ≡ false → b ≡ true → ⊥

@@ -10,7 +10,7 @@ use Rattle.mt_rows.specs.Tenants.{Contents, tenant_map}
 use Rattle.mt_rows.proofs.ContentLaws.{get-tenant_map}
 use Rattle.mt_tape.specs.declared.entry.Entry.{Entry}
 use Rattle.mt_tape.specs.Tapes.{RisesOver, last_step_over, later_entries}
-use Rattle.mt_tape.specs.Histories.{with_row, written_key, with_write, without_write, undone, contents_at, map_at, is_changed, IsLegal, IsNextWrite, IsQuiet, IsQuietFor, IsUntouched}
+use Rattle.mt_tape.specs.Histories.{with_row, written_key, with_write, without_write, undone, contents_at, map_at, is_changed, IsLegalTape, IsNextWrite, IsQuietStep, IsQuietFor, IsUnwrittenSince}
 use Rattle.mt_tape.proofs.EntryLaws.{later_entries-kept, later_entries-dropped, later_entries-past_last, later_entries-push, later_entries-later_entries, later_entries-quiet, later_entries-before}
 pub use Rattle.mt_tape.proofs.EntryLaws.{rises_all, floor_upto_last, all_upto_last, rises-push, last_step_over-push, rises-later_entries, last_step_over-later_entries, is_changed-past_last, is_changed-push_other, is_changed-push, is_changed-later_entries, quiet_where_unchanged}
 pub use Rattle.mt_tape.proofs.RowLaws.{owned_exact, same_contents, get-with_row, get-with_row_same, get-with_row_other, with_row-put_back, tenant_map-with_row, tenant_map-with_row_other}
@@ -48,8 +48,8 @@ contents_at-pushed floor m entries contents e rises later le =
     contents_at-now floor m (entries ++ e ∷ []) contents (rises-push floor entries e rises later) (omega (arith, last_step_over-push floor entries e))
 
 -- a tape stays legal when a write is added
-pub legal-push : (floor : ℕ) (entries : List Entry) (contents : Contents) (e : Entry) → RisesOver floor entries → IsNextWrite floor entries contents e → IsLegal entries contents
-    → IsLegal (entries ++ e ∷ []) (with_write contents e)
+pub legal-push : (floor : ℕ) (entries : List Entry) (contents : Contents) (e : Entry) → RisesOver floor entries → IsNextWrite floor entries contents e → IsLegalTape entries contents
+    → IsLegalTape (entries ++ e ∷ []) (with_write contents e)
 legal-push floor entries contents e rises next legal =
     All-push (λ x. get (contents_at (entries ++ e ∷ []) (with_write contents e) x.step) (written_key x) ≡ x.after) entries e
     (λ k d in_.
@@ -69,7 +69,7 @@ pub map_at-trim : (floor m : ℕ) (entries : List Entry) (contents : Contents) (
 map_at-trim floor m entries contents t le = ap (tenant_map t) (contents_at-trim floor m entries contents le)
 
 -- and the tape legal
-pub legal-trim : (floor : ℕ) (entries : List Entry) (contents : Contents) → IsLegal entries contents → IsLegal (later_entries floor entries) contents
+pub legal-trim : (floor : ℕ) (entries : List Entry) (contents : Contents) → IsLegalTape entries contents → IsLegalTape (later_entries floor entries) contents
 legal-trim floor entries contents legal =
     let kept = All-filter (λ x. ltb floor x.step) (λ x. get (contents_at entries contents x.step) (written_key x) ≡ x.after) entries legal in
     let after = filter_passes (λ x. ltb floor x.step) entries in
@@ -86,7 +86,7 @@ get-undone_others key (e ∷ entries) contents h =
     ∙ get-undone_others key entries contents (All-tail (λ x. written_key x ≢ key) e entries h)
 
 -- a key that no step after s wrote has now the row that it had after each step from s on, or none as it had none
-pub get-contents_at : (entries : List Entry) (contents : Contents) (key : ℕ × Bytes) (s m : ℕ) → IsUntouched entries key s → s ≤ m → get (contents_at entries contents m) key ≡ get contents key
+pub get-contents_at : (entries : List Entry) (contents : Contents) (key : ℕ × Bytes) (s m : ℕ) → IsUnwrittenSince entries key s → s ≤ m → get (contents_at entries contents m) key ≡ get contents key
 get-contents_at entries contents key s m h le =
     get-undone_others key (later_entries m entries) contents
     (let others = All-filter (λ x. ltb m x.step) (λ x. s < x.step → written_key x ≢ key) entries h in
@@ -94,25 +94,25 @@ get-contents_at entries contents key s m h le =
     λ k d in_. let lt = ltb-true m (get_or (later_entries m entries) k d).step (after k d in_) in others k d in_ (omega arith))
 
 -- the same of a tenant's map
-pub get-map_at : (entries : List Entry) (contents : Contents) (t : ℕ) (key : Bytes) (s m : ℕ) → IsUntouched entries (t, key) s → s ≤ m
+pub get-map_at : (entries : List Entry) (contents : Contents) (t : ℕ) (key : Bytes) (s m : ℕ) → IsUnwrittenSince entries (t, key) s → s ≤ m
     → get (map_at entries contents t m) key ≡ get (tenant_map t contents) key
 get-map_at entries contents t key s m h le =
     get-tenant_map t (contents_at entries contents m) key ∙ get-contents_at entries contents (t, key) s m h le ∙ sym (get-tenant_map t contents key)
 
 -- a key stays untouched since a step when another is written
-pub untouched-push : (entries : List Entry) (e : Entry) (key : ℕ × Bytes) (s : ℕ) → IsUntouched entries key s → written_key e ≢ key → IsUntouched (entries ++ e ∷ []) key s
+pub untouched-push : (entries : List Entry) (e : Entry) (key : ℕ × Bytes) (s : ℕ) → IsUnwrittenSince entries key s → written_key e ≢ key → IsUnwrittenSince (entries ++ e ∷ []) key s
 untouched-push entries e key s h other = All-push (λ x. s < x.step → written_key x ≢ key) entries e h (λ lt. other)
 
 -- and when entries are given up
-pub untouched-trim : (floor : ℕ) (entries : List Entry) (key : ℕ × Bytes) (s : ℕ) → IsUntouched entries key s → IsUntouched (later_entries floor entries) key s
+pub untouched-trim : (floor : ℕ) (entries : List Entry) (key : ℕ × Bytes) (s : ℕ) → IsUnwrittenSince entries key s → IsUnwrittenSince (later_entries floor entries) key s
 untouched-trim floor entries key s h = All-filter (λ x. ltb floor x.step) (λ x. s < x.step → written_key x ≢ key) entries h
 
 -- and none is touched after the last write
-pub untouched-past_last : (floor : ℕ) (entries : List Entry) (key : ℕ × Bytes) (s : ℕ) → RisesOver floor entries → last_step_over floor entries ≤ s → IsUntouched entries key s
+pub untouched-past_last : (floor : ℕ) (entries : List Entry) (key : ℕ × Bytes) (s : ℕ) → RisesOver floor entries → last_step_over floor entries ≤ s → IsUnwrittenSince entries key s
 untouched-past_last floor entries key s rises le = λ k d in_ lt. let up = all_upto_last floor entries rises k d in_ in absurd (omega arith)
 
 -- so after a write its own key is untouched, as all are
-pub untouched-pushed : (floor : ℕ) (entries : List Entry) (e : Entry) (key : ℕ × Bytes) → RisesOver floor entries → last_step_over floor entries < e.step → IsUntouched (entries ++ e ∷ []) key e.step
+pub untouched-pushed : (floor : ℕ) (entries : List Entry) (e : Entry) (key : ℕ × Bytes) → RisesOver floor entries → last_step_over floor entries < e.step → IsUnwrittenSince (entries ++ e ∷ []) key e.step
 untouched-pushed floor entries e key rises later =
     untouched-past_last floor (entries ++ e ∷ []) key e.step (rises-push floor entries e rises later) (omega (arith, last_step_over-push floor entries e))
 
@@ -129,7 +129,7 @@ get-contents_at_before floor m entries contents e rises in_ is =
     ∙ get-with_row_same (contents_at entries contents e.step) (written_key e) e.before
 
 -- of a legal tape, the pairs just after a write are those just before it with that write
-pub contents_at-write : (floor m : ℕ) (entries : List Entry) (contents : Contents) (e : Entry) → RisesOver floor entries → IsLegal entries contents → Contains entries e → e.step ≡ m + 1
+pub contents_at-write : (floor m : ℕ) (entries : List Entry) (contents : Contents) (e : Entry) → RisesOver floor entries → IsLegalTape entries contents → Contains entries e → e.step ≡ m + 1
     → contents_at entries contents e.step ≡ with_write (contents_at entries contents m) e
 contents_at-write floor m entries contents e rises legal in_ is =
     sym (ap (λ (c : Contents). with_write c e) (contents_at-undo floor m entries contents e rises in_ is)
@@ -143,14 +143,14 @@ map_at-other_tenant floor m entries contents e t rises in_ is other =
     ∙ tenant_map-with_row_other t e.tenant (contents_at entries contents e.step) e.key e.before other)
 
 -- and changes its own tenant's map at its key
-pub map_at-write : (floor m : ℕ) (entries : List Entry) (contents : Contents) (e : Entry) → RisesOver floor entries → IsLegal entries contents → Contains entries e → e.step ≡ m + 1
+pub map_at-write : (floor m : ℕ) (entries : List Entry) (contents : Contents) (e : Entry) → RisesOver floor entries → IsLegalTape entries contents → Contains entries e → e.step ≡ m + 1
     → map_at entries contents e.tenant e.step ≡ with_row (map_at entries contents e.tenant m) e.key e.after
 map_at-write floor m entries contents e rises legal in_ is =
     ap (tenant_map e.tenant) (contents_at-write floor m entries contents e rises legal in_ is)
     ∙ tenant_map-with_row e.tenant (contents_at entries contents m) e.key e.after
 
 -- between two numbers, none of which wrote, the pairs are the same
-pub contents_at-quiet : (m n : ℕ) (entries : List Entry) (contents : Contents) → m ≤ n → IsQuiet entries m n → contents_at entries contents m ≡ contents_at entries contents n
+pub contents_at-quiet : (m n : ℕ) (entries : List Entry) (contents : Contents) → m ≤ n → IsQuietStep entries m n → contents_at entries contents m ≡ contents_at entries contents n
 contents_at-quiet m n entries contents le quiet = ap (λ es. undone es contents) (later_entries-quiet m n entries le quiet)
 
 -- a step that did not write left the pairs

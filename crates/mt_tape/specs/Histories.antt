@@ -45,8 +45,8 @@ abbrev pub is_changed : List Entry → ℕ → Bool
 is_changed entries m = list_any (λ e. e.step == m) entries
 
 -- after its step, the key of each entry had the row that the entry tells
-abbrev pub IsLegal : List Entry → Contents → Type 0
-IsLegal entries contents = All (λ e. pairs.get (contents_at entries contents e.step) (written_key e) ≡ e.after) entries
+abbrev pub IsLegalTape : List Entry → Contents → Type 0
+IsLegalTape entries contents = All (λ e. pairs.get (contents_at entries contents e.step) (written_key e) ≡ e.after) entries
 
 -- an entry may come next: its step is over those of all others, and the row before it is the one of now
 pub record IsNextWrite (floor : ℕ) (entries : List Entry) (contents : Contents) (e : Entry) : Type 0 where
@@ -54,13 +54,13 @@ pub record IsNextWrite (floor : ℕ) (entries : List Entry) (contents : Contents
   pub before : pairs.get contents (written_key e) ≡ e.before
 
 -- no step after m and up to n wrote
-abbrev pub IsQuiet : List Entry → ℕ → ℕ → Type 0
-IsQuiet entries m n = All (λ e. m < e.step → n < e.step) entries
+abbrev pub IsQuietStep : List Entry → ℕ → ℕ → Type 0
+IsQuietStep entries m n = All (λ e. m < e.step → n < e.step) entries
 
 -- no step after m and up to n wrote a key of this tenant
 abbrev pub IsQuietFor : ℕ → List Entry → ℕ → ℕ → Type 0
 IsQuietFor t entries m n = All (λ e. m < e.step → e.step ≤ n → e.tenant ≢ t) entries
 
 -- no step after m wrote this key
-abbrev pub IsUntouched : List Entry → ℕ × Bytes → ℕ → Type 0
-IsUntouched entries key m = All (λ e. m < e.step → written_key e ≢ key) entries
+abbrev pub IsUnwrittenSince : List Entry → ℕ × Bytes → ℕ → Type 0
+IsUnwrittenSince entries key m = All (λ e. m < e.step → written_key e ≢ key) entries

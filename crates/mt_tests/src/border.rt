@@ -3,11 +3,11 @@
 ghost use Rattle.std.specs.Prelude.{◌≡◌, [], IsTrue, IfOk};
 ghost use Rattle.mt_slices.specs.Marks.{IsMark};
 ghost use Rattle.mt_slices.specs.Slices.{HasLayer};
-ghost use Rattle.mt_border.specs.Entry.{IsEntry, IsRest, IsStable};
+ghost use Rattle.mt_border.specs.Entry.{IsEntry, IsRest, IsStablePair};
 ghost use Rattle.mt_border.specs.Node.{entries_of, held_at, IsLive};
 
 use mt_border::laws::suffix_fits_mark;
-use mt_border::{Border, Entry, Find, Held, Kind, Pair, SLOTS, Suffix};
+use mt_border::{Border, Entry, Find, Held, FoundKind, Pair, SLOTS, Suffix};
 use mt_rows::{Column, Row};
 use mt_slices::{Mark, StoredKey};
 use mt_version::Version;
@@ -199,10 +199,10 @@ fn keys_of_one_slice_are_told_apart(rt: HostRuntime) -> Result<(), Fail> {
     put(&rt, alloc, &mut border, 9, Mark::Long, b"xyz")?;
     assert!(rt; finds(&border, Mark::Short(8), &[], Find::Missing));
     put(&rt, alloc, &mut border, 9, Mark::Short(8), &[])?;
-    assert!(rt; finds(&border, Mark::Short(8), &[], Find::Slot(0, Kind::ThisKey)));
+    assert!(rt; finds(&border, Mark::Short(8), &[], Find::Slot(0, FoundKind::ThisKey)));
     assert!(rt; finds(&border, Mark::Short(7), &[], Find::Missing));
-    assert!(rt; finds(&border, Mark::Long, b"xyz", Find::Slot(1, Kind::ThisKey)));
-    assert!(rt; finds(&border, Mark::Long, b"xy", Find::Slot(1, Kind::OtherLong)));
+    assert!(rt; finds(&border, Mark::Long, b"xyz", Find::Slot(1, FoundKind::ThisKey)));
+    assert!(rt; finds(&border, Mark::Long, b"xy", Find::Slot(1, FoundKind::OtherLong)));
     Ok(())
 }
 
@@ -217,7 +217,7 @@ fn stamp_at(border: &Border, slot: usize) -> Option<u64> {
 // Whether slot 0 holds a stable pair.
 fn is_stable(border: &Border) -> bool
     ensures live { IsTrue result → IsLive border.now 0 }
-    ensures stable { IsTrue result → IsStable (held_at border.now 0) }
+    ensures stable { IsTrue result → IsStablePair (held_at border.now 0) }
 {
     matches!(border.load(0), Some(Held::Stable(_)))
 }
@@ -241,7 +241,7 @@ fn a_row_gives_way_to_another_and_goes(rt: HostRuntime) -> Result<(), Fail> {
 
 // Makes the pair of slot 0 unstable, for the tree of that number.
 fn make_unstable(border: &mut Border, tree: usize) {
-    if let Find::Slot(0, Kind::ThisKey) = border.find(9, Mark::Long, b"xyz")
+    if let Find::Slot(0, FoundKind::ThisKey) = border.find(9, Mark::Long, b"xyz")
         && let Some(Held::Stable(_)) = border.load(0)
     {
         border.mark_unstable(0);
@@ -270,9 +270,9 @@ fn a_longer_key_gives_way_to_a_link(rt: HostRuntime) -> Result<(), Fail> {
     put(&rt, alloc, &mut border, 9, Mark::Long, b"xyz")?;
     make_unstable(&mut border, 5);
     assert_eq!(rt; stamp_at(&border, 0), None);
-    assert!(rt; finds(&border, Mark::Long, b"xyz", Find::Slot(0, Kind::ThisKey)));
+    assert!(rt; finds(&border, Mark::Long, b"xyz", Find::Slot(0, FoundKind::ThisKey)));
     assert_eq!(rt; make_link(&mut border), Some((5, 1)));
-    assert!(rt; finds(&border, Mark::Long, b"xyz", Find::Slot(0, Kind::Link)));
+    assert!(rt; finds(&border, Mark::Long, b"xyz", Find::Slot(0, FoundKind::Link)));
     Ok(())
 }
 

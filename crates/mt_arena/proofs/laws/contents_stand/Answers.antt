@@ -1,5 +1,5 @@
 use Rattle.mt_arena.proofs.ContentQuiet.{stands_unchanged, stands_held, stands_unlinked, stands_without_slots, stands_pushed, stands_tree_pushed, stands_tree_set, stands_tree_left}
-use Rattle.mt_arena.specs.Shape.{node_at}
+use Rattle.mt_arena.specs.NodeView.{node_at}
 use Rattle.mt_arena.specs.Forests.{tree_at, layer_of}
 use Rattle.mt_arena.proofs.Homes.{begun}
 use Rattle.mt_arena.proofs.Steps.{keys_of}

@@ -8,7 +8,7 @@ use Rattle.mt_runs.specs.Placings.{Quotas, no_pairs, HasOneOrder}
 use Rattle.mt_runs.proofs.Order.{one_order}
 use Rattle.mt_core.specs.Views.{quota_in, map_of, changed_at}
 use Rattle.mt_core.specs.Begins.{new_state}
-use Rattle.mt_core.specs.Histories.{no_names, named, History, LeadsTo}
+use Rattle.mt_core.specs.Histories.{no_names, named, History, BringsTo}
 use Rattle.mt_core.proofs.HistoryStart.{history_first, leads_first}
 use Rattle.mt_core.proofs.HistoryEvents.{keeps_event, leads_more, zip_more}
 use Rattle.mt_core.proofs.events.run_events.Goals as goal
@@ -32,7 +32,7 @@ loop-event-preserved c =
     record {
       history = subst (λ (r : Run). History quotas no_pairs (story_of 0 r) (named c.tell.new.names) c.tell.new.state) (sym grows)
           (keeps_event (named c.loop-event.names) (named c.tell.new.names) c.loop-event.state c.tell.new.state c.event-item.result c.in_ok-answer.answer c.in_ok-answer.ensures.tells quotas no_pairs 0 run h.history);
-      run = subst (λ (r : Run). LeadsTo no_names (new_state c.args.logs c.args.tenants) r (named c.tell.new.names) c.tell.new.state) (sym grows)
+      run = subst (λ (r : Run). BringsTo no_names (new_state c.args.logs c.args.tenants) r (named c.tell.new.names) c.tell.new.state) (sym grows)
           (leads_more no_names (new_state c.args.logs c.args.tenants) run (named c.loop-event.names) c.loop-event.state (named c.tell.new.names) c.tell.new.state c.event-item.result c.in_ok-answer.answer h.run c.in_ok-answer.ensures.tells);
       count = ap length c.in_ok-push.ensures.items ∙ length-append c.loop-event.told.items (c.in_ok-answer.answer ∷ []) ∙ omega (arith, h.count);
       logs = c.in_ok-answer.ensures.logs ∙ h.logs;

@@ -1,5 +1,5 @@
 use Rattle.std.proofs.Common.{◌≡◌, refl, ap, length, arith}
-use Rattle.mt_arena.specs.Shape.{node_at}
+use Rattle.mt_arena.specs.NodeView.{node_at}
 use Rattle.mt_arena.proofs.Pairs.{read}
 use Rattle.mt_arena.proofs.ContentQuiet.{stands_pushed}
 use Rattle.mt_arena.proofs.Growing.{sound_half}

@@ -1,6 +1,6 @@
 use Rattle.std.proofs.Common.{◌≡◌, ap, ◌∙◌, length, arith}
-use Rattle.mt_arena.specs.Shape.{Shape}
-use Rattle.mt_arena.specs.Arena.{View}
+use Rattle.mt_arena.specs.NodeView.{NodeView}
+use Rattle.mt_arena.specs.Arena.{ArenaView}
 use Rattle.mt_arena.specs.Accesses.{at, tree_of}
 use Rattle.mt_interior.specs.Fences.{end_of}
 use Rattle.mt_arena.proofs.Pairs.{read}
@@ -24,10 +24,10 @@ put_top-requires-clause-not_too_high c =
 pub invariant_of-self-2 : goal.invariant_of-self-2
 invariant_of-self-2 c =
     let may = rw (← c.self.view_is) at c.requires in
-    let v : View = record { nodes = c.self.inside.nodes.items; trees = c.self.inside.trees.items; retired = c.self.inside.retired.items } in
+    let v : ArenaView = record { nodes = c.self.inside.nodes.items; trees = c.self.inside.trees.items; retired = c.self.inside.retired.items } in
     let room = c.in_ok-make_room.ensures in
     let top_is : c.len-top.result ≡ length v.nodes = omega (arith, c.len-top.ensures, ap length room.nodes) in
-    let tree_is : c.tree-tree.result ≡ (at v c.args.left).tree = c.tree-tree.ensures ∙ ap (λ (n : Shape). n.tree) (read v.nodes c.args.left c.index.result.now may.held.there (rw room.nodes at c.index.ensures)) in
+    let tree_is : c.tree-tree.result ≡ (at v c.args.left).tree = c.tree-tree.ensures ∙ ap (λ (n : NodeView). n.tree) (read v.nodes c.args.left c.index.result.now may.held.there (rw room.nodes at c.index.ensures)) in
     let record_is : c.index_mut.result.now ≡ tree_of v c.args.left = read_tree v.trees (at v c.args.left).tree c.index_mut.result.now (c.self.invariant.arena.forest.tree_there c.args.left may.held.there) (rw (room.trees, tree_is) at c.index_mut.ensures.value) in
     rw (c.put_top.ensures, room.nodes, room.trees, room.retired, top_is, tree_is, record_is)
     (sound_grown v _ _ c.args.left c.args.right c.args.operation c.self.invariant may (omega (arith, room.room, ap length room.nodes)))
@@ -35,10 +35,10 @@ invariant_of-self-2 c =
 pub returns-clause-step : goal.returns-clause-step
 returns-clause-step c =
     let may = rw (← c.self.view_is) at c.requires in
-    let v : View = record { nodes = c.self.inside.nodes.items; trees = c.self.inside.trees.items; retired = c.self.inside.retired.items } in
+    let v : ArenaView = record { nodes = c.self.inside.nodes.items; trees = c.self.inside.trees.items; retired = c.self.inside.retired.items } in
     let room = c.in_ok-make_room.ensures in
     let top_is : c.len-top.result ≡ length v.nodes = omega (arith, c.len-top.ensures, ap length room.nodes) in
-    let tree_is : c.tree-tree.result ≡ (at v c.args.left).tree = c.tree-tree.ensures ∙ ap (λ (n : Shape). n.tree) (read v.nodes c.args.left c.index.result.now may.held.there (rw room.nodes at c.index.ensures)) in
+    let tree_is : c.tree-tree.result ≡ (at v c.args.left).tree = c.tree-tree.ensures ∙ ap (λ (n : NodeView). n.tree) (read v.nodes c.args.left c.index.result.now may.held.there (rw room.nodes at c.index.ensures)) in
     let record_is : c.index_mut.result.now ≡ tree_of v c.args.left = read_tree v.trees (at v c.args.left).tree c.index_mut.result.now (c.self.invariant.arena.forest.tree_there c.args.left may.held.there) (rw (room.trees, tree_is) at c.index_mut.ensures.value) in
     rw (← c.self.view_is, c.put_top.ensures, room.nodes, room.trees, room.retired, top_is, tree_is, record_is)
     (step_grown v _ 0 c.args.left c.args.right c.args.operation c.self.invariant may)
@@ -46,10 +46,10 @@ returns-clause-step c =
 pub returns-clause-contents : goal.returns-clause-contents
 returns-clause-contents c =
     let may = rw (← c.self.view_is) at c.requires in
-    let v : View = record { nodes = c.self.inside.nodes.items; trees = c.self.inside.trees.items; retired = c.self.inside.retired.items } in
+    let v : ArenaView = record { nodes = c.self.inside.nodes.items; trees = c.self.inside.trees.items; retired = c.self.inside.retired.items } in
     let room = c.in_ok-make_room.ensures in
     let top_is : c.len-top.result ≡ length v.nodes = omega (arith, c.len-top.ensures, ap length room.nodes) in
-    let tree_is : c.tree-tree.result ≡ (at v c.args.left).tree = c.tree-tree.ensures ∙ ap (λ (n : Shape). n.tree) (read v.nodes c.args.left c.index.result.now may.held.there (rw room.nodes at c.index.ensures)) in
+    let tree_is : c.tree-tree.result ≡ (at v c.args.left).tree = c.tree-tree.ensures ∙ ap (λ (n : NodeView). n.tree) (read v.nodes c.args.left c.index.result.now may.held.there (rw room.nodes at c.index.ensures)) in
     let record_is : c.index_mut.result.now ≡ tree_of v c.args.left = read_tree v.trees (at v c.args.left).tree c.index_mut.result.now (c.self.invariant.arena.forest.tree_there c.args.left may.held.there) (rw (room.trees, tree_is) at c.index_mut.ensures.value) in
     rw (← c.self.view_is, c.put_top.ensures, room.nodes, room.trees, top_is, tree_is, record_is)
     (content_grown v _ 0 c.args.left c.args.right c.args.operation c.self.invariant may)
@@ -57,10 +57,10 @@ returns-clause-contents c =
 pub returns-clause-settled : goal.returns-clause-settled
 returns-clause-settled c =
     let may = rw (← c.self.view_is) at c.requires in
-    let v : View = record { nodes = c.self.inside.nodes.items; trees = c.self.inside.trees.items; retired = c.self.inside.retired.items } in
+    let v : ArenaView = record { nodes = c.self.inside.nodes.items; trees = c.self.inside.trees.items; retired = c.self.inside.retired.items } in
     let room = c.in_ok-make_room.ensures in
     let top_is : c.len-top.result ≡ length v.nodes = omega (arith, c.len-top.ensures, ap length room.nodes) in
-    let tree_is : c.tree-tree.result ≡ (at v c.args.left).tree = c.tree-tree.ensures ∙ ap (λ (n : Shape). n.tree) (read v.nodes c.args.left c.index.result.now may.held.there (rw room.nodes at c.index.ensures)) in
+    let tree_is : c.tree-tree.result ≡ (at v c.args.left).tree = c.tree-tree.ensures ∙ ap (λ (n : NodeView). n.tree) (read v.nodes c.args.left c.index.result.now may.held.there (rw room.nodes at c.index.ensures)) in
     let record_is : c.index_mut.result.now ≡ tree_of v c.args.left = read_tree v.trees (at v c.args.left).tree c.index_mut.result.now (c.self.invariant.arena.forest.tree_there c.args.left may.held.there) (rw (room.trees, tree_is) at c.index_mut.ensures.value) in
     rw (c.put_top.ensures, room.nodes, top_is)
     (settled_grown v _ 0 c.args.left c.args.right c.args.operation c.self.invariant may)

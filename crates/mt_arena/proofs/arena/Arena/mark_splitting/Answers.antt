@@ -1,5 +1,5 @@
 use Rattle.std.proofs.Common.{refl}
-use Rattle.mt_arena.specs.Shape.{node_at}
+use Rattle.mt_arena.specs.NodeView.{node_at}
 use Rattle.mt_arena.proofs.Pairs.{read}
 use Rattle.mt_arena.proofs.ContentQuiet.{content-set}
 use Rattle.mt_arena.proofs.Locks.{sound_splitting, step_splitting, is_held}

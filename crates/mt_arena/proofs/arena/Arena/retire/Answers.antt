@@ -22,7 +22,7 @@ returns-clause-step c =
     let may = rw (← c.self.view_is) at c.requires.may in
     let now = read c.self.inside.nodes.items c.args.node c.index_mut.result.now may.held.there c.index_mut.ensures.value in
     rw (← c.self.view_is, c.retire.ensures, now)
-    (let step = step_retired (record { nodes = c.self.inside.nodes.items; trees = c.self.inside.trees.items; retired = c.self.inside.retired.items }) c.args.node c.args.operation may.held.there may.held.holder (rw (← c.self.view_is) at c.requires.mine) in record { evolves = step.evolves; points = step.points })
+    (let step = step_retired (record { nodes = c.self.inside.nodes.items; trees = c.self.inside.trees.items; retired = c.self.inside.retired.items }) c.args.node c.args.operation may.held.there may.held.holder (rw (← c.self.view_is) at c.requires.mine) in record { nodes = step.nodes; points = step.points })
 
 pub returns-clause-contents : goal.returns-clause-contents
 returns-clause-contents c =

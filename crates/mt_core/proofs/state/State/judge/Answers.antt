@@ -2,7 +2,7 @@ use Rattle.std.proofs.Common.{true, false, ap, refl, ◌∙◌}
 use Rattle.mt_version.specs.Changes.{unlocked_parts}
 use Rattle.mt_core.specs.States.{core_of}
 use Rattle.mt_core.proofs.Looks.{short_key, by_progress}
-use Rattle.mt_core.proofs.Holds.{judge_done, no_growth_done, written_done}
+use Rattle.mt_core.proofs.HoldsKey.{judge_done, no_growth_done, written_done}
 use Rattle.mt_core.proofs.state.State.judge.Goals as goal
 
 pub ready_at-ready-requires : goal.ready_at-ready-requires

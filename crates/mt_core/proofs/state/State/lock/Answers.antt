@@ -2,7 +2,7 @@ use Rattle.std.proofs.Common.{◌≡◌, inl, inr, false, sym, ap, refl, ◌∙�
 use Rattle.mt_core.proofs.state.State.lock.Goals.{then-is_deleted-via-then-is_deleted, then-is_deleted-via-else-is_deleted+then-splits}
 use Rattle.mt_core.specs.Reads.{left}
 use Rattle.mt_core.proofs.Looks.{passed_done, by_progress, left_behind}
-use Rattle.mt_core.proofs.Holds.{lock_done, written_done, with_lock}
+use Rattle.mt_core.proofs.HoldsKey.{lock_done, written_done, with_lock}
 use Rattle.mt_core.specs.States.{core_of}
 use Rattle.mt_core.proofs.state.State.lock.Goals as goal
 

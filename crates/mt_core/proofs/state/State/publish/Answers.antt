@@ -1,6 +1,6 @@
 use Rattle.std.proofs.Common.{[], false, Some, ap, ◌∙◌}
 use Rattle.mt_core.specs.States.{core_of}
-use Rattle.mt_core.proofs.Holds.{full_done, counted_done, not_counted}
+use Rattle.mt_core.proofs.HoldsKey.{full_done, counted_done, not_counted}
 use Rattle.mt_core.proofs.Puts.{remembered, publish_reserved, publish_room, publish_entry, publish_missing, publish_done, publish_there}
 use Rattle.mt_core.proofs.state.State.publish.Goals as goal
 

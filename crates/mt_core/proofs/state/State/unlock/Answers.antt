@@ -2,7 +2,7 @@ use Rattle.std.proofs.Common.{ap, refl, ◌∙◌}
 use Rattle.mt_version.specs.Changes.{unlocked_parts}
 use Rattle.std.proofs.Common.{true}
 use Rattle.mt_core.specs.Operations.{ending}
-use Rattle.mt_core.proofs.Holds.{unlock_done, written_done}
+use Rattle.mt_core.proofs.HoldsKey.{unlock_done, written_done}
 use Rattle.mt_core.specs.States.{core_of}
 use Rattle.mt_core.proofs.state.State.unlock.Goals as goal
 

@@ -9,32 +9,32 @@ use Rattle.mt_rows.specs.Maps.{is_get}
 use Rattle.mt_rows.specs.Tenants.{tenant_map}
 use Rattle.mt_tape.specs.declared.entry.Entry.{Entry as TapeEntry}
 use Rattle.mt_tape.specs.Tapes.{Kept, RisesOver, last_write}
-use Rattle.mt_tape.specs.Histories.{IsLegal, IsUntouched, written_key}
-use Rattle.mt_border.specs.Entry.{IsStable}
+use Rattle.mt_tape.specs.Histories.{IsLegalTape, IsUnwrittenSince, written_key}
+use Rattle.mt_border.specs.Entry.{IsStablePair}
 use Rattle.mt_border.specs.Entries.{IsBorder}
 use Rattle.mt_border.specs.Node.{entries_of}
 use Rattle.mt_core.specs.declared.operation.Operation.{Operation}
 use Rattle.mt_core.specs.declared.operation.Progress.{Progress}
 use Rattle.mt_core.specs.declared.operation.Progress.TheVariants.{Judge, Store, Publish, Unlock, Finished}
 use Rattle.mt_border.specs.Contents.{owned, AreKeys, AllStamped}
-use Rattle.mt_core.specs.Views.{Core, shown, pairs_of, op_at, IsUnchangedSince, Grows}
-use Rattle.mt_core.specs.Kept.{ask, age, IsKept, IsOpen}
+use Rattle.mt_core.specs.Views.{Core, shown, pairs_of, op_at, IsUnchangedSince, KeepsPast}
+use Rattle.mt_core.specs.Kept.{ask, age, IsKept, IsOpenOperation}
 
 -- the tape: its steps rise and were made, and each entry tells what its step did
 pub record IsTape (c : Core) : Type 0 where
   pub rises : RisesOver c.tape.floor c.tape.entries
   pub made : last_write c.tape ≤ c.steps
-  pub legal : IsLegal c.tape.entries (pairs_of c)
+  pub legal : IsLegalTape c.tape.entries (pairs_of c)
 
 -- a step is the one that placed a key's row: it was made, the key was not written after it, and the tape has its write where it goes back so far
 abbrev pub IsStampOf : ℕ → Kept → ℕ × Bytes → ℕ → Type 0
-IsStampOf steps tape q s = (s ≤ steps) × IsUntouched tape.entries q s × (tape.floor < s → (e : TapeEntry) × Contains tape.entries e × (e.step ≡ s) × (written_key e ≡ q))
+IsStampOf steps tape q s = (s ≤ steps) × IsUnwrittenSince tape.entries q s × (tape.floor < s → (e : TapeEntry) × Contains tape.entries e × (e.step ≡ s) × (written_key e ≡ q))
 
 -- the node: its entries are pairs of stored keys, each placed by a step after which its key was not written, and no more inserts than steps
-pub record IsNode (c : Core) : Type 0 where
+pub record IsOnlyNode (c : Core) : Type 0 where
   pub border : IsBorder (entries_of c.node)
   pub keys : AreKeys [] 0 (entries_of c.node)
-  pub stable : All (λ e. IsStable e.held) (entries_of c.node)
+  pub stable : All (λ e. IsStablePair e.held) (entries_of c.node)
   pub stamped : AllStamped (IsStampOf c.steps c.tape) [] (entries_of c.node)
   pub whole : c.node.version.splitting ≡ false
   pub undeleted : c.node.version.deleted ≡ false
@@ -60,7 +60,7 @@ AreCounted c = (t : ℕ) (a : Account) → account_of c.accounts t ≡ Some a �
 
 -- what is kept of all operations
 abbrev pub AreKept : Core → Type 0
-AreKept c = (o : ℕ) (op : Operation) → op_at c.table o ≡ Some op → IsOpen c op × IsKept c o op op.progress
+AreKept c = (o : ℕ) (op : Operation) → op_at c.table o ≡ Some op → IsOpenOperation c op × IsKept c o op op.progress
 
 -- an operation with this next has a step left
 abbrev pub is_unfinished : Progress → Bool
@@ -81,9 +81,9 @@ pub record IsOnePut (c : Core) : Type 0 where
       → (length (entries_of c.node) < 15) ⊎ IsSome (get (pairs_of c) (owned op.key))
 
 -- the invariant
-pub record Sound (c : Core) : Type 0 where
+pub record StateInvariant (c : Core) : Type 0 where
   pub tape : IsTape c
-  pub node : IsNode c
+  pub node : IsOnlyNode c
   pub lock : IsLock c
   pub counts : AreCounted c
   pub ops : AreKept c
@@ -92,8 +92,8 @@ pub record Sound (c : Core) : Type 0 where
 
 -- What a step of operation o leaves to all others: the past stays; the slots stand while the version does, and where no map changed; a lock
 -- that another operation holds, with the node and the tape; and the node, where no number was given
-pub record Evolves (old new : Core) (o : ℕ) : Type 0 where
-  pub grows : Grows (shown old) (shown new)
+pub record StateGuarantee (old new : Core) (o : ℕ) : Type 0 where
+  pub grows : KeepsPast (shown old) (shown new)
   pub ages : age old ≤ age new
   pub stands : age old ≡ age new → new.node.slots ≡ old.node.slots
   pub unwritten : IsUnchangedSince (shown new) old.steps → new.node.slots ≡ old.node.slots

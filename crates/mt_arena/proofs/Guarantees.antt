@@ -7,17 +7,17 @@ use Rattle.mt_version.proofs.CallerLemmas as versions
 use Rattle.mt_arena.specs.declared.tree.Tree.{Tree}
 use Rattle.mt_arena.specs.declared.tree.Standing.{Standing}
 use Rattle.mt_arena.specs.declared.tree.Standing.TheVariants.{Made, Live, Dead}
-use Rattle.mt_arena.specs.Shape.{Shape, node_at}
+use Rattle.mt_arena.specs.NodeView.{NodeView, node_at}
 use Rattle.mt_arena.specs.Forests.{tree_at, no_tree}
-use Rattle.mt_arena.specs.Evolves.{Evolves, Changes, TreeChanges, IsUntouched, HasSameKeys, PointsOnly}
+use Rattle.mt_arena.specs.Guarantee.{NodesGuarantee, Changes, TreeChanges, IsUntouched, HasSameKeys, PointsOnly}
 use Rattle.mt_arena.proofs.Pairs.{here, there, last, before}
 use Rattle.mt_arena.proofs.Trees.{before_tree}
 
 -- a node that stays as it is
-pub untouched : (n : Shape) → IsUntouched n n
+pub untouched : (n : NodeView) → IsUntouched n n
 untouched n = record { holder = refl; version = refl; slots = refl; separators = refl; children = refl; next = refl; high = refl; reach = refl; parented = λ some. some; orphaned = λ none. none }
 
-untouched_on : (n m p : Shape) → IsUntouched n m → IsUntouched m p → IsUntouched n p
+untouched_on : (n m p : NodeView) → IsUntouched n m → IsUntouched m p → IsUntouched n p
 untouched_on n m p a b = record {
   holder = b.holder ∙ a.holder;
   version = b.version ∙ a.version;
@@ -31,10 +31,10 @@ untouched_on n m p a b = record {
   orphaned = λ none. b.orphaned (a.orphaned none);
 }
 
-pub same_keys : (n : Shape) → HasSameKeys n n
+pub same_keys : (n : NodeView) → HasSameKeys n n
 same_keys n = record { slots = refl; separators = refl; children = refl }
 
-same_keys_on : (n m p : Shape) → HasSameKeys n m → HasSameKeys m p → HasSameKeys n p
+same_keys_on : (n m p : NodeView) → HasSameKeys n m → HasSameKeys m p → HasSameKeys n p
 same_keys_on n m p a b = record { slots = b.slots ∙ a.slots; separators = b.separators ∙ a.separators; children = b.children ∙ a.children }
 
 -- a node that is live now was live
@@ -42,7 +42,7 @@ was_live : (a b : Bool) → (a ≡ true → b ≡ true) → b ≡ false → a �
 was_live true b stays live = absurd (let dead = stays refl in cc)
 was_live false b stays live = refl
 
-pub changes_none : (op : ℕ) (n : Shape) → Changes op n n
+pub changes_none : (op : ℕ) (n : NodeView) → Changes op n n
 changes_none op n = record {
   tree = refl;
   level = refl;
@@ -56,7 +56,7 @@ changes_none op n = record {
 }
 
 -- two changes, one after the other
-pub changes_on : (op : ℕ) (n m p : Shape) → Changes op n m → Changes op m p → Changes op n p
+pub changes_on : (op : ℕ) (n m p : NodeView) → Changes op n m → Changes op m p → Changes op n p
 changes_on op n m p a b = record {
   tree = b.tree ∙ a.tree;
   level = b.level ∙ a.level;
@@ -85,8 +85,8 @@ changes_on op n m p a b = record {
 pub tree_changes_none : (op : ℕ) (tree : Tree) → TreeChanges op tree tree
 tree_changes_none op tree = record { prefix = refl; dead = λ e. refl; made = λ q other e. refl; live = λ e q f. absurd (let both = sym e ∙ f in cc) }
 
-pub evolves_none : (op : ℕ) (nodes : List Shape) (trees : List Tree) → Evolves op nodes nodes trees trees
-evolves_none op nodes trees = record {
+pub guarantee_none : (op : ℕ) (nodes : List NodeView) (trees : List Tree) → NodesGuarantee op nodes nodes trees trees
+guarantee_none op nodes trees = record {
   count = omega arith;
   tree_count = omega arith;
   nodes = λ k lt. changes_none op (node_at nodes k);
@@ -118,9 +118,9 @@ tree_changes_on op a b c first second = record {
 }
 
 -- two steps, one after the other
-pub evolves_on : (op : ℕ) (old mid new : List Shape) (were between are : List Tree) → Evolves op old mid were between → Evolves op mid new between are → ((k : ℕ) → k < length old → (node_at old k).tree < length were)
-    → Evolves op old new were are
-evolves_on op old mid new were between are a b inside = record {
+pub guarantee_on : (op : ℕ) (old mid new : List NodeView) (were between are : List Tree) → NodesGuarantee op old mid were between → NodesGuarantee op mid new between are → ((k : ℕ) → k < length old → (node_at old k).tree < length were)
+    → NodesGuarantee op old new were are
+guarantee_on op old mid new were between are a b inside = record {
   count = omega (arith, a.count, b.count);
   tree_count = omega (arith, a.tree_count, b.tree_count);
   nodes = λ k lt. changes_on op (node_at old k) (node_at mid k) (node_at new k) (a.nodes k lt) (b.nodes k (omega (arith, lt, a.count)));
@@ -128,7 +128,7 @@ evolves_on op old mid new were between are a b inside = record {
   made = λ k q lt other e.
       let same = a.made k q lt other e in
       let stands = (a.trees (node_at old k).tree (inside k lt)).made q other e in
-      b.made k q (omega (arith, lt, a.count)) other (ap (λ (n : Shape). (tree_at between n.tree).standing) same ∙ ap (λ (t : Tree). t.standing) stands ∙ e) ∙ same;
+      b.made k q (omega (arith, lt, a.count)) other (ap (λ (n : NodeView). (tree_at between n.tree).standing) same ∙ ap (λ (t : Tree). t.standing) stands ∙ e) ∙ same;
   made_new = λ k q from lt other e. elim (cases_lt k (length mid)) [
     | inl was ↦ a.made_new k q from was other (ap (λ t. (tree_at were t).standing) (sym (b.nodes k was).tree) ∙ e)
     | inr new_one ↦
@@ -142,9 +142,9 @@ evolves_on op old mid new were between are a b inside = record {
 }
 
 -- one node changes, of a tree that no other operation is making
-pub evolves_set : (op : ℕ) (xs : List Shape) (trees : List Tree) (i : ℕ) (y : Shape) → i < length xs → Changes op (node_at xs i) y
-    → ((q : ℕ) → (tree_at trees (node_at xs i).tree).standing ≡ Made q → q ≡ op) → Evolves op xs (set xs i y) trees trees
-evolves_set op xs trees i y within change mine = record {
+pub guarantee_set : (op : ℕ) (xs : List NodeView) (trees : List Tree) (i : ℕ) (y : NodeView) → i < length xs → Changes op (node_at xs i) y
+    → ((q : ℕ) → (tree_at trees (node_at xs i).tree).standing ≡ Made q → q ≡ op) → NodesGuarantee op xs (set xs i y) trees trees
+guarantee_set op xs trees i y within change mine = record {
   count = omega (arith, length-set xs i y);
   tree_count = omega arith;
   nodes = λ k lt. elim (cases_eq k i) [
@@ -161,58 +161,58 @@ evolves_set op xs trees i y within change mine = record {
 }
 
 -- a node more, and a tree more with its root
-pub evolves_push : (op : ℕ) (xs : List Shape) (trees : List Tree) (y : Shape) → ((q : ℕ) → (tree_at trees y.tree).standing ≡ Made q → q ≡ op) → ((q : ℕ) → q ≢ op → y.holder ≢ Some q) → Evolves op xs (xs ++ y ∷ []) trees trees
-evolves_push op xs trees y mine holder = record {
+pub guarantee_push : (op : ℕ) (xs : List NodeView) (trees : List Tree) (y : NodeView) → ((q : ℕ) → (tree_at trees y.tree).standing ≡ Made q → q ≡ op) → ((q : ℕ) → q ≢ op → y.holder ≢ Some q) → NodesGuarantee op xs (xs ++ y ∷ []) trees trees
+guarantee_push op xs trees y mine holder = record {
   count = omega (arith, length-append xs (y ∷ []));
   tree_count = omega arith;
   nodes = λ k lt. rw (before xs y k lt) (changes_none op (node_at xs k));
   trees = λ t lt. tree_changes_none op (tree_at trees t);
   made = λ k q lt other e. before xs y k lt;
-  made_new = λ k q from lt other e. other (mine q (ap (λ (n : Shape). (tree_at trees n.tree).standing) (sym (last xs y)) ∙ ap (λ k. (tree_at trees (node_at (xs ++ y ∷ []) k).tree).standing) {x = length xs} {y = k} (omega (arith, from, lt, length-append xs (y ∷ []))) ∙ e));
-  taken_new = λ k q from lt other e. holder q other (ap (λ (n : Shape). n.holder) (sym (last xs y)) ∙ ap (λ k. (node_at (xs ++ y ∷ []) k).holder) {x = length xs} {y = k} (omega (arith, from, lt, length-append xs (y ∷ []))) ∙ e);
+  made_new = λ k q from lt other e. other (mine q (ap (λ (n : NodeView). (tree_at trees n.tree).standing) (sym (last xs y)) ∙ ap (λ k. (tree_at trees (node_at (xs ++ y ∷ []) k).tree).standing) {x = length xs} {y = k} (omega (arith, from, lt, length-append xs (y ∷ []))) ∙ e));
+  taken_new = λ k q from lt other e. holder q other (ap (λ (n : NodeView). n.holder) (sym (last xs y)) ∙ ap (λ k. (node_at (xs ++ y ∷ []) k).holder) {x = length xs} {y = k} (omega (arith, from, lt, length-append xs (y ∷ []))) ∙ e);
 }
 
-pub evolves_tree : (op : ℕ) (xs : List Shape) (trees : List Tree) (y : Shape) (u : Tree) → length trees ≤ y.tree → ((q : ℕ) → q ≢ op → y.holder ≢ Some q) → Evolves op xs (xs ++ y ∷ []) trees (trees ++ u ∷ [])
-evolves_tree op xs trees y u new_tree holder = record {
+pub guarantee_tree : (op : ℕ) (xs : List NodeView) (trees : List Tree) (y : NodeView) (u : Tree) → length trees ≤ y.tree → ((q : ℕ) → q ≢ op → y.holder ≢ Some q) → NodesGuarantee op xs (xs ++ y ∷ []) trees (trees ++ u ∷ [])
+guarantee_tree op xs trees y u new_tree holder = record {
   count = omega (arith, length-append xs (y ∷ []));
   tree_count = omega (arith, length-append trees (u ∷ []));
   nodes = λ k lt. rw (before xs y k lt) (changes_none op (node_at xs k));
   trees = λ t lt. rw (before_tree trees u t lt) (tree_changes_none op (tree_at trees t));
   made = λ k q lt other e. before xs y k lt;
-  made_new = λ k q from lt other e. omega (arith, new_tree, made_there trees y.tree q (ap (λ (n : Shape). (tree_at trees n.tree).standing) (sym (last xs y)) ∙ ap (λ k. (tree_at trees (node_at (xs ++ y ∷ []) k).tree).standing) {x = length xs} {y = k} (omega (arith, from, lt, length-append xs (y ∷ []))) ∙ e));
-  taken_new = λ k q from lt other e. holder q other (ap (λ (n : Shape). n.holder) (sym (last xs y)) ∙ ap (λ k. (node_at (xs ++ y ∷ []) k).holder) {x = length xs} {y = k} (omega (arith, from, lt, length-append xs (y ∷ []))) ∙ e);
+  made_new = λ k q from lt other e. omega (arith, new_tree, made_there trees y.tree q (ap (λ (n : NodeView). (tree_at trees n.tree).standing) (sym (last xs y)) ∙ ap (λ k. (tree_at trees (node_at (xs ++ y ∷ []) k).tree).standing) {x = length xs} {y = k} (omega (arith, from, lt, length-append xs (y ∷ []))) ∙ e));
+  taken_new = λ k q from lt other e. holder q other (ap (λ (n : NodeView). n.holder) (sym (last xs y)) ∙ ap (λ k. (node_at (xs ++ y ∷ []) k).holder) {x = length xs} {y = k} (omega (arith, from, lt, length-append xs (y ∷ []))) ∙ e);
 }
 
 -- one node changes and names the same neighbours and the same parent, or others that the operation holds
-pub record PointsSo (op : ℕ) (nodes : List Shape) (x y : Shape) : Type 0 where
+pub record PointsSo (op : ℕ) (nodes : List NodeView) (x y : NodeView) : Type 0 where
   pub previous : (j : ℕ) → y.previous ≡ Some j → (node_at nodes j).holder ≢ Some op → x.previous ≡ Some j
   pub parent : (j : ℕ) → y.parent ≡ Some j → (node_at nodes j).holder ≢ Some op → x.parent ≡ Some j
 
-pub points_set : (op : ℕ) (xs : List Shape) (i : ℕ) (y : Shape) → i < length xs → PointsSo op (set xs i y) (node_at xs i) y → PointsOnly op xs (set xs i y)
+pub points_set : (op : ℕ) (xs : List NodeView) (i : ℕ) (y : NodeView) → i < length xs → PointsSo op (set xs i y) (node_at xs i) y → PointsOnly op xs (set xs i y)
 points_set op xs i y within so = record {
   previous = λ k j lt _ e not_mine. elim (cases_eq k i) [
-    | inl same ↦ ap (λ k. (node_at xs k).previous) same ∙ so.previous j (ap (λ (n : Shape). n.previous) (sym (here xs i y within)) ∙ ap (λ k. (node_at (set xs i y) k).previous) (sym same) ∙ e) not_mine
-    | inr differ ↦ ap (λ (n : Shape). n.previous) (sym (there xs i k y differ)) ∙ e
+    | inl same ↦ ap (λ k. (node_at xs k).previous) same ∙ so.previous j (ap (λ (n : NodeView). n.previous) (sym (here xs i y within)) ∙ ap (λ k. (node_at (set xs i y) k).previous) (sym same) ∙ e) not_mine
+    | inr differ ↦ ap (λ (n : NodeView). n.previous) (sym (there xs i k y differ)) ∙ e
   ];
   parent = λ k j lt _ e not_mine. elim (cases_eq k i) [
-    | inl same ↦ ap (λ k. (node_at xs k).parent) same ∙ so.parent j (ap (λ (n : Shape). n.parent) (sym (here xs i y within)) ∙ ap (λ k. (node_at (set xs i y) k).parent) (sym same) ∙ e) not_mine
-    | inr differ ↦ ap (λ (n : Shape). n.parent) (sym (there xs i k y differ)) ∙ e
+    | inl same ↦ ap (λ k. (node_at xs k).parent) same ∙ so.parent j (ap (λ (n : NodeView). n.parent) (sym (here xs i y within)) ∙ ap (λ k. (node_at (set xs i y) k).parent) (sym same) ∙ e) not_mine
+    | inr differ ↦ ap (λ (n : NodeView). n.parent) (sym (there xs i k y differ)) ∙ e
   ];
   new_previous = λ k j from lt. absurd (omega (arith, from, lt, length-set xs i y));
   new_parent = λ k j from lt. absurd (omega (arith, from, lt, length-set xs i y));
 }
 
 -- a new node names nobody
-pub points_push : (op : ℕ) (xs : List Shape) (y : Shape) → y.previous ≡ None → y.parent ≡ None → PointsOnly op xs (xs ++ y ∷ [])
+pub points_push : (op : ℕ) (xs : List NodeView) (y : NodeView) → y.previous ≡ None → y.parent ≡ None → PointsOnly op xs (xs ++ y ∷ [])
 points_push op xs y previous parent =
     let size : length (xs ++ y ∷ []) ≡ length xs + 1 = length-append xs (y ∷ []) in
     record {
-      previous = λ k j lt _ e not_mine. ap (λ (n : Shape). n.previous) (sym (before xs y k lt)) ∙ e;
-      parent = λ k j lt _ e not_mine. ap (λ (n : Shape). n.parent) (sym (before xs y k lt)) ∙ e;
+      previous = λ k j lt _ e not_mine. ap (λ (n : NodeView). n.previous) (sym (before xs y k lt)) ∙ e;
+      parent = λ k j lt _ e not_mine. ap (λ (n : NodeView). n.parent) (sym (before xs y k lt)) ∙ e;
       new_previous = λ k j from lt _ e.
           let is : k ≡ length xs = omega arith in
-          absurd (let at = sym previous ∙ ap (λ (n : Shape). n.previous) (sym (last xs y)) ∙ ap (λ k. (node_at (xs ++ y ∷ []) k).previous) (sym is) ∙ e in cc);
+          absurd (let at = sym previous ∙ ap (λ (n : NodeView). n.previous) (sym (last xs y)) ∙ ap (λ k. (node_at (xs ++ y ∷ []) k).previous) (sym is) ∙ e in cc);
       new_parent = λ k j from lt _ e.
           let is : k ≡ length xs = omega arith in
-          absurd (let at = sym parent ∙ ap (λ (n : Shape). n.parent) (sym (last xs y)) ∙ ap (λ k. (node_at (xs ++ y ∷ []) k).parent) (sym is) ∙ e in cc);
+          absurd (let at = sym parent ∙ ap (λ (n : NodeView). n.parent) (sym (last xs y)) ∙ ap (λ k. (node_at (xs ++ y ∷ []) k).parent) (sym is) ∙ e in cc);
     }

@@ -17,7 +17,7 @@ use Rattle.mt_rows.specs.Changes.{changed}
 use Rattle.mt_rows.specs.Tenants.{tenant_map}
 use Rattle.mt_version.specs.Parts.{Parts}
 use Rattle.mt_version.specs.Changes.{unlocked_parts}
-use Rattle.mt_border.specs.declared.entry.Kind.TheVariants.{ThisKey}
+use Rattle.mt_border.specs.declared.entry.FoundKind.TheVariants.{ThisKey}
 use Rattle.mt_border.specs.Entry.{pair_of}
 use Rattle.mt_border.specs.Entries.{IsMissing}
 use Rattle.mt_border.specs.Node.{Node, IsFound, entries_of, entry_at}
@@ -27,9 +27,9 @@ use Rattle.mt_core.specs.declared.operation.Operation.{Operation}
 use Rattle.mt_core.specs.declared.operation.Progress.{Progress}
 use Rattle.mt_core.specs.declared.operation.Progress.TheVariants.{Lock, Judge, Store, Publish, Unlock, Finished}
 use Rattle.mt_core.specs.Operations.{moved, steps_to}
-use Rattle.mt_core.specs.Views.{Core, View, Table, shown, pairs_of, op_at, map_of, quota_of, quota_in}
+use Rattle.mt_core.specs.Views.{Core, StateView, Table, shown, pairs_of, op_at, map_of, quota_of, quota_in}
 use Rattle.mt_core.specs.Kept.{ask, change_of, IsAtLock, IsAtJudge, IsReady, IsAtPublish, IsAtUnlock, IsKept}
-use Rattle.mt_core.specs.Sound.{Sound, has_lock, is_unfinished, is_unplaced}
+use Rattle.mt_core.specs.Invariant.{StateInvariant, has_lock, is_unfinished, is_unplaced}
 use Rattle.mt_core.specs.Promises.{MayFollow, IsNext, change_in}
 use Rattle.mt_core.specs.Reads.{TellsPrepared, IsPrepared, CountsNew}
 use Rattle.mt_border.proofs.ContentsKeys.{in_top_tree, has_found_key}
@@ -46,7 +46,7 @@ none_some o q holder none some = absurd (by (sym none ∙ some))
     by e = cc
 
 -- the same of the node and the tape that the code has
-pub written_done : (c : Core) (now : View) (o : ℕ) (version : Parts) (holder : Option ℕ) (reserved : ℕ) (table : Table) (done : Bool) (node : Node) (tape : Kept) (wrote : Parts)
+pub written_done : (c : Core) (now : StateView) (o : ℕ) (version : Parts) (holder : Option ℕ) (reserved : ℕ) (table : Table) (done : Bool) (node : Node) (tape : Kept) (wrote : Parts)
     → Gives now (quiet c version holder reserved table) o done → node ≡ record c.node { version = wrote } → wrote ≡ version → tape ≡ record c.tape { reserved = reserved }
     → Gives now (record { steps = c.steps + 1; logs = c.logs; accounts = c.accounts; node = node; holder = holder; tape = tape; table = table }) o done
 written_done c now o version holder reserved table done node tape wrote g n w t =
@@ -54,7 +54,7 @@ written_done c now o version holder reserved table done node tape wrote g n w t 
     subst (λ x. P x tape) (sym n) (subst (λ y. P (record c.node { version = wrote }) y) (sym t) (subst (λ v. P (record c.node { version = v }) (record c.tape { reserved = reserved })) (sym w) g))
 
 -- the same of the accounts and the tape that the code has
-pub counted_done : (c : Core) (now : View) (o : ℕ) (reserved : ℕ) (table : Table) (done : Bool) (accounts : Accounts) (tape : Kept)
+pub counted_done : (c : Core) (now : StateView) (o : ℕ) (reserved : ℕ) (table : Table) (done : Bool) (accounts : Accounts) (tape : Kept)
     → Gives now (quiet c c.node.version c.holder reserved table) o done → accounts ≡ c.accounts → tape ≡ record c.tape { reserved = reserved }
     → Gives now (record { steps = c.steps + 1; logs = c.logs; accounts = accounts; node = c.node; holder = c.holder; tape = tape; table = table }) o done
 counted_done c now o reserved table done accounts tape g a t =
@@ -66,7 +66,7 @@ abbrev pub with_lock : Parts → Parts
 with_lock v = record v { locked = true }
 
 -- an operation takes the lock that nobody holds
-locks : (c : Core) (o : ℕ) → Sound c → ((q : ℕ) → c.holder ≡ Some q → ⊥) → KeepsLock c o (record c.node.version { locked = true }) (Some o) c.tape.reserved Judge
+locks : (c : Core) (o : ℕ) → StateInvariant c → ((q : ℕ) → c.holder ≡ Some q → ⊥) → KeepsLock c o (record c.node.version { locked = true }) (Some o) c.tape.reserved Judge
 locks c o h free = record {
   whole = h.node.whole;
   undeleted = h.node.undeleted;
@@ -79,7 +79,7 @@ locks c o h free = record {
 }
 
 -- a node that nobody holds is not marked
-free_unmarked : (c : Core) → Sound c → ((q : ℕ) → c.holder ≡ Some q → ⊥) → c.node.version.inserting ≡ false
+free_unmarked : (c : Core) → StateInvariant c → ((q : ℕ) → c.holder ≡ Some q → ⊥) → c.node.version.inserting ≡ false
 free_unmarked c h free = by c.node.version.inserting refl c.holder refl
   where
     by : (b : Bool) → c.node.version.inserting ≡ b → (holder : Option ℕ) → c.holder ≡ holder → b ≡ false
@@ -100,7 +100,7 @@ unlocked_age n false true e = absurd (cc)
 unlocked_age n true false e = omega arith
 unlocked_age n false false e = omega arith
 
-unlocks : (c : Core) (o : ℕ) (next : Progress) → Sound c → c.holder ≡ Some o → KeepsLock c o (unlocked_parts c.node.version) None c.tape.reserved next
+unlocks : (c : Core) (o : ℕ) (next : Progress) → StateInvariant c → c.holder ≡ Some o → KeepsLock c o (unlocked_parts c.node.version) None c.tape.reserved next
 unlocks c o next h mine = record {
   whole = refl;
   undeleted = h.node.undeleted;
@@ -113,7 +113,7 @@ unlocks c o next h mine = record {
 }
 
 -- the holder goes on with the lock, and with more or less room in the tape
-goes_on : (c : Core) (o : ℕ) (reserved : ℕ) (next : Progress) → Sound c → c.holder ≡ Some o → has_lock next ≡ true → KeepsLock c o c.node.version c.holder reserved next
+goes_on : (c : Core) (o : ℕ) (reserved : ℕ) (next : Progress) → StateInvariant c → c.holder ≡ Some o → has_lock next ≡ true → KeepsLock c o c.node.version c.holder reserved next
 goes_on c o reserved next h mine has = record {
   whole = h.node.whole;
   undeleted = h.node.undeleted;
@@ -125,12 +125,12 @@ goes_on c o reserved next h mine has = record {
   held = λ q held. inl (same_Some _ _ (sym held ∙ mine), has);
 }
 
-module _ (c : Core) (now : View) (o : ℕ) (table : Table) (is : shown c ≡ now) (h : Sound c) (room : now.steps < 2 ^ 59) where
+module _ (c : Core) (now : StateView) (o : ℕ) (table : Table) (is : shown c ≡ now) (h : StateInvariant c) (room : now.steps < 2 ^ 59) where
   few : c.steps < 2 ^ 59
-  few = subst (λ (v : View). v.steps < 2 ^ 59) (sym is) room
+  few = subst (λ (v : StateView). v.steps < 2 ^ 59) (sym is) room
 
   there_is : (next : Progress) (n : IsNext now o next) → op_at c.table o ≡ Some n.0
-  there_is next n = ap (λ (v : View). op_at v.table o) is ∙ n.1
+  there_is next n = ap (λ (v : StateView). op_at v.table o) is ∙ n.1
 
   kept_is : (next : Progress) (n : IsNext now o next) → IsKept c o n.0 next
   kept_is next n = subst (IsKept c o n.0) n.2 (h.ops o n.0 (there_is next n)).1

@@ -4,11 +4,11 @@ use Rattle.mt_version.specs.Changes.{Ages, range_age, insert_age}
 use Rattle.mt_interior.specs.Fences.{end_of}
 use Rattle.mt_arena.specs.declared.tree.Tree.{Tree}
 use Rattle.mt_arena.specs.declared.tree.Standing.TheVariants.{Made, Live, Dead}
-use Rattle.mt_arena.specs.Shape.{Shape, node_at}
+use Rattle.mt_arena.specs.NodeView.{NodeView, node_at}
 use Rattle.mt_arena.specs.Forests.{tree_at}
 
 -- what a node keeps that another operation holds: all but its neighbour before it and its parent, and some parent where it has one
-pub record IsUntouched (n m : Shape) : Type 0 where
+pub record IsUntouched (n m : NodeView) : Type 0 where
   pub holder : m.holder ≡ n.holder
   pub version : m.version ≡ n.version
   pub slots : m.slots ≡ n.slots
@@ -21,13 +21,13 @@ pub record IsUntouched (n m : Shape) : Type 0 where
   pub orphaned : n.parent ≡ None → m.parent ≡ None
 
 -- what stands while the version does
-pub record HasSameKeys (n m : Shape) : Type 0 where
+pub record HasSameKeys (n m : NodeView) : Type 0 where
   pub slots : m.slots ≡ n.slots
   pub separators : m.separators ≡ n.separators
   pub children : m.children ≡ n.children
 
 -- how a node may change in a step of operation op
-pub record Changes (op : ℕ) (n m : Shape) : Type 0 where
+pub record Changes (op : ℕ) (n m : NodeView) : Type 0 where
   pub tree : m.tree ≡ n.tree
   pub level : m.level ≡ n.level
   pub low : m.low ≡ n.low
@@ -50,7 +50,7 @@ pub record TreeChanges (op : ℕ) (tree after : Tree) : Type 0 where
   pub live : tree.standing ≡ Live → (q : ℕ) → after.standing ≢ Made q
 
 -- what a step of operation op may change
-pub record Evolves (op : ℕ) (old new : List Shape) (were are : List Tree) : Type 0 where
+pub record NodesGuarantee (op : ℕ) (old new : List NodeView) (were are : List Tree) : Type 0 where
   pub count : length old ≤ length new
   pub tree_count : length were ≤ length are
   pub nodes : (k : ℕ) → k < length old → Changes op (node_at old k) (node_at new k)
@@ -62,7 +62,7 @@ pub record Evolves (op : ℕ) (old new : List Shape) (were are : List Tree) : Ty
   pub taken_new : (k q : ℕ) → length old ≤ k → k < length new → q ≢ op → (node_at new k).holder ≢ Some q
 
 -- neighbours before and parents come to be named by this operation alone: each is as it was, or names a node that it holds
-pub record PointsOnly (op : ℕ) (old new : List Shape) : Type 0 where
+pub record PointsOnly (op : ℕ) (old new : List NodeView) : Type 0 where
   pub previous : (k j : ℕ) → k < length old → j < length old → (node_at new k).previous ≡ Some j → (node_at new j).holder ≢ Some op → (node_at old k).previous ≡ Some j
   pub parent : (k j : ℕ) → k < length old → j < length old → (node_at new k).parent ≡ Some j → (node_at new j).holder ≢ Some op → (node_at old k).parent ≡ Some j
   pub new_previous : (k j : ℕ) → length old ≤ k → k < length new → j < length old → (node_at new k).previous ≡ Some j → (node_at new j).holder ≡ Some op

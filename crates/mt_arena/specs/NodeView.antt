@@ -4,13 +4,13 @@ use Rattle.mt_version.specs.Parts.{Parts, fresh_parts}
 use Rattle.mt_border.specs.declared.entry.Entry.{Entry}
 use Rattle.mt_border.specs.Node.{Node as BorderNode}
 use Rattle.mt_interior.specs.Node.{InteriorNode}
-use Rattle.mt_arena.specs.declared.node.Kind.{Kind}
-use Rattle.mt_arena.specs.declared.node.Kind.TheVariants.{Leaf, Inner}
+use Rattle.mt_arena.specs.declared.node.NodeKind.{NodeKind}
+use Rattle.mt_arena.specs.declared.node.NodeKind.TheVariants.{Leaf, Inner}
 
 -- The low fence is the least slice of its range, and the high one the least behind it. Its reach is the end of the range that its
 -- parent gives it: the high fence, but for a node whose right half is in no parent yet. Border nodes have level 0. A border node has
 -- slots and neighbours, an interior one separators and children.
-pub record Shape : Type 0 where
+pub record NodeView : Type 0 where
   pub slots : List Entry
   pub separators : List ℕ
   pub children : List ℕ
@@ -26,8 +26,8 @@ pub record Shape : Type 0 where
   pub holder : Option ℕ
 
 -- a border node, and an interior one
-abbrev pub border_shape : BorderNode → ℕ → ℕ → Option ℕ → Option ℕ → Shape
-border_shape b tree level reach holder = record {
+abbrev pub border_view : BorderNode → ℕ → ℕ → Option ℕ → Option ℕ → NodeView
+border_view b tree level reach holder = record {
   slots = b.slots;
   separators = [];
   children = [];
@@ -43,8 +43,8 @@ border_shape b tree level reach holder = record {
   holder = holder;
 }
 
-abbrev pub interior_shape : InteriorNode → ℕ → ℕ → Option ℕ → Option ℕ → Shape
-interior_shape i tree level reach holder = record {
+abbrev pub interior_view : InteriorNode → ℕ → ℕ → Option ℕ → Option ℕ → NodeView
+interior_view i tree level reach holder = record {
   slots = [];
   separators = i.separators;
   children = i.children;
@@ -60,17 +60,17 @@ interior_shape i tree level reach holder = record {
   holder = holder;
 }
 
-abbrev pub shape_of : Kind → ℕ → ℕ → Option ℕ → Option ℕ → Shape
-shape_of (Leaf b) tree level reach holder = border_shape b tree level reach holder
-shape_of (Inner i) tree level reach holder = interior_shape i tree level reach holder
+abbrev pub node_view : NodeKind → ℕ → ℕ → Option ℕ → Option ℕ → NodeView
+node_view (Leaf b) tree level reach holder = border_view b tree level reach holder
+node_view (Inner i) tree level reach holder = interior_view i tree level reach holder
 
 -- a border node has level 0, and an interior one is above it
-abbrev pub IsOfKind : Kind → ℕ → Type 0
+abbrev pub IsOfKind : NodeKind → ℕ → Type 0
 IsOfKind (Leaf b) level = level ≡ 0
 IsOfKind (Inner i) level = 0 < level
 
 -- what a read behind the last node gives
-abbrev pub no_node : Shape
+abbrev pub no_node : NodeView
 no_node = record {
   slots = [];
   separators = [];
@@ -88,5 +88,5 @@ no_node = record {
 }
 
 -- the node of a number
-abbrev pub node_at : List Shape → ℕ → Shape
+abbrev pub node_at : List NodeView → ℕ → NodeView
 node_at nodes k = slice_index_or nodes k no_node
