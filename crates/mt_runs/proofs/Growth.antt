@@ -59,6 +59,8 @@ right_asked quotas first story map_at changed o what r = record {
     what = h.what;
     asked_so = asked_stays story o what q h.what h.asked_so;
     command = h.command;
+    first = h.first;
+    last = h.last;
     since = h.since;
     upto = h.upto;
     looked = h.looked;
@@ -105,14 +107,17 @@ module _ (quotas : Quotas) (first : Maps) (story : Story) (map_at now_at : ℕ �
       }
 
   -- and so is an old answer
-  answer_stays : (q : ℕ) (a : Answer) → IsAnswered quotas story map_at changed q a → IsAnswered quotas (with_step story o answer) now_at now_changed q a
-  answer_stays q a h =
+  answer_stays : (q : ℕ) (a : Answer) → Finished story q a → IsAnswered quotas story map_at changed q a → IsAnswered quotas (with_step story o answer) now_at now_changed q a
+  answer_stays q a done h =
+      let other : (q ≡ o) → ⊥ = λ is. g.open_still a (subst (λ n. Finished story n a) is done) in
       let since : is_placed a ≡ true → story.base ≤ a.at = λ placed. let s = h.since placed in omega (arith, (owner_in story s.0 q s.2).0) in
       let upto : is_placed a ≡ true → a.at ≤ last_step story = λ placed. let u = h.upto placed in omega (arith, (owner_in story u.0 q u.2).1) in
       record {
         what = h.what;
         asked_so = h.asked_so;
         command = h.command;
+        first = (owner_stays story o answer a.first q h.first.0, λ m own. elim (owner_cases story o answer m q own) [ inl (le, was) ↦ h.first.1 m was | inr (last, is) ↦ absurd (other is) ]);
+        last = (owner_stays story o answer a.last q h.last.0, λ m own. elim (owner_cases story o answer m q own) [ inl (le, was) ↦ h.last.1 m was | inr (last, is) ↦ absurd (other is) ]);
         since = λ placed. let s = h.since placed in (s.0, s.1, owner_stays story o answer s.0 q s.2);
         upto = λ placed. let u = h.upto placed in (u.0, u.1, owner_stays story o answer u.0 q u.2);
         looked = λ placed look. h.looked placed look ∙ ap (reply_in quotas h.what) (sym (same_maps a.at (since placed) (upto placed)));
@@ -189,7 +194,7 @@ module _ (quotas : Quotas) (first : Maps) (story : Story) (map_at now_at : ℕ �
     one_end = both_ends;
     last_end = last_ends;
     answers = λ q a done. elim (finished_cases story o answer q a done) [
-      | inl before ↦ answer_stays q a (r.answers q a before)
+      | inl before ↦ answer_stays q a before (r.answers q a before)
       | inr (is, now) ↦ subst (λ n. IsAnswered quotas (with_step story o answer) now_at now_changed n a) (sym is) (g.answered a now)
     ];
     scans = λ q a w done asked_w. elim (finished_cases story o answer q a done) [
