@@ -1,15 +1,14 @@
 -- A run's story by its last event: it stays, an operation was begun, or a step was made.
-use Rattle.std.proofs.Common.{◌≡◌, ℕ, Bool, true, false, cond, eqb, List, [], ◌∷◌, ◌++◌, Option, Some, None, sym, refl, ap, ◌∙◌}
+use Rattle.std.proofs.Common.{◌≡◌, ℕ, List, [], ◌∷◌, ◌++◌, Option, Some, None, refl, ap, ◌∙◌}
 use mathlib.Core.Path.{fun_ext}
-use Rattle.std.specs.List.{filter_map, cons_option}
+use Rattle.std.specs.List.{cons_option}
 use Rattle.std.proofs.lemmas.List.{append-nil}
 use Rattle.std.proofs.lemmas.List.Elements.{filter_map-append}
 use Rattle.mt_rows.specs.declared.command.Command.{Command}
-use Rattle.mt_rows.specs.declared.refusal.Refusal.{Refusal}
 use Rattle.mt_runs.specs.declared.event.Event.{Event}
 use Rattle.mt_runs.specs.declared.event.Event.TheVariants.{Begin, Step}
 use Rattle.mt_runs.specs.declared.event.Told.{Told}
-use Rattle.mt_runs.specs.declared.event.Told.TheVariants.{Begun, Refused, NoSuch, Moved, Again, NoMemory, Spent, Done}
+use Rattle.mt_runs.specs.declared.event.Told.TheVariants.{Begun, Moved, Done}
 use Rattle.mt_runs.specs.declared.event.Answer.{Answer}
 use Rattle.mt_runs.specs.Runs.{Run, Story, Asked, Made, numbered, steps_of, asked_by, first_of, asked, story_of, with_begin, with_step}
 

@@ -31,7 +31,8 @@ none_of : {X : Type 0} (xs : List X) → AllByRecursion (λ x. ⊥) xs → xs �
 none_of [] h = refl
 none_of (x ∷ xs) h = absurd h.0
 
-change_remembered : (r : Reply) → is_change r ≡ true → is_no_memory r ≡ false
+-- a reply that tells of a change is not the one of a refused growth
+pub change_remembered : (r : Reply) → is_change r ≡ true → is_no_memory r ≡ false
 change_remembered New e = refl
 change_remembered NoMemory e = absurd (cc)
 change_remembered _ e = refl

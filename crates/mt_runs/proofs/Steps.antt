@@ -42,11 +42,11 @@ owner_in story m o e = by (step_of story m) refl e
 pub owner-before : (story : Story) (m : ℕ) → m ≤ story.base → owner story m ≡ None
 owner-before story m le = ap (option_map (λ (s : Made). s.op)) (step_at-before story.base story.steps m le)
 
--- a list with one more item
-get_before : (xs : List Made) (x : Made) (i : ℕ) → i < length xs → slice_get (xs ++ x ∷ []) i ≡ slice_get xs i
-get_before [] x i lt = absurd (omega arith)
-get_before (y ∷ xs) x zero lt = refl
-get_before (y ∷ xs) x (suc i) lt = get_before xs x i (omega arith)
+-- a list with more items behind
+get_before : (xs more : List Made) (i : ℕ) → i < length xs → slice_get (xs ++ more) i ≡ slice_get xs i
+get_before [] more i lt = absurd (omega arith)
+get_before (y ∷ xs) more zero lt = refl
+get_before (y ∷ xs) more (suc i) lt = get_before xs more i (omega arith)
 
 get_last : (xs : List Made) (x : Made) (i : ℕ) → i ≡ length xs → slice_get (xs ++ x ∷ []) i ≡ Some x
 get_last [] x zero e = refl
@@ -54,10 +54,11 @@ get_last [] x (suc i) e = absurd (omega arith)
 get_last (y ∷ xs) x zero e = absurd (omega arith)
 get_last (y ∷ xs) x (suc i) e = get_last xs x i (omega arith)
 
-step_at-old : (base : ℕ) (steps : List Made) (x : Made) (m : ℕ) → m ≤ base + length steps → step_at base (steps ++ x ∷ []) m ≡ step_at base steps m
-step_at-old base steps x zero le = refl
-step_at-old zero steps x (suc k) le = get_before steps x k (omega arith)
-step_at-old (suc base) steps x (suc k) le = step_at-old base steps x k (omega arith)
+-- a step stays where more steps follow
+pub step_at-before_more : (base : ℕ) (steps more : List Made) (m : ℕ) → m ≤ base + length steps → step_at base (steps ++ more) m ≡ step_at base steps m
+step_at-before_more base steps more zero le = refl
+step_at-before_more zero steps more (suc k) le = get_before steps more k (omega arith)
+step_at-before_more (suc base) steps more (suc k) le = step_at-before_more base steps more k (omega arith)
 
 module _ (story : Story) (o : ℕ) (answer : Option Answer) where
   -- the new step has the next number
@@ -66,7 +67,7 @@ module _ (story : Story) (o : ℕ) (answer : Option Answer) where
 
   -- an old step stays
   pub old_step : (m : ℕ) → m ≤ last_step story → step_of (with_step story o answer) m ≡ step_of story m
-  old_step m le = step_at-old story.base story.steps (record { op = o; answer = answer }) m le
+  old_step m le = step_at-before_more story.base story.steps (record { op = o; answer = answer } ∷ []) m le
 
   -- and the new one is o's
   pub new_step : (m : ℕ) → m ≡ suc (last_step story) → step_of (with_step story o answer) m ≡ Some (record { op = o; answer = answer })
