@@ -26,7 +26,6 @@ right_start quotas first base map_at changed begun =
       stays = λ m t from le e. absurd (omega arith);
       changes = λ m from le e. absurd (omega arith);
       once = λ m n o e f own owns. absurd (unowned m o own);
-      one_end = λ m n o a b e f. absurd (unfinished o a (m, e));
       last_end = λ m k o a e own. absurd (unfinished o a (m, e));
       answers = λ o answer done. absurd (unfinished o answer done);
       scans = λ o answer a done asked_a. absurd (unfinished o answer done);
@@ -53,7 +52,6 @@ right_asked quotas first story map_at changed o what r = record {
     told = c.told;
   };
   once = r.once;
-  one_end = r.one_end;
   last_end = r.last_end;
   answers = λ q a done. let h = r.answers q a done in record {
     what = h.what;
@@ -140,19 +138,6 @@ module _ (quotas : Quotas) (first : Maps) (story : Story) (map_at now_at : ℕ �
       by (inl (le, at)) (inr (last, is)) = absurd (never m n e f le at last is)
       by (inr (last, is)) (inl (le, at)) = absurd (never n m f e le at last is)
 
-  -- two steps that ended one operation are one
-  both_ends : (m n q : ℕ) (a b : Answer) → step_of (with_step story o answer) m ≡ Some (record { op = q; answer = Some a }) → step_of (with_step story o answer) n ≡ Some (record { op = q; answer = Some b }) → m ≡ n
-  both_ends m n q a b e f = by (step_cases story o answer m _ e) (step_cases story o answer n _ f)
-    where
-      never : (k : ℕ) (w v : Answer) → step_of story k ≡ Some (record { op = q; answer = Some w }) → ◌≡◌ {A = Made} (record { op = q; answer = Some v }) (record { op = o; answer = answer }) → ⊥
-      never k w v at same = let is : q ≡ o = ap (λ (s : Made). s.op) same in g.open_still w (subst (λ n. Finished story n w) is (k, at))
-
-      by : EndsAt story o answer q m a → EndsAt story o answer q n b → m ≡ n
-      by (inl (le, at)) (inl (lo, too)) = r.one_end m n q a b at too
-      by (inr (last, is)) (inr (end, so)) = last ∙ sym end
-      by (inl (le, at)) (inr (last, is)) = absurd (never m a b at is)
-      by (inr (last, is)) (inl (le, at)) = absurd (never n b a at is)
-
   -- an operation's end is its last step
   last_ends : (m k q : ℕ) (a : Answer) → step_of (with_step story o answer) m ≡ Some (record { op = q; answer = Some a }) → owner (with_step story o answer) k ≡ Some q → k ≤ m
   last_ends m k q a e own = by (step_cases story o answer m _ e) (owner_cases story o answer k q own)
@@ -191,7 +176,6 @@ module _ (quotas : Quotas) (first : Maps) (story : Story) (map_at now_at : ℕ �
           subst (IsChangeAfter quotas (with_step story o answer) now_at) last (g.change (subst (λ n. now_changed (suc n) ≡ true) (sym last) e))
     ];
     once = both_changes;
-    one_end = both_ends;
     last_end = last_ends;
     answers = λ q a done. elim (finished_cases story o answer q a done) [
       | inl before ↦ answer_stays q a before (r.answers q a before)

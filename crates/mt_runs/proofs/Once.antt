@@ -113,18 +113,26 @@ module _ (story : Story) where
     stands_share o m (inr (answer, done, look)) = omega (arith, count_of-append o (change_here story changed m) (looks_here story m), look_counted o m answer done look)
 
 module _ (quotas : Quotas) (first : Maps) (story : Story) (map_at : ℕ → ℕ → Map) (changed : ℕ → Bool) (r : Right quotas first story map_at changed) where
-  -- an operation has one answer
+  -- an operation ends at one step, for none of its steps follows an end
+  one_end : (m n o : ℕ) (a b : Answer) → step_of story m ≡ Some (record { op = o; answer = Some a }) → step_of story n ≡ Some (record { op = o; answer = Some b }) → m ≡ n
+  one_end m n o a b e f =
+      let owner_of : Option Made → Option ℕ = option_map (λ s. s.op) in
+      let up : n ≤ m = r.last_end m n o a e (ap owner_of f) in
+      let down : m ≤ n = r.last_end n m o b f (ap owner_of e) in
+      omega arith
+
+  -- so it has one answer
   pub one_answer : (o : ℕ) (a b : Answer) → Finished story o a → Finished story o b → a ≡ b
   unfolding answer_of
   one_answer o a b (k, e) (l, f) =
-      let same : k ≡ l = r.one_end k l o a b e f in
+      let same : k ≡ l = one_end k l o a b e f in
       same_Some a b (sym (ap answer_of e) ∙ ap (λ n. answer_of (step_of story n)) same ∙ ap answer_of f)
 
   looks_at_most_one : (o m : ℕ) → count_of o (looks_here story m) ≤ 1
   looks_at_most_one o m = subst (λ n. n ≤ 1) (sym (looks_count story o m)) (counted_once (looks_for o m) story.steps (λ i j s t at_i at_j pi pj.
       let x = look_step story o m i s at_i pi in
       let y = look_step story o m j t at_j pj in
-      let same : suc (story.base + i) ≡ suc (story.base + j) = r.one_end (suc (story.base + i)) (suc (story.base + j)) o x.0 y.0 x.1 y.1 in omega arith))
+      let same : suc (story.base + i) ≡ suc (story.base + j) = one_end (suc (story.base + i)) (suc (story.base + j)) o x.0 y.0 x.1 y.1 in omega arith))
 
   -- an operation that changed a map did not finish with a look
   not_both : (o m n : ℕ) (answer : Answer) → changed m ≡ true → owner story m ≡ Some o → Finished story o answer → is_look n answer ≡ true → ⊥
