@@ -1,4 +1,4 @@
--- How a story is right: at its start, as an operation begins, and by one numbered step.
+-- How a story is right (at its start, as an operation begins, and by one numbered step): for the three laws by which a core keeps its run right.
 use Rattle.std.proofs.Common.{◌≡◌, ℕ, suc, ◌≤◌, ◌⊎◌, Bool, true, false, cond, eqb, [], Option, Some, None, sym, ap, subst, ◌∙◌, inl, inr, arith}
 use mathlib.Core.Path.{fun_ext}
 use Rattle.std.proofs.lemmas.Option.{same_Some}

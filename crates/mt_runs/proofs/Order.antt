@@ -1,4 +1,4 @@
--- The one order of a run that is right: number by number, the change of that step and then what was looked at there.
+-- The one order of a run that is right (by number, a step's change and then what was looked at there): for the law that there is one order.
 use Rattle.std.proofs.Common.{◌≡◌, ℕ, zero, suc, ◌<◌, ◌≤◌, Bool, true, false, cond, not, eqb, List, [], ◌∷◌, ◌++◌, Some, sym, refl, ap, subst, ◌∙◌, inl, inr, arith}
 use mathlib.Core.Path.{fun_ext}
 use Rattle.std.specs.List.{AllByRecursion}

@@ -1,4 +1,4 @@
--- What a get reads behind a put or a remove of its own key that precedes it: for the laws of reading one's own writes.
+-- What a get is told behind a put or a remove of its key that precedes it: for the two laws of reading one's own writes.
 use Rattle.std.proofs.Common.{◌≡◌, ◌≢◌, ℕ, ◌≤◌, ◌⊎◌, Bool, true, false, cond, eqb, List, [], ◌∷◌, Option, Some, None, sym, refl, ap, subst, ◌∙◌, inl, inr, arith}
 use Rattle.std.specs.FinMap as pairs
 use Rattle.std.proofs.lemmas.Option.{same_Some}
@@ -175,7 +175,7 @@ module _ (quotas : Quotas) (first : Maps) (story : Story) (order : HasOneOrder q
       first story.base order.0 order.1.stands order.2 once (stands_of_count order.0 g (omega (arith, got))) in
       (w.0, w.1, sym get.told ∙ w.2)
 
--- read your writes
+-- a get that a put of its key precedes is told of a row that the put made
 pub reads_put : (quotas : Quotas) (first : Maps) (story : Story) (o g tenant : ℕ) (key : Bytes) (change : Named) (columns : List ℕ) (told reply : Reply) → HasOneOrder quotas first story
     → WasTold story o tenant (Put key change) told → is_change told ≡ true → WasTold story g tenant (Get key columns) reply → is_no_memory reply ≡ false → Precedes story o g
     → NoWriteBetween story o g tenant key → (row : Columns) × (reply ≡ Found (shown columns (changed change row)))
@@ -184,6 +184,7 @@ reads_put quotas first story o g tenant key change columns told reply order put 
     (λ w. (row : Columns) × (w ≡ Some (changed change row))) (λ m e. (columns_of (pairs.get m key), row_after_put (quotas tenant) key change m e)) in
     (w.1.0, w.2 ∙ ap (told_of_row columns) w.1.1)
 
+-- and one that a remove of its key precedes is told Absent
 pub reads_remove : (quotas : Quotas) (first : Maps) (story : Story) (o g tenant : ℕ) (key : Bytes) (columns : List ℕ) (told reply : Reply) → HasOneOrder quotas first story
     → WasTold story o tenant (Remove key) told → is_change told ≡ true → WasTold story g tenant (Get key columns) reply → is_no_memory reply ≡ false → Precedes story o g
     → NoWriteBetween story o g tenant key → reply ≡ Absent

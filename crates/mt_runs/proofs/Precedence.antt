@@ -1,5 +1,4 @@
--- Who precedes whom in a run, and where the operations of a placing that fits stand: for the laws of real-time order, of an answer's place, and of what a
--- get reads.
+-- Who precedes whom in a run, and where they stand in a placing that fits: for the laws of real-time order and of an answer's place, and for OwnWrites.
 use Rattle.std.proofs.Common.{◌≡◌, ◌≢◌, ℕ, zero, suc, ◌<◌, ◌≤◌, ◌⊎◌, Bool, true, false, cond, eqb, List, [], ◌∷◌, ◌++◌, length, Some, sym, refl, ap, subst, ◌∙◌, inl, inr, arith}
 use Rattle.std.specs.List.{Contains, filter}
 use Rattle.std.specs.Option.{option_map}
@@ -25,17 +24,20 @@ stands_here p ps o is = (p.1, contains_here p ps o is)
 stands_behind : (p : ℕ × ℕ) (ps : Placing) (o : ℕ) → StandsIn ps o → StandsIn (p ∷ ps) o
 stands_behind p ps o (m, at) = (m, contains_behind p (o, m) ps at)
 
+-- what stands in a placing is its head or stands behind it
 pub here_or_behind : (p : ℕ × ℕ) (ps : Placing) (o : ℕ) → StandsIn (p ∷ ps) o → (p.0 ≡ o) ⊎ StandsIn ps o
 here_or_behind p ps o (m, (zero, lt, e)) = inl (ap (λ (q : ℕ × ℕ). q.0) e)
 here_or_behind p ps o (m, (suc k, lt, e)) = inr (m, (k, omega arith, e))
 
+-- nothing stands in an empty placing
 pub none_stands : (o : ℕ) → StandsIn [] o → ⊥
 none_stands o (m, (k, lt, e)) = absurd (omega arith)
 
--- an operation is counted at the head of a placing, or it is not
+-- an operation is counted once more where it is the head
 pub count_here : (p : ℕ × ℕ) (ps : Placing) (o : ℕ) → p.0 ≡ o → count_of o (p ∷ ps) ≡ suc (count_of o ps)
 count_here p ps o is = ap (λ b. length (cond b (p ∷ filter (λ q. eqb q.0 o) ps) (filter (λ q. eqb q.0 o) ps))) (eq-eqb p.0 o is) ∙ omega arith
 
+-- and not at a head that is another
 pub count_behind : (p : ℕ × ℕ) (ps : Placing) (o : ℕ) → eqb p.0 o ≡ false → count_of o (p ∷ ps) ≡ count_of o ps
 count_behind p ps o other = ap (λ b. length (cond b (p ∷ filter (λ q. eqb q.0 o) ps) (filter (λ q. eqb q.0 o) ps))) other
 

@@ -1,4 +1,4 @@
--- Why no order explains the wrong runs: for the law that a reader may look at them as examples.
+-- Why no order explains the wrong runs: for the law that lists them.
 use Rattle.std.proofs.Common.{◌≡◌, ℕ, zero, suc, ◌≤◌, ◌⊎◌, Bool, true, false, cond, eqb, [], ◌∷◌, Some, None, sym, refl, ap, subst, ◌∙◌, arith}
 use Rattle.std.specs.Ordering.{nat_cmp}
 use Rattle.std.specs.Cmp.Lexicographic.{slice_cmp}
@@ -23,7 +23,7 @@ asked_get = record { tenant = 7; command = get_k }
 abbrev asked_put : Asked
 asked_put = record { tenant = 7; command = put_k }
 
--- the only answer that the run of one get has
+-- the run of one get, with its one answer
 abbrev nowhere : Story
 nowhere = story_of 0 row_from_nowhere
 
@@ -50,6 +50,7 @@ nowhere_refused quotas (p ∷ ps) f l =
     let same : ◌≡◌ {A = Reply} (Found row_v) Absent = (told from_nowhere asked_get (1, refl) refl).1 ∙ told_absent (quotas 7) in
     absurd (cc)
 
+-- a get of an empty store is not told of a row
 pub row_from_nowhere_refused : (quotas : Quotas) → HasOneOrder quotas no_pairs (story_of 0 row_from_nowhere) → ⊥
 row_from_nowhere_refused quotas h = nowhere_refused quotas h.0 h.1 h.2
 
@@ -75,6 +76,7 @@ no_other_write q what other asked_so tenant write = by (eqb 1 q) refl (eqb 2 q) 
     by false is true at e = absurd (subst (λ (x : Asked). IsWriteOf key_k x.command) (sym (same_Some asked_get what e)) write)
     by false is false at e = absurd (cc)
 
+-- a get that an answered put precedes is not told Absent
 pub missed_write_refused : (quotas : Quotas) → HasOneOrder quotas no_pairs (story_of 0 missed_write) → ⊥
 missed_write_refused quotas h =
     let put : WasTold missed 1 7 put_k New = record { begun = refl; answer = record { command = put_k; reply = New; first = 1; at = 1; last = 1 }; finished = (1, refl); told = refl } in
@@ -83,13 +85,13 @@ missed_write_refused quotas h =
     let wrong : Absent ≡ Found (changed change_v found.0) = found.1 in
     absurd (cc)
 
--- the put ended at step 1, and moved at step 3
+-- the put ended at step 1, and moved at step 3: a finished operation makes no step
 pub step_after_the_end_refused : (quotas : Quotas) → HasOneOrder quotas no_pairs (story_of 0 step_after_the_end) → ⊥
 step_after_the_end_refused quotas h =
     let le : 3 ≤ 1 = h.1.ends 1 3 1 (record { command = put_k; reply = New; first = 1; at = 3; last = 3 }) refl refl in
     absurd (omega (arith, le))
 
--- the get names step 2, behind its last one
+-- the get names step 2, behind its last one: an answer's place is between its operation's steps
 pub row_from_the_future_refused : (quotas : Quotas) → HasOneOrder quotas no_pairs (story_of 0 row_from_the_future) → ⊥
 row_from_the_future_refused quotas h =
     let answer : Answer = record { command = get_k; reply = Found row_v; first = 1; at = 2; last = 1 } in
