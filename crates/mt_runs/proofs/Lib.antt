@@ -11,3 +11,4 @@ pub mod Events
 pub mod Precedence
 pub mod OwnWrites
 pub mod Refused
+pub mod RefusedScans

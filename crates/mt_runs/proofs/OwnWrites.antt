@@ -38,7 +38,7 @@ same_told w None e = none_told w e
 same_told w (Some row) e = row_told w row e
 
 -- the key's row behind a put that changed the map, and behind a remove
-row_after_put : (quota : ℕ) (key : Bytes) (change : Named) (m : Map) → is_change (reply_of quota (Put key change) m) ≡ true
+pub row_after_put : (quota : ℕ) (key : Bytes) (change : Named) (m : Map) → is_change (reply_of quota (Put key change) m) ≡ true
     → pairs.get (map_after quota (Put key change) m) key ≡ Some (changed change (columns_of (pairs.get m key)))
 unfolding reply_of
 row_after_put quota key change m e = row_told _ _ (get_after_put quota key change m e)

@@ -36,4 +36,5 @@ IsWriteOf key _ = ⊥
 
 -- each other put or remove of the tenant's key precedes the one operation, or is preceded by the other
 abbrev pub NoWriteBetween : Story → ℕ → ℕ → ℕ → Bytes → Type 0
-NoWriteBetween story o g tenant key = (q : ℕ) (what : Asked) → q ≢ o → story.asked q ≡ Some what → what.tenant ≡ tenant → IsWriteOf key what.command → Precedes story q o ⊎ Precedes story g q
+NoWriteBetween story o g tenant key = (q : ℕ) (what : Asked) → q ≢ o → story.asked q ≡ Some what → what.tenant ≡ tenant → IsWriteOf key what.command
+    → Precedes story q o ⊎ Precedes story g q

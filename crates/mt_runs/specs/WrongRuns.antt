@@ -1,9 +1,9 @@
--- Four runs of a new state that have no one order, each for a reason of its own; all else in them is as it should be.
-use Rattle.std.specs.Prelude.{ℕ, [], ◌∷◌}
+-- Six runs of a new state that have no one order, each for a reason of its own; all else in them is as it should be.
+use Rattle.std.specs.Prelude.{ℕ, false, [], ◌∷◌}
 use Rattle.mt_rows.specs.declared.command.Command.{Command}
-use Rattle.mt_rows.specs.declared.command.Command.TheVariants.{Get, Put}
+use Rattle.mt_rows.specs.declared.command.Command.TheVariants.{Get, Put, Scan}
 use Rattle.mt_rows.specs.declared.reply.Reply.{Reply}
-use Rattle.mt_rows.specs.declared.reply.Reply.TheVariants.{Absent, Found, New}
+use Rattle.mt_rows.specs.declared.reply.Reply.TheVariants.{Absent, Found, New, Pairs}
 use Rattle.mt_rows.specs.Rows.{Bytes, Columns}
 use Rattle.mt_rows.specs.Changes.{Named}
 use Rattle.mt_runs.specs.declared.event.Event.{Event}
@@ -29,6 +29,10 @@ change_v = (0, 118 ∷ []) ∷ []
 abbrev pub put_k : Command
 put_k = Put key_k change_v
 
+-- a scan of up to two pairs from the least key on
+abbrev pub scan_two : Command
+scan_two = Scan [] false 2 []
+
 -- worker 0 begins an operation of tenant 7
 abbrev pub begins : ℕ → Command → Event × Told
 begins o command = (Begin o 0 7 command, Begun)
@@ -52,3 +56,11 @@ step_after_the_end = begins 1 put_k ∷ ends_told 1 put_k New 1 3 3 ∷ begins 2
 -- a get is told of a row at step 2, where a put makes it, but the get's own last step was step 1
 abbrev pub row_from_the_future : Run
 row_from_the_future = begins 1 get_k ∷ begins 2 put_k ∷ ends_told 1 get_k (Found row_v) 1 2 1 ∷ ends_told 2 put_k New 2 2 2 ∷ []
+
+-- a scan of an empty store shows a pair
+abbrev pub pair_from_nowhere : Run
+pair_from_nowhere = begins 1 scan_two ∷ ends_told 1 scan_two (Pairs ((key_k, row_v) ∷ [])) 1 1 1 ∷ []
+
+-- a scan that is begun after a put was told New shows nothing
+abbrev pub missed_pair : Run
+missed_pair = begins 1 put_k ∷ ends_told 1 put_k New 1 1 1 ∷ begins 2 scan_two ∷ ends_told 2 scan_two (Pairs []) 2 2 2 ∷ []

@@ -18,7 +18,7 @@ ghost use Rattle.mt_runs.specs.Runs.{Run, Story, Asked, numbered, asked_by, stor
 ghost use Rattle.mt_runs.specs.Placings.{Quotas, Maps, Placing, no_pairs, is_placed, Fits, HasOneOrder, maps_after_one, replies_of, commands_of};
 ghost use Rattle.mt_runs.specs.Orders.{Precedes, StandsIn, StandsBefore, WasTold, NoWriteBetween};
 ghost use Rattle.mt_runs.specs.Right.{Right, IsGrowth};
-ghost use Rattle.mt_runs.specs.WrongRuns.{row_from_nowhere, missed_write, step_after_the_end, row_from_the_future};
+ghost use Rattle.mt_runs.specs.WrongRuns.{row_from_nowhere, missed_write, step_after_the_end, row_from_the_future, pair_from_nowhere, missed_pair};
 
 /// One order explains each run that is right: it places every finished get, put and remove that
 /// memory did not stop between that operation's first and last step, it is legal, and every finished
@@ -124,11 +124,14 @@ pub fn a_get_misses_the_row_removed_before_it()
 {}
 
 /// Runs that no order explains, whatever the tenants' limits are: a get told of a row that was never
-/// put, a get that misses an answered put, the same with a step of the put behind its end, and a get
-/// told of a row that is put only after it.
+/// put, a get that misses an answered put, the same with a step of the put behind its end, a get told
+/// of a row that is put only after it, a scan that shows a pair that was never put, and a scan that
+/// misses an answered put.
 pub fn wrong_runs_have_no_order()
     ensures row_from_nowhere { (quotas : Quotas) → ¬ HasOneOrder quotas no_pairs (story_of 0 row_from_nowhere) }
     ensures missed_write { (quotas : Quotas) → ¬ HasOneOrder quotas no_pairs (story_of 0 missed_write) }
     ensures step_after_the_end { (quotas : Quotas) → ¬ HasOneOrder quotas no_pairs (story_of 0 step_after_the_end) }
     ensures row_from_the_future { (quotas : Quotas) → ¬ HasOneOrder quotas no_pairs (story_of 0 row_from_the_future) }
+    ensures pair_from_nowhere { (quotas : Quotas) → ¬ HasOneOrder quotas no_pairs (story_of 0 pair_from_nowhere) }
+    ensures missed_pair { (quotas : Quotas) → ¬ HasOneOrder quotas no_pairs (story_of 0 missed_pair) }
 {}
