@@ -48,3 +48,5 @@ pub mod Topping
 pub mod Inserting
 pub mod Parting
 pub mod Levels
+pub mod TakenOut
+pub mod Unlinking

@@ -15,5 +15,6 @@ pub mod Splits
 pub mod Growth
 pub mod Unlinks
 pub mod Collapses
+pub mod Removals
 pub mod Lags
 pub mod Several

@@ -47,9 +47,9 @@ use std::marker::Model;
 #[derive(Drop)]
 pub struct Arena {
     alloc: Global,
-    nodes: Vec<Node>,
-    trees: Vec<Tree>,
-    retired: Vec<Retired>,
+    pub(crate) nodes: Vec<Node>,
+    pub(crate) trees: Vec<Tree>,
+    pub(crate) retired: Vec<Retired>,
 }
 
 impl Model for Arena {

@@ -25,10 +25,10 @@ pub enum NodeKind {
 /// from its high fence as long as a right half that was split off is in no parent.
 #[derive(Drop)]
 pub struct Node {
-    kind: NodeKind,
+    pub(crate) kind: NodeKind,
     tree: usize,
     level: usize,
-    reach: Option<u64>,
+    pub(crate) reach: Option<u64>,
     holder: Option<usize>,
 }
 

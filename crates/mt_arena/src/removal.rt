@@ -1,0 +1,104 @@
+//! The calls by which nodes and trees are taken out, each with all its writes at once.
+//!
+//! A node that is taken out is deleted and stands among the retired from the same step on; it keeps
+//! what it had for those who still remember it. No call takes memory: there is room for the number
+//! of each node among the retired from the moment it is made.
+
+ghost use Rattle.std.specs.Prelude.{◌≡◌, ◌≢◌, ◌<◌, ℕ, length, slice_set, None};
+ghost use Rattle.mt_border.specs.Entries.{without};
+ghost use Rattle.mt_border.specs.declared.entry.Held.TheVariants.{Link};
+ghost use Rattle.mt_interior.specs.Places.{place_of};
+ghost use Rattle.mt_arena.specs.NodeView.{node_at};
+ghost use Rattle.mt_arena.specs.Layers.{slot_at};
+ghost use Rattle.mt_arena.specs.Edits.{inserting, with_slots};
+ghost use Rattle.mt_arena.specs.Unlinks.{without_child};
+ghost use Rattle.mt_arena.specs.Collapses.{crowned};
+ghost use Rattle.mt_arena.specs.Arena.{content_of, Guarantee};
+ghost use Rattle.mt_arena.specs.Removals.{MayUnlink, nodes_without, without_node, MayCollapse, without_root, MayDropLayer, without_layer};
+
+use crate::arena::Arena;
+use crate::node::{Node, NodeKind};
+use crate::retired::Retired;
+use crate::tree::Standing;
+use mt_border::Held;
+
+impl Arena {
+    /// Takes an empty border node out by the step of this number: its left neighbour gets its range,
+    /// and its parent loses it and is marked for readers of its children.
+    pub fn unlink(&mut self, parent: usize, left: usize, node: usize, step: u64, operation: usize)
+        requires { MayUnlink self.old parent left node operation }
+        ensures is { self.new ≡ without_node self.old parent left node step }
+        ensures step { Guarantee operation self.old self.new }
+        ensures contents { content_of self.new ≡ content_of self.old }
+    {
+        take_out(&mut self.nodes, parent, left, node);
+        self.retired.push_reserved(Retired { node, step });
+    }
+}
+
+impl Node {
+    /// Where its range ends in its parent; none, where there is no end.
+    pub fn reach(&self) -> Option<u64>
+        ensures { result ≡ self.now.reach }
+    {
+        self.reach
+    }
+
+    /// A border node's range ends elsewhere from now on, and another node comes next.
+    pub(crate) fn extend(&mut self, high: Option<u64>, reach: Option<u64>, next: Option<usize>)
+        requires border { self.old.level ≡ 0 }
+        ensures { self.new ≡ record self.old { high = high; reach = reach; next = next } }
+    {
+        match &mut self.kind {
+            NodeKind::Leaf(border) => {
+                border.set_high(high);
+                border.set_next(next);
+            }
+            NodeKind::Inner(_) => unreachable!(),
+        }
+        self.reach = reach;
+    }
+
+    /// Takes the child that begins at this slice out, which is not the first, and marks the node for
+    /// readers of its children.
+    pub(crate) fn remove_child(&mut self, low: u64)
+        requires interior { 0 < self.old.level }
+        requires not_first { 0 < place_of self.old.separators low }
+        requires there { place_of self.old.separators low < length self.old.children }
+        ensures { self.new ≡ without_child (inserting self.old) (place_of self.old.separators low) }
+    {
+        match &mut self.kind {
+            NodeKind::Leaf(_) => unreachable!(),
+            NodeKind::Inner(interior) => {
+                let place = interior.place_of(low);
+                interior.remove_child(place);
+            }
+        }
+        self.mark_inserting();
+    }
+}
+
+// Takes a border node out: the one before it gets its range, and its parent loses it.
+fn take_out(nodes: &mut Vec<Node>, parent: usize, left: usize, node: usize)
+    requires there { parent < length nodes.old.items }
+    requires left_there { left < length nodes.old.items }
+    requires node_there { node < length nodes.old.items }
+    requires differ { left ≢ node }
+    requires differ_left { left ≢ parent }
+    requires differ_node { node ≢ parent }
+    requires left_border { (node_at nodes.old.items left).level ≡ 0 }
+    requires border { (node_at nodes.old.items node).level ≡ 0 }
+    requires interior { 0 < (node_at nodes.old.items parent).level }
+    requires not_first { 0 < place_of (node_at nodes.old.items parent).separators (node_at nodes.old.items node).low }
+    requires in_range { place_of (node_at nodes.old.items parent).separators (node_at nodes.old.items node).low <
+        length (node_at nodes.old.items parent).children }
+    ensures { nodes.new.items ≡ nodes_without nodes.old.items parent left node }
+{
+    let low = nodes[node].low();
+    let high = nodes[node].high();
+    let reach = nodes[node].reach();
+    let next = nodes[node].next();
+    nodes[left].extend(high, reach, next);
+    nodes[node].retire();
+    nodes[parent].remove_child(low);
+}
