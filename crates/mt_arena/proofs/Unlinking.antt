@@ -128,7 +128,7 @@ module _ (v : ArenaView) (room parent left node step op : ℕ) (sound : ArenaInv
   range = (ranged node lj).parent child.knows
 
   meet : end_of l.high ≡ x.low
-  meet = ap end_of ((nodes.pairs left node li lj).next_follows may.next)
+  meet = ap end_of ((nodes.pairs left node li lj).next may.next).meets
 
   left_range : HasRange l
   left_range = (ranged left li).parent left_child.knows
@@ -148,9 +148,9 @@ module _ (v : ArenaView) (room parent left node step op : ℕ) (sound : ArenaInv
   place_is =
       let inside = may.beside.in_range in
       let some = not_empty p.children a inside in
-      let rise = (nodes.each parent lq).bounds_rise some in
+      let rise = (nodes.each parent lq).children.rise some in
       let size = length_bounds p in
-      let between = (nodes.each parent lq).interior.between in
+      let between = (nodes.each parent lq).children.interior.between in
       place_of-between p.low p.separators p.high x.low a (separators_rise p.low p.separators p.high rise) (omega (arith, between, inside))
       (omega (arith, child.low), omega (arith, child.low, rise a (a + 1) (omega arith) (omega (arith, size, between, inside))))
 
