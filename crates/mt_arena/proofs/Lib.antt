@@ -51,3 +51,4 @@ pub mod Parting
 pub mod Levels
 pub mod TakenOut
 pub mod Unlinking
+pub mod Collapsing

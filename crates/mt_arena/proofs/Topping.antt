@@ -34,7 +34,7 @@ pub read_tree : (trees : List Tree) (t : ℕ) (tree : Tree) → t < length trees
 read_tree trees t tree within is = is ∙ get_or_default trees t tree no_tree within
 
 -- links, where the records of trees keep prefix and standing
-layers_trees : (xs : List NodeView) (were are : List Tree) → length are ≡ length were → ((u : ℕ) → (tree_at are u).prefix ≡ (tree_at were u).prefix) → ((u : ℕ) → (tree_at are u).standing ≡ (tree_at were u).standing) → AreLayered xs were → AreLayered xs are
+pub layers_trees : (xs : List NodeView) (were are : List Tree) → length are ≡ length were → ((u : ℕ) → (tree_at are u).prefix ≡ (tree_at were u).prefix) → ((u : ℕ) → (tree_at are u).standing ≡ (tree_at were u).standing) → AreLayered xs were → AreLayered xs are
 layers_trees xs were are count prefix standing layers = record {
   links = λ k lt live a u lt_a is.
       let leads = layers.links k lt live a u lt_a is in
@@ -49,7 +49,7 @@ layers_trees xs were are count prefix standing layers = record {
 }
 
 -- one tree's record changes
-guarantee_record : (op : ℕ) (nodes : List NodeView) (trees : List Tree) (t : ℕ) (tree : Tree) → t < length trees → TreeChanges op (tree_at trees t) tree → NodesGuarantee op nodes nodes trees (set trees t tree)
+pub guarantee_record : (op : ℕ) (nodes : List NodeView) (trees : List Tree) (t : ℕ) (tree : Tree) → t < length trees → TreeChanges op (tree_at trees t) tree → NodesGuarantee op nodes nodes trees (set trees t tree)
 guarantee_record op nodes trees t tree within change = record {
   count = omega arith;
   tree_count = omega (arith, length-set trees t tree);

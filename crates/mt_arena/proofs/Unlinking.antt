@@ -5,8 +5,7 @@ use Rattle.mt_interior.specs.Fences.{end_of}
 use Rattle.mt_interior.specs.Places.{place_of}
 use Rattle.mt_interior.proofs.PlaceLemmas.{place_of-between}
 use Rattle.mt_arena.specs.declared.tree.Tree.{Tree}
-use Rattle.mt_arena.specs.declared.tree.Standing.{Standing}
-use Rattle.mt_arena.specs.declared.tree.Standing.TheVariants.{Made, Live, Dead}
+use Rattle.mt_arena.specs.declared.tree.Standing.TheVariants.{Made, Dead}
 use Rattle.mt_arena.specs.declared.retired.Retired.{Retired}
 use Rattle.mt_arena.specs.NodeView.{NodeView, node_at}
 use Rattle.mt_arena.specs.Nodes.{AreNodes, IsChild, HasRange, bounds}
@@ -30,19 +29,13 @@ use Rattle.mt_arena.proofs.Homes.{KeepsHome, forest_set}
 use Rattle.mt_arena.proofs.Steps.{keys_of}
 use Rattle.mt_arena.proofs.LinkEdits.{KeepsLinks, same_links, layers_set, layers_empty}
 use Rattle.mt_arena.proofs.Retiring.{retired_set, retired_more}
-use Rattle.mt_arena.proofs.TakenOut.{forest_retired, changes_retired}
+use Rattle.mt_arena.proofs.TakenOut.{forest_retired, changes_retired, standing_dead}
 use Rattle.mt_arena.proofs.Slots.{changes_slots}
 use Rattle.mt_arena.proofs.HeldChanges.{changes_joined, changes_without_child}
 use Rattle.mt_arena.proofs.Guarantees.{changes_on, PointsSo}
 use Rattle.mt_arena.proofs.Naming.{names_same, points_each, each_set3}
 use Rattle.mt_arena.proofs.Several.{MayTurn, guarantee_set3}
 use Rattle.mt_arena.proofs.ContentQuiet.{stands_unchanged, stands_without_slots}
-
--- what does not stand is dead
-standing_dead : (s : Standing) → (s ≢ Dead → ⊥) → s ≡ Dead
-standing_dead (Made by) none = absurd (none (λ e. cc))
-standing_dead Live none = absurd (none (λ e. cc))
-standing_dead Dead none = refl
 
 module _ (v : ArenaView) (room parent left node step op : ℕ) (sound : ArenaInvariant v.nodes v.trees v.retired room) (may : MayUnlink v parent left node op) where
   abbrev xs : List NodeView

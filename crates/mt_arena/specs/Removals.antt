@@ -55,20 +55,24 @@ without_node v parent left node step = record v {
   retired = with_retired v.retired node step;
 }
 
--- the operation may take out a tree's root whose one child it holds too: that one has the whole range, and neither is being split
+-- the operation may take out a tree's root, which has one child: it holds both, and does not split the root
 pub record MayCollapse (v : ArenaView) (root child op : ℕ) : Type 0 where
   pub held : IsHeld v root op
   pub child_held : IsHeld v child op
   pub mine : IsOpen v root op
   pub live : (at v root).version.deleted ≡ false
+  pub whole : (at v root).version.splitting ≡ false
   pub is_root : (tree_of v root).root ≡ root
   pub only : (at v root).children ≡ child ∷ []
-  pub endless : (at v child).reach ≡ None
+
+-- the nodes without a root: its child is one
+abbrev pub nodes_under : List NodeView → ℕ → ℕ → List NodeView
+nodes_under nodes root child = slice_set (slice_set nodes root (retired (node_at nodes root))) child (crowned (node_at nodes child))
 
 -- an arena of which this step took a root out: its child is the tree's root
 abbrev pub without_root : ArenaView → ℕ → ℕ → ℕ → ArenaView
 without_root v root child step = record v {
-  nodes = slice_set (slice_set v.nodes root (retired (at v root))) child (crowned (at v child));
+  nodes = nodes_under v.nodes root child;
   trees = slice_set v.trees (at v root).tree (record (tree_of v root) { root = child });
   retired = with_retired v.retired root step;
 }

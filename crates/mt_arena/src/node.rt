@@ -200,7 +200,7 @@ impl Node {
     }
 
     // Writes the version.
-    fn set_version(&mut self, version: Version)
+    pub(crate) fn set_version(&mut self, version: Version)
         ensures { self.new ≡ record self.old { version = version } }
     {
         match &mut self.kind {

@@ -8,13 +8,14 @@ ghost use Rattle.std.specs.Prelude.{◌≡◌, ◌≢◌, ◌<◌, ℕ, length, 
 ghost use Rattle.mt_border.specs.Entries.{without};
 ghost use Rattle.mt_border.specs.declared.entry.Held.TheVariants.{Link};
 ghost use Rattle.mt_interior.specs.Places.{place_of};
+ghost use Rattle.mt_interior.specs.Fences.{end_of};
 ghost use Rattle.mt_arena.specs.NodeView.{node_at};
 ghost use Rattle.mt_arena.specs.Layers.{slot_at};
 ghost use Rattle.mt_arena.specs.Edits.{inserting, with_slots};
 ghost use Rattle.mt_arena.specs.Unlinks.{without_child};
 ghost use Rattle.mt_arena.specs.Collapses.{crowned};
 ghost use Rattle.mt_arena.specs.Arena.{content_of, Guarantee};
-ghost use Rattle.mt_arena.specs.Removals.{MayUnlink, nodes_without, without_node, MayCollapse, without_root, MayDropLayer, without_layer};
+ghost use Rattle.mt_arena.specs.Removals.{MayUnlink, nodes_without, without_node, MayCollapse, nodes_under, without_root, MayDropLayer, without_layer};
 
 use crate::arena::Arena;
 use crate::node::{Node, NodeKind};
@@ -33,6 +34,19 @@ impl Arena {
     {
         take_out(&mut self.nodes, parent, left, node);
         self.retired.push_reserved(Retired { node, step });
+    }
+
+    /// Takes the root of a tree out by the step of this number: its only child is the root from now on.
+    pub fn collapse(&mut self, root: usize, child: usize, step: u64, operation: usize)
+        requires { MayCollapse self.old root child operation }
+        ensures is { self.new ≡ without_root self.old root child step }
+        ensures step { Guarantee operation self.old self.new }
+        ensures contents { content_of self.new ≡ content_of self.old }
+    {
+        let tree = self.nodes[root].tree();
+        hand_on(&mut self.nodes, root, child);
+        self.trees[tree].root = child;
+        self.retired.push_reserved(Retired { node: root, step });
     }
 }
 
@@ -76,6 +90,17 @@ impl Node {
         }
         self.mark_inserting();
     }
+
+    /// Makes a node a root. Its range ends nowhere.
+    pub(crate) fn crown(&mut self)
+        requires { end_of self.old.reach ≡ 18446744073709551616 }
+        ensures after { self.new ≡ crowned self.old }
+        ensures endless { self.old.reach ≡ None }
+    {
+        prove!(self.reach.is_none());
+        self.set_version(self.version().made_root());
+        self.set_parent(None);
+    }
 }
 
 // Takes a border node out: the one before it gets its range, and its parent loses it.
@@ -101,4 +126,17 @@ fn take_out(nodes: &mut Vec<Node>, parent: usize, left: usize, node: usize)
     nodes[left].extend(high, reach, next);
     nodes[node].retire();
     nodes[parent].remove_child(low);
+}
+
+// Takes a root out, and makes its child the root.
+fn hand_on(nodes: &mut Vec<Node>, root: usize, child: usize)
+    requires there { root < length nodes.old.items }
+    requires child_there { child < length nodes.old.items }
+    requires differ { root ≢ child }
+    requires endless { end_of (node_at nodes.old.items child).reach ≡ 18446744073709551616 }
+    ensures nodes { nodes.new.items ≡ nodes_under nodes.old.items root child }
+    ensures endless { (node_at nodes.old.items child).reach ≡ None }
+{
+    nodes[root].retire();
+    nodes[child].crown();
 }
