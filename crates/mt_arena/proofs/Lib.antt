@@ -52,3 +52,6 @@ pub mod Levels
 pub mod TakenOut
 pub mod Unlinking
 pub mod Collapsing
+pub mod OneLink
+pub mod DeadTree
+pub mod DroppingLayer

@@ -93,13 +93,18 @@ pub record MayDropLayer (v : ArenaView) (node i u op : ℕ) : Type 0 where
   pub empty : (at v (tree_at v.trees u).root).slots ≡ []
   pub alone : IsAlone v u (tree_at v.trees u).root
 
+-- the nodes without the link of a slot, and without the root below it
+abbrev pub nodes_above : List NodeView → ℕ → ℕ → ℕ → List NodeView
+nodes_above nodes node i root =
+    let n = node_at nodes node in
+    slice_set (slice_set nodes node (with_slots n (without n.slots (slot_at n i)))) root (retired (node_at nodes root))
+
 -- an arena of which this step took a tree out, with its root and the link to it
 abbrev pub without_layer : ArenaView → ℕ → ℕ → ℕ → ℕ → ArenaView
 without_layer v node i u step =
-    let n = at v node in
     let tree = tree_at v.trees u in
     record v {
-      nodes = slice_set (slice_set v.nodes node (with_slots n (without n.slots (slot_at n i)))) tree.root (retired (at v tree.root));
+      nodes = nodes_above v.nodes node i tree.root;
       trees = slice_set v.trees u (record tree { standing = Dead });
       retired = with_retired v.retired tree.root step;
     }

@@ -5,7 +5,7 @@
 //! of each node among the retired from the moment it is made.
 
 ghost use Rattle.std.specs.Prelude.{◌≡◌, ◌≢◌, ◌<◌, ℕ, length, slice_set, None};
-ghost use Rattle.mt_border.specs.Entries.{without};
+ghost use Rattle.mt_border.specs.Entry.{IsLink};
 ghost use Rattle.mt_border.specs.declared.entry.Held.TheVariants.{Link};
 ghost use Rattle.mt_interior.specs.Places.{place_of};
 ghost use Rattle.mt_interior.specs.Fences.{end_of};
@@ -15,7 +15,8 @@ ghost use Rattle.mt_arena.specs.Edits.{inserting, with_slots};
 ghost use Rattle.mt_arena.specs.Unlinks.{without_child};
 ghost use Rattle.mt_arena.specs.Collapses.{crowned};
 ghost use Rattle.mt_arena.specs.Arena.{content_of, Guarantee};
-ghost use Rattle.mt_arena.specs.Removals.{MayUnlink, nodes_without, without_node, MayCollapse, nodes_under, without_root, MayDropLayer, without_layer};
+ghost use Rattle.mt_arena.specs.Accesses.{at};
+ghost use Rattle.mt_arena.specs.Removals.{MayUnlink, nodes_without, without_node, MayCollapse, nodes_under, without_root, MayDropLayer, nodes_above, without_layer};
 
 use crate::arena::Arena;
 use crate::node::{Node, NodeKind};
@@ -46,6 +47,21 @@ impl Arena {
         let tree = self.nodes[root].tree();
         hand_on(&mut self.nodes, root, child);
         self.trees[tree].root = child;
+        self.retired.push_reserved(Retired { node: root, step });
+    }
+
+    /// Takes the link of a slot out, and by the step of this number the root of the tree to which it
+    /// leads: the tree's only live node, which is empty. The tree is dead from now on.
+    pub fn drop_layer(&mut self, node: usize, slot: usize, step: u64, operation: usize)
+        requires may { (u : ℕ) × MayDropLayer self.old node slot u operation }
+        ensures is { (u : ℕ) → (slot_at (at self.old node) slot).held ≡ Link u → self.new ≡ without_layer self.old node slot u step }
+        ensures step { Guarantee operation self.old self.new }
+        ensures contents { content_of self.new ≡ content_of self.old }
+    {
+        let lower = self.nodes[node].link_at(slot);
+        let root = self.trees[lower].root;
+        drop_link(&mut self.nodes, node, slot, root);
+        self.trees[lower].standing = Standing::Dead;
         self.retired.push_reserved(Retired { node: root, step });
     }
 }
@@ -89,6 +105,22 @@ impl Node {
             }
         }
         self.mark_inserting();
+    }
+
+    /// The number of the tree to which a slot leads.
+    pub fn link_at(&self, slot: usize) -> usize
+        requires border { self.now.level ≡ 0 }
+        requires live { slot < length self.now.slots }
+        requires link { IsLink (slot_at self.now slot).held }
+        ensures { (slot_at self.now slot).held ≡ Link result }
+    {
+        match &self.kind {
+            NodeKind::Leaf(border) => match border.load(slot) {
+                Some(Held::Link(tree)) => *tree,
+                _ => unreachable!(),
+            },
+            NodeKind::Inner(_) => unreachable!(),
+        }
     }
 
     /// Makes a node a root. Its range ends nowhere.
@@ -139,4 +171,17 @@ fn hand_on(nodes: &mut Vec<Node>, root: usize, child: usize)
 {
     nodes[root].retire();
     nodes[child].crown();
+}
+
+// Takes the link of a slot out, and the root to which it leads.
+fn drop_link(nodes: &mut Vec<Node>, node: usize, slot: usize, root: usize)
+    requires there { node < length nodes.old.items }
+    requires root_there { root < length nodes.old.items }
+    requires differ { node ≢ root }
+    requires border { (node_at nodes.old.items node).level ≡ 0 }
+    requires live { slot < length (node_at nodes.old.items node).slots }
+    ensures { nodes.new.items ≡ nodes_above nodes.old.items node slot root }
+{
+    let _ = nodes[node].drop_key(slot);
+    nodes[root].retire();
 }
