@@ -6,11 +6,11 @@ use Rattle.mt_interior.specs.Fences.{end_of}
 use Rattle.mt_arena.specs.NodeView.{NodeView, node_at}
 use Rattle.mt_arena.specs.Nodes.{AreNodes, IsPair}
 use Rattle.mt_arena.specs.Ranges.{IsRanged, AreRanged}
-use Rattle.mt_arena.specs.Edits.{retired, IsLeft}
+use Rattle.mt_arena.specs.Edits.{retired}
 use Rattle.mt_arena.specs.Collapses.{Collapses, crowned}
 use Rattle.mt_arena.proofs.Pairs.{are_set, here, there, nodes_set}
 use Rattle.mt_arena.proofs.Ranges.{one_parent}
-use Rattle.mt_arena.proofs.Retire.{nodes_retired}
+use Rattle.mt_arena.proofs.Retire.{IsLeft, nodes_retired}
 
 -- what has a value is something
 some_is : (o : Option ℕ) (k : ℕ) → o ≡ Some k → o ≢ None

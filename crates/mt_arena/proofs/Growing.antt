@@ -1,4 +1,4 @@
--- A node is added, or a tree with its root, or a node is taken out.
+-- A node is added, or a tree with its root.
 use Rattle.std.proofs.Common.{◌≡◌, ℕ, ◌+◌, ◌*◌, ◌<◌, ◌≤◌, List, [], ◌∷◌, ◌++◌, length, set, false, Some, refl, sym, ap, subst, ◌∙◌, inl, inr, arith, length-append}
 use Rattle.std.proofs.lemmas.Bool.{cases_eq}
 use Rattle.std.proofs.lemmas.List.{length-set}
@@ -16,7 +16,7 @@ use Rattle.mt_arena.specs.Guarantee.{Changes}
 use Rattle.mt_arena.specs.Edits.{fresh_half, fresh_root, retired}
 use Rattle.mt_arena.specs.Contents.{content}
 use Rattle.mt_arena.specs.Arena.{IsArena, ArenaInvariant, ArenaView, Guarantee}
-use Rattle.mt_arena.specs.Accesses.{at, IsOpen, with_node, with_half, with_tree, MayRetire}
+use Rattle.mt_arena.specs.Accesses.{at, IsOpen, with_node, with_half, with_tree}
 use Rattle.mt_arena.proofs.Pairs.{here, there, last, before}
 use Rattle.mt_arena.proofs.Push.{nodes_half, nodes_root}
 use Rattle.mt_arena.proofs.Retire.{nodes_retired}
@@ -132,61 +132,3 @@ step_tree v prefix op = record {
 
 pub content_tree : (xs : List NodeView) (trees : List Tree) (y : NodeView) (u : Tree) → IsArena xs trees → y.slots ≡ [] → content (trees ++ u ∷ []) (xs ++ y ∷ []) ≡ content trees xs
 content_tree xs trees y u arena none = stands_pushed (trees ++ u ∷ []) xs y none ∙ stands_tree_pushed trees xs u arena
-
--- a node is taken out that is empty, that no live node names, and that is no root
-forest_retired : (xs : List NodeView) (trees : List Tree) (i : ℕ) → i < length xs → IsForest xs trees → ((t : ℕ) → t < length trees → (tree_at trees t).root ≡ i → (tree_at trees t).standing ≡ Dead) → IsForest (set xs i (retired (node_at xs i))) trees
-forest_retired xs trees i within forest no_root =
-    let x = node_at xs i in
-    let y = retired x in
-    let size = length-set xs i y in
-    record {
-      tree_there = λ k lt. elim (cases_eq k i) [
-        | inl is ↦ rw (is, here xs i y within) (forest.tree_there i within)
-        | inr other ↦ rw (there xs i k y other) (forest.tree_there k (omega (arith, lt, size)))
-      ];
-      homes = λ k t lt lt_t. elim (cases_eq k i) [
-        | inl is ↦ rw (is, here xs i y within) (let h = forest.homes i t within lt_t in record {
-          root_tree = λ e standing. absurd (standing (no_root t lt_t e));
-          root_is = λ e standing. absurd (standing (no_root t lt_t e));
-          root_named = λ e live. absurd (cc);
-          standing = λ e live. absurd (cc);
-          keys = h.keys;
-        })
-        | inr other ↦ rw (there xs i k y other) (forest.homes k t (omega (arith, lt, size)) lt_t)
-      ];
-      each = λ t lt. let h = forest.each t lt in record { root_there = omega (arith, size, h.root_there); whole = h.whole };
-      peers = forest.peers;
-      top = forest.top;
-    }
-
-pub sound_retired : (v : ArenaView) (room i op step : ℕ) → ArenaInvariant v.nodes v.trees v.retired room → MayRetire v i op
-    → ArenaInvariant (set v.nodes i (retired (at v i))) v.trees (v.retired ++ (record { node = i; step = step }) ∷ []) room
-sound_retired v room i op step sound may =
-    let within = may.held.there in
-    record {
-      arena = record {
-        nodes = nodes_retired v.nodes i within sound.arena.nodes (is_held op (at v i) may.held.holder) may.left;
-        ranged = ranged_turned v.nodes i (at v i).slots (retired (at v i)).version (at v i).holder within sound.arena.ranged (λ whole live. absurd (cc));
-        forest = forest_retired v.nodes v.trees i within sound.arena.forest may.no_root;
-        layers = layers_empty v.nodes v.trees i (retired (at v i)) within sound.arena.layers record { old = may.empty; new = may.empty };
-      };
-      retired = retired_more v.nodes v.retired i step within sound.retired may.live;
-      enough = omega (arith, length-set v.nodes i (retired (at v i)), sound.enough);
-    }
-
-changes_retired : (op : ℕ) (x : NodeView) → x.holder ≡ Some op → Changes op x (retired x)
-changes_retired op x mine = record {
-  tree = refl;
-  level = refl;
-  low = refl;
-  ages = ages-deleted x.version;
-  peopled = λ some. some;
-  widens = λ same whole live. omega arith;
-  keys = λ range insertion whole still. record { slots = refl; separators = refl; children = refl };
-  held = λ q other e. absurd (not_others op q x mine other e);
-  taken = λ q other e. e;
-}
-
-pub step_retired : (v : ArenaView) (i op : ℕ) → i < length v.nodes → (at v i).holder ≡ Some op → IsOpen v i op → Guarantee op v (with_node v i (retired (at v i)))
-step_retired v i op within held mine =
-    step_set op v i (retired (at v i)) within (changes_retired op (at v i) held) mine record { previous = λ j e not_mine. e; parent = λ j e not_mine. e }

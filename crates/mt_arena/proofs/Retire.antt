@@ -1,9 +1,14 @@
 -- A node that is taken out of its tree.
-use Rattle.std.proofs.Common.{◌≢◌, ℕ, ◌<◌, List, length, None, set}
+use Rattle.std.proofs.Common.{◌≡◌, ◌≢◌, ℕ, ◌<◌, List, length, get_or, Some, None, true, set}
 use Rattle.mt_arena.specs.NodeView.{NodeView, node_at}
 use Rattle.mt_arena.specs.Nodes.{AreNodes, IsPair}
-use Rattle.mt_arena.specs.Edits.{retired, IsLeft}
+use Rattle.mt_arena.specs.Edits.{retired}
 use Rattle.mt_arena.proofs.Pairs.{are_set}
+
+-- no live node leads to the node: it may be taken out
+pub record IsLeft (nodes : List NodeView) (i : ℕ) : Type 0 where
+  pub nobodys_next : (k : ℕ) → k < length nodes → (node_at nodes k).next ≡ Some i → (node_at nodes k).version.deleted ≡ true
+  pub nobodys_child : (k a : ℕ) → k < length nodes → a < length (node_at nodes k).children → get_or (node_at nodes k).children a 0 ≡ i → (node_at nodes k).version.deleted ≡ true
 
 -- the first node of a pair
 retired_from : (k : ℕ) (n : NodeView) (j : ℕ) (m : NodeView) → IsPair k n j m → IsPair k (retired n) j m

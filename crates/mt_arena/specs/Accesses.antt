@@ -13,7 +13,7 @@ use Rattle.mt_arena.specs.declared.tree.Tree.{Tree}
 use Rattle.mt_arena.specs.declared.tree.Standing.TheVariants.{Made, Live, Dead}
 use Rattle.mt_arena.specs.NodeView.{NodeView, node_at}
 use Rattle.mt_arena.specs.Forests.{tree_at, layer_of}
-use Rattle.mt_arena.specs.Edits.{fresh_half, fresh_root, IsLeft}
+use Rattle.mt_arena.specs.Edits.{fresh_half, fresh_root}
 use Rattle.mt_arena.specs.Arena.{ArenaView}
 
 -- the top tree of a new arena, and what such an arena shows
@@ -81,11 +81,3 @@ with_tree v prefix op = record v {
   nodes = v.nodes ++ fresh_root (length v.trees) ∷ [];
   trees = v.trees ++ (record { prefix = prefix; root = length v.nodes; standing = Made op }) ∷ [];
 }
-
--- the operation may take a node out: it is empty, no live node leads to it, and it is no root of a tree that stands
-pub record MayRetire (v : ArenaView) (k op : ℕ) : Type 0 where
-  pub held : IsHeld v k op
-  pub live : (at v k).version.deleted ≡ false
-  pub empty : (at v k).slots ≡ []
-  pub left : IsLeft v.nodes k
-  pub no_root : (t : ℕ) → t < length v.trees → (tree_at v.trees t).root ≡ k → (tree_at v.trees t).standing ≡ Dead

@@ -64,8 +64,3 @@ fresh_half n low op = bare true n.tree n.level low op
 -- the first node of a tree
 abbrev pub fresh_root : ℕ → NodeView
 fresh_root tree = record no_node { version = fresh_parts true true; tree = tree }
-
--- nobody names the node any more, as far as it is live: it may be taken out
-pub record IsLeft (nodes : List NodeView) (i : ℕ) : Type 0 where
-  pub nobodys_next : (k : ℕ) → k < length nodes → (node_at nodes k).next ≡ Some i → (node_at nodes k).version.deleted ≡ true
-  pub nobodys_child : (k a : ℕ) → k < length nodes → a < length (node_at nodes k).children → slice_index (node_at nodes k).children a ≡ i → (node_at nodes k).version.deleted ≡ true

@@ -24,13 +24,13 @@ ghost use Rattle.mt_arena.specs.Forests.{tree_at, layer_of};
 ghost use Rattle.mt_arena.specs.Layers.{slot_at};
 ghost use Rattle.mt_arena.specs.Settled.{IsSettled};
 ghost use Rattle.mt_arena.specs.Nodes.{HasRange};
-ghost use Rattle.mt_arena.specs.Edits.{locked, unlocked, splitting, retired, with_slots, pointed, fresh_root, Points};
+ghost use Rattle.mt_arena.specs.Edits.{locked, unlocked, splitting, with_slots, pointed, fresh_root, Points};
 ghost use Rattle.mt_arena.specs.Arena.{IsArena, AreRetired, content_of, Guarantee};
 ghost use Rattle.mt_slices.specs.Marks.{IsMark};
 ghost use Rattle.mt_border.specs.Split.{IsParted, IsSeparator, slices_with};
 ghost use Rattle.mt_interior.specs.Places.{IsNew};
 ghost use Rattle.mt_arena.specs.Several.{AreHalved, MaySplit, MayPlace, MayGrow, with_top, with_root, MayInsert, with_right, MaySplitInner, with_parts};
-ghost use Rattle.mt_arena.specs.Accesses.{new_arena, at, tree_of, IsHeld, IsOpen, with_node, with_half, with_tree, with_row, IsFreshPrefix, MayPublish, MayChange, MayRetire};
+ghost use Rattle.mt_arena.specs.Accesses.{new_arena, at, tree_of, IsHeld, IsOpen, with_node, with_half, with_tree, with_row, IsFreshPrefix, MayPublish, MayChange};
 
 use crate::node::Node;
 use crate::retired::Retired;
@@ -374,20 +374,6 @@ impl Arena {
         let number = self.nodes.len();
         part_parent(&mut self.nodes, parent, left, right, operation);
         Ok(number)
-    }
-
-    /// Takes a node out by the step of this number. Takes no memory.
-    pub fn retire(&mut self, node: usize, step: u64, operation: usize)
-        requires may { MayRetire self.old node operation }
-        requires mine { IsOpen self.old node operation }
-        ensures nodes { self.new.nodes ≡ (with_node self.old node (retired (at self.old node))).nodes }
-        ensures trees { self.new.trees ≡ self.old.trees }
-        ensures retired { self.new.retired ≡ self.old.retired ++ (record { node = node; step = step }) ∷ [] }
-        ensures step { Guarantee operation self.old self.new }
-        ensures contents { content_of self.new ≡ content_of self.old }
-    {
-        self.nodes[node].retire();
-        self.retired.push_reserved(Retired { node, step });
     }
 }
 
