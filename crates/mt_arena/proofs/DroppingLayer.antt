@@ -37,6 +37,7 @@ use Rattle.mt_arena.proofs.Retire.{nodes_retired}
 use Rattle.mt_arena.proofs.Collapse.{root_left}
 use Rattle.mt_arena.proofs.Homes.{forest_set}
 use Rattle.mt_arena.proofs.Steps.{keys_of}
+use Rattle.mt_arena.proofs.SlotPlaces.{was_at, at_still}
 use Rattle.mt_arena.proofs.OneLink.{IsLinkTo, leads, differs, below_top, one_link}
 use Rattle.mt_arena.proofs.DeadTree.{dead, stood, forest_dead}
 use Rattle.mt_arena.proofs.TakenOut.{changes_retired, same_of_trees}
@@ -46,40 +47,6 @@ use Rattle.mt_arena.proofs.Naming.{names_same, points_each, each_set2}
 use Rattle.mt_arena.proofs.Several.{MayTurn, guarantee_set2}
 use Rattle.mt_arena.proofs.Topping.{guarantee_record}
 use Rattle.mt_arena.proofs.ContentQuiet.{stands_unlinked, stands_without_slots, stands_tree_left}
-
--- place j of a list with one less is a place of the list, and another one
-record WasAt (es : List Entry) (i j : ℕ) : Type 0 where
-  place : ℕ
-  other : place ≢ i
-  in_range : place < length es
-  same : get_or (remove es i) j any_entry ≡ get_or es place any_entry
-
-was_at : (es : List Entry) (i j : ℕ) → i < length es → j < length (remove es i) → WasAt es i j
-was_at es i j within lt = elim (cases_lt j i) [
-  | inl below ↦ record { place = j; other = λ e. omega (arith, e, below); in_range = omega (arith, below, within); same = get_or-remove_below es i any_entry j below within }
-  | inr above ↦ record {
-    place = j + 1;
-    other = λ e. omega (arith, e, above);
-    in_range = omega (arith, lt, length-remove es i within);
-    same = get_or-remove_above es i any_entry j above within;
-  }
-]
-
--- and any other place of the list is one of it
-record IsAtStill (es : List Entry) (i s : ℕ) : Type 0 where
-  place : ℕ
-  in_range : place < length (remove es i)
-  same : get_or (remove es i) place any_entry ≡ get_or es s any_entry
-
-at_still : (es : List Entry) (i s : ℕ) → i < length es → s < length es → s ≢ i → IsAtStill es i s
-at_still es i s within lt other = elim (cases_lt s i) [
-  | inl below ↦ record { place = s; in_range = omega (arith, below, within, length-remove es i within); same = get_or-remove_below es i any_entry s below within }
-  | inr above ↦ record {
-    place = s - 1;
-    in_range = omega (arith, above, other, lt, length-remove es i within);
-    same = get_or-remove_above es i any_entry (s - 1) (omega (arith, above, other)) within ∙ ap (λ k. get_or es k any_entry) {x = s - 1 + 1} {y = s} (omega (arith, above, other));
-  }
-]
 
 -- two links that are one lead to one tree
 pub same_link : {t u : ℕ} → Link t ≡ Link u → t ≡ u

@@ -39,7 +39,7 @@ under_before op q old new were are i k guarantee points other within holder is =
 ]
 
 -- a live node in a list where one node is another
-follows_in : (xs : List NodeView) (i k b : ℕ) (y : NodeView) → b < length xs → Follows (set xs b y) i k → ((k ≡ b) × (y.previous ≡ Some i)) ⊎ ((k ≢ b) × Follows xs i k)
+pub follows_in : (xs : List NodeView) (i k b : ℕ) (y : NodeView) → b < length xs → Follows (set xs b y) i k → ((k ≡ b) × (y.previous ≡ Some i)) ⊎ ((k ≢ b) × Follows xs i k)
 follows_in xs i k b y within is = elim (cases_eq k b) [
   | inl same ↦ inl (same, sym (ap (λ (n : NodeView). n.previous) (ap (node_at (set xs b y)) same ∙ here xs b y within)) ∙ is.1)
   | inr other ↦
@@ -47,7 +47,7 @@ follows_in xs i k b y within is = elim (cases_eq k b) [
       inr (other, (omega (arith, is.0, length-set xs b y), sym (ap (λ (n : NodeView). n.previous) old) ∙ is.1, sym (ap (λ (n : NodeView). n.version.deleted) old) ∙ is.2))
 ]
 
-under_in : (xs : List NodeView) (i k b : ℕ) (y : NodeView) → b < length xs → IsUnder (set xs b y) i k → ((k ≡ b) × (y.parent ≡ Some i) × (y.version.deleted ≡ false)) ⊎ ((k ≢ b) × IsUnder xs i k)
+pub under_in : (xs : List NodeView) (i k b : ℕ) (y : NodeView) → b < length xs → IsUnder (set xs b y) i k → ((k ≡ b) × (y.parent ≡ Some i) × (y.version.deleted ≡ false)) ⊎ ((k ≢ b) × IsUnder xs i k)
 under_in xs i k b y within is = elim (cases_eq k b) [
   | inl same ↦
       let new = ap (node_at (set xs b y)) same ∙ here xs b y within in

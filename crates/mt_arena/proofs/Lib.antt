@@ -55,3 +55,5 @@ pub mod Collapsing
 pub mod OneLink
 pub mod DeadTree
 pub mod DroppingLayer
+pub mod SlotPlaces
+pub mod Settling

@@ -23,7 +23,7 @@ not_true true refuted = absurd (refuted refl)
 not_true false refuted = refl
 
 -- what is not taken away was not there
-was_none : (old new : Option ℕ) → (old ≢ None → new ≢ None) → new ≡ None → old ≡ None
+pub was_none : (old new : Option ℕ) → (old ≢ None → new ≢ None) → new ≡ None → old ≡ None
 was_none None new stays none = refl
 was_none (Some p) new stays none = absurd (stays (λ e. absurd (cc)) none)
 
