@@ -18,6 +18,8 @@ use Rattle.mt_arena.specs.Collapses.{Collapses, crowned}
 use Rattle.mt_arena.specs.Arena.{ArenaInvariant, ArenaView, AreRetired, Guarantee}
 use Rattle.mt_arena.specs.Accesses.{at, tree_of}
 use Rattle.mt_arena.specs.Ways.{HasSlots}
+use Rattle.mt_arena.specs.Settled.{IsSettled}
+use Rattle.mt_arena.specs.Lags.{Follows, IsUnder}
 use Rattle.mt_arena.specs.Removals.{MayCollapse, nodes_under, without_root, with_retired}
 use Rattle.mt_arena.proofs.Pairs.{here, there}
 use Rattle.mt_arena.proofs.Locks.{is_held}
@@ -30,6 +32,7 @@ use Rattle.mt_arena.proofs.Guarantees.{PointsSo, guarantee_on}
 use Rattle.mt_arena.proofs.Naming.{names_same, points_each, each_set2}
 use Rattle.mt_arena.proofs.Several.{MayTurn, guarantee_set2}
 use Rattle.mt_arena.proofs.Topping.{layers_trees, guarantee_record}
+use Rattle.mt_arena.proofs.Settling.{NamesNoMore, names_none_more, follows_was, under_was}
 use Rattle.mt_arena.proofs.ContentQuiet.{stands_unchanged, stands_without_slots, stands_tree_set}
 
 -- where there are no separators, the only range ends at the high fence
@@ -330,3 +333,45 @@ module _ (v : ArenaView) (room root child step op : ℕ) (sound : ArenaInvariant
       stands_tree_set v.trees new t rooted lt_t refl refl
       ∙ stands_unchanged v.trees ys child y (subst (λ (n : NodeView). HasSlots n y n.slots) (sym at_child) (record { slots = refl; deleted = refl; tree = refl }))
       ∙ stands_without_slots v.trees xs root w slotless slotless
+
+  -- what lags behind the two
+  each : (k : ℕ) → k < length xs → NamesNoMore (at v k) (node_at new k)
+  each = each_set2 (λ k n. NamesNoMore (at v k) n) xs root child w y lr lc apart (record { previous = refl; parent = λ k e. e; live = λ live. absurd (cc) })
+      (record { previous = refl; parent = λ k e. absurd (cc); live = λ live. live }) (λ k lt nr nc. names_none_more (at v k))
+
+  pub child_collapsed : IsSettled xs child x → IsSettled new child (node_at new child)
+  child_collapsed settled = subst (λ (n : NodeView). IsSettled new child n) (sym new_child) (record {
+    previous = λ k lt e live. let was = follows_was xs new size each child k (lt, e, live) in settled.previous k was.0 was.1 was.2;
+    previous_live = λ k lt e live. let was = follows_was xs new size each child k (lt, e, live) in settled.previous_live k was.0 was.1 was.2;
+    parent = λ k lt e live. let was = under_was xs new size each child k (lt, e, live) in settled.parent k was.0 was.1 was.2;
+    reach = settled.reach;
+    stable = settled.stable;
+    rooted = λ live none. refl;
+  })
+
+  -- nobody names the old root: its only child has no parent any more, and it has no next node
+  no_follower : IsSettled xs root p → (k : ℕ) → Follows new root k → ⊥
+  no_follower settled k is =
+      let was = follows_was xs new size each root k is in
+      let high : p.high ≡ None = sym ((sound.arena.nodes.each root lr).reach.exact may.whole) ∙ was_root.reach in
+      let meets = ((sound.arena.nodes.pairs root k lr was.0).next (settled.previous k was.0 was.1 was.2)).meets in
+      absurd (let both = sym high ∙ meets in cc)
+
+  no_child : IsSettled xs root p → (k : ℕ) → IsUnder new root k → ⊥
+  no_child settled k is =
+      let was = under_was xs new size each root k is in
+      let c = settled.parent k was.0 was.1 was.2 in
+      let place : c.place ≡ 0 = omega (arith, c.in_range, one) in
+      let same : k ≡ child = sym c.is ∙ ap (λ b. get_or p.children b 0) place ∙ first in
+      let none : (node_at new k).parent ≡ None = ap (λ k. (node_at new k).parent) same ∙ ap (λ (n : NodeView). n.parent) new_child in
+      absurd (let both = sym none ∙ is.1 in cc)
+
+  pub root_collapsed : IsSettled xs root p → IsSettled new root (node_at new root)
+  root_collapsed settled = subst (λ (n : NodeView). IsSettled new root n) (sym new_root) (record {
+    previous = λ k lt e live. absurd (no_follower settled k (lt, e, live));
+    previous_live = λ k lt e live. absurd (no_follower settled k (lt, e, live));
+    parent = λ k lt e live. absurd (no_child settled k (lt, e, live));
+    reach = settled.reach;
+    stable = settled.stable;
+    rooted = λ live. absurd (cc);
+  })

@@ -27,6 +27,9 @@ use Rattle.mt_arena.specs.Guarantee.{TreeChanges}
 use Rattle.mt_arena.specs.Edits.{retired, with_slots}
 use Rattle.mt_arena.specs.Arena.{ArenaInvariant, ArenaView, AreRetired, Guarantee}
 use Rattle.mt_arena.specs.Accesses.{at}
+use Rattle.mt_arena.specs.NodeFacts.{IsUnstable}
+use Rattle.mt_arena.specs.Settled.{IsSettled}
+use Rattle.mt_arena.specs.Lags.{Follows, IsUnder}
 use Rattle.mt_arena.specs.Removals.{MayDropLayer, nodes_above, without_layer, with_retired}
 use Rattle.mt_arena.proofs.Pairs.{here, there}
 use Rattle.mt_arena.proofs.Locks.{is_held}
@@ -46,6 +49,7 @@ use Rattle.mt_arena.proofs.Guarantees.{PointsSo, guarantee_on}
 use Rattle.mt_arena.proofs.Naming.{names_same, points_each, each_set2}
 use Rattle.mt_arena.proofs.Several.{MayTurn, guarantee_set2}
 use Rattle.mt_arena.proofs.Topping.{guarantee_record}
+use Rattle.mt_arena.proofs.Settling.{NamesNoMore, names_none_more, follows_was, under_was}
 use Rattle.mt_arena.proofs.ContentQuiet.{stands_unlinked, stands_without_slots, stands_tree_left}
 
 -- two links that are one lead to one tree
@@ -346,6 +350,46 @@ module _ (v : ArenaView) (room node i u step op : ℕ) (sound : ArenaInvariant v
       stands_tree_left v.trees new u (dead tree) emptied
       ∙ stands_without_slots v.trees ys r w (ap (λ (m : NodeView). m.slots) at_root ∙ may.empty) may.empty
       ∙ stands_unlinked v.trees xs node i u y may.link (record { slots = left_are; deleted = refl; tree = refl })
+
+  -- what lags behind the two
+  each : (k : ℕ) → k < length xs → NamesNoMore (at v k) (node_at new k)
+  each = each_set2 (λ k m. NamesNoMore (at v k) m) xs node r y w ln lr apart (record { previous = refl; parent = λ k is. is; live = λ live. live })
+      (record { previous = refl; parent = λ k is. is; live = λ live. absurd (cc) }) (λ k lk nn nr. names_none_more (at v k))
+
+  pub node_dropped_layer : IsSettled xs node n → IsSettled new node (node_at new node)
+  node_dropped_layer settled = subst (λ (m : NodeView). IsSettled new node m) (sym new_node) (record {
+    previous = λ k lt is live. let was = follows_was xs new size each node k (lt, is, live) in settled.previous k was.0 was.1 was.2;
+    previous_live = λ k lt is live. let was = follows_was xs new size each node k (lt, is, live) in settled.previous_live k was.0 was.1 was.2;
+    parent = λ k lt is live. let was = under_was xs new size each node k (lt, is, live) in settled.parent k was.0 was.1 was.2;
+    reach = settled.reach;
+    stable = subst (All (λ (d : Entry). ¬ IsUnstable d.held)) (sym left_are) (All-remove (λ (d : Entry). ¬ IsUnstable d.held) n.slots i settled.stable);
+    rooted = settled.rooted;
+  })
+
+  -- nobody names the lower root: it has no next node, and no child lives
+  no_follower : IsSettled xs r x → (k : ℕ) → Follows new r k → ⊥
+  no_follower settled k is =
+      let was = follows_was xs new size each r k is in
+      let meets = ((nodes.pairs r k lr was.0).next (settled.previous k was.0 was.1 was.2)).meets in
+      absurd (let both = sym root.reach ∙ settled.reach ∙ meets in cc)
+
+  no_child : IsSettled xs r x → (k : ℕ) → IsUnder new r k → ⊥
+  no_child settled k is =
+      let was = under_was xs new size each r k is in
+      let c = settled.parent k was.0 was.1 was.2 in
+      let below = (nodes.pairs r k lr was.0).child c.place c.in_range c.is root.live in
+      let same = may.alone k was.0 (below.tree ∙ root_tree) below.live in
+      omega (arith, below.level, ap (λ k. (at v k).level) same)
+
+  pub root_dropped_layer : IsSettled xs r x → IsSettled new r (node_at new r)
+  root_dropped_layer settled = subst (λ (m : NodeView). IsSettled new r m) (sym new_root) (record {
+    previous = λ k lt is live. absurd (no_follower settled k (lt, is, live));
+    previous_live = λ k lt is live. absurd (no_follower settled k (lt, is, live));
+    parent = λ k lt is live. absurd (no_child settled k (lt, is, live));
+    reach = settled.reach;
+    stable = settled.stable;
+    rooted = λ live. absurd (cc);
+  })
 
 -- the tree that was read in the slot is the one
 pub the_link : (v : ArenaView) (node i u t op : ℕ) → (slot_at (at v node) i).held ≡ Link t → MayDropLayer v node i u op → MayDropLayer v node i t op

@@ -1,6 +1,7 @@
 -- A border node is taken out, as one step: what holds, what others rely on, and the contents.
 use Rattle.std.proofs.Common.{◌≡◌, ◌≢◌, ℕ, ◌+◌, ◌-◌, ◌<◌, List, [], length, get_or, set, false, None, refl, sym, ap, subst, ◌∙◌, arith}
 use Rattle.std.proofs.lemmas.List.{length-set, set-set}
+use Rattle.std.proofs.lemmas.Option.{same_Some}
 use Rattle.mt_interior.specs.Fences.{end_of}
 use Rattle.mt_interior.specs.Places.{place_of}
 use Rattle.mt_interior.proofs.PlaceLemmas.{place_of-between}
@@ -8,7 +9,7 @@ use Rattle.mt_arena.specs.declared.tree.Tree.{Tree}
 use Rattle.mt_arena.specs.declared.tree.Standing.TheVariants.{Made, Dead}
 use Rattle.mt_arena.specs.declared.retired.Retired.{Retired}
 use Rattle.mt_arena.specs.NodeView.{NodeView, node_at}
-use Rattle.mt_arena.specs.Nodes.{AreNodes, IsChild, HasRange, bounds}
+use Rattle.mt_arena.specs.Nodes.{AreNodes, IsChild, HasChild, HasRange, bounds}
 use Rattle.mt_arena.specs.Ranges.{IsRanged, AreRanged}
 use Rattle.mt_arena.specs.Forests.{IsForest, IsRoot, tree_at}
 use Rattle.mt_arena.specs.Layers.{AreLayered}
@@ -18,6 +19,8 @@ use Rattle.mt_arena.specs.Unlinks.{Unlinks, joined, without_child}
 use Rattle.mt_arena.specs.Arena.{ArenaInvariant, ArenaView, AreRetired, Guarantee}
 use Rattle.mt_arena.specs.Accesses.{at}
 use Rattle.mt_arena.specs.Ways.{HasSlots}
+use Rattle.mt_arena.specs.Settled.{IsSettled}
+use Rattle.mt_arena.specs.Lags.{IsFollowedBy}
 use Rattle.mt_arena.specs.Removals.{MayUnlink, nodes_without, without_node, with_retired}
 use Rattle.mt_arena.proofs.Pairs.{here, there, nodes_set}
 use Rattle.mt_arena.proofs.Quiet.{nodes_inserting}
@@ -35,6 +38,7 @@ use Rattle.mt_arena.proofs.HeldChanges.{changes_joined, changes_without_child}
 use Rattle.mt_arena.proofs.Guarantees.{changes_on, PointsSo}
 use Rattle.mt_arena.proofs.Naming.{names_same, points_each, each_set3}
 use Rattle.mt_arena.proofs.Several.{MayTurn, guarantee_set3}
+use Rattle.mt_arena.proofs.Settling.{NamesNoMore, names_none_more, follows_was, under_was, child_less}
 use Rattle.mt_arena.proofs.ContentQuiet.{stands_unchanged, stands_without_slots}
 
 module _ (v : ArenaView) (room parent left node step op : ℕ) (sound : ArenaInvariant v.nodes v.trees v.retired room) (may : MayUnlink v parent left node op) where
@@ -271,3 +275,67 @@ module _ (v : ArenaView) (room parent left node step op : ℕ) (sound : ArenaInv
       ∙ stands_unchanged v.trees us parent q (subst (λ (n : NodeView). HasSlots n q n.slots) (sym at_parent) (record { slots = refl; deleted = refl; tree = refl }))
       ∙ stands_without_slots v.trees ys node w (ap (λ (n : NodeView). n.slots) at_node ∙ may.empty) may.empty
       ∙ stands_unchanged v.trees xs left y (record { slots = refl; deleted = refl; tree = refl })
+
+  -- what lags behind the three
+  size : length new ≡ length xs
+  size = length-set us parent q ∙ size_us
+
+  new_left : node_at new left ≡ y
+  new_left = there us parent left q apart_left ∙ there ys node left w apart_nodes ∙ here xs left y li
+
+  new_node : node_at new node ≡ w
+  new_node = there us parent node q apart_node ∙ here ys node w (omega (arith, lj, size_ys))
+
+  new_parent : node_at new parent ≡ q
+  new_parent = here us parent q (omega (arith, lq, size_us))
+
+  each : (k : ℕ) → k < length xs → NamesNoMore (at v k) (node_at new k)
+  each = each_set3 (λ k n. NamesNoMore (at v k) n) xs left node parent y w q li lj lq apart_nodes apart_left apart_node
+      (record { previous = refl; parent = λ k e. e; live = λ live. live }) (record { previous = refl; parent = λ k e. e; live = λ live. absurd (cc) }) (record { previous = refl; parent = λ k e. e; live = λ live. live })
+      (λ k lt ni nj nq. names_none_more (at v k))
+
+  -- the removed node names nobody
+  other_than : (k : ℕ) → (node_at new k).version.deleted ≡ false → node ≢ k
+  other_than k live same = absurd (let dead = sym (ap (λ (n : NodeView). n.version.deleted) new_node) ∙ ap (λ k. (node_at new k).version.deleted) same ∙ live in cc)
+
+  parent_settled : IsSettled xs parent p → IsSettled new parent (node_at new parent)
+  parent_settled settled = subst (λ (n : NodeView). IsSettled new parent n) (sym new_parent) (record {
+    previous = λ k lt e live. let was = follows_was xs new size each parent k (lt, e, live) in settled.previous k was.0 was.1 was.2;
+    previous_live = λ k lt e live. let was = follows_was xs new size each parent k (lt, e, live) in settled.previous_live k was.0 was.1 was.2;
+    parent = λ k lt e live.
+        let was = under_was xs new size each parent k (lt, e, live) in
+        child_less p a k may.beside.in_range (λ is. other_than k live (sym may.beside.right_is ∙ is)) (settled.parent k was.0 was.1 was.2);
+    reach = settled.reach;
+    stable = settled.stable;
+    rooted = settled.rooted;
+  })
+
+  childless : (n : NodeView) (k : ℕ) → n.children ≡ [] → HasChild n k → ⊥
+  childless n k none c = omega (arith, c.in_range, ap length none)
+
+  left_followed : IsSettled xs left l → IsFollowedBy new left (node_at new left) None
+  left_followed settled = subst (λ (n : NodeView). IsFollowedBy new left n None) (sym new_left) (record {
+    followers = λ k is. let was = follows_was xs new size each left k is in absurd (other_than k is.2 (same_Some _ _ (sym may.next ∙ settled.previous k was.0 was.1 was.2)));
+    children = λ k is. let was = under_was xs new size each left k is in absurd (childless l k ((nodes.each left li).children.childless left_border) (settled.parent k was.0 was.1 was.2));
+    reach = (nodes.each node lj).reach.exact may.whole;
+    stable = settled.stable;
+    rooted = settled.rooted;
+  })
+
+  node_followed : IsSettled xs node x → IsFollowedBy new node (node_at new node) x.next
+  node_followed settled = subst (λ (n : NodeView). IsFollowedBy new node n x.next) (sym new_node) (record {
+    followers = λ k is. let was = follows_was xs new size each node k is in settled.previous k was.0 was.1 was.2;
+    children = λ k is. let was = under_was xs new size each node k is in absurd (childless x k ((nodes.each node lj).children.childless may.border) (settled.parent k was.0 was.1 was.2));
+    reach = settled.reach;
+    stable = settled.stable;
+    rooted = λ live. absurd (cc);
+  })
+
+  pub settled_unlinked : IsSettled xs parent p → IsSettled (nodes_without xs parent left node) parent (node_at (nodes_without xs parent left node) parent)
+  settled_unlinked settled = subst (λ (ns : List NodeView). IsSettled ns parent (node_at ns parent)) (sym new_is) (parent_settled settled)
+
+  pub left_unlinked : IsSettled xs left l → IsFollowedBy (nodes_without xs parent left node) left (node_at (nodes_without xs parent left node) left) None
+  left_unlinked settled = subst (λ (ns : List NodeView). IsFollowedBy ns left (node_at ns left) None) (sym new_is) (left_followed settled)
+
+  pub node_unlinked : IsSettled xs node x → IsFollowedBy (nodes_without xs parent left node) node (node_at (nodes_without xs parent left node) node) x.next
+  node_unlinked settled = subst (λ (ns : List NodeView). IsFollowedBy ns node (node_at ns node) x.next) (sym new_is) (node_followed settled)

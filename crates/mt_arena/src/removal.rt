@@ -15,6 +15,9 @@ ghost use Rattle.mt_arena.specs.Edits.{inserting, with_slots};
 ghost use Rattle.mt_arena.specs.Unlinks.{without_child};
 ghost use Rattle.mt_arena.specs.Collapses.{crowned};
 ghost use Rattle.mt_arena.specs.Arena.{content_of, Guarantee};
+ghost use Rattle.mt_arena.specs.Forests.{tree_at};
+ghost use Rattle.mt_arena.specs.Settled.{IsSettled};
+ghost use Rattle.mt_arena.specs.Lags.{IsFollowedBy};
 ghost use Rattle.mt_arena.specs.Accesses.{at};
 ghost use Rattle.mt_arena.specs.Removals.{MayUnlink, nodes_without, without_node, MayCollapse, nodes_under, without_root, MayDropLayer, nodes_above, without_layer};
 
@@ -32,6 +35,10 @@ impl Arena {
         ensures is { self.new ≡ without_node self.old parent left node step }
         ensures step { Guarantee operation self.old self.new }
         ensures contents { content_of self.new ≡ content_of self.old }
+        ensures parent_settled { IsSettled self.old.nodes parent (at self.old parent) → IsSettled self.new.nodes parent (at self.new parent) }
+        ensures left_unnamed { IsSettled self.old.nodes left (at self.old left) → IsFollowedBy self.new.nodes left (at self.new left) None }
+        ensures node_followed { IsSettled self.old.nodes node (at self.old node) →
+            IsFollowedBy self.new.nodes node (at self.new node) (at self.old node).next }
     {
         take_out(&mut self.nodes, parent, left, node);
         self.retired.push_reserved(Retired { node, step });
@@ -43,6 +50,8 @@ impl Arena {
         ensures is { self.new ≡ without_root self.old root child step }
         ensures step { Guarantee operation self.old self.new }
         ensures contents { content_of self.new ≡ content_of self.old }
+        ensures root_settled { IsSettled self.old.nodes root (at self.old root) → IsSettled self.new.nodes root (at self.new root) }
+        ensures child_settled { IsSettled self.old.nodes child (at self.old child) → IsSettled self.new.nodes child (at self.new child) }
     {
         let tree = self.nodes[root].tree();
         hand_on(&mut self.nodes, root, child);
@@ -57,6 +66,10 @@ impl Arena {
         ensures is { (u : ℕ) → (slot_at (at self.old node) slot).held ≡ Link u → self.new ≡ without_layer self.old node slot u step }
         ensures step { Guarantee operation self.old self.new }
         ensures contents { content_of self.new ≡ content_of self.old }
+        ensures settled { IsSettled self.old.nodes node (at self.old node) → IsSettled self.new.nodes node (at self.new node) }
+        ensures root_settled { (u : ℕ) → (slot_at (at self.old node) slot).held ≡ Link u →
+            let r = (tree_at self.old.trees u).root in
+            IsSettled self.old.nodes r (at self.old r) → IsSettled self.new.nodes r (at self.new r) }
     {
         let lower = self.nodes[node].link_at(slot);
         let root = self.trees[lower].root;
