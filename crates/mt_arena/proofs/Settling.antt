@@ -18,6 +18,7 @@ use Rattle.mt_arena.specs.Settled.{IsSettled}
 use Rattle.mt_arena.specs.Lags.{Follows, IsUnder, AreFollowers, AreChildren, IsFollowedBy}
 use Rattle.mt_arena.proofs.Pairs.{here, there}
 use Rattle.mt_arena.proofs.Settled.{alive, was_none}
+use Rattle.mt_arena.proofs.SettledEdits.{settled_beside}
 use Rattle.mt_arena.proofs.Lags.{follows_before, under_before, right_again, follows_in, under_in}
 
 -- a node that is live was, and names no other node than it named
@@ -126,3 +127,7 @@ module _ (xs : List NodeView) (i j b : ℕ) (lb : b < length xs) where
     | inl own ↦ absurd (ij (same_Some _ _ own.1))
     | inr old ↦ absurd (old.0 (sym (same_Some _ _ (followed.followers k old.1))))
   ]) followed
+
+  -- and nothing comes to lag behind any other node
+  pub settled_aside : (k : ℕ) → k ≢ i → k ≢ b → IsSettled xs k (node_at xs k) → IsSettled ys k (node_at ys k)
+  settled_aside k ki kb settled = settled_beside xs k b n lb kb settled (λ e live. absurd (ki (sym (same_Some _ _ e)))) (λ e live. absurd (ki (sym (same_Some _ _ e)))) (λ e live. settled.parent b lb e live)

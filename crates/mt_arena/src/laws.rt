@@ -1,7 +1,7 @@
 //! What follows from the facts of nodes, trees and links, and what steps make of the contents. Each
 //! is a contract alone: no code runs.
 
-ghost use Rattle.std.specs.Prelude.{◌≡◌, ◌≢◌, ℕ, ◌+◌, ◌*◌, ◌<◌, ◌≤◌, ◌⊎◌, true, false, List, [], ◌∷◌, ◌++◌, length, take, slice_set, Some, None};
+ghost use Rattle.std.specs.Prelude.{◌≡◌, ◌≢◌, ℕ, ◌+◌, ◌*◌, ◌<◌, ◌≤◌, ◌⊎◌, true, false, List, [], ◌∷◌, ◌++◌, length, take, slice_set, Option, Some, None};
 ghost use Rattle.std.specs.List.{remove};
 ghost use Rattle.std.specs.FinMap as pairs;
 ghost use Rattle.mt_slices.specs.Keys.{IsStoredKey};
@@ -26,6 +26,8 @@ ghost use Rattle.mt_arena.specs.Contents.{content};
 ghost use Rattle.mt_arena.specs.Arena.{IsArena};
 ghost use Rattle.mt_arena.specs.Guarantee.{NodesGuarantee, PointsOnly};
 ghost use Rattle.mt_arena.specs.Settled.{IsSettled};
+ghost use Rattle.mt_arena.specs.Lags.{IsFollowedBy};
+ghost use Rattle.mt_arena.specs.Edits.{pointed};
 ghost use Rattle.mt_arena.specs.Stands.{IsLiveBorder, StandsAt};
 ghost use Rattle.mt_arena.specs.Ways.{LinksOn, BelongsIn, StandsFor, GoesOn, HasSlots, IsUnfilled, IsMadeFor};
 
@@ -174,6 +176,30 @@ pub fn a_child_is_no_root()
     ensures { (nodes : List NodeView) (trees : List Tree) (k : ℕ) → IsArena nodes trees → k < length nodes →
         (node_at nodes k).version.deleted ≡ false → (node_at nodes k).parent ≢ None →
         HasRange (node_at nodes k) × ((node_at nodes k).version.root ≡ false) }
+{}
+
+/// Between a removal and the step by which the node behind names its new neighbour, no more comes to
+/// lag behind the nodes that the operation holds. By that step the neighbour has its follower back, and
+/// the removed node none: then all locks may be given back.
+pub fn followed_until_named()
+    ensures others { (op holder : ℕ) (old new : List NodeView) (were are : List Tree) (k : ℕ) (named : Option ℕ) →
+        NodesGuarantee op old new were are → PointsOnly op old new → holder ≢ op → k < length old →
+        (node_at old k).holder ≡ Some holder → IsFollowedBy old k (node_at old k) named → IsFollowedBy new k (node_at new k) named }
+    ensures named { (nodes : List NodeView) (left behind : ℕ) → behind < length nodes → left ≢ behind →
+        IsFollowedBy nodes left (node_at nodes left) None →
+        let after = slice_set nodes behind (pointed (node_at nodes behind) (Some left) (node_at nodes behind).parent) in
+        IsFollowedBy after left (node_at after left) (Some behind) }
+    ensures unnamed { (nodes : List NodeView) (left removed behind : ℕ) → behind < length nodes → left ≢ removed → removed ≢ behind →
+        IsFollowedBy nodes removed (node_at nodes removed) (Some behind) →
+        let after = slice_set nodes behind (pointed (node_at nodes behind) (Some left) (node_at nodes behind).parent) in
+        IsFollowedBy after removed (node_at after removed) None }
+    ensures beside { (nodes : List NodeView) (left behind k : ℕ) → behind < length nodes → k ≢ left → k ≢ behind →
+        IsSettled nodes k (node_at nodes k) →
+        let after = slice_set nodes behind (pointed (node_at nodes behind) (Some left) (node_at nodes behind).parent) in
+        IsSettled after k (node_at after k) }
+    ensures by_none { (nodes : List NodeView) (k : ℕ) (x : NodeView) → IsFollowedBy nodes k x None → IsSettled nodes k x }
+    ensures by_the_next { (nodes : List NodeView) (k : ℕ) (x : NodeView) → x.version.deleted ≡ false →
+        IsFollowedBy nodes k x x.next → IsSettled nodes k x }
 {}
 
 /// What steps of one operation leave to others adds up: nothing is done by no step, and two steps are

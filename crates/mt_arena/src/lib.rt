@@ -9,7 +9,7 @@
 pub mod arena;
 pub mod laws;
 pub mod node;
-pub mod removal;
+mod removal;
 pub mod retired;
 pub mod tree;
 
