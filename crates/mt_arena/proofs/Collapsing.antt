@@ -291,7 +291,7 @@ module _ (v : ArenaView) (room root child step op : ℕ) (sound : ArenaInvariant
     sound_collapsed = record {
       arena = record {
         nodes = nodes_collapsed xs child root sound.arena.nodes sound.arena.ranged collapses;
-        ranged = ranged_collapsed xs child root sound.arena.ranged collapses;
+        ranged = ranged_collapsed xs child root sound.arena.nodes sound.arena.ranged collapses;
         forest = forest_out;
         layers = layers_out;
       };

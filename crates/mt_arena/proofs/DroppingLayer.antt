@@ -18,8 +18,8 @@ use Rattle.mt_arena.specs.declared.tree.Tree.{Tree}
 use Rattle.mt_arena.specs.declared.tree.Standing.TheVariants.{Made, Live, Dead}
 use Rattle.mt_arena.specs.declared.retired.Retired.{Retired}
 use Rattle.mt_arena.specs.NodeView.{NodeView, node_at}
-use Rattle.mt_arena.specs.Nodes.{AreNodes, Holds}
-use Rattle.mt_arena.specs.Ranges.{AreRanged}
+use Rattle.mt_arena.specs.Nodes.{AreNodes, Holds, HasRange}
+use Rattle.mt_arena.specs.Ranges.{AreRanged, Waits}
 use Rattle.mt_arena.specs.Forests.{IsForest, IsRoot, HaveKeys, tree_at, no_tree, layer_of}
 use Rattle.mt_arena.specs.Layers.{AreLayered, AreLinks, HasLink, LeadsTo, slot_at}
 use Rattle.mt_arena.specs.Contents.{content}
@@ -35,7 +35,7 @@ use Rattle.mt_arena.proofs.Pairs.{here, there}
 use Rattle.mt_arena.proofs.Locks.{is_held}
 use Rattle.mt_arena.proofs.Quiet.{nodes_slots}
 use Rattle.mt_arena.proofs.Slots.{within_each, within_all, changes_slots}
-use Rattle.mt_arena.proofs.Ranged.{ranged_turned}
+use Rattle.mt_arena.proofs.Ranged.{no_wait, ranged_marked, ranged_retired}
 use Rattle.mt_arena.proofs.Retire.{nodes_retired}
 use Rattle.mt_arena.proofs.Collapse.{root_left}
 use Rattle.mt_arena.proofs.Homes.{forest_set}
@@ -185,7 +185,7 @@ module _ (v : ArenaView) (room node i u step op : ℕ) (sound : ArenaInvariant v
   nodes_ys = nodes_slots xs node es ln nodes (is_held op n may.held.holder) may.border (border_without n.slots e was_border) inside
 
   ranged_ys : AreRanged ys
-  ranged_ys = ranged_turned xs node es y.version n.holder ln sound.arena.ranged (sound.arena.ranged node ln).unmarked
+  ranged_ys = ranged_marked xs node es y.version ln sound.arena.ranged refl (λ splits. splits) (λ whole. whole)
 
   nodes_out : AreNodes new
   nodes_out =
@@ -193,20 +193,25 @@ module _ (v : ArenaView) (room node i u step op : ℕ) (sound : ArenaInvariant v
       (nodes_retired ys r lr_ys nodes_ys (λ none. is_held op x may.root_held.holder (sym (ap (λ (m : NodeView). m.holder) at_root) ∙ none))
       (root_left ys r lr_ys nodes_ys ranged_ys (ap (λ (m : NodeView). m.low) at_root ∙ root.low) (ap (λ (m : NodeView). m.parent) at_root ∙ root.parentless)))
 
-  ranged_out : AreRanged new
-  ranged_out =
-      subst (λ (m : NodeView). AreRanged (set ys r (retired m))) at_root
-      (ranged_turned ys r (node_at ys r).slots (retired (node_at ys r)).version (node_at ys r).holder lr_ys ranged_ys (λ whole live. absurd (cc)))
-
-  -- trees
-  forest_ys : IsForest ys v.trees
-  forest_ys = forest_set xs v.trees node y ln forest (record { tree = refl; deleted = refl; flag = refl; root = λ h. record { live = h.live; flag = h.flag; parentless = h.parentless; low = h.low; reach = h.reach } }) keys
-
   alone_ys : (k : ℕ) → k < length ys → (node_at ys k).tree ≡ u → (node_at ys k).version.deleted ≡ false → k ≡ r
   alone_ys k lk = elim (cases_eq k node) [
     | inl is ↦ rw (is, here xs node y ln) (λ in_tree live. absurd (away in_tree))
     | inr other ↦ rw (there xs node k y other) (may.alone k (omega (arith, lk, size_ys)))
   ]
+
+  -- no right half waits at the root: it would be a live node of the tree
+  unawaited : (k : ℕ) → k < length ys → (node_at ys k).previous ≡ Some r → Waits (node_at ys k) → ⊥
+  unawaited k lk before waits =
+      let half = (ranged_ys.ties k r lk lr_ys).left before waits in
+      let same = alone_ys k lk (sym half.tree ∙ ap (λ (m : NodeView). m.tree) at_root ∙ root_tree) waits.0 in
+      no_wait (node_at ys k) (subst (λ j. HasRange (node_at ys j)) (sym same) half.range) waits
+
+  ranged_out : AreRanged new
+  ranged_out = subst (λ (m : NodeView). AreRanged (set ys r (retired m))) at_root (ranged_retired ys r lr_ys ranged_ys unawaited)
+
+  -- trees
+  forest_ys : IsForest ys v.trees
+  forest_ys = forest_set xs v.trees node y ln forest (record { tree = refl; deleted = refl; flag = refl; root = λ h. record { live = h.live; flag = h.flag; parentless = h.parentless; low = h.low; reach = h.reach } }) keys
 
   forest_out : IsForest new ts
   forest_out = subst (λ (m : NodeView). IsForest (set ys r (retired m)) ts) at_root

@@ -34,6 +34,7 @@ pub mod Inner
 pub mod InnerSplit
 pub mod Move
 pub mod Ranged
+pub mod RangedEdits
 pub mod Ranges
 pub mod SettledEdits
 pub mod Unlink
@@ -57,3 +58,4 @@ pub mod DeadTree
 pub mod DroppingLayer
 pub mod SlotPlaces
 pub mod Settling
+pub mod Alone

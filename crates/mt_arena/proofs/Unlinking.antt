@@ -10,7 +10,7 @@ use Rattle.mt_arena.specs.declared.tree.Standing.TheVariants.{Made, Dead}
 use Rattle.mt_arena.specs.declared.retired.Retired.{Retired}
 use Rattle.mt_arena.specs.NodeView.{NodeView, node_at}
 use Rattle.mt_arena.specs.Nodes.{AreNodes, IsChild, HasChild, HasRange, bounds}
-use Rattle.mt_arena.specs.Ranges.{IsRanged, AreRanged}
+use Rattle.mt_arena.specs.Ranges.{AreRanged}
 use Rattle.mt_arena.specs.Forests.{IsForest, IsRoot, tree_at}
 use Rattle.mt_arena.specs.Layers.{AreLayered}
 use Rattle.mt_arena.specs.Contents.{content}
@@ -22,10 +22,11 @@ use Rattle.mt_arena.specs.Ways.{HasSlots}
 use Rattle.mt_arena.specs.Settled.{IsSettled}
 use Rattle.mt_arena.specs.Lags.{IsFollowedBy}
 use Rattle.mt_arena.specs.Removals.{MayUnlink, nodes_without, without_node, with_retired}
-use Rattle.mt_arena.proofs.Pairs.{here, there, nodes_set}
+use Rattle.mt_arena.proofs.Pairs.{here, there}
 use Rattle.mt_arena.proofs.Quiet.{nodes_inserting}
 use Rattle.mt_arena.proofs.Ranges.{not_empty, length_bounds, separators_rise}
-use Rattle.mt_arena.proofs.Ranged.{ranged_unlinked}
+use Rattle.mt_arena.proofs.Ranged.{ranged_marked}
+use Rattle.mt_arena.proofs.RangedEdits.{ranged_unlinked}
 use Rattle.mt_arena.proofs.Unlink.{nodes_unlinked}
 use Rattle.mt_arena.proofs.Locks.{is_held}
 use Rattle.mt_arena.proofs.Homes.{KeepsHome, forest_set}
@@ -122,13 +123,13 @@ module _ (v : ArenaView) (room parent left node step op : ℕ) (sound : ArenaInv
   left_border = omega (arith, left_child.level, child.level, may.border)
 
   range : HasRange x
-  range = (ranged node lj).parent child.knows
+  range = (ranged.each node lj).parent child.knows
 
   meet : end_of l.high ≡ x.low
   meet = ap end_of ((nodes.pairs left node li lj).next may.next).meets
 
   left_range : HasRange l
-  left_range = (ranged left li).parent left_child.knows
+  left_range = (ranged.each left li).parent left_child.knows
 
   -- the three are three
   pub apart_nodes : left ≢ node
@@ -182,11 +183,10 @@ module _ (v : ArenaView) (room parent left node step op : ℕ) (sound : ArenaInv
 
   ranged_out : AreRanged new
   ranged_out =
-      let zs = set us parent (without_child p a) in
+      let zs : List NodeView = set us parent (without_child p a) in
       let size = length-set us parent (without_child p a) in
-      let h = ranged parent lq in
-      subst AreRanged (set-set us parent (without_child p a) q) (nodes_set IsRanged zs parent q (omega (arith, lq, size_us, size)) (ranged_unlinked xs left node parent a nodes ranged unlinks)
-      (record { next = h.next; parent = h.parent; unmarked = h.unmarked }))
+      let z = node_at zs parent in
+      subst AreRanged marked (ranged_marked zs parent z.slots (inserting z).version (omega (arith, lq, size_us, size)) (ranged_unlinked xs left node parent a nodes ranged unlinks apart_nodes apart_left apart_node) refl (λ splits. splits) (λ whole. whole))
 
   -- trees: a node that has a parent is no root
   same_root : (n m : NodeView) → m.version.deleted ≡ n.version.deleted → m.version.root ≡ n.version.root → m.parent ≡ n.parent → m.low ≡ n.low → m.reach ≡ n.reach → (IsRoot n → IsRoot m)
