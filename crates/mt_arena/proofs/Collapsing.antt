@@ -1,4 +1,4 @@
--- A root gives way to its only child, as one step: what holds, what others rely on, and the contents.
+-- The whole invariant, the guarantee and the contents where a root gives way to its only child: for `collapse`.
 use Rattle.std.proofs.Common.{◌≡◌, ◌≢◌, ℕ, ◌+◌, ◌-◌, ◌<◌, List, [], ◌∷◌, length, get_or, set, Some, None, refl, sym, ap, subst, ◌∙◌, inl, inr, arith}
 use Rattle.std.proofs.lemmas.Bool.{cases_eq}
 use Rattle.std.proofs.lemmas.List.{length-set, get_or-set_same, get_or-set_other}

@@ -1,4 +1,4 @@
--- A tree is taken out with its root and the link to it, as one step: what holds, what others rely on, and the contents.
+-- The whole invariant, the guarantee and the contents where a tree is taken out with its root and the link to it: for `drop_layer`.
 use Rattle.std.proofs.Common.{◌≡◌, ◌≢◌, ℕ, ◌+◌, ◌-◌, ◌<◌, ◌++◌, List, [], length, get_or, set, Bool, true, false, Some, refl, sym, ap, subst, ◌∙◌, inl, inr, arith}
 use Rattle.std.specs.Prelude.{◌⊎◌}
 use Rattle.std.specs.List.{All, remove}

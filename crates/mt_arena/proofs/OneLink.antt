@@ -1,4 +1,4 @@
--- A live tree has one link: two slots of live nodes that lead to it are one. For the call that takes a tree out.
+-- A live tree has one link, two slots of live nodes that lead to it are one: for `DroppingLayer`.
 use Rattle.std.proofs.Common.{◌≡◌, ◌≢◌, ℕ, ◌+◌, ◌^◌, ◌<◌, List, ◌++◌, length, take, drop, false, refl, sym, ap, subst, ◌∙◌, inl, inr, arith}
 use Rattle.std.specs.Int.{w64, to_be_bytes, from_be_bytes}
 use Rattle.std.proofs.lemmas.Bool.{cases_lt}

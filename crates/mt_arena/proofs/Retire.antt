@@ -1,4 +1,4 @@
--- A node that is taken out of its tree.
+-- The facts of nodes are kept as a node is taken out: for `Collapse` and `DroppingLayer`.
 use Rattle.std.proofs.Common.{◌≡◌, ◌≢◌, ℕ, ◌<◌, List, length, get_or, Some, None, true, set}
 use Rattle.mt_arena.specs.NodeView.{NodeView, node_at}
 use Rattle.mt_arena.specs.Nodes.{AreNodes, IsPair}

@@ -1,4 +1,4 @@
--- What lags behind a node as others are taken out, and once the node behind names its new neighbour.
+-- What lags behind a node as another one is taken out, and once the node behind is told: for `followed_until_named` and the crates above.
 use Rattle.std.proofs.Common.{◌≡◌, ◌≢◌, ℕ, ◌+◌, ◌-◌, ◌<◌, List, length, get_or, set, Option, Some, None, false, refl, sym, ap, subst, ◌∙◌, inl, inr, arith}
 use Rattle.std.specs.List.{All}
 use Rattle.std.proofs.lemmas.Bool.{cases_eq, cases_lt}

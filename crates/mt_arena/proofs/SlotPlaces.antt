@@ -1,4 +1,4 @@
--- Which slot stands where, as one is taken out: for the call that drops a link.
+-- Which slot stands where once one is taken out: for `DroppingLayer`.
 use Rattle.std.proofs.Common.{◌≡◌, ◌≢◌, ℕ, ◌+◌, ◌-◌, ◌<◌, List, length, get_or, ap, ◌∙◌, inl, inr, arith}
 use Rattle.std.specs.List.{remove}
 use Rattle.std.proofs.lemmas.Bool.{cases_lt}

@@ -1,4 +1,4 @@
--- A border node is taken out, as one step: what holds, what others rely on, and the contents.
+-- The whole invariant, the guarantee and the contents where a border node is taken out, and what lags behind its neighbours: for `unlink`.
 use Rattle.std.proofs.Common.{◌≡◌, ◌≢◌, ℕ, ◌+◌, ◌-◌, ◌<◌, List, [], length, get_or, set, false, None, refl, sym, ap, subst, ◌∙◌, arith}
 use Rattle.std.proofs.lemmas.List.{length-set, set-set}
 use Rattle.std.proofs.lemmas.Option.{same_Some}
@@ -186,7 +186,7 @@ module _ (v : ArenaView) (room parent left node step op : ℕ) (sound : ArenaInv
       let zs : List NodeView = set us parent (without_child p a) in
       let size = length-set us parent (without_child p a) in
       let z = node_at zs parent in
-      subst AreRanged marked (ranged_marked zs parent z.slots (inserting z).version (omega (arith, lq, size_us, size)) (ranged_unlinked xs left node parent a nodes ranged unlinks apart_nodes apart_left apart_node) refl (λ splits. splits) (λ whole. whole))
+      subst AreRanged marked (ranged_marked zs parent z.slots (inserting z).version (omega (arith, lq, size_us, size)) (ranged_unlinked xs left node parent a nodes ranged unlinks) refl (λ splits. splits) (λ whole. whole))
 
   -- trees: a node that has a parent is no root
   same_root : (n m : NodeView) → m.version.deleted ≡ n.version.deleted → m.version.root ≡ n.version.root → m.parent ≡ n.parent → m.low ≡ n.low → m.reach ≡ n.reach → (IsRoot n → IsRoot m)
