@@ -1,14 +1,13 @@
 -- The whole invariant, the guarantee and the contents where a root gives way to its only child: for `collapse`.
-use Rattle.std.proofs.Common.{◌≡◌, ◌≢◌, ℕ, ◌+◌, ◌-◌, ◌<◌, List, [], ◌∷◌, length, get_or, set, Some, None, refl, sym, ap, subst, ◌∙◌, inl, inr, arith}
+use Rattle.std.proofs.Common.{◌≡◌, ◌≢◌, ℕ, ◌<◌, List, [], ◌∷◌, length, get_or, set, Some, None, refl, sym, ap, subst, ◌∙◌, inl, inr, arith}
 use Rattle.std.proofs.lemmas.Bool.{cases_eq}
 use Rattle.std.proofs.lemmas.List.{length-set, get_or-set_same, get_or-set_other}
 use Rattle.mt_version.proofs.Aging.{ages-made_root}
 use Rattle.mt_interior.specs.Fences.{end_of, bounds_of}
 use Rattle.mt_arena.specs.declared.tree.Tree.{Tree}
-use Rattle.mt_arena.specs.declared.tree.Standing.TheVariants.{Made, Dead}
-use Rattle.mt_arena.specs.declared.retired.Retired.{Retired}
+use Rattle.mt_arena.specs.declared.tree.Standing.TheVariants.{Dead}
 use Rattle.mt_arena.specs.NodeView.{NodeView, node_at}
-use Rattle.mt_arena.specs.Nodes.{AreNodes, IsChild, HasChild, bounds}
+use Rattle.mt_arena.specs.Nodes.{IsChild, HasChild, bounds}
 use Rattle.mt_arena.specs.Forests.{IsForest, IsHome, IsRoot, IsTree, tree_at, no_tree}
 use Rattle.mt_arena.specs.Layers.{AreLayered}
 use Rattle.mt_arena.specs.Contents.{content}

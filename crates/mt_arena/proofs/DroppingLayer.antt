@@ -1,22 +1,19 @@
 -- The whole invariant, the guarantee and the contents where a tree is taken out with its root and the link to it: for `drop_layer`.
-use Rattle.std.proofs.Common.{◌≡◌, ◌≢◌, ℕ, ◌+◌, ◌-◌, ◌<◌, ◌++◌, List, [], length, get_or, set, Bool, true, false, Some, refl, sym, ap, subst, ◌∙◌, inl, inr, arith}
+use Rattle.std.proofs.Common.{◌≡◌, ◌≢◌, ℕ, ◌<◌, ◌++◌, List, [], length, get_or, set, Bool, true, false, Some, refl, sym, ap, subst, ◌∙◌, inl, inr, arith}
 use Rattle.std.specs.Prelude.{◌⊎◌}
 use Rattle.std.specs.List.{All, remove}
-use Rattle.std.proofs.lemmas.Bool.{cases_eq, cases_lt}
+use Rattle.std.proofs.lemmas.Bool.{cases_eq}
 use Rattle.std.proofs.lemmas.List.{length-set, get_or-set_other, get_or_default}
-use Rattle.std.proofs.lemmas.List.Edits.{length-remove, get_or-remove_below, get_or-remove_above}
 use Rattle.mt_slices.specs.Slices.{piece_bytes}
 use Rattle.mt_slices.specs.declared.mark.Mark.TheVariants.{Short, Long}
 use Rattle.mt_rows.specs.Rows.{Bytes}
 use Rattle.mt_border.specs.declared.entry.Entry.{Entry}
-use Rattle.mt_border.specs.declared.entry.Held.{Held}
 use Rattle.mt_border.specs.declared.entry.Held.TheVariants.{Link}
 use Rattle.mt_border.specs.Contents.{HasKey}
 use Rattle.mt_border.specs.Entries.{IsBorder, slices, without}
 use Rattle.mt_border.proofs.Edits.{any_entry, All-remove, border_without, without_at}
 use Rattle.mt_arena.specs.declared.tree.Tree.{Tree}
-use Rattle.mt_arena.specs.declared.tree.Standing.TheVariants.{Made, Live, Dead}
-use Rattle.mt_arena.specs.declared.retired.Retired.{Retired}
+use Rattle.mt_arena.specs.declared.tree.Standing.TheVariants.{Live, Dead}
 use Rattle.mt_arena.specs.NodeView.{NodeView, node_at}
 use Rattle.mt_arena.specs.Nodes.{AreNodes, Holds, HasRange}
 use Rattle.mt_arena.specs.Ranges.{AreRanged, Waits}

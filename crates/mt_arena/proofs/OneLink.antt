@@ -6,7 +6,6 @@ use Rattle.std.proofs.lemmas.Nat.{from_be_bytes-to_be_bytes_8}
 use Rattle.std.proofs.lemmas.List.{length-append, take_at, drop_at}
 use Rattle.mt_slices.specs.declared.mark.Mark.TheVariants.{Long}
 use Rattle.mt_rows.specs.Rows.{Bytes}
-use Rattle.mt_border.specs.declared.entry.Entry.{Entry}
 use Rattle.mt_border.specs.declared.entry.Held.TheVariants.{Link}
 use Rattle.mt_border.proofs.Edits.{any_entry}
 use Rattle.mt_arena.specs.declared.tree.Tree.{Tree}
@@ -28,8 +27,7 @@ pub record IsLinkTo (nodes : List NodeView) (k i u : ℕ) : Type 0 where
 -- one list, parted before its last eight bytes
 same_front : (a b x y : Bytes) → length x ≡ 8 → length y ≡ 8 → a ++ x ≡ b ++ y → (a ≡ b) × (x ≡ y)
 same_front a b x y eight also same =
-    let size : length a ≡ length b = omega (arith, length-append a x, length-append b y, ap length same, eight, also) in
-    (
+    let size : length a ≡ length b = omega (arith, length-append a x, length-append b y, ap length same, eight, also) in (
       sym (take_at a x (length a) refl) ∙ ap (take (length a)) same ∙ take_at b y (length a) (sym size),
       sym (drop_at a x (length a) refl) ∙ ap (drop (length a)) same ∙ drop_at b y (length a) (sym size),
     )
@@ -88,5 +86,5 @@ module _ (nodes : List NodeView) (trees : List Tree) (arena : IsArena nodes tree
       let parts = same_front (tree_at trees n.tree).prefix (tree_at trees m.tree).prefix (to_be_bytes w64 s) (to_be_bytes w64 r) refl refl (sym (leads k i u this).prefix ∙ (leads l j u that).prefix) in
       let tree = one_tree nodes trees n.tree m.tree arena.forest (leads k i u this).from (leads l j u that).from parts.0 in
       let slice : s ≡ r =
-          sym (from_be_bytes-to_be_bytes_8 s (slice_fits k i u this)) ∙ ap (from_be_bytes w64) parts.1 ∙ from_be_bytes-to_be_bytes_8 r (slice_fits l j u that) in
+      sym (from_be_bytes-to_be_bytes_8 s (slice_fits k i u this)) ∙ ap (from_be_bytes w64) parts.1 ∙ from_be_bytes-to_be_bytes_8 r (slice_fits l j u that) in
       one_place nodes m.tree r Long k i l j arena.nodes (stands k i u m.tree r this tree slice) (stands l j u m.tree r that refl refl)

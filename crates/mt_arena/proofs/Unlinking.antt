@@ -1,15 +1,13 @@
 -- The whole invariant, the guarantee and the contents where a border node is taken out, and what lags behind its neighbours: for `unlink`.
-use Rattle.std.proofs.Common.{◌≡◌, ◌≢◌, ℕ, ◌+◌, ◌-◌, ◌<◌, List, [], length, get_or, set, false, None, refl, sym, ap, subst, ◌∙◌, arith}
+use Rattle.std.proofs.Common.{◌≡◌, ◌≢◌, ℕ, ◌+◌, ◌-◌, ◌<◌, List, [], length, set, false, None, refl, sym, ap, subst, ◌∙◌, arith}
 use Rattle.std.proofs.lemmas.List.{length-set, set-set}
 use Rattle.std.proofs.lemmas.Option.{same_Some}
 use Rattle.mt_interior.specs.Fences.{end_of}
 use Rattle.mt_interior.specs.Places.{place_of}
 use Rattle.mt_interior.proofs.PlaceLemmas.{place_of-between}
-use Rattle.mt_arena.specs.declared.tree.Tree.{Tree}
-use Rattle.mt_arena.specs.declared.tree.Standing.TheVariants.{Made, Dead}
-use Rattle.mt_arena.specs.declared.retired.Retired.{Retired}
+use Rattle.mt_arena.specs.declared.tree.Standing.TheVariants.{Dead}
 use Rattle.mt_arena.specs.NodeView.{NodeView, node_at}
-use Rattle.mt_arena.specs.Nodes.{AreNodes, IsChild, HasChild, HasRange, bounds}
+use Rattle.mt_arena.specs.Nodes.{AreNodes, IsChild, HasChild, HasRange}
 use Rattle.mt_arena.specs.Ranges.{AreRanged}
 use Rattle.mt_arena.specs.Forests.{IsForest, IsRoot, tree_at}
 use Rattle.mt_arena.specs.Layers.{AreLayered}

@@ -1,5 +1,5 @@
 -- What the calls of an arena need and leave.
-use Rattle.std.specs.Prelude.{◌≡◌, ◌≢◌, ℕ, ◌*◌, ◌<◌, false, [], ◌∷◌, ◌++◌, length, Some, slice_set}
+use Rattle.std.specs.Prelude.{◌≡◌, ◌≢◌, ℕ, ◌*◌, ◌<◌, [], ◌∷◌, ◌++◌, length, Some, slice_set}
 use Rattle.mt_rows.specs.Rows.{Bytes, Columns}
 use Rattle.mt_border.specs.Contents.{HasKey}
 use Rattle.mt_border.specs.Entry.{IsEntry, IsStablePair}
@@ -10,7 +10,7 @@ use Rattle.mt_border.specs.declared.entry.Held.TheVariants.{Stable}
 use Rattle.mt_arena.specs.Layers.{slot_at}
 use Rattle.mt_arena.specs.Ways.{BelongsIn, StandsFor}
 use Rattle.mt_arena.specs.declared.tree.Tree.{Tree}
-use Rattle.mt_arena.specs.declared.tree.Standing.TheVariants.{Made, Live, Dead}
+use Rattle.mt_arena.specs.declared.tree.Standing.TheVariants.{Made, Live}
 use Rattle.mt_arena.specs.NodeView.{NodeView, node_at}
 use Rattle.mt_arena.specs.Forests.{tree_at, layer_of}
 use Rattle.mt_arena.specs.Edits.{splitting, fresh_half, fresh_root}

@@ -1,5 +1,5 @@
 -- What single edits make of a node, and what they need of the others.
-use Rattle.std.specs.Prelude.{◌≡◌, ◌≢◌, ℕ, ◌<◌, ◌⊎◌, Bool, true, false, List, length, Option, Some, None, slice_index}
+use Rattle.std.specs.Prelude.{◌≡◌, ◌≢◌, ℕ, ◌<◌, ◌⊎◌, Bool, true, false, List, length, Option, Some, None}
 use Rattle.mt_version.specs.Parts.{Parts, fresh_parts}
 use Rattle.mt_version.specs.Changes.{unlocked_parts}
 use Rattle.mt_border.specs.declared.entry.Entry.{Entry}

@@ -1,9 +1,8 @@
 -- What the calls that take out nodes and trees need, and what they leave.
-use Rattle.std.specs.Prelude.{◌≡◌, ℕ, ◌-◌, ◌<◌, false, List, [], ◌∷◌, ◌++◌, length, Some, None, slice_set, slice_index}
+use Rattle.std.specs.Prelude.{◌≡◌, ℕ, ◌-◌, ◌<◌, false, List, [], ◌∷◌, ◌++◌, length, Some, slice_set, slice_index}
 use Rattle.mt_border.specs.Entries.{without}
 use Rattle.mt_border.specs.declared.entry.Held.TheVariants.{Link}
 use Rattle.mt_interior.specs.Places.{place_of}
-use Rattle.mt_arena.specs.declared.tree.Tree.{Tree}
 use Rattle.mt_arena.specs.declared.tree.Standing.TheVariants.{Dead}
 use Rattle.mt_arena.specs.declared.retired.Retired.{Retired}
 use Rattle.mt_arena.specs.NodeView.{NodeView, node_at}

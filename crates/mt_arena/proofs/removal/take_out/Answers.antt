@@ -1,4 +1,4 @@
-use Rattle.std.proofs.Common.{◌≡◌, ℕ, List, length, set, Option, ap, sym, ◌∙◌, arith}
+use Rattle.std.proofs.Common.{◌≡◌, ℕ, List, length, set, ap, sym, ◌∙◌, arith}
 use Rattle.std.proofs.lemmas.List.{length-set}
 use Rattle.mt_interior.specs.Places.{place_of}
 use Rattle.mt_arena.specs.NodeView.{NodeView, node_at}
@@ -25,11 +25,11 @@ returns c =
     let us : List NodeView = set ys j c.retire.new.self in
     let size_us : length us ≡ length xs = length-set ys j c.retire.new.self ∙ size in
     let parent : c.index_mut-3.result.now ≡ node_at xs q =
-        read us q c.index_mut-3.result.now (omega (arith, size_us, c.requires.there)) c.index_mut-3.ensures.value
-        ∙ there ys j q c.retire.new.self (λ e. c.requires.differ_node (sym e))
-        ∙ there xs i q c.extend.new.self (λ e. c.requires.differ_left (sym e)) in
+    read us q c.index_mut-3.result.now (omega (arith, size_us, c.requires.there)) c.index_mut-3.ensures.value
+    ∙ there ys j q c.retire.new.self (λ e. c.requires.differ_node (sym e))
+    ∙ there xs i q c.extend.new.self (λ e. c.requires.differ_left (sym e)) in
     let joined_is : c.extend.new.self ≡ joined (node_at xs i) x = c.extend.ensures ∙ (λ a. record (left a) { high = high a; reach = reach a; next = next a }) in
     let retired_is : c.retire.new.self ≡ retired x = c.retire.ensures ∙ ap retired node in
     let without_is : c.remove_child.new.self ≡ without_child (inserting (node_at xs q)) (place_of (node_at xs q).separators x.low) =
-        c.remove_child.ensures ∙ (λ a. without_child (inserting (parent a)) (place_of (parent a).separators (low a))) in
+    c.remove_child.ensures ∙ (λ a. without_child (inserting (parent a)) (place_of (parent a).separators (low a))) in
     (λ a. set (set (set xs i (joined_is a)) j (retired_is a)) q (without_is a))

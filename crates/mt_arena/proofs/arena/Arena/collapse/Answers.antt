@@ -1,4 +1,4 @@
-use Rattle.std.proofs.Common.{◌<◌, ◌≡◌, ap, ◌∙◌, arith}
+use Rattle.std.proofs.Common.{◌≡◌, ap, ◌∙◌, arith}
 use Rattle.mt_arena.specs.NodeView.{NodeView}
 use Rattle.mt_arena.specs.Arena.{ArenaView}
 use Rattle.mt_arena.specs.Accesses.{at, tree_of}

@@ -1,4 +1,4 @@
-use Rattle.std.proofs.Common.{◌<◌, ◌≡◌, arith, sym}
+use Rattle.std.proofs.Common.{arith}
 use Rattle.mt_arena.specs.Arena.{ArenaView}
 use Rattle.mt_arena.proofs.Retiring.{retired_few}
 use Rattle.mt_arena.proofs.Unlinking.{apart_nodes, apart_left, left_border, place_is, sound_unlinked, step_unlinked, content_unlinked, settled_unlinked, left_unlinked, node_unlinked}
