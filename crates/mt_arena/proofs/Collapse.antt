@@ -1,23 +1,25 @@
--- A root is taken out, and its child is the root.
+-- The facts of nodes and ranges are kept as a root gives way to its only child, and no live node leads to a root: for a call that
+-- collapses a tree.
 use Rattle.std.proofs.Common.{◌≡◌, ◌≢◌, ℕ, ◌<◌, List, length, get_or, Bool, Option, Some, None, true, false, set, refl, ap, subst, inl, inr, arith}
 use Rattle.std.proofs.lemmas.Bool.{cases_eq}
 use Rattle.std.proofs.lemmas.List.{length-set}
 use Rattle.mt_interior.specs.Fences.{end_of}
 use Rattle.mt_arena.specs.NodeView.{NodeView, node_at}
 use Rattle.mt_arena.specs.Nodes.{AreNodes, IsPair}
-use Rattle.mt_arena.specs.Ranges.{IsRanged, AreRanged}
-use Rattle.mt_arena.specs.Edits.{retired, IsLeft}
+use Rattle.mt_arena.specs.Ranges.{AreRanged}
+use Rattle.mt_arena.specs.Edits.{retired}
 use Rattle.mt_arena.specs.Collapses.{Collapses, crowned}
-use Rattle.mt_arena.proofs.Pairs.{are_set, here, there, nodes_set}
+use Rattle.mt_arena.proofs.Pairs.{are_set, here, there}
+use Rattle.mt_arena.proofs.Ranged.{no_wait, stays, ranged_set, ranged_retired}
 use Rattle.mt_arena.proofs.Ranges.{one_parent}
-use Rattle.mt_arena.proofs.Retire.{nodes_retired}
+use Rattle.mt_arena.proofs.Retire.{IsLeft, nodes_retired}
 
 -- what has a value is something
 some_is : (o : Option ℕ) (k : ℕ) → o ≡ Some k → o ≢ None
 some_is o k e none = absurd (cc)
 
 -- a flag that is not false
-is_true : (b : Bool) → (b ≡ false → ⊥) → b ≡ true
+pub is_true : (b : Bool) → (b ≡ false → ⊥) → b ≡ true
 is_true true live = refl
 is_true false live = absurd (live refl)
 
@@ -25,8 +27,8 @@ is_true false live = absurd (live refl)
 pub root_left : (xs : List NodeView) (i : ℕ) → i < length xs → AreNodes xs → AreRanged xs → (node_at xs i).low ≡ 0 → (node_at xs i).parent ≡ None → IsLeft xs i
 root_left xs i within nodes ranged low parentless = record {
   nobodys_next = λ k lt e. is_true _ (λ live.
-      let high = ap end_of ((nodes.pairs k i lt within).next_follows e) in
-      let range = (ranged k lt).next (some_is _ i e) in
+      let high = ap end_of (((nodes.pairs k i lt within).next e).meets) in
+      let range = (ranged.each k lt).next (some_is _ i e) in
       omega (arith, high, range, low));
   nobodys_child = λ k a lt la e. is_true _ (λ live. ((nodes.pairs k i lt within).child a la e live).knows parentless);
 }
@@ -34,30 +36,16 @@ root_left xs i within nodes ranged low parentless = record {
 -- a node that is no live node's child becomes the root
 crowned_from : (k : ℕ) (n : NodeView) (j : ℕ) (m : NodeView) → IsPair k n j m → IsPair k (crowned n) j m
 crowned_from k n j m h = record {
-  next_follows = h.next_follows;
-  next_tree = h.next_tree;
-  next_level = h.next_level;
-  next_live = h.next_live;
-  previous_back = h.previous_back;
-  previous_live = h.previous_live;
-  parent_knows = λ e. absurd (cc);
-  child = λ i lt e live.
-      let c = h.child i lt e live in
-      record { live = c.live; tree = c.tree; level = c.level; knows = c.knows; low = c.low; reach = c.reach };
+  next = h.next;
+  named = λ live free. record { back = (h.named live free).back; live = (h.named live free).live; knows = λ e. absurd (cc) };
+  child = h.child;
   apart = h.apart;
 }
 
 crowned_to : (k : ℕ) (n : NodeView) (j : ℕ) (m : NodeView) → IsPair k n j m → ((i : ℕ) → i < length n.children → get_or n.children i 0 ≡ j → n.version.deleted ≡ true) → IsPair k n j (crowned m)
 crowned_to k n j m h none = record {
-  next_follows = h.next_follows;
-  next_tree = h.next_tree;
-  next_level = h.next_level;
-  next_live = h.next_live;
-  previous_back = h.previous_back;
-  previous_live = h.previous_live;
-  parent_knows = λ e live free.
-      let c = h.parent_knows e live free in
-      record { live = c.live; place = c.place; in_range = c.in_range; is = c.is };
+  next = h.next;
+  named = h.named;
   child = λ i lt e live. absurd (let dead = none i lt e in cc);
   apart = h.apart;
 }
@@ -69,27 +57,18 @@ nodes_crowned xs i within nodes none =
     let x = node_at xs i in
     let h = nodes.each i within in
     are_set xs i (crowned x) within nodes record {
-      next_there = h.next_there;
-      previous_there = h.previous_there;
-      parent_there = λ j e. absurd (cc);
-      children_there = h.children_there;
-      locked = h.locked;
-      inserting_held = h.inserting_held;
-      splitting_held = h.splitting_held;
-      unstable_held = h.unstable_held;
-      border_level = h.border_level;
-      interior_level = h.interior_level;
-      border = h.border;
-      slots_within = h.slots_within;
-      childless = h.childless;
-      interior = h.interior;
-      bounds_rise = h.bounds_rise;
-      peopled = h.peopled;
-      slotless = h.slotless;
-      within_reach = h.within_reach;
-      reach_exact = h.reach_exact;
-      ends = h.ends;
-      begins = h.begins;
+      names = record {
+        next = h.names.next;
+        previous = h.names.previous;
+        parent = λ j e. absurd (cc);
+        children = h.names.children;
+      };
+      lock = h.lock;
+      kind = h.kind;
+      slots = h.slots;
+      children = h.children;
+      reach = h.reach;
+      chain = h.chain;
       rooted = λ live free parentless. refl;
     }
     (crowned_from i x i (crowned x) (crowned_to i x i x (nodes.pairs i i within within) (λ a. none i a within)))
@@ -118,9 +97,14 @@ nodes_collapsed xs i q nodes ranged f =
           other (one_parent xs q k i f.child.place a nodes f.root_there (omega (arith, lk, size)) f.child_there f.child.live live f.child.in_range f.child.is la e)))
     ]))
 
-pub ranged_collapsed : (xs : List NodeView) (i q : ℕ) → AreRanged xs → Collapses xs i q → AreRanged (set (set xs q (retired (node_at xs q))) i (crowned (node_at xs i)))
-ranged_collapsed xs i q ranged f =
+pub ranged_collapsed : (xs : List NodeView) (i q : ℕ) → AreNodes xs → AreRanged xs → Collapses xs i q → AreRanged (set (set xs q (retired (node_at xs q))) i (crowned (node_at xs i)))
+ranged_collapsed xs i q nodes ranged f =
     let p = node_at xs q in
-    nodes_set IsRanged (set xs q (retired p)) i (crowned (node_at xs i)) (omega (arith, f.child_there, length-set xs q (retired p)))
-    (nodes_set IsRanged xs q (retired p) f.root_there ranged (record { next = (ranged q f.root_there).next; parent = (ranged q f.root_there).parent; unmarked = λ whole live. absurd (cc) }))
-    (record { next = (ranged i f.child_there).next; parent = λ some. absurd (some refl); unmarked = (ranged i f.child_there).unmarked })
+    let x = node_at xs i in
+    let c = (nodes.pairs q i f.root_there f.child_there).child f.child.place f.child.in_range f.child.is f.child.live in
+    let at_i : node_at (set xs q (retired p)) i ≡ x = there xs q i (retired p) (differ_from xs i q nodes f) in
+    let h = ranged.each i f.child_there in
+    let gone = ranged_retired xs q f.root_there ranged (λ k lk e waits. no_wait (node_at xs k) ((ranged.each k lk).interior (omega (arith, ((ranged.ties k q lk f.root_there).left e waits).level, c.level)) waits.0) waits) in
+    ranged_set (set xs q (retired p)) i (crowned x) (omega (arith, f.child_there, length-set xs q (retired p))) gone
+    (record { next = h.next; parent = λ some. absurd (some refl); unmarked = h.unmarked; interior = h.interior; named = h.named; fits = h.fits })
+    (rw at_i (stays x (crowned x) refl refl (λ range. range) refl refl refl)) (rw at_i refl) (rw at_i (λ waits. (waits, refl)))

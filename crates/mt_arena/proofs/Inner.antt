@@ -1,5 +1,5 @@
--- An interior node with one child too many is parted.
-use Rattle.std.proofs.Common.{◌≡◌, ◌≢◌, ℕ, suc, ◌+◌, ◌-◌, ◌<◌, ◌≤◌, List, length, get_or, take, drop, Option, Some, None, false, set, refl, sym, ap, subst, ◌∙◌, arith, length-drop}
+-- The facts of nodes are kept as an interior node with one child too many is parted: for `InnerSplit`.
+use Rattle.std.proofs.Common.{◌≡◌, ◌≢◌, ℕ, suc, ◌+◌, ◌-◌, ◌<◌, ◌≤◌, List, length, get_or, take, drop, Option, Some, None, true, false, set, refl, sym, ap, subst, ◌∙◌, arith, length-drop}
 use Rattle.std.proofs.lemmas.List.{length-take-le, get_or-take, get_or-drop}
 use Rattle.mt_interior.specs.Rising.{IsRising}
 use Rattle.mt_interior.specs.Fences.{end_of, bounds_of}
@@ -8,7 +8,7 @@ use Rattle.mt_interior.proofs.PlaceLemmas.{bounds_of-inner, bounds_of-end}
 use Rattle.mt_interior.proofs.CallerLemmas.{bounds_of-take, bounds_of-drop}
 use Rattle.mt_arena.specs.NodeView.{NodeView, node_at}
 use Rattle.mt_arena.specs.Nodes.{AllPairs, IsNode, IsPair, IsChild, HasRange, bounds}
-use Rattle.mt_arena.specs.Splits.{SplitsInner}
+use Rattle.mt_arena.proofs.Groups.{interior_slots, interior_chain}
 use Rattle.mt_arena.proofs.Pairs.{pairs_set2}
 use Rattle.mt_arena.proofs.Ranges.{not_empty, length_bounds, separators_rise, child_ranges}
 
@@ -20,6 +20,19 @@ pub record IsWide (count : ℕ) (low : ℕ) (high : Option ℕ) (separators chil
   pub right_room : length children ≤ k + 17
   pub rise : IsRising (bounds_of low separators high)
   pub there : (b : ℕ) → b < length children → get_or children b 0 < count
+
+-- a marked interior node p, and a right half r without range, which begins in the middle of it
+pub record SplitsInner (p r : NodeView) (middle : ℕ) : Type 0 where
+  pub marked : p.version.splitting ≡ true
+  pub next : p.next ≡ None
+  pub right_held : r.holder ≢ None
+  pub right_marked : r.version.splitting ≡ true
+  pub right_live : r.version.deleted ≡ false
+  pub right_tree : r.tree ≡ p.tree
+  pub right_level : r.level ≡ p.level
+  pub right_next : r.next ≡ None
+  pub right_low : r.low ≡ middle
+  pub right_reach : r.reach ≡ Some r.low
 
 module _ (ws : List NodeView) (i h k : ℕ) (p : NodeView) (separators children : List ℕ) (node_is : node_at ws i ≡ record p { separators = separators; children = children })
     (pairs : AllPairs IsPair ws) (others : (m : ℕ) → m < length ws → m ≢ i → IsNode (length ws) (node_at ws m)) (hp : IsNode (length ws) p)
@@ -99,63 +112,56 @@ module _ (ws : List NodeView) (i h k : ℕ) (p : NodeView) (separators children 
   right_above : 0 < t.level
   right_above = omega (arith, above, f.right_level)
 
+  -- the facts of the left half, and of the right one
   pub left_node : IsNode (length ws) y
   left_node = record {
-    next_there = hp.next_there;
-    previous_there = hp.previous_there;
-    parent_there = hp.parent_there;
-    children_there = λ b lt. rw (get_or-take (suc k) children b 0 (omega (arith, lt, left_count))) (wide.there b (omega (arith, lt, left_count, wide.between, wide.in_range)));
-    locked = hp.locked;
-    inserting_held = hp.inserting_held;
-    splitting_held = hp.splitting_held;
-    unstable_held = hp.unstable_held;
-    border_level = hp.border_level;
-    interior_level = hp.interior_level;
-    border = hp.border;
-    slots_within = λ b lt. absurd (omega (arith, lt, ap length (hp.slotless above)));
-    childless = λ level. absurd (omega (arith, level, above));
-    interior = record {
-      room = omega (arith, left_count, wide.left_room);
-      between = omega (arith, left_count, left_separators);
-      rising = separators_rise y.low y.separators y.high left_rise;
+    names = record {
+      next = hp.names.next;
+      previous = hp.names.previous;
+      parent = hp.names.parent;
+      children = λ b lt. rw (get_or-take (suc k) children b 0 (omega (arith, lt, left_count))) (wide.there b (omega (arith, lt, left_count, wide.between, wide.in_range)));
     };
-    bounds_rise = λ some. left_rise;
-    peopled = λ level range. not_empty y.children 0 (omega (arith, left_count));
-    slotless = hp.slotless;
-    within_reach = omega (arith, middle_high, hp.within_reach);
-    reach_exact = λ e. absurd (grind (arith, e, f.marked));
-    ends = λ level. absurd (omega (arith, level, above));
-    begins = λ level. absurd (omega (arith, level, above));
+    lock = hp.lock;
+    kind = hp.kind;
+    slots = interior_slots y.high above hp.slots;
+    children = record {
+      childless = λ level. absurd (omega (arith, level, above));
+      interior = record {
+        room = omega (arith, left_count, wide.left_room);
+        between = omega (arith, left_count, left_separators);
+        rising = separators_rise y.low y.separators y.high left_rise;
+      };
+      rise = λ some. left_rise;
+      peopled = λ level range. not_empty y.children 0 (omega (arith, left_count));
+    };
+    reach = record { within = omega (arith, middle_high, hp.reach.within); exact = λ e. absurd (grind (arith, e, f.marked)) };
+    chain = interior_chain above;
     rooted = λ _ free. absurd (held free);
   }
 
   pub right_node : IsNode (length ws) u
   right_node = record {
-    next_there = ht.next_there;
-    previous_there = ht.previous_there;
-    parent_there = ht.parent_there;
-    children_there = λ b lt. rw (get_or-drop (suc k) children b 0) (wide.there (suc k + b) (omega (arith, lt, right_count)));
-    locked = ht.locked;
-    inserting_held = ht.inserting_held;
-    splitting_held = ht.splitting_held;
-    unstable_held = ht.unstable_held;
-    border_level = ht.border_level;
-    interior_level = ht.interior_level;
-    border = ht.border;
-    slots_within = λ b lt. absurd (omega (arith, lt, ap length (ht.slotless right_above)));
-    childless = λ level. absurd (omega (arith, level, right_above));
-    interior = record {
-      room = omega (arith, right_count, wide.right_room);
-      between = omega (arith, right_count, right_separators, wide.between);
-      rising = separators_rise u.low u.separators u.high right_rise;
+    names = record {
+      next = ht.names.next;
+      previous = ht.names.previous;
+      parent = ht.names.parent;
+      children = λ b lt. rw (get_or-drop (suc k) children b 0) (wide.there (suc k + b) (omega (arith, lt, right_count)));
     };
-    bounds_rise = λ some. right_rise;
-    peopled = λ level range. not_empty u.children 0 (omega (arith, right_count, wide.between, wide.in_range));
-    slotless = ht.slotless;
-    within_reach = hp.within_reach;
-    reach_exact = λ e. absurd (grind (arith, e, f.right_marked));
-    ends = λ level. absurd (omega (arith, level, right_above));
-    begins = λ level. absurd (omega (arith, level, right_above));
+    lock = ht.lock;
+    kind = ht.kind;
+    slots = interior_slots u.high right_above ht.slots;
+    children = record {
+      childless = λ level. absurd (omega (arith, level, right_above));
+      interior = record {
+        room = omega (arith, right_count, wide.right_room);
+        between = omega (arith, right_count, right_separators, wide.between);
+        rising = separators_rise u.low u.separators u.high right_rise;
+      };
+      rise = λ some. right_rise;
+      peopled = λ level range. not_empty u.children 0 (omega (arith, right_count, wide.between, wide.in_range));
+    };
+    reach = record { within = hp.reach.within; exact = λ e. absurd (grind (arith, e, f.right_marked)) };
+    chain = interior_chain right_above;
     rooted = λ _ free. absurd (f.right_held free);
   }
 
@@ -195,55 +201,33 @@ module _ (ws : List NodeView) (i h k : ℕ) (p : NodeView) (separators children 
   -- the left half beside any node
   left_from : (m : ℕ) (n : NodeView) → IsPair i w m n → IsPair i y m n
   left_from m n g = record {
-    next_follows = λ e. absurd (let none = f.next in cc);
-    next_tree = λ e. absurd (let none = f.next in cc);
-    next_level = λ e. absurd (let none = f.next in cc);
-    next_live = λ e. absurd (let none = f.next in cc);
-    previous_back = g.previous_back;
-    previous_live = g.previous_live;
-    parent_knows = g.parent_knows;
+    next = λ e. absurd (let none = f.next in cc);
+    named = g.named;
     child = λ b lt e _. left_child m n g b lt e;
     apart = λ d tree level one also s hy hn. g.apart d tree level one also s (hy.0, omega (arith, hy.1, middle_high)) hn;
   }
 
   left_to : (m : ℕ) (n : NodeView) → IsPair m n i w → IsPair m n i y
   left_to m n g = record {
-    next_follows = g.next_follows;
-    next_tree = g.next_tree;
-    next_level = g.next_level;
-    next_live = g.next_live;
-    previous_back = λ e _ free. absurd (held free);
-    previous_live = λ e _ free. absurd (held free);
-    parent_knows = λ e _ free. absurd (held free);
-    child = λ b lt e one.
-        let c = g.child b lt e one in
-        record { live = c.live; tree = c.tree; level = c.level; knows = c.knows; low = c.low; reach = c.reach };
+    next = g.next;
+    named = λ _ free. absurd (held free);
+    child = g.child;
     apart = λ d tree level one also s hn hy. g.apart d tree level one also s hn (hy.0, omega (arith, hy.1, middle_high));
   }
 
   -- the right half beside any node but the left one
   right_from : (m : ℕ) (n : NodeView) → m ≢ i → IsPair i w m n → IsPair h t m n → IsPair h u m n
   right_from m n ni g e = record {
-    next_follows = λ is. absurd (let none = f.right_next in cc);
-    next_tree = λ is. absurd (let none = f.right_next in cc);
-    next_level = λ is. absurd (let none = f.right_next in cc);
-    next_live = λ is. absurd (let none = f.right_next in cc);
-    previous_back = e.previous_back;
-    previous_live = e.previous_live;
-    parent_knows = e.parent_knows;
+    next = λ is. absurd (let none = f.right_next in cc);
+    named = e.named;
     child = λ b lt is _. right_child m n g b lt is;
     apart = λ d tree level _ also s hu hn. g.apart (λ same. ni (sym same)) (sym f.right_tree ∙ tree) (sym f.right_level ∙ level) live also s (omega (arith, hu.0, low_middle, f.right_low), hu.1) hn;
   }
 
   right_to : (m : ℕ) (n : NodeView) → m ≢ i → IsNode (length ws) n → IsPair m n i w → IsPair m n h t → IsPair m n h u
   right_to m n ni one g e = record {
-    next_follows = e.next_follows;
-    next_tree = e.next_tree;
-    next_level = e.next_level;
-    next_live = e.next_live;
-    previous_back = λ is _ free. absurd (f.right_held free);
-    previous_live = λ is _ free. absurd (f.right_held free);
-    parent_knows = λ is _ free. absurd (f.right_held free);
+    next = e.next;
+    named = λ _ free. absurd (f.right_held free);
     child = λ b lt is alive. absurd (omega (arith, child_ranges (length ws) n b t one lt (e.child b lt is alive), rw f.right_reach at (child_ranges (length ws) n b t one lt (e.child b lt is alive))));
     apart = λ d tree level alive _ s hn hu. g.apart ni (tree ∙ f.right_tree) (level ∙ f.right_level) alive live s hn (omega (arith, hu.0, low_middle, f.right_low), hu.1);
   }
@@ -253,26 +237,16 @@ module _ (ws : List NodeView) (i h k : ℕ) (p : NodeView) (separators children 
 
   right_self : IsPair h u h u
   right_self = record {
-    next_follows = λ is. absurd (let none = f.right_next in cc);
-    next_tree = λ is. absurd (let none = f.right_next in cc);
-    next_level = λ is. absurd (let none = f.right_next in cc);
-    next_live = λ is. absurd (let none = f.right_next in cc);
-    previous_back = λ is _ free. absurd (f.right_held free);
-    previous_live = λ is _ free. absurd (f.right_held free);
-    parent_knows = λ is _ free. absurd (f.right_held free);
+    next = λ is. absurd (let none = f.right_next in cc);
+    named = λ _ free. absurd (f.right_held free);
     child = λ b lt is _. absurd (wide_child (suc k + b) (omega (arith, lt, right_count)) (sym (get_or-drop (suc k) children b 0) ∙ is));
     apart = λ d. absurd (d refl);
   }
 
   left_right : IsPair i y h u
   left_right = record {
-    next_follows = λ is. absurd (let none = f.next in cc);
-    next_tree = λ is. absurd (let none = f.next in cc);
-    next_level = λ is. absurd (let none = f.next in cc);
-    next_live = λ is. absurd (let none = f.next in cc);
-    previous_back = λ is _ free. absurd (f.right_held free);
-    previous_live = λ is _ free. absurd (f.right_held free);
-    parent_knows = λ is _ free. absurd (f.right_held free);
+    next = λ is. absurd (let none = f.next in cc);
+    named = λ _ free. absurd (f.right_held free);
     child = λ b lt is _.
         let small : b < suc k = omega (arith, lt, left_count) in
         absurd (wide_child b (omega (arith, small, wide.between, wide.in_range)) (sym (get_or-take (suc k) children b 0 small) ∙ is));
@@ -281,17 +255,13 @@ module _ (ws : List NodeView) (i h k : ℕ) (p : NodeView) (separators children 
 
   right_left : IsPair h u i y
   right_left = record {
-    next_follows = λ is. absurd (let none = f.right_next in cc);
-    next_tree = λ is. absurd (let none = f.right_next in cc);
-    next_level = λ is. absurd (let none = f.right_next in cc);
-    next_live = λ is. absurd (let none = f.right_next in cc);
-    previous_back = λ is _ free. absurd (held free);
-    previous_live = λ is _ free. absurd (held free);
-    parent_knows = λ is _ free. absurd (held free);
+    next = λ is. absurd (let none = f.right_next in cc);
+    named = λ _ free. absurd (held free);
     child = λ b lt is _. absurd (own_child (suc k + b) (omega (arith, lt, right_count)) (sym (get_or-drop (suc k) children b 0) ∙ is));
     apart = λ d tree level _ _ s hu hy. absurd (omega (arith, hy.1, hu.0, f.right_low));
   }
 
+  -- the facts of each two nodes
   pub parted_pairs : AllPairs IsPair (set (set ws i y) h u)
   parted_pairs = pairs_set2 IsPair ws i h y u li lh differ pairs left_self right_self left_right right_left
       (λ m lm ni nh. (
@@ -299,5 +269,6 @@ module _ (ws : List NodeView) (i h k : ℕ) (p : NodeView) (separators children 
         (right_from m (node_at ws m) ni (from_w m lm) (pairs h m lh lm), right_to m (node_at ws m) ni (others m lm ni) (to_w m lm) (pairs m h lm lh)),
       ))
 
+  -- both halves have a range
   pub halves_range : HasRange y × HasRange u
   halves_range = (low_middle, omega (arith, middle_high, f.right_low))

@@ -1,3 +1,4 @@
+pub mod Groups
 pub mod Pairs
 pub mod Quiet
 pub mod Point
@@ -33,6 +34,7 @@ pub mod Inner
 pub mod InnerSplit
 pub mod Move
 pub mod Ranged
+pub mod RangedEdits
 pub mod Ranges
 pub mod SettledEdits
 pub mod Unlink
@@ -48,3 +50,12 @@ pub mod Topping
 pub mod Inserting
 pub mod Parting
 pub mod Levels
+pub mod TakenOut
+pub mod Unlinking
+pub mod Collapsing
+pub mod OneLink
+pub mod DeadTree
+pub mod DroppingLayer
+pub mod SlotPlaces
+pub mod Settling
+pub mod Alone

@@ -1,4 +1,4 @@
--- The links on a key's way to a live tree.
+-- Each layer has a link on the way to a live tree: for the laws of descents.
 use Rattle.std.proofs.Common.{◌≡◌, ℕ, zero, suc, ◌+◌, ◌-◌, ◌*◌, ◌^◌, ◌<◌, ◌≤◌, List, ◌++◌, length, take, drop, replicate, refl, sym, ap, subst, ◌∙◌, inl, inr, arith}
 use Rattle.std.specs.Int.{w64, to_be_bytes, from_be_bytes}
 use Rattle.std.proofs.lemmas.Bool.{cases_eq, cases_lt}
@@ -40,7 +40,7 @@ one_tree nodes trees t u forest live also same = elim (cases_eq t u) [
 slice_lt : (xs : Bytes) → AreBytes xs → slice_at xs < 2 ^ 64
 slice_lt xs bytes = rw (slice_at-number xs) (number_lt 8 xs bytes)
 
-slice_of_lt : (key : Bytes) (layer : ℕ) → AreBytes key → slice_of key layer < 2 ^ 64
+pub slice_of_lt : (key : Bytes) (layer : ℕ) → AreBytes key → slice_of key layer < 2 ^ 64
 slice_of_lt key layer bytes = slice_lt (rest_of key layer) (bytes-drop (8 * layer) key bytes)
 
 -- the first n + 8 bytes as n bytes and 8
@@ -98,7 +98,7 @@ module _ (nodes : List NodeView) (trees : List Tree) (arena : IsArena nodes tree
 
     level : n.level ≡ 0
     level = elim (cases_lt 0 n.level) [
-      | inl above ↦ absurd (let none = ap length ((arena.nodes.each link.node link.there).slotless above) in omega (arith, none, link.in_range))
+      | inl above ↦ absurd (let none = ap length ((arena.nodes.each link.node link.there).slots.slotless above) in omega (arith, none, link.in_range))
       | inr border ↦ omega (arith, border)
     ]
 
@@ -114,7 +114,7 @@ module _ (nodes : List NodeView) (trees : List Tree) (arena : IsArena nodes tree
         border = record { there = link.there; live = link.live; level = level; tree_is = refl };
         in_range = link.in_range;
         slice_is = slice_is;
-        mark_is = long_link e.mark e t ((arena.nodes.each link.node link.there).border.each link.slot any_entry link.in_range).held link.is;
+        mark_is = long_link e.mark e t ((arena.nodes.each link.node link.there).slots.border.each link.slot any_entry link.in_range).held link.is;
       };
       is = link.is;
       to_live = live;

@@ -1,4 +1,4 @@
--- What the contents have at a key, and what a change of one slot makes of them.
+-- What the contents have at a key, and what a change of one slot makes of them: for `Slots` and the laws.
 use Rattle.std.proofs.Common.{◌≡◌, ◌≢◌, ℕ, ◌<◌, List, length, get_or, set, take, Some, None, sym, refl, subst}
 use Rattle.std.specs.List.{All, remove as remove_at_place}
 use Rattle.std.specs.FinMap.{get, insert, remove}
@@ -67,7 +67,7 @@ module _ (nodes : List NodeView) (trees : List Tree) (arena : IsArena nodes tree
         (λ low j other also. differ (sym (stands_once nodes trees arena begun key layer k i pair low l j other at also).0))
 
     border : IsBorder n.slots
-    border = (arena.nodes.each k at.there).border
+    border = (arena.nodes.each k at.there).slots.border
 
     keys : AreKeys begins layer n.slots
     keys = keys_of at.there at.has.of_tree

@@ -1,11 +1,17 @@
--- One more node.
-use Rattle.std.proofs.Common.{◌≢◌, ℕ, ◌+◌, ◌<◌, List, [], ◌∷◌, ◌++◌, length, refl, sym, arith}
+-- The facts of nodes are kept as a node is added: a right half, an interior node without range, or the root of a tree: for `Growing`,
+-- `Parting` and `Start`.
+use Rattle.std.proofs.Common.{◌≡◌, ◌≢◌, ℕ, ◌+◌, ◌<◌, Bool, true, List, [], ◌∷◌, ◌++◌, length, set, Some, None, refl, sym, ap, subst, ◌∙◌, inr, arith, length-append}
+use Rattle.std.proofs.lemmas.List.{set_at}
+use Rattle.std.proofs.lemmas.Option.{same_Some}
 use Rattle.mt_border.specs.Entries.{IsBorder}
 use Rattle.mt_interior.specs.Node.{IsInterior}
 use Rattle.mt_arena.specs.NodeView.{NodeView, node_at}
 use Rattle.mt_arena.specs.Nodes.{AreNodes, IsNode, IsPair}
-use Rattle.mt_arena.specs.Edits.{fresh_half, fresh_root}
-use Rattle.mt_arena.proofs.Pairs.{nodes_pushed}
+use Rattle.mt_arena.specs.NodeFacts.{TellsKind}
+use Rattle.mt_arena.specs.Edits.{bare, pointed, fresh_half, fresh_root}
+use Rattle.mt_arena.proofs.Groups.{held_lock, there_none, names_none}
+use Rattle.mt_arena.proofs.Pairs.{nodes_pushed, last, before}
+use Rattle.mt_arena.proofs.Point.{nodes_pointed}
 
 -- neither slots nor children
 pub no_slots : IsBorder []
@@ -14,119 +20,111 @@ no_slots = record { within = omega arith; each = λ i d lt. absurd (omega arith)
 pub no_children : IsInterior [] []
 no_children = record { room = omega arith; between = refl; rising = λ i j lt within. absurd (omega arith) }
 
--- the right half of a split, before it has a range
-half_node : (count seen : ℕ) (n : NodeView) (low op : ℕ) → IsNode seen n → IsNode count (fresh_half n low op)
-half_node count seen n low op h = record {
-  next_there = λ j e. absurd (cc);
-  previous_there = λ j e. absurd (cc);
-  parent_there = λ j e. absurd (cc);
-  children_there = λ i lt. absurd (omega arith);
-  locked = refl;
-  inserting_held = λ e f. absurd (cc);
-  splitting_held = λ e f. absurd (cc);
-  unstable_held = λ free. absurd (cc);
-  border_level = h.border_level;
-  interior_level = h.interior_level;
-  border = no_slots;
-  slots_within = λ i lt. absurd (omega arith);
-  childless = λ level. refl;
-  interior = no_children;
-  bounds_rise = λ some. absurd (some refl);
-  peopled = λ level range. absurd (omega arith);
-  slotless = λ level. refl;
-  within_reach = omega arith;
-  reach_exact = λ e. refl;
-  ends = λ level range. absurd (omega arith);
-  begins = λ level range. absurd (omega arith);
+-- a node that an operation makes, before it has a range
+bare_node : (count : ℕ) (border : Bool) (tree level low op : ℕ) → TellsKind border level → IsNode count (bare border tree level low op)
+bare_node count border tree level low op kind = record {
+  names = there_none;
+  lock = held_lock (Some op) [] (λ e. absurd (cc)) refl;
+  kind = kind;
+  slots = record { border = no_slots; within = λ i lt. absurd (omega arith); slotless = λ level. refl };
+  children = record {
+    childless = λ level. refl;
+    interior = no_children;
+    rise = λ some. absurd (some refl);
+    peopled = λ level range. absurd (omega arith);
+  };
+  reach = record { within = omega arith; exact = λ e. refl };
+  chain = record { last = λ level range. absurd (omega arith); first = λ level range. absurd (omega arith) };
   rooted = λ live free. absurd (cc);
 }
 
 -- beside a node that it does not name
-half_from : (k : ℕ) (n : NodeView) (low op j : ℕ) (m : NodeView) → IsPair k (fresh_half n low op) j m
-half_from k n low op j m = record {
-  next_follows = λ e. absurd (cc);
-  next_tree = λ e. absurd (cc);
-  next_level = λ e. absurd (cc);
-  next_live = λ e. absurd (cc);
-  previous_back = λ e. absurd (cc);
-  previous_live = λ e. absurd (cc);
-  parent_knows = λ e. absurd (cc);
+bare_from : (k : ℕ) (border : Bool) (tree level low op j : ℕ) (m : NodeView) → IsPair k (bare border tree level low op) j m
+bare_from k border tree level low op j m = record {
+  next = λ e. absurd (cc);
+  named = λ _ _. names_none;
   child = λ i lt. absurd (omega arith);
   apart = λ differ tree level live also s holds _. absurd (omega (arith, holds.0, holds.1));
 }
 
-half_to : (count k : ℕ) (m n : NodeView) (low op : ℕ) → IsNode count m → IsPair k m count (fresh_half n low op)
-half_to count k m n low op h = record {
-  next_follows = λ e. absurd (omega (arith, h.next_there count e));
-  next_tree = λ e. absurd (omega (arith, h.next_there count e));
-  next_level = λ e. absurd (omega (arith, h.next_there count e));
-  next_live = λ e. absurd (omega (arith, h.next_there count e));
-  previous_back = λ e. absurd (omega (arith, h.previous_there count e));
-  previous_live = λ e. absurd (omega (arith, h.previous_there count e));
-  parent_knows = λ e. absurd (omega (arith, h.parent_there count e));
-  child = λ i lt e. absurd (omega (arith, h.children_there i lt, e));
+bare_to : (count k : ℕ) (m : NodeView) (border : Bool) (tree level low op : ℕ) → IsNode count m → IsPair k m count (bare border tree level low op)
+bare_to count k m border tree level low op h = record {
+  next = λ e. absurd (omega (arith, h.names.next count e));
+  named = λ _ _. record {
+    back = λ e. absurd (omega (arith, h.names.previous count e));
+    live = λ e. absurd (omega (arith, h.names.previous count e));
+    knows = λ e. absurd (omega (arith, h.names.parent count e));
+  };
+  child = λ i lt e. absurd (omega (arith, h.names.children i lt, e));
   apart = λ differ tree level live also s _ holds. absurd (omega (arith, holds.0, holds.1));
 }
 
-pub nodes_half : (xs : List NodeView) (i low op : ℕ) → i < length xs → AreNodes xs → AreNodes (xs ++ fresh_half (node_at xs i) low op ∷ [])
-nodes_half xs i low op within nodes =
-    let x = node_at xs i in
-    let y = fresh_half x low op in
-    nodes_pushed xs y nodes (half_node (length xs + 1) (length xs) x low op (nodes.each i within))
-    (half_from (length xs) x low op (length xs) y)
-    (λ j lt. half_from (length xs) x low op j (node_at xs j))
-    (λ j lt. half_to (length xs) j (node_at xs j) x low op (nodes.each j lt))
+pub nodes_bare : (xs : List NodeView) (border : Bool) (tree level low op : ℕ) → TellsKind border level → AreNodes xs → AreNodes (xs ++ bare border tree level low op ∷ [])
+nodes_bare xs border tree level low op kind nodes =
+    let y = bare border tree level low op in
+    nodes_pushed xs y nodes (bare_node (length xs + 1) border tree level low op kind)
+    (bare_from (length xs) border tree level low op (length xs) y)
+    (λ j lt. bare_from (length xs) border tree level low op j (node_at xs j))
+    (λ j lt. bare_to (length xs) j (node_at xs j) border tree level low op (nodes.each j lt))
+
+-- the right half of a border node that an operation holds, which it names as the one before
+pub nodes_half : (xs : List NodeView) (x : NodeView) (i low op : ℕ) → i < length xs → (node_at xs i).holder ≢ None → x.level ≡ 0 → AreNodes xs → AreNodes (xs ++ fresh_half x i low op ∷ [])
+nodes_half xs x i low op within held level nodes =
+    let y = bare true x.tree x.level low op in
+    let more : length (xs ++ y ∷ []) ≡ length xs + 1 = length-append xs (y ∷ []) in
+    let made : AreNodes (xs ++ y ∷ []) = nodes_bare xs true x.tree x.level low op (record { border = λ e. level; interior = λ e. absurd (cc) }) nodes in
+    let at_y : node_at (xs ++ y ∷ []) (length xs) ≡ y = last xs y in
+    let at_i : node_at (xs ++ y ∷ []) i ≡ node_at xs i = before xs y i within in
+    subst AreNodes (ap (λ (n : NodeView). set (xs ++ y ∷ []) (length xs) (pointed n (Some i) None)) at_y ∙ set_at xs y [] (fresh_half x i low op) (length xs) refl)
+    (nodes_pointed (xs ++ y ∷ []) (length xs) (Some i) None (omega (arith, more)) made record {
+      previous_there = λ j e. omega (arith, same_Some _ _ e, within, more);
+      parent_there = λ j e. absurd (cc);
+      previous_held = λ j e. inr (subst (λ k. (node_at (xs ++ y ∷ []) k).holder ≢ None) (same_Some _ _ e) (λ none. held (ap (λ (n : NodeView). n.holder) (sym at_i) ∙ none)));
+      parent_held = λ j e. absurd (cc);
+      previous_stays = λ none. absurd (cc);
+      parent_stays = λ none. ap (λ (n : NodeView). n.parent) at_y;
+    })
 
 -- the root of a new tree
 root_node : (count tree : ℕ) → IsNode count (fresh_root tree)
 root_node count tree = record {
-  next_there = λ j e. absurd (cc);
-  previous_there = λ j e. absurd (cc);
-  parent_there = λ j e. absurd (cc);
-  children_there = λ i lt. absurd (omega arith);
-  locked = refl;
-  inserting_held = λ e. absurd (cc);
-  splitting_held = λ e. absurd (cc);
-  unstable_held = λ free i d lt. absurd (omega arith);
-  border_level = λ e. refl;
-  interior_level = λ e. absurd (cc);
-  border = no_slots;
-  slots_within = λ i lt. absurd (omega arith);
-  childless = λ level. refl;
-  interior = no_children;
-  bounds_rise = λ some. absurd (some refl);
-  peopled = λ level range. absurd (omega arith);
-  slotless = λ level. refl;
-  within_reach = omega arith;
-  reach_exact = λ e. refl;
-  ends = λ level range none. refl;
-  begins = λ level range live none. refl;
+  names = there_none;
+  lock = record {
+    locked = refl;
+    inserting = λ e. absurd (cc);
+    splitting = λ e. absurd (cc);
+    stable = λ free i d lt. absurd (omega arith);
+  };
+  kind = record { border = λ e. refl; interior = λ e. absurd (cc) };
+  slots = record { border = no_slots; within = λ i lt. absurd (omega arith); slotless = λ level. refl };
+  children = record {
+    childless = λ level. refl;
+    interior = no_children;
+    rise = λ some. absurd (some refl);
+    peopled = λ level range. absurd (omega arith);
+  };
+  reach = record { within = omega arith; exact = λ e. refl };
+  chain = record { last = λ level range none. refl; first = λ level range live none. refl };
   rooted = λ live free none. refl;
 }
 
 root_from : (k tree j : ℕ) (m : NodeView) → (k ≢ j → m.tree ≢ tree) → IsPair k (fresh_root tree) j m
 root_from k tree j m new = record {
-  next_follows = λ e. absurd (cc);
-  next_tree = λ e. absurd (cc);
-  next_level = λ e. absurd (cc);
-  next_live = λ e. absurd (cc);
-  previous_back = λ e. absurd (cc);
-  previous_live = λ e. absurd (cc);
-  parent_knows = λ e. absurd (cc);
+  next = λ e. absurd (cc);
+  named = λ _ _. names_none;
   child = λ i lt. absurd (omega arith);
   apart = λ differ same. absurd (new differ (sym same));
 }
 
 root_to : (count k : ℕ) (m : NodeView) (tree : ℕ) → IsNode count m → m.tree ≢ tree → IsPair k m count (fresh_root tree)
 root_to count k m tree h new = record {
-  next_follows = λ e. absurd (omega (arith, h.next_there count e));
-  next_tree = λ e. absurd (omega (arith, h.next_there count e));
-  next_level = λ e. absurd (omega (arith, h.next_there count e));
-  next_live = λ e. absurd (omega (arith, h.next_there count e));
-  previous_back = λ e. absurd (omega (arith, h.previous_there count e));
-  previous_live = λ e. absurd (omega (arith, h.previous_there count e));
-  parent_knows = λ e. absurd (omega (arith, h.parent_there count e));
-  child = λ i lt e. absurd (omega (arith, h.children_there i lt, e));
+  next = λ e. absurd (omega (arith, h.names.next count e));
+  named = λ _ _. record {
+    back = λ e. absurd (omega (arith, h.names.previous count e));
+    live = λ e. absurd (omega (arith, h.names.previous count e));
+    knows = λ e. absurd (omega (arith, h.names.parent count e));
+  };
+  child = λ i lt e. absurd (omega (arith, h.names.children i lt, e));
   apart = λ differ same. absurd (new same);
 }
 

@@ -1,4 +1,4 @@
--- What lags behind a held node is not changed by others.
+-- Behind a node that nobody holds nothing lags, and other operations let nothing come to lag behind one that is held: for the laws.
 use Rattle.std.proofs.Common.{◌≡◌, ◌≢◌, ℕ, ◌<◌, List, length, get_or, Bool, Option, Some, None, true, false, refl, sym, ap, subst, ◌∙◌, inl, inr, arith}
 use Rattle.std.proofs.lemmas.Bool.{cases_lt}
 use Rattle.std.proofs.lemmas.Option.{same_Some}
@@ -7,7 +7,8 @@ use Rattle.mt_border.specs.declared.entry.Entry.{Entry}
 use Rattle.std.specs.List.{All}
 use Rattle.mt_arena.specs.declared.tree.Tree.{Tree}
 use Rattle.mt_arena.specs.NodeView.{NodeView, node_at}
-use Rattle.mt_arena.specs.Nodes.{AreNodes, IsUnstable}
+use Rattle.mt_arena.specs.Nodes.{AreNodes}
+use Rattle.mt_arena.specs.NodeFacts.{IsUnstable}
 use Rattle.mt_arena.specs.Settled.{IsSettled}
 use Rattle.mt_arena.specs.Guarantee.{NodesGuarantee, PointsOnly}
 
@@ -17,12 +18,12 @@ alive true b stays live = absurd (grind (arith, stays refl, live))
 alive false b stays live = refl
 
 -- what can't be true is false
-not_true : (b : Bool) → (b ≡ true → ⊥) → b ≡ false
+pub not_true : (b : Bool) → (b ≡ true → ⊥) → b ≡ false
 not_true true refuted = absurd (refuted refl)
 not_true false refuted = refl
 
 -- what is not taken away was not there
-was_none : (old new : Option ℕ) → (old ≢ None → new ≢ None) → new ≡ None → old ≡ None
+pub was_none : (old new : Option ℕ) → (old ≢ None → new ≢ None) → new ≡ None → old ≡ None
 was_none None new stays none = refl
 was_none (Some p) new stays none = absurd (stays (λ e. absurd (cc)) none)
 
@@ -66,10 +67,10 @@ settled_free xs i within nodes free =
     let x = node_at xs i in
     let h = nodes.each i within in
     record {
-      previous = λ k lt e live. (nodes.pairs k i lt within).previous_back e live free;
-      previous_live = λ k lt e live. (nodes.pairs k i lt within).previous_live e live free;
-      parent = λ k lt e live. (nodes.pairs k i lt within).parent_knows e live free;
-      reach = h.reach_exact (not_true x.version.splitting (λ marked. h.splitting_held marked free));
-      stable = h.unstable_held free;
+      previous = λ k lt e live. ((nodes.pairs k i lt within).named live free).back e;
+      previous_live = λ k lt e live. ((nodes.pairs k i lt within).named live free).live e;
+      parent = λ k lt e live. ((nodes.pairs k i lt within).named live free).knows e;
+      reach = h.reach.exact (not_true x.version.splitting (λ marked. h.lock.splitting marked free));
+      stable = h.lock.stable free;
       rooted = λ live none. h.rooted live free none;
     }

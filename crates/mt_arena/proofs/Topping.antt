@@ -1,4 +1,4 @@
--- A new root over two halves, as one step: what holds, and what others rely on.
+-- The whole invariant, the guarantee and the contents where a new root comes over two halves: for `grow_root`.
 use Rattle.std.proofs.Common.{◌≡◌, ℕ, ◌+◌, ◌<◌, ◌≤◌, ◌++◌, List, ◌∷◌, [], length, get_or, set, Some, refl, sym, ap, subst, ◌∙◌, inl, inr, arith, length-append}
 use Rattle.std.proofs.lemmas.Bool.{cases_eq}
 use Rattle.std.proofs.lemmas.Option.{same_Some}
@@ -19,7 +19,7 @@ use Rattle.mt_arena.specs.Growth.{fresh_top, left_below, right_below}
 use Rattle.mt_arena.specs.Several.{MayGrow, with_root}
 use Rattle.mt_arena.proofs.Pairs.{there, last}
 use Rattle.mt_arena.proofs.Grow.{nodes_root_grow, settled_root_grow}
-use Rattle.mt_arena.proofs.Ranged.{ranged_root_grow}
+use Rattle.mt_arena.proofs.RangedEdits.{ranged_root_grow}
 use Rattle.mt_arena.proofs.GrowStep.{forest_grown, same_prefix, same_standing}
 use Rattle.mt_arena.proofs.Growing.{layers_push}
 use Rattle.mt_arena.proofs.Retiring.{retired_push}
@@ -34,7 +34,7 @@ pub read_tree : (trees : List Tree) (t : ℕ) (tree : Tree) → t < length trees
 read_tree trees t tree within is = is ∙ get_or_default trees t tree no_tree within
 
 -- links, where the records of trees keep prefix and standing
-layers_trees : (xs : List NodeView) (were are : List Tree) → length are ≡ length were → ((u : ℕ) → (tree_at are u).prefix ≡ (tree_at were u).prefix) → ((u : ℕ) → (tree_at are u).standing ≡ (tree_at were u).standing) → AreLayered xs were → AreLayered xs are
+pub layers_trees : (xs : List NodeView) (were are : List Tree) → length are ≡ length were → ((u : ℕ) → (tree_at are u).prefix ≡ (tree_at were u).prefix) → ((u : ℕ) → (tree_at are u).standing ≡ (tree_at were u).standing) → AreLayered xs were → AreLayered xs are
 layers_trees xs were are count prefix standing layers = record {
   links = λ k lt live a u lt_a is.
       let leads = layers.links k lt live a u lt_a is in
@@ -49,7 +49,7 @@ layers_trees xs were are count prefix standing layers = record {
 }
 
 -- one tree's record changes
-guarantee_record : (op : ℕ) (nodes : List NodeView) (trees : List Tree) (t : ℕ) (tree : Tree) → t < length trees → TreeChanges op (tree_at trees t) tree → NodesGuarantee op nodes nodes trees (set trees t tree)
+pub guarantee_record : (op : ℕ) (nodes : List NodeView) (trees : List Tree) (t : ℕ) (tree : Tree) → t < length trees → TreeChanges op (tree_at trees t) tree → NodesGuarantee op nodes nodes trees (set trees t tree)
 guarantee_record op nodes trees t tree within change = record {
   count = omega arith;
   tree_count = omega (arith, length-set trees t tree);
@@ -109,7 +109,7 @@ module _ (v : ArenaView) (room more left right op : ℕ) (sound : ArenaInvariant
       record {
         arena = record {
           nodes = nodes_root_grow xs left right op sound.arena.nodes sound.arena.ranged may.grows;
-          ranged = ranged_root_grow xs left right op sound.arena.ranged may.grows;
+          ranged = ranged_root_grow xs left right op sound.arena.nodes sound.arena.ranged may.grows;
           forest = forest_grown xs v.trees left right op may.grows forest may.is_root may.no_root;
           layers = layers_trees (ws ++ g ∷ []) v.trees ts (length-set v.trees l.tree grown)
               (same_prefix xs v.trees left right op may.grows forest may.is_root may.no_root) (same_standing xs v.trees left right op may.grows forest may.is_root may.no_root)

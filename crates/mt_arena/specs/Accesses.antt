@@ -1,5 +1,5 @@
 -- What the calls of an arena need and leave.
-use Rattle.std.specs.Prelude.{◌≡◌, ◌≢◌, ℕ, ◌*◌, ◌<◌, false, [], ◌∷◌, ◌++◌, length, Some, slice_set}
+use Rattle.std.specs.Prelude.{◌≡◌, ◌≢◌, ℕ, ◌*◌, ◌<◌, [], ◌∷◌, ◌++◌, length, Some, slice_set}
 use Rattle.mt_rows.specs.Rows.{Bytes, Columns}
 use Rattle.mt_border.specs.Contents.{HasKey}
 use Rattle.mt_border.specs.Entry.{IsEntry, IsStablePair}
@@ -10,10 +10,10 @@ use Rattle.mt_border.specs.declared.entry.Held.TheVariants.{Stable}
 use Rattle.mt_arena.specs.Layers.{slot_at}
 use Rattle.mt_arena.specs.Ways.{BelongsIn, StandsFor}
 use Rattle.mt_arena.specs.declared.tree.Tree.{Tree}
-use Rattle.mt_arena.specs.declared.tree.Standing.TheVariants.{Made, Live, Dead}
+use Rattle.mt_arena.specs.declared.tree.Standing.TheVariants.{Made, Live}
 use Rattle.mt_arena.specs.NodeView.{NodeView, node_at}
 use Rattle.mt_arena.specs.Forests.{tree_at, layer_of}
-use Rattle.mt_arena.specs.Edits.{fresh_half, fresh_root, IsLeft}
+use Rattle.mt_arena.specs.Edits.{splitting, fresh_half, fresh_root}
 use Rattle.mt_arena.specs.Arena.{ArenaView}
 
 -- the top tree of a new arena, and what such an arena shows
@@ -71,9 +71,9 @@ pub record IsFreshPrefix (v : ArenaView) (prefix : Bytes) : Type 0 where
   pub whole : 8 * layer_of prefix ≡ length prefix
   pub fresh : (t : ℕ) → t < length v.trees → (tree_at v.trees t).standing ≡ Live → (tree_at v.trees t).prefix ≢ prefix
 
--- one more node, without range, at the right of one that an operation splits
+-- a node that is being split, and one more node, without range, as its right half
 abbrev pub with_half : ArenaView → ℕ → ℕ → ℕ → ArenaView
-with_half v k low op = record v { nodes = v.nodes ++ fresh_half (at v k) low op ∷ [] }
+with_half v k low op = record v { nodes = slice_set v.nodes k (splitting (at v k)) ++ fresh_half (at v k) k low op ∷ [] }
 
 -- one more tree, with its root
 abbrev pub with_tree : ArenaView → Bytes → ℕ → ArenaView
@@ -81,11 +81,3 @@ with_tree v prefix op = record v {
   nodes = v.nodes ++ fresh_root (length v.trees) ∷ [];
   trees = v.trees ++ (record { prefix = prefix; root = length v.nodes; standing = Made op }) ∷ [];
 }
-
--- the operation may take a node out: it is empty, no live node leads to it, and it is no root of a tree that stands
-pub record MayRetire (v : ArenaView) (k op : ℕ) : Type 0 where
-  pub held : IsHeld v k op
-  pub live : (at v k).version.deleted ≡ false
-  pub empty : (at v k).slots ≡ []
-  pub left : IsLeft v.nodes k
-  pub no_root : (t : ℕ) → t < length v.trees → (tree_at v.trees t).root ≡ k → (tree_at v.trees t).standing ≡ Dead

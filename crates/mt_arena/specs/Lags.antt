@@ -1,7 +1,9 @@
 -- Which nodes name another one as the one before or as their parent, while an operation is at work on it.
-use Rattle.std.specs.Prelude.{◌≡◌, ◌≢◌, ℕ, ◌<◌, false, List, length, Option, Some}
+use Rattle.std.specs.Prelude.{◌≡◌, ◌≢◌, ℕ, ◌<◌, true, false, List, length, Option, Some, None}
+use Rattle.std.specs.List.{All}
 use Rattle.mt_arena.specs.NodeView.{NodeView, node_at}
 use Rattle.mt_arena.specs.Nodes.{HasChild}
+use Rattle.mt_arena.specs.NodeFacts.{IsUnstable}
 
 -- a live node names node i as the one before, or as its parent
 abbrev pub Follows : List NodeView → ℕ → ℕ → Type 0
@@ -23,3 +25,11 @@ AreChildren nodes i n = (k : ℕ) → IsUnder nodes i k → HasChild n k
 
 abbrev pub AreChildrenBut : List NodeView → ℕ → NodeView → ℕ → Type 0
 AreChildrenBut nodes i n but = (k : ℕ) → k ≢ but → IsUnder nodes i k → HasChild n k
+
+-- of the live nodes, only this one names node i as the one before, or none does; and nothing else lags behind it
+pub record IsFollowedBy (nodes : List NodeView) (i : ℕ) (x : NodeView) (named : Option ℕ) : Type 0 where
+  pub followers : AreFollowers nodes i named
+  pub children : AreChildren nodes i x
+  pub reach : x.reach ≡ x.high
+  pub stable : All (λ e. ¬ IsUnstable e.held) x.slots
+  pub rooted : x.version.deleted ≡ false → x.parent ≡ None → x.version.root ≡ true

@@ -1,4 +1,5 @@
 pub mod NodeView
+pub mod NodeFacts
 pub mod Nodes
 pub mod Ranges
 pub mod Forests
@@ -15,5 +16,6 @@ pub mod Splits
 pub mod Growth
 pub mod Unlinks
 pub mod Collapses
+pub mod Removals
 pub mod Lags
 pub mod Several

@@ -1,7 +1,7 @@
 //! What follows from the facts of nodes, trees and links, and what steps make of the contents. Each
 //! is a contract alone: no code runs.
 
-ghost use Rattle.std.specs.Prelude.{◌≡◌, ◌≢◌, ℕ, ◌+◌, ◌*◌, ◌<◌, ◌≤◌, ◌⊎◌, true, false, List, [], ◌∷◌, ◌++◌, length, take, slice_set, Some, None};
+ghost use Rattle.std.specs.Prelude.{◌≡◌, ◌≢◌, ℕ, ◌+◌, ◌*◌, ◌<◌, ◌≤◌, ◌⊎◌, true, false, List, [], ◌∷◌, ◌++◌, length, take, slice_set, Option, Some, None};
 ghost use Rattle.std.specs.List.{remove};
 ghost use Rattle.std.specs.FinMap as pairs;
 ghost use Rattle.mt_slices.specs.Keys.{IsStoredKey};
@@ -26,8 +26,10 @@ ghost use Rattle.mt_arena.specs.Contents.{content};
 ghost use Rattle.mt_arena.specs.Arena.{IsArena};
 ghost use Rattle.mt_arena.specs.Guarantee.{NodesGuarantee, PointsOnly};
 ghost use Rattle.mt_arena.specs.Settled.{IsSettled};
+ghost use Rattle.mt_arena.specs.Lags.{IsFollowedBy};
+ghost use Rattle.mt_arena.specs.Edits.{pointed};
 ghost use Rattle.mt_arena.specs.Stands.{IsLiveBorder, StandsAt};
-ghost use Rattle.mt_arena.specs.Ways.{LinksOn, BelongsIn, StandsFor, GoesOn, HasSlots, IsUnfilled, IsMadeFor};
+ghost use Rattle.mt_arena.specs.Ways.{LinksOn, BelongsIn, StandsFor, GoesOn, HasSlots, IsUnfilled, IsMadeFor, IsFreeRoot};
 
 /// In a tree a slice and a mark stand in one slot of one live border node, and all slots of one
 /// slice stand in one node: the one that has the slice in its range.
@@ -121,8 +123,8 @@ pub fn contents_by_slot()
 {}
 
 /// What leaves the contents as they are: a change of a node but for its slots, its tree and whether
-/// it is deleted, slots that are parted among two nodes, a slot that holds its pair otherwise, a link that is taken out, any change of a
-/// node without slots, one more such node, one more tree, another root in a tree's record, and any
+/// it is deleted, slots that are parted among two nodes, a slot that holds its pair otherwise, a link
+/// that is taken out, any change of a node without slots, one more such node, one more tree, another root in a tree's record, and any
 /// change of a tree whose nodes are deleted or have no slots.
 pub fn contents_stand()
     ensures same_slots { (nodes : List NodeView) (trees : List Tree) (k : ℕ) (y : NodeView) →
@@ -176,8 +178,41 @@ pub fn a_child_is_no_root()
         HasRange (node_at nodes k) × ((node_at nodes k).version.root ≡ false) }
 {}
 
-/// What steps of one operation leave to others adds up: nothing is done by no step, and two steps are
-/// as one, also for whom nodes name where the second one gives no lock back. While another operation goes on, nothing comes to lag behind a node that is held.
+/// A root that is a border node and that nobody holds is the only live node of its tree: every other
+/// one, also one that an operation has just made, is deleted.
+pub fn alone_in_its_tree()
+    ensures { (nodes : List NodeView) (trees : List Tree) (r k : ℕ) → IsArena nodes trees → IsFreeRoot nodes trees r →
+        k < length nodes → k ≢ r → (node_at nodes k).tree ≡ (node_at nodes r).tree →
+        (node_at nodes k).version.deleted ≡ true }
+{}
+
+/// Between a removal and the step by which the node behind names its new neighbour, no more comes to
+/// lag behind the nodes that the operation holds. By that step the neighbour has its follower back, and
+/// the removed node none: then all locks may be given back.
+pub fn followed_until_named()
+    ensures others { (op holder : ℕ) (old new : List NodeView) (were are : List Tree) (k : ℕ) (named : Option ℕ) →
+        NodesGuarantee op old new were are → PointsOnly op old new → holder ≢ op → k < length old →
+        (node_at old k).holder ≡ Some holder → IsFollowedBy old k (node_at old k) named → IsFollowedBy new k (node_at new k) named }
+    ensures named { (nodes : List NodeView) (left behind : ℕ) → behind < length nodes → left ≢ behind →
+        IsFollowedBy nodes left (node_at nodes left) None →
+        let after = slice_set nodes behind (pointed (node_at nodes behind) (Some left) (node_at nodes behind).parent) in
+        IsFollowedBy after left (node_at after left) (Some behind) }
+    ensures unnamed { (nodes : List NodeView) (left removed behind : ℕ) → behind < length nodes → left ≢ removed → removed ≢ behind →
+        IsFollowedBy nodes removed (node_at nodes removed) (Some behind) →
+        let after = slice_set nodes behind (pointed (node_at nodes behind) (Some left) (node_at nodes behind).parent) in
+        IsFollowedBy after removed (node_at after removed) None }
+    ensures beside { (nodes : List NodeView) (left behind k : ℕ) → behind < length nodes → k ≢ left → k ≢ behind →
+        IsSettled nodes k (node_at nodes k) →
+        let after = slice_set nodes behind (pointed (node_at nodes behind) (Some left) (node_at nodes behind).parent) in
+        IsSettled after k (node_at after k) }
+    ensures by_none { (nodes : List NodeView) (k : ℕ) (x : NodeView) → IsFollowedBy nodes k x None → IsSettled nodes k x }
+    ensures by_the_next { (nodes : List NodeView) (k : ℕ) (x : NodeView) → x.version.deleted ≡ false →
+        IsFollowedBy nodes k x x.next → IsSettled nodes k x }
+{}
+
+/// The guarantees of one operation's steps add up: where nothing is done nothing changes, and two
+/// steps are as one, also in whom nodes name where the second one gives no lock back. While another
+/// operation goes on, nothing comes to lag behind a node that is held.
 pub fn steps_add_up()
     ensures none { (op : ℕ) (nodes : List NodeView) (trees : List Tree) → NodesGuarantee op nodes nodes trees trees }
     ensures two { (op : ℕ) (old mid new : List NodeView) (were between are : List Tree) → IsArena old were →
