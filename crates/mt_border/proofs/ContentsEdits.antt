@@ -7,6 +7,7 @@ use Rattle.std.proofs.lemmas.Option.{same_Some, none-some}
 use Rattle.std.proofs.lemmas.List.{length-set, get_or-map}
 use Rattle.std.proofs.lemmas.List.Edits.{length-insert}
 use Rattle.std.proofs.lemmas.List.Elements.{All-tail, All-take, All-set}
+use Rattle.mt_lists.specs.Rising.{IsRising}
 use Rattle.mt_slices.specs.declared.mark.Mark.{Mark}
 use Rattle.mt_rows.specs.Rows.{Bytes, Columns}
 use Rattle.mt_rows.specs.Tenants.{owned_cmp}
@@ -15,7 +16,7 @@ use Rattle.mt_border.specs.declared.entry.Entry.{Entry}
 use Rattle.mt_border.specs.declared.entry.Held.{Held}
 use Rattle.mt_border.specs.declared.entry.Held.TheVariants.{Stable, Unstable, Link}
 use Rattle.mt_border.specs.Entry.{pair_of, order_of, IsRest, IsStablePair, CanHold}
-use Rattle.mt_border.specs.Entries.{orders, IsRising, IsBorder, IsMissing, place_in, with_entry}
+use Rattle.mt_border.specs.Entries.{orders, IsBorder, IsMissing, place_in, with_entry}
 use Rattle.mt_border.specs.Node.{Node, entries_of, entry_at, IsLive, Rewrites}
 use Rattle.mt_border.proofs.Edits.{any_entry, place_in-le, All-insert, border_set, replaced_at}
 use Rattle.mt_border.specs.Contents.{owned, contents_of, HasKey, AreKeys}

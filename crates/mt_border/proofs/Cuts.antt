@@ -5,14 +5,15 @@ use Rattle.std.proofs.lemmas.Bool.{cases_eq, cases_lt}
 use Rattle.std.proofs.lemmas.List.{map-append, take-map, drop-map, length-map, take_all}
 use Rattle.std.proofs.lemmas.List.Edits.{length-insert, get_or-insert_below, get_or-insert_above}
 use Rattle.std.proofs.lemmas.List.Elements.{All-weaker}
+use Rattle.mt_lists.specs.Rising.{IsRising}
+use Rattle.mt_lists.proofs.Rises.{rising_by}
 use Rattle.mt_slices.specs.declared.mark.Mark.{Mark}
 use Rattle.mt_slices.specs.Marks.{IsMark}
 use Rattle.mt_border.specs.declared.entry.Entry.{Entry}
 use Rattle.mt_border.specs.declared.entry.Held.TheVariants.{Link}
 use Rattle.mt_border.specs.Entry.{order_at, order_of, IsEntry}
-use Rattle.mt_border.specs.Entries.{orders, slices, IsRising, IsBorder, IsMissing, place_in, with_entry}
+use Rattle.mt_border.specs.Entries.{orders, slices, IsBorder, IsMissing, place_in, with_entry}
 use Rattle.mt_border.specs.Split.{IsSeparator, slices_with}
-use Rattle.mt_border.proofs.Rising.{rising_by}
 use Rattle.mt_border.proofs.Orders.{order_low, order_high}
 use Rattle.mt_border.proofs.Edits.{place_in-le, orders-insert, rising_with, All-insert}
 

@@ -7,13 +7,14 @@ use Rattle.std.proofs.lemmas.Bool.Decides.{nat_tests}
 use Rattle.std.proofs.lemmas.List.{map-append, map-set, take-map, drop-map, length-map, get_or-map, length-set, set-get_or, length-take, length-drop, take_all, drop_all, append-nil, get_or_default}
 use Rattle.std.proofs.lemmas.List.Edits.{length-insert, length-remove}
 use Rattle.std.proofs.lemmas.List.Elements.{All-append, All-cons, All-take, All-drop, All-set}
+use Rattle.mt_lists.specs.Rising.{IsRising}
+use Rattle.mt_lists.proofs.Rises.{rising_insert, rising_remove, rising_take, rising_drop}
 use Rattle.mt_slices.specs.declared.mark.Mark.{Mark}
 use Rattle.mt_slices.specs.declared.mark.Mark.TheVariants.{Long}
 use Rattle.mt_border.specs.declared.entry.Held.TheVariants.{Link}
 use Rattle.mt_border.specs.declared.entry.Entry.{Entry}
 use Rattle.mt_border.specs.Entry.{order_at, order_of, IsEntry}
-use Rattle.mt_border.specs.Entries.{orders, IsRising, IsBorder, IsMissing, place_in, with_entry, without, replaced}
-use Rattle.mt_border.proofs.Rising.{rising_insert, rising_remove, rising_take, rising_drop}
+use Rattle.mt_border.specs.Entries.{orders, IsBorder, IsMissing, place_in, with_entry, without, replaced}
 use Rattle.mt_border.proofs.Orders.{same_place}
 use Rattle.mt_slices.specs.Marks.{IsMark}
 

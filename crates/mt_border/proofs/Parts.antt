@@ -5,11 +5,12 @@ use Rattle.std.proofs.lemmas.Bool.{cases_lt}
 use Rattle.std.proofs.lemmas.List.{length-map, get_or-map, get_or-take, get_or-drop, get_or_append_left, get_or-append_right, get_or-append-add, length-take, length-drop, take-append-drop}
 use Rattle.std.proofs.lemmas.List.Edits.{insert-append_left, insert-append_right}
 use Rattle.std.proofs.lemmas.List.Elements.{All-head, All-tail}
+use Rattle.mt_lists.specs.Rising.{IsRising}
 use Rattle.mt_slices.specs.declared.mark.Mark.{Mark}
 use Rattle.mt_slices.specs.Marks.{IsMark}
 use Rattle.mt_border.specs.declared.entry.Entry.{Entry}
 use Rattle.mt_border.specs.Entry.{order_of, IsEntry}
-use Rattle.mt_border.specs.Entries.{orders, slices, IsRising, IsBorder, IsMissing, place_in, with_entry}
+use Rattle.mt_border.specs.Entries.{orders, slices, IsBorder, IsMissing, place_in, with_entry}
 use Rattle.mt_border.specs.Split.{IsCut, IsSeparator, IsParted, slices_with}
 use Rattle.mt_border.proofs.Orders.{order_at-lt}
 use Rattle.mt_border.proofs.Edits.{any_entry, place_in-le, step_on, step_off, orders-insert, rising_with, All-insert}

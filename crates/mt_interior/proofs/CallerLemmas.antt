@@ -1,5 +1,5 @@
 -- What edits of a node do to the bounds of its children's ranges, for the proofs of the crates above.
--- `PlaceLemmas` has the place of a slice, and `Rises` that edits keep a list rising.
+-- `PlaceLemmas` has the place of a slice; that edits keep a list rising stands in mt_lists.
 use Rattle.std.proofs.Common.{◌≡◌, ℕ, zero, suc, ◌+◌, ◌-◌, ◌<◌, ◌≤◌, List, [], ◌∷◌, Option, Some, length, get_or, take, drop, add-one, refl, sym, ap, arith}
 use Rattle.std.specs.List.{insert, remove}
 use Rattle.std.proofs.lemmas.List.Sums.{count_by-le-length}

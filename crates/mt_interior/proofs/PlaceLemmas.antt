@@ -8,7 +8,8 @@ use Rattle.std.proofs.lemmas.List.Sums.{sum_by-cons}
 use Rattle.std.proofs.lemmas.Grind.{common_steps}
 use Rattle.std.proofs.lemmas.Bool.{cases_lt}
 use Rattle.std.proofs.lemmas.Bool.Decides.{nat_tests}
-use Rattle.mt_interior.specs.Rising.{IsRising}
+use Rattle.mt_lists.specs.Rising.{IsRising}
+use Rattle.mt_lists.proofs.Rises.{rising_tail, rising_upto}
 use Rattle.mt_interior.specs.Places.{place_of, IsPlace, IsNew}
 use Rattle.mt_interior.specs.Fences.{end_of, bounds_of, IsWithinBounds}
 
@@ -45,9 +46,6 @@ place_of-unique (x ∷ xs) s (suc i) place =
       at_most_before = λ j before. place.at_most_before (suc j) (omega arith);
       above_after = λ j after within. place.above_after (suc j) (omega arith) (omega arith);
     }))
-
-rising_tail : (x : ℕ) (xs : List ℕ) → IsRising (x ∷ xs) → IsRising xs
-rising_tail x xs rising i j lt within = rising (suc i) (suc j) (omega arith) (omega arith)
 
 -- the count parts separators that rise
 pub place_of-parts : (xs : List ℕ) (s : ℕ) → IsRising xs → IsPlace xs s (place_of xs s)
@@ -138,10 +136,7 @@ gap_of-new xs s i missing place j before = omega (arith, missing j (omega (arith
 
 -- what a binary search asks of separators that rise, and what its answer says
 pub partitioned : (xs : List ℕ) (s : ℕ) → IsRising xs → IsPartitionedBy (λ y. nat_le y s) xs
-partitioned xs s rising = IsPartitionedBy-leb (λ y. y) xs s (IsNonDecreasingBy-from_default (λ y. y) xs 0 (λ i j le within. elim (cases_lt i j) [
-  | inl lower ↦ omega (arith, rising i j lower within)
-  | inr here ↦ let same : i ≡ j = omega arith in rw same (omega arith)
-]))
+partitioned xs s rising = IsPartitionedBy-leb (λ y. y) xs s (IsNonDecreasingBy-from_default (λ y. y) xs 0 (λ i j le within. rising_upto xs i j rising le within))
 
 pub parts_from_point : (xs : List ℕ) (s i : ℕ) → i ≤ length xs → IsPartitionPoint (λ y. nat_le y s ≡ true) (λ y. nat_le y s ≡ false) xs i → IsPlace xs s i
 parts_from_point xs s i in_range point = record {

@@ -3,10 +3,10 @@ use Rattle.std.proofs.Common.{◌≡◌, ℕ, ◌+◌, ◌<◌, ◌≤◌, List,
 use Rattle.std.specs.List.{insert, remove}
 use Rattle.std.proofs.lemmas.List.{length-take, length-drop, drop-drop}
 use Rattle.std.proofs.lemmas.List.Edits.{length-insert}
-use Rattle.mt_interior.specs.Rising.{IsRising}
+use Rattle.mt_lists.specs.Rising.{IsRising}
 use Rattle.mt_interior.specs.Places.{IsPlace, IsNew}
 use Rattle.mt_interior.specs.Node.{IsInterior}
-use Rattle.mt_interior.proofs.Rises.{rising_insert, rising_remove, rising_take, rising_drop}
+use Rattle.mt_lists.proofs.Rises.{rising_insert, rising_remove, rising_take, rising_drop}
 use Rattle.mt_interior.proofs.PlaceLemmas.{gap_of-new}
 
 -- a new separator at its place keeps them rising
