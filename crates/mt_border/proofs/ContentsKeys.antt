@@ -1,17 +1,16 @@
 -- The keys for which entries stand: each has one, and two at different places in the order have two.
 use Rattle.std.proofs.Common.{◌≡◌, ◌≢◌, ℕ, ◌^◌, ◌<◌, ◌≤◌, List, [], ◌++◌, length, get_or, drop, Option, Some, sym, refl, ap, subst, ◌∙◌, inl, inr, arith}
 use Rattle.std.specs.List.{All}
-use Rattle.std.specs.Prelude.{IsSomeAnd, nat_le, if◌then◌else◌}
+use Rattle.std.specs.Prelude.{IsSomeAnd}
 use Rattle.std.specs.Option.{ForSome}
 use Rattle.std.proofs.lemmas.Bool.{cases_lt}
-use Rattle.std.proofs.lemmas.Bool.Decides.{nat_tests}
 use Rattle.std.proofs.lemmas.List.{length-drop, nil_from_length}
 use Rattle.std.proofs.lemmas.Option.{same_Some}
-use Rattle.mt_slices.specs.declared.mark.Mark.TheVariants.{Short, Long}
+use Rattle.mt_slices.specs.declared.mark.Mark.TheVariants.{Short}
 use Rattle.mt_slices.specs.Marks.{IsMark}
 use Rattle.mt_slices.specs.Keys.{IsStoredKey, stored_key}
 use Rattle.mt_slices.specs.Slices.{rest_of, mark_at, slice_of, mark_of, suffix_of, piece_bytes}
-use Rattle.mt_slices.proofs.Rejoin.{parts_are}
+use Rattle.mt_slices.proofs.Rejoin.{mark_short, mark_long, parts_are}
 use Rattle.mt_slices.proofs.Tenants.{tenant_of-stored_key, stored_key-again}
 use Rattle.mt_rows.specs.Rows.{Bytes, Columns}
 use Rattle.mt_border.specs.declared.entry.Pair.{Pair}
@@ -80,13 +79,6 @@ new_has_key prefix layer key row stamp of_tree = record {
   mark = refl;
   suffix = λ other same. ap (λ (p : Pair). p.suffix) (sym (same_Some _ _ same));
 }
-
--- the mark of eight bytes or fewer, and of more
-mark_short : (n : ℕ) → n ≤ 8 → (if nat_le n 8 then Short n else Long) ≡ Short n
-mark_short n short = grind (arith, nat_tests)
-
-mark_long : (n : ℕ) → 8 < n → (if nat_le n 8 then Short n else Long) ≡ Long
-mark_long n long = grind (arith, nat_tests)
 
 -- the mark of a key of eight bytes or fewer, in the top tree
 pub mark_of_short : (key : Bytes) → length key ≤ 8 → mark_of key 0 ≡ Short (length key)

@@ -1,48 +1,12 @@
 -- The map of all tenants: what an insert leaves at each key, and how many pairs each tenant has then.
 use Rattle.std.proofs.Common.{◌≡◌, ◌≢◌, ℕ, ◌+◌, Bool, true, false, cond, Option, Some, None, sym, refl, ap, ◌∙◌}
 use Rattle.std.specs.Prelude.{is_some}
-use Rattle.std.specs.Ordering.{nat_cmp, eq_by_cmp, is_eq, ordering_then}
-use Rattle.std.specs.declared.cmp.Ordering.{Ordering}
-use Rattle.std.specs.declared.cmp.Ordering.TheVariants.{Less, Equal, Greater}
-use Rattle.std.specs.Cmp.{eq_by_cmp_equiv}
-use Rattle.std.specs.Cmp.Lexicographic.{slice_cmp}
-use Rattle.std.specs.FinMap.{get, insert, len, same_map, get-insert, len-insert, IsAntisymmetric, nat_cmp-IsAntisymmetric}
+use Rattle.std.specs.Ordering.{eq_by_cmp}
+use Rattle.std.specs.FinMap.{get, insert, len, get-insert, len-insert}
 use Rattle.mt_rows.specs.Rows.{Bytes, Columns}
 use Rattle.mt_rows.specs.Tenants.{owned_cmp, Contents, tenant_map}
-use Rattle.mt_rows.proofs.CommandLaws.{keys_total, keys_exact}
-use Rattle.mt_rows.proofs.ContentLaws.{owned_total, get-tenant_map, tenant_map-insert, tenant_map-insert_other}
-
--- only equal owned keys tie
-owned_exact : IsAntisymmetric owned_cmp
-owned_exact a b is =
-    elim (nat_cmp a.0 b.0) as (λ o. nat_cmp a.0 b.0 ≡ o → ordering_then o (slice_cmp nat_cmp a.1 b.1) ≡ Equal → a ≡ b) [
-      | Less ↦ λ _ e. absurd (cc)
-      | Equal ↦ λ p e i. (nat_cmp-IsAntisymmetric a.0 b.0 p i, keys_exact a.1 b.1 e i)
-      | Greater ↦ λ _ e. absurd (cc)
-    ] refl is
-
--- contents with the same row at each key are one
-pub same_contents : (a b : Contents) → ((q : ℕ × Bytes) → get a q ≡ get b q) → a ≡ b
-same_contents a b same = same_map owned_total owned_exact a b same
-
-ties : (o : Ordering) → is_eq o ≡ true → o ≡ Equal
-ties Less e = absurd (cc)
-ties Equal e = refl
-ties Greater e = absurd (cc)
-
--- an owned key ties with itself, and with no other
-same_owner : (q : ℕ × Bytes) → eq_by_cmp owned_cmp q q ≡ true
-same_owner q = (eq_by_cmp_equiv owned_total).refl q
-
-tied_owner : (q r : ℕ × Bytes) → eq_by_cmp owned_cmp q r ≡ true → q ≡ r
-tied_owner q r tied = owned_exact q r (ties _ tied)
-
-other_owner : (q r : ℕ × Bytes) → q ≢ r → eq_by_cmp owned_cmp q r ≡ false
-other_owner q r apart = by (eq_by_cmp owned_cmp q r) refl
-  where
-    by : (b : Bool) → eq_by_cmp owned_cmp q r ≡ b → b ≡ false
-    by true e = absurd (apart (tied_owner q r e))
-    by false e = refl
+use Rattle.mt_rows.proofs.CommandLaws.{keys_total}
+use Rattle.mt_rows.proofs.ContentLaws.{owned_total, same_contents, same_owner, tied_owner, other_owner, get-tenant_map, tenant_map-insert, tenant_map-insert_other}
 
 -- what stands at a key after an insert there
 pub at_owner : (c : Contents) (q : ℕ × Bytes) (row : Columns) → get (insert c q row) q ≡ Some row

@@ -24,8 +24,8 @@ keys_exact = slice_cmp-IsAntisymmetric nat_cmp-IsAntisymmetric
 pub same_rows : (m n : Map) → ((k : Bytes) → get m k ≡ get n k) → m ≡ n
 same_rows m n h = same_map keys_total keys_exact m n h
 
--- keys that tie are one
-ties : (o : Ordering) → is_eq o ≡ true → o ≡ Equal
+-- only Equal is an equal order
+pub ties : (o : Ordering) → is_eq o ≡ true → o ≡ Equal
 ties Less e = absurd (cc)
 ties Equal e = refl
 ties Greater e = absurd (cc)
@@ -57,7 +57,7 @@ remove_missing m k none = same_rows _ _ (λ q. get-remove keys_total m k q ∙ b
     by q false e = refl
 
 -- a put that is told Full leaves the map
-put_same : (quota : ℕ) (key : Bytes) (change : Named) (m : Map) (row : Option Columns) → is_change (told_of_put quota (len m) row) ≡ false → map_after_put quota key change m row ≡ m
+pub put_same : (quota : ℕ) (key : Bytes) (change : Named) (m : Map) (row : Option Columns) → is_change (told_of_put quota (len m) row) ≡ false → map_after_put quota key change m row ≡ m
 put_same quota key change m None e = by (nat_lt (len m) quota) e
   where
     by : (b : Bool) → is_change (cond b New Full) ≡ false → cond b (insert m key (changed change [])) m ≡ m

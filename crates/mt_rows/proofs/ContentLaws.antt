@@ -4,18 +4,48 @@ use Rattle.std.specs.List.{filter}
 use Rattle.std.specs.declared.cmp.Ordering.{Ordering}
 use Rattle.std.specs.declared.cmp.Ordering.TheVariants.{Less, Equal, Greater}
 use Rattle.std.specs.Ordering.{nat_cmp, eq_by_cmp, is_eq, ordering_then}
-use Rattle.std.specs.Cmp.{IsTotalOrder, nat_cmp_total}
+use Rattle.std.specs.Cmp.{IsTotalOrder, nat_cmp_total, eq_by_cmp_equiv}
 use Rattle.std.specs.Cmp.Lexicographic.{slice_cmp}
-use Rattle.std.specs.FinMap.{get, insert, remove, find, entries, get-entries, get-insert, get-remove, get-from_entries}
+use Rattle.std.specs.FinMap.{get, insert, remove, find, entries, same_map, get-entries, get-insert, get-remove, get-from_entries, IsAntisymmetric, nat_cmp-IsAntisymmetric}
 use Rattle.std.proofs.lemmas.Bool.{eq-eqb, ne_eqb}
 use Rattle.std.proofs.lemmas.Bool.Decides.{nat_tests}
 use Rattle.std.proofs.lemmas.Cmp.{on_total, then_total}
 use Rattle.mt_rows.specs.Rows.{Bytes, Columns}
 use Rattle.mt_rows.specs.Tenants.{owned_cmp, Contents, tenant_map}
-use Rattle.mt_rows.proofs.CommandLaws.{keys_total, same_rows}
+use Rattle.mt_rows.proofs.CommandLaws.{keys_total, keys_exact, same_rows, ties}
 
+-- keys of tenants are in one order
 pub owned_total : IsTotalOrder owned_cmp
 owned_total = then_total (on_total (λ p. p.0) nat_cmp_total) (on_total (λ p. p.1) keys_total)
+
+-- in which only equal keys tie
+pub owned_exact : IsAntisymmetric owned_cmp
+owned_exact a b is =
+    elim (nat_cmp a.0 b.0) as (λ o. nat_cmp a.0 b.0 ≡ o → ordering_then o (slice_cmp nat_cmp a.1 b.1) ≡ Equal → a ≡ b) [
+      | Less ↦ λ _ e. absurd (cc)
+      | Equal ↦ λ p e i. (nat_cmp-IsAntisymmetric a.0 b.0 p i, keys_exact a.1 b.1 e i)
+      | Greater ↦ λ _ e. absurd (cc)
+    ] refl is
+
+-- contents with the same row at each key are one
+pub same_contents : (a b : Contents) → ((q : ℕ × Bytes) → get a q ≡ get b q) → a ≡ b
+same_contents a b same = same_map owned_total owned_exact a b same
+
+-- a tenant's key ties with itself
+pub same_owner : (q : ℕ × Bytes) → eq_by_cmp owned_cmp q q ≡ true
+same_owner q = (eq_by_cmp_equiv owned_total).refl q
+
+-- tenants' keys that tie are one
+pub tied_owner : (q r : ℕ × Bytes) → eq_by_cmp owned_cmp q r ≡ true → q ≡ r
+tied_owner q r tied = owned_exact q r (ties _ tied)
+
+-- and two that differ don't tie
+pub other_owner : (q r : ℕ × Bytes) → q ≢ r → eq_by_cmp owned_cmp q r ≡ false
+other_owner q r apart = by (eq_by_cmp owned_cmp q r) refl
+  where
+    by : (b : Bool) → eq_by_cmp owned_cmp q r ≡ b → b ≡ false
+    by true e = absurd (apart (tied_owner q r e))
+    by false e = refl
 
 -- two owned keys tie where the tenants are one and the keys tie
 is_eq-then : (a b : Ordering) → is_eq (ordering_then a b) ≡ (is_eq a && is_eq b)

@@ -11,12 +11,12 @@ use Rattle.mt_slices.proofs.Bytes.{AreBytes, bytes-drop}
 use Rattle.mt_slices.proofs.Padding.{slice_bytes}
 use Rattle.mt_slices.proofs.Order.{rest-more}
 
--- the mark of eight bytes or fewer
-mark_short : (n : ℕ) → n ≤ 8 → (if nat_le n 8 then Short n else Long) ≡ Short n
+-- the mark of eight bytes or fewer is Short with their number
+pub mark_short : (n : ℕ) → n ≤ 8 → (if nat_le n 8 then Short n else Long) ≡ Short n
 mark_short n short = grind (arith, nat_tests)
 
--- and of more
-mark_long : (n : ℕ) → 8 < n → (if nat_le n 8 then Short n else Long) ≡ Long
+-- and of more it is Long
+pub mark_long : (n : ℕ) → 8 < n → (if nat_le n 8 then Short n else Long) ≡ Long
 mark_long n long = grind (arith, nat_tests)
 
 -- a slice and its mark stand for the first eight bytes, or for all where there are fewer
