@@ -1,4 +1,4 @@
--- What a publish and a store in a border node are for the contents, and what they keep.
+-- What a publish and a store in a border node are for the contents, and what they keep: for the law of contents and the crates above.
 use Rattle.std.proofs.Common.{◌≡◌, ℕ, suc, ◌+◌, List, [], ◌∷◌, length, get_or, set, Option, Some, None, sym, refl, ap, subst, ◌∙◌, arith}
 use Rattle.std.specs.Prelude.{IsSome, is_some}
 use Rattle.std.specs.List.{All}

@@ -1,4 +1,4 @@
--- What a find in a border node tells of the contents.
+-- What a find in a border node tells of the contents: for the law of contents and the crates above.
 use Rattle.std.proofs.Common.{◌≡◌, ◌≢◌, ℕ, ◌<◌, List, length, get_or, take, Option, Some, None, sym, refl, subst, ◌∙◌, inl, inr, arith}
 use Rattle.std.specs.Prelude.{IsSomeAnd}
 use Rattle.std.specs.List.{All}

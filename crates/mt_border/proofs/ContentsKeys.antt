@@ -1,4 +1,4 @@
--- The keys for which entries stand: each has one, and two at different places in the order have two.
+-- The keys for which entries stand: each has one, and two at different places in the order have two. For the contents of nodes, and the crates above.
 use Rattle.std.proofs.Common.{◌≡◌, ◌≢◌, ℕ, ◌^◌, ◌<◌, ◌≤◌, List, [], ◌++◌, length, get_or, drop, Option, Some, sym, refl, ap, subst, ◌∙◌, inl, inr, arith}
 use Rattle.std.specs.List.{All}
 use Rattle.std.specs.Prelude.{IsSomeAnd}

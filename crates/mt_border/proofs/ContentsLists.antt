@@ -1,4 +1,4 @@
--- The contents of a list of entries, with one entry more and with another entry at a place.
+-- The contents of a list of entries, with one entry more and with another entry at a place: for publishes and stores, and the crates above.
 use Rattle.std.proofs.Common.{◌≡◌, ◌≢◌, ℕ, zero, suc, ◌<◌, List, [], ◌∷◌, length, get_or, set, take, Option, Some, None, sym, refl, ap, ◌∙◌, arith}
 use Rattle.std.specs.Prelude.{filter_map}
 use Rattle.std.specs.List.{All, insert as insert_at, cons_option}

@@ -1,4 +1,4 @@
--- The map of all tenants: what an insert leaves at each key, and how many pairs each tenant has then.
+-- The map of all tenants: what an insert leaves at each key, and how many pairs each tenant has then. For the contents of nodes, and the crates above.
 use Rattle.std.proofs.Common.{◌≡◌, ◌≢◌, ℕ, ◌+◌, Bool, true, false, cond, Option, Some, None, sym, refl, ap, ◌∙◌}
 use Rattle.std.specs.Prelude.{is_some}
 use Rattle.std.specs.Ordering.{eq_by_cmp}

@@ -1,4 +1,4 @@
--- What holds of each entry's owned key and stamp, after a publish and after a store.
+-- What holds of each entry's owned key and stamp, after a publish and after a store: for the invariants of the crates above.
 use Rattle.std.proofs.Common.{◌≡◌, ◌≢◌, ℕ, List, get_or, set, Some, refl, sym, subst, ◌∙◌, inl, inr, arith}
 use Rattle.std.proofs.lemmas.Bool.{cases_eq}
 use Rattle.std.proofs.lemmas.Option.{same_Some}

@@ -1,4 +1,4 @@
--- Where fifteen entries and one more key are parted, and what each side gets.
+-- Fifteen entries and one more key have one separator, and what each side gets: for the splits.
 use Rattle.std.proofs.Common.{◌≡◌, ◌≢◌, ℕ, ◌+◌, ◌-◌, ◌<◌, ◌≤◌, ◌⊎◌, List, ◌∷◌, length, get_or, take, drop, refl, sym, ap, ◌∙◌, inl, inr, arith}
 use Rattle.std.specs.List.{insert, All}
 use Rattle.std.proofs.lemmas.Bool.{cases_eq, cases_lt}
@@ -125,7 +125,7 @@ module _ (es : List Entry) (s : ℕ) (m : Mark) (border : IsBorder es) (mark : I
         | inr here ↦ omega (arith, here, last, rise 13 14 (omega arith) (omega arith), is.is)
       ]
 
-  -- so at least two of the fifteen are on each side
+  -- so at least two of the fifteen are on the left
   pub least_left : (separator keep : ℕ) → IsSeparator (slices_with es s m) separator
       → (keep < length es → separator ≤ get_or (slices es) keep 0) → 2 ≤ keep
   least_left separator keep is above = elim (cases_lt keep 2) [
@@ -133,6 +133,7 @@ module _ (es : List Entry) (s : ℕ) (m : Mark) (border : IsBorder es) (mark : I
     | inr enough ↦ enough
   ]
 
+  -- and at least two on the right
   pub least_right : (separator keep : ℕ) → IsSeparator (slices_with es s m) separator
       → ((k : ℕ) → k < keep → get_or (slices es) k 0 < separator) → keep ≤ 13
   least_right separator keep is below = elim (cases_lt 13 keep) [

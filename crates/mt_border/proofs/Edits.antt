@@ -1,4 +1,4 @@
--- The entries of a node as a list in the order of their keys, and its edits.
+-- The entries of a node keep their order through each edit at the place of a key: for the edits of `Border` and the crates above.
 use Rattle.std.proofs.Common.{◌≡◌, ◌≢◌, ℕ, zero, suc, ◌+◌, ◌<◌, ◌≤◌, List, [], ◌∷◌, length, get_or, set, take, drop, refl, sym, ap, ◌∙◌, inl, inr, arith}
 use Rattle.std.specs.Prelude.{nat_lt, if◌then◌else◌}
 use Rattle.std.specs.List.{insert, remove, All, Contains}
@@ -28,23 +28,26 @@ step_first a o n j before = grind (arith, nat_tests)
 step_next : (a o n j : ℕ) → suc j < (if nat_lt a o then suc n else 0) → j < n
 step_next a o n j before = grind (arith, nat_tests)
 
--- it counts a lower entry, and stops at another
+-- it counts a lower entry
 pub step_on : (a o n : ℕ) → a < o → (if nat_lt a o then suc n else 0) ≡ suc n
 step_on a o n lower = grind (arith, nat_tests)
 
+-- and stops at another
 pub step_off : (a o n : ℕ) → o ≤ a → (if nat_lt a o then suc n else 0) ≡ 0
 step_off a o n higher = grind (arith, nat_tests)
 
--- how many entries stand before a place: no more than there are, all of them are lower, and the next is not
+-- no more entries stand before a place than there are
 pub place_in-le : (es : List Entry) (o : ℕ) → place_in es o ≤ length es
 place_in-le [] o = omega arith
 place_in-le (e ∷ es) o = step_within (order_of e) o (place_in es o) (length es) (place_in-le es o)
 
+-- all of them are lower
 pub place_in-lower : (es : List Entry) (o j : ℕ) → j < place_in es o → get_or (orders es) j 0 < o
 place_in-lower [] o j before = absurd (omega arith)
 place_in-lower (e ∷ es) o zero before = step_first (order_of e) o (place_in es o) 0 before
 place_in-lower (e ∷ es) o (suc j) before = place_in-lower es o j (step_next (order_of e) o (place_in es o) j before)
 
+-- and the next is not
 pub place_in-stops : (es : List Entry) (o : ℕ) → place_in es o < length es → o ≤ get_or (orders es) (place_in es o) 0
 place_in-stops [] o within = absurd (omega arith)
 place_in-stops (e ∷ es) o within = elim (cases_lt (order_of e) o) [
@@ -97,13 +100,15 @@ place_in-higher es o j rising missing from within =
       | inr differ ↦ omega (arith, stops, rising p j (omega arith) (omega arith))
     ]
 
--- the order of the keys after an edit
+-- the order of the keys with one entry more
 pub orders-insert : (es : List Entry) (at : ℕ) (e : Entry) → orders (insert es at e) ≡ insert (orders es) at (order_of e)
 orders-insert es at e = map-append order_of (take at es) (e ∷ drop at es) ∙ rw (take-map order_of at es, drop-map order_of at es) refl
 
+-- with one less
 pub orders-remove : (es : List Entry) (at : ℕ) → orders (remove es at) ≡ remove (orders es) at
 orders-remove es at = map-append order_of (take at es) (drop (suc at) es) ∙ rw (take-map order_of at es, drop-map order_of (suc at) es) refl
 
+-- and with another entry of the same key
 pub orders-set : (es : List Entry) (at : ℕ) (e : Entry) → order_of e ≡ get_or (orders es) at 0 → orders (set es at e) ≡ orders es
 orders-set es at e same = map-set order_of es at e ∙ rw same (set-get_or (orders es) at 0)
 
@@ -123,14 +128,15 @@ rising_with es s m border mark missing =
     let apart = missing_order es s m border mark missing in
     rising_insert (orders es) (place_in es o) o border.rising (omega arith) (place_in-lower es o) (λ j from lt. place_in-higher es o j border.rising apart from (omega arith))
 
--- what holds of each entry, after an edit
+-- what holds of each entry and of a new one holds of all with it
 pub All-insert : (P : Entry → Type 0) (es : List Entry) (at : ℕ) (e : Entry) → All P es → P e → All P (insert es at e)
 All-insert P es at e all one = All-append P (take at es) (e ∷ drop at es) (All-take P at es all) (All-cons P e (drop at es) one (All-drop P at es all))
 
+-- and of all without any one
 pub All-remove : (P : Entry → Type 0) (es : List Entry) (at : ℕ) → All P es → All P (remove es at)
 All-remove P es at all = All-append P (take at es) (drop (suc at) es) (All-take P at es all) (All-drop P (suc at) es all)
 
--- a node's entries stay in order, and few enough
+-- a node with room keeps its order with one more key that was missing
 pub border_with_entry : (es : List Entry) (e : Entry) → IsBorder es → IsEntry e → IsMissing es e.slice e.mark
     → length es < 15 → IsBorder (with_entry es e)
 border_with_entry es e border entry missing room = record {
@@ -139,6 +145,7 @@ border_with_entry es e border entry missing room = record {
   rising = rw (orders-insert es (place_in es (order_of e)) e) (rising_with es e.slice e.mark border entry.mark missing);
 }
 
+-- it keeps it without one of its entries
 pub border_remove : (es : List Entry) (at : ℕ) → IsBorder es → at < length es → IsBorder (remove es at)
 border_remove es at border in_range =
     let size = length-map es order_of in
@@ -148,6 +155,7 @@ border_remove es at border in_range =
       rising = rw (orders-remove es at) (rising_remove (orders es) at border.rising (omega arith));
     }
 
+-- and with another entry of the same key in the place of one
 pub border_set : (es : List Entry) (at : ℕ) (e : Entry) → IsBorder es → IsEntry e
     → order_of e ≡ get_or (orders es) at 0 → IsBorder (set es at e)
 border_set es at e border entry same = record {
@@ -156,13 +164,14 @@ border_set es at e border entry same = record {
   rising = rw (orders-set es at e same) border.rising;
 }
 
--- the edits that contracts name
+-- a node keeps its order without an entry
 pub border_without : (es : List Entry) (e : Entry) → IsBorder es → IsBorder (without es e)
 border_without es e border = elim (cases_lt (place_in es (order_of e)) (length es)) [
   | inl within ↦ border_remove es (place_in es (order_of e)) border within
   | inr past ↦ rw (take_all (place_in es (order_of e)) es past, drop_all (suc (place_in es (order_of e))) es (omega arith), append-nil es) border
 ]
 
+-- and with an entry in place of the one of its slice and mark
 pub border_replaced : (es : List Entry) (e : Entry) → IsBorder es → IsEntry e → Contains (orders es) (order_of e) → IsBorder (replaced es e)
 border_replaced es e border entry there =
     let k = there.0 in
@@ -171,7 +180,7 @@ border_replaced es e border entry there =
     let at : place_in es (order_of e) ≡ k = rw read at (place_in-read es k border.rising within) in
     rw at (border_set es k e border entry (sym read))
 
--- each part of a list in order, where it is short enough
+-- the first entries, where they are few enough, are those of a node
 pub border_take : (es : List Entry) (n : ℕ) → IsRising (orders es) → All IsEntry es → n ≤ 15 → IsBorder (take n es)
 border_take es n rising each within = record {
   within = omega (arith, length-take n es);
@@ -179,6 +188,7 @@ border_take es n rising each within = record {
   rising = rw (← take-map order_of n es) (rising_take n (orders es) rising);
 }
 
+-- and so are the others
 pub border_drop : (es : List Entry) (n : ℕ) → IsRising (orders es) → All IsEntry es → length es ≤ n + 15 → IsBorder (drop n es)
 border_drop es n rising each within = record {
   within = omega (arith, length-drop n es);
@@ -198,11 +208,12 @@ missing_from es s m border none k d within slice_is mark_is =
     let at : place_in es (order_at s m) ≡ k = rw (slice_is, mark_is) at (place_in-at es k d border.rising within) in
     none k d at within slice_is mark_is
 
--- the edits as they are made at a place
+-- to take out the entry at a place is to take out its key
 pub without_at : (es : List Entry) (at : ℕ) (e : Entry) → IsRising (orders es) → at < length es → e ≡ get_or es at e
     → without es e ≡ remove es at
 without_at es at e rising within read = ap (remove es) (ap (λ x. place_in es (order_of x)) read ∙ place_in-at es at e rising within)
 
+-- and to write over it with one of the same key is to replace it
 pub replaced_at : (es : List Entry) (at : ℕ) (e d : Entry) → IsRising (orders es) → at < length es
     → order_of e ≡ order_of (get_or es at d) → replaced es e ≡ set es at e
 replaced_at es at e d rising within same = ap (λ k. set es k e) (ap (place_in es) same ∙ place_in-at es at d rising within)

@@ -1,4 +1,4 @@
--- Entries in two parts, at a separator.
+-- Entries in two parts at a separator, with a new entry in the part of its slice: for the splits and the crates above.
 use Rattle.std.proofs.Common.{◌≡◌, ◌≢◌, ℕ, ◌+◌, ◌-◌, ◌<◌, ◌≤◌, List, [], ◌∷◌, ◌++◌, length, get_or, take, drop, refl, sym, ap, subst, ◌∙◌, inl, inr, arith, zero-add, length-append}
 use Rattle.std.specs.List.{insert, All}
 use Rattle.std.proofs.lemmas.Bool.{cases_lt}
@@ -33,10 +33,11 @@ parted_at es separator keep rising marks within below above = record {
       rw (get_or-drop keep es k d) (omega (arith, here, above (omega arith)));
 }
 
--- what holds of each entry of both parts
+-- what holds of each entry of both parts holds of those on the left
 pub All-left : (P : Entry → Type 0) (l r : List Entry) → All P (l ++ r) → All P l
 All-left P l r all k d lt = subst P (get_or_append_left l r d k lt) (all k d (omega (arith, length-append l r)))
 
+-- and of those on the right
 pub All-right : (P : Entry → Type 0) (l r : List Entry) → All P (l ++ r) → All P r
 All-right P l r all k d lt = subst P (get_or-append-add l r k d) (all (length l + k) d (omega (arith, length-append l r)))
 
@@ -52,7 +53,7 @@ place_in-right (x ∷ l) r o below =
     step_on (order_of x) o (place_in (l ++ r) o) (All-head (λ x. order_of x < o) x l below)
     ∙ let rest = place_in-right l r o (All-tail (λ x. order_of x < o) x l below) in omega (arith, rest)
 
--- a new entry goes to the part of its slice
+-- a new entry of a lower slice than the separator goes to the left
 pub with_entry-left : (l r : List Entry) (e : Entry) (separator : ℕ) → IsMark e.mark → e.slice < separator
     → All (λ x. separator ≤ x.slice) r → with_entry (l ++ r) e ≡ with_entry l e ++ r
 with_entry-left l r e separator mark lower above =
@@ -60,6 +61,7 @@ with_entry-left l r e separator mark lower above =
     let less = order_at-lt e.slice (get_or r k d).slice e.mark (get_or r k d).mark mark (omega arith) in omega (arith, less) in
     rw (place_in-left l r (order_of e) behind) (insert-append_left l r (place_in l (order_of e)) e (place_in-le l (order_of e)))
 
+-- any other goes to the right
 pub with_entry-right : (l r : List Entry) (e : Entry) (separator : ℕ) → All (λ x. IsMark x.mark) l
     → separator ≤ e.slice → All (λ x. x.slice < separator) l → with_entry (l ++ r) e ≡ l ++ with_entry r e
 with_entry-right l r e separator marks higher below =
@@ -69,7 +71,7 @@ with_entry-right l r e separator marks higher below =
     let back : length l + p - length l ≡ p = omega arith in
     rw (place_in-right l r (order_of e) before) (insert-append_right l r (length l) (length l + p) e refl (omega arith) ∙ ap (λ k. l ++ insert r k e) back)
 
--- two parts stay parted with it
+-- two parts stay parted with a new entry on the left
 pub parted_left : (es l r : List Entry) (e : Entry) (separator : ℕ) → IsParted es l r separator → IsMark e.mark
     → e.slice < separator → IsParted (with_entry es e) (with_entry l e) r separator
 parted_left es l r e separator parted mark lower = record {
@@ -78,6 +80,7 @@ parted_left es l r e separator parted mark lower = record {
   above = parted.above;
 }
 
+-- and with one on the right
 pub parted_right : (es l r : List Entry) (e : Entry) (separator : ℕ) → IsParted es l r separator
     → All (λ x. IsMark x.mark) es → separator ≤ e.slice → IsParted (with_entry es e) l (with_entry r e) separator
 parted_right es l r e separator parted marks higher = record {
@@ -86,10 +89,11 @@ parted_right es l r e separator parted marks higher = record {
   above = All-insert (λ x. separator ≤ x.slice) r (place_in r (order_of e)) e parted.above higher;
 }
 
--- a key that is missing is so in both parts
+-- a key that is missing is missing on the left
 pub missing_left : (es l r : List Entry) (s : ℕ) (m : Mark) → l ++ r ≡ es → IsMissing es s m → IsMissing l s m
 missing_left es l r s m joined missing = All-left (λ e. e.slice ≡ s → e.mark ≢ m) l r (rw joined missing)
 
+-- and on the right
 pub missing_right : (es l r : List Entry) (s : ℕ) (m : Mark) → l ++ r ≡ es → IsMissing es s m → IsMissing r s m
 missing_right es l r s m joined missing = All-right (λ e. e.slice ≡ s → e.mark ≢ m) l r (rw joined missing)
 

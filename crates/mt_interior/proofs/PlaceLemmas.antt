@@ -1,4 +1,4 @@
--- The place of a slice among separators that rise, and the range that goes with it.
+-- The place of a slice among separators that rise is the child whose range holds it: for finds, and the crates above.
 use Rattle.std.proofs.Common.{◌≡◌, ℕ, zero, suc, ◌+◌, ◌<◌, ◌≤◌, Bool, true, false, List, [], ◌∷◌, Option, length, get_or, add-one, refl, ap, ◌∙◌, inl, inr, arith}
 use Rattle.std.specs.Prelude.{nat_le, if◌then◌else◌}
 use Rattle.std.proofs.lemmas.List.{get_or_append_left}
@@ -134,10 +134,11 @@ place_of-between low xs high s i rising in_range between = place_of-unique xs s 
 pub gap_of-new : (xs : List ℕ) (s i : ℕ) → IsNew xs s → IsPlace xs s i → (j : ℕ) → j < i → get_or xs j 0 < s
 gap_of-new xs s i missing place j before = omega (arith, missing j (omega (arith, place.in_range)), place.at_most_before j before)
 
--- what a binary search asks of separators that rise, and what its answer says
+-- separators that rise are parted by any slice, as a binary search asks
 pub partitioned : (xs : List ℕ) (s : ℕ) → IsRising xs → IsPartitionedBy (λ y. nat_le y s) xs
 partitioned xs s rising = IsPartitionedBy-leb (λ y. y) xs s (IsNonDecreasingBy-from_default (λ y. y) xs 0 (λ i j le within. rising_upto xs i j rising le within))
 
+-- and the search's answer is the slice's place
 pub parts_from_point : (xs : List ℕ) (s i : ℕ) → i ≤ length xs → IsPartitionPoint (λ y. nat_le y s ≡ true) (λ y. nat_le y s ≡ false) xs i → IsPlace xs s i
 parts_from_point xs s i in_range point = record {
   in_range = in_range;

@@ -1,4 +1,4 @@
--- Separators and children keep their shape through each edit.
+-- Separators and children keep their shape through each edit: for the edits of `Interior`.
 use Rattle.std.proofs.Common.{◌≡◌, ℕ, ◌+◌, ◌<◌, ◌≤◌, List, length, take, drop, suc, length-append, arith}
 use Rattle.std.specs.List.{insert, remove}
 use Rattle.std.proofs.lemmas.List.{length-take, length-drop, drop-drop}

@@ -1,4 +1,4 @@
--- A change of one tenant's pair changes that tenant's map, and no other.
+-- A change of one tenant's pair changes that tenant's map, and no other: for the laws and the crates above.
 use Rattle.std.proofs.Common.{◌≡◌, ◌≢◌, ℕ, Bool, true, false, cond, eqb, ◌&&◌, List, [], ◌∷◌, map, Some, None, sym, refl, ap, ◌∙◌, arith}
 use Rattle.std.specs.List.{filter}
 use Rattle.std.specs.declared.cmp.Ordering.{Ordering}
@@ -88,13 +88,14 @@ tenant_map-insert_other t u c k row other = same_rows _ _ (λ q.
     ∙ ap (λ b. cond b (Some row) (get c (t, q))) (owned_ties t u q k ∙ ap (λ b. b && eq_by_cmp (slice_cmp nat_cmp) q k) (ne_eqb u t other))
     ∙ sym (get-tenant_map t c q))
 
--- a removal likewise
+-- a removal for a tenant is one in its map
 pub tenant_map-remove : (t : ℕ) (c : Contents) (k : Bytes) → tenant_map t (remove c (t, k)) ≡ remove (tenant_map t c) k
 tenant_map-remove t c k = same_rows _ _ (λ q.
     get-tenant_map t (remove c (t, k)) q ∙ get-remove owned_total c (t, k) (t, q)
     ∙ ap (λ b. cond b None (get c (t, q))) (owned_ties t t q k ∙ ap (λ b. b && eq_by_cmp (slice_cmp nat_cmp) q k) (eq-eqb t t refl))
     ∙ sym (get-remove keys_total (tenant_map t c) k q ∙ ap (λ o. cond (eq_by_cmp (slice_cmp nat_cmp) q k) None o) (get-tenant_map t c q)))
 
+-- and none in another's
 pub tenant_map-remove_other : (t u : ℕ) (c : Contents) (k : Bytes) → u ≢ t → tenant_map t (remove c (u, k)) ≡ tenant_map t c
 tenant_map-remove_other t u c k other = same_rows _ _ (λ q.
     get-tenant_map t (remove c (u, k)) q ∙ get-remove owned_total c (u, k) (t, q)

@@ -1,4 +1,4 @@
--- Indexes of columns, looked at one after the other.
+-- Indexes of columns that are looked at one after the other: there are 16 at most, and the look tells whether they rise. For rows and changes.
 use Rattle.std.proofs.Common.{◌≡◌, ℕ, zero, suc, ◌+◌, ◌<◌, ◌≤◌, Bool, true, not, ◌&&◌, nat_lt, List, [], ◌∷◌, length, get_or, IsTrue, ◌↔◌, refl, sym, subst, ◌∙◌, arith}
 use Rattle.std.specs.List.{All}
 use Rattle.std.specs.List.Sorted.{IsStrictlyIncreasing}

@@ -1,4 +1,4 @@
--- What an edit of a sorted list of entries does to the map that it makes.
+-- What an edit of a sorted list of entries does to the map that it makes: for `PlainMap`.
 use Rattle.std.proofs.Common.{◌≡◌, ℕ, zero, suc, ◌<◌, ◌≤◌, Bool, true, false, cond, not, T, List, [], ◌∷◌, length, get_or, set, take, ◌++◌, ◌+◌, map, sym, refl, ap, ◌∙◌, arith}
 use Rattle.std.proofs.lemmas.List.{append-nil, length-map, map-append}
 use Rattle.std.proofs.lemmas.List.Elements.{filter_more}
@@ -15,6 +15,7 @@ use Rattle.mt_rows.specs.Maps.{Map}
 use Rattle.mt_rows.proofs.CommandLaws.{keys_total, same_rows}
 use Rattle.mt_rows.specs.Places.{IsPast, IsHere, IsGap}
 
+-- a key and its row
 abbrev pub Entry : Type 0
 Entry = Bytes × Columns
 
@@ -43,6 +44,7 @@ put_here key row (e ∷ es) (suc i) d h =
     ap (λ w. e ∷ w) (put_here key row es i d tail)
     ∙ sym (ap (λ o. by_order o ((key, row) ∷ e ∷ es) ((e.0, row) ∷ es) (e ∷ put (slice_cmp nat_cmp) key row es)) (h.past 0 none (omega arith)))
 
+-- entries stay sorted with a put
 pub sorted_put : (key : Bytes) (row : Columns) (es : List Entry) → T (is_sorted (slice_cmp nat_cmp) es) → T (is_sorted (slice_cmp nat_cmp) (put (slice_cmp nat_cmp) key row es))
 sorted_put key row es h = is_sorted-put (slice_cmp nat_cmp) keys_total key row es h
 
@@ -56,6 +58,7 @@ turned : (b : Bool) (x y : Option Columns) → cond (not b) x y ≡ cond b y x
 turned true x y = refl
 turned false x y = refl
 
+-- and without a key
 pub sorted_without : (key : Bytes) (es : List Entry) → T (is_sorted (slice_cmp nat_cmp) es) → T (is_sorted (slice_cmp nat_cmp) (filter (λ e. not (eq_by_cmp (slice_cmp nat_cmp) key e.0)) es))
 sorted_without key es h = is_sorted-where_key (slice_cmp nat_cmp) (λ k. not (eq_by_cmp (slice_cmp nat_cmp) key k)) es h
 
@@ -76,9 +79,11 @@ map_without key es h =
 pub map_len : (es : List Entry) → T (is_sorted (slice_cmp nat_cmp) es) → fin.len (from_sorted {R = slice_cmp nat_cmp} es) ≡ length es
 map_len es h = len-entries _ ∙ ap length (entries-from_sorted (slice_cmp nat_cmp) es h)
 
+-- no entries make the empty map
 pub map_none : ◌≡◌ {A = Map} (from_sorted []) fin.empty
 map_none = same_rows _ _ (λ q. get-from_sorted (slice_cmp nat_cmp) [] q tt ∙ sym (fin.get-empty (slice_cmp nat_cmp) q))
 
+-- the row at a key is that of its entry
 pub map_get : (es : List Entry) (q : Bytes) → T (is_sorted (slice_cmp nat_cmp) es) → fin.get (from_sorted {R = slice_cmp nat_cmp} es) q ≡ find (slice_cmp nat_cmp) q es
 map_get es q h = get-from_sorted (slice_cmp nat_cmp) es q h
 
@@ -90,12 +95,13 @@ none_taken : (n : ℕ) → take {A = Entry} n [] ≡ []
 none_taken zero = refl
 none_taken (suc n) = refl
 
--- one more entry where there is room, and where there is none
+-- of one entry more, the first n are one more where there was room
 pub taken_more : (n : ℕ) (xs : List Entry) (x : Entry) → length (take n xs) < n → take n (xs ++ x ∷ []) ≡ take n xs ++ x ∷ []
 taken_more zero xs x lt = absurd (omega arith)
 taken_more (suc n) [] x lt = ap (λ ys. x ∷ ys) (none_taken n)
 taken_more (suc n) (y ∷ xs) x lt = ap (λ ys. y ∷ ys) (taken_more n xs x (omega arith))
 
+-- and the same where there was none
 pub taken_all : (n : ℕ) (xs : List Entry) (x : Entry) → n ≤ length (take n xs) → take n (xs ++ x ∷ []) ≡ take n xs
 taken_all zero xs x le = refl
 taken_all (suc n) [] x le = absurd (omega arith)
@@ -110,14 +116,17 @@ module _ (keep : Entry → Bool) (show : Entry → Entry) (n : ℕ) (es : List E
   as_long : length ps ≡ length (take n (filter keep (take i es)))
   as_long = ap length so_far ∙ length-map (take n (filter keep (take i es))) show
 
+  -- an entry that is walked adds its pair, while there are fewer than n
   pub walked_in : length ps < n → keep x ≡ true → ps ++ show x ∷ [] ≡ map show (take n (filter keep (take (i + 1) es)))
   walked_in room e =
       let step = taken_more n (filter keep (take i es)) x (omega (arith, as_long)) in
       sym (ap (λ w. map show (take n w)) (more true e) ∙ ap (map show) step ∙ map-append show (take n (filter keep (take i es))) (x ∷ []) ∙ ap (λ w. w ++ show x ∷ []) (sym so_far))
 
+  -- one that is not walked adds none
   pub walked_out : keep x ≡ false → ps ≡ map show (take n (filter keep (take (i + 1) es)))
   walked_out e = so_far ∙ sym (ap (λ w. map show (take n w)) (more false e ∙ append-nil _))
 
+  -- and nothing is added to n pairs
   pub walked_full : n ≤ length ps → ps ≡ map show (take n (filter keep (take (i + 1) es)))
   walked_full full = by (keep x) refl
     where

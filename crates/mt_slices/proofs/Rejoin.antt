@@ -1,4 +1,4 @@
--- The slices, marks and suffixes of a key give its bytes back.
+-- The slices, marks and suffixes of a key give its bytes back: for `StoredKey` and the crates above.
 use Rattle.std.proofs.Common.{◌≡◌, ℕ, zero, suc, ◌+◌, ◌*◌, ◌<◌, ◌≤◌, List, ◌++◌, length, take, map, replicate, refl, ◌∙◌, inl, inr, add-zero, zero-add, arith}
 use Rattle.std.specs.Prelude.{nat_le, if◌then◌else◌}
 use Rattle.std.specs.List.{range_with_len}

@@ -1,4 +1,4 @@
--- A stored key gives its tenant and its user's key back, and they give the stored key.
+-- A stored key gives its tenant and its user's key back, and they give the stored key: for `StoredKey` and the crates above.
 use Rattle.std.proofs.Common.{◌≡◌, ℕ, ◌<◌, ◌≤◌, ◌^◌, List, ◌++◌, length, take, refl, ap, ◌∙◌, inl, inr, lit<, arith}
 use Rattle.std.specs.Int.{w32, to_be_bytes}
 use Rattle.std.proofs.lemmas.Bool.{cases_lt}

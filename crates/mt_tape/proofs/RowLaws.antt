@@ -1,4 +1,4 @@
--- Contents with one row written: what stands at each key, the row put back, and the tenants' maps.
+-- Contents with one row written: what stands at each key, the row put back, and the tenants' maps. For the maps that a tape tells of.
 use Rattle.std.proofs.Common.{◌≡◌, ◌≢◌, ℕ, Bool, true, false, cond, Option, Some, None, refl, sym, ap, ◌∙◌}
 use Rattle.std.specs.Ordering.{eq_by_cmp}
 use Rattle.std.specs.FinMap.{get, get-insert, get-remove}

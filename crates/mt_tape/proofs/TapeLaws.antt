@@ -1,4 +1,4 @@
--- The maps that a tape tells of: after its last write, before a new one, after a trim, at each write and between writes.
+-- The maps that a tape tells of: after its last write, before a new one, after a trim, at each write and between writes. For the laws and the crates above.
 use Rattle.std.proofs.Common.{◌≡◌, ◌≢◌, ℕ, ◌+◌, ◌<◌, ◌≤◌, ltb, List, [], ◌∷◌, ◌++◌, get_or, refl, sym, ap, ◌∙◌, arith, ◌⊎◌, inl, inr, ⊎_elim, false}
 use Rattle.std.specs.List.{All, Contains}
 use Rattle.std.specs.FinMap.{get}

@@ -1,10 +1,10 @@
--- What each change of a version does to its counters and ages.
+-- What each change of a version does to its counters and ages: for the clauses on ages of `Version`, and the crates above.
 use Rattle.std.proofs.Common.{◌≡◌, ℕ, ◌+◌, ◌*◌, ◌<◌, ◌≤◌, Bool, true, false, refl, inl, inr, arith}
 use Rattle.std.specs.Prelude.{◌⊎◌, if◌then◌else◌}
 use Rattle.mt_version.specs.Parts.{Parts}
 use Rattle.mt_version.specs.Changes.{IsMarked, IsLater, unlocked_parts, Ages}
 
--- a lock, a deletion and a new root change neither counters nor marks
+-- a lock changes neither counters nor marks
 pub ages-locked : (p : Parts) → Ages p (record p { locked = true })
 ages-locked p = record {
   inserts = omega arith;
@@ -16,6 +16,7 @@ ages-locked p = record {
   root = λ _ _ was. was;
 }
 
+-- nor does a deletion
 pub ages-deleted : (p : Parts) → Ages p (record p { deleted = true })
 ages-deleted p = record {
   inserts = omega arith;
@@ -27,6 +28,7 @@ ages-deleted p = record {
   root = λ _ _ was. was;
 }
 
+-- nor does it that a node becomes the root
 pub ages-made_root : (p : Parts) → Ages p (record p { root = true })
 ages-made_root p = record {
   inserts = omega arith;
@@ -55,10 +57,12 @@ mark_raises : (mark : Bool) (count : ℕ) → 2 * count + (if mark then 1 else 0
 mark_raises true count = omega arith
 mark_raises false count = omega arith
 
+-- a new mark raises its age by one
 pub new_mark_raises : (mark : Bool) (count : ℕ) → mark ≡ false → 2 * count + (if mark then 1 else 0) < 2 * count + 1
 new_mark_raises true count new = absurd (cc new)
 new_mark_raises false count new = omega arith
 
+-- the mark of inserting lets no age fall
 pub ages-marked_inserting : (p : Parts) → Ages p (record p { inserting = true })
 ages-marked_inserting p = record {
   inserts = omega arith;
@@ -70,6 +74,7 @@ ages-marked_inserting p = record {
   root = λ _ _ was. was;
 }
 
+-- nor does the mark of splitting
 pub ages-marked_splitting : (p : Parts) → Ages p (record p { splitting = true })
 ages-marked_splitting p = record {
   inserts = omega arith;
@@ -89,6 +94,7 @@ counted true inserting inserts splits marked = (omega arith, omega arith, inr (o
 counted false true inserts splits marked = (omega arith, omega arith, inl (omega arith))
 counted false false inserts splits marked = elim marked [ inl untrue ↦ cc | inr untrue ↦ cc ]
 
+-- a version that was marked is later once it is unlocked
 pub later-unlocked : (p : Parts) → IsMarked p → IsLater (unlocked_parts p) p
 later-unlocked p marked =
     let facts = counted p.splitting p.inserting p.inserts p.splits marked in
@@ -103,6 +109,7 @@ unlocked_raises true inserting inserts splits = (omega arith, omega arith, omega
 unlocked_raises false true inserts splits = (omega arith, omega arith, omega arith, λ _. omega arith)
 unlocked_raises false false inserts splits = (omega arith, omega arith, omega arith, λ _. omega arith)
 
+-- an unlocking lets no counter and no age fall
 pub ages-unlocked : (p : Parts) → Ages p (unlocked_parts p)
 ages-unlocked p =
     let facts = unlocked_raises p.splitting p.inserting p.inserts p.splits in
