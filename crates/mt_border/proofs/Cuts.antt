@@ -17,7 +17,7 @@ use Rattle.mt_border.specs.Split.{IsSeparator, slices_with}
 use Rattle.mt_border.proofs.Orders.{order_low, order_high}
 use Rattle.mt_border.proofs.Edits.{place_in-le, orders-insert, rising_with, All-insert}
 
--- what the entries of a node keep of their marks alone
+-- each entry of a node has a mark
 pub marks_of : (es : List Entry) → IsBorder es → All (λ e. IsMark e.mark) es
 marks_of es border = All-weaker IsEntry (λ e. IsMark e.mark) (λ e entry. entry.mark) es border.each
 
@@ -44,7 +44,7 @@ apart : (es : List Entry) → IsRising (orders es) → All (λ e. IsMark e.mark)
 apart es rising marks sixteen same =
     omega (arith, same, ten_of_a_slice es 2 rising marks (omega arith), slices_rise es 12 13 rising marks (omega arith) (omega arith))
 
--- the slices after one more entry
+-- one more entry has its slice among the others'
 pub slices-insert : (es : List Entry) (at : ℕ) (e : Entry) → slices (insert es at e) ≡ insert (slices es) at e.slice
 slices-insert es at e = map-append (λ e. e.slice) (take at es) (e ∷ drop at es) ∙ rw (take-map (λ e. e.slice) at es, drop-map (λ e. e.slice) at es) refl
 
@@ -58,7 +58,7 @@ one_separator xs s t this that =
     let same : this.cut ≡ that.cut = omega arith in
     this.is ∙ ap (λ k. get_or xs k 0) same ∙ sym that.is
 
--- the slices that were read one by one
+-- slices that were read one by one to the end are all
 pub all_slices : (es : List Entry) (got : List ℕ) (n : ℕ) → length es ≤ n → got ≡ take n (slices es) → got ≡ slices es
 all_slices es got n past read = let size = length-map es (λ (e : Entry). e.slice) in read ∙ take_all n (slices es) (omega arith)
 

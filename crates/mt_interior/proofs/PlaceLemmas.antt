@@ -86,11 +86,11 @@ place_of-parts (x ∷ xs) s rising = elim (cases_lt s x) [
       above_after = after_more x xs s p place;
     }
 
--- where part i of a range begins: behind the low fence at separator i - 1
+-- behind the low fence the bounds are the separators
 pub bounds_of-inner : (low : ℕ) (xs : List ℕ) (high : Option ℕ) (k : ℕ) → k < length xs → get_or (bounds_of low xs high) (suc k) 0 ≡ get_or xs k 0
 bounds_of-inner low xs high k within = get_or_append_left xs (end_of high ∷ []) 0 k within
 
--- where the last part ends
+-- and the last one is the end of the range
 pub bounds_of-end : (low : ℕ) (xs : List ℕ) (high : Option ℕ) → get_or (bounds_of low xs high) (suc (length xs)) 0 ≡ end_of high
 bounds_of-end low xs high = grind (arith, common_steps)
 

@@ -7,16 +7,16 @@ use Rattle.mt_rows.specs.Tenants.{owned_cmp, Contents, tenant_map}
 use Rattle.mt_rows.proofs.ContentLaws.{owned_total, same_contents, same_owner, tied_owner, tenant_map-insert, tenant_map-insert_other, tenant_map-remove, tenant_map-remove_other}
 use Rattle.mt_tape.specs.Histories.{with_row}
 
--- what stands at a key where a row was written
+-- a written row stands at its key, and at each other what stood there
 pub get-with_row : (contents : Contents) (key : ℕ × Bytes) (row : Option Columns) (q : ℕ × Bytes) → get (with_row contents key row) q ≡ cond (eq_by_cmp owned_cmp q key) row (get contents q)
 get-with_row contents key None q = get-remove owned_total contents key q
 get-with_row contents key (Some row) q = get-insert owned_total contents key row q
 
--- at that key
+-- so its key has it
 pub get-with_row_same : (contents : Contents) (key : ℕ × Bytes) (row : Option Columns) → get (with_row contents key row) key ≡ row
 get-with_row_same contents key row = get-with_row contents key row key ∙ ap (λ b. cond b row (get contents key)) (same_owner key)
 
--- and at another
+-- and any other key has what it had
 pub get-with_row_other : (contents : Contents) (key : ℕ × Bytes) (row : Option Columns) (q : ℕ × Bytes) → key ≢ q → get (with_row contents key row) q ≡ get contents q
 get-with_row_other contents key row q other = get-with_row contents key row q ∙ by (eq_by_cmp owned_cmp q key) refl
   where

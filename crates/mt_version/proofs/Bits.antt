@@ -61,7 +61,7 @@ or_parts word mask low = rw (flag_or word mask 0, flag_or word mask 1, flag_or w
 pub or_gap : (word mask : ℕ) → mask / 2 ^ 6 ≡ 0 → HasGap word → HasGap (bit_or word mask)
 or_gap word mask low gap = rw (high_or word mask 6 low) gap
 
--- the test `word & (1 << i) != 0`
+-- the test `word & (1 << i) != 0` tells flag i
 pub mask_flag : (word i : ℕ) → not (nat_eq (bit_and word (2 ^ i)) 0) ≡ flag word i
 mask_flag word i = rw (and_pow word i) (nonzero_bit (bit_at word i) (2 ^ i) (bit_at-lt word i) (pow_pos i))
   where
@@ -91,11 +91,11 @@ and_parts word mask fits high = rw (flag_and word mask 0, flag_and word mask 1, 
 pub and_gap : (word mask : ℕ) → word < 2 ^ 128 → mask / 2 ^ 6 ≡ 2 ^ 122 - 1 → HasGap word → HasGap (bit_and word mask)
 and_gap word mask fits high gap = rw (high_and word mask 6 122 high (omega arith)) gap
 
--- the lock and the marks taken away
+-- a word without its three low bits says the same, but that it has no lock and no mark
 pub cleared_parts : (word : ℕ) → word < 2 ^ 128 → parts_of (bit_and word (2 ^ 128 - 8)) ≡ record (parts_of word) { locked = false; inserting = false; splitting = false }
 cleared_parts word fits = and_parts word (2 ^ 128 - 8) fits refl
 
--- a split counted
+-- 2 ^ 68 more is one split more, and nothing else
 pub split_parts : (word : ℕ) → parts_of (word + 2 ^ 68) ≡ record (parts_of word) { splits = word / 2 ^ 68 + 1 }
 split_parts word = rw (low 0 (omega arith), low 1 (omega arith), low 2 (omega arith), low 3 (omega arith), low 4 (omega arith), low 5 (omega arith), inserts, splits) refl
   where
@@ -108,7 +108,7 @@ split_parts word = rw (low 0 (omega arith), low 1 (omega arith), low 2 (omega ar
     splits : (word + 2 ^ 68) / 2 ^ 68 ≡ word / 2 ^ 68 + 1
     splits = omega arith
 
--- an insert counted
+-- 2 ^ 8 more is one insert more, and nothing else, while there is room
 pub insert_parts : (word : ℕ) → word / 2 ^ 8 % 2 ^ 60 < 2 ^ 60 - 1 → parts_of (word + 2 ^ 8) ≡ record (parts_of word) { inserts = word / 2 ^ 8 % 2 ^ 60 + 1 }
 insert_parts word room = rw (low 0 (omega arith), low 1 (omega arith), low 2 (omega arith), low 3 (omega arith), low 4 (omega arith), low 5 (omega arith), inserts, splits) refl
   where
