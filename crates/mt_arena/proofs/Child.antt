@@ -4,10 +4,10 @@ use Rattle.std.specs.List.{insert}
 use Rattle.std.proofs.lemmas.Bool.{cases_eq, cases_lt}
 use Rattle.std.proofs.lemmas.List.{length-set}
 use Rattle.std.proofs.lemmas.List.Edits.{length-insert, get_or-insert_below, get_or-insert_at, get_or-insert_above}
-use Rattle.mt_interior.specs.Rising.{IsRising}
+use Rattle.mt_lists.specs.Rising.{IsRising}
 use Rattle.mt_interior.specs.Places.{place_of}
 use Rattle.mt_interior.specs.Fences.{end_of}
-use Rattle.mt_interior.proofs.Rises.{rising_insert}
+use Rattle.mt_lists.proofs.Rises.{rising_insert}
 use Rattle.mt_interior.proofs.PlaceLemmas.{place_of-between}
 use Rattle.mt_interior.proofs.CallerLemmas.{bounds_of-insert}
 use Rattle.mt_arena.specs.NodeView.{NodeView, node_at}

@@ -10,14 +10,13 @@ use Rattle.std.proofs.lemmas.List.Elements.{All-from_get_or, filter_map-append}
 use Rattle.mt_slices.specs.Slices.{slice_of, mark_of}
 use Rattle.mt_rows.specs.Rows.{Bytes, Columns}
 use Rattle.mt_rows.specs.Tenants.{owned_cmp, Contents}
-use Rattle.mt_rows.proofs.ContentLaws.{owned_total}
+use Rattle.mt_rows.proofs.ContentLaws.{same_contents, owned_total}
 use Rattle.mt_border.specs.declared.entry.Pair.{Pair}
 use Rattle.mt_border.specs.declared.entry.Entry.{Entry}
 use Rattle.mt_border.specs.Entry.{pair_of, order_at, order_of}
 use Rattle.mt_border.specs.Entries.{IsBorder}
 use Rattle.mt_border.specs.Contents.{owned, key_at, pair_in, contents_of, HasKey, AreKeys, IsOfTree}
 use Rattle.mt_border.proofs.Edits.{any_entry}
-use Rattle.mt_border.proofs.ContentsMaps.{same_contents}
 use Rattle.mt_border.proofs.ContentsKeys.{IsApart, owned_at, owned_once}
 use Rattle.mt_border.proofs.ContentsLists.{get-apart}
 use Rattle.mt_border.proofs.ContentsFinds.{apart_beside}

@@ -12,7 +12,7 @@ use Rattle.std.proofs.lemmas.List.Elements.{filter_map-append, All-from_get_or}
 use Rattle.mt_slices.specs.Slices.{slice_of}
 use Rattle.mt_rows.specs.Rows.{Bytes, Columns}
 use Rattle.mt_rows.specs.Tenants.{owned_cmp}
-use Rattle.mt_rows.proofs.ContentLaws.{owned_total}
+use Rattle.mt_rows.proofs.ContentLaws.{same_contents, owned_total}
 use Rattle.mt_border.specs.declared.entry.Pair.{Pair}
 use Rattle.mt_border.specs.declared.entry.Entry.{Entry}
 use Rattle.mt_border.specs.Entry.{pair_of}
@@ -20,7 +20,6 @@ use Rattle.mt_border.specs.Entries.{IsMissing, with_entry}
 use Rattle.mt_border.specs.Split.{IsParted}
 use Rattle.mt_border.specs.Contents.{owned, key_at, pair_in, contents_of, HasKey, AreKeys}
 use Rattle.mt_border.proofs.Edits.{any_entry}
-use Rattle.mt_border.proofs.ContentsMaps.{same_contents}
 use Rattle.mt_border.proofs.ContentsKeys.{IsApart, owned_at, owned_once, missing_key}
 use Rattle.mt_border.proofs.ContentsLists.{get-apart}
 use Rattle.mt_border.proofs.ContentsEdits.{each-publish, keys-publish}

@@ -13,7 +13,8 @@ use Rattle.mt_border.specs.declared.entry.Entry.{Entry}
 use Rattle.mt_border.specs.declared.entry.Pair.{Pair}
 use Rattle.mt_border.specs.declared.entry.Held.TheVariants.{Stable}
 use Rattle.mt_border.specs.Entry.{IsEntry, order_of, pair_of}
-use Rattle.mt_border.specs.Entries.{IsBorder, IsRising, orders, slices, place_in, with_entry}
+use Rattle.mt_lists.specs.Rising.{IsRising}
+use Rattle.mt_border.specs.Entries.{IsBorder, orders, slices, place_in, with_entry}
 use Rattle.mt_border.specs.Split.{IsParted}
 use Rattle.mt_border.specs.Contents.{HasKey, owned}
 use Rattle.mt_border.proofs.Edits.{any_entry, place_in-le, All-insert, border_take, border_drop, orders-insert, rising_with}

@@ -1,9 +1,9 @@
 -- The facts of nodes are kept as an interior node with one child too many is parted: for `InnerSplit`.
 use Rattle.std.proofs.Common.{◌≡◌, ◌≢◌, ℕ, suc, ◌+◌, ◌-◌, ◌<◌, ◌≤◌, List, length, get_or, take, drop, Option, Some, None, true, false, set, refl, sym, ap, subst, ◌∙◌, arith, length-drop}
 use Rattle.std.proofs.lemmas.List.{length-take-le, get_or-take, get_or-drop}
-use Rattle.mt_interior.specs.Rising.{IsRising}
+use Rattle.mt_lists.specs.Rising.{IsRising}
 use Rattle.mt_interior.specs.Fences.{end_of, bounds_of}
-use Rattle.mt_interior.proofs.Rises.{rising_take, rising_drop}
+use Rattle.mt_lists.proofs.Rises.{rising_take, rising_drop}
 use Rattle.mt_interior.proofs.PlaceLemmas.{bounds_of-inner, bounds_of-end}
 use Rattle.mt_interior.proofs.CallerLemmas.{bounds_of-take, bounds_of-drop}
 use Rattle.mt_arena.specs.NodeView.{NodeView, node_at}

@@ -11,8 +11,7 @@ use Rattle.std.specs.FinMap.{get, insert, remove, get-empty, from_entries, get-i
 use Rattle.mt_rows.specs.Rows.{Bytes, Columns}
 use Rattle.mt_rows.specs.Tenants.{owned_cmp, Contents}
 use Rattle.mt_rows.proofs.CommandLaws.{keys_exact}
-use Rattle.mt_rows.proofs.ContentLaws.{owned_total}
-use Rattle.mt_border.proofs.ContentsMaps.{same_contents}
+use Rattle.mt_rows.proofs.ContentLaws.{same_contents, owned_total}
 
 -- pairs with their owners, as a list and as a map
 abbrev pub Pairs : Type 0

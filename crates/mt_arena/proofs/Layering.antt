@@ -10,13 +10,13 @@ use Rattle.std.proofs.lemmas.List.{length-set, get_or-set_same, get_or-set_other
 use Rattle.std.proofs.lemmas.List.Elements.{All-from_get_or}
 use Rattle.mt_rows.specs.Rows.{Bytes, Columns}
 use Rattle.mt_rows.specs.Tenants.{owned_cmp}
-use Rattle.mt_rows.proofs.ContentLaws.{owned_total}
+use Rattle.mt_rows.proofs.ContentLaws.{same_contents, owned_total}
 use Rattle.mt_border.specs.declared.entry.Pair.{Pair}
 use Rattle.mt_border.specs.declared.entry.Entry.{Entry}
 use Rattle.mt_border.specs.Entry.{pair_of}
 use Rattle.mt_border.specs.Contents.{owned, pair_in, contents_of, AreKeys}
 use Rattle.mt_border.proofs.Edits.{any_entry}
-use Rattle.mt_border.proofs.ContentsMaps.{same_contents, at_owner, at_other}
+use Rattle.mt_border.proofs.ContentsMaps.{at_owner, at_other}
 use Rattle.mt_border.proofs.ContentsKeys.{IsApart, owned_at, order_of_key}
 use Rattle.mt_border.proofs.ContentsLists.{get-apart, get-other, insert-this}
 use Rattle.mt_border.proofs.ContentsFinds.{apart_beside}

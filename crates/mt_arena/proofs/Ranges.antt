@@ -1,7 +1,7 @@
 -- The ranges of a node's children: none is empty, and a node is a child of one node, at one place: for the edits of children.
 use Rattle.std.proofs.Common.{◌≡◌, ◌≢◌, ℕ, suc, ◌+◌, ◌<◌, ◌≤◌, List, [], ◌∷◌, length, get_or, Option, false, sym, subst, ◌∙◌, inl, inr, arith, length-append}
 use Rattle.std.proofs.lemmas.Bool.{cases_eq}
-use Rattle.mt_interior.specs.Rising.{IsRising}
+use Rattle.mt_lists.specs.Rising.{IsRising}
 use Rattle.mt_interior.specs.Fences.{end_of, bounds_of}
 use Rattle.mt_interior.proofs.PlaceLemmas.{bounds_of-inner, bounds_of-end}
 use Rattle.mt_arena.specs.NodeView.{NodeView, node_at}

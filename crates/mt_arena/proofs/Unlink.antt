@@ -3,9 +3,9 @@ use Rattle.std.proofs.Common.{◌≡◌, ◌≢◌, ℕ, ◌+◌, ◌-◌, ◌<�
 use Rattle.std.specs.List.{remove}
 use Rattle.std.proofs.lemmas.Bool.{cases_eq, cases_lt}
 use Rattle.std.proofs.lemmas.List.Edits.{length-remove, get_or-remove_below, get_or-remove_above}
-use Rattle.mt_interior.specs.Rising.{IsRising}
+use Rattle.mt_lists.specs.Rising.{IsRising}
 use Rattle.mt_interior.specs.Fences.{end_of}
-use Rattle.mt_interior.proofs.Rises.{rising_remove}
+use Rattle.mt_lists.proofs.Rises.{rising_remove}
 use Rattle.mt_interior.proofs.CallerLemmas.{bounds_of-remove}
 use Rattle.mt_arena.specs.NodeView.{NodeView, node_at}
 use Rattle.mt_arena.specs.Nodes.{AreNodes, IsNode, IsPair, IsChild, bounds}

@@ -4,7 +4,8 @@ use Rattle.std.specs.List.{All}
 use Rattle.mt_border.specs.declared.entry.Entry.{Entry}
 use Rattle.mt_border.specs.declared.entry.Held.{Held}
 use Rattle.mt_border.specs.declared.entry.Held.TheVariants.{Stable, Unstable, Link}
-use Rattle.mt_border.specs.Entries.{IsBorder, IsRising, slices}
+use Rattle.mt_lists.specs.Rising.{IsRising}
+use Rattle.mt_border.specs.Entries.{IsBorder, slices}
 use Rattle.mt_interior.specs.Node.{IsInterior}
 use Rattle.mt_interior.specs.Fences.{end_of, bounds_of}
 

@@ -6,7 +6,8 @@ use Rattle.mt_border.specs.declared.entry.Entry.{Entry}
 use Rattle.mt_border.specs.declared.entry.Held.{Held}
 use Rattle.mt_border.specs.declared.entry.Held.TheVariants.{Stable, Unstable, Link}
 use Rattle.mt_border.specs.Entry.{IsStablePair, pair_of}
-use Rattle.mt_border.specs.Entries.{IsRising, orders, replaced}
+use Rattle.mt_lists.specs.Rising.{IsRising}
+use Rattle.mt_border.specs.Entries.{orders, replaced}
 use Rattle.mt_border.specs.Contents.{HasKey}
 use Rattle.mt_border.proofs.Edits.{any_entry, replaced_at}
 use Rattle.mt_border.proofs.ContentsKeys.{has_rewritten_key}

@@ -1,4 +1,4 @@
--- What a publish and a store in a border node are for the contents, and what they keep.
+-- What a publish and a store in a border node are for the contents, and what they keep: for the law of contents and the crates above.
 use Rattle.std.proofs.Common.{◌≡◌, ℕ, suc, ◌+◌, List, [], ◌∷◌, length, get_or, set, Option, Some, None, sym, refl, ap, subst, ◌∙◌, arith}
 use Rattle.std.specs.Prelude.{IsSome, is_some}
 use Rattle.std.specs.List.{All}
@@ -7,6 +7,7 @@ use Rattle.std.proofs.lemmas.Option.{same_Some, none-some}
 use Rattle.std.proofs.lemmas.List.{length-set, get_or-map}
 use Rattle.std.proofs.lemmas.List.Edits.{length-insert}
 use Rattle.std.proofs.lemmas.List.Elements.{All-tail, All-take, All-set}
+use Rattle.mt_lists.specs.Rising.{IsRising}
 use Rattle.mt_slices.specs.declared.mark.Mark.{Mark}
 use Rattle.mt_rows.specs.Rows.{Bytes, Columns}
 use Rattle.mt_rows.specs.Tenants.{owned_cmp}
@@ -15,7 +16,7 @@ use Rattle.mt_border.specs.declared.entry.Entry.{Entry}
 use Rattle.mt_border.specs.declared.entry.Held.{Held}
 use Rattle.mt_border.specs.declared.entry.Held.TheVariants.{Stable, Unstable, Link}
 use Rattle.mt_border.specs.Entry.{pair_of, order_of, IsRest, IsStablePair, CanHold}
-use Rattle.mt_border.specs.Entries.{orders, IsRising, IsBorder, IsMissing, place_in, with_entry}
+use Rattle.mt_border.specs.Entries.{orders, IsBorder, IsMissing, place_in, with_entry}
 use Rattle.mt_border.specs.Node.{Node, entries_of, entry_at, IsLive, Rewrites}
 use Rattle.mt_border.proofs.Edits.{any_entry, place_in-le, All-insert, border_set, replaced_at}
 use Rattle.mt_border.specs.Contents.{owned, contents_of, HasKey, AreKeys}
@@ -24,11 +25,11 @@ use Rattle.mt_border.proofs.ContentsKeys.{IsApart, owned_at, has_rewritten_key, 
 use Rattle.mt_border.proofs.ContentsLists.{contents-none, get-apart, insert-this, contents-insert, contents-set}
 use Rattle.mt_border.proofs.ContentsFinds.{orders_differ, apart_before}
 
--- one entry more
+-- a publish makes one entry more
 pub length-publish : (entries : List Entry) (e : Entry) → length (with_entry entries e) ≡ length entries + 1
 length-publish entries e = length-insert entries (place_in entries (order_of e)) e (place_in-le entries (order_of e))
 
--- what holds of each entry, and of the new one
+-- what holds of each entry, and of the new one, holds of each after a publish
 pub each-publish : (Q : Entry → Type 0) (entries : List Entry) (e : Entry) → All Q entries → Q e → All Q (with_entry entries e)
 each-publish Q entries e all one = All-insert Q entries (place_in entries (order_of e)) e all one
 
@@ -49,11 +50,11 @@ module _ (old new : Node) (slot : ℕ) (held : Held) (border : IsBorder (entries
   pub slots-store : entries_of new ≡ set (entries_of old) slot (record (entry_at old slot) { held = held })
   slots-store = writes.entries ∙ replaced_at old.slots slot (record (entry_at old slot) { held = held }) any_entry border.rising live refl
 
-  -- they are as many
+  -- so a store leaves as many
   pub length-store : length (entries_of new) ≡ length (entries_of old)
   length-store = ap length slots-store ∙ length-set old.slots slot (record (entry_at old slot) { held = held })
 
-  -- what holds of each, and of the new one
+  -- what holds of each entry, and of the new one, holds of each after a store
   pub each-store : (Q : Entry → Type 0) → All Q (entries_of old) → Q (record (entry_at old slot) { held = held }) → All Q (entries_of new)
   each-store Q all one = subst (All Q) (sym slots-store) (All-set Q old.slots slot (record (entry_at old slot) { held = held }) one all)
 
@@ -69,7 +70,7 @@ module _ (old new : Node) (slot : ℕ) (pair : Pair) (row : Columns) (stamp : �
   abbrev entry : Entry
   entry = record (entry_at old slot) { held = Stable (record pair { row = row; stamp = stamp }) }
 
-  -- the entries stay those of a border
+  -- a store leaves the entries of a border node
   pub border-store : IsBorder (entries_of new)
   border-store =
       let was = border.each slot any_entry live in
@@ -77,11 +78,11 @@ module _ (old new : Node) (slot : ℕ) (pair : Pair) (row : Columns) (stamp : �
       (border_set old.slots slot entry border (record { mark = was.mark; held = rest_of_pair (entry_at old slot).mark (entry_at old slot).held pair was.held is }) (sym (get_or-map order_of old.slots slot any_entry 0 live)))
 
   module _ (prefix : Bytes) (layer : ℕ) (key : Bytes) (keys : AreKeys prefix layer (entries_of old)) (has : HasKey prefix layer (entry_at old slot) key) where
-    -- each stands for a key still
+    -- and each stands for a key still
     pub keys-store : AreKeys prefix layer (entries_of new)
     keys-store = each-store old new slot _ border live writes (λ e. (key : Bytes) × HasKey prefix layer e key) keys (key, has_rewritten_key prefix layer (entry_at old slot) key pair row stamp has is)
 
-    -- the store is to insert the row over the old one
+    -- to store a row is to insert it over the old one
     pub contents-store : contents_of prefix (entries_of new) ≡ insert (contents_of prefix (entries_of old)) (owned key) row
     contents-store =
         ap (contents_of prefix) (slots-store old new slot _ border live writes)
@@ -110,7 +111,7 @@ len_rising prefix layer (e ∷ es) rising keys each =
     let rest = len_rising prefix layer es (λ i j below within. rising (suc i) (suc j) (omega arith) (omega arith)) tail (All-tail (λ e. IsSome (pair_of e.held)) e es each) in
     omega (arith, first, rest)
 
--- the same of a border
+-- a border node whose entries all have pairs has as many pairs as entries
 pub len-contents : (prefix : Bytes) (layer : ℕ) (entries : List Entry) → IsBorder entries → AreKeys prefix layer entries → All (λ e. IsSome (pair_of e.held)) entries → len (contents_of prefix entries) ≡ length entries
 len-contents prefix layer entries border keys each = len_rising prefix layer entries border.rising keys each
 

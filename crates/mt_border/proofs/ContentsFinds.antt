@@ -1,4 +1,4 @@
--- What a find in a border node tells of the contents.
+-- What a find in a border node tells of the contents: for the law of contents and the crates above.
 use Rattle.std.proofs.Common.{◌≡◌, ◌≢◌, ℕ, ◌<◌, List, length, get_or, take, Option, Some, None, sym, refl, subst, ◌∙◌, inl, inr, arith}
 use Rattle.std.specs.Prelude.{IsSomeAnd}
 use Rattle.std.specs.List.{All}
@@ -8,6 +8,7 @@ use Rattle.std.proofs.lemmas.Bool.{cases_eq, cases_lt}
 use Rattle.std.proofs.lemmas.Option.{none-some}
 use Rattle.std.proofs.lemmas.List.{length-map, length-take, get_or-map, get_or-take}
 use Rattle.std.proofs.lemmas.List.Elements.{All-from_get_or}
+use Rattle.mt_lists.specs.Rising.{IsRising}
 use Rattle.mt_slices.specs.declared.mark.Mark.TheVariants.{Short}
 use Rattle.mt_slices.specs.Slices.{slice_of, mark_of, suffix_of}
 use Rattle.mt_rows.specs.Rows.{Bytes, Columns}
@@ -20,7 +21,7 @@ use Rattle.mt_border.specs.declared.entry.Find.TheVariants.{Missing, Slot}
 use Rattle.mt_border.specs.declared.entry.FoundKind.{FoundKind}
 use Rattle.mt_border.specs.declared.entry.FoundKind.TheVariants.{ThisKey, OtherLong, Link as ToTree}
 use Rattle.mt_border.specs.Entry.{pair_of, order_at, order_of, IsLink, IsKind}
-use Rattle.mt_border.specs.Entries.{orders, IsRising, IsBorder, IsMissing}
+use Rattle.mt_border.specs.Entries.{orders, IsBorder, IsMissing}
 use Rattle.mt_border.specs.Node.{Node, entries_of, entry_at, IsLive, IsFound, Finds}
 use Rattle.mt_border.proofs.Edits.{any_entry}
 use Rattle.mt_border.specs.Contents.{owned, contents_of, row_found, IsOfTree, HasKey, AreKeys}

@@ -1,22 +1,23 @@
--- Where fifteen entries and one more key are parted, and what each side gets.
+-- Fifteen entries and one more key have one separator, and what each side gets: for the splits.
 use Rattle.std.proofs.Common.{◌≡◌, ◌≢◌, ℕ, ◌+◌, ◌-◌, ◌<◌, ◌≤◌, ◌⊎◌, List, ◌∷◌, length, get_or, take, drop, refl, sym, ap, ◌∙◌, inl, inr, arith}
 use Rattle.std.specs.List.{insert, All}
 use Rattle.std.proofs.lemmas.Bool.{cases_eq, cases_lt}
 use Rattle.std.proofs.lemmas.List.{map-append, take-map, drop-map, length-map, take_all}
 use Rattle.std.proofs.lemmas.List.Edits.{length-insert, get_or-insert_below, get_or-insert_above}
 use Rattle.std.proofs.lemmas.List.Elements.{All-weaker}
+use Rattle.mt_lists.specs.Rising.{IsRising}
+use Rattle.mt_lists.proofs.Rises.{rising_by}
 use Rattle.mt_slices.specs.declared.mark.Mark.{Mark}
 use Rattle.mt_slices.specs.Marks.{IsMark}
 use Rattle.mt_border.specs.declared.entry.Entry.{Entry}
 use Rattle.mt_border.specs.declared.entry.Held.TheVariants.{Link}
 use Rattle.mt_border.specs.Entry.{order_at, order_of, IsEntry}
-use Rattle.mt_border.specs.Entries.{orders, slices, IsRising, IsBorder, IsMissing, place_in, with_entry}
+use Rattle.mt_border.specs.Entries.{orders, slices, IsBorder, IsMissing, place_in, with_entry}
 use Rattle.mt_border.specs.Split.{IsSeparator, slices_with}
-use Rattle.mt_border.proofs.Rising.{rising_by}
 use Rattle.mt_border.proofs.Orders.{order_low, order_high}
 use Rattle.mt_border.proofs.Edits.{place_in-le, orders-insert, rising_with, All-insert}
 
--- what the entries of a node keep of their marks alone
+-- each entry of a node has a mark
 pub marks_of : (es : List Entry) → IsBorder es → All (λ e. IsMark e.mark) es
 marks_of es border = All-weaker IsEntry (λ e. IsMark e.mark) (λ e entry. entry.mark) es border.each
 
@@ -43,7 +44,7 @@ apart : (es : List Entry) → IsRising (orders es) → All (λ e. IsMark e.mark)
 apart es rising marks sixteen same =
     omega (arith, same, ten_of_a_slice es 2 rising marks (omega arith), slices_rise es 12 13 rising marks (omega arith) (omega arith))
 
--- the slices after one more entry
+-- one more entry has its slice among the others'
 pub slices-insert : (es : List Entry) (at : ℕ) (e : Entry) → slices (insert es at e) ≡ insert (slices es) at e.slice
 slices-insert es at e = map-append (λ e. e.slice) (take at es) (e ∷ drop at es) ∙ rw (take-map (λ e. e.slice) at es, drop-map (λ e. e.slice) at es) refl
 
@@ -57,7 +58,7 @@ one_separator xs s t this that =
     let same : this.cut ≡ that.cut = omega arith in
     this.is ∙ ap (λ k. get_or xs k 0) same ∙ sym that.is
 
--- the slices that were read one by one
+-- slices that were read one by one to the end are all
 pub all_slices : (es : List Entry) (got : List ℕ) (n : ℕ) → length es ≤ n → got ≡ take n (slices es) → got ≡ slices es
 all_slices es got n past read = let size = length-map es (λ (e : Entry). e.slice) in read ∙ take_all n (slices es) (omega arith)
 
@@ -124,7 +125,7 @@ module _ (es : List Entry) (s : ℕ) (m : Mark) (border : IsBorder es) (mark : I
         | inr here ↦ omega (arith, here, last, rise 13 14 (omega arith) (omega arith), is.is)
       ]
 
-  -- so at least two of the fifteen are on each side
+  -- so at least two of the fifteen are on the left
   pub least_left : (separator keep : ℕ) → IsSeparator (slices_with es s m) separator
       → (keep < length es → separator ≤ get_or (slices es) keep 0) → 2 ≤ keep
   least_left separator keep is above = elim (cases_lt keep 2) [
@@ -132,6 +133,7 @@ module _ (es : List Entry) (s : ℕ) (m : Mark) (border : IsBorder es) (mark : I
     | inr enough ↦ enough
   ]
 
+  -- and at least two on the right
   pub least_right : (separator keep : ℕ) → IsSeparator (slices_with es s m) separator
       → ((k : ℕ) → k < keep → get_or (slices es) k 0 < separator) → keep ≤ 13
   least_right separator keep is below = elim (cases_lt 13 keep) [

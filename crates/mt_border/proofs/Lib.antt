@@ -1,4 +1,3 @@
-pub mod Rising
 pub mod Orders
 pub mod Edits
 pub mod Slots

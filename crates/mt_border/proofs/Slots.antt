@@ -1,4 +1,4 @@
--- What a write to one slot of a node leaves.
+-- A write to one slot of a node leaves all else, and the entries in order: for the edits of `Border` that move no slot.
 use Rattle.std.proofs.Common.{◌≡◌, ℕ, ◌<◌, List, length, get_or, set, refl, sym, arith}
 use Rattle.std.specs.List.{refill}
 use Rattle.std.proofs.lemmas.List.{take_at, length-set, get_or-set_same, get_or-set_other, get_or_default, get_or-map}
@@ -14,7 +14,7 @@ use Rattle.mt_border.proofs.Edits.{any_entry, border_set, replaced_at}
 abbrev pub set_held : List Entry → ℕ → Held → List Entry
 set_held es slot held = set es slot (record (get_or es slot any_entry) { held = held })
 
--- as the code writes it, through a loan of the whole list
+-- the entries as the code writes them, through a loan of the whole list
 abbrev pub written : List Entry → List Entry → ℕ → Held → Entry → List Entry
 written es xs slot held d = refill (length es) es (set xs slot (record (get_or xs slot d) { held = held }))
 
@@ -23,11 +23,12 @@ written-set_held : (es xs : List Entry) (slot : ℕ) (held : Held) (d : Entry) �
 written-set_held es xs slot held d same within = rw (same, get_or_default es slot d any_entry within)
     (take_at (set_held es slot held) _ (length es) (length-set es slot (record (get_or es slot any_entry) { held = held })))
 
--- the slot's mark and what it holds, as the code reads them
+-- the slot's mark is what the code reads
 pub read_mark : (es xs : List Entry) (slot : ℕ) (mark : Mark) (d : Entry) → xs ≡ es → slot < length es
     → (get_or es slot any_entry).mark ≡ mark → (get_or xs slot d).mark ≡ mark
 read_mark es xs slot mark d same within is = rw (same, get_or_default es slot d any_entry within) is
 
+-- and so is what it holds
 pub read_held : (es xs : List Entry) (slot : ℕ) (held : Held) (d : Entry) → xs ≡ es → slot < length es
     → (get_or es slot any_entry).held ≡ held → (get_or xs slot d).held ≡ held
 read_held es xs slot held d same within is = rw (same, get_or_default es slot d any_entry within) is
@@ -55,7 +56,7 @@ rewrites node slot held border within = record {
   rest = refl;
 }
 
--- the same of the write as the code makes it
+-- a write as the code makes it changes that slot alone
 pub rewrites_written : (node : Node) (xs : List Entry) (slot : ℕ) (held : Held) (d : Entry) → xs ≡ node.slots
     → IsBorder node.slots → slot < length node.slots
     → Rewrites node (record node { slots = written node.slots xs slot held d }) slot held

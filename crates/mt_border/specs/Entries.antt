@@ -1,6 +1,7 @@
 -- The entries of a border node: a list in the order of their keys, and its edits.
-use Rattle.std.specs.Prelude.{◌≡◌, ◌≢◌, ℕ, suc, ◌<◌, ◌≤◌, List, [], ◌∷◌, length, map, insert, remove, slice_set, slice_index, slice_index_or, if◌then◌else◌, nat_lt}
+use Rattle.std.specs.Prelude.{◌≡◌, ◌≢◌, ℕ, suc, ◌<◌, ◌≤◌, List, [], ◌∷◌, length, map, insert, remove, slice_set, slice_index_or, if◌then◌else◌, nat_lt}
 use Rattle.std.specs.List.{All}
+use Rattle.mt_lists.specs.Rising.{IsRising}
 use Rattle.mt_slices.specs.declared.mark.Mark.{Mark}
 use Rattle.mt_border.specs.declared.border.TheConstants.{SLOTS}
 use Rattle.mt_border.specs.declared.entry.Entry.{Entry}
@@ -13,10 +14,6 @@ orders entries = map order_of entries
 -- the slices of entries, one by one
 abbrev pub slices : List Entry → List ℕ
 slices entries = map (λ e. e.slice) entries
-
--- each number is above all numbers before it
-abbrev pub IsRising : List ℕ → Type 0
-IsRising xs = (i j : ℕ) → i < j → j < length xs → slice_index xs i < slice_index xs j
 
 -- what the entries of a node are: fifteen at most, each one that may stand there, in strictly rising order
 pub record IsBorder (entries : List Entry) : Type 0 where

@@ -19,5 +19,5 @@ mod places;
 mod split;
 
 pub use border::{Border, SLOTS};
-pub use entry::{Entry, Find, Held, FoundKind, Pair, Suffix};
+pub use entry::{Entry, Find, FoundKind, Held, Pair, Suffix};
 pub use iter::Entries;

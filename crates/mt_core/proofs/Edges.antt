@@ -25,7 +25,8 @@ use Rattle.mt_border.specs.declared.entry.Pair.{Pair}
 use Rattle.mt_border.specs.declared.entry.Entry.{Entry}
 use Rattle.mt_border.specs.declared.entry.Held.TheVariants.{Stable}
 use Rattle.mt_border.specs.Entry.{pair_of, order_at, IsStablePair}
-use Rattle.mt_border.specs.Entries.{orders, IsRising}
+use Rattle.mt_lists.specs.Rising.{IsRising}
+use Rattle.mt_border.specs.Entries.{orders}
 use Rattle.mt_border.specs.Node.{entries_of}
 use Rattle.mt_core.specs.declared.shape.Edge.{Edge}
 use Rattle.mt_core.specs.declared.shape.ShapeLine.{ShapeLine}

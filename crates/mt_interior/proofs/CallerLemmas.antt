@@ -1,5 +1,5 @@
 -- What edits of a node do to the bounds of its children's ranges, for the proofs of the crates above.
--- `PlaceLemmas` has the place of a slice, and `Rises` that edits keep a list rising.
+-- `PlaceLemmas` has the place of a slice; that edits keep a list rising stands in mt_lists.
 use Rattle.std.proofs.Common.{◌≡◌, ℕ, zero, suc, ◌+◌, ◌-◌, ◌<◌, ◌≤◌, List, [], ◌∷◌, Option, Some, length, get_or, take, drop, add-one, refl, sym, ap, arith}
 use Rattle.std.specs.List.{insert, remove}
 use Rattle.std.proofs.lemmas.List.Sums.{count_by-le-length}
@@ -14,37 +14,41 @@ use Rattle.mt_interior.specs.Changes.{with_child, without_child, middle, left_ha
 pub place_of-le-length : (xs : List ℕ) (s : ℕ) → place_of xs s ≤ length xs
 place_of-le-length xs s = count_by-le-length (λ y. nat_le y s) xs
 
--- one separator more is one bound more
+-- one separator more is one bound more, a place later
 pub bounds_of-insert : (low : ℕ) (xs : List ℕ) (high : Option ℕ) (i s : ℕ) → i ≤ length xs → bounds_of low (insert xs i s) high ≡ insert (bounds_of low xs high) (i + 1) s
 bounds_of-insert low xs high i s within = rw add-one (sym (insert-append_left (low ∷ xs) (end_of high ∷ []) (suc i) s (omega arith)))
 
+-- so one more child is one bound more, the separator before it
 pub bounds-with_child : (n : InteriorNode) (separator child : ℕ) → bounds (with_child n separator child) ≡ insert (bounds n) (place_of n.separators separator + 1) separator
 bounds-with_child n separator child = bounds_of-insert n.low n.separators n.high _ separator (place_of-le-length n.separators separator)
 
--- and one less is one bound less
+-- one separator less is one bound less, a place later
 pub bounds_of-remove : (low : ℕ) (xs : List ℕ) (high : Option ℕ) (i : ℕ) → 0 < i → i ≤ length xs → bounds_of low (remove xs (i - 1)) high ≡ remove (bounds_of low xs high) i
 bounds_of-remove low xs high zero not_first within = absurd (omega arith)
 bounds_of-remove low xs high (suc i) not_first within =
     let back : suc i - 1 ≡ i = omega arith in
     rw back (sym (remove-append_left (low ∷ xs) (end_of high ∷ []) (suc i) (omega arith)))
 
+-- so one child less is one bound less, the separator that was before it
 pub bounds-without_child : (n : InteriorNode) (i : ℕ) → IsInterior n.separators n.children → 0 < i → i < length n.children → bounds (without_child n i) ≡ remove (bounds n) i
 bounds-without_child n i interior not_first there = bounds_of-remove n.low n.separators n.high i not_first (omega (arith, interior.between))
 
--- the bounds of a left half that ends at separator k, and of the right half that begins there
+-- a left half that ends at separator k has the first bounds, up to that one
 pub bounds_of-take : (low : ℕ) (xs : List ℕ) (high : Option ℕ) (k : ℕ) → k < length xs → bounds_of low (take k xs) (Some (get_or xs k 0)) ≡ take (suc (suc k)) (bounds_of low xs high)
 bounds_of-take low [] high k within = absurd (omega arith)
 bounds_of-take low (x ∷ xs) high zero within = refl
 bounds_of-take low (x ∷ xs) high (suc k) within = ap (λ rest. low ∷ rest) (bounds_of-take x xs high k (omega arith))
 
+-- and the right half that begins there has the bounds from that one on
 pub bounds_of-drop : (low : ℕ) (xs : List ℕ) (high : Option ℕ) (k : ℕ) → k < length xs → bounds_of (get_or xs k 0) (drop (suc k) xs) high ≡ drop (suc k) (bounds_of low xs high)
 bounds_of-drop low [] high k within = absurd (omega arith)
 bounds_of-drop low (x ∷ xs) high zero within = refl
 bounds_of-drop low (x ∷ xs) high (suc k) within = bounds_of-drop x xs high k (omega arith)
 
--- of the halves of a node, where their fences meet at the separator between them
+-- so the left half of a node has its first ten bounds, where its range ends at the middle separator
 pub bounds-left_half : (n : InteriorNode) → 8 < length n.separators → bounds (record (left_half n) { high = Some (middle n) }) ≡ take 10 (bounds n)
 bounds-left_half n within = bounds_of-take n.low n.separators n.high 8 within
 
+-- and the right half has those from the tenth on, where its range begins there
 pub bounds-right_half : (n right : InteriorNode) → 8 < length n.separators → right.low ≡ middle n → bounds (record (right_half n right) { high = n.high }) ≡ drop 9 (bounds n)
 bounds-right_half n right within begins = rw begins (bounds_of-drop n.low n.separators n.high 8 within)

@@ -1,4 +1,3 @@
-pub mod Rises
 pub mod PlaceLemmas
 pub mod Shapes
 pub mod CallerLemmas

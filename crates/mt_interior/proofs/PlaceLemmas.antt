@@ -1,4 +1,4 @@
--- The place of a slice among separators that rise, and the range that goes with it.
+-- The place of a slice among separators that rise is the child whose range holds it: for finds, and the crates above.
 use Rattle.std.proofs.Common.{◌≡◌, ℕ, zero, suc, ◌+◌, ◌<◌, ◌≤◌, Bool, true, false, List, [], ◌∷◌, Option, length, get_or, add-one, refl, ap, ◌∙◌, inl, inr, arith}
 use Rattle.std.specs.Prelude.{nat_le, if◌then◌else◌}
 use Rattle.std.proofs.lemmas.List.{get_or_append_left}
@@ -8,7 +8,8 @@ use Rattle.std.proofs.lemmas.List.Sums.{sum_by-cons}
 use Rattle.std.proofs.lemmas.Grind.{common_steps}
 use Rattle.std.proofs.lemmas.Bool.{cases_lt}
 use Rattle.std.proofs.lemmas.Bool.Decides.{nat_tests}
-use Rattle.mt_interior.specs.Rising.{IsRising}
+use Rattle.mt_lists.specs.Rising.{IsRising}
+use Rattle.mt_lists.proofs.Rises.{rising_tail, rising_upto}
 use Rattle.mt_interior.specs.Places.{place_of, IsPlace, IsNew}
 use Rattle.mt_interior.specs.Fences.{end_of, bounds_of, IsWithinBounds}
 
@@ -45,9 +46,6 @@ place_of-unique (x ∷ xs) s (suc i) place =
       at_most_before = λ j before. place.at_most_before (suc j) (omega arith);
       above_after = λ j after within. place.above_after (suc j) (omega arith) (omega arith);
     }))
-
-rising_tail : (x : ℕ) (xs : List ℕ) → IsRising (x ∷ xs) → IsRising xs
-rising_tail x xs rising i j lt within = rising (suc i) (suc j) (omega arith) (omega arith)
 
 -- the count parts separators that rise
 pub place_of-parts : (xs : List ℕ) (s : ℕ) → IsRising xs → IsPlace xs s (place_of xs s)
@@ -88,11 +86,11 @@ place_of-parts (x ∷ xs) s rising = elim (cases_lt s x) [
       above_after = after_more x xs s p place;
     }
 
--- where part i of a range begins: behind the low fence at separator i - 1
+-- behind the low fence the bounds are the separators
 pub bounds_of-inner : (low : ℕ) (xs : List ℕ) (high : Option ℕ) (k : ℕ) → k < length xs → get_or (bounds_of low xs high) (suc k) 0 ≡ get_or xs k 0
 bounds_of-inner low xs high k within = get_or_append_left xs (end_of high ∷ []) 0 k within
 
--- where the last part ends
+-- and the last one is the end of the range
 pub bounds_of-end : (low : ℕ) (xs : List ℕ) (high : Option ℕ) → get_or (bounds_of low xs high) (suc (length xs)) 0 ≡ end_of high
 bounds_of-end low xs high = grind (arith, common_steps)
 
@@ -136,13 +134,11 @@ place_of-between low xs high s i rising in_range between = place_of-unique xs s 
 pub gap_of-new : (xs : List ℕ) (s i : ℕ) → IsNew xs s → IsPlace xs s i → (j : ℕ) → j < i → get_or xs j 0 < s
 gap_of-new xs s i missing place j before = omega (arith, missing j (omega (arith, place.in_range)), place.at_most_before j before)
 
--- what a binary search asks of separators that rise, and what its answer says
+-- separators that rise are parted by any slice, as a binary search asks
 pub partitioned : (xs : List ℕ) (s : ℕ) → IsRising xs → IsPartitionedBy (λ y. nat_le y s) xs
-partitioned xs s rising = IsPartitionedBy-leb (λ y. y) xs s (IsNonDecreasingBy-from_default (λ y. y) xs 0 (λ i j le within. elim (cases_lt i j) [
-  | inl lower ↦ omega (arith, rising i j lower within)
-  | inr here ↦ let same : i ≡ j = omega arith in rw same (omega arith)
-]))
+partitioned xs s rising = IsPartitionedBy-leb (λ y. y) xs s (IsNonDecreasingBy-from_default (λ y. y) xs 0 (λ i j le within. rising_upto xs i j rising le within))
 
+-- and the search's answer is the slice's place
 pub parts_from_point : (xs : List ℕ) (s i : ℕ) → i ≤ length xs → IsPartitionPoint (λ y. nat_le y s ≡ true) (λ y. nat_le y s ≡ false) xs i → IsPlace xs s i
 parts_from_point xs s i in_range point = record {
   in_range = in_range;

@@ -1,19 +1,19 @@
--- Separators and children keep their shape through each edit.
+-- Separators and children keep their shape through each edit: for the edits of `Interior`.
 use Rattle.std.proofs.Common.{◌≡◌, ℕ, ◌+◌, ◌<◌, ◌≤◌, List, length, take, drop, suc, length-append, arith}
 use Rattle.std.specs.List.{insert, remove}
 use Rattle.std.proofs.lemmas.List.{length-take, length-drop, drop-drop}
 use Rattle.std.proofs.lemmas.List.Edits.{length-insert}
-use Rattle.mt_interior.specs.Rising.{IsRising}
+use Rattle.mt_lists.specs.Rising.{IsRising}
 use Rattle.mt_interior.specs.Places.{IsPlace, IsNew}
 use Rattle.mt_interior.specs.Node.{IsInterior}
-use Rattle.mt_interior.proofs.Rises.{rising_insert, rising_remove, rising_take, rising_drop}
+use Rattle.mt_lists.proofs.Rises.{rising_insert, rising_remove, rising_take, rising_drop}
 use Rattle.mt_interior.proofs.PlaceLemmas.{gap_of-new}
 
 -- a new separator at its place keeps them rising
 pub insert_rising : (xs : List ℕ) (place s : ℕ) → IsRising xs → IsNew xs s → IsPlace xs s place → IsRising (insert xs place s)
 insert_rising xs place s rising missing parts = rising_insert xs place s rising parts.in_range (gap_of-new xs s place missing parts) parts.above_after
 
--- one more child
+-- so do separators and children with one more child
 pub interior_insert : (xs cs : List ℕ) (place s c : ℕ) → IsInterior xs cs → length xs < 15 → 0 < length cs → IsNew xs s → IsPlace xs s place → IsInterior (insert xs place s) (insert cs (place + 1) c)
 interior_insert xs cs place s c interior room some missing parts =
     let more_separators = length-insert xs place s parts.in_range in
@@ -28,7 +28,7 @@ interior_insert xs cs place s c interior room some missing parts =
 removed_there : (xs : List ℕ) (i : ℕ) → length (remove xs i) + 1 ≡ length xs → i < length xs
 removed_there xs i shorter = omega (arith, length-append (take i xs) (drop (suc i) xs), length-take i xs, length-drop (suc i) xs, shorter)
 
--- one child less, whichever, and one separator less
+-- and with one child less, whichever, and one separator less
 pub interior_remove : (xs cs fewer children : List ℕ) (i j : ℕ) → IsInterior xs cs → fewer ≡ remove xs i → children ≡ remove cs j → length fewer + 1 ≡ length xs → length children + 1 ≡ length cs → IsInterior fewer children
 interior_remove xs cs fewer children i j interior fewer_are children_are one_separator_less one_child_less = record {
   room = omega (arith, interior.room, one_child_less);
@@ -47,7 +47,7 @@ module _ (xs cs : List ℕ) (place s c : ℕ) (more_xs more_cs : List ℕ) (inte
   rising : IsRising more_xs
   rising = rw xs_are (insert_rising xs place s interior.rising missing parts)
 
-  -- n separators and a child more stay
+  -- the first n separators with n + 1 children keep the shape
   pub interior_front : (left children : List ℕ) (n m : ℕ) → left ≡ take n more_xs → children ≡ take m more_cs → m ≡ n + 1 → n ≤ 15 → IsInterior left children
   interior_front left children n m left_is children_are one_more short =
       let separators_kept = length-take n more_xs in
@@ -58,7 +58,7 @@ module _ (xs cs : List ℕ) (place s c : ℕ) (more_xs more_cs : List ℕ) (inte
         rising = rising_take n more_xs rising;
       }
 
-  -- all but n separators, the first of which goes away, and all but as many children and one
+  -- and so do the others, when the first of their separators has gone away
   pub interior_back : (right children : List ℕ) (n m : ℕ) → right ≡ drop n more_xs → children ≡ drop m more_cs → m ≡ n + 1 → 0 < n → IsInterior (remove right 0) children
   interior_back right children n m right_is children_are one_more some =
       let separators_moved = length-drop (n + 1) more_xs in

@@ -1,4 +1,3 @@
-pub mod Rising
 pub mod Places
 pub mod Node
 pub mod Fences

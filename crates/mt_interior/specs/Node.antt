@@ -1,7 +1,7 @@
 -- An interior node as callers see it.
 use Rattle.std.specs.Prelude.{◌≡◌, ℕ, ◌-◌, ◌≤◌, List, [], length, Option, None}
 use Rattle.mt_version.specs.Parts.{Parts}
-use Rattle.mt_interior.specs.Rising.{IsRising}
+use Rattle.mt_lists.specs.Rising.{IsRising}
 
 -- what a node holds: child i of it lies between separators i - 1 and i
 pub record InteriorNode : Type 0 where

@@ -1,6 +1,7 @@
 //! Interior nodes: up to fifteen separators in order, and one child more.
 #![tactic(auto)]
 
+pub mod laws;
 pub mod node;
 
-pub use node::{CHILDREN, Interior, SEPARATORS};
+pub use node::{Interior, SEPARATORS};

@@ -16,19 +16,17 @@ use std::marker::Model;
 /// The most separators of one node.
 pub const SEPARATORS: usize = 15;
 
-/// The most children of one node.
-pub const CHILDREN: usize = 16;
-
 /// How many of sixteen separators stay at the left of a split.
 const LEFT_SEPARATORS: usize = 8;
 
 /// How many of seventeen children stay at the left of a split.
 const LEFT_CHILDREN: usize = 9;
 
-// A split first puts one more separator and child in, and then parts them.
+// A split first puts one more separator and child in, and then parts them. A node has one child more
+// than separators.
 const SEPARATOR_PLACES: usize = SEPARATORS + 1;
 
-const CHILD_PLACES: usize = CHILDREN + 1;
+const CHILD_PLACES: usize = SEPARATOR_PLACES + 1;
 
 /// An interior node.
 #[derive(Drop)]

@@ -1,4 +1,4 @@
--- What is made of rows keeps their limits.
+-- What is shown of a row and what a put makes of it are rows, column by column: for `Row`, `merge` and their laws.
 use Rattle.std.proofs.Common.{◌≡◌, ℕ, suc, ◌+◌, ◌<◌, ◌≤◌, inl, inr, Bool, true, false, cond, eqb, max, List, [], ◌∷◌, map, length, get_or, Option, Some, None, refl, sym, ap, subst, ◌∙◌, arith}
 use Rattle.std.specs.List.{All}
 use Rattle.std.specs.Option.{unwrap_or}
@@ -79,14 +79,17 @@ named_reach (x ∷ change) i c e = by (eqb x.0 i) refl e (named_reach change i c
 column_inside : (change : Named) (row : Columns) (i : ℕ) → i < max (length row) (reach change) → column (changed change row) i ≡ unwrap_or (named change i) (column row i)
 column_inside change row i lt = get_or-map-range_with_len (λ j. unwrap_or (named change j) (column row j)) 0 (max (length row) (reach change)) i i [] lt (omega arith)
 
+-- a changed row ends where the row or the change ends, whichever is later
 pub changed_length : (change : Named) (row : Columns) → length (changed change row) ≡ max (length row) (reach change)
 changed_length change row = length-map-range_with_len (λ j. unwrap_or (named change j) (column row j)) 0 (max (length row) (reach change))
 
+-- a column that a change names is what the change gives it
 pub changed_named : (change : Named) (row : Columns) (i : ℕ) (c : Bytes) → named change i ≡ Some c → column (changed change row) i ≡ c
 changed_named change row i c e =
     let below : i < reach change = named_reach change i c e in
     column_inside change row i (omega arith) ∙ ap (λ w. unwrap_or w (column row i)) e
 
+-- and any other column is as it was
 pub changed_kept : (change : Named) (row : Columns) (i : ℕ) → named change i ≡ None → column (changed change row) i ≡ column row i
 changed_kept change row i e = elim (cases_lt i (max (length row) (reach change))) [
   | inl lt ↦ column_inside change row i lt ∙ ap (λ w. unwrap_or w (column row i)) e

@@ -9,6 +9,7 @@ use Rattle.mt_rows.specs.Rows.{Bytes, Columns, column, AreIndexes}
 abbrev pub Named : Type 0
 Named = List (ℕ × Bytes)
 
+-- the indexes that a change names, in its order
 abbrev pub indexes_of : Named → List ℕ
 indexes_of change = map (λ c. c.0) change
 

@@ -1,4 +1,4 @@
--- The first eight bytes of a list, with zeros for those that are missing.
+-- A slice is the first eight bytes, with zeros for those that are missing: for the proofs about keys.
 use Rattle.std.proofs.Common.{◌≡◌, ℕ, ◌-◌, ◌<◌, List, ◌++◌, length, take, drop, get_or, replicate, min, sym, refl, ◌∙◌, inl, inr, lit<, arith, rules}
 use Rattle.std.specs.Int.{w64, to_be_bytes}
 use Rattle.std.proofs.lemmas.Bool.{cases_lt}

@@ -1,4 +1,4 @@
--- What writing a bit of a version word does to its parts.
+-- What writing a bit of a version word does to its parts: for the values of `Version`.
 use Rattle.std.proofs.Common.{◌≡◌, ℕ, zero, suc, ◌+◌, ◌-◌, ◌*◌, ◌/◌, ◌%◌, ◌^◌, ◌<◌, min, max, true, false, refl, sym, ap, ◌∙◌, arith}
 use Rattle.std.specs.Prelude.{◌==◌, ◌&&◌, ◌||◌, not, nat_eq}
 use Rattle.std.specs.Int.{bit_at}
@@ -32,10 +32,11 @@ min_test (suc zero) (suc zero) sa sb = refl
 min_test (suc (suc a)) b sa sb = absurd (omega arith)
 min_test a (suc (suc b)) sa sb = absurd (omega arith)
 
--- a flag of `word | mask` and of `word & mask`
+-- a flag of `word | mask` is set where one of both has it
 pub flag_or : (word mask i : ℕ) → flag (bit_or word mask) i ≡ (flag mask i || flag word i)
 flag_or word mask i = ap (λ b. b == 1) (bit_at_or word mask i) ∙ max_test _ _ (bit_at-lt word i) (bit_at-lt mask i)
 
+-- and a flag of `word & mask` where both have it
 pub flag_and : (word mask i : ℕ) → flag (bit_and word mask) i ≡ (flag mask i && flag word i)
 flag_and word mask i = ap (λ b. b == 1) (bit_at_and word mask i) ∙ min_test _ _ (bit_at-lt word i) (bit_at-lt mask i)
 
@@ -56,10 +57,11 @@ pub or_parts : (word mask : ℕ) → mask / 2 ^ 6 ≡ 0 → parts_of (bit_or wor
 }
 or_parts word mask low = rw (flag_or word mask 0, flag_or word mask 1, flag_or word mask 2, flag_or word mask 3, flag_or word mask 4, flag_or word mask 5, high_or word mask 8 (omega arith), high_or word mask 68 (omega arith)) refl
 
+-- `word | mask` has the gap of the word, where the mask is of flags alone
 pub or_gap : (word mask : ℕ) → mask / 2 ^ 6 ≡ 0 → HasGap word → HasGap (bit_or word mask)
 or_gap word mask low gap = rw (high_or word mask 6 low) gap
 
--- the test `word & (1 << i) != 0`
+-- the test `word & (1 << i) != 0` tells flag i
 pub mask_flag : (word i : ℕ) → not (nat_eq (bit_and word (2 ^ i)) 0) ≡ flag word i
 mask_flag word i = rw (and_pow word i) (nonzero_bit (bit_at word i) (2 ^ i) (bit_at-lt word i) (pow_pos i))
   where
@@ -85,14 +87,15 @@ pub and_parts : (word mask : ℕ) → word < 2 ^ 128 → mask / 2 ^ 6 ≡ 2 ^ 12
 }
 and_parts word mask fits high = rw (flag_and word mask 0, flag_and word mask 1, flag_and word mask 2, flag_and word mask 3, flag_and word mask 4, flag_and word mask 5, high_and word mask 8 120 (omega arith) (omega arith), high_and word mask 68 60 (omega arith) (omega arith)) refl
 
+-- `word & mask` has the gap of the word, where the mask takes flags alone
 pub and_gap : (word mask : ℕ) → word < 2 ^ 128 → mask / 2 ^ 6 ≡ 2 ^ 122 - 1 → HasGap word → HasGap (bit_and word mask)
 and_gap word mask fits high gap = rw (high_and word mask 6 122 high (omega arith)) gap
 
--- the lock and the marks taken away
+-- a word without its three low bits says the same, but that it has no lock and no mark
 pub cleared_parts : (word : ℕ) → word < 2 ^ 128 → parts_of (bit_and word (2 ^ 128 - 8)) ≡ record (parts_of word) { locked = false; inserting = false; splitting = false }
 cleared_parts word fits = and_parts word (2 ^ 128 - 8) fits refl
 
--- a split counted
+-- 2 ^ 68 more is one split more, and nothing else
 pub split_parts : (word : ℕ) → parts_of (word + 2 ^ 68) ≡ record (parts_of word) { splits = word / 2 ^ 68 + 1 }
 split_parts word = rw (low 0 (omega arith), low 1 (omega arith), low 2 (omega arith), low 3 (omega arith), low 4 (omega arith), low 5 (omega arith), inserts, splits) refl
   where
@@ -105,7 +108,7 @@ split_parts word = rw (low 0 (omega arith), low 1 (omega arith), low 2 (omega ar
     splits : (word + 2 ^ 68) / 2 ^ 68 ≡ word / 2 ^ 68 + 1
     splits = omega arith
 
--- an insert counted
+-- 2 ^ 8 more is one insert more, and nothing else, while there is room
 pub insert_parts : (word : ℕ) → word / 2 ^ 8 % 2 ^ 60 < 2 ^ 60 - 1 → parts_of (word + 2 ^ 8) ≡ record (parts_of word) { inserts = word / 2 ^ 8 % 2 ^ 60 + 1 }
 insert_parts word room = rw (low 0 (omega arith), low 1 (omega arith), low 2 (omega arith), low 3 (omega arith), low 4 (omega arith), low 5 (omega arith), inserts, splits) refl
   where
@@ -129,14 +132,16 @@ same_but_lock-words a b gap_a gap_b = (
   (λ same. eq-eqb _ _ (word_again (bit_or a 1) _ (or_parts a 1 refl ∙ same ∙ sym (or_parts b 1 refl)) (or_gap a 1 refl gap_a) ∙ word_of-parts_of (bit_or b 1) (or_gap b 1 refl gap_b))),
 )
 
--- the words that an unlocking makes
+-- the word that an unlocking makes: with a split counted, where the node was splitting
 pub unlocked_split : (word : ℕ) → word < 2 ^ 128 → flag word 2 ≡ true → parts_of (bit_and word (2 ^ 128 - 8) + 2 ^ 68) ≡ unlocked_parts (parts_of word)
 unlocked_split word fits splitting = split_parts (bit_and word (2 ^ 128 - 8)) ∙ ap (λ (p : Parts). record p { splits = p.splits + 1 }) (cleared_parts word fits) ∙ rw splitting refl
 
+-- with an insert counted, where it was inserting
 pub unlocked_insert : (word : ℕ) → word < 2 ^ 128 → flag word 2 ≡ false → flag word 1 ≡ true → word / 2 ^ 8 % 2 ^ 60 < 2 ^ 60 - 1 → parts_of (bit_and word (2 ^ 128 - 8) + 2 ^ 8) ≡ unlocked_parts (parts_of word)
 unlocked_insert word fits whole inserting room =
     let cleared = cleared_parts word fits in
     insert_parts (bit_and word (2 ^ 128 - 8)) (rw (ap (λ (p : Parts). p.inserts) cleared) room) ∙ ap (λ (p : Parts). record p { inserts = p.inserts + 1 }) cleared ∙ rw (whole, inserting) refl
 
+-- and with nothing counted, where it was neither
 pub unlocked_plain : (word : ℕ) → word < 2 ^ 128 → flag word 2 ≡ false → flag word 1 ≡ false → parts_of (bit_and word (2 ^ 128 - 8)) ≡ unlocked_parts (parts_of word)
 unlocked_plain word fits whole still = cleared_parts word fits ∙ rw (whole, still) refl

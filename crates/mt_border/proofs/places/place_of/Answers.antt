@@ -1,3 +1,4 @@
+-- the first entry that is not before the key stands at its place
 use Rattle.std.proofs.Common.{length, arith, below_more}
 use Rattle.std.proofs.lemmas.Bool.Decides.{nat_tests}
 use Rattle.mt_border.proofs.Edits.{orders_read, place_in-is}

@@ -1,8 +1,8 @@
+-- the entries that were passed stand before the key
 use Rattle.std.proofs.Common.{ℕ, ◌<◌, get_or}
 use Rattle.mt_border.specs.Entry.{order_at}
 use Rattle.mt_border.specs.Entries.{orders}
 use Rattle.mt_border.proofs.places.place_of.Given as goal
 
--- the entries that were passed stand before the key
 abbrev pub invariant-loop-place : goal.invariant-loop-place
 invariant-loop-place l = (k : ℕ) → k < l.place → get_or (orders l.entries) k 0 < order_at l.slice l.mark

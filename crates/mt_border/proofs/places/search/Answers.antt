@@ -1,10 +1,10 @@
+-- the entry at the key's place was compared, or there is none
 use Rattle.std.proofs.Common.{get_or, ap, sym, ◌∙◌, arith}
 use Rattle.std.proofs.lemmas.List.{get_or_default}
 use Rattle.mt_border.proofs.Edits.{missing_from}
 use Rattle.mt_border.proofs.places.search.Goals as goal
 use Rattle.mt_border.proofs.places.search.Goals.{else-place-entries-via-then-place-entries+else-has, else-place-entries-via-else-place-entries}
 
--- the entry at the key's place was compared, or there is none
 pub returns-else-place-entries-clause-missing : goal.returns-else-place-entries-clause-missing
 returns-else-place-entries-clause-missing c = missing_from _ c.args.slice c.args.mark c.requires.border (λ k d at within slice_is mark_is.
     elim c.else-place-entries.branch [

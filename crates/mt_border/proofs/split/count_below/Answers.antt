@@ -1,3 +1,4 @@
+-- each entry that is passed has a slice below the separator
 use Rattle.std.proofs.Common.{sym, ap, ◌∙◌, below_more}
 use Rattle.std.proofs.lemmas.List.{get_or-map}
 use Rattle.mt_border.specs.declared.entry.Entry.{Entry}

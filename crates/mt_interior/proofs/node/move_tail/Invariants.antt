@@ -1,8 +1,8 @@
+-- what was moved and what is to come are the tail
 use Rattle.std.proofs.Common.{◌≡◌, ◌++◌}
 use Rattle.arrayvec.specs.Iter.{drain_items, DrainKeeps}
 use Rattle.mt_interior.proofs.node.move_tail.Given as goal
 
--- what was moved and what is to come are the tail
 abbrev pub invariant-loop-moved : goal.invariant-loop-moved
 invariant-loop-moved g l = (goal.iterator-loop-moved g).can_next l.moved-iterator
     × (goal.iterator-loop-moved g).is_finite l.moved-iterator

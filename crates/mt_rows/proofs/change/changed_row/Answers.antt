@@ -1,3 +1,4 @@
+-- each turn adds the next column of the changed row, and the whole is a row
 use Rattle.std.proofs.Common.{arith, ap, sym, subst, map, length, max, ◌≡◌, ◌∙◌}
 use Rattle.std.specs.List.{range_with_len}
 use Rattle.std.proofs.lemmas.Grind.{common_steps}

@@ -1,3 +1,4 @@
+-- the entries stay in order without the slot's, which is the one of its key
 use Rattle.std.proofs.Common.{◌<◌, length, ap, sym, arith}
 use Rattle.mt_border.specs.Node.{entries_of}
 use Rattle.mt_border.proofs.Edits.{border_remove, without_at}

@@ -1,3 +1,4 @@
+-- the entries stay in order, and the slot alone changes: its pair has a tree
 use Rattle.std.proofs.Common.{◌<◌, length, ap}
 use Rattle.mt_border.specs.Node.{entries_of}
 use Rattle.mt_border.proofs.Slots.{read_held, border_written, rewrites_written}

@@ -1,3 +1,4 @@
+-- the entries stay in order with the new one at its place
 use Rattle.std.proofs.Common.{ap}
 use Rattle.mt_border.specs.Node.{entries_of}
 use Rattle.mt_border.proofs.Edits.{border_with_entry}

@@ -1,3 +1,4 @@
+-- separators and children keep their shape with one more child
 use Rattle.std.proofs.Common.{ap}
 use Rattle.mt_interior.specs.Node.{InteriorNode}
 use Rattle.mt_interior.proofs.Shapes.{interior_insert}

@@ -1,3 +1,4 @@
+-- separators and children keep their shape without a child
 use Rattle.mt_interior.proofs.Shapes.{interior_remove}
 use Rattle.mt_interior.proofs.node.Interior.remove_child.Goals as goal
 

@@ -1,3 +1,4 @@
+-- the entries stay sorted, and make the map with the pair
 use Rattle.std.proofs.Common.{ap, ◌∙◌, subst, sym, T}
 use Rattle.std.specs.Ordering.{nat_cmp}
 use Rattle.std.specs.Cmp.Lexicographic.{slice_cmp}

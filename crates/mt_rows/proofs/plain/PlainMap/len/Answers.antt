@@ -1,3 +1,4 @@
+-- a map has as many pairs as sorted entries make it
 use Rattle.std.proofs.Common.{ap, sym, ◌∙◌}
 use Rattle.std.specs.FinMap as fin
 use Rattle.mt_rows.proofs.Sorted.{map_len}

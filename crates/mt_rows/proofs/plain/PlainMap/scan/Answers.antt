@@ -1,3 +1,4 @@
+-- the entries that were walked are the map's
 use Rattle.std.proofs.Common.{ap, ◌∙◌, map, take, List}
 use Rattle.std.specs.List.{filter}
 use Rattle.mt_rows.specs.Rows.{shown}
