@@ -34,7 +34,7 @@ use Rattle.mt_arena.proofs.Quiet.{nodes_slots}
 use Rattle.mt_arena.proofs.Slots.{within_each, within_all, changes_slots}
 use Rattle.mt_arena.proofs.Ranged.{no_wait, ranged_marked, ranged_retired}
 use Rattle.mt_arena.proofs.Retire.{nodes_retired}
-use Rattle.mt_arena.proofs.Collapse.{root_left}
+use Rattle.mt_arena.proofs.Collapse.{is_true, root_left}
 use Rattle.mt_arena.proofs.Homes.{forest_set}
 use Rattle.mt_arena.proofs.Steps.{keys_of}
 use Rattle.mt_arena.proofs.SlotPlaces.{was_at, at_still}
@@ -52,11 +52,6 @@ use Rattle.mt_arena.proofs.ContentQuiet.{stands_unlinked, stands_without_slots, 
 -- two links that are one lead to one tree
 pub same_link : {t u : ℕ} → Link t ≡ Link u → t ≡ u
 same_link same = cc
-
--- what is not live is deleted
-gone : (b : Bool) → (b ≡ false → ⊥) → b ≡ true
-gone true live = refl
-gone false live = absurd (live refl)
 
 module _ (v : ArenaView) (room node i u step op : ℕ) (sound : ArenaInvariant v.nodes v.trees v.retired room) (may : MayDropLayer v node i u op) where
   abbrev xs : List NodeView
@@ -343,7 +338,7 @@ module _ (v : ArenaView) (room node i u step op : ℕ) (sound : ArenaInvariant v
     | inl k_node ↦ rw (k_node, new_node) (λ in_tree. absurd (away in_tree))
     | inr nn ↦ elim (cases_eq k r) [
       | inl k_root ↦ rw (k_root, new_root) (λ in_tree. inl refl)
-      | inr nr ↦ rw (new_other k nn nr) (λ in_tree. inl (gone (at v k).version.deleted (λ live. nr (may.alone k (omega (arith, lk, size)) in_tree live))))
+      | inr nr ↦ rw (new_other k nn nr) (λ in_tree. inl (is_true (at v k).version.deleted (λ live. nr (may.alone k (omega (arith, lk, size)) in_tree live))))
     ]
   ]
 

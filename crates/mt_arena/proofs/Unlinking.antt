@@ -4,7 +4,6 @@ use Rattle.std.proofs.lemmas.List.{length-set, set-set}
 use Rattle.std.proofs.lemmas.Option.{same_Some}
 use Rattle.mt_interior.specs.Fences.{end_of}
 use Rattle.mt_interior.specs.Places.{place_of}
-use Rattle.mt_interior.proofs.PlaceLemmas.{place_of-between}
 use Rattle.mt_arena.specs.declared.tree.Standing.TheVariants.{Dead}
 use Rattle.mt_arena.specs.NodeView.{NodeView, node_at}
 use Rattle.mt_arena.specs.Nodes.{AreNodes, IsChild, HasChild, HasRange}
@@ -22,7 +21,7 @@ use Rattle.mt_arena.specs.Lags.{IsFollowedBy}
 use Rattle.mt_arena.specs.Removals.{MayUnlink, nodes_without, without_node, with_retired}
 use Rattle.mt_arena.proofs.Pairs.{here, there}
 use Rattle.mt_arena.proofs.Quiet.{nodes_inserting}
-use Rattle.mt_arena.proofs.Ranges.{not_empty, length_bounds, separators_rise}
+use Rattle.mt_arena.proofs.ChildPlace.{child_place}
 use Rattle.mt_arena.proofs.Ranged.{ranged_marked}
 use Rattle.mt_arena.proofs.RangedEdits.{ranged_unlinked}
 use Rattle.mt_arena.proofs.Unlink.{nodes_unlinked}
@@ -141,14 +140,7 @@ module _ (v : ArenaView) (room parent left node step op : ℕ) (sound : ArenaInv
 
   -- the removed node's place among the children is where its low fence belongs
   pub place_is : place_of p.separators x.low ≡ a
-  place_is =
-      let inside = may.beside.in_range in
-      let some = not_empty p.children a inside in
-      let rise = (nodes.each parent lq).children.rise some in
-      let size = length_bounds p in
-      let between = (nodes.each parent lq).children.interior.between in
-      place_of-between p.low p.separators p.high x.low a (separators_rise p.low p.separators p.high rise) (omega (arith, between, inside))
-      (omega (arith, child.low), omega (arith, child.low, rise a (a + 1) (omega arith) (omega (arith, size, between, inside))))
+  place_is = child_place xs parent node a nodes lq lj may.beside.live may.beside.in_range may.beside.right_is
 
   -- what the other nodes were, and the changed ones before
   at_node : node_at ys node ≡ x
