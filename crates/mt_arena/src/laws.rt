@@ -29,7 +29,7 @@ ghost use Rattle.mt_arena.specs.Settled.{IsSettled};
 ghost use Rattle.mt_arena.specs.Lags.{IsFollowedBy};
 ghost use Rattle.mt_arena.specs.Edits.{pointed, locked};
 ghost use Rattle.mt_arena.specs.Accesses.{at, with_node};
-ghost use Rattle.mt_arena.specs.Removals.{IsAlone};
+ghost use Rattle.mt_arena.specs.Removals.{IsOnlyLiveNode};
 ghost use Rattle.mt_interior.specs.Places.{place_of};
 ghost use Rattle.mt_arena.specs.Stands.{IsLiveBorder, StandsAt};
 ghost use Rattle.mt_arena.specs.Ways.{LinksOn, BelongsIn, StandsFor, GoesOn, HasSlots, IsUnfilled, IsMadeFor, IsFreeRoot};
@@ -200,7 +200,7 @@ pub fn a_child_stands_where_it_begins()
 /// The only live node of a tree is so as its lock is taken.
 pub fn alone_once_locked()
     ensures { (v : ArenaView) (r op : ℕ) → IsArena v.nodes v.trees → IsFreeRoot v.nodes v.trees r →
-        IsAlone (with_node v r (locked (at v r) op)) (at v r).tree r }
+        IsOnlyLiveNode (with_node v r (locked (at v r) op)) (at v r).tree r }
 {}
 
 /// Between a removal and the step by which the node behind names its new neighbour, no more comes to

@@ -121,7 +121,7 @@ impl Node {
     }
 
     /// The number of the tree to which a slot leads.
-    pub fn link_at(&self, slot: usize) -> usize
+    pub(crate) fn link_at(&self, slot: usize) -> usize
         requires border { self.now.level ≡ 0 }
         requires live { slot < length self.now.slots }
         requires link { IsLink (slot_at self.now slot).held }
