@@ -144,10 +144,10 @@ module _ (nodes : List NodeView) (trees : List Tree) (layer k j : ℕ) (within :
   bytes = (tree_at trees parted_one.tree).prefix
 
   -- the owner of an entry is in no other node
-  abbrev IsOnlyLiveNode : Entry → Type 0
-  IsOnlyLiveNode d = (p : Pair) → pair_of d.held ≡ Some p → (l : ℕ) → l < length nodes → l ≢ k → HasNone trees nodes (owned (key_at bytes d p)) l
+  abbrev IsAlone : Entry → Type 0
+  IsAlone d = (p : Pair) → pair_of d.held ≡ Some p → (l : ℕ) → l < length nodes → l ≢ k → HasNone trees nodes (owned (key_at bytes d p)) l
 
-  module _ (x y : NodeView) (left right : List Entry) (separator : ℕ) (all_keys : AreKeys bytes layer (left ++ right)) (all_alone : All IsOnlyLiveNode (left ++ right)) (below : All (λ e. e.slice < separator) left) (above : All (λ e. separator ≤ e.slice) right)
+  module _ (x y : NodeView) (left right : List Entry) (separator : ℕ) (all_keys : AreKeys bytes layer (left ++ right)) (all_alone : All IsAlone (left ++ right)) (below : All (λ e. e.slice < separator) left) (above : All (λ e. separator ≤ e.slice) right)
       (first : HasSlots parted_one x left) (second : HasSlots (node_at nodes j) y right) where
     abbrev joined_one : NodeView
     joined_one = record parted_one { slots = left ++ right }
@@ -189,7 +189,7 @@ module _ (nodes : List NodeView) (trees : List Tree) (layer k j : ℕ) (within :
     others_none : (q : ℕ × Bytes) (row : Columns) → get (map_of (live_pairs trees y)) q ≡ Some row → (l : ℕ) → l < length nodes → l ≢ k → HasNone trees nodes q l
     others_none q row some l lt differ =
         let o = right_owns q row some in
-        subst (λ r. HasNone trees nodes r l) o.owner (All-right IsOnlyLiveNode left right all_alone o.place any_entry o.within o.pair o.is l lt differ)
+        subst (λ r. HasNone trees nodes r l) o.owner (All-right IsAlone left right all_alone o.place any_entry o.within o.pair o.is l lt differ)
 
     -- to part the slots is for the contents as if they stood in one node
     pub as_one : content trees (set (set nodes k x) j y) ≡ content trees (set nodes k joined_one)
@@ -204,8 +204,8 @@ module _ (nodes : List NodeView) (trees : List Tree) (arena : IsArena nodes tree
   abbrev start : Bytes
   start = (tree_at trees was.tree).prefix
 
-  old_alone : All (IsOnlyLiveNode nodes trees layer k j within live tree_live half) was.slots
-  old_alone = All-from_get_or (IsOnlyLiveNode nodes trees layer k j within live tree_live half) was.slots any_entry (λ i inside p some l lt differ.
+  old_alone : All (IsAlone nodes trees layer k j within live tree_live half) was.slots
+  old_alone = All-from_get_or (IsAlone nodes trees layer k j within live tree_live half) was.slots any_entry (λ i inside p some l lt differ.
       let own = keys i any_entry inside in
       let at : StandsFor nodes trees own.0 layer k i p = record { there = within; live = live; tree_live = tree_live; in_range = inside; has = own.1; pair_is = some } in
       subst (λ q. HasNone trees nodes q l) (sym (owned_at start layer (get_or was.slots i any_entry) own.0 p own.1 some)) (others nodes trees arena begun own.0 layer k i p at l lt differ))
@@ -214,7 +214,7 @@ module _ (nodes : List NodeView) (trees : List Tree) (arena : IsArena nodes tree
     -- without a new key the contents stay
     pub parted_as_were : IsParted was.slots left right separator → content trees (set (set nodes k x) j y) ≡ content trees nodes
     parted_as_were parts =
-        as_one nodes trees layer k j within live tree_live half x y left right separator (subst (AreKeys start layer) (sym parts.joined) keys) (subst (All (IsOnlyLiveNode nodes trees layer k j within live tree_live half)) (sym parts.joined) old_alone) parts.below parts.above first second
+        as_one nodes trees layer k j within live tree_live half x y left right separator (subst (AreKeys start layer) (sym parts.joined) keys) (subst (All (IsAlone nodes trees layer k j within live tree_live half)) (sym parts.joined) old_alone) parts.below parts.above first second
         ∙ stands_unchanged trees nodes k (record was { slots = left ++ right }) (record { slots = parts.joined; deleted = refl; tree = refl })
 
 -- a node that is parted and has one key more
@@ -234,7 +234,7 @@ module _ (nodes : List NodeView) (trees : List Tree) (arena : IsArena nodes tree
     keys = keys_of nodes trees arena begun key layer k in_k.border.there in_k.of_tree
 
     abbrev IsOnly : Entry → Type 0
-    IsOnly = IsOnlyLiveNode nodes trees layer k j in_k.border.there in_k.border.live in_k.tree_live half
+    IsOnly = IsAlone nodes trees layer k j in_k.border.there in_k.border.live in_k.tree_live half
 
     new_alone : IsOnly e
     new_alone p some l lt differ =
