@@ -1,5 +1,5 @@
 -- The whole invariant, the guarantee and the contents where a tree is taken out with its root and the link to it: for `drop_layer`.
-use Rattle.std.proofs.Common.{◌≡◌, ◌≢◌, ℕ, ◌<◌, ◌++◌, List, [], length, get_or, set, Bool, true, false, Some, refl, sym, ap, subst, ◌∙◌, inl, inr, arith}
+use Rattle.std.proofs.Common.{◌≡◌, ◌≢◌, ℕ, ◌<◌, ◌++◌, List, [], length, get_or, set, true, false, Some, refl, sym, ap, subst, ◌∙◌, inl, inr, arith}
 use Rattle.std.specs.Prelude.{◌⊎◌}
 use Rattle.std.specs.List.{All, remove}
 use Rattle.std.proofs.lemmas.Bool.{cases_eq}
@@ -46,7 +46,7 @@ use Rattle.mt_arena.proofs.Guarantees.{PointsSo, guarantee_on}
 use Rattle.mt_arena.proofs.Naming.{names_same, points_each, each_set2}
 use Rattle.mt_arena.proofs.Several.{MayTurn, guarantee_set2}
 use Rattle.mt_arena.proofs.Topping.{guarantee_record}
-use Rattle.mt_arena.proofs.Settling.{NamesNoMore, names_none_more, follows_was, under_was}
+use Rattle.mt_arena.proofs.Settling.{NamesNoMore, names_none_more, follows_was, under_was, settled_same}
 use Rattle.mt_arena.proofs.ContentQuiet.{stands_unlinked, stands_without_slots, stands_tree_left}
 
 -- two links that are one lead to one tree
@@ -387,6 +387,9 @@ module _ (v : ArenaView) (room node i u step op : ℕ) (sound : ArenaInvariant v
     stable = settled.stable;
     rooted = λ live. absurd (cc);
   })
+
+  pub others_dropped_layer : (k : ℕ) → k ≢ node → k ≢ r → IsSettled xs k (at v k) → IsSettled new k (node_at new k)
+  others_dropped_layer k nn nr = settled_same xs new size each k (new_other k nn nr)
 
 -- the tree that was read in the slot is the one
 pub the_link : (v : ArenaView) (node i u t op : ℕ) → (slot_at (at v node) i).held ≡ Link t → MayDropLayer v node i u op → MayDropLayer v node i t op

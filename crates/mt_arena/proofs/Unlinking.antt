@@ -1,5 +1,5 @@
 -- The whole invariant, the guarantee and the contents where a border node is taken out, and what lags behind its neighbours: for `unlink`.
-use Rattle.std.proofs.Common.{◌≡◌, ◌≢◌, ℕ, ◌+◌, ◌-◌, ◌<◌, List, [], length, set, false, None, refl, sym, ap, subst, ◌∙◌, arith}
+use Rattle.std.proofs.Common.{◌≡◌, ◌≢◌, ℕ, ◌-◌, ◌<◌, List, [], length, set, false, None, refl, sym, ap, subst, ◌∙◌, arith}
 use Rattle.std.proofs.lemmas.List.{length-set, set-set}
 use Rattle.std.proofs.lemmas.Option.{same_Some}
 use Rattle.mt_interior.specs.Fences.{end_of}
@@ -36,7 +36,7 @@ use Rattle.mt_arena.proofs.HeldChanges.{changes_joined, changes_without_child}
 use Rattle.mt_arena.proofs.Guarantees.{changes_on, PointsSo}
 use Rattle.mt_arena.proofs.Naming.{names_same, points_each, each_set3}
 use Rattle.mt_arena.proofs.Several.{MayTurn, guarantee_set3}
-use Rattle.mt_arena.proofs.Settling.{NamesNoMore, names_none_more, follows_was, under_was, child_less}
+use Rattle.mt_arena.proofs.Settling.{NamesNoMore, names_none_more, follows_was, under_was, settled_same, child_less}
 use Rattle.mt_arena.proofs.ContentQuiet.{stands_unchanged, stands_without_slots}
 
 module _ (v : ArenaView) (room parent left node step op : ℕ) (sound : ArenaInvariant v.nodes v.trees v.retired room) (may : MayUnlink v parent left node op) where
@@ -329,3 +329,7 @@ module _ (v : ArenaView) (room parent left node step op : ℕ) (sound : ArenaInv
 
   pub node_unlinked : IsSettled xs node x → IsFollowedBy (nodes_without xs parent left node) node (node_at (nodes_without xs parent left node) node) x.next
   node_unlinked settled = subst (λ (ns : List NodeView). IsFollowedBy ns node (node_at ns node) x.next) (sym new_is) (node_followed settled)
+
+  pub others_unlinked : (k : ℕ) → k ≢ parent → k ≢ left → k ≢ node → IsSettled xs k (at v k) → IsSettled (nodes_without xs parent left node) k (node_at (nodes_without xs parent left node) k)
+  others_unlinked k np nl nn settled = subst (λ (ns : List NodeView). IsSettled ns k (node_at ns k)) (sym new_is)
+      (settled_same xs new size each k (there us parent k q np ∙ there ys node k w nn ∙ there xs left k y nl) settled)
