@@ -31,7 +31,7 @@ use Rattle.mt_arena.proofs.Guarantees.{PointsSo, guarantee_on}
 use Rattle.mt_arena.proofs.Naming.{names_same, points_each, each_set2}
 use Rattle.mt_arena.proofs.Several.{MayTurn, guarantee_set2}
 use Rattle.mt_arena.proofs.Topping.{layers_trees, guarantee_record}
-use Rattle.mt_arena.proofs.Settling.{NamesNoMore, names_none_more, follows_was, under_was}
+use Rattle.mt_arena.proofs.Settling.{NamesNoMore, names_none_more, follows_was, under_was, settled_same}
 use Rattle.mt_arena.proofs.ContentQuiet.{stands_unchanged, stands_without_slots, stands_tree_set}
 
 -- where there are no separators, the only range ends at the high fence
@@ -374,3 +374,6 @@ module _ (v : ArenaView) (room root child step op : ℕ) (sound : ArenaInvariant
     stable = settled.stable;
     rooted = λ live. absurd (cc);
   })
+
+  pub others_collapsed : (k : ℕ) → k ≢ root → k ≢ child → IsSettled xs k (at v k) → IsSettled new k (node_at new k)
+  others_collapsed k nr nc = settled_same xs new size each k (new_other k nr nc)

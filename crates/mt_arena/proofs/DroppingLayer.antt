@@ -1,5 +1,5 @@
 -- The whole invariant, the guarantee and the contents where a tree is taken out with its root and the link to it: for `drop_layer`.
-use Rattle.std.proofs.Common.{◌≡◌, ◌≢◌, ℕ, ◌<◌, ◌++◌, List, [], length, get_or, set, Bool, true, false, Some, refl, sym, ap, subst, ◌∙◌, inl, inr, arith}
+use Rattle.std.proofs.Common.{◌≡◌, ◌≢◌, ℕ, ◌<◌, ◌++◌, List, [], length, get_or, set, true, false, Some, refl, sym, ap, subst, ◌∙◌, inl, inr, arith}
 use Rattle.std.specs.Prelude.{◌⊎◌}
 use Rattle.std.specs.List.{All, remove}
 use Rattle.std.proofs.lemmas.Bool.{cases_eq}
@@ -34,7 +34,7 @@ use Rattle.mt_arena.proofs.Quiet.{nodes_slots}
 use Rattle.mt_arena.proofs.Slots.{within_each, within_all, changes_slots}
 use Rattle.mt_arena.proofs.Ranged.{no_wait, ranged_marked, ranged_retired}
 use Rattle.mt_arena.proofs.Retire.{nodes_retired}
-use Rattle.mt_arena.proofs.Collapse.{root_left}
+use Rattle.mt_arena.proofs.Collapse.{is_true, root_left}
 use Rattle.mt_arena.proofs.Homes.{forest_set}
 use Rattle.mt_arena.proofs.Steps.{keys_of}
 use Rattle.mt_arena.proofs.SlotPlaces.{was_at, at_still}
@@ -46,17 +46,12 @@ use Rattle.mt_arena.proofs.Guarantees.{PointsSo, guarantee_on}
 use Rattle.mt_arena.proofs.Naming.{names_same, points_each, each_set2}
 use Rattle.mt_arena.proofs.Several.{MayTurn, guarantee_set2}
 use Rattle.mt_arena.proofs.Topping.{guarantee_record}
-use Rattle.mt_arena.proofs.Settling.{NamesNoMore, names_none_more, follows_was, under_was}
+use Rattle.mt_arena.proofs.Settling.{NamesNoMore, names_none_more, follows_was, under_was, settled_same}
 use Rattle.mt_arena.proofs.ContentQuiet.{stands_unlinked, stands_without_slots, stands_tree_left}
 
 -- two links that are one lead to one tree
 pub same_link : {t u : ℕ} → Link t ≡ Link u → t ≡ u
 same_link same = cc
-
--- what is not live is deleted
-gone : (b : Bool) → (b ≡ false → ⊥) → b ≡ true
-gone true live = refl
-gone false live = absurd (live refl)
 
 module _ (v : ArenaView) (room node i u step op : ℕ) (sound : ArenaInvariant v.nodes v.trees v.retired room) (may : MayDropLayer v node i u op) where
   abbrev xs : List NodeView
@@ -343,7 +338,7 @@ module _ (v : ArenaView) (room node i u step op : ℕ) (sound : ArenaInvariant v
     | inl k_node ↦ rw (k_node, new_node) (λ in_tree. absurd (away in_tree))
     | inr nn ↦ elim (cases_eq k r) [
       | inl k_root ↦ rw (k_root, new_root) (λ in_tree. inl refl)
-      | inr nr ↦ rw (new_other k nn nr) (λ in_tree. inl (gone (at v k).version.deleted (λ live. nr (may.alone k (omega (arith, lk, size)) in_tree live))))
+      | inr nr ↦ rw (new_other k nn nr) (λ in_tree. inl (is_true (at v k).version.deleted (λ live. nr (may.alone k (omega (arith, lk, size)) in_tree live))))
     ]
   ]
 
@@ -392,6 +387,9 @@ module _ (v : ArenaView) (room node i u step op : ℕ) (sound : ArenaInvariant v
     stable = settled.stable;
     rooted = λ live. absurd (cc);
   })
+
+  pub others_dropped_layer : (k : ℕ) → k ≢ node → k ≢ r → IsSettled xs k (at v k) → IsSettled new k (node_at new k)
+  others_dropped_layer k nn nr = settled_same xs new size each k (new_other k nn nr)
 
 -- the tree that was read in the slot is the one
 pub the_link : (v : ArenaView) (node i u t op : ℕ) → (slot_at (at v node) i).held ≡ Link t → MayDropLayer v node i u op → MayDropLayer v node i t op

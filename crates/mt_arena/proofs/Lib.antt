@@ -59,3 +59,4 @@ pub mod DroppingLayer
 pub mod SlotPlaces
 pub mod Settling
 pub mod Alone
+pub mod ChildPlace

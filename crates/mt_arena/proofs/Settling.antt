@@ -40,6 +40,17 @@ module _ (xs ys : List NodeView) (size : length ys ≡ length xs) (each : (k : �
       let lt : k < length xs = omega (arith, is.0, size) in
       (lt, (each k lt).parent i is.1, (each k lt).live is.2)
 
+  -- nothing comes to lag behind a node that stays as it is
+  pub settled_same : (i : ℕ) → node_at ys i ≡ node_at xs i → IsSettled xs i (node_at xs i) → IsSettled ys i (node_at ys i)
+  settled_same i same settled = subst (λ (x : NodeView). IsSettled ys i x) (sym same) (record {
+    previous = λ k lt e live. let was = follows_was i k (lt, e, live) in settled.previous k was.0 was.1 was.2;
+    previous_live = λ k lt e live. let was = follows_was i k (lt, e, live) in settled.previous_live k was.0 was.1 was.2;
+    parent = λ k lt e live. let was = under_was i k (lt, e, live) in settled.parent k was.0 was.1 was.2;
+    reach = settled.reach;
+    stable = settled.stable;
+    rooted = settled.rooted;
+  })
+
 -- another child stays one as a child is taken out
 pub child_less : (p : NodeView) (a k : ℕ) → a < length p.children → get_or p.children a 0 ≢ k → HasChild p k → HasChild (without_child (inserting p) a) k
 child_less p a k within other c =

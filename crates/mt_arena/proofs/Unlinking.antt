@@ -1,10 +1,9 @@
 -- The whole invariant, the guarantee and the contents where a border node is taken out, and what lags behind its neighbours: for `unlink`.
-use Rattle.std.proofs.Common.{◌≡◌, ◌≢◌, ℕ, ◌+◌, ◌-◌, ◌<◌, List, [], length, set, false, None, refl, sym, ap, subst, ◌∙◌, arith}
+use Rattle.std.proofs.Common.{◌≡◌, ◌≢◌, ℕ, ◌-◌, ◌<◌, List, [], length, set, false, None, refl, sym, ap, subst, ◌∙◌, arith}
 use Rattle.std.proofs.lemmas.List.{length-set, set-set}
 use Rattle.std.proofs.lemmas.Option.{same_Some}
 use Rattle.mt_interior.specs.Fences.{end_of}
 use Rattle.mt_interior.specs.Places.{place_of}
-use Rattle.mt_interior.proofs.PlaceLemmas.{place_of-between}
 use Rattle.mt_arena.specs.declared.tree.Standing.TheVariants.{Dead}
 use Rattle.mt_arena.specs.NodeView.{NodeView, node_at}
 use Rattle.mt_arena.specs.Nodes.{AreNodes, IsChild, HasChild, HasRange}
@@ -22,7 +21,7 @@ use Rattle.mt_arena.specs.Lags.{IsFollowedBy}
 use Rattle.mt_arena.specs.Removals.{MayUnlink, nodes_without, without_node, with_retired}
 use Rattle.mt_arena.proofs.Pairs.{here, there}
 use Rattle.mt_arena.proofs.Quiet.{nodes_inserting}
-use Rattle.mt_arena.proofs.Ranges.{not_empty, length_bounds, separators_rise}
+use Rattle.mt_arena.proofs.ChildPlace.{child_place}
 use Rattle.mt_arena.proofs.Ranged.{ranged_marked}
 use Rattle.mt_arena.proofs.RangedEdits.{ranged_unlinked}
 use Rattle.mt_arena.proofs.Unlink.{nodes_unlinked}
@@ -37,7 +36,7 @@ use Rattle.mt_arena.proofs.HeldChanges.{changes_joined, changes_without_child}
 use Rattle.mt_arena.proofs.Guarantees.{changes_on, PointsSo}
 use Rattle.mt_arena.proofs.Naming.{names_same, points_each, each_set3}
 use Rattle.mt_arena.proofs.Several.{MayTurn, guarantee_set3}
-use Rattle.mt_arena.proofs.Settling.{NamesNoMore, names_none_more, follows_was, under_was, child_less}
+use Rattle.mt_arena.proofs.Settling.{NamesNoMore, names_none_more, follows_was, under_was, settled_same, child_less}
 use Rattle.mt_arena.proofs.ContentQuiet.{stands_unchanged, stands_without_slots}
 
 module _ (v : ArenaView) (room parent left node step op : ℕ) (sound : ArenaInvariant v.nodes v.trees v.retired room) (may : MayUnlink v parent left node op) where
@@ -141,14 +140,7 @@ module _ (v : ArenaView) (room parent left node step op : ℕ) (sound : ArenaInv
 
   -- the removed node's place among the children is where its low fence belongs
   pub place_is : place_of p.separators x.low ≡ a
-  place_is =
-      let inside = may.beside.in_range in
-      let some = not_empty p.children a inside in
-      let rise = (nodes.each parent lq).children.rise some in
-      let size = length_bounds p in
-      let between = (nodes.each parent lq).children.interior.between in
-      place_of-between p.low p.separators p.high x.low a (separators_rise p.low p.separators p.high rise) (omega (arith, between, inside))
-      (omega (arith, child.low), omega (arith, child.low, rise a (a + 1) (omega arith) (omega (arith, size, between, inside))))
+  place_is = child_place xs parent node a nodes lq lj may.beside.live may.beside.in_range may.beside.right_is
 
   -- what the other nodes were, and the changed ones before
   at_node : node_at ys node ≡ x
@@ -337,3 +329,7 @@ module _ (v : ArenaView) (room parent left node step op : ℕ) (sound : ArenaInv
 
   pub node_unlinked : IsSettled xs node x → IsFollowedBy (nodes_without xs parent left node) node (node_at (nodes_without xs parent left node) node) x.next
   node_unlinked settled = subst (λ (ns : List NodeView). IsFollowedBy ns node (node_at ns node) x.next) (sym new_is) (node_followed settled)
+
+  pub others_unlinked : (k : ℕ) → k ≢ parent → k ≢ left → k ≢ node → IsSettled xs k (at v k) → IsSettled (nodes_without xs parent left node) k (node_at (nodes_without xs parent left node) k)
+  others_unlinked k np nl nn settled = subst (λ (ns : List NodeView). IsSettled ns k (node_at ns k)) (sym new_is)
+      (settled_same xs new size each k (there us parent k q np ∙ there ys node k w nn ∙ there xs left k y nl) settled)

@@ -77,8 +77,8 @@ without_root v root child step = record v {
 }
 
 -- node r is the only live node of tree u
-abbrev pub IsAlone : ArenaView → ℕ → ℕ → Type 0
-IsAlone v u r = (k : ℕ) → k < length v.nodes → (at v k).tree ≡ u → (at v k).version.deleted ≡ false → k ≡ r
+abbrev pub IsOnlyLiveNode : ArenaView → ℕ → ℕ → Type 0
+IsOnlyLiveNode v u r = (k : ℕ) → k < length v.nodes → (at v k).tree ≡ u → (at v k).version.deleted ≡ false → k ≡ r
 
 -- the operation may take out the tree u to which slot i of a border node leads: it holds the node, and the tree's only live node, which is
 -- empty
@@ -90,7 +90,7 @@ pub record MayDropLayer (v : ArenaView) (node i u op : ℕ) : Type 0 where
   pub link : (slot_at (at v node) i).held ≡ Link u
   pub root_held : IsHeld v (tree_at v.trees u).root op
   pub empty : (at v (tree_at v.trees u).root).slots ≡ []
-  pub alone : IsAlone v u (tree_at v.trees u).root
+  pub alone : IsOnlyLiveNode v u (tree_at v.trees u).root
 
 -- the nodes without the link of a slot, and without the root below it
 abbrev pub nodes_above : List NodeView → ℕ → ℕ → ℕ → List NodeView

@@ -1,7 +1,7 @@
 //! What follows from the facts of nodes, trees and links, and what steps make of the contents. Each
 //! is a contract alone: no code runs.
 
-ghost use Rattle.std.specs.Prelude.{◌≡◌, ◌≢◌, ℕ, ◌+◌, ◌*◌, ◌<◌, ◌≤◌, ◌⊎◌, true, false, List, [], ◌∷◌, ◌++◌, length, take, slice_set, Option, Some, None};
+ghost use Rattle.std.specs.Prelude.{◌≡◌, ◌≢◌, ℕ, ◌+◌, ◌*◌, ◌<◌, ◌≤◌, ◌⊎◌, true, false, List, [], ◌∷◌, ◌++◌, length, take, slice_index, slice_set, Option, Some, None};
 ghost use Rattle.std.specs.List.{remove};
 ghost use Rattle.std.specs.FinMap as pairs;
 ghost use Rattle.mt_slices.specs.Keys.{IsStoredKey};
@@ -23,11 +23,14 @@ ghost use Rattle.mt_arena.specs.Nodes.{Holds, HasRange};
 ghost use Rattle.mt_arena.specs.Forests.{tree_at};
 ghost use Rattle.mt_arena.specs.Layers.{slot_at};
 ghost use Rattle.mt_arena.specs.Contents.{content};
-ghost use Rattle.mt_arena.specs.Arena.{IsArena};
+ghost use Rattle.mt_arena.specs.Arena.{IsArena, ArenaView};
 ghost use Rattle.mt_arena.specs.Guarantee.{NodesGuarantee, PointsOnly};
 ghost use Rattle.mt_arena.specs.Settled.{IsSettled};
 ghost use Rattle.mt_arena.specs.Lags.{IsFollowedBy};
-ghost use Rattle.mt_arena.specs.Edits.{pointed};
+ghost use Rattle.mt_arena.specs.Edits.{pointed, locked};
+ghost use Rattle.mt_arena.specs.Accesses.{at, with_node};
+ghost use Rattle.mt_arena.specs.Removals.{IsOnlyLiveNode};
+ghost use Rattle.mt_interior.specs.Places.{place_of};
 ghost use Rattle.mt_arena.specs.Stands.{IsLiveBorder, StandsAt};
 ghost use Rattle.mt_arena.specs.Ways.{LinksOn, BelongsIn, StandsFor, GoesOn, HasSlots, IsUnfilled, IsMadeFor, IsFreeRoot};
 
@@ -184,6 +187,20 @@ pub fn alone_in_its_tree()
     ensures { (nodes : List NodeView) (trees : List Tree) (r k : ℕ) → IsArena nodes trees → IsFreeRoot nodes trees r →
         k < length nodes → k ≢ r → (node_at nodes k).tree ≡ (node_at nodes r).tree →
         (node_at nodes k).version.deleted ≡ true }
+{}
+
+/// A child stands in its parent at the place where its low fence belongs among the separators.
+pub fn a_child_stands_where_it_begins()
+    ensures { (nodes : List NodeView) (trees : List Tree) (parent k place : ℕ) → IsArena nodes trees → parent < length nodes → k < length nodes →
+        (node_at nodes parent).version.deleted ≡ false → place < length (node_at nodes parent).children →
+        slice_index (node_at nodes parent).children place ≡ k →
+        place_of (node_at nodes parent).separators (node_at nodes k).low ≡ place }
+{}
+
+/// The only live node of a tree is so as its lock is taken.
+pub fn alone_once_locked()
+    ensures { (v : ArenaView) (r op : ℕ) → IsArena v.nodes v.trees → IsFreeRoot v.nodes v.trees r →
+        IsOnlyLiveNode (with_node v r (locked (at v r) op)) (at v r).tree r }
 {}
 
 /// Between a removal and the step by which the node behind names its new neighbour, no more comes to

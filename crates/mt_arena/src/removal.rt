@@ -39,6 +39,8 @@ impl Arena {
         ensures left_unnamed { IsSettled self.old.nodes left (at self.old left) → IsFollowedBy self.new.nodes left (at self.new left) None }
         ensures node_followed { IsSettled self.old.nodes node (at self.old node) →
             IsFollowedBy self.new.nodes node (at self.new node) (at self.old node).next }
+        ensures others_settled { (k : ℕ) → k ≢ parent → k ≢ left → k ≢ node →
+            IsSettled self.old.nodes k (at self.old k) → IsSettled self.new.nodes k (at self.new k) }
     {
         take_out(&mut self.nodes, parent, left, node);
         self.retired.push_reserved(Retired { node, step });
@@ -52,6 +54,7 @@ impl Arena {
         ensures contents { content_of self.new ≡ content_of self.old }
         ensures root_settled { IsSettled self.old.nodes root (at self.old root) → IsSettled self.new.nodes root (at self.new root) }
         ensures child_settled { IsSettled self.old.nodes child (at self.old child) → IsSettled self.new.nodes child (at self.new child) }
+        ensures others_settled { (k : ℕ) → k ≢ root → k ≢ child → IsSettled self.old.nodes k (at self.old k) → IsSettled self.new.nodes k (at self.new k) }
     {
         let tree = self.nodes[root].tree();
         hand_on(&mut self.nodes, root, child);
@@ -70,6 +73,8 @@ impl Arena {
         ensures root_settled { (u : ℕ) → (slot_at (at self.old node) slot).held ≡ Link u →
             let r = (tree_at self.old.trees u).root in
             IsSettled self.old.nodes r (at self.old r) → IsSettled self.new.nodes r (at self.new r) }
+        ensures others_settled { (u k : ℕ) → (slot_at (at self.old node) slot).held ≡ Link u → k ≢ node → k ≢ (tree_at self.old.trees u).root →
+            IsSettled self.old.nodes k (at self.old k) → IsSettled self.new.nodes k (at self.new k) }
     {
         let lower = self.nodes[node].link_at(slot);
         let root = self.trees[lower].root;
@@ -121,7 +126,7 @@ impl Node {
     }
 
     /// The number of the tree to which a slot leads.
-    pub fn link_at(&self, slot: usize) -> usize
+    pub(crate) fn link_at(&self, slot: usize) -> usize
         requires border { self.now.level ≡ 0 }
         requires live { slot < length self.now.slots }
         requires link { IsLink (slot_at self.now slot).held }

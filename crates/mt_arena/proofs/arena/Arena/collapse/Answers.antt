@@ -5,7 +5,7 @@ use Rattle.mt_arena.specs.Accesses.{at, tree_of}
 use Rattle.mt_arena.proofs.Pairs.{read}
 use Rattle.mt_arena.proofs.Topping.{read_tree}
 use Rattle.mt_arena.proofs.Retiring.{retired_few}
-use Rattle.mt_arena.proofs.Collapsing.{apart, ends_nowhere, sound_collapsed, step_collapsed, content_collapsed, child_collapsed, root_collapsed}
+use Rattle.mt_arena.proofs.Collapsing.{apart, ends_nowhere, sound_collapsed, step_collapsed, content_collapsed, child_collapsed, root_collapsed, others_collapsed}
 use Rattle.mt_arena.proofs.arena.Arena.collapse.Goals as goal
 
 pub hand_on-requires-clause-differ : goal.hand_on-requires-clause-differ
@@ -62,3 +62,9 @@ returns-clause-child_settled c =
     let may = rw (← c.self.view_is) at c.requires in
     let v : ArenaView = record { nodes = c.self.inside.nodes.items; trees = c.self.inside.trees.items; retired = c.self.inside.retired.items } in
     rw (← c.self.view_is, c.hand_on.ensures.nodes) (child_collapsed v _ c.args.root c.args.child c.args.step c.args.operation c.self.invariant may)
+
+pub returns-clause-others_settled : goal.returns-clause-others_settled
+returns-clause-others_settled c =
+    let may = rw (← c.self.view_is) at c.requires in
+    let v : ArenaView = record { nodes = c.self.inside.nodes.items; trees = c.self.inside.trees.items; retired = c.self.inside.retired.items } in
+    rw (← c.self.view_is, c.hand_on.ensures.nodes) (others_collapsed v _ c.args.root c.args.child c.args.step c.args.operation c.self.invariant may)

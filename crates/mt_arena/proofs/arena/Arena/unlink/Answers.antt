@@ -1,7 +1,7 @@
 use Rattle.std.proofs.Common.{arith}
 use Rattle.mt_arena.specs.Arena.{ArenaView}
 use Rattle.mt_arena.proofs.Retiring.{retired_few}
-use Rattle.mt_arena.proofs.Unlinking.{apart_nodes, apart_left, left_border, place_is, sound_unlinked, step_unlinked, content_unlinked, settled_unlinked, left_unlinked, node_unlinked}
+use Rattle.mt_arena.proofs.Unlinking.{apart_nodes, apart_left, left_border, place_is, sound_unlinked, step_unlinked, content_unlinked, settled_unlinked, left_unlinked, node_unlinked, others_unlinked}
 use Rattle.mt_arena.proofs.arena.Arena.unlink.Goals as goal
 
 pub take_out-requires-clause-differ : goal.take_out-requires-clause-differ
@@ -70,3 +70,9 @@ returns-clause-node_followed c =
     let may = rw (← c.self.view_is) at c.requires in
     let v : ArenaView = record { nodes = c.self.inside.nodes.items; trees = c.self.inside.trees.items; retired = c.self.inside.retired.items } in
     rw (← c.self.view_is, c.take_out.ensures) (node_unlinked v _ c.args.parent c.args.left c.args.node c.args.step c.args.operation c.self.invariant may)
+
+pub returns-clause-others_settled : goal.returns-clause-others_settled
+returns-clause-others_settled c =
+    let may = rw (← c.self.view_is) at c.requires in
+    let v : ArenaView = record { nodes = c.self.inside.nodes.items; trees = c.self.inside.trees.items; retired = c.self.inside.retired.items } in
+    rw (← c.self.view_is, c.take_out.ensures) (others_unlinked v _ c.args.parent c.args.left c.args.node c.args.step c.args.operation c.self.invariant may)
