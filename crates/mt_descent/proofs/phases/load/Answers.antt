@@ -1,0 +1,7 @@
+use Rattle.std.proofs.lemmas.Result.{IfOk-weaker}
+use Rattle.mt_descent.proofs.Looks.{kept_loads}
+use Rattle.mt_descent.proofs.phases.load.Goals as goal
+
+pub returns-clause-kept : goal.returns-clause-kept
+returns-clause-kept c past now since = IfOk-weaker c.taken_at.result _ _
+    (λ taken l. kept_loads c.args.arena.now c.args.key.now c.args.walk.now c.taken_at.new.walk past _ c.args.step c.facts.ensures.arena c.requires.kept now since l) c.taken_at.ensures.is
