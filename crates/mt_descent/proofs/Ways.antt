@@ -66,8 +66,8 @@ pub arrived : (v : ArenaView) (past : Past) (key : Bytes) (row : Option Columns)
 arrived v past key row w k seen arena bound over =
     let node = arena.nodes.each k over.near.there in
     arrived_by v past key row (onto w k seen) seen.border w.writes
-    (λ is. record { bound = bound; over = over; border = node.border_level (over.near.was.ages.border ∙ is) })
-    (λ is. record { bound = bound; over = over; interior = node.interior_level (over.near.was.ages.border ∙ is) })
+    (λ is. record { bound = bound; over = over; border = node.kind.border (over.near.was.ages.border ∙ is) })
+    (λ is. record { bound = bound; over = over; interior = node.kind.interior (over.near.was.ages.border ∙ is) })
 
 -- an unmarked root has the whole range
 pub over_root : (v : ArenaView) (t layer : ℕ) (key : Bytes) → IsArena v.nodes v.trees → IsBound v t layer key → (tree_at v.trees t).standing ≢ Dead → IsStable (at v (tree_at v.trees t).root).version
@@ -79,7 +79,7 @@ over_root v t layer key arena bound undead stable =
     let home = arena.forest.homes k t within bound.there in
     let root = home.root_is refl undead in
     let node = arena.nodes.each k within in
-    let end : end_of n.high ≡ end_of None = ap end_of (sym (node.reach_exact stable.1) ∙ root.reach) in
+    let end : end_of n.high ≡ end_of None = ap end_of (sym (node.reach.exact stable.1) ∙ root.reach) in
     let below = slice_of_lt key layer bound.of_tree.stored.are_bytes in
     record {
       near = record {
@@ -88,7 +88,7 @@ over_root v t layer key arena bound undead stable =
         was = seen_now n stable;
         undeleted = root.live;
         from = omega (arith, root.low);
-        peopled = λ inner. node.peopled inner (omega (arith, root.low, end));
+        peopled = λ inner. node.children.peopled inner (omega (arith, root.low, end));
       };
       below = λ stands. omega (arith, end, below);
     }
@@ -105,7 +105,7 @@ has_child count n slice node some = by n.children refl
   where
     by : (xs : List ℕ) → n.children ≡ xs → place_of n.separators slice < length n.children
     by [] e = absurd (some e)
-    by (x ∷ xs) e = omega (arith, place_of-le-length n.separators slice, node.interior.between, ap length e)
+    by (x ∷ xs) e = omega (arith, place_of-le-length n.separators slice, node.children.interior.between, ap length e)
 
 -- an interior node's child is that of its shape
 pub same_child : (n : NodeView) (i : InteriorNode) (slice : ℕ) → n.separators ≡ i.separators → n.children ≡ i.children → slice_index i.children (place_of i.separators slice) ≡ child_for n slice
@@ -117,7 +117,7 @@ kept_picked v key w arena h =
     let node = arena.nodes.each w.place.node h.over.near.there in
     record {
       above = record { bound = h.bound; over = h.over; interior = h.interior };
-      picked = record { there = node.children_there (place_of n.separators (slice_in key w)) (has_child (length v.nodes) n (slice_in key w) node (h.over.near.peopled h.interior)); is = λ stands. refl };
+      picked = record { there = node.names.children (place_of n.separators (slice_in key w)) (has_child (length v.nodes) n (slice_in key w) node (h.over.near.peopled h.interior)); is = λ stands. refl };
     }
 
 -- where the interior node's version stands, the child has the slice
@@ -132,12 +132,12 @@ over_child v key w arena h stands =
     let node = arena.nodes.each k near.there in
     let inside = has_child (length v.nodes) n slice node (near.peopled h.above.interior) in
     let c : IsChild n place m = (arena.nodes.pairs k w.child near.there h.picked.there).child place inside (sym (h.picked.is stands)) stands.in_range.live in
-    let between : IsBetween (bounds n) place slice = between-place n.low n.separators n.high slice place (place_of-parts n.separators slice node.interior.rising) near.from (h.above.over.below stands.in_range) in
+    let between : IsBetween (bounds n) place slice = between-place n.low n.separators n.high slice place (place_of-parts n.separators slice node.children.interior.rising) near.from (h.above.over.below stands.in_range) in
     let child = arena.nodes.each w.child h.picked.there in
     let was = h.child in
     let below : RangeStands m w.child_seen → slice < end_of m.high = λ same.
     let whole = (versions.range_age_tells m.version w.child_seen same.range).1 ∙ was.whole in
-    omega (arith, between.1, c.reach, ap end_of (child.reach_exact whole)) in
+    omega (arith, between.1, c.reach, ap end_of (child.reach.exact whole)) in
     record {
       near = record {
         there = h.picked.there;
@@ -145,7 +145,7 @@ over_child v key w arena h stands =
         was = was;
         undeleted = was_live w.child_seen.deleted m.version.deleted was.ages.deleted c.live;
         from = omega (arith, between.0, c.low);
-        peopled = λ inner. child.peopled inner ((arena.ranged w.child h.picked.there).parent c.knows);
+        peopled = λ inner. child.children.peopled inner ((arena.ranged w.child h.picked.there).parent c.knows);
       };
       below = below;
     }
@@ -165,12 +165,12 @@ next_now v k arena within border stable live =
     let n = at v k in
     let node = arena.nodes.each k within in
     record {
-      there = λ j is. node.next_there j is;
-      tree_is = λ j is. (arena.nodes.pairs k j within (node.next_there j is)).next_tree is;
-      border = λ j is. (arena.nodes.pairs k j within (node.next_there j is)).next_level is ∙ border;
-      after = λ j is. omega (arith, (arena.ranged k within).unmarked stable.1 live, ap end_of ((arena.nodes.pairs k j within (node.next_there j is)).next_follows is));
-      meets = λ j is stands. omega (arith, ap end_of ((arena.nodes.pairs k j within (node.next_there j is)).next_follows is));
-      last = λ none stands. omega (arith, ap end_of (node.ends border ((arena.ranged k within).unmarked stable.1 live) none));
+      there = λ j is. node.names.next j is;
+      tree_is = λ j is. ((arena.nodes.pairs k j within (node.names.next j is)).next is).tree;
+      border = λ j is. ((arena.nodes.pairs k j within (node.names.next j is)).next is).level ∙ border;
+      after = λ j is. omega (arith, (arena.ranged k within).unmarked stable.1 live, ap end_of (((arena.nodes.pairs k j within (node.names.next j is)).next is).meets));
+      meets = λ j is stands. omega (arith, ap end_of (((arena.nodes.pairs k j within (node.names.next j is)).next is).meets));
+      last = λ none stands. omega (arith, ap end_of (node.chain.last border ((arena.ranged k within).unmarked stable.1 live) none));
     }
 
 -- an unmarked border node that is live, behind whose low fence the slice lies, is one from which the walk may go on
@@ -238,7 +238,7 @@ kept_moved_on v past key row w arena h stable = by (at v w.place.node).version.d
 
 -- a node that nobody holds is unmarked
 pub free_stable : (count : ℕ) (n : NodeView) → IsNode count n → n.holder ≡ None → IsStable n.version
-free_stable count n node free = (is_false n.version.inserting (λ e. node.inserting_held e free), is_false n.version.splitting (λ e. node.splitting_held e free))
+free_stable count n node free = (is_false n.version.inserting (λ e. node.lock.inserting e free), is_false n.version.splitting (λ e. node.lock.splitting e free))
   where
     is_false : (b : Bool) → (b ≢ true) → b ≡ false
     is_false true not = absurd (not refl)
