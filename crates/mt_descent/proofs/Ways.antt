@@ -8,7 +8,7 @@ use Rattle.mt_version.specs.Changes.{IsStable, SameButLock}
 use Rattle.mt_version.proofs.CallerLemmas as versions
 use Rattle.mt_interior.specs.Node.{InteriorNode}
 use Rattle.mt_interior.specs.Places.{place_of}
-use Rattle.mt_interior.specs.Fences.{end_of, IsBetween}
+use Rattle.mt_interior.specs.Fences.{end_of, IsWithinBounds}
 use Rattle.mt_interior.proofs.PlaceLemmas.{place_of-parts, between-place}
 use Rattle.mt_interior.proofs.CallerLemmas.{place_of-le-length}
 use Rattle.mt_slices.proofs.Bytes.{AreBytes, bytes-drop}
@@ -132,7 +132,7 @@ over_child v key w arena h stands =
     let node = arena.nodes.each k near.there in
     let inside = has_child (length v.nodes) n slice node (near.peopled h.above.interior) in
     let c : IsChild n place m = (arena.nodes.pairs k w.child near.there h.picked.there).child place inside (sym (h.picked.is stands)) stands.in_range.live in
-    let between : IsBetween (bounds n) place slice = between-place n.low n.separators n.high slice place (place_of-parts n.separators slice node.children.interior.rising) near.from (h.above.over.below stands.in_range) in
+    let between : IsWithinBounds (bounds n) place slice = between-place n.low n.separators n.high slice place (place_of-parts n.separators slice node.children.interior.rising) near.from (h.above.over.below stands.in_range) in
     let child = arena.nodes.each w.child h.picked.there in
     let was = h.child in
     let below : RangeStands m w.child_seen → slice < end_of m.high = λ same.
