@@ -32,8 +32,8 @@ use Rattle.mt_descent.specs.declared.walk.Taken.{Taken}
 use Rattle.mt_descent.specs.declared.walk.Taken.TheVariants as takens
 use Rattle.mt_descent.specs.Seen.{RangeStands, Stands}
 use Rattle.mt_descent.specs.Pasts.{Past, IsNow}
-use Rattle.mt_descent.specs.Kept.{IsBound, IsAtBorder, IsInSlot, IsAtLoad, Had, IsKept}
-use Rattle.mt_descent.specs.Moves.{FindsIn, searched, loaded, TakesFrom, Loads}
+use Rattle.mt_descent.specs.Kept.{GoesThrough, IsAtBorder, IsInSlot, IsAtLoad, Had, IsKept}
+use Rattle.mt_descent.specs.Moves.{FindsIn, after_search, after_load, TakesFrom, Loads}
 use Rattle.mt_descent.proofs.Ways.{live_tree}
 
 -- what a border node finds, its shape finds
@@ -56,18 +56,18 @@ module _ (v : ArenaView) (key : Bytes) (w : Walk) (arena : IsArena v.nodes v.tre
   -- as long as the range stands, the key belongs here
   pub belongs : RangeStands n w.place.seen → BelongsIn v.nodes v.trees key w.layer w.place.node
   belongs stands =
-      let near = h.over.near in
+      let remembered = h.covers.remembered in
       record {
-        border = record { there = near.there; live = stands.live; level = h.border; tree_is = refl };
-        tree_live = ap (λ t. (tree_at v.trees t).standing) near.tree_is ∙ live_tree v w.place.tree w.layer w.place.node key arena h.bound near.there near.tree_is stands.live;
-        of_tree = rw near.tree_is h.bound.of_tree;
-        begun = h.bound.begun;
-        holds = (near.from, h.over.below stands);
+        border = record { there = remembered.there; live = stands.live; level = h.border; tree_is = refl };
+        tree_live = ap (λ t. (tree_at v.trees t).standing) remembered.tree_is ∙ live_tree v w.place.tree w.layer w.place.node key arena h.through remembered.there remembered.tree_is stands.live;
+        of_tree = rw remembered.tree_is h.through.of_tree;
+        begun = h.through.begun;
+        holds = (remembered.from, h.covers.below stands);
       }
 
   stands_at : (slot : ℕ) (kind : FoundKind) → RangeStands n w.place.seen → IsInSlot n slot key w.layer kind → StandsAt v.nodes n.tree (slice_of key w.layer) (mark_of key w.layer) w.place.node slot
   stands_at slot kind stands f = record {
-    border = record { there = h.over.near.there; live = stands.live; level = h.border; tree_is = refl };
+    border = record { there = h.covers.remembered.there; live = stands.live; level = h.border; tree_is = refl };
     in_range = f.in_range;
     slice_is = f.slice_is;
     mark_is = f.mark_is;
@@ -80,21 +80,21 @@ module _ (v : ArenaView) (key : Bytes) (w : Walk) (arena : IsArena v.nodes v.tre
   no_other slot None stands f is some = absurd some
   no_other slot (Some other) stands f is some = none_beside v.nodes v.trees arena (begun v.nodes v.trees arena.forest) key w.layer w.place.node (belongs stands) slot other (stands_at slot OtherLong stands f) is some
 
-  pub kept_searched : (past : Past) (row : Option Columns) (step : ℕ) (f : Find) → IsNow past step v → w.first ≤ step → FindsIn n key w.layer f → IsKept v past key row (searched f w step)
+  pub kept_searched : (past : Past) (row : Option Columns) (step : ℕ) (f : Find) → IsNow past step v → w.first ≤ step → FindsIn n key w.layer f → IsKept v past key row (after_search f w step)
   kept_searched past row step finds.Missing now since missing = record {
-    at_border = record { bound = h.bound; over = h.over; border = h.border };
+    at_border = record { through = h.through; covers = h.covers; border = h.border };
     taken = λ stands. had_now past step None now since (none_elsewhere v.nodes v.trees arena (begun v.nodes v.trees arena.forest) key w.layer w.place.node (belongs stands) missing);
   }
   kept_searched past row step (finds.Slot slot OtherLong) now since f = record {
-    at_border = record { bound = h.bound; over = h.over; border = h.border };
+    at_border = record { through = h.through; covers = h.covers; border = h.border };
     taken = λ stands. had_now past step None now since (no_other slot (pair_of (slot_at n slot).held) stands f refl f.kind_is.1);
   }
   kept_searched past row step (finds.Slot slot ThisKey) now since f = record {
-    at_border = record { bound = h.bound; over = h.over; border = h.border };
+    at_border = record { through = h.through; covers = h.covers; border = h.border };
     found = λ stands. record { kind = ThisKey; in_slot = f; leads = λ e. cc };
   }
   kept_searched past row step (finds.Slot slot ToTree) now since f = record {
-    at_border = record { bound = h.bound; over = h.over; border = h.border };
+    at_border = record { through = h.through; covers = h.covers; border = h.border };
     found = λ stands. record { kind = ToTree; in_slot = f; leads = λ e. cc };
   }
 
@@ -129,27 +129,27 @@ module _ (v : ArenaView) (key : Bytes) (w : Walk) (arena : IsArena v.nodes v.tre
       }
 
   -- and a link leads on
-  link_now : (u : ℕ) → (slot_at m w.slot).held ≡ helds.Link u → Stands m w.place.seen → IsBound v u (w.layer + 1) key
+  link_now : (u : ℕ) → (slot_at m w.slot).held ≡ helds.Link u → Stands m w.place.seen → GoesThrough v u (w.layer + 1) key
   link_now u is stands =
       let f = h.found stands in
       let g = goes_on v.nodes v.trees key w.layer w.place.node w.slot u arena (belongs v key w arena h.at_border stands.in_range) (stands_at v key w arena h.at_border w.slot f.kind stands.in_range f.in_slot) is in
       record { there = g.there; unmade = λ q making. absurd (let both = sym g.live ∙ making in cc); of_tree = g.of_tree; begun = g.begun }
 
-  pub kept_loaded : (past : Past) (row : Option Columns) (step : ℕ) (taken : Taken) → IsNow past step v → w.first ≤ step → TakesFrom m w.slot row taken → IsKept v past key row (loaded w taken step)
+  pub kept_loaded : (past : Past) (row : Option Columns) (step : ℕ) (taken : Taken) → IsNow past step v → w.first ≤ step → TakesFrom m w.slot row taken → IsKept v past key row (after_load w taken step)
   kept_loaded past row step takens.Missing now since t = absurd t
   kept_loaded past row step takens.Row now since t = record {
-    at_border = record { bound = h.at_border.bound; over = h.at_border.over; border = h.at_border.border };
+    at_border = record { through = h.at_border.through; covers = h.at_border.covers; border = h.at_border.border };
     taken = λ stands. (t.1.row, t.3, had_now v key w arena h.at_border past step row now since (row_now t.1 t.2 stands ∙ sym t.3));
   }
   kept_loaded past row step (takens.Link u) now since t = record {
-    at_border = record { bound = h.at_border.bound; over = h.at_border.over; border = h.at_border.border };
+    at_border = record { through = h.at_border.through; covers = h.at_border.covers; border = h.at_border.border };
     taken = λ stands. link_now u t.1 stands;
   }
   kept_loaded past row step takens.Nothing now since t = record {
-    at_border = record { bound = h.at_border.bound; over = h.at_border.over; border = h.at_border.border };
+    at_border = record { through = h.at_border.through; covers = h.at_border.covers; border = h.at_border.border };
     taken = λ stands. t.0 (h.found stands).in_slot.in_range;
   }
 
 -- what is kept, from what a load tells
-pub kept_loads : (v : ArenaView) (key : Bytes) (w after : Walk) (past : Past) (row : Option Columns) (step : ℕ) → IsArena v.nodes v.trees → IsAtLoad v key w → IsNow past step v → w.first ≤ step → Loads (at v w.place.node) step w after row → IsKept v past key row after
+pub kept_loads : (v : ArenaView) (key : Bytes) (w after : Walk) (past : Past) (row : Option Columns) (step : ℕ) → IsArena v.nodes v.trees → IsAtLoad v key w → IsNow past step v → w.first ≤ step → Loads (at v w.place.node) w.slot step w after row → IsKept v past key row after
 kept_loads v key w after past row step arena h now since l = subst (λ (x : Walk). IsKept v past key row x) (sym l.is) (kept_loaded v key w arena h past row step after.taken now since l.takes)

@@ -25,9 +25,9 @@ use Rattle.mt_descent.specs.declared.walk.Phase.TheVariants.{Enter, Pick, Child,
 use Rattle.mt_descent.specs.declared.walk.Taken.{Taken}
 use Rattle.mt_descent.specs.declared.walk.Taken.TheVariants.{Missing, Row, Link, Nothing}
 use Rattle.mt_descent.specs.declared.walk.Walk.{Walk}
-use Rattle.mt_descent.specs.Seen.{RangeStands, Stands, WasSeen, IsNear, IsOver, child_for, IsPicked, HasNext}
-use Rattle.mt_descent.specs.Pasts.{Past, Grows}
-use Rattle.mt_descent.specs.Kept.{IsBound, slice_in, IsAtPick, IsAtBorder, IsInSlot, HasSlot, Had, IsTaken, IsAnswered, IsAtJudge, KeptAt}
+use Rattle.mt_descent.specs.Seen.{RangeStands, Stands, WasSeen, IsRemembered, Covers, child_for, IsPicked, HasNext}
+use Rattle.mt_descent.specs.Pasts.{Past, ExtendsPast}
+use Rattle.mt_descent.specs.Kept.{GoesThrough, slice_in, IsAtPick, IsAtBorder, IsInSlot, HasSlot, Had, TakenHolds, TakenWasRight, IsAtJudge, KeptAt}
 
 -- a node that is live now was live
 was_live : (a b : Bool) → (a ≡ true → b ≡ true) → b ≡ false → a ≡ false
@@ -86,9 +86,9 @@ unmade_stays op tree after c unmade (Made by) is q e = unmade by is
 unmade_stays op tree after c unmade Live is q e = c.live is q e
 unmade_stays op tree after c unmade Dead is q e = unmade q (ap (λ (t : Tree). t.standing) (sym (c.dead is)) ∙ e)
 
-module _ (op : ℕ) (old new : ArenaView) (before after : Past) (e : NodesGuarantee op old.nodes new.nodes old.trees new.trees) (g : Grows before after) where
-  bound_stays : (t layer : ℕ) (key : Bytes) → IsBound old t layer key → IsBound new t layer key
-  bound_stays t layer key h =
+module _ (op : ℕ) (old new : ArenaView) (before after : Past) (e : NodesGuarantee op old.nodes new.nodes old.trees new.trees) (g : ExtendsPast before after) where
+  through_stays : (t layer : ℕ) (key : Bytes) → GoesThrough old t layer key → GoesThrough new t layer key
+  through_stays t layer key h =
       let c = e.trees t h.there in
       record {
         there = omega (arith, h.there, e.tree_count);
@@ -97,8 +97,8 @@ module _ (op : ℕ) (old new : ArenaView) (before after : Past) (e : NodesGuaran
         begun = h.begun;
       }
 
-  near_stays : (t k : ℕ) (seen : Parts) (slice : ℕ) → IsNear old t k seen slice → IsNear new t k seen slice
-  near_stays t k seen slice h =
+  remembered_stays : (t k : ℕ) (seen : Parts) (slice : ℕ) → IsRemembered old t k seen slice → IsRemembered new t k seen slice
+  remembered_stays t k seen slice h =
       let c = e.nodes k h.there in
       record {
         there = omega (arith, h.there, e.count);
@@ -109,19 +109,19 @@ module _ (op : ℕ) (old new : ArenaView) (before after : Past) (e : NodesGuaran
         peopled = λ inner. c.peopled (h.peopled (omega (arith, inner, c.level)));
       }
 
-  over_stays : (t k : ℕ) (seen : Parts) (slice : ℕ) → IsOver old t k seen slice → IsOver new t k seen slice
-  over_stays t k seen slice h =
-      let c = e.nodes k h.near.there in
+  covers_stays : (t k : ℕ) (seen : Parts) (slice : ℕ) → Covers old t k seen slice → Covers new t k seen slice
+  covers_stays t k seen slice h =
+      let c = e.nodes k h.remembered.there in
       record {
-        near = near_stays t k seen slice h.near;
-        below = λ stands. omega (arith, h.below (range_stood op (at old k) (at new k) c seen h.near.was stands), widens op (at old k) (at new k) c seen h.near.was stands);
+        remembered = remembered_stays t k seen slice h.remembered;
+        below = λ stands. omega (arith, h.below (range_stood op (at old k) (at new k) c seen h.remembered.was stands), widens op (at old k) (at new k) c seen h.remembered.was stands);
       }
 
   pick_stays : (key : Bytes) (w : Walk) → IsAtPick old key w → IsAtPick new key w
   pick_stays key w h = record {
-    bound = bound_stays w.place.tree w.layer key h.bound;
-    over = over_stays w.place.tree w.place.node w.place.seen (slice_in key w) h.over;
-    interior = omega (arith, h.interior, (e.nodes w.place.node h.over.near.there).level);
+    through = through_stays w.place.tree w.layer key h.through;
+    covers = covers_stays w.place.tree w.place.node w.place.seen (slice_in key w) h.covers;
+    interior = omega (arith, h.interior, (e.nodes w.place.node h.covers.remembered.there).level);
   }
 
   picked_stays : (k : ℕ) (seen : Parts) (slice c : ℕ) → k < length old.nodes → WasSeen (at old k) seen → IsPicked old k seen slice c → IsPicked new k seen slice c
@@ -137,20 +137,20 @@ module _ (op : ℕ) (old new : ArenaView) (before after : Past) (e : NodesGuaran
 
   pub border_stays : (key : Bytes) (w : Walk) → IsAtBorder old key w → IsAtBorder new key w
   border_stays key w h = record {
-    bound = bound_stays w.place.tree w.layer key h.bound;
-    over = over_stays w.place.tree w.place.node w.place.seen (slice_in key w) h.over;
-    border = (e.nodes w.place.node h.over.near.there).level ∙ h.border;
+    through = through_stays w.place.tree w.layer key h.through;
+    covers = covers_stays w.place.tree w.place.node w.place.seen (slice_in key w) h.covers;
+    border = (e.nodes w.place.node h.covers.remembered.there).level ∙ h.border;
   }
 
   had_stays : (first step : ℕ) (key : Bytes) (row : Option Columns) → Had before first step key row → Had after first step key row
   had_stays first step key row h = record { since = h.since; made = omega (arith, h.made, g.steps); had = ap (λ m. get m (owned key)) (g.same step h.made) ∙ h.had }
 
-  taken_stays : (key : Bytes) (row : Option Columns) (w : Walk) (taken : Taken) → w.place.node < length old.nodes → WasSeen (at old w.place.node) w.place.seen → IsTaken old before key row w taken → IsTaken new after key row w taken
+  taken_stays : (key : Bytes) (row : Option Columns) (w : Walk) (taken : Taken) → w.place.node < length old.nodes → WasSeen (at old w.place.node) w.place.seen → TakenHolds old before key row w taken → TakenHolds new after key row w taken
   taken_stays key row w Missing within was h = λ stands. had_stays w.first w.looked key None (h (range_stood op (at old w.place.node) (at new w.place.node) (e.nodes w.place.node within) w.place.seen was stands))
   taken_stays key row w Row within was h = λ stands.
       let f = h (stood op (at old w.place.node) (at new w.place.node) (e.nodes w.place.node within) w.place.seen was stands) in
       (f.0, f.1, had_stays w.first w.looked key row f.2)
-  taken_stays key row w (Link u) within was h = λ stands. bound_stays u (w.layer + 1) key (h (stood op (at old w.place.node) (at new w.place.node) (e.nodes w.place.node within) w.place.seen was stands))
+  taken_stays key row w (Link u) within was h = λ stands. through_stays u (w.layer + 1) key (h (stood op (at old w.place.node) (at new w.place.node) (e.nodes w.place.node within) w.place.seen was stands))
   taken_stays key row w Nothing within was h = λ stands. h (stood op (at old w.place.node) (at new w.place.node) (e.nodes w.place.node within) w.place.seen was stands)
 
   next_stays : (t k : ℕ) (seen : Parts) (next : Option ℕ) → k < length old.nodes → WasSeen (at old k) seen → HasNext old t k seen next → HasNext new t k seen next
@@ -165,7 +165,7 @@ module _ (op : ℕ) (old new : ArenaView) (before after : Past) (e : NodesGuaran
         last = λ none stands. omega (arith, h.last none (range_stood op (at old k) (at new k) c seen was stands), widens op (at old k) (at new k) c seen was stands);
       }
 
-  answered_stays : (key : Bytes) (row : Option Columns) (w : Walk) (taken : Taken) → IsAnswered before key row w taken → IsAnswered after key row w taken
+  answered_stays : (key : Bytes) (row : Option Columns) (w : Walk) (taken : Taken) → TakenWasRight before key row w taken → TakenWasRight after key row w taken
   answered_stays key row w Missing h = had_stays w.first w.looked key None h
   answered_stays key row w Row h = (h.0, h.1, had_stays w.first w.looked key row h.2)
   answered_stays key row w (Link u) h = absurd h
@@ -173,22 +173,22 @@ module _ (op : ℕ) (old new : ArenaView) (before after : Past) (e : NodesGuaran
 
   -- the rely
   pub kept_stays : (key : Bytes) (row : Option Columns) (w : Walk) (phase : Phase) → KeptAt phase old before key row w → KeptAt phase new after key row w
-  kept_stays key row w Enter h = bound_stays w.place.tree w.layer key h
+  kept_stays key row w Enter h = through_stays w.place.tree w.layer key h
   kept_stays key row w Pick h = pick_stays key w h
   kept_stays key row w Child h = record {
     above = pick_stays key w h.above;
-    picked = picked_stays w.place.node w.place.seen (slice_in key w) w.child h.above.over.near.there h.above.over.near.was h.picked;
+    picked = picked_stays w.place.node w.place.seen (slice_in key w) w.child h.above.covers.remembered.there h.above.covers.remembered.was h.picked;
   }
   kept_stays key row w Verify h = record {
     above = pick_stays key w h.above;
-    picked = picked_stays w.place.node w.place.seen (slice_in key w) w.child h.above.over.near.there h.above.over.near.was h.picked;
+    picked = picked_stays w.place.node w.place.seen (slice_in key w) w.child h.above.covers.remembered.there h.above.covers.remembered.was h.picked;
     child = seen_stays op (at old w.child) (at new w.child) (e.nodes w.child h.picked.there) w.child_seen h.child;
   }
   kept_stays key row w Search h = border_stays key w h
   kept_stays key row w Load h =
       let k = w.place.node in
-      let within = h.at_border.over.near.there in
-      let was = h.at_border.over.near.was in
+      let within = h.at_border.covers.remembered.there in
+      let was = h.at_border.covers.remembered.was in
       let c = e.nodes k within in
       record {
         at_border = border_stays key w h.at_border;
@@ -197,13 +197,13 @@ module _ (op : ℕ) (old new : ArenaView) (before after : Past) (e : NodesGuaran
       }
   kept_stays key row w Confirm h = record {
     at_border = border_stays key w h.at_border;
-    taken = taken_stays key row w w.taken h.at_border.over.near.there h.at_border.over.near.was h.taken;
+    taken = taken_stays key row w w.taken h.at_border.covers.remembered.there h.at_border.covers.remembered.was h.taken;
   }
   kept_stays key row w Forward h = record {
-    bound = bound_stays w.place.tree w.layer key h.bound;
-    near = near_stays w.place.tree w.place.node w.place.seen (slice_in key w) h.near;
-    border = (e.nodes w.place.node h.near.there).level ∙ h.border;
-    next = next_stays w.place.tree w.place.node w.place.seen w.next h.near.there h.near.was h.next;
+    through = through_stays w.place.tree w.layer key h.through;
+    remembered = remembered_stays w.place.tree w.place.node w.place.seen (slice_in key w) h.remembered;
+    border = (e.nodes w.place.node h.remembered.there).level ∙ h.border;
+    next = next_stays w.place.tree w.place.node w.place.seen w.next h.remembered.there h.remembered.was h.next;
   }
   kept_stays key row w Lock h = border_stays key w h
   kept_stays key row w Judge h = tt

@@ -24,10 +24,10 @@ use Rattle.mt_arena.specs.Arena.{ArenaView, IsArena}
 use Rattle.mt_arena.specs.Accesses.{at}
 use Rattle.mt_descent.specs.declared.walk.Walk.{Walk}
 use Rattle.mt_descent.specs.declared.walk.Phase.TheVariants.{Forward}
-use Rattle.mt_descent.specs.Seen.{RangeStands, Stands, WasSeen, IsOver, child_for, HasNext}
+use Rattle.mt_descent.specs.Seen.{RangeStands, Stands, WasSeen, Covers, child_for, HasNext}
 use Rattle.mt_descent.specs.Pasts.{Past}
-use Rattle.mt_descent.specs.Kept.{IsBound, slice_in, IsAtPick, IsAtChild, IsAtVerify, IsAtBorder, IsAtForward, KeptAt, IsKept}
-use Rattle.mt_descent.specs.Moves.{arrival, arrival_at, onto, again, picked, moved_on, here, there, forwarded}
+use Rattle.mt_descent.specs.Kept.{GoesThrough, slice_in, IsAtPick, IsAtChild, IsAtVerify, IsAtBorder, IsAtForward, KeptAt, IsKept}
+use Rattle.mt_descent.specs.Moves.{arrival, arrival_at, walk_onto, walk_anew, after_pick, after_change, walk_here, walk_to_next, after_forward}
 
 -- a slice fits 64 bits
 slice_lt : (xs : Bytes) → AreBytes xs → slice_at xs < 2 ^ 64
@@ -47,13 +47,13 @@ same_stands n seen undeleted same =
     record { in_range = record { live = ap (λ (p : Parts). p.deleted) same ∙ undeleted; range = ages.0 }; insertion = ages.1 }
 
 -- a live node of a tree that the walk may be in is of a live tree
-pub live_tree : (v : ArenaView) (t layer k : ℕ) (key : Bytes) → IsArena v.nodes v.trees → IsBound v t layer key → k < length v.nodes → (at v k).tree ≡ t → (at v k).version.deleted ≡ false → (tree_at v.trees t).standing ≡ Live
-live_tree v t layer k key arena bound within is live = by (tree_at v.trees t).standing refl
+pub live_tree : (v : ArenaView) (t layer k : ℕ) (key : Bytes) → IsArena v.nodes v.trees → GoesThrough v t layer key → k < length v.nodes → (at v k).tree ≡ t → (at v k).version.deleted ≡ false → (tree_at v.trees t).standing ≡ Live
+live_tree v t layer k key arena through within is live = by (tree_at v.trees t).standing refl
   where
     by : (s : Standing) → (tree_at v.trees t).standing ≡ s → (tree_at v.trees t).standing ≡ Live
-    by (Made q) e = absurd (bound.unmade q e)
+    by (Made q) e = absurd (through.unmade q e)
     by Live e = e
-    by Dead e = absurd ((arena.forest.homes k t within bound.there).standing is live e)
+    by Dead e = absurd ((arena.forest.homes k t within through.there).standing is live e)
 
 -- a walk at a node of either kind
 arrived_by : (v : ArenaView) (past : Past) (key : Bytes) (row : Option Columns) (w : Walk) (border writes : Bool) → (border ≡ true → IsAtBorder v key w) → (border ≡ false → IsAtPick v key w) → KeptAt (arrival_at border writes) v past key row w
@@ -62,27 +62,27 @@ arrived_by v past key row w true false f g = f refl
 arrived_by v past key row w false true f g = g refl
 arrived_by v past key row w false false f g = g refl
 
-pub arrived : (v : ArenaView) (past : Past) (key : Bytes) (row : Option Columns) (w : Walk) (k : ℕ) (seen : Parts) → IsArena v.nodes v.trees → IsBound v w.place.tree w.layer key → IsOver v w.place.tree k seen (slice_in key w) → IsKept v past key row (onto w k seen)
-arrived v past key row w k seen arena bound over =
-    let node = arena.nodes.each k over.near.there in
-    arrived_by v past key row (onto w k seen) seen.border w.writes
-    (λ is. record { bound = bound; over = over; border = node.kind.border (over.near.was.ages.border ∙ is) })
-    (λ is. record { bound = bound; over = over; interior = node.kind.interior (over.near.was.ages.border ∙ is) })
+pub arrived : (v : ArenaView) (past : Past) (key : Bytes) (row : Option Columns) (w : Walk) (k : ℕ) (seen : Parts) → IsArena v.nodes v.trees → GoesThrough v w.place.tree w.layer key → Covers v w.place.tree k seen (slice_in key w) → IsKept v past key row (walk_onto w k seen)
+arrived v past key row w k seen arena through covers =
+    let node = arena.nodes.each k covers.remembered.there in
+    arrived_by v past key row (walk_onto w k seen) seen.border w.writes
+    (λ is. record { through = through; covers = covers; border = node.kind.border (covers.remembered.was.ages.border ∙ is) })
+    (λ is. record { through = through; covers = covers; interior = node.kind.interior (covers.remembered.was.ages.border ∙ is) })
 
 -- an unmarked root has the whole range
-pub over_root : (v : ArenaView) (t layer : ℕ) (key : Bytes) → IsArena v.nodes v.trees → IsBound v t layer key → (tree_at v.trees t).standing ≢ Dead → IsStable (at v (tree_at v.trees t).root).version
-    → IsOver v t (tree_at v.trees t).root (at v (tree_at v.trees t).root).version (slice_of key layer)
-over_root v t layer key arena bound undead stable =
+pub covers_root : (v : ArenaView) (t layer : ℕ) (key : Bytes) → IsArena v.nodes v.trees → GoesThrough v t layer key → (tree_at v.trees t).standing ≢ Dead → IsStable (at v (tree_at v.trees t).root).version
+    → Covers v t (tree_at v.trees t).root (at v (tree_at v.trees t).root).version (slice_of key layer)
+covers_root v t layer key arena through undead stable =
     let k = (tree_at v.trees t).root in
     let n = at v k in
-    let within = (arena.forest.each t bound.there).root_there in
-    let home = arena.forest.homes k t within bound.there in
+    let within = (arena.forest.each t through.there).root_there in
+    let home = arena.forest.homes k t within through.there in
     let root = home.root_is refl undead in
     let node = arena.nodes.each k within in
     let end : end_of n.high ≡ end_of None = ap end_of (sym (node.reach.exact stable.1) ∙ root.reach) in
-    let below = slice_of_lt key layer bound.of_tree.stored.are_bytes in
+    let below = slice_of_lt key layer through.of_tree.stored.are_bytes in
     record {
-      near = record {
+      remembered = record {
         there = within;
         tree_is = home.root_tree refl undead;
         was = seen_now n stable;
@@ -93,11 +93,11 @@ over_root v t layer key arena bound undead stable =
       below = λ stands. omega (arith, end, below);
     }
 
-pub kept_entered : (v : ArenaView) (past : Past) (key : Bytes) (row : Option Columns) (w : Walk) → IsArena v.nodes v.trees → IsBound v w.place.tree w.layer key → (tree_at v.trees w.place.tree).standing ≢ Dead → IsStable (at v (tree_at v.trees w.place.tree).root).version
-    → IsKept v past key row (onto w (tree_at v.trees w.place.tree).root (at v (tree_at v.trees w.place.tree).root).version)
-kept_entered v past key row w arena bound undead stable =
+pub kept_entered : (v : ArenaView) (past : Past) (key : Bytes) (row : Option Columns) (w : Walk) → IsArena v.nodes v.trees → GoesThrough v w.place.tree w.layer key → (tree_at v.trees w.place.tree).standing ≢ Dead → IsStable (at v (tree_at v.trees w.place.tree).root).version
+    → IsKept v past key row (walk_onto w (tree_at v.trees w.place.tree).root (at v (tree_at v.trees w.place.tree).root).version)
+kept_entered v past key row w arena through undead stable =
     let k = (tree_at v.trees w.place.tree).root in
-    arrived v past key row w k (at v k).version arena bound (over_root v w.place.tree w.layer key arena bound undead stable)
+    arrived v past key row w k (at v k).version arena through (covers_root v w.place.tree w.layer key arena through undead stable)
 
 -- the child of an interior node for a slice is there
 has_child : (count : ℕ) (n : NodeView) (slice : ℕ) → IsNode count n → n.children ≢ [] → place_of n.separators slice < length n.children
@@ -111,37 +111,37 @@ has_child count n slice node some = by n.children refl
 pub same_child : (n : NodeView) (i : InteriorNode) (slice : ℕ) → n.separators ≡ i.separators → n.children ≡ i.children → slice_index i.children (place_of i.separators slice) ≡ child_for n slice
 same_child n i slice separators children = rw (separators, children) refl
 
-pub kept_picked : (v : ArenaView) (key : Bytes) (w : Walk) → IsArena v.nodes v.trees → IsAtPick v key w → IsAtChild v key (picked w (child_for (at v w.place.node) (slice_in key w)))
+pub kept_picked : (v : ArenaView) (key : Bytes) (w : Walk) → IsArena v.nodes v.trees → IsAtPick v key w → IsAtChild v key (after_pick w (child_for (at v w.place.node) (slice_in key w)))
 kept_picked v key w arena h =
     let n = at v w.place.node in
-    let node = arena.nodes.each w.place.node h.over.near.there in
+    let node = arena.nodes.each w.place.node h.covers.remembered.there in
     record {
-      above = record { bound = h.bound; over = h.over; interior = h.interior };
-      picked = record { there = node.names.children (place_of n.separators (slice_in key w)) (has_child (length v.nodes) n (slice_in key w) node (h.over.near.peopled h.interior)); is = λ stands. refl };
+      above = record { through = h.through; covers = h.covers; interior = h.interior };
+      picked = record { there = node.names.children (place_of n.separators (slice_in key w)) (has_child (length v.nodes) n (slice_in key w) node (h.covers.remembered.peopled h.interior)); is = λ stands. refl };
     }
 
 -- where the interior node's version stands, the child has the slice
-pub over_child : (v : ArenaView) (key : Bytes) (w : Walk) → IsArena v.nodes v.trees → IsAtVerify v key w → Stands (at v w.place.node) w.place.seen → IsOver v w.place.tree w.child w.child_seen (slice_in key w)
-over_child v key w arena h stands =
+pub covers_child : (v : ArenaView) (key : Bytes) (w : Walk) → IsArena v.nodes v.trees → IsAtVerify v key w → Stands (at v w.place.node) w.place.seen → Covers v w.place.tree w.child w.child_seen (slice_in key w)
+covers_child v key w arena h stands =
     let k = w.place.node in
     let n = at v k in
     let m = at v w.child in
     let slice = slice_in key w in
     let place = place_of n.separators slice in
-    let near = h.above.over.near in
-    let node = arena.nodes.each k near.there in
-    let inside = has_child (length v.nodes) n slice node (near.peopled h.above.interior) in
-    let c : IsChild n place m = (arena.nodes.pairs k w.child near.there h.picked.there).child place inside (sym (h.picked.is stands)) stands.in_range.live in
-    let between : IsWithinBounds (bounds n) place slice = between-place n.low n.separators n.high slice place (place_of-parts n.separators slice node.children.interior.rising) near.from (h.above.over.below stands.in_range) in
+    let remembered = h.above.covers.remembered in
+    let node = arena.nodes.each k remembered.there in
+    let inside = has_child (length v.nodes) n slice node (remembered.peopled h.above.interior) in
+    let c : IsChild n place m = (arena.nodes.pairs k w.child remembered.there h.picked.there).child place inside (sym (h.picked.is stands)) stands.in_range.live in
+    let between : IsWithinBounds (bounds n) place slice = between-place n.low n.separators n.high slice place (place_of-parts n.separators slice node.children.interior.rising) remembered.from (h.above.covers.below stands.in_range) in
     let child = arena.nodes.each w.child h.picked.there in
     let was = h.child in
     let below : RangeStands m w.child_seen → slice < end_of m.high = λ same.
     let whole = (versions.range_age_tells m.version w.child_seen same.range).1 ∙ was.whole in
     omega (arith, between.1, c.reach, ap end_of (child.reach.exact whole)) in
     record {
-      near = record {
+      remembered = record {
         there = h.picked.there;
-        tree_is = c.tree ∙ near.tree_is;
+        tree_is = c.tree ∙ remembered.tree_is;
         was = was;
         undeleted = was_live w.child_seen.deleted m.version.deleted was.ages.deleted c.live;
         from = omega (arith, between.0, c.low);
@@ -154,10 +154,10 @@ over_child v key w arena h stands =
     was_live true b stays live = absurd (let dead = stays refl in cc)
     was_live false b stays live = refl
 
-pub kept_verified : (v : ArenaView) (past : Past) (key : Bytes) (row : Option Columns) (w : Walk) → IsArena v.nodes v.trees → IsAtVerify v key w → SameButLock (at v w.place.node).version w.place.seen → IsKept v past key row (onto w w.child w.child_seen)
+pub kept_verified : (v : ArenaView) (past : Past) (key : Bytes) (row : Option Columns) (w : Walk) → IsArena v.nodes v.trees → IsAtVerify v key w → SameButLock (at v w.place.node).version w.place.seen → IsKept v past key row (walk_onto w w.child w.child_seen)
 kept_verified v past key row w arena h same =
-    arrived v past key row w w.child w.child_seen arena h.above.bound
-    (over_child v key w arena h (same_stands (at v w.place.node) w.place.seen h.above.over.near.undeleted same))
+    arrived v past key row w w.child w.child_seen arena h.above.through
+    (covers_child v key w arena h (same_stands (at v w.place.node) w.place.seen h.above.covers.remembered.undeleted same))
 
 -- what is remembered of an unmarked live border node and its next one
 pub next_now : (v : ArenaView) (k : ℕ) → IsArena v.nodes v.trees → k < length v.nodes → (at v k).level ≡ 0 → IsStable (at v k).version → (at v k).version.deleted ≡ false → HasNext v (at v k).tree k (at v k).version (at v k).next
@@ -174,11 +174,11 @@ next_now v k arena within border stable live =
     }
 
 -- an unmarked border node that is live, behind whose low fence the slice lies, is one from which the walk may go on
-pub kept_there : (v : ArenaView) (key : Bytes) (w : Walk) (j : ℕ) → IsArena v.nodes v.trees → IsBound v w.place.tree w.layer key → j < length v.nodes → (at v j).tree ≡ w.place.tree → (at v j).level ≡ 0 → IsStable (at v j).version → (at v j).version.deleted ≡ false → (at v j).low ≤ slice_in key w
-    → IsAtForward v key (there w j (at v j))
-kept_there v key w j arena bound within is border stable live from = record {
-  bound = bound;
-  near = record {
+pub kept_there : (v : ArenaView) (key : Bytes) (w : Walk) (j : ℕ) → IsArena v.nodes v.trees → GoesThrough v w.place.tree w.layer key → j < length v.nodes → (at v j).tree ≡ w.place.tree → (at v j).level ≡ 0 → IsStable (at v j).version → (at v j).version.deleted ≡ false → (at v j).low ≤ slice_in key w
+    → IsAtForward v key (walk_to_next w j (at v j))
+kept_there v key w j arena through within is border stable live from = record {
+  through = through;
+  remembered = record {
     there = within;
     tree_is = is;
     was = seen_now (at v j) stable;
@@ -191,50 +191,50 @@ kept_there v key w j arena bound within is border stable live from = record {
 }
 
 -- where the slice lies before the next node, or there is none, it lies in this one as long as the range stands
-pub over_here : (v : ArenaView) (key : Bytes) (w : Walk) → IsAtForward v key w → ((j : ℕ) → w.next ≡ Some j → slice_in key w < (at v j).low) → IsAtBorder v key w
-over_here v key w h before = record {
-  bound = h.bound;
-  over = record { near = h.near; below = λ stands. by w.next refl stands };
+pub covers_here : (v : ArenaView) (key : Bytes) (w : Walk) → IsAtForward v key w → ((j : ℕ) → w.next ≡ Some j → slice_in key w < (at v j).low) → IsAtBorder v key w
+covers_here v key w h before = record {
+  through = h.through;
+  covers = record { remembered = h.remembered; below = λ stands. by w.next refl stands };
   border = h.border;
 }
   where
     by : (next : Option ℕ) → w.next ≡ next → RangeStands (at v w.place.node) w.place.seen → slice_in key w < end_of (at v w.place.node).high
-    by None e stands = omega (arith, slice_of_lt key w.layer h.bound.of_tree.stored.are_bytes, h.next.last e stands)
+    by None e stands = omega (arith, slice_of_lt key w.layer h.through.of_tree.stored.are_bytes, h.next.last e stands)
     by (Some j) e stands = omega (arith, before j e, h.next.meets j e stands)
 
 arrives : (v : ArenaView) (past : Past) (key : Bytes) (row : Option Columns) (w : Walk) (writes : Bool) → IsAtBorder v key w → KeptAt (arrival writes) v past key row w
 arrives v past key row w true h = h
 arrives v past key row w false h = h
 
-pub kept_here : (v : ArenaView) (past : Past) (key : Bytes) (row : Option Columns) (w : Walk) → IsAtForward v key w → ((j : ℕ) → w.next ≡ Some j → slice_in key w < (at v j).low) → IsKept v past key row (here w)
+pub kept_here : (v : ArenaView) (past : Past) (key : Bytes) (row : Option Columns) (w : Walk) → IsAtForward v key w → ((j : ℕ) → w.next ≡ Some j → slice_in key w < (at v j).low) → IsKept v past key row (walk_here w)
 kept_here v past key row w h before =
-    let b = over_here v key w h before in
-    arrives v past key row (here w) w.writes record { bound = b.bound; over = b.over; border = b.border }
+    let b = covers_here v key w h before in
+    arrives v past key row (walk_here w) w.writes record { through = b.through; covers = b.covers; border = b.border }
 
-pub kept_last : (v : ArenaView) (past : Past) (key : Bytes) (row : Option Columns) (w : Walk) → IsAtForward v key w → w.next ≡ None → IsKept v past key row (here w)
+pub kept_last : (v : ArenaView) (past : Past) (key : Bytes) (row : Option Columns) (w : Walk) → IsAtForward v key w → w.next ≡ None → IsKept v past key row (walk_here w)
 kept_last v past key row w h none = kept_here v past key row w h (λ j is. absurd (let both = sym none ∙ is in cc))
 
 -- the next node is unmarked: anew, there, or here
-pub kept_forwarded : (v : ArenaView) (past : Past) (key : Bytes) (row : Option Columns) (w : Walk) (j : ℕ) → IsArena v.nodes v.trees → IsAtForward v key w → w.next ≡ Some j → IsStable (at v j).version → IsKept v past key row (forwarded w (slice_in key w) j (at v j))
+pub kept_forwarded : (v : ArenaView) (past : Past) (key : Bytes) (row : Option Columns) (w : Walk) (j : ℕ) → IsArena v.nodes v.trees → IsAtForward v key w → w.next ≡ Some j → IsStable (at v j).version → IsKept v past key row (after_forward w (slice_in key w) j (at v j))
 kept_forwarded v past key row w j arena h is stable = by (at v j).version.deleted refl
   where
-    to : (b : Bool) → nat_le (at v j).low (slice_in key w) ≡ b → (at v j).version.deleted ≡ false → IsKept v past key row (if b then there w j (at v j) else here w)
-    to true e live = kept_there v key w j arena h.bound (h.next.there j is) (h.next.tree_is j is) (h.next.border j is) stable live (leb-true _ _ e)
+    to : (b : Bool) → nat_le (at v j).low (slice_in key w) ≡ b → (at v j).version.deleted ≡ false → IsKept v past key row (if b then walk_to_next w j (at v j) else walk_here w)
+    to true e live = kept_there v key w j arena h.through (h.next.there j is) (h.next.tree_is j is) (h.next.border j is) stable live (leb-true _ _ e)
     to false e live = kept_here v past key row w h (λ i at_i. omega (arith, leb-false (at v j).low (slice_in key w) e, ap (λ k. (at v k).low) (same_Some _ _ (sym at_i ∙ is))))
 
-    by : (b : Bool) → (at v j).version.deleted ≡ b → IsKept v past key row (if b then again w else (if nat_le (at v j).low (slice_in key w) then there w j (at v j) else here w))
-    by true e = record { there = h.bound.there; unmade = h.bound.unmade; of_tree = h.bound.of_tree; begun = h.bound.begun }
+    by : (b : Bool) → (at v j).version.deleted ≡ b → IsKept v past key row (if b then walk_anew w else (if nat_le (at v j).low (slice_in key w) then walk_to_next w j (at v j) else walk_here w))
+    by true e = record { there = h.through.there; unmade = h.through.unmade; of_tree = h.through.of_tree; begun = h.through.begun }
     by false e = to (nat_le (at v j).low (slice_in key w)) refl e
 
 -- the version differs, and the node is unmarked: anew, or to the next one
-pub kept_moved_on : (v : ArenaView) (past : Past) (key : Bytes) (row : Option Columns) (w : Walk) → IsArena v.nodes v.trees → IsAtBorder v key w → IsStable (at v w.place.node).version → IsKept v past key row (moved_on w (at v w.place.node).version (at v w.place.node).next)
+pub kept_moved_on : (v : ArenaView) (past : Past) (key : Bytes) (row : Option Columns) (w : Walk) → IsArena v.nodes v.trees → IsAtBorder v key w → IsStable (at v w.place.node).version → IsKept v past key row (after_change w (at v w.place.node).version (at v w.place.node).next)
 kept_moved_on v past key row w arena h stable = by (at v w.place.node).version.deleted refl
   where
-    by : (b : Bool) → (at v w.place.node).version.deleted ≡ b → IsKept v past key row (if b then again w else record w { place = record w.place { seen = (at v w.place.node).version }; next = (at v w.place.node).next; phase = Forward })
-    by true e = record { there = h.bound.there; unmade = h.bound.unmade; of_tree = h.bound.of_tree; begun = h.bound.begun }
+    by : (b : Bool) → (at v w.place.node).version.deleted ≡ b → IsKept v past key row (if b then walk_anew w else record w { place = record w.place { seen = (at v w.place.node).version }; next = (at v w.place.node).next; phase = Forward })
+    by true e = record { there = h.through.there; unmade = h.through.unmade; of_tree = h.through.of_tree; begun = h.through.begun }
     by false e =
-        let f = kept_there v key w w.place.node arena h.bound h.over.near.there h.over.near.tree_is h.border stable e h.over.near.from in
-        record { bound = f.bound; near = f.near; border = f.border; next = f.next }
+        let f = kept_there v key w w.place.node arena h.through h.covers.remembered.there h.covers.remembered.tree_is h.border stable e h.covers.remembered.from in
+        record { through = f.through; remembered = f.remembered; border = f.border; next = f.next }
 
 -- a node that nobody holds is unmarked
 pub free_stable : (count : ℕ) (n : NodeView) → IsNode count n → n.holder ≡ None → IsStable n.version

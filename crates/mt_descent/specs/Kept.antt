@@ -20,19 +20,23 @@ use Rattle.mt_descent.specs.declared.walk.Phase.TheVariants.{Enter, Pick, Child,
 use Rattle.mt_descent.specs.declared.walk.Taken.{Taken}
 use Rattle.mt_descent.specs.declared.walk.Taken.TheVariants.{Missing, Row, Link, Nothing}
 use Rattle.mt_descent.specs.declared.walk.Walk.{Walk}
-use Rattle.mt_descent.specs.Seen.{RangeStands, Stands, WasSeen, IsNear, IsOver, IsPicked, HasNext}
+use Rattle.mt_descent.specs.Seen.{RangeStands, Stands, WasSeen, IsRemembered, Covers, IsPicked, HasNext}
 use Rattle.mt_descent.specs.Pasts.{Past}
 
 -- the key goes through tree t of the layer, which is live, or was
-pub record IsBound (v : ArenaView) (t layer : ℕ) (key : Bytes) : Type 0 where
+pub record GoesThrough (v : ArenaView) (t layer : ℕ) (key : Bytes) : Type 0 where
   pub there : t < length v.trees
   pub unmade : (q : ℕ) → (tree_at v.trees t).standing ≢ Made q
   pub of_tree : IsOfTree (tree_at v.trees t).prefix layer key
   pub begun : 8 * layer < length key
 
+-- the operation holds no node: so it is before it has locked one
+abbrev pub HoldsNothing : ArenaView → ℕ → Type 0
+HoldsNothing v op = (k : ℕ) → k < length v.nodes → (at v k).holder ≢ Some op
+
 -- at Enter
 abbrev pub IsAtEnter : ArenaView → Bytes → Walk → Type 0
-IsAtEnter v key w = IsBound v w.place.tree w.layer key
+IsAtEnter v key w = GoesThrough v w.place.tree w.layer key
 
 -- the slice of the key in the walk's layer
 abbrev pub slice_in : Bytes → Walk → ℕ
@@ -40,8 +44,8 @@ slice_in key w = slice_of key w.layer
 
 -- at Pick
 pub record IsAtPick (v : ArenaView) (key : Bytes) (w : Walk) : Type 0 where
-  pub bound : IsBound v w.place.tree w.layer key
-  pub over : IsOver v w.place.tree w.place.node w.place.seen (slice_in key w)
+  pub through : GoesThrough v w.place.tree w.layer key
+  pub covers : Covers v w.place.tree w.place.node w.place.seen (slice_in key w)
   pub interior : 0 < (at v w.place.node).level
 
 -- at Child
@@ -57,8 +61,8 @@ pub record IsAtVerify (v : ArenaView) (key : Bytes) (w : Walk) : Type 0 where
 
 -- at Search and at Lock
 pub record IsAtBorder (v : ArenaView) (key : Bytes) (w : Walk) : Type 0 where
-  pub bound : IsBound v w.place.tree w.layer key
-  pub over : IsOver v w.place.tree w.place.node w.place.seen (slice_in key w)
+  pub through : GoesThrough v w.place.tree w.layer key
+  pub covers : Covers v w.place.tree w.place.node w.place.seen (slice_in key w)
   pub border : (at v w.place.node).level ≡ 0
 
 -- the slot has the slice and the mark of the key, and holds this of it
@@ -86,30 +90,30 @@ pub record Had (past : Past) (first step : ℕ) (key : Bytes) (row : Option Colu
   pub had : get (past.contents step) (owned key) ≡ row
 
 -- what was taken is right: that the key is missing as long as the range stands, a row or a link as long as the version does
-abbrev pub IsTaken : ArenaView → Past → Bytes → Option Columns → Walk → Taken → Type 0
-IsTaken v past key row w Missing = RangeStands (at v w.place.node) w.place.seen → Had past w.first w.looked key None
-IsTaken v past key row w Row = Stands (at v w.place.node) w.place.seen → (columns : Columns) × (row ≡ Some columns) × Had past w.first w.looked key row
-IsTaken v past key row w (Link u) = Stands (at v w.place.node) w.place.seen → IsBound v u (w.layer + 1) key
-IsTaken v past key row w Nothing = Stands (at v w.place.node) w.place.seen → ⊥
+abbrev pub TakenHolds : ArenaView → Past → Bytes → Option Columns → Walk → Taken → Type 0
+TakenHolds v past key row w Missing = RangeStands (at v w.place.node) w.place.seen → Had past w.first w.looked key None
+TakenHolds v past key row w Row = Stands (at v w.place.node) w.place.seen → (columns : Columns) × (row ≡ Some columns) × Had past w.first w.looked key row
+TakenHolds v past key row w (Link u) = Stands (at v w.place.node) w.place.seen → GoesThrough v u (w.layer + 1) key
+TakenHolds v past key row w Nothing = Stands (at v w.place.node) w.place.seen → ⊥
 
 -- at Confirm
 pub record IsAtConfirm (v : ArenaView) (past : Past) (key : Bytes) (row : Option Columns) (w : Walk) : Type 0 where
   pub at_border : IsAtBorder v key w
-  pub taken : IsTaken v past key row w w.taken
+  pub taken : TakenHolds v past key row w w.taken
 
 -- at Forward
 pub record IsAtForward (v : ArenaView) (key : Bytes) (w : Walk) : Type 0 where
-  pub bound : IsBound v w.place.tree w.layer key
-  pub near : IsNear v w.place.tree w.place.node w.place.seen (slice_in key w)
+  pub through : GoesThrough v w.place.tree w.layer key
+  pub remembered : IsRemembered v w.place.tree w.place.node w.place.seen (slice_in key w)
   pub border : (at v w.place.node).level ≡ 0
   pub next : HasNext v w.place.tree w.place.node w.place.seen w.next
 
 -- at Done: the answer is right at the step that took it
-abbrev pub IsAnswered : Past → Bytes → Option Columns → Walk → Taken → Type 0
-IsAnswered past key row w Missing = Had past w.first w.looked key None
-IsAnswered past key row w Row = (columns : Columns) × (row ≡ Some columns) × Had past w.first w.looked key row
-IsAnswered past key row w (Link u) = ⊥
-IsAnswered past key row w Nothing = ⊥
+abbrev pub TakenWasRight : Past → Bytes → Option Columns → Walk → Taken → Type 0
+TakenWasRight past key row w Missing = Had past w.first w.looked key None
+TakenWasRight past key row w Row = (columns : Columns) × (row ≡ Some columns) × Had past w.first w.looked key row
+TakenWasRight past key row w (Link u) = ⊥
+TakenWasRight past key row w Nothing = ⊥
 
 -- at Judge: the operation holds the border node, which is unmarked, and the range stands
 pub record IsAtJudge (v : ArenaView) (op : ℕ) (key : Bytes) (w : Walk) : Type 0 where
@@ -130,7 +134,7 @@ KeptAt Confirm v past key row w = IsAtConfirm v past key row w
 KeptAt Forward v past key row w = IsAtForward v key w
 KeptAt Lock v past key row w = IsAtBorder v key w
 KeptAt Judge v past key row w = Unit {0}
-KeptAt Done v past key row w = IsAnswered past key row w w.taken
+KeptAt Done v past key row w = TakenWasRight past key row w w.taken
 
 abbrev pub IsKept : ArenaView → Past → Bytes → Option Columns → Walk → Type 0
 IsKept v past key row w = KeptAt w.phase v past key row w

@@ -13,7 +13,7 @@ pub record IsNow (past : Past) (step : ℕ) (v : ArenaView) : Type 0 where
   pub contents : past.contents step ≡ content_of v
 
 -- more steps were made, and the past is as it was
-pub record Grows (old new : Past) : Type 0 where
+pub record ExtendsPast (old new : Past) : Type 0 where
   pub steps : old.steps ≤ new.steps
   pub same : (n : ℕ) → n ≤ old.steps → new.contents n ≡ old.contents n
 

@@ -1,5 +1,5 @@
 -- A remembered version beside the one that its node has now.
-use Rattle.std.specs.Prelude.{◌≡◌, ◌≢◌, ◌<◌, ◌≤◌, ℕ, false, [], Option, Some, None, length, slice_index}
+use Rattle.std.specs.Prelude.{◌≡◌, ◌≢◌, ◌<◌, ◌≤◌, ◌⊎◌, ℕ, true, false, [], Option, Some, None, length, slice_index}
 use Rattle.mt_version.specs.Parts.{Parts}
 use Rattle.mt_version.specs.Changes.{Ages, range_age, insert_age}
 use Rattle.mt_interior.specs.Places.{place_of}
@@ -18,6 +18,10 @@ pub record Stands (n : NodeView) (seen : Parts) : Type 0 where
   pub in_range : RangeStands n seen
   pub insertion : insert_age n.version ≡ insert_age seen
 
+-- the node was deleted or split since the version was seen
+abbrev pub IsOutdated : NodeView → Parts → Type 0
+IsOutdated n seen = (n.version.deleted ≡ true) ⊎ (n.version.splits ≢ seen.splits)
+
 -- the version was the node's once, unmarked
 pub record WasSeen (n : NodeView) (seen : Parts) : Type 0 where
   pub whole : seen.splitting ≡ false
@@ -25,7 +29,7 @@ pub record WasSeen (n : NodeView) (seen : Parts) : Type 0 where
   pub ages : Ages seen n.version
 
 -- node k of tree t was seen with this version; its range begins at the slice or before it; an interior node has a child
-pub record IsNear (v : ArenaView) (t k : ℕ) (seen : Parts) (slice : ℕ) : Type 0 where
+pub record IsRemembered (v : ArenaView) (t k : ℕ) (seen : Parts) (slice : ℕ) : Type 0 where
   pub there : k < length v.nodes
   pub tree_is : (at v k).tree ≡ t
   pub was : WasSeen (at v k) seen
@@ -34,8 +38,8 @@ pub record IsNear (v : ArenaView) (t k : ℕ) (seen : Parts) (slice : ℕ) : Typ
   pub peopled : 0 < (at v k).level → (at v k).children ≢ []
 
 -- and the range, as long as it stands, has the slice
-pub record IsOver (v : ArenaView) (t k : ℕ) (seen : Parts) (slice : ℕ) : Type 0 where
-  pub near : IsNear v t k seen slice
+pub record Covers (v : ArenaView) (t k : ℕ) (seen : Parts) (slice : ℕ) : Type 0 where
+  pub remembered : IsRemembered v t k seen slice
   pub below : RangeStands (at v k) seen → slice < end_of (at v k).high
 
 -- the child of an interior node to which a slice belongs

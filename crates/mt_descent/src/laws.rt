@@ -8,8 +8,8 @@ ghost use Rattle.mt_arena.specs.Ways.{BelongsIn};
 ghost use Rattle.mt_arena.specs.Accesses.{at, IsOpen};
 ghost use Rattle.mt_arena.specs.Guarantee.{NodesGuarantee};
 ghost use Rattle.mt_descent.specs.declared.walk.Walk.{Walk};
-ghost use Rattle.mt_descent.specs.Pasts.{Past, Grows};
-ghost use Rattle.mt_descent.specs.Kept.{IsAtJudge, IsKept};
+ghost use Rattle.mt_descent.specs.Pasts.{Past, ExtendsPast};
+ghost use Rattle.mt_descent.specs.Kept.{HoldsNothing, IsAtJudge, IsKept};
 ghost use Rattle.mt_descent.specs.Moves.{walk_from_top};
 
 /// A stored key may be looked for from the top tree on.
@@ -22,7 +22,7 @@ pub fn walks_begin()
 /// operation: only what the step leaves to others counts.
 pub fn kept_stays()
     ensures { (op : ℕ) (old new : ArenaView) (before after : Past) (key : Bytes) (row : Option Columns) (w : Walk) →
-        NodesGuarantee op old.nodes new.nodes old.trees new.trees → Grows before after →
+        NodesGuarantee op old.nodes new.nodes old.trees new.trees → ExtendsPast before after →
         IsKept old before key row w → IsKept new after key row w }
 {}
 
@@ -39,9 +39,12 @@ pub fn belongs_where_held()
         BelongsIn v.nodes v.trees key w.layer w.place.node × IsOpen v w.place.node o }
 {}
 
-/// After a step, whoever holds a node held it before, but for the operation that made the step.
+/// After a step, whoever holds a node held it before, but for the operation that made the step: so
+/// an operation that holds nothing comes to hold nothing by the steps of others.
 pub fn holders()
-    ensures { (op q k : ℕ) (old new : ArenaView) → NodesGuarantee op old.nodes new.nodes old.trees new.trees →
+    ensures before { (op q k : ℕ) (old new : ArenaView) → NodesGuarantee op old.nodes new.nodes old.trees new.trees →
         k < length new.nodes → (at new k).holder ≡ Some q → q ≢ op →
         (k < length old.nodes) × ((at old k).holder ≡ Some q) }
+    ensures nothing { (op o : ℕ) (old new : ArenaView) → NodesGuarantee op old.nodes new.nodes old.trees new.trees →
+        o ≢ op → HoldsNothing old o → HoldsNothing new o }
 {}

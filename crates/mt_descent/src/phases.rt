@@ -1,21 +1,22 @@
-//! The phases of an operation that holds nothing: each is one access to one node, and changes none.
+//! The phases of an operation that holds nothing: each is one access to one node, and but for `lock`
+//! none changes anything.
 //!
-//! A call that answers a number changes nothing: the node is marked, and the number is that of its
-//! holder. What each leaves is an equation of `specs/Moves.antt`; that it leaves what is kept at the
-//! next phase, from what was kept at this one, is said beside it. Errors: none, no call allocates.
+//! A call that answers a number changes nothing: the operation of that number is in the way, and the
+//! step is to be made again. Else the walk is what an equation of `specs/Moves.antt` says, and what is
+//! kept at its next phase follows from what was kept at this one. Errors: none, no call allocates.
 
-ghost use Rattle.std.specs.Prelude.{◌≡◌, ◌≢◌, ◌<◌, ◌≤◌, ℕ, Option, Some, None, IfSome, IfNone, IfOk, IfErr, IsTrue, ◌↔◌, length};
+ghost use Rattle.std.specs.Prelude.{◌≡◌, ◌≢◌, ◌<◌, ◌≤◌, ℕ, Option, Some, None, IfSome, IfNone, IsNone, IfOk, IfErr, IsTrue, ◌↔◌, length};
 ghost use Rattle.std.specs.Option.{ForSome, option_map};
 ghost use Rattle.mt_border.specs.declared.entry.Find.{Find as AnyFind};
-ghost use Rattle.mt_version.specs.Changes.{IsMarked, IsStable};
+ghost use Rattle.mt_version.specs.Changes.{IsMarked, IsStable, SameButLock};
 ghost use Rattle.mt_rows.specs.Rows.{Columns};
 ghost use Rattle.mt_arena.specs.Forests.{tree_at};
 ghost use Rattle.mt_arena.specs.Arena.{content_of, Guarantee};
 ghost use Rattle.mt_arena.specs.Accesses.{at};
-ghost use Rattle.mt_descent.specs.Seen.{child_for};
+ghost use Rattle.mt_descent.specs.Seen.{child_for, IsOutdated};
 ghost use Rattle.mt_descent.specs.Pasts.{Past, IsNow};
-ghost use Rattle.mt_descent.specs.Kept.{slice_in, IsKept, IsAtEnter, IsAtPick, IsAtChild, IsAtVerify, IsAtBorder, IsAtLoad, IsAtConfirm, IsAtForward, IsAtJudge};
-ghost use Rattle.mt_descent.specs.Moves.{IsBlocked, arrival, onto, into, entered, picked, met, astray, searched, loaded, confirmed, moved_on, here, forwarded, FindsIn, IsBlockedAt, Loads, Verifies, Confirms, Locks, IsLeft};
+ghost use Rattle.mt_descent.specs.Kept.{slice_in, HoldsNothing, IsKept, IsAtEnter, IsAtPick, IsAtChild, IsAtVerify, IsAtBorder, IsAtLoad, IsAtConfirm, IsAtForward, IsAtJudge};
+ghost use Rattle.mt_descent.specs.Moves.{IsBlocked, WaitsFor, IsBlockedAt, Continues, arrival, walk_onto, walk_into, walk_anew, walk_reseen, walk_here, after_enter, after_pick, after_child, after_search, after_load, after_confirm, after_change, after_forward, FindsIn, Loads, Verifies, Confirms, Locks};
 
 use crate::walk::{Phase, Taken, Walk};
 use mt_arena::{Arena, Node, Standing};
@@ -47,7 +48,7 @@ fn arrival(writes: bool) -> Phase
 
 // Comes to a node.
 fn onto(walk: &mut Walk, node: usize, seen: Version)
-    ensures { walk.new ≡ onto walk.old node seen }
+    ensures { walk.new ≡ walk_onto walk.old node seen }
 {
     walk.place.node = node;
     walk.place.seen = seen;
@@ -60,20 +61,23 @@ fn onto(walk: &mut Walk, node: usize, seen: Version)
 
 // Begins at a tree of a layer.
 fn into(walk: &mut Walk, tree: usize, layer: usize)
-    ensures { walk.new ≡ into walk.old tree layer }
+    ensures { walk.new ≡ walk_into walk.old tree layer }
 {
     walk.place.tree = tree;
     walk.layer = layer;
     walk.phase = Phase::Enter;
 }
 
-/// Reads the tree's record and its root's version. A dead tree leads to the top one.
+/// Reads the tree's record and its root's version, and remembers it. A dead tree leads to the top one,
+/// whatever its old root is marked with.
 pub fn enter(arena: &Arena, key: &StoredKey, walk: &mut Walk) -> Option<usize>
     requires kept { IsAtEnter arena.now key.now walk.old }
-    ensures again { IfSome result (λ holder. (walk.new ≡ walk.old) × IsBlocked (at arena.now (tree_at arena.now.trees walk.old.place.tree).root) holder) }
+    ensures dead { (tree_at arena.now.trees walk.old.place.tree).standing ≡ Standing.Dead → IsNone result }
+    ensures waits { let tree = tree_at arena.now.trees walk.old.place.tree in
+        tree.standing ≢ Standing.Dead → WaitsFor (at arena.now tree.root) walk.old walk.new result }
     ensures is { let tree = tree_at arena.now.trees walk.old.place.tree in
-        IfNone result (walk.new ≡ entered tree.standing walk.old tree.root (at arena.now tree.root).version) }
-    ensures first { walk.new.first ≡ walk.old.first }
+        IfNone result (walk.new ≡ after_enter tree.standing walk.old tree.root (at arena.now tree.root).version) }
+    ensures same { Continues walk.old walk.new }
     ensures kept { (past : Past) (row : Option Columns) → IfNone result (IsKept arena.now past key.now row walk.new) }
 {
     arena.facts();
@@ -93,8 +97,8 @@ pub fn enter(arena: &Arena, key: &StoredKey, walk: &mut Walk) -> Option<usize>
 /// Looks for the child to which the key's slice belongs.
 pub fn pick(arena: &Arena, key: &StoredKey, walk: &mut Walk)
     requires kept { IsAtPick arena.now key.now walk.old }
-    ensures is { walk.new ≡ picked walk.old (child_for (at arena.now walk.old.place.node) (slice_in key.now walk.old)) }
-    ensures first { walk.new.first ≡ walk.old.first }
+    ensures is { walk.new ≡ after_pick walk.old (child_for (at arena.now walk.old.place.node) (slice_in key.now walk.old)) }
+    ensures same { Continues walk.old walk.new }
     ensures kept { IsAtChild arena.now key.now walk.new }
 {
     arena.facts();
@@ -103,12 +107,12 @@ pub fn pick(arena: &Arena, key: &StoredKey, walk: &mut Walk)
     walk.phase = Phase::Child;
 }
 
-/// Reads the child's version.
+/// Reads the child's version, and remembers it.
 pub fn child(arena: &Arena, key: &StoredKey, walk: &mut Walk) -> Option<usize>
     requires kept { IsAtChild arena.now key.now walk.old }
-    ensures again { IfSome result (λ holder. (walk.new ≡ walk.old) × IsBlocked (at arena.now walk.old.child) holder) }
-    ensures is { IfNone result (walk.new ≡ met walk.old (at arena.now walk.old.child).version) }
-    ensures first { walk.new.first ≡ walk.old.first }
+    ensures waits { WaitsFor (at arena.now walk.old.child) walk.old walk.new result }
+    ensures is { IfNone result (walk.new ≡ after_child walk.old (at arena.now walk.old.child).version) }
+    ensures same { Continues walk.old walk.new }
     ensures kept { IfNone result (IsAtVerify arena.now key.now walk.new) }
 {
     arena.facts();
@@ -122,45 +126,45 @@ pub fn child(arena: &Arena, key: &StoredKey, walk: &mut Walk) -> Option<usize>
 }
 
 /// Compares the interior node's version with the remembered one: where it stands, the walk goes on
-/// at the child.
+/// at the child. A node that was deleted or split is waited for no more.
 pub fn verify(arena: &Arena, key: &StoredKey, walk: &mut Walk) -> Option<usize>
     requires kept { IsAtVerify arena.now key.now walk.old }
-    ensures again { IfSome result (λ holder. (walk.new ≡ walk.old) × IsBlocked (at arena.now walk.old.place.node) holder) }
-    ensures is { IfNone result (Verifies (at arena.now walk.old.place.node).version walk.old walk.new) }
-    ensures first { walk.new.first ≡ walk.old.first }
+    ensures waits { IfSome result (λ holder. (walk.new ≡ walk.old) × IsBlocked (at arena.now walk.old.place.node) holder) }
+    ensures not_outdated { IfSome result (λ holder. ¬ IsOutdated (at arena.now walk.old.place.node) walk.old.place.seen) }
+    ensures is { IfNone result (Verifies (at arena.now walk.old.place.node) walk.old walk.new) }
+    ensures same { Continues walk.old walk.new }
     ensures kept { (past : Past) (row : Option Columns) → IfNone result (IsKept arena.now past key.now row walk.new) }
 {
     arena.facts();
     let node = arena.node(walk.place.node);
+    if node.version().same_but_lock(walk.place.seen) {
+        onto(walk, walk.child, walk.child_seen);
+        return None;
+    }
+    if is_outdated(node, walk.place.seen) {
+        walk.phase = Phase::Enter;
+        return None;
+    }
     if let Some(holder) = blocker(node) {
         return Some(holder);
     }
-    let now = node.version();
-    if now.same_but_lock(walk.place.seen) {
-        onto(walk, walk.child, walk.child_seen);
-    } else {
-        stray(walk, now);
-    }
+    walk.place.seen = node.version();
+    walk.phase = Phase::Pick;
     None
 }
 
-// The interior node's version differs from the remembered one.
-fn stray(walk: &mut Walk, now: Version)
-    ensures { walk.new ≡ astray walk.old now }
+// Whether the node was deleted or split since it was remembered.
+fn is_outdated(node: &Node, seen: Version) -> bool
+    ensures { IsTrue result ↔ IsOutdated node.now seen }
 {
-    if !now.is_deleted() && now.splits() == walk.place.seen.splits() {
-        walk.place.seen = now;
-        walk.phase = Phase::Pick;
-    } else {
-        walk.phase = Phase::Enter;
-    }
+    node.version().is_deleted() || node.version().splits() != seen.splits()
 }
 
 /// Looks for the key in the border node, by the step of this number.
 pub fn search(arena: &Arena, key: &StoredKey, walk: &mut Walk, step: u64)
     requires kept { IsAtBorder arena.now key.now walk.old }
-    ensures is { (found : AnyFind) × FindsIn (at arena.now walk.old.place.node) key.now walk.old.layer found × (walk.new ≡ searched found walk.old step) }
-    ensures first { walk.new.first ≡ walk.old.first }
+    ensures is { (found : AnyFind) × FindsIn (at arena.now walk.old.place.node) key.now walk.old.layer found × (walk.new ≡ after_search found walk.old step) }
+    ensures same { Continues walk.old walk.new }
     ensures kept { (past : Past) (row : Option Columns) → IsNow past step arena.now → walk.old.first ≤ step → IsKept arena.now past key.now row walk.new }
 {
     arena.facts();
@@ -173,7 +177,7 @@ pub fn search(arena: &Arena, key: &StoredKey, walk: &mut Walk, step: u64)
 
 // What a search goes on with.
 fn go_on(walk: &mut Walk, found: Find, step: u64)
-    ensures { walk.new ≡ searched found walk.old step }
+    ensures { walk.new ≡ after_search found walk.old step }
 {
     match found {
         Find::Missing | Find::Slot(_, FoundKind::OtherLong) => {
@@ -198,9 +202,9 @@ pub fn load<'a>(
     step: u64,
 ) -> Result<Option<&'a Row>, usize>
     requires kept { IsAtLoad arena.now key.now walk.old }
-    ensures again { IfErr result (λ holder. (walk.new ≡ walk.old) × IsBlockedAt (at arena.now walk.old.place.node) walk.old.slot holder) }
-    ensures is { IfOk result (λ taken. Loads (at arena.now walk.old.place.node) step walk.old walk.new (option_map (λ row. row.now) taken)) }
-    ensures first { walk.new.first ≡ walk.old.first }
+    ensures waits { IfErr result (λ holder. (walk.new ≡ walk.old) × IsBlockedAt (at arena.now walk.old.place.node) walk.old.slot holder) }
+    ensures is { IfOk result (λ taken. Loads (at arena.now walk.old.place.node) walk.old.slot step walk.old walk.new (option_map (λ row. row.now) taken)) }
+    ensures same { Continues walk.old walk.new }
     ensures kept { (past : Past) → IsNow past step arena.now → walk.old.first ≤ step →
         IfOk result (λ taken. IsKept arena.now past key.now (option_map (λ row. row.now) taken) walk.new) }
 {
@@ -212,8 +216,8 @@ pub fn load<'a>(
 fn taken_at<'a>(arena: &'a Arena, walk: &mut Walk, step: u64) -> Result<Option<&'a Row>, usize>
     requires there { walk.old.place.node < length arena.now.nodes }
     requires border { (at arena.now walk.old.place.node).level ≡ 0 }
-    ensures again { IfErr result (λ holder. (walk.new ≡ walk.old) × IsBlockedAt (at arena.now walk.old.place.node) walk.old.slot holder) }
-    ensures is { IfOk result (λ taken. Loads (at arena.now walk.old.place.node) step walk.old walk.new (option_map (λ row. row.now) taken)) }
+    ensures waits { IfErr result (λ holder. (walk.new ≡ walk.old) × IsBlockedAt (at arena.now walk.old.place.node) walk.old.slot holder) }
+    ensures is { IfOk result (λ taken. Loads (at arena.now walk.old.place.node) walk.old.slot step walk.old walk.new (option_map (λ row. row.now) taken)) }
 {
     arena.facts();
     let taken = match arena.border(walk.place.node).load(walk.slot) {
@@ -239,7 +243,7 @@ fn taken_at<'a>(arena: &'a Arena, walk: &mut Walk, step: u64) -> Result<Option<&
 
 // Notes what a load took.
 fn take(walk: &mut Walk, taken: Taken, step: u64)
-    ensures { walk.new ≡ loaded walk.old taken step }
+    ensures { walk.new ≡ after_load walk.old taken step }
 {
     walk.taken = taken;
     walk.looked = step;
@@ -250,9 +254,9 @@ fn take(walk: &mut Walk, taken: Taken, step: u64)
 /// done, or goes on in the tree of a link.
 pub fn confirm(arena: &Arena, key: &StoredKey, walk: &mut Walk) -> Option<usize>
     requires kept { IsAtBorder arena.now key.now walk.old }
-    ensures again { IfSome result (λ holder. (walk.new ≡ walk.old) × IsBlocked (at arena.now walk.old.place.node) holder) }
+    ensures waits { WaitsFor (at arena.now walk.old.place.node) walk.old walk.new result }
     ensures is { IfNone result (Confirms (at arena.now walk.old.place.node) walk.old walk.new) }
-    ensures first { walk.new.first ≡ walk.old.first }
+    ensures same { Continues walk.old walk.new }
     ensures kept { (past : Past) (row : Option Columns) → IsAtConfirm arena.now past key.now row walk.old →
         IfNone result (IsKept arena.now past key.now row walk.new) }
 {
@@ -272,7 +276,7 @@ pub fn confirm(arena: &Arena, key: &StoredKey, walk: &mut Walk) -> Option<usize>
 // The version stands: on with what was taken.
 fn finish(walk: &mut Walk)
     requires { walk.old.layer < 32 }
-    ensures { walk.new ≡ confirmed walk.old.taken walk.old }
+    ensures { walk.new ≡ after_confirm walk.old.taken walk.old }
 {
     match walk.taken {
         Taken::Link(tree) => into(walk, tree, walk.layer + 1),
@@ -282,7 +286,7 @@ fn finish(walk: &mut Walk)
 
 // It does not: anew where the node was deleted, else to the next node.
 fn move_on(walk: &mut Walk, node: &Node)
-    ensures { walk.new ≡ moved_on walk.old node.now.version node.now.next }
+    ensures { walk.new ≡ after_change walk.old node.now.version node.now.next }
 {
     if node.version().is_deleted() {
         walk.phase = Phase::Enter;
@@ -297,11 +301,11 @@ fn move_on(walk: &mut Walk, node: &Node)
 /// stays here.
 pub fn forward(arena: &Arena, key: &StoredKey, walk: &mut Walk) -> Option<usize>
     requires kept { IsAtForward arena.now key.now walk.old }
-    ensures again { IfSome result (λ holder. (walk.new ≡ walk.old) × ForSome walk.old.next (λ j. IsBlocked (at arena.now j) holder)) }
-    ensures last { walk.old.next ≡ None → walk.new ≡ here walk.old }
+    ensures waits { ForSome walk.old.next (λ j. WaitsFor (at arena.now j) walk.old walk.new result) }
+    ensures last { walk.old.next ≡ None → IsNone result × (walk.new ≡ walk_here walk.old) }
     ensures is { (j : ℕ) → walk.old.next ≡ Some j →
-        IfNone result (walk.new ≡ forwarded walk.old (slice_in key.now walk.old) j (at arena.now j)) }
-    ensures first { walk.new.first ≡ walk.old.first }
+        IfNone result (walk.new ≡ after_forward walk.old (slice_in key.now walk.old) j (at arena.now j)) }
+    ensures same { Continues walk.old walk.new }
     ensures kept { (past : Past) (row : Option Columns) → IfNone result (IsKept arena.now past key.now row walk.new) }
 {
     arena.facts();
@@ -320,7 +324,7 @@ pub fn forward(arena: &Arena, key: &StoredKey, walk: &mut Walk) -> Option<usize>
 
 // Goes to the next node, stays here, or begins anew where that one was deleted.
 fn go_to(walk: &mut Walk, slice: u64, next: usize, node: &Node)
-    ensures { walk.new ≡ forwarded walk.old slice next node.now }
+    ensures { walk.new ≡ after_forward walk.old slice next node.now }
 {
     if node.version().is_deleted() {
         walk.phase = Phase::Enter;
@@ -335,11 +339,15 @@ fn go_to(walk: &mut Walk, slice: u64, next: usize, node: &Node)
 }
 
 /// Locks the border node where it was neither deleted nor split since it was remembered; else goes to
-/// the next one, or begins anew. The number is that of the operation that holds the lock.
+/// the next one, or begins anew. Only a lock is in its way: the number is that of the node's holder,
+/// which is another operation, as the one that comes to lock holds nothing.
 pub fn lock(arena: &mut Arena, key: &StoredKey, walk: &mut Walk, operation: usize) -> Option<usize>
     requires kept { IsAtBorder arena.old key.now walk.old }
-    ensures again { IfSome result (λ holder. (arena.new ≡ arena.old) × (walk.new ≡ walk.old) × ((at arena.old walk.old.place.node).holder ≡ Some holder)) }
+    ensures waits { result ≡ (at arena.old walk.old.place.node).holder }
+    ensures unchanged { IfSome result (λ holder. (arena.new ≡ arena.old) × (walk.new ≡ walk.old)) }
+    ensures another { HoldsNothing arena.old operation → IfSome result (λ holder. holder ≢ operation) }
     ensures is { IfNone result (Locks operation arena.old arena.new walk.old walk.new) }
+    ensures same { Continues walk.old walk.new }
     ensures step { Guarantee operation arena.old arena.new }
     ensures contents { content_of arena.new ≡ content_of arena.old }
     ensures kept { (past : Past) (row : Option Columns) → IfNone result (IsKept arena.new past key.now row walk.new) }
@@ -350,18 +358,11 @@ pub fn lock(arena: &mut Arena, key: &StoredKey, walk: &mut Walk, operation: usiz
     if let Some(holder) = node.holder() {
         return Some(holder);
     }
-    if was_left(node, walk.place.seen) {
+    if is_outdated(node, walk.place.seen) {
         move_on(walk, node);
     } else {
         arena.lock(walk.place.node, operation);
         walk.phase = Phase::Judge;
     }
     None
-}
-
-// The node was deleted or split since it was remembered.
-fn was_left(node: &Node, seen: Version) -> bool
-    ensures { IsTrue result ↔ IsLeft node.now seen }
-{
-    node.version().is_deleted() || node.version().splits() != seen.splits()
 }

@@ -4,10 +4,10 @@ use Rattle.mt_arena.specs.Accesses.{at}
 use Rattle.mt_descent.proofs.Ways.{free_stable, kept_moved_on}
 use Rattle.mt_descent.proofs.phases.lock.Goals as goal
 
-pub returns-then-was_left-clause-kept : goal.returns-then-was_left-clause-kept
-returns-then-was_left-clause-kept c past row =
+pub returns-then-is_outdated-clause-kept : goal.returns-then-is_outdated-clause-kept
+returns-then-is_outdated-clause-kept c past row =
     let k = c.args.walk.now.place.node in
     let n = at c.args.arena.now k in
     let free = ap (λ (n : NodeView). n.holder) (sym c.node-node.ensures) ∙ sym c.holder.ensures ∙ c.in_default.is in
     rw (c.move_on.ensures, c.node-node.ensures)
-    (kept_moved_on c.args.arena.now past c.args.key.now row c.args.walk.now c.facts.ensures.arena c.requires.kept (free_stable (length c.args.arena.now.nodes) n (c.facts.ensures.arena.nodes.each k c.requires.kept.over.near.there) free))
+    (kept_moved_on c.args.arena.now past c.args.key.now row c.args.walk.now c.facts.ensures.arena c.requires.kept (free_stable (length c.args.arena.now.nodes) n (c.facts.ensures.arena.nodes.each k c.requires.kept.covers.remembered.there) free))
