@@ -1,5 +1,5 @@
 -- What a search finds and a load takes, as long as the range or the version stands.
-use Rattle.std.proofs.Common.{◌≡◌, ◌≢◌, ℕ, ◌+◌, ◌<◌, ◌≤◌, List, length, Option, Some, None, refl, sym, ap, subst, ◌∙◌, arith}
+use Rattle.std.proofs.Common.{◌≡◌, ◌≢◌, ℕ, ◌+◌, ◌<◌, ◌≤◌, max, List, length, Option, Some, None, refl, sym, ap, subst, ◌∙◌, arith}
 use Rattle.std.specs.Prelude.{IsSomeAnd}
 use Rattle.std.specs.FinMap.{get}
 use Rattle.mt_slices.specs.Slices.{slice_of, mark_of, suffix_of}
@@ -14,6 +14,7 @@ use Rattle.mt_border.specs.declared.entry.Find.{Find}
 use Rattle.mt_border.specs.declared.entry.Find.TheVariants as finds
 use Rattle.mt_border.specs.Node.{Node as BorderNode, IsFound, Finds}
 use Rattle.std.proofs.lemmas.Option.{same_Some}
+use Rattle.std.proofs.Math.Nat.{le-max_left, le-max_right, max-le}
 use Rattle.mt_border.specs.Entry.{IsKind, IsLink, pair_of}
 use Rattle.mt_border.specs.Entries.{IsMissing}
 use Rattle.mt_border.specs.Contents.{owned}
@@ -23,7 +24,7 @@ use Rattle.mt_arena.specs.Layers.{slot_at}
 use Rattle.mt_arena.specs.Arena.{ArenaView, IsArena, content_of}
 use Rattle.mt_arena.specs.Accesses.{at}
 use Rattle.mt_arena.specs.Stands.{StandsAt}
-use Rattle.mt_arena.specs.Ways.{BelongsIn}
+use Rattle.mt_arena.specs.Ways.{BelongsIn, StandsFor}
 use Rattle.mt_arena.proofs.Homes.{begun}
 use Rattle.mt_arena.proofs.Owners.{none_elsewhere, none_beside, found}
 use Rattle.mt_arena.proofs.Down.{goes_on}
@@ -31,9 +32,9 @@ use Rattle.mt_descent.specs.declared.walk.Walk.{Walk}
 use Rattle.mt_descent.specs.declared.walk.Taken.{Taken}
 use Rattle.mt_descent.specs.declared.walk.Taken.TheVariants as takens
 use Rattle.mt_descent.specs.Seen.{RangeStands, Stands}
-use Rattle.mt_descent.specs.Pasts.{Past, IsNow}
+use Rattle.mt_descent.specs.Pasts.{Past, IsNow, AreStamped}
 use Rattle.mt_descent.specs.Kept.{GoesThrough, IsAtBorder, IsInSlot, IsAtLoad, Had, IsKept}
-use Rattle.mt_descent.specs.Moves.{FindsIn, after_search, after_load, TakesFrom, Loads}
+use Rattle.mt_descent.specs.Moves.{FindsIn, after_search, after_load, Takes, Loads}
 use Rattle.mt_descent.proofs.Ways.{live_tree}
 
 -- what a border node finds, its shape finds
@@ -74,7 +75,7 @@ module _ (v : ArenaView) (key : Bytes) (w : Walk) (arena : IsArena v.nodes v.tre
   }
 
   had_now : (past : Past) (step : ℕ) (row : Option Columns) → IsNow past step v → w.first ≤ step → get (content_of v) (owned key) ≡ row → Had past w.first step key row
-  had_now past step row now since is = record { since = since; made = omega (arith, now.steps); had = ap (λ m. get m (owned key)) now.contents ∙ is }
+  had_now past step row now since is = record { since = since; made = now.made; had = ap (λ m. get m (owned key)) now.contents ∙ is }
 
   no_other : (slot : ℕ) (p : Option Pair) → RangeStands n w.place.seen → IsInSlot n slot key w.layer OtherLong → pair_of (slot_at n slot).held ≡ p → IsSomeAnd p (λ pair. pair.suffix ≢ suffix_of key w.layer) → get (content_of v) (owned key) ≡ None
   no_other slot None stands f is some = absurd some
@@ -108,13 +109,13 @@ module _ (v : ArenaView) (key : Bytes) (w : Walk) (arena : IsArena v.nodes v.tre
   abbrev m : NodeView
   m = at v w.place.node
 
-  -- as long as the version stands, a pair in the slot is the key's, and the contents have its row
-  row_now : (pair : Pair) → (slot_at m w.slot).held ≡ helds.Stable pair → Stands m w.place.seen → get (content_of v) (owned key) ≡ Some pair.row
-  row_now pair is stands =
+  -- as long as the version stands, a pair in the slot stands for the key
+  stands_for : (pair : Pair) → (slot_at m w.slot).held ≡ helds.Stable pair → Stands m w.place.seen → StandsFor v.nodes v.trees key w.layer w.place.node w.slot pair
+  stands_for pair is stands =
       let f = h.found stands in
       let b = belongs v key w arena h.at_border stands.in_range in
       let pair_is = ap pair_of is in
-      found v.nodes v.trees arena (begun v.nodes v.trees arena.forest) key w.layer w.place.node w.slot pair record {
+      record {
         there = b.border.there;
         live = b.border.live;
         tree_live = b.tree_live;
@@ -135,21 +136,34 @@ module _ (v : ArenaView) (key : Bytes) (w : Walk) (arena : IsArena v.nodes v.tre
       let g = goes_on v.nodes v.trees key w.layer w.place.node w.slot u arena (belongs v key w arena h.at_border stands.in_range) (stands_at v key w arena h.at_border w.slot f.kind stands.in_range f.in_slot) is in
       record { there = g.there; unmade = λ q making. absurd (let both = sym g.live ∙ making in cc); of_tree = g.of_tree; begun = g.begun }
 
-  pub kept_loaded : (past : Past) (row : Option Columns) (step : ℕ) (taken : Taken) → IsNow past step v → w.first ≤ step → TakesFrom m w.slot row taken → IsKept v past key row (after_load w taken step)
-  kept_loaded past row step takens.Missing now since t = absurd t
-  kept_loaded past row step takens.Row now since t = record {
-    at_border = record { through = h.at_border.through; covers = h.at_border.covers; border = h.at_border.border };
-    taken = λ stands. (t.1.row, t.3, had_now v key w arena h.at_border past step row now since (row_now t.1 t.2 stands ∙ sym t.3));
+  at_border : IsAtBorder v key (after_load w w.taken w.right_at)
+  at_border = record { through = h.at_border.through; covers = h.at_border.covers; border = h.at_border.border }
+
+  -- a row that has stood since its stamp was there at the first step, or at the one that placed it
+  had_since : (past : Past) (at : ℕ) (row : Option Columns) (pair : Pair) → AreStamped past v → w.first ≤ past.steps → row ≡ Some pair.row → at ≡ max w.first pair.stamp → StandsFor v.nodes v.trees key w.layer w.place.node w.slot pair → Had past w.first at key row
+  had_since past at row pair stamped since is at_is stands =
+      let stood = stamped key w.layer w.place.node w.slot pair stands in
+      record {
+        since = omega (arith, at_is, le-max_left w.first pair.stamp);
+        made = rw at_is (max-le since stood.made);
+        had = rw is (stood.stood at (omega (arith, at_is, le-max_right w.first pair.stamp)) (rw at_is (max-le since stood.made)));
+      }
+
+  pub kept_loaded : (past : Past) (row : Option Columns) (at : ℕ) (taken : Taken) → AreStamped past v → w.first ≤ past.steps → Takes m w row taken at → IsKept v past key row (after_load w taken at)
+  kept_loaded past row at takens.Missing stamped since t = absurd t
+  kept_loaded past row at takens.Row stamped since t = record {
+    at_border = record { through = at_border.through; covers = at_border.covers; border = at_border.border };
+    taken = λ stands. (t.1.row, t.3, had_since past at row t.1 stamped since t.3 t.4 (stands_for t.1 t.2 stands));
   }
-  kept_loaded past row step (takens.Link u) now since t = record {
-    at_border = record { through = h.at_border.through; covers = h.at_border.covers; border = h.at_border.border };
+  kept_loaded past row at (takens.Link u) stamped since t = record {
+    at_border = record { through = at_border.through; covers = at_border.covers; border = at_border.border };
     taken = λ stands. link_now u t.1 stands;
   }
-  kept_loaded past row step takens.Nothing now since t = record {
-    at_border = record { through = h.at_border.through; covers = h.at_border.covers; border = h.at_border.border };
+  kept_loaded past row at takens.Nothing stamped since t = record {
+    at_border = record { through = at_border.through; covers = at_border.covers; border = at_border.border };
     taken = λ stands. t.0 (h.found stands).in_slot.in_range;
   }
 
 -- what is kept, from what a load tells
-pub kept_loads : (v : ArenaView) (key : Bytes) (w after : Walk) (past : Past) (row : Option Columns) (step : ℕ) → IsArena v.nodes v.trees → IsAtLoad v key w → IsNow past step v → w.first ≤ step → Loads (at v w.place.node) w.slot step w after row → IsKept v past key row after
-kept_loads v key w after past row step arena h now since l = subst (λ (x : Walk). IsKept v past key row x) (sym l.is) (kept_loaded v key w arena h past row step after.taken now since l.takes)
+pub kept_loads : (v : ArenaView) (key : Bytes) (w after : Walk) (past : Past) (row : Option Columns) → IsArena v.nodes v.trees → IsAtLoad v key w → AreStamped past v → w.first ≤ past.steps → Loads (at v w.place.node) w after row → IsKept v past key row after
+kept_loads v key w after past row arena h stamped since l = subst (λ (x : Walk). IsKept v past key row x) (sym l.is) (kept_loaded v key w arena h past row after.right_at after.taken stamped since l.takes)

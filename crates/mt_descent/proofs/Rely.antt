@@ -146,10 +146,10 @@ module _ (op : ℕ) (old new : ArenaView) (before after : Past) (e : NodesGuaran
   had_stays first step key row h = record { since = h.since; made = omega (arith, h.made, g.steps); had = ap (λ m. get m (owned key)) (g.same step h.made) ∙ h.had }
 
   taken_stays : (key : Bytes) (row : Option Columns) (w : Walk) (taken : Taken) → w.place.node < length old.nodes → WasSeen (at old w.place.node) w.place.seen → TakenHolds old before key row w taken → TakenHolds new after key row w taken
-  taken_stays key row w Missing within was h = λ stands. had_stays w.first w.looked key None (h (range_stood op (at old w.place.node) (at new w.place.node) (e.nodes w.place.node within) w.place.seen was stands))
+  taken_stays key row w Missing within was h = λ stands. had_stays w.first w.right_at key None (h (range_stood op (at old w.place.node) (at new w.place.node) (e.nodes w.place.node within) w.place.seen was stands))
   taken_stays key row w Row within was h = λ stands.
       let f = h (stood op (at old w.place.node) (at new w.place.node) (e.nodes w.place.node within) w.place.seen was stands) in
-      (f.0, f.1, had_stays w.first w.looked key row f.2)
+      (f.0, f.1, had_stays w.first w.right_at key row f.2)
   taken_stays key row w (Link u) within was h = λ stands. through_stays u (w.layer + 1) key (h (stood op (at old w.place.node) (at new w.place.node) (e.nodes w.place.node within) w.place.seen was stands))
   taken_stays key row w Nothing within was h = λ stands. h (stood op (at old w.place.node) (at new w.place.node) (e.nodes w.place.node within) w.place.seen was stands)
 
@@ -166,8 +166,8 @@ module _ (op : ℕ) (old new : ArenaView) (before after : Past) (e : NodesGuaran
       }
 
   answered_stays : (key : Bytes) (row : Option Columns) (w : Walk) (taken : Taken) → TakenWasRight before key row w taken → TakenWasRight after key row w taken
-  answered_stays key row w Missing h = had_stays w.first w.looked key None h
-  answered_stays key row w Row h = (h.0, h.1, had_stays w.first w.looked key row h.2)
+  answered_stays key row w Missing h = had_stays w.first w.right_at key None h
+  answered_stays key row w Row h = (h.0, h.1, had_stays w.first w.right_at key row h.2)
   answered_stays key row w (Link u) h = absurd h
   answered_stays key row w Nothing h = absurd h
 

@@ -91,8 +91,8 @@ pub record Had (past : Past) (first step : ℕ) (key : Bytes) (row : Option Colu
 
 -- what was taken is right: that the key is missing as long as the range stands, a row or a link as long as the version does
 abbrev pub TakenHolds : ArenaView → Past → Bytes → Option Columns → Walk → Taken → Type 0
-TakenHolds v past key row w Missing = RangeStands (at v w.place.node) w.place.seen → Had past w.first w.looked key None
-TakenHolds v past key row w Row = Stands (at v w.place.node) w.place.seen → (columns : Columns) × (row ≡ Some columns) × Had past w.first w.looked key row
+TakenHolds v past key row w Missing = RangeStands (at v w.place.node) w.place.seen → Had past w.first w.right_at key None
+TakenHolds v past key row w Row = Stands (at v w.place.node) w.place.seen → (columns : Columns) × (row ≡ Some columns) × Had past w.first w.right_at key row
 TakenHolds v past key row w (Link u) = Stands (at v w.place.node) w.place.seen → GoesThrough v u (w.layer + 1) key
 TakenHolds v past key row w Nothing = Stands (at v w.place.node) w.place.seen → ⊥
 
@@ -110,8 +110,8 @@ pub record IsAtForward (v : ArenaView) (key : Bytes) (w : Walk) : Type 0 where
 
 -- at Done: the answer is right at the step that took it
 abbrev pub TakenWasRight : Past → Bytes → Option Columns → Walk → Taken → Type 0
-TakenWasRight past key row w Missing = Had past w.first w.looked key None
-TakenWasRight past key row w Row = (columns : Columns) × (row ≡ Some columns) × Had past w.first w.looked key row
+TakenWasRight past key row w Missing = Had past w.first w.right_at key None
+TakenWasRight past key row w Row = (columns : Columns) × (row ≡ Some columns) × Had past w.first w.right_at key row
 TakenWasRight past key row w (Link u) = ⊥
 TakenWasRight past key row w Nothing = ⊥
 

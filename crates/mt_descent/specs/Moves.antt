@@ -1,5 +1,5 @@
 -- Where each phase leads: whom it waits for, and what a walk is after it.
-use Rattle.std.specs.Prelude.{◌≡◌, ◌+◌, ◌<◌, ◌≢◌, ◌⊎◌, ℕ, Bool, true, false, length, if◌then◌else◌, nat_le, Option, Some, None}
+use Rattle.std.specs.Prelude.{◌≡◌, ◌+◌, ◌<◌, ℕ, max, Bool, true, false, length, if◌then◌else◌, nat_le, Option, Some, None}
 use Rattle.mt_version.specs.Parts.{Parts, fresh_parts}
 use Rattle.mt_version.specs.Changes.{IsMarked, IsStable, SameButLock}
 use Rattle.mt_slices.specs.Slices.{slice_of, mark_of}
@@ -60,7 +60,7 @@ walk_from_top writes first = record {
   next = None;
   slot = 0;
   taken = Missing;
-  looked = 0;
+  right_at = 0;
 }
 
 -- what comes next at a border node: a get looks, others lock
@@ -114,25 +114,26 @@ FindsIn n key layer (finds.Slot slot kind) = IsInSlot n slot key layer kind
 
 -- after Search: to load the slot that has the key or a link; to confirm where the key is missing, or another long one stands in its place
 abbrev pub after_search : Find → Walk → ℕ → Walk
-after_search finds.Missing w step = record w { taken = Missing; looked = step; phase = Confirm }
-after_search (finds.Slot slot OtherLong) w step = record w { taken = Missing; looked = step; phase = Confirm }
-after_search (finds.Slot slot _) w step = record w { slot = slot; phase = Load }
+after_search finds.Missing w step = record w { taken = Missing; right_at = step; phase = Confirm }
+after_search (finds.Slot slot OtherLong) w step = record w { taken = Missing; right_at = step; phase = Confirm }
+after_search (finds.Slot slot _) w step = record w { slot = slot; right_at = step; phase = Load }
 
--- what a load takes out of this slot, and the row that it answers: nothing where the slot is no more
-abbrev pub TakesFrom : NodeView → ℕ → Option Columns → Taken → Type 0
-TakesFrom n slot row Missing = ⊥
-TakesFrom n slot row Row = (slot < length n.slots) × (pair : Pair) × ((slot_at n slot).held ≡ helds.Stable pair) × (row ≡ Some pair.row)
-TakesFrom n slot row (Link u) = (slot < length n.slots) × ((slot_at n slot).held ≡ helds.Link u) × (row ≡ None)
-TakesFrom n slot row Nothing = ¬ (slot < length n.slots) × (row ≡ None)
+-- What a load takes out of the walk's slot, the row that it answers, and the step after which that is right: a row at the first step or the later
+-- one that placed it; the tree of a link, or nothing where the slot is no more, at the step of the search.
+abbrev pub Takes : NodeView → Walk → Option Columns → Taken → ℕ → Type 0
+Takes n w row Missing at = ⊥
+Takes n w row Row at = (w.slot < length n.slots) × (pair : Pair) × ((slot_at n w.slot).held ≡ helds.Stable pair) × (row ≡ Some pair.row) × (at ≡ max w.first pair.stamp)
+Takes n w row (Link u) at = (w.slot < length n.slots) × ((slot_at n w.slot).held ≡ helds.Link u) × (row ≡ None) × (at ≡ w.right_at)
+Takes n w row Nothing at = ¬ (w.slot < length n.slots) × (row ≡ None) × (at ≡ w.right_at)
 
--- after Load: to confirm what was taken by the step of this number
+-- after Load: to confirm what was taken
 abbrev pub after_load : Walk → Taken → ℕ → Walk
-after_load w taken step = record w { taken = taken; looked = step; phase = Confirm }
+after_load w taken at = record w { taken = taken; right_at = at; phase = Confirm }
 
--- a load of a slot, by the step of this number
-pub record Loads (n : NodeView) (slot step : ℕ) (before after : Walk) (row : Option Columns) : Type 0 where
-  pub takes : TakesFrom n slot row after.taken
-  pub is : after ≡ after_load before after.taken step
+-- a load of the walk's slot, and the row that it answers
+pub record Loads (n : NodeView) (before after : Walk) (row : Option Columns) : Type 0 where
+  pub takes : Takes n before row after.taken after.right_at
+  pub is : after ≡ after_load before after.taken after.right_at
 
 -- after Confirm where the version stands: into the tree of a link, else done
 abbrev pub after_confirm : Taken → Walk → Walk

@@ -12,7 +12,7 @@ ghost use Rattle.mt_descent.specs.Pasts.{Past, ExtendsPast};
 ghost use Rattle.mt_descent.specs.Kept.{HoldsNothing, IsAtJudge, IsKept};
 ghost use Rattle.mt_descent.specs.Moves.{walk_from_top};
 
-/// A stored key may be looked for from the top tree on.
+/// A stored key may be right_at for from the top tree on.
 pub fn walks_begin()
     ensures { (v : ArenaView) (past : Past) (key : Bytes) (row : Option Columns) (writes : Bool) (first : ℕ) → IsArena v.nodes v.trees → IsStoredKey key →
         IsKept v past key row (walk_from_top writes first) }

@@ -14,7 +14,7 @@ ghost use Rattle.mt_arena.specs.Forests.{tree_at};
 ghost use Rattle.mt_arena.specs.Arena.{content_of, Guarantee};
 ghost use Rattle.mt_arena.specs.Accesses.{at};
 ghost use Rattle.mt_descent.specs.Seen.{child_for, IsOutdated};
-ghost use Rattle.mt_descent.specs.Pasts.{Past, IsNow};
+ghost use Rattle.mt_descent.specs.Pasts.{Past, IsNow, AreStamped};
 ghost use Rattle.mt_descent.specs.Kept.{slice_in, HoldsNothing, IsKept, IsAtEnter, IsAtPick, IsAtChild, IsAtVerify, IsAtBorder, IsAtLoad, IsAtConfirm, IsAtForward, IsAtJudge};
 ghost use Rattle.mt_descent.specs.Moves.{IsBlocked, WaitsFor, IsBlockedAt, Continues, arrival, walk_onto, walk_into, walk_anew, walk_reseen, walk_here, after_enter, after_pick, after_child, after_search, after_load, after_confirm, after_change, after_forward, FindsIn, Loads, Verifies, Confirms, Locks};
 
@@ -182,55 +182,55 @@ fn go_on(walk: &mut Walk, found: Find, step: u64)
     match found {
         Find::Missing | Find::Slot(_, FoundKind::OtherLong) => {
             walk.taken = Taken::Missing;
-            walk.looked = step;
+            walk.right_at = step;
             walk.phase = Phase::Confirm;
         }
         Find::Slot(slot, FoundKind::ThisKey | FoundKind::Link) => {
             walk.slot = slot;
+            walk.right_at = step;
             walk.phase = Phase::Load;
         }
     }
 }
 
-/// Reads the slot that was found, by the step of this number: the key's row, or nothing where there
-/// is a link or no slot any more. An unstable slot is an error, with the number of the operation that
-/// is making it a link.
+/// Reads the slot that was found: the key's row, or nothing where there is a link or
+/// no slot any more. An unstable slot is an error, with the number of the operation that is making it
+/// a link.
 pub fn load<'a>(
     arena: &'a Arena,
     key: &StoredKey,
     walk: &mut Walk,
-    step: u64,
 ) -> Result<Option<&'a Row>, usize>
     requires kept { IsAtLoad arena.now key.now walk.old }
     ensures waits { IfErr result (λ holder. (walk.new ≡ walk.old) × IsBlockedAt (at arena.now walk.old.place.node) walk.old.slot holder) }
-    ensures is { IfOk result (λ taken. Loads (at arena.now walk.old.place.node) walk.old.slot step walk.old walk.new (option_map (λ row. row.now) taken)) }
+    ensures is { IfOk result (λ taken. Loads (at arena.now walk.old.place.node) walk.old walk.new (option_map (λ row. row.now) taken)) }
     ensures same { Continues walk.old walk.new }
-    ensures kept { (past : Past) → IsNow past step arena.now → walk.old.first ≤ step →
+    ensures kept { (past : Past) → AreStamped past arena.now → walk.old.first ≤ past.steps →
         IfOk result (λ taken. IsKept arena.now past key.now (option_map (λ row. row.now) taken) walk.new) }
 {
     arena.facts();
-    taken_at(arena, walk, step)
+    taken_at(arena, walk)
 }
 
 // What the slot holds.
-fn taken_at<'a>(arena: &'a Arena, walk: &mut Walk, step: u64) -> Result<Option<&'a Row>, usize>
+fn taken_at<'a>(arena: &'a Arena, walk: &mut Walk) -> Result<Option<&'a Row>, usize>
     requires there { walk.old.place.node < length arena.now.nodes }
     requires border { (at arena.now walk.old.place.node).level ≡ 0 }
     ensures waits { IfErr result (λ holder. (walk.new ≡ walk.old) × IsBlockedAt (at arena.now walk.old.place.node) walk.old.slot holder) }
-    ensures is { IfOk result (λ taken. Loads (at arena.now walk.old.place.node) walk.old.slot step walk.old walk.new (option_map (λ row. row.now) taken)) }
+    ensures is { IfOk result (λ taken. Loads (at arena.now walk.old.place.node) walk.old walk.new (option_map (λ row. row.now) taken)) }
 {
     arena.facts();
-    let taken = match arena.border(walk.place.node).load(walk.slot) {
+    let row = match arena.border(walk.place.node).load(walk.slot) {
         Some(Held::Stable(pair)) => {
-            take(walk, Taken::Row, step);
+            take(walk, Taken::Row, walk.first.max(pair.stamp));
             Some(&pair.row)
         }
         Some(Held::Link(tree)) => {
-            take(walk, Taken::Link(*tree), step);
+            take(walk, Taken::Link(*tree), walk.right_at);
             None
         }
         None => {
-            take(walk, Taken::Nothing, step);
+            take(walk, Taken::Nothing, walk.right_at);
             None
         }
         Some(Held::Unstable(_, _)) => match arena.node(walk.place.node).holder() {
@@ -238,15 +238,15 @@ fn taken_at<'a>(arena: &'a Arena, walk: &mut Walk, step: u64) -> Result<Option<&
             None => unreachable!(),
         },
     };
-    Ok(taken)
+    Ok(row)
 }
 
-// Notes what a load took.
-fn take(walk: &mut Walk, taken: Taken, step: u64)
-    ensures { walk.new ≡ after_load walk.old taken step }
+// Notes what a load took, and the step after which it is right.
+fn take(walk: &mut Walk, taken: Taken, at: u64)
+    ensures { walk.new ≡ after_load walk.old taken at }
 {
     walk.taken = taken;
-    walk.looked = step;
+    walk.right_at = at;
     walk.phase = Phase::Confirm;
 }
 

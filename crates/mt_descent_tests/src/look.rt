@@ -52,7 +52,7 @@ fn loaded<'a>(arena: &'a Arena, key: &StoredKey, walk: &mut Walk) -> Option<Opti
     ensures first { IfSome result (λ row. walk.new.first ≡ 0) }
     ensures kept { IfSome result (λ row. IsKept arena.now (stillness arena.now) key.now (option_map (λ r. r.now) row) walk.new) }
 {
-    match load(arena, key, walk, 0) {
+    match load(arena, key, walk) {
         Ok(row) => Some(row),
         Err(_) => None,
     }
