@@ -137,7 +137,8 @@ pub fn verify(arena: &Arena, key: &StoredKey, walk: &mut Walk) -> Option<usize>
 {
     arena.facts();
     let node = arena.node(walk.place.node);
-    if node.version().same_but_lock(walk.place.seen) {
+    let now = node.version();
+    if now.same_but_lock(walk.place.seen) {
         onto(walk, walk.child, walk.child_seen);
         return None;
     }
@@ -148,7 +149,7 @@ pub fn verify(arena: &Arena, key: &StoredKey, walk: &mut Walk) -> Option<usize>
     if let Some(holder) = blocker(node) {
         return Some(holder);
     }
-    walk.place.seen = node.version();
+    walk.place.seen = now;
     walk.phase = Phase::Pick;
     None
 }
@@ -358,7 +359,8 @@ pub fn lock(arena: &mut Arena, key: &StoredKey, walk: &mut Walk, operation: usiz
     if let Some(holder) = node.holder() {
         return Some(holder);
     }
-    if is_outdated(node, walk.place.seen) {
+    let seen = walk.place.seen;
+    if is_outdated(node, seen) {
         move_on(walk, node);
     } else {
         arena.lock(walk.place.node, operation);

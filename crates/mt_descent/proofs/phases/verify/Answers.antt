@@ -7,6 +7,6 @@ use Rattle.mt_descent.proofs.phases.verify.Goals as goal
 
 pub returns-then-same_but_lock-clause-kept : goal.returns-then-same_but_lock-clause-kept
 returns-then-same_but_lock-clause-kept c past row =
-    let is = c.version.ensures ∙ ap (λ (n : NodeView). n.version) c.node-node.ensures in
+    let is = c.version-now.ensures ∙ ap (λ (n : NodeView). n.version) c.node-node.ensures in
     rw c.onto.ensures
     (kept_verified c.args.arena.now past c.args.key.now row c.args.walk.now c.facts.ensures.arena c.requires.kept (subst (λ (p : Parts). SameButLock p c.args.walk.now.place.seen) is (c.same_but_lock.ensures.0 c.if-same_but_lock.true)))
