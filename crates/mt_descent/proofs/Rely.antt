@@ -86,7 +86,7 @@ unmade_stays op tree after c unmade (Made by) is q e = unmade by is
 unmade_stays op tree after c unmade Live is q e = c.live is q e
 unmade_stays op tree after c unmade Dead is q e = unmade q (ap (λ (t : Tree). t.standing) (sym (c.dead is)) ∙ e)
 
-module _ (op : ℕ) (old new : ArenaView) (before after : Past) (e : NodesGuarantee op old.nodes new.nodes old.trees new.trees) (g : ExtendsPast before after) where
+module _ (op : ℕ) (old new : ArenaView) (e : NodesGuarantee op old.nodes new.nodes old.trees new.trees) where
   through_stays : (t layer : ℕ) (key : Bytes) → GoesThrough old t layer key → GoesThrough new t layer key
   through_stays t layer key h =
       let c = e.trees t h.there in
@@ -142,16 +142,16 @@ module _ (op : ℕ) (old new : ArenaView) (before after : Past) (e : NodesGuaran
     border = (e.nodes w.place.node h.covers.remembered.there).level ∙ h.border;
   }
 
-  had_stays : (first step : ℕ) (key : Bytes) (row : Option Columns) → Had before first step key row → Had after first step key row
-  had_stays first step key row h = record { since = h.since; made = omega (arith, h.made, g.steps); had = ap (λ m. get m (owned key)) (g.same step h.made) ∙ h.had }
+  had_stays : (before after : Past) (first step : ℕ) (key : Bytes) (row : Option Columns) → ExtendsPast first before after → Had before first step key row → Had after first step key row
+  had_stays before after first step key row g h = record { since = h.since; made = omega (arith, h.made, g.steps); had = ap (λ m. get m (owned key)) (g.same step h.since h.made) ∙ h.had }
 
-  taken_stays : (key : Bytes) (row : Option Columns) (w : Walk) (taken : Taken) → w.place.node < length old.nodes → WasSeen (at old w.place.node) w.place.seen → TakenHolds old before key row w taken → TakenHolds new after key row w taken
-  taken_stays key row w Missing within was h = λ stands. had_stays w.first w.right_at key None (h (range_stood op (at old w.place.node) (at new w.place.node) (e.nodes w.place.node within) w.place.seen was stands))
-  taken_stays key row w Row within was h = λ stands.
+  taken_stays : (before after : Past) (key : Bytes) (row : Option Columns) (w : Walk) (taken : Taken) → ExtendsPast w.first before after → w.place.node < length old.nodes → WasSeen (at old w.place.node) w.place.seen → TakenHolds old before key row w taken → TakenHolds new after key row w taken
+  taken_stays before after key row w Missing g within was h = λ stands. had_stays before after w.first w.right_at key None g (h (range_stood op (at old w.place.node) (at new w.place.node) (e.nodes w.place.node within) w.place.seen was stands))
+  taken_stays before after key row w Row g within was h = λ stands.
       let f = h (stood op (at old w.place.node) (at new w.place.node) (e.nodes w.place.node within) w.place.seen was stands) in
-      (f.0, f.1, had_stays w.first w.right_at key row f.2)
-  taken_stays key row w (Link u) within was h = λ stands. through_stays u (w.layer + 1) key (h (stood op (at old w.place.node) (at new w.place.node) (e.nodes w.place.node within) w.place.seen was stands))
-  taken_stays key row w Nothing within was h = λ stands. h (stood op (at old w.place.node) (at new w.place.node) (e.nodes w.place.node within) w.place.seen was stands)
+      (f.0, f.1, had_stays before after w.first w.right_at key row g f.2)
+  taken_stays before after key row w (Link u) g within was h = λ stands. through_stays u (w.layer + 1) key (h (stood op (at old w.place.node) (at new w.place.node) (e.nodes w.place.node within) w.place.seen was stands))
+  taken_stays before after key row w Nothing g within was h = λ stands. h (stood op (at old w.place.node) (at new w.place.node) (e.nodes w.place.node within) w.place.seen was stands)
 
   next_stays : (t k : ℕ) (seen : Parts) (next : Option ℕ) → k < length old.nodes → WasSeen (at old k) seen → HasNext old t k seen next → HasNext new t k seen next
   next_stays t k seen next within was h =
@@ -165,27 +165,27 @@ module _ (op : ℕ) (old new : ArenaView) (before after : Past) (e : NodesGuaran
         last = λ none stands. omega (arith, h.last none (range_stood op (at old k) (at new k) c seen was stands), widens op (at old k) (at new k) c seen was stands);
       }
 
-  answered_stays : (key : Bytes) (row : Option Columns) (w : Walk) (taken : Taken) → TakenWasRight before key row w taken → TakenWasRight after key row w taken
-  answered_stays key row w Missing h = had_stays w.first w.right_at key None h
-  answered_stays key row w Row h = (h.0, h.1, had_stays w.first w.right_at key row h.2)
-  answered_stays key row w (Link u) h = absurd h
-  answered_stays key row w Nothing h = absurd h
+  answered_stays : (before after : Past) (key : Bytes) (row : Option Columns) (w : Walk) (taken : Taken) → ExtendsPast w.first before after → TakenWasRight before key row w taken → TakenWasRight after key row w taken
+  answered_stays before after key row w Missing g h = had_stays before after w.first w.right_at key None g h
+  answered_stays before after key row w Row g h = (h.0, h.1, had_stays before after w.first w.right_at key row g h.2)
+  answered_stays before after key row w (Link u) g h = absurd h
+  answered_stays before after key row w Nothing g h = absurd h
 
-  -- the rely
-  pub kept_stays : (key : Bytes) (row : Option Columns) (w : Walk) (phase : Phase) → KeptAt phase old before key row w → KeptAt phase new after key row w
-  kept_stays key row w Enter h = through_stays w.place.tree w.layer key h
-  kept_stays key row w Pick h = pick_stays key w h
-  kept_stays key row w Child h = record {
+  -- the rely: what a walk keeps at its phase
+  pub kept_stays : (before after : Past) (key : Bytes) (row : Option Columns) (w : Walk) (phase : Phase) → ExtendsPast w.first before after → KeptAt phase old before key row w → KeptAt phase new after key row w
+  kept_stays before after key row w Enter g h = through_stays w.place.tree w.layer key h
+  kept_stays before after key row w Pick g h = pick_stays key w h
+  kept_stays before after key row w Child g h = record {
     above = pick_stays key w h.above;
     picked = picked_stays w.place.node w.place.seen (slice_in key w) w.child h.above.covers.remembered.there h.above.covers.remembered.was h.picked;
   }
-  kept_stays key row w Verify h = record {
+  kept_stays before after key row w Verify g h = record {
     above = pick_stays key w h.above;
     picked = picked_stays w.place.node w.place.seen (slice_in key w) w.child h.above.covers.remembered.there h.above.covers.remembered.was h.picked;
     child = seen_stays op (at old w.child) (at new w.child) (e.nodes w.child h.picked.there) w.child_seen h.child;
   }
-  kept_stays key row w Search h = border_stays key w h
-  kept_stays key row w Load h =
+  kept_stays before after key row w Search g h = border_stays key w h
+  kept_stays before after key row w Load g h =
       let k = w.place.node in
       let within = h.at_border.covers.remembered.there in
       let was = h.at_border.covers.remembered.was in
@@ -195,19 +195,19 @@ module _ (op : ℕ) (old new : ArenaView) (before after : Past) (e : NodesGuaran
         found = λ stands. slot_stays (at old k) (at new k) w.slot key w.layer (sym (same_keys op (at old k) (at new k) c w.place.seen was stands).slots)
             (h.found (stood op (at old k) (at new k) c w.place.seen was stands));
       }
-  kept_stays key row w Confirm h = record {
+  kept_stays before after key row w Confirm g h = record {
     at_border = border_stays key w h.at_border;
-    taken = taken_stays key row w w.taken h.at_border.covers.remembered.there h.at_border.covers.remembered.was h.taken;
+    taken = taken_stays before after key row w w.taken g h.at_border.covers.remembered.there h.at_border.covers.remembered.was h.taken;
   }
-  kept_stays key row w Forward h = record {
+  kept_stays before after key row w Forward g h = record {
     through = through_stays w.place.tree w.layer key h.through;
     remembered = remembered_stays w.place.tree w.place.node w.place.seen (slice_in key w) h.remembered;
     border = (e.nodes w.place.node h.remembered.there).level ∙ h.border;
     next = next_stays w.place.tree w.place.node w.place.seen w.next h.remembered.there h.remembered.was h.next;
   }
-  kept_stays key row w Lock h = border_stays key w h
-  kept_stays key row w Judge h = tt
-  kept_stays key row w Done h = answered_stays key row w w.taken h
+  kept_stays before after key row w Lock g h = border_stays key w h
+  kept_stays before after key row w Judge g h = tt
+  kept_stays before after key row w Done g h = answered_stays before after key row w w.taken g h
 
   -- what the holder of a border node keeps, no other operation changes
   pub judge_stays : (o : ℕ) (key : Bytes) (w : Walk) → o ≢ op → IsAtJudge old o key w → IsAtJudge new o key w

@@ -18,10 +18,10 @@ pub record IsNow (past : Past) (step : ℕ) (v : ArenaView) : Type 0 where
   pub made : step ≤ past.steps
   pub contents : past.contents step ≡ content_of v
 
--- no fewer steps were made, and the contents after the old ones are as they were
-pub record ExtendsPast (old new : Past) : Type 0 where
+-- no fewer steps were made, and after those of before, from this one on, the contents are still told so
+pub record ExtendsPast (from : ℕ) (old new : Past) : Type 0 where
   pub steps : old.steps ≤ new.steps
-  pub same : (n : ℕ) → n ≤ old.steps → new.contents n ≡ old.contents n
+  pub same : (n : ℕ) → from ≤ n → n ≤ old.steps → new.contents n ≡ old.contents n
 
 -- after this step and each one since, the contents had this row for the key
 pub record StoodSince (past : Past) (step : ℕ) (key : Bytes) (row : Columns) : Type 0 where

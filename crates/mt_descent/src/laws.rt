@@ -12,17 +12,18 @@ ghost use Rattle.mt_descent.specs.Pasts.{Past, ExtendsPast};
 ghost use Rattle.mt_descent.specs.Kept.{HoldsNothing, IsAtJudge, IsKept};
 ghost use Rattle.mt_descent.specs.Moves.{walk_from_top};
 
-/// A stored key may be right_at for from the top tree on.
+/// A stored key may be looked for from the top tree on.
 pub fn walks_begin()
     ensures { (v : ArenaView) (past : Past) (key : Bytes) (row : Option Columns) (writes : Bool) (first : ℕ) → IsArena v.nodes v.trees → IsStoredKey key →
         IsKept v past key row (walk_from_top writes first) }
 {}
 
-/// Whatever an operation that holds nothing keeps at its phase, it keeps through each step of an
-/// operation: only what the step leaves to others counts.
+/// Whatever an operation that holds nothing keeps at its phase, it keeps through each step of any
+/// operation: what counts is what the step leaves to others, and that the past stands from the
+/// operation's first step on.
 pub fn kept_stays()
     ensures { (op : ℕ) (old new : ArenaView) (before after : Past) (key : Bytes) (row : Option Columns) (w : Walk) →
-        NodesGuarantee op old.nodes new.nodes old.trees new.trees → ExtendsPast before after →
+        NodesGuarantee op old.nodes new.nodes old.trees new.trees → ExtendsPast w.first before after →
         IsKept old before key row w → IsKept new after key row w }
 {}
 

@@ -1,3 +1,4 @@
+-- What is kept where a border node has changed.
 use Rattle.std.proofs.Common.{subst}
 use Rattle.mt_version.specs.Changes.{IsStable}
 use Rattle.mt_arena.specs.NodeView.{NodeView}

@@ -1,3 +1,4 @@
+-- What is kept at a root.
 use Rattle.std.proofs.Common.{rules, ap, subst, ◌∙◌}
 use Rattle.mt_version.specs.Changes.{IsStable}
 use Rattle.mt_arena.specs.declared.tree.Tree.{Tree}

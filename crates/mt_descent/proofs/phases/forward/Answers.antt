@@ -1,3 +1,4 @@
+-- What is kept at the next border node, and where there is none.
 use Rattle.std.proofs.Common.{subst}
 use Rattle.mt_version.specs.Changes.{IsStable}
 use Rattle.mt_arena.specs.NodeView.{NodeView}

@@ -1,3 +1,4 @@
+-- What is kept where a border node was deleted or split before the lock was taken.
 use Rattle.std.proofs.Common.{length, ap, sym, ◌∙◌}
 use Rattle.mt_arena.specs.NodeView.{NodeView}
 use Rattle.mt_arena.specs.Accesses.{at}

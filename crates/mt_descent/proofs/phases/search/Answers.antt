@@ -1,3 +1,4 @@
+-- What is kept of what was found.
 use Rattle.std.proofs.Common.{ap}
 use Rattle.mt_arena.specs.NodeView.{NodeView}
 use Rattle.mt_arena.specs.Accesses.{at}

@@ -1,3 +1,4 @@
+-- What is kept at the child of an interior node that stands.
 use Rattle.std.proofs.Common.{ap, subst, ◌∙◌}
 use Rattle.mt_version.specs.Parts.{Parts}
 use Rattle.mt_version.specs.Changes.{SameButLock}
