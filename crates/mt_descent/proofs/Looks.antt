@@ -37,7 +37,7 @@ use Rattle.mt_descent.specs.Kept.{GoesThrough, IsAtBorder, IsInSlot, IsAtLoad, H
 use Rattle.mt_descent.specs.Moves.{FindsIn, after_search, after_load, Takes, Loads}
 use Rattle.mt_descent.proofs.Ways.{live_tree}
 
--- what a border node finds, its shape finds
+-- what a border node finds, its view finds
 in_slot : (n : NodeView) (b : BorderNode) (slot : ℕ) (key : Bytes) (layer : ℕ) (kind : FoundKind) → n.slots ≡ b.slots → IsFound b (slice_of key layer) (mark_of key layer) (suffix_of key layer) slot kind → IsInSlot n slot key layer kind
 in_slot n b slot key layer kind same h = record {
   in_range = subst (λ (s : List Entry). slot < length s) (sym same) h.live;
@@ -46,6 +46,7 @@ in_slot n b slot key layer kind same h = record {
   kind_is = subst (λ (s : List Entry). IsKind (slot_at (record n { slots = s }) slot) (suffix_of key layer) kind) (sym same) h.kind_is;
 }
 
+-- the answer of a border node's search is one of its view
 pub finds_in : (n : NodeView) (b : BorderNode) (key : Bytes) (layer : ℕ) (f : Find) → n.slots ≡ b.slots → Finds b (slice_of key layer) (mark_of key layer) (suffix_of key layer) f → FindsIn n key layer f
 finds_in n b key layer finds.Missing same h = subst (λ (s : List Entry). IsMissing s (slice_of key layer) (mark_of key layer)) (sym same) h
 finds_in n b key layer (finds.Slot slot kind) same h = in_slot n b slot key layer kind same h
@@ -81,6 +82,7 @@ module _ (v : ArenaView) (key : Bytes) (w : Walk) (arena : IsArena v.nodes v.tre
   no_other slot None stands f is some = absurd some
   no_other slot (Some other) stands f is some = none_beside v.nodes v.trees arena (begun v.nodes v.trees arena.forest) key w.layer w.place.node (belongs stands) slot other (stands_at slot OtherLong stands f) is some
 
+  -- a walk that has searched, by what was found
   pub kept_searched : (past : Past) (row : Option Columns) (step : ℕ) (f : Find) → IsNow past step v → w.first ≤ step → FindsIn n key w.layer f → IsKept v past key row (after_search f w step)
   kept_searched past row step finds.Missing now since missing = record {
     at_border = record { through = h.through; covers = h.covers; border = h.border };
@@ -149,6 +151,7 @@ module _ (v : ArenaView) (key : Bytes) (w : Walk) (arena : IsArena v.nodes v.tre
         had = rw is (stood.stood at (omega (arith, at_is, le-max_right w.first pair.stamp)) (rw at_is (max-le since stood.made)));
       }
 
+  -- a walk that has loaded, by what was taken
   pub kept_loaded : (past : Past) (row : Option Columns) (at : ℕ) (taken : Taken) → AreStamped past v → w.first ≤ past.steps → Takes m w row taken at → IsKept v past key row (after_load w taken at)
   kept_loaded past row at takens.Missing stamped since t = absurd t
   kept_loaded past row at takens.Row stamped since t = record {
@@ -164,6 +167,6 @@ module _ (v : ArenaView) (key : Bytes) (w : Walk) (arena : IsArena v.nodes v.tre
     taken = λ stands. t.0 (h.found stands).in_slot.in_range;
   }
 
--- what is kept, from what a load tells
+-- the same, from what the load tells
 pub kept_loads : (v : ArenaView) (key : Bytes) (w after : Walk) (past : Past) (row : Option Columns) → IsArena v.nodes v.trees → IsAtLoad v key w → AreStamped past v → w.first ≤ past.steps → Loads (at v w.place.node) w after row → IsKept v past key row after
 kept_loads v key w after past row arena h stamped since l = subst (λ (x : Walk). IsKept v past key row x) (sym l.is) (kept_loaded v key w arena h past row after.right_at after.taken stamped since l.takes)

@@ -34,8 +34,9 @@ was_live : (a b : Bool) → (a ≡ true → b ≡ true) → b ≡ false → a �
 was_live true b stays live = absurd (let dead = stays refl in cc)
 was_live false b stays live = refl
 
--- one node
+-- one node, before a step and after it, and a version of it that was seen
 module _ (op : ℕ) (n m : NodeView) (c : Changes op n m) (seen : Parts) (was : WasSeen n seen) where
+  -- what was seen stays so
   pub seen_stays : WasSeen m seen
   seen_stays = record { whole = was.whole; still = was.still; ages = versions.ages_trans seen n.version m.version was.ages c.ages }
 
@@ -46,6 +47,7 @@ module _ (op : ℕ) (n m : NodeView) (c : Changes op n m) (seen : Parts) (was : 
   same_range : RangeStands m seen → range_age n.version ≡ range_age m.version
   same_range stands = omega (arith, was.ages.range, c.ages.range, stands.range)
 
+  -- so did the version
   pub stood : Stands m seen → Stands n seen
   stood stands =
       let before = range_stood stands.in_range in
@@ -58,10 +60,11 @@ module _ (op : ℕ) (n m : NodeView) (c : Changes op n m) (seen : Parts) (was : 
   whole_before : RangeStands m seen → n.version.splitting ≡ false
   whole_before stands = (versions.range_age_tells n.version seen (range_stood stands).range).1 ∙ was.whole
 
-  -- the range only widens while it stands, and the keys stand while the version does
+  -- the range only widens while it stands
   pub widens : RangeStands m seen → end_of n.high ≤ end_of m.high
   widens stands = c.widens (same_range stands) (whole_before stands) stands.live
 
+  -- the keys and children stand while the version does
   pub same_keys : Stands m seen → HasSameKeys n m
   same_keys stands =
       let before = stood stands in
@@ -135,6 +138,7 @@ module _ (op : ℕ) (old new : ArenaView) (e : NodesGuarantee op old.nodes new.n
         ∙ ap (λ (xs : List ℕ). child_for (record (at new k) { children = xs }) slice) (sym same.children);
   }
 
+  -- what is kept at a border node
   pub border_stays : (key : Bytes) (w : Walk) → IsAtBorder old key w → IsAtBorder new key w
   border_stays key w h = record {
     through = through_stays w.place.tree w.layer key h.through;

@@ -62,6 +62,7 @@ arrived_by v past key row w true false f g = f refl
 arrived_by v past key row w false true f g = g refl
 arrived_by v past key row w false false f g = g refl
 
+-- a walk that comes to a node which covers the slice keeps what its next phase asks, by the node's kind
 pub arrived : (v : ArenaView) (past : Past) (key : Bytes) (row : Option Columns) (w : Walk) (k : ℕ) (seen : Parts) → IsArena v.nodes v.trees → GoesThrough v w.place.tree w.layer key → Covers v w.place.tree k seen (slice_in key w) → IsKept v past key row (walk_onto w k seen)
 arrived v past key row w k seen arena through covers =
     let node = arena.nodes.each k covers.remembered.there in
@@ -93,6 +94,7 @@ covers_root v t layer key arena through undead stable =
       below = λ stands. omega (arith, end, below);
     }
 
+-- a walk that comes to the root of a tree
 pub kept_entered : (v : ArenaView) (past : Past) (key : Bytes) (row : Option Columns) (w : Walk) → IsArena v.nodes v.trees → GoesThrough v w.place.tree w.layer key → (tree_at v.trees w.place.tree).standing ≢ Dead → IsStable (at v (tree_at v.trees w.place.tree).root).version
     → IsKept v past key row (walk_onto w (tree_at v.trees w.place.tree).root (at v (tree_at v.trees w.place.tree).root).version)
 kept_entered v past key row w arena through undead stable =
@@ -107,10 +109,11 @@ has_child count n slice node some = by n.children refl
     by [] e = absurd (some e)
     by (x ∷ xs) e = omega (arith, place_of-le-length n.separators slice, node.children.interior.between, ap length e)
 
--- an interior node's child is that of its shape
+-- an interior node's child is that of its view
 pub same_child : (n : NodeView) (i : InteriorNode) (slice : ℕ) → n.separators ≡ i.separators → n.children ≡ i.children → slice_index i.children (place_of i.separators slice) ≡ child_for n slice
 same_child n i slice separators children = rw (separators, children) refl
 
+-- a walk with the child for the slice
 pub kept_picked : (v : ArenaView) (key : Bytes) (w : Walk) → IsArena v.nodes v.trees → IsAtPick v key w → IsAtChild v key (after_pick w (child_for (at v w.place.node) (slice_in key w)))
 kept_picked v key w arena h =
     let n = at v w.place.node in
@@ -154,6 +157,7 @@ covers_child v key w arena h stands =
     was_live true b stays live = absurd (let dead = stays refl in cc)
     was_live false b stays live = refl
 
+-- a walk that goes on at the child
 pub kept_verified : (v : ArenaView) (past : Past) (key : Bytes) (row : Option Columns) (w : Walk) → IsArena v.nodes v.trees → IsAtVerify v key w → SameButLock (at v w.place.node).version w.place.seen → IsKept v past key row (walk_onto w w.child w.child_seen)
 kept_verified v past key row w arena h same =
     arrived v past key row w w.child w.child_seen arena h.above.through
@@ -206,15 +210,17 @@ arrives : (v : ArenaView) (past : Past) (key : Bytes) (row : Option Columns) (w 
 arrives v past key row w true h = h
 arrives v past key row w false h = h
 
+-- a walk that stays at its border node, since the slice lies before the next one
 pub kept_here : (v : ArenaView) (past : Past) (key : Bytes) (row : Option Columns) (w : Walk) → IsAtForward v key w → ((j : ℕ) → w.next ≡ Some j → slice_in key w < (at v j).low) → IsKept v past key row (walk_here w)
 kept_here v past key row w h before =
     let b = covers_here v key w h before in
     arrives v past key row (walk_here w) w.writes record { through = b.through; covers = b.covers; border = b.border }
 
+-- or since there is no next one
 pub kept_last : (v : ArenaView) (past : Past) (key : Bytes) (row : Option Columns) (w : Walk) → IsAtForward v key w → w.next ≡ None → IsKept v past key row (walk_here w)
 kept_last v past key row w h none = kept_here v past key row w h (λ j is. absurd (let both = sym none ∙ is in cc))
 
--- the next node is unmarked: anew, there, or here
+-- a walk that has read the next node, which is unmarked: anew, there, or here
 pub kept_forwarded : (v : ArenaView) (past : Past) (key : Bytes) (row : Option Columns) (w : Walk) (j : ℕ) → IsArena v.nodes v.trees → IsAtForward v key w → w.next ≡ Some j → IsStable (at v j).version → IsKept v past key row (after_forward w (slice_in key w) j (at v j))
 kept_forwarded v past key row w j arena h is stable = by (at v j).version.deleted refl
   where
@@ -226,7 +232,7 @@ kept_forwarded v past key row w j arena h is stable = by (at v j).version.delete
     by true e = record { there = h.through.there; unmade = h.through.unmade; of_tree = h.through.of_tree; begun = h.through.begun }
     by false e = to (nat_le (at v j).low (slice_in key w)) refl e
 
--- the version differs, and the node is unmarked: anew, or to the next one
+-- a walk whose border node has changed, and is unmarked: anew, or to the next one
 pub kept_moved_on : (v : ArenaView) (past : Past) (key : Bytes) (row : Option Columns) (w : Walk) → IsArena v.nodes v.trees → IsAtBorder v key w → IsStable (at v w.place.node).version → IsKept v past key row (after_change w (at v w.place.node).version (at v w.place.node).next)
 kept_moved_on v past key row w arena h stable = by (at v w.place.node).version.deleted refl
   where

@@ -1,0 +1,5 @@
+use Rattle.mt_descent_tests.proofs.Stamps.{stamped}
+use Rattle.mt_descent_tests.proofs.look.stamps_stand.Goals as goal
+
+pub returns : goal.returns
+returns c = stamped
