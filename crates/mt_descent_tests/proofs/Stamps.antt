@@ -1,6 +1,6 @@
 -- Each pair of an arena stands in a past in which nothing ever changed, for the law of it.
-use Rattle.std.proofs.Common.{◌≡◌, ℕ, ◌+◌, ◌<◌, ◌≤◌, zero, suc, List, [], ◌∷◌, length, sym, ap, ◌∙◌, arith}
-use Rattle.std.specs.Prelude.{sum_by, slice_index_or}
+use Rattle.std.proofs.Common.{◌≤◌, ap, arith}
+use Rattle.std.proofs.lemmas.List.Sums.{get_or-le-sum_by}
 use Rattle.mt_border.specs.declared.entry.Entry.{Entry}
 use Rattle.mt_border.specs.Entry.{pair_of}
 use Rattle.mt_arena.specs.Arena.{ArenaView, IsArena}
@@ -12,16 +12,11 @@ use Rattle.mt_arena.proofs.Owners.{found}
 use Rattle.mt_descent.specs.Pasts.{AreStamped}
 use Rattle.mt_descent_tests.specs.Still.{stamp_in, stamps_of, still}
 
--- no part is above the sum
-le_sum : {X : Type 0} (f : X → ℕ) (xs : List X) (i : ℕ) (d : X) → i < length xs → f (slice_index_or xs i d) ≤ sum_by f xs
-le_sum f [] i d lt = absurd (omega (arith, lt))
-le_sum f (x ∷ xs) zero d lt = omega arith
-le_sum f (x ∷ xs) (suc i) d lt = omega (arith, le_sum f xs i d (omega (arith, lt)))
-
+-- no stamp is above their sum
 pub stamped : (v : ArenaView) → IsArena v.nodes v.trees → AreStamped (still v) v
 stamped v arena key layer k i pair s = record {
   made =
-    let in_node : stamp_in (pair_of (slot_at (at v k) i).held) ≤ stamps_of (at v k) = le_sum (λ (e : Entry). stamp_in (pair_of e.held)) (at v k).slots i _ s.in_range in
-    omega (arith, in_node, ap stamp_in s.pair_is, le_sum stamps_of v.nodes k no_node s.there);
+      let in_node : stamp_in (pair_of (slot_at (at v k) i).held) ≤ stamps_of (at v k) = get_or-le-sum_by (λ (e : Entry). stamp_in (pair_of e.held)) (at v k).slots i _ s.in_range in
+      omega (arith, in_node, ap stamp_in s.pair_is, get_or-le-sum_by stamps_of v.nodes k no_node s.there);
   stood = λ n from to. found v.nodes v.trees arena (begun v.nodes v.trees arena.forest) key layer k i pair s;
 }

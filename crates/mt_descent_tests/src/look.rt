@@ -11,8 +11,7 @@ ghost use Rattle.mt_descent_tests.specs.Still.{still};
 
 use mt_arena::Arena;
 use mt_descent::laws::walks_begin;
-use mt_descent::{Phase, Taken, Walk};
-use mt_descent::{child, confirm, enter, forward, load, pick, search, verify};
+use mt_descent::{Phase, Taken, Walk, child, confirm, enter, forward, load, pick, search, verify};
 use mt_rows::Row;
 use mt_slices::StoredKey;
 
@@ -28,27 +27,23 @@ fn stamps_stand()
 pub fn look<'a>(arena: &'a Arena, key: &StoredKey) -> Option<Option<&'a Row>>
     ensures { IfSome result (λ row. get (content_of arena.now) (owned key.now) ≡ option_map (λ r. r.now) row) }
 {
-    let mut walk = begin(arena, key);
+    let mut walk = begin(arena, key, false);
     look_on(arena, key, &mut walk)
 }
 
-/// A get that begins.
-pub fn begin(arena: &Arena, key: &StoredKey) -> Walk
+/// The walk of an operation that begins.
+pub fn begin(arena: &Arena, key: &StoredKey, writes: bool) -> Walk
     ensures first { result.first ≡ 0 }
     ensures kept { IsKept arena.now (still arena.now) key.now None result }
 {
     arena.facts();
     walks_begin();
     let _bytes = key.as_bytes();
-    Walk::new(false, 0)
+    Walk::new(writes, 0)
 }
 
 /// The answer of a get that is under way, and has no row yet.
-pub fn look_on<'a>(
-    arena: &'a Arena,
-    key: &StoredKey,
-    walk: &mut Walk,
-) -> Option<Option<&'a Row>>
+pub fn look_on<'a>(arena: &'a Arena, key: &StoredKey, walk: &mut Walk) -> Option<Option<&'a Row>>
     requires kept { IsKept arena.now (still arena.now) key.now None walk.old }
     requires first { walk.old.first ≡ 0 }
     ensures { IfSome result (λ row. get (content_of arena.now) (owned key.now) ≡ option_map (λ r. r.now) row) }

@@ -8,17 +8,15 @@ ghost use Rattle.mt_border.specs.Contents.{HasKey};
 ghost use Rattle.mt_arena.specs.Accesses.{new_arena};
 ghost use Rattle.mt_descent.specs.declared.walk.Walk.{Walk as AnyWalk};
 ghost use Rattle.mt_descent.specs.Pasts.{Past};
-ghost use Rattle.mt_descent.specs.Kept.{IsKept, IsAtConfirm};
+ghost use Rattle.mt_descent.specs.Kept.{IsKept};
 ghost use Rattle.mt_descent_tests.specs.Still.{still};
 ghost use Rattle.mt_descent_tests.specs.Story.{with_key};
 
-use crate::look::{look, look_on};
+use crate::look::{begin, look, look_on, step};
 use mt_arena::Arena;
 use mt_border::laws::suffix_fits_mark;
 use mt_border::{Entry, Held, Pair, Suffix};
-use mt_descent::laws::walks_begin;
-use mt_descent::{Phase, Walk};
-use mt_descent::{confirm, enter, lock, search};
+use mt_descent::{Phase, Walk, confirm, lock};
 use mt_rows::{Column, Row};
 use mt_slices::StoredKey;
 use std::alloc::{AllocError, Global};
@@ -70,54 +68,48 @@ fn put(arena: &mut Arena, key: &StoredKey, entry: Entry)
 
 // A get that has searched the root and missed its key.
 fn missing(arena: &Arena, key: &StoredKey) -> Option<Walk>
+    requires { arena.now ≡ new_arena }
     ensures first { IfSome result (λ w. w.first ≡ 0) }
-    ensures kept { IfSome result (λ w. IsAtConfirm arena.now (still arena.now) key.now None w) }
-    ensures phase { IfSome result (λ w. w.phase ≡ Phase.Confirm) }
+    ensures kept { IfSome result (λ w. IsKept arena.now (still new_arena) key.now None w) }
 {
-    arena.facts();
-    walks_begin();
-    let _bytes = key.as_bytes();
-    let mut walk = Walk::new(false, 0);
-    if enter(arena, key, &mut walk).is_some() {
-        return None;
-    }
-    let Phase::Search = walk.phase else {
+    let mut walk = begin(arena, key, false);
+    let None = step(arena, key, &mut walk, None)? else {
         return None;
     };
-    search(arena, key, &mut walk, 0);
-    if let Phase::Confirm = walk.phase {
-        Some(walk)
-    } else {
-        None
-    }
+    let None = step(arena, key, &mut walk, None)? else {
+        return None;
+    };
+    Some(walk)
 }
 
 // Whether a get that is about to answer meets a change, and goes on from there.
 fn meets_change(arena: &Arena, key: &StoredKey, walk: &mut Walk) -> bool
-    requires kept { (past : Past) × IsAtConfirm arena.now past key.now None walk.old }
+    requires kept { IsKept arena.now (still new_arena) key.now None walk.old }
     requires first { walk.old.first ≡ 0 }
     ensures first { walk.new.first ≡ 0 }
     ensures kept { result ≡ true → IsKept arena.now (still arena.now) key.now None walk.new }
 {
-    if confirm(arena, key, walk).is_some() {
-        return false;
+    if let Phase::Confirm = walk.phase {
+        if confirm(arena, key, walk).is_some() {
+            return false;
+        }
+        if let Phase::Forward = walk.phase {
+            return true;
+        }
     }
-    matches!(walk.phase, Phase::Forward)
+    false
 }
 
 // Who is in the way of an operation that comes to lock the root; none where it has locked it.
 fn locks(rt: &impl Abort, arena: &mut Arena, key: &StoredKey, operation: usize) -> Option<usize> {
-    arena.facts();
-    walks_begin();
-    let _bytes = key.as_bytes();
-    let mut walk = Walk::new(true, 1);
-    assert!(rt; enter(arena, key, &mut walk).is_none());
-    let Phase::Lock = walk.phase else {
-        return None;
-    };
-    let holder = lock(arena, key, &mut walk, operation);
-    assert!(rt; holder.is_some() || walk.phase == Phase::Judge);
-    holder
+    let mut walk = begin(arena, key, true);
+    assert!(rt; step(arena, key, &mut walk, None).is_some());
+    if let Phase::Lock = walk.phase {
+        let holder = lock(arena, key, &mut walk, operation);
+        assert!(rt; holder.is_some() || walk.phase == Phase::Judge);
+        return holder;
+    }
+    panic!(rt; "the root is no border node")
 }
 
 // An arena with one key.
