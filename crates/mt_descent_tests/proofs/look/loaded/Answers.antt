@@ -1,3 +1,4 @@
+-- What a load answers is kept, since nothing ever changed.
 use Rattle.std.proofs.Common.{rules, arith}
 use Rattle.mt_descent_tests.specs.Still.{still}
 use Rattle.mt_descent_tests.proofs.look.loaded.Goals as goal
