@@ -1,4 +1,4 @@
--- What a step leaves to others is a relation that joins, and the steps that keep it.
+-- The guarantees of two steps join to one, and which changes give one: for the clause `step` of every call, and for the laws.
 use Rattle.std.proofs.Common.{◌≡◌, ◌≢◌, ℕ, ◌+◌, ◌<◌, ◌≤◌, List, [], ◌∷◌, ◌++◌, length, set, Bool, true, false, Some, None, refl, sym, ap, subst, ◌∙◌, inl, inr, arith, length-append}
 use Rattle.std.proofs.lemmas.Bool.{cases_eq, cases_lt}
 use Rattle.std.proofs.lemmas.List.{length-set, get_or_past}
@@ -31,6 +31,7 @@ untouched_on n m p a b = record {
   orphaned = λ none. b.orphaned (a.orphaned none);
 }
 
+-- a node has the keys and children that it has
 pub same_keys : (n : NodeView) → HasSameKeys n n
 same_keys n = record { slots = refl; separators = refl; children = refl }
 
@@ -202,16 +203,16 @@ points_set op xs i y within so = record {
   new_parent = λ k j from lt. absurd (omega (arith, from, lt, length-set xs i y));
 }
 
--- a new node names nobody
-pub points_push : (op : ℕ) (xs : List NodeView) (y : NodeView) → y.previous ≡ None → y.parent ≡ None → PointsOnly op xs (xs ++ y ∷ [])
+-- a new node names no parent, and nobody before it but one that the operation holds
+pub points_push : (op : ℕ) (xs : List NodeView) (y : NodeView) → ((j : ℕ) → j < length xs → y.previous ≡ Some j → (node_at xs j).holder ≡ Some op) → y.parent ≡ None → PointsOnly op xs (xs ++ y ∷ [])
 points_push op xs y previous parent =
     let size : length (xs ++ y ∷ []) ≡ length xs + 1 = length-append xs (y ∷ []) in
     record {
       previous = λ k j lt _ e not_mine. ap (λ (n : NodeView). n.previous) (sym (before xs y k lt)) ∙ e;
       parent = λ k j lt _ e not_mine. ap (λ (n : NodeView). n.parent) (sym (before xs y k lt)) ∙ e;
-      new_previous = λ k j from lt _ e.
+      new_previous = λ k j from lt lt_j e.
           let is : k ≡ length xs = omega arith in
-          absurd (let at = sym previous ∙ ap (λ (n : NodeView). n.previous) (sym (last xs y)) ∙ ap (λ k. (node_at (xs ++ y ∷ []) k).previous) (sym is) ∙ e in cc);
+          ap (λ (n : NodeView). n.holder) (before xs y j lt_j) ∙ previous j lt_j (ap (λ (n : NodeView). n.previous) (sym (last xs y)) ∙ ap (λ k. (node_at (xs ++ y ∷ []) k).previous) (sym is) ∙ e);
       new_parent = λ k j from lt _ e.
           let is : k ≡ length xs = omega arith in
           absurd (let at = sym parent ∙ ap (λ (n : NodeView). n.parent) (sym (last xs y)) ∙ ap (λ k. (node_at (xs ++ y ∷ []) k).parent) (sym is) ∙ e in cc);

@@ -1,4 +1,5 @@
--- How pointers to a node come to name it rightly again, from the split of a border node to the insert of its right half.
+-- How all that name a node come to name it rightly again, from the split of a border node to the insert of its right half: for the proofs
+-- of whole splits.
 use Rattle.std.proofs.Common.{◌≡◌, ◌≢◌, ◌⊎◌, ℕ, ◌+◌, ◌-◌, ◌<◌, ◌≤◌, List, [], ◌∷◌, ◌++◌, length, get_or, Option, Some, None, false, true, set, refl, sym, ap, subst, ◌∙◌, inl, inr, arith, length-append, length-drop}
 use Rattle.std.specs.List.{All}
 use Rattle.std.proofs.lemmas.Bool.{cases_eq, cases_lt}
@@ -15,7 +16,7 @@ use Rattle.mt_arena.specs.NodeFacts.{IsUnstable}
 use Rattle.mt_arena.specs.Settled.{IsSettled}
 use Rattle.mt_arena.specs.Guarantee.{NodesGuarantee, PointsOnly}
 use Rattle.mt_arena.specs.Lags.{Follows, IsUnder, AreFollowers, AreFollowersBut, AreChildren, AreChildrenBut}
-use Rattle.mt_arena.specs.Edits.{pointed}
+use Rattle.mt_arena.specs.Edits.{splitting, pointed, fresh_half}
 use Rattle.mt_arena.specs.Splits.{Splits, Inserts, left_half, right_half, with_child, exact, inner_left, inner_right}
 use Rattle.mt_arena.proofs.Pairs.{here, there, last, before}
 use Rattle.mt_arena.proofs.Settled.{alive}
@@ -24,6 +25,7 @@ use Rattle.mt_arena.proofs.Settled.{alive}
 not_theirs : (op q : ℕ) (old new : List NodeView) (were are : List Tree) (i : ℕ) → NodesGuarantee op old new were are → q ≢ op → i < length old → (node_at old i).holder ≡ Some q → (node_at new i).holder ≢ Some op
 not_theirs op q old new were are i guarantee other within holder e = other (same_Some _ _ (sym (((guarantee.nodes i within).held q other holder).holder ∙ holder) ∙ e))
 
+-- who names a held node after a step of another operation named it before
 pub follows_before : (op q : ℕ) (old new : List NodeView) (were are : List Tree) (i k : ℕ) → NodesGuarantee op old new were are → PointsOnly op old new → q ≢ op → i < length old → (node_at old i).holder ≡ Some q
     → Follows new i k → Follows old i k
 follows_before op q old new were are i k guarantee points other within holder is = elim (cases_lt k (length old)) [
@@ -57,16 +59,16 @@ under_in xs i k b y within is = elim (cases_eq k b) [
       inr (other, (omega (arith, is.0, length-set xs b y), sym (ap (λ (n : NodeView). n.parent) old) ∙ is.1, sym (ap (λ (n : NodeView). n.version.deleted) old) ∙ is.2))
 ]
 
--- after the slots were parted, all that name the left half as the one before are the right half and the one that was next
-pub left_followers : (xs : List NodeView) (i j : ℕ) (kept moved : List Entry) → i < length xs → j < length xs → i ≢ j → Splits (node_at xs i) (node_at xs j) kept moved → AreFollowers xs i (node_at xs i).next
+-- after the slots were parted, all that name the left half as the one before are, as they were, the right half and the one that was next
+pub left_followers : (xs : List NodeView) (i j : ℕ) (kept moved : List Entry) → i < length xs → j < length xs → i ≢ j → Splits (node_at xs i) (node_at xs j) kept moved → AreFollowersBut xs i (node_at xs i).next j
     → AreFollowersBut (set (set xs i (left_half (node_at xs i) kept (node_at xs j).low j)) j (right_half (node_at xs i) (node_at xs j) moved i)) i (node_at xs i).next j
 left_followers xs i j kept moved li lj differ splits followers k nj is =
     let y = left_half (node_at xs i) kept (node_at xs j).low j in
     elim (follows_in (set xs i y) i k j (right_half (node_at xs i) (node_at xs j) moved i) (omega (arith, lj, length-set xs i y)) is) [
       | inl right ↦ absurd (nj right.0)
       | inr other ↦ elim (follows_in xs i k i y li other.1) [
-        | inl own ↦ followers k (subst (λ c. Follows xs i c) (sym own.0) (li, own.1, splits.live))
-        | inr old ↦ followers k old.1
+        | inl own ↦ followers k nj (subst (λ c. Follows xs i c) (sym own.0) (li, own.1, splits.live))
+        | inr old ↦ followers k nj old.1
       ]
     ]
 
@@ -93,6 +95,7 @@ left_again xs i j b parent differ lb followers k is = elim (follows_in xs i k b 
   ]
 ]
 
+-- and the right half has the one behind it alone
 pub right_again : (xs : List NodeView) (j b : ℕ) (parent : Option ℕ) → b < length xs → AreFollowers xs j None → AreFollowers (set xs b (pointed (node_at xs b) (Some j) parent)) j (Some b)
 right_again xs j b parent lb followers k is = elim (follows_in xs j k b (pointed (node_at xs b) (Some j) parent) lb is) [
   | inl behind ↦ ap (λ (c : ℕ). Some c) (sym behind.0)
@@ -151,6 +154,7 @@ followers_of xs i x settled k is = settled.previous k is.0 is.1 is.2
 pub children_of : (xs : List NodeView) (i : ℕ) (x : NodeView) → IsSettled xs i x → AreChildren xs i x
 children_of xs i x settled k is = settled.parent k is.0 is.1 is.2
 
+-- and how a settled node is made of the words
 pub settled_of : (xs : List NodeView) (i : ℕ) (x : NodeView) → AreFollowers xs i x.next → ((k : ℕ) → Follows xs i k → x.version.deleted ≡ false) → AreChildren xs i x → x.reach ≡ x.high → All (λ e. ¬ IsUnstable e.held) x.slots
     → (x.version.deleted ≡ false → x.parent ≡ None → x.version.root ≡ true) → IsSettled xs i x
 settled_of xs i x followers followed children reach stable rooted = record {
@@ -162,19 +166,42 @@ settled_of xs i x followers followed children reach stable rooted = record {
   rooted = rooted;
 }
 
--- nobody names a new node
-pub fresh_followers : (xs : List NodeView) (y : NodeView) → AreNodes xs → y.previous ≡ None → AreFollowers (xs ++ y ∷ []) (length xs) None
-fresh_followers xs y nodes none k is =
+-- nobody names a new right half, and it alone comes to name its left half
+pub fresh_followers : (xs : List NodeView) (x : NodeView) (i low op : ℕ) → AreNodes xs → i < length xs → AreFollowers (xs ++ fresh_half x i low op ∷ []) (length xs) None
+fresh_followers xs x i low op nodes within k is =
+    let y = fresh_half x i low op in
     let size : length (xs ++ y ∷ []) ≡ length xs + 1 = length-append xs (y ∷ []) in
     elim (cases_eq k (length xs)) [
-      | inl same ↦
-          let own = sym (ap (λ (n : NodeView). n.previous) (ap (node_at (xs ++ y ∷ [])) same ∙ last xs y)) ∙ is.1 in
-          absurd (cc)
+      | inl same ↦ absurd (omega (arith, within, same_Some _ _ (sym (ap (λ (n : NodeView). n.previous) (ap (node_at (xs ++ y ∷ [])) same ∙ last xs y)) ∙ is.1)))
       | inr other ↦
           let lt : k < length xs = omega (arith, is.0, size) in
           let old = sym (ap (λ (n : NodeView). n.previous) (before xs y k lt)) ∙ is.1 in
           absurd (omega (arith, (nodes.each k lt).names.previous (length xs) old))
     ]
+
+-- the new right half alone comes to name its left half
+pub half_followers : (xs : List NodeView) (x : NodeView) (i low op : ℕ) (next : Option ℕ) → AreFollowers xs i next → AreFollowersBut (xs ++ fresh_half x i low op ∷ []) i next (length xs)
+half_followers xs x i low op next followers k nk is =
+    let y = fresh_half x i low op in
+    let lt : k < length xs = omega (arith, is.0, length-append xs (y ∷ []), nk) in
+    followers k (lt, sym (ap (λ (n : NodeView). n.previous) (before xs y k lt)) ∙ is.1, sym (ap (λ (n : NodeView). n.version.deleted) (before xs y k lt)) ∙ is.2)
+
+-- as a split begins: all that name the left node as the one before are the half and the one that was next, and none names the half
+pub begun_left : (xs : List NodeView) (i low op : ℕ) (next : Option ℕ) → i < length xs → AreFollowers xs i next → AreFollowersBut (set xs i (splitting (node_at xs i)) ++ fresh_half (node_at xs i) i low op ∷ []) i next (length xs)
+begun_left xs i low op next within followers =
+    let x = node_at xs i in
+    let ys = set xs i (splitting x) in
+    subst (AreFollowersBut (ys ++ fresh_half x i low op ∷ []) i next) (length-set xs i (splitting x)) (half_followers ys x i low op next (λ k is. elim (follows_in xs i k i (splitting x) within is) [
+      | inl own ↦ followers k (subst (λ c. Follows xs i c) (sym own.0) (within, own.1, sym (ap (λ (n : NodeView). n.version.deleted) (ap (node_at ys) own.0 ∙ here xs i (splitting x) within)) ∙ is.2))
+      | inr other ↦ followers k other.1
+    ]))
+
+pub begun_right : (xs : List NodeView) (i low op : ℕ) → i < length xs → AreNodes (set xs i (splitting (node_at xs i))) → AreFollowers (set xs i (splitting (node_at xs i)) ++ fresh_half (node_at xs i) i low op ∷ []) (length xs) None
+begun_right xs i low op within nodes =
+    let x = node_at xs i in
+    let ys = set xs i (splitting x) in
+    let size = length-set xs i (splitting x) in
+    subst (λ c. AreFollowers (ys ++ fresh_half x i low op ∷ []) c None) size (fresh_followers ys x i low op nodes (omega (arith, within, size)))
 
 pub fresh_children : (xs : List NodeView) (y n : NodeView) → AreNodes xs → y.parent ≡ None → AreChildren (xs ++ y ∷ []) (length xs) n
 fresh_children xs y n nodes none k is =

@@ -1,4 +1,4 @@
--- The slots of a border node change: a key is published, stored or dropped.
+-- The whole invariant, the guarantee and the contents where a key is published, stored or dropped: for the calls of these names.
 use Rattle.std.proofs.Common.{◌≡◌, ◌≢◌, ℕ, ◌*◌, ◌<◌, List, length, get_or, set, Bool, true, false, Some, None, refl, sym, ap, subst, ◌∙◌, arith}
 use Rattle.std.specs.Prelude.{if◌then◌else◌, nat_le}
 use Rattle.std.specs.FinMap as finite
@@ -33,7 +33,7 @@ use Rattle.mt_arena.specs.Arena.{ArenaInvariant, ArenaView, Guarantee}
 use Rattle.mt_arena.specs.Contents.{content}
 use Rattle.mt_arena.specs.Accesses.{at, tree_of, IsOpen, with_node, with_row, MayPublish, MayChange}
 use Rattle.mt_arena.proofs.Quiet.{nodes_slots}
-use Rattle.mt_arena.proofs.Ranged.{ranged_turned}
+use Rattle.mt_arena.proofs.Ranged.{ranged_marked}
 use Rattle.mt_arena.proofs.Homes.{begun}
 use Rattle.mt_arena.proofs.Owners.{published, stored, dropped}
 use Rattle.mt_arena.proofs.LinkEdits.{HasLinksOf, links_insert, links_insert_back, links_set, links_set_back, links_remove, links_remove_back}
@@ -44,6 +44,7 @@ use Rattle.mt_arena.proofs.Steps.{sound_set, keys_of, step_set}
 pub within_each : (n : NodeView) (es : List Entry) → ((i : ℕ) → i < length es → Holds n (get_or (slices es) i 0)) → All (λ (e : Entry). Holds n e.slice) es
 within_each n es inside k d lt = subst (Holds n) (get_or-map (λ (e : Entry). e.slice) es k d 0 lt) (inside k lt)
 
+-- and back
 pub within_all : (n : NodeView) (es : List Entry) → All (λ (e : Entry). Holds n e.slice) es → (i : ℕ) → i < length es → Holds n (get_or (slices es) i 0)
 within_all n es each i lt = subst (Holds n) (sym (get_or-map (λ (e : Entry). e.slice) es i any_entry 0 lt)) (each i any_entry lt)
 
@@ -59,11 +60,12 @@ pub sound_slots : (xs : List NodeView) (trees : List Tree) (gone : List Retired)
     → MayHold trees (node_at xs i) slots → ArenaInvariant (set xs i (with_slots (node_at xs i) slots)) trees gone room
 sound_slots xs trees gone room i slots within sound held level may =
     let x = node_at xs i in
-    sound_set xs trees gone room i (with_slots x slots) within sound (nodes_slots xs i slots within sound.arena.nodes held level may.border (within_all x slots may.inside)) (ranged_turned xs i slots (with_slots x slots).version x.holder within sound.arena.ranged (sound.arena.ranged i within).unmarked)
+    sound_set xs trees gone room i (with_slots x slots) within sound (nodes_slots xs i slots within sound.arena.nodes held level may.border (within_all x slots may.inside)) (ranged_marked xs i slots (with_slots x slots).version within sound.arena.ranged refl (λ marked. marked) (λ whole. whole))
     record { tree = refl; deleted = refl; flag = refl; root = λ r. record { live = r.live; flag = r.flag; parentless = r.parentless; low = r.low; reach = r.reach } }
     may.keys
     record { tree = refl; deleted = refl; forth = may.forth; back = may.back }
 
+-- other slots under the mark for readers of keys
 pub changes_slots : (op : ℕ) (x : NodeView) (slots : List Entry) → x.holder ≡ Some op → Changes op x (with_slots x slots)
 changes_slots op x slots mine = record {
   tree = refl;

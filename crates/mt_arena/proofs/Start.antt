@@ -1,4 +1,4 @@
--- An arena with an empty top tree.
+-- The invariant of an arena with an empty top tree: for `new`.
 use Rattle.std.proofs.Common.{◌≢◌, ℕ, zero, suc, ◌<◌, ◌≤◌, List, [], ◌∷◌, refl, arith}
 use Rattle.mt_arena.specs.declared.tree.Tree.{Tree}
 use Rattle.mt_arena.specs.NodeView.{NodeView, node_at}
@@ -49,7 +49,7 @@ pub sound_first : (room : ℕ) → 1 ≤ room → ArenaInvariant first_nodes fir
 sound_first room enough = record {
   arena = record {
     nodes = nodes_root [] 0 record { each = λ k lt. absurd (omega arith); pairs = λ k j lt. absurd (omega arith) } (λ k lt. absurd (omega arith));
-    ranged = ranged_root [] 0 (λ k lt. absurd (omega arith));
+    ranged = ranged_root [] 0 (record { each = λ k lt. absurd (omega arith); pairs = λ k j lt. absurd (omega arith) }) (record { each = λ k lt. absurd (omega arith); ties = λ k j lt. absurd (omega arith) });
     forest = first_forest;
     layers = record { links = λ k lt. none k lt; linked = λ u lt live deep. absurd (shallow u lt deep) };
   };

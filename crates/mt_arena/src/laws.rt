@@ -27,7 +27,7 @@ ghost use Rattle.mt_arena.specs.Arena.{IsArena};
 ghost use Rattle.mt_arena.specs.Guarantee.{NodesGuarantee, PointsOnly};
 ghost use Rattle.mt_arena.specs.Settled.{IsSettled};
 ghost use Rattle.mt_arena.specs.Stands.{IsLiveBorder, StandsAt};
-ghost use Rattle.mt_arena.specs.Ways.{LinksOn, BelongsIn, StandsFor, GoesOn, HasSlots, IsUnfilled, IsMadeFor};
+ghost use Rattle.mt_arena.specs.Ways.{LinksOn, BelongsIn, StandsFor, GoesOn, HasSlots, IsUnfilled, IsMadeFor, IsFreeRoot};
 
 /// In a tree a slice and a mark stand in one slot of one live border node, and all slots of one
 /// slice stand in one node: the one that has the slice in its range.
@@ -121,8 +121,8 @@ pub fn contents_by_slot()
 {}
 
 /// What leaves the contents as they are: a change of a node but for its slots, its tree and whether
-/// it is deleted, slots that are parted among two nodes, a slot that holds its pair otherwise, a link that is taken out, any change of a
-/// node without slots, one more such node, one more tree, another root in a tree's record, and any
+/// it is deleted, slots that are parted among two nodes, a slot that holds its pair otherwise, a link
+/// that is taken out, any change of a node without slots, one more such node, one more tree, another root in a tree's record, and any
 /// change of a tree whose nodes are deleted or have no slots.
 pub fn contents_stand()
     ensures same_slots { (nodes : List NodeView) (trees : List Tree) (k : ℕ) (y : NodeView) →
@@ -176,8 +176,17 @@ pub fn a_child_is_no_root()
         HasRange (node_at nodes k) × ((node_at nodes k).version.root ≡ false) }
 {}
 
-/// What steps of one operation leave to others adds up: nothing is done by no step, and two steps are
-/// as one, also for whom nodes name where the second one gives no lock back. While another operation goes on, nothing comes to lag behind a node that is held.
+/// A root that is a border node and that nobody holds is the only live node of its tree: every other
+/// one, also one that an operation has just made, is deleted.
+pub fn alone_in_its_tree()
+    ensures { (nodes : List NodeView) (trees : List Tree) (r k : ℕ) → IsArena nodes trees → IsFreeRoot nodes trees r →
+        k < length nodes → k ≢ r → (node_at nodes k).tree ≡ (node_at nodes r).tree →
+        (node_at nodes k).version.deleted ≡ true }
+{}
+
+/// The guarantees of one operation's steps add up: where nothing is done nothing changes, and two
+/// steps are as one, also in whom nodes name where the second one gives no lock back. While another
+/// operation goes on, nothing comes to lag behind a node that is held.
 pub fn steps_add_up()
     ensures none { (op : ℕ) (nodes : List NodeView) (trees : List Tree) → NodesGuarantee op nodes nodes trees trees }
     ensures two { (op : ℕ) (old mid new : List NodeView) (were between are : List Tree) → IsArena old were →
