@@ -26,7 +26,7 @@ use Rattle.mt_arena.specs.Accesses.{at}
 use Rattle.mt_arena.specs.Stands.{StandsAt}
 use Rattle.mt_arena.specs.Ways.{BelongsIn, StandsFor}
 use Rattle.mt_arena.proofs.Homes.{begun}
-use Rattle.mt_arena.proofs.Owners.{none_elsewhere, none_beside, found}
+use Rattle.mt_arena.proofs.Owners.{none_elsewhere, none_beside}
 use Rattle.mt_arena.proofs.Down.{goes_on}
 use Rattle.mt_descent.specs.declared.walk.Walk.{Walk}
 use Rattle.mt_descent.specs.declared.walk.Taken.{Taken}
@@ -34,7 +34,7 @@ use Rattle.mt_descent.specs.declared.walk.Taken.TheVariants as takens
 use Rattle.mt_descent.specs.Seen.{RangeStands, Stands}
 use Rattle.mt_descent.specs.Pasts.{Past, IsNow, AreStamped}
 use Rattle.mt_descent.specs.Kept.{GoesThrough, IsAtBorder, IsInSlot, IsAtLoad, Had, IsKept}
-use Rattle.mt_descent.specs.Moves.{FindsIn, after_search, after_load, Takes, Loads}
+use Rattle.mt_descent.specs.Moves.{FindsIn, after_search, after_load, TakesOut, Loads}
 use Rattle.mt_descent.proofs.Ways.{live_tree}
 
 -- what a border node finds, its view finds
@@ -152,7 +152,7 @@ module _ (v : ArenaView) (key : Bytes) (w : Walk) (arena : IsArena v.nodes v.tre
       }
 
   -- a walk that has loaded, by what was taken
-  pub kept_loaded : (past : Past) (row : Option Columns) (at : ℕ) (taken : Taken) → AreStamped past v → w.first ≤ past.steps → Takes m w row taken at → IsKept v past key row (after_load w taken at)
+  pub kept_loaded : (past : Past) (row : Option Columns) (at : ℕ) (taken : Taken) → AreStamped past v → w.first ≤ past.steps → TakesOut m w row taken at → IsKept v past key row (after_load w taken at)
   kept_loaded past row at takens.Missing stamped since t = absurd t
   kept_loaded past row at takens.Row stamped since t = record {
     at_border = record { through = at_border.through; covers = at_border.covers; border = at_border.border };

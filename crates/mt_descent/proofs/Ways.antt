@@ -148,7 +148,7 @@ covers_child v key w arena h stands =
         was = was;
         undeleted = was_live w.child_seen.deleted m.version.deleted was.ages.deleted c.live;
         from = omega (arith, between.0, c.low);
-        peopled = λ inner. child.children.peopled inner ((arena.ranged w.child h.picked.there).parent c.knows);
+        peopled = λ inner. child.children.peopled inner ((arena.ranged.each w.child h.picked.there).parent c.knows);
       };
       below = below;
     }
@@ -172,9 +172,9 @@ next_now v k arena within border stable live =
       there = λ j is. node.names.next j is;
       tree_is = λ j is. ((arena.nodes.pairs k j within (node.names.next j is)).next is).tree;
       border = λ j is. ((arena.nodes.pairs k j within (node.names.next j is)).next is).level ∙ border;
-      after = λ j is. omega (arith, (arena.ranged k within).unmarked stable.1 live, ap end_of (((arena.nodes.pairs k j within (node.names.next j is)).next is).meets));
+      after = λ j is. omega (arith, (arena.ranged.each k within).unmarked stable.1 live, ap end_of (((arena.nodes.pairs k j within (node.names.next j is)).next is).meets));
       meets = λ j is stands. omega (arith, ap end_of (((arena.nodes.pairs k j within (node.names.next j is)).next is).meets));
-      last = λ none stands. omega (arith, ap end_of (node.chain.last border ((arena.ranged k within).unmarked stable.1 live) none));
+      last = λ none stands. omega (arith, ap end_of (node.chain.last border ((arena.ranged.each k within).unmarked stable.1 live) none));
     }
 
 -- an unmarked border node that is live, behind whose low fence the slice lies, is one from which the walk may go on

@@ -1,4 +1,4 @@
--- Where each phase leads: whom it waits for, and what a walk is after it.
+-- Where each phase leads: who is in its way, and what a walk is after it.
 use Rattle.std.specs.Prelude.{◌≡◌, ◌+◌, ◌<◌, ℕ, max, Bool, true, false, length, if◌then◌else◌, nat_le, Option, Some, None}
 use Rattle.mt_version.specs.Parts.{Parts, fresh_parts}
 use Rattle.mt_version.specs.Changes.{IsMarked, IsStable, SameButLock}
@@ -31,10 +31,10 @@ pub record IsBlocked (n : NodeView) (holder : ℕ) : Type 0 where
   pub marked : IsMarked n.version
   pub by : n.holder ≡ Some holder
 
--- a step that reads a node waits exactly where the node is marked: it names who holds the node, and the walk stays as it was
-abbrev pub WaitsFor : NodeView → Walk → Walk → Option ℕ → Type 0
-WaitsFor n before after None = IsStable n.version
-WaitsFor n before after (Some holder) = (after ≡ before) × IsBlocked n holder
+-- a step that reads a node is to be made again exactly where the node is marked: it names who holds the node, and the walk stays as it was
+abbrev pub AnswersAgain : NodeView → Walk → Walk → Option ℕ → Type 0
+AnswersAgain n before after None = IsStable n.version
+AnswersAgain n before after (Some holder) = (after ≡ before) × IsBlocked n holder
 
 -- the slot is unstable, by the work of this operation, which holds the node
 pub record IsBlockedAt (n : NodeView) (slot holder : ℕ) : Type 0 where
@@ -120,11 +120,11 @@ after_search (finds.Slot slot _) w step = record w { slot = slot; right_at = ste
 
 -- What a load takes out of the walk's slot, the row that it answers, and the step after which that is right: a row at the first step or the later
 -- one that placed it; the tree of a link, or nothing where the slot is no more, at the step of the search.
-abbrev pub Takes : NodeView → Walk → Option Columns → Taken → ℕ → Type 0
-Takes n w row Missing at = ⊥
-Takes n w row Row at = (w.slot < length n.slots) × (pair : Pair) × ((slot_at n w.slot).held ≡ helds.Stable pair) × (row ≡ Some pair.row) × (at ≡ max w.first pair.stamp)
-Takes n w row (Link u) at = (w.slot < length n.slots) × ((slot_at n w.slot).held ≡ helds.Link u) × (row ≡ None) × (at ≡ w.right_at)
-Takes n w row Nothing at = ¬ (w.slot < length n.slots) × (row ≡ None) × (at ≡ w.right_at)
+abbrev pub TakesOut : NodeView → Walk → Option Columns → Taken → ℕ → Type 0
+TakesOut n w row Missing at = ⊥
+TakesOut n w row Row at = (w.slot < length n.slots) × (pair : Pair) × ((slot_at n w.slot).held ≡ helds.Stable pair) × (row ≡ Some pair.row) × (at ≡ max w.first pair.stamp)
+TakesOut n w row (Link u) at = (w.slot < length n.slots) × ((slot_at n w.slot).held ≡ helds.Link u) × (row ≡ None) × (at ≡ w.right_at)
+TakesOut n w row Nothing at = ¬ (w.slot < length n.slots) × (row ≡ None) × (at ≡ w.right_at)
 
 -- after Load: to confirm what was taken
 abbrev pub after_load : Walk → Taken → ℕ → Walk
@@ -132,7 +132,7 @@ after_load w taken at = record w { taken = taken; right_at = at; phase = Confirm
 
 -- a load of the walk's slot, and the row that it answers
 pub record Loads (n : NodeView) (before after : Walk) (row : Option Columns) : Type 0 where
-  pub takes : Takes n before row after.taken after.right_at
+  pub takes : TakesOut n before row after.taken after.right_at
   pub is : after ≡ after_load before after.taken after.right_at
 
 -- after Confirm where the version stands: into the tree of a link, else done

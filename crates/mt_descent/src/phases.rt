@@ -8,7 +8,7 @@
 ghost use Rattle.std.specs.Prelude.{◌≡◌, ◌≢◌, ◌<◌, ◌≤◌, ℕ, Option, Some, None, IfSome, IfNone, IsNone, IfOk, IfErr, IsTrue, ◌↔◌, length};
 ghost use Rattle.std.specs.Option.{ForSome, option_map};
 ghost use Rattle.mt_border.specs.declared.entry.Find.{Find as AnyFind};
-ghost use Rattle.mt_version.specs.Changes.{IsMarked, IsStable, SameButLock};
+ghost use Rattle.mt_version.specs.Changes.{IsMarked, IsStable};
 ghost use Rattle.mt_rows.specs.Rows.{Columns};
 ghost use Rattle.mt_arena.specs.Forests.{tree_at};
 ghost use Rattle.mt_arena.specs.Arena.{content_of, Guarantee};
@@ -16,7 +16,7 @@ ghost use Rattle.mt_arena.specs.Accesses.{at};
 ghost use Rattle.mt_descent.specs.Seen.{child_for, IsOutdated};
 ghost use Rattle.mt_descent.specs.Pasts.{Past, IsNow, AreStamped};
 ghost use Rattle.mt_descent.specs.Kept.{slice_in, HoldsNothing, IsKept, IsAtEnter, IsAtPick, IsAtChild, IsAtVerify, IsAtBorder, IsAtLoad, IsAtConfirm, IsAtForward, IsAtJudge};
-ghost use Rattle.mt_descent.specs.Moves.{IsBlocked, WaitsFor, IsBlockedAt, Continues, arrival, walk_onto, walk_into, walk_anew, walk_reseen, walk_here, after_enter, after_pick, after_child, after_search, after_load, after_confirm, after_change, after_forward, FindsIn, Loads, Verifies, Confirms, Locks};
+ghost use Rattle.mt_descent.specs.Moves.{IsBlocked, AnswersAgain, IsBlockedAt, Continues, arrival, walk_onto, walk_into, walk_here, after_enter, after_pick, after_child, after_search, after_load, after_confirm, after_change, after_forward, FindsIn, Loads, Verifies, Confirms, Locks};
 
 use crate::walk::{Phase, Taken, Walk};
 use mt_arena::{Arena, Node, Standing};
@@ -73,8 +73,8 @@ fn into(walk: &mut Walk, tree: usize, layer: usize)
 pub fn enter(arena: &Arena, key: &StoredKey, walk: &mut Walk) -> Option<usize>
     requires kept { IsAtEnter arena.now key.now walk.old }
     ensures dead { (tree_at arena.now.trees walk.old.place.tree).standing ≡ Standing.Dead → IsNone result }
-    ensures waits { let tree = tree_at arena.now.trees walk.old.place.tree in
-        tree.standing ≢ Standing.Dead → WaitsFor (at arena.now tree.root) walk.old walk.new result }
+    ensures again { let tree = tree_at arena.now.trees walk.old.place.tree in
+        tree.standing ≢ Standing.Dead → AnswersAgain (at arena.now tree.root) walk.old walk.new result }
     ensures is { let tree = tree_at arena.now.trees walk.old.place.tree in
         IfNone result (walk.new ≡ after_enter tree.standing walk.old tree.root (at arena.now tree.root).version) }
     ensures same { Continues walk.old walk.new }
@@ -110,7 +110,7 @@ pub fn pick(arena: &Arena, key: &StoredKey, walk: &mut Walk)
 /// Reads the child's version, and remembers it.
 pub fn child(arena: &Arena, key: &StoredKey, walk: &mut Walk) -> Option<usize>
     requires kept { IsAtChild arena.now key.now walk.old }
-    ensures waits { WaitsFor (at arena.now walk.old.child) walk.old walk.new result }
+    ensures again { AnswersAgain (at arena.now walk.old.child) walk.old walk.new result }
     ensures is { IfNone result (walk.new ≡ after_child walk.old (at arena.now walk.old.child).version) }
     ensures same { Continues walk.old walk.new }
     ensures kept { IfNone result (IsAtVerify arena.now key.now walk.new) }
@@ -129,7 +129,7 @@ pub fn child(arena: &Arena, key: &StoredKey, walk: &mut Walk) -> Option<usize>
 /// at the child. A node that was deleted or split is waited for no more.
 pub fn verify(arena: &Arena, key: &StoredKey, walk: &mut Walk) -> Option<usize>
     requires kept { IsAtVerify arena.now key.now walk.old }
-    ensures waits { IfSome result (λ holder. (walk.new ≡ walk.old) × IsBlocked (at arena.now walk.old.place.node) holder) }
+    ensures again { IfSome result (λ holder. (walk.new ≡ walk.old) × IsBlocked (at arena.now walk.old.place.node) holder) }
     ensures not_outdated { IfSome result (λ holder. ¬ IsOutdated (at arena.now walk.old.place.node) walk.old.place.seen) }
     ensures is { IfNone result (Verifies (at arena.now walk.old.place.node) walk.old walk.new) }
     ensures same { Continues walk.old walk.new }
@@ -194,16 +194,15 @@ fn go_on(walk: &mut Walk, found: Find, step: u64)
     }
 }
 
-/// Reads the slot that was found: the key's row, or nothing where there is a link or
-/// no slot any more. An unstable slot is an error, with the number of the operation that is making it
-/// a link.
+/// Reads the slot that was found: the key's row, or nothing where there is a link or no slot any more.
+/// An unstable slot is an error, with the number of the operation that is making it a link.
 pub fn load<'a>(
     arena: &'a Arena,
     key: &StoredKey,
     walk: &mut Walk,
 ) -> Result<Option<&'a Row>, usize>
     requires kept { IsAtLoad arena.now key.now walk.old }
-    ensures waits { IfErr result (λ holder. (walk.new ≡ walk.old) × IsBlockedAt (at arena.now walk.old.place.node) walk.old.slot holder) }
+    ensures again { IfErr result (λ holder. (walk.new ≡ walk.old) × IsBlockedAt (at arena.now walk.old.place.node) walk.old.slot holder) }
     ensures is { IfOk result (λ taken. Loads (at arena.now walk.old.place.node) walk.old walk.new (option_map (λ row. row.now) taken)) }
     ensures same { Continues walk.old walk.new }
     ensures kept { (past : Past) → AreStamped past arena.now → walk.old.first ≤ past.steps →
@@ -217,7 +216,7 @@ pub fn load<'a>(
 fn taken_at<'a>(arena: &'a Arena, walk: &mut Walk) -> Result<Option<&'a Row>, usize>
     requires there { walk.old.place.node < length arena.now.nodes }
     requires border { (at arena.now walk.old.place.node).level ≡ 0 }
-    ensures waits { IfErr result (λ holder. (walk.new ≡ walk.old) × IsBlockedAt (at arena.now walk.old.place.node) walk.old.slot holder) }
+    ensures again { IfErr result (λ holder. (walk.new ≡ walk.old) × IsBlockedAt (at arena.now walk.old.place.node) walk.old.slot holder) }
     ensures is { IfOk result (λ taken. Loads (at arena.now walk.old.place.node) walk.old walk.new (option_map (λ row. row.now) taken)) }
 {
     arena.facts();
@@ -255,7 +254,7 @@ fn take(walk: &mut Walk, taken: Taken, at: u64)
 /// done, or goes on in the tree of a link.
 pub fn confirm(arena: &Arena, key: &StoredKey, walk: &mut Walk) -> Option<usize>
     requires kept { IsAtBorder arena.now key.now walk.old }
-    ensures waits { WaitsFor (at arena.now walk.old.place.node) walk.old walk.new result }
+    ensures again { AnswersAgain (at arena.now walk.old.place.node) walk.old walk.new result }
     ensures is { IfNone result (Confirms (at arena.now walk.old.place.node) walk.old walk.new) }
     ensures same { Continues walk.old walk.new }
     ensures kept { (past : Past) (row : Option Columns) → IsAtConfirm arena.now past key.now row walk.old →
@@ -302,7 +301,7 @@ fn move_on(walk: &mut Walk, node: &Node)
 /// stays here.
 pub fn forward(arena: &Arena, key: &StoredKey, walk: &mut Walk) -> Option<usize>
     requires kept { IsAtForward arena.now key.now walk.old }
-    ensures waits { ForSome walk.old.next (λ j. WaitsFor (at arena.now j) walk.old walk.new result) }
+    ensures again { ForSome walk.old.next (λ j. AnswersAgain (at arena.now j) walk.old walk.new result) }
     ensures last { walk.old.next ≡ None → IsNone result × (walk.new ≡ walk_here walk.old) }
     ensures is { (j : ℕ) → walk.old.next ≡ Some j →
         IfNone result (walk.new ≡ after_forward walk.old (slice_in key.now walk.old) j (at arena.now j)) }
@@ -344,7 +343,7 @@ fn go_to(walk: &mut Walk, slice: u64, next: usize, node: &Node)
 /// which is another operation, as the one that comes to lock holds nothing.
 pub fn lock(arena: &mut Arena, key: &StoredKey, walk: &mut Walk, operation: usize) -> Option<usize>
     requires kept { IsAtBorder arena.old key.now walk.old }
-    ensures waits { result ≡ (at arena.old walk.old.place.node).holder }
+    ensures again { result ≡ (at arena.old walk.old.place.node).holder }
     ensures unchanged { IfSome result (λ holder. (arena.new ≡ arena.old) × (walk.new ≡ walk.old)) }
     ensures another { HoldsNothing arena.old operation → IfSome result (λ holder. holder ≢ operation) }
     ensures is { IfNone result (Locks operation arena.old arena.new walk.old walk.new) }

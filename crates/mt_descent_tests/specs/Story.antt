@@ -9,8 +9,8 @@ use Rattle.mt_arena.specs.Accesses.{at, new_arena, with_node}
 abbrev pub locked_root : ArenaView
 locked_root = with_node new_arena 0 (locked (at new_arena 0) 5)
 
-abbrev pub holding : Entry → ArenaView
-holding e = with_node locked_root 0 (with_slots (at locked_root 0) (e ∷ []))
+abbrev pub holding_key : Entry → ArenaView
+holding_key e = with_node locked_root 0 (with_slots (at locked_root 0) (e ∷ []))
 
 abbrev pub with_key : Entry → ArenaView
-with_key e = with_node (holding e) 0 (unlocked (at (holding e) 0))
+with_key e = with_node (holding_key e) 0 (unlocked (at (holding_key e) 0))
