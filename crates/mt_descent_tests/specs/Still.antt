@@ -1,5 +1,5 @@
 -- A past in which the contents were always those of an arena.
-use Rattle.std.specs.Prelude.{ℕ, List, sum_by, Option, Some, None}
+use Rattle.std.specs.Prelude.{ℕ, sum_by, Option, Some, None}
 use Rattle.mt_border.specs.declared.entry.Entry.{Entry}
 use Rattle.mt_border.specs.declared.entry.Pair.{Pair}
 use Rattle.mt_border.specs.Entry.{pair_of}
