@@ -108,7 +108,7 @@ pub record IsAtForward (v : ArenaView) (key : Bytes) (w : Walk) : Type 0 where
   pub border : (at v w.place.node).level ≡ 0
   pub next : HasNext v w.place.tree w.place.node w.place.seen w.next
 
--- at Done: the answer is right at the step that took it
+-- at Done: what was taken was right after the step that it names: a row, or that there is none
 abbrev pub TakenWasRight : Past → Bytes → Option Columns → Walk → Taken → Type 0
 TakenWasRight past key row w Missing = Had past w.first w.right_at key None
 TakenWasRight past key row w Row = (columns : Columns) × (row ≡ Some columns) × Had past w.first w.right_at key row
@@ -122,7 +122,7 @@ pub record IsAtJudge (v : ArenaView) (op : ℕ) (key : Bytes) (w : Walk) : Type 
   pub still : IsStable (at v w.place.node).version
   pub stands : RangeStands (at v w.place.node) w.place.seen
 
--- what is kept by the phase, as far as the operation holds nothing
+-- what is kept at a phase; `IsAtJudge` stands for itself, since it names the operation
 abbrev pub KeptAt : Phase → ArenaView → Past → Bytes → Option Columns → Walk → Type 0
 KeptAt Enter v past key row w = IsAtEnter v key w
 KeptAt Pick v past key row w = IsAtPick v key w
@@ -136,5 +136,6 @@ KeptAt Lock v past key row w = IsAtBorder v key w
 KeptAt Judge v past key row w = Unit {0}
 KeptAt Done v past key row w = TakenWasRight past key row w w.taken
 
+-- what is kept of a walk by its next phase
 abbrev pub IsKept : ArenaView → Past → Bytes → Option Columns → Walk → Type 0
 IsKept v past key row w = KeptAt w.phase v past key row w

@@ -28,7 +28,7 @@ pub record WasSeen (n : NodeView) (seen : Parts) : Type 0 where
   pub still : seen.inserting ≡ false
   pub ages : Ages seen n.version
 
--- node k of tree t was seen with this version; its range begins at the slice or before it; an interior node has a child
+-- node k of tree t was seen live with this version; its range begins at the slice or before it; an interior node has a child
 pub record IsRemembered (v : ArenaView) (t k : ℕ) (seen : Parts) (slice : ℕ) : Type 0 where
   pub there : k < length v.nodes
   pub tree_is : (at v k).tree ≡ t

@@ -13,6 +13,7 @@ ghost use Rattle.mt_rows.specs.Rows.{Columns};
 ghost use Rattle.mt_arena.specs.Forests.{tree_at};
 ghost use Rattle.mt_arena.specs.Arena.{content_of, Guarantee};
 ghost use Rattle.mt_arena.specs.Accesses.{at};
+ghost use Rattle.mt_arena.specs.Settled.{IsSettled};
 ghost use Rattle.mt_descent.specs.Seen.{child_for, IsOutdated};
 ghost use Rattle.mt_descent.specs.Pasts.{Past, IsNow, AreStamped};
 ghost use Rattle.mt_descent.specs.Kept.{slice_in, HoldsNothing, IsKept, IsAtEnter, IsAtPick, IsAtChild, IsAtVerify, IsAtBorder, IsAtLoad, IsAtConfirm, IsAtForward, IsAtJudge};
@@ -352,6 +353,7 @@ pub fn lock(arena: &mut Arena, key: &StoredKey, walk: &mut Walk, operation: usiz
     ensures contents { content_of arena.new ≡ content_of arena.old }
     ensures kept { (past : Past) (row : Option Columns) → IfNone result (IsKept arena.new past key.now row walk.new) }
     ensures holds { IfNone result (walk.new.phase ≡ Phase.Judge → IsAtJudge arena.new operation key.now walk.new) }
+    ensures settled { IfNone result (walk.new.phase ≡ Phase.Judge → IsSettled arena.new.nodes walk.old.place.node (at arena.new walk.old.place.node)) }
 {
     arena.facts();
     let node = arena.node(walk.place.node);
