@@ -1,0 +1,169 @@
+-- Where each phase leads: who is in its way, and what a walk is after it.
+use Rattle.std.specs.Prelude.{◌≡◌, ◌+◌, ◌<◌, ℕ, max, Bool, true, false, length, if◌then◌else◌, nat_le, Option, Some, None}
+use Rattle.mt_version.specs.Parts.{Parts, fresh_parts}
+use Rattle.mt_version.specs.Changes.{IsMarked, IsStable, SameButLock}
+use Rattle.mt_slices.specs.Slices.{slice_of, mark_of}
+use Rattle.mt_rows.specs.Rows.{Bytes, Columns}
+use Rattle.mt_border.specs.declared.entry.Pair.{Pair}
+use Rattle.mt_border.specs.declared.entry.Find.{Find}
+use Rattle.mt_border.specs.declared.entry.Find.TheVariants as finds
+use Rattle.mt_border.specs.declared.entry.FoundKind.TheVariants.{OtherLong}
+use Rattle.mt_border.specs.declared.entry.Held.TheVariants as helds
+use Rattle.mt_border.specs.Entries.{IsMissing}
+use Rattle.mt_arena.specs.declared.tree.Standing.{Standing}
+use Rattle.mt_arena.specs.declared.tree.Standing.TheVariants.{Dead}
+use Rattle.mt_arena.specs.NodeView.{NodeView}
+use Rattle.mt_arena.specs.NodeFacts.{IsUnstable}
+use Rattle.mt_arena.specs.Layers.{slot_at}
+use Rattle.mt_arena.specs.Edits.{locked}
+use Rattle.mt_arena.specs.Arena.{ArenaView}
+use Rattle.mt_arena.specs.Accesses.{at, with_node}
+use Rattle.mt_descent.specs.declared.walk.Phase.{Phase}
+use Rattle.mt_descent.specs.declared.walk.Phase.TheVariants.{Enter, Pick, Child, Verify, Search, Load, Confirm, Forward, Lock, Judge, Done}
+use Rattle.mt_descent.specs.declared.walk.Taken.{Taken}
+use Rattle.mt_descent.specs.declared.walk.Taken.TheVariants.{Missing, Row, Link, Nothing}
+use Rattle.mt_descent.specs.declared.walk.Walk.{Walk}
+use Rattle.mt_descent.specs.Seen.{IsOutdated}
+use Rattle.mt_descent.specs.Kept.{IsInSlot}
+
+-- the node is marked, and this operation holds it
+pub record IsBlocked (n : NodeView) (holder : ℕ) : Type 0 where
+  pub marked : IsMarked n.version
+  pub by : n.holder ≡ Some holder
+
+-- a step that reads a node is to be made again exactly where the node is marked: it names who holds the node, and the walk stays as it was
+abbrev pub AnswersAgain : NodeView → Walk → Walk → Option ℕ → Type 0
+AnswersAgain n before after None = IsStable n.version
+AnswersAgain n before after (Some holder) = (after ≡ before) × IsBlocked n holder
+
+-- the slot is unstable, by the work of this operation, which holds the node
+pub record IsBlockedAt (n : NodeView) (slot holder : ℕ) : Type 0 where
+  pub live : slot < length n.slots
+  pub unstable : IsUnstable (slot_at n slot).held
+  pub by : n.holder ≡ Some holder
+
+-- the walk is still that of the same operation: it goes to look or to lock as before, and its first step is the same
+pub record Continues (before after : Walk) : Type 0 where
+  pub writes : after.writes ≡ before.writes
+  pub first : after.first ≡ before.first
+
+-- a walk that begins: at the top tree, with nothing seen
+abbrev pub walk_from_top : Bool → ℕ → Walk
+walk_from_top writes first = record {
+  phase = Enter;
+  writes = writes;
+  first = first;
+  layer = 0;
+  place = record { tree = 0; node = 0; seen = fresh_parts false true };
+  child = 0;
+  child_seen = fresh_parts false true;
+  next = None;
+  slot = 0;
+  taken = Missing;
+  right_at = 0;
+}
+
+-- what comes next at a border node: a get looks, others lock
+abbrev pub arrival : Bool → Phase
+arrival writes = if writes then Lock else Search
+
+-- and at a node of either kind
+abbrev pub arrival_at : Bool → Bool → Phase
+arrival_at border writes = if border then arrival writes else Pick
+
+-- the walk comes to a node, and remembers it with this version
+abbrev pub walk_onto : Walk → ℕ → Parts → Walk
+walk_onto w k seen = record w { place = record w.place { node = k; seen = seen }; phase = arrival_at seen.border w.writes }
+
+-- the walk begins at a tree of a layer
+abbrev pub walk_into : Walk → ℕ → ℕ → Walk
+walk_into w t layer = record w { place = record w.place { tree = t }; layer = layer; phase = Enter }
+
+-- the walk begins anew in the tree that it is in
+abbrev pub walk_anew : Walk → Walk
+walk_anew w = record w { phase = Enter }
+
+-- after Enter: at the top tree where the tree is dead, else at the root
+abbrev pub after_enter : Standing → Walk → ℕ → Parts → Walk
+after_enter Dead w root seen = walk_into w 0 0
+after_enter _ w root seen = walk_onto w root seen
+
+-- after Pick: with this child
+abbrev pub after_pick : Walk → ℕ → Walk
+after_pick w c = record w { child = c; phase = Child }
+
+-- after Child: with the child's version
+abbrev pub after_child : Walk → Parts → Walk
+after_child w seen = record w { child_seen = seen; phase = Verify }
+
+-- the walk looks for the child again, with the version that its interior node has now
+abbrev pub walk_reseen : Walk → Parts → Walk
+walk_reseen w now = record w { place = record w.place { seen = now }; phase = Pick }
+
+-- after Verify: on to the child where the version is the same but for the lock; anew where the node was deleted or split; else Pick again, where the
+-- node is unmarked
+pub record Verifies (n : NodeView) (before after : Walk) : Type 0 where
+  pub same : SameButLock n.version before.place.seen → after ≡ walk_onto before before.child before.child_seen
+  pub outdated : ¬ SameButLock n.version before.place.seen → IsOutdated n before.place.seen → after ≡ walk_anew before
+  pub changed : ¬ SameButLock n.version before.place.seen → ¬ IsOutdated n before.place.seen → IsStable n.version × (after ≡ walk_reseen before n.version)
+
+-- what a search of the node for the key finds
+abbrev pub FindsIn : NodeView → Bytes → ℕ → Find → Type 0
+FindsIn n key layer finds.Missing = IsMissing n.slots (slice_of key layer) (mark_of key layer)
+FindsIn n key layer (finds.Slot slot kind) = IsInSlot n slot key layer kind
+
+-- after Search: to load the slot that has the key or a link; to confirm where the key is missing, or another long one stands in its place
+abbrev pub after_search : Find → Walk → ℕ → Walk
+after_search finds.Missing w step = record w { taken = Missing; right_at = step; phase = Confirm }
+after_search (finds.Slot slot OtherLong) w step = record w { taken = Missing; right_at = step; phase = Confirm }
+after_search (finds.Slot slot _) w step = record w { slot = slot; right_at = step; phase = Load }
+
+-- What a load takes out of the walk's slot, the row that it answers, and the step after which that is right: a row at the first step or the later
+-- one that placed it; the tree of a link, or nothing where the slot is no more, at the step of the search.
+abbrev pub TakesOut : NodeView → Walk → Option Columns → Taken → ℕ → Type 0
+TakesOut n w row Missing at = ⊥
+TakesOut n w row Row at = (w.slot < length n.slots) × (pair : Pair) × ((slot_at n w.slot).held ≡ helds.Stable pair) × (row ≡ Some pair.row) × (at ≡ max w.first pair.stamp)
+TakesOut n w row (Link u) at = (w.slot < length n.slots) × ((slot_at n w.slot).held ≡ helds.Link u) × (row ≡ None) × (at ≡ w.right_at)
+TakesOut n w row Nothing at = ¬ (w.slot < length n.slots) × (row ≡ None) × (at ≡ w.right_at)
+
+-- after Load: to confirm what was taken
+abbrev pub after_load : Walk → Taken → ℕ → Walk
+after_load w taken at = record w { taken = taken; right_at = at; phase = Confirm }
+
+-- a load of the walk's slot, and the row that it answers
+pub record Loads (n : NodeView) (before after : Walk) (row : Option Columns) : Type 0 where
+  pub takes : TakesOut n before row after.taken after.right_at
+  pub is : after ≡ after_load before after.taken after.right_at
+
+-- after Confirm where the version stands: into the tree of a link, else done
+abbrev pub after_confirm : Taken → Walk → Walk
+after_confirm (Link u) w = walk_into w u (w.layer + 1)
+after_confirm _ w = record w { phase = Done }
+
+-- a border node has changed: anew where it was deleted, else its version and its next one are remembered
+abbrev pub after_change : Walk → Parts → Option ℕ → Walk
+after_change w now next = if now.deleted then walk_anew w else record w { place = record w.place { seen = now }; next = next; phase = Forward }
+
+-- after Confirm: on exactly where the version is the same but for the lock
+pub record Confirms (n : NodeView) (before after : Walk) : Type 0 where
+  pub same : SameButLock n.version before.place.seen → after ≡ after_confirm before.taken before
+  pub changed : ¬ SameButLock n.version before.place.seen → after ≡ after_change before n.version n.next
+
+-- the walk stays at its border node
+abbrev pub walk_here : Walk → Walk
+walk_here w = record w { phase = arrival w.writes }
+
+-- the walk goes to the next border node, and remembers its version and its next one
+abbrev pub walk_to_next : Walk → ℕ → NodeView → Walk
+walk_to_next w j m = record w { place = record w.place { node = j; seen = m.version }; next = m.next; phase = Forward }
+
+-- after Forward, by the next node: anew where that one was deleted, there where the slice is at least its low fence, else here
+abbrev pub after_forward : Walk → ℕ → ℕ → NodeView → Walk
+after_forward w slice j m = if m.version.deleted then walk_anew w else (if nat_le m.low slice then walk_to_next w j m else walk_here w)
+
+-- after Lock: the operation holds the node, or the node was deleted or split, and nothing of the arena has changed
+pub record Locks (op : ℕ) (old new : ArenaView) (before after : Walk) : Type 0 where
+  pub takes : ¬ IsOutdated (at old before.place.node) before.place.seen → new ≡ with_node old before.place.node (locked (at old before.place.node) op)
+  pub judges : ¬ IsOutdated (at old before.place.node) before.place.seen → after ≡ record before { phase = Judge }
+  pub leaves : IsOutdated (at old before.place.node) before.place.seen → new ≡ old
+  pub goes_on : IsOutdated (at old before.place.node) before.place.seen → after ≡ after_change before (at old before.place.node).version (at old before.place.node).next
