@@ -1,1 +1,4 @@
 pub mod ArenaSteps
+pub mod TreeReads
+pub mod TreeFacts
+pub mod TreeLinks

@@ -1,0 +1,224 @@
+//! A tree that grows: keys come to border nodes, full ones are split, their right halves come to their
+//! parents, and these are split in turn. Between two keys nobody holds a node.
+
+ghost use Rattle.std.specs.Prelude.{◌≡◌, ◌<◌, ◌≤◌, ◌-◌, [], length, None, Some, IfOk, IfSome, IsTrue, OnOk};
+ghost use Rattle.mt_slices.specs.Slices.{slice_of, mark_of};
+ghost use Rattle.mt_border.specs.Entries.{IsMissing};
+ghost use Rattle.mt_border.specs.Entry.{IsEntry, IsStablePair};
+ghost use Rattle.mt_border.specs.Contents.{HasKey};
+ghost use Rattle.mt_arena.specs.Ways.{BelongsIn};
+ghost use Rattle.mt_arena.specs.Accesses.{at};
+ghost use Rattle.mt_arena_tests.specs.TreeStory.{IsAtRest, AreHalves, MayCount, MayTake};
+
+use crate::arena::entry_of;
+use mt_arena::laws::linked_from_the_top;
+use mt_arena::Arena;
+use mt_border::laws::suffix_fits_mark;
+use mt_border::{Entry, Find, FoundKind, Held};
+use mt_slices::StoredKey;
+use std::alloc::{AllocError, Global};
+use std::process::Abort;
+use std::test::Fail;
+
+// The largest count that a version counts on from.
+const LAST_COUNT: u64 = (1 << 60) - 2;
+
+// The border node in which a key belongs.
+fn border_of(arena: &Arena, key: &StoredKey) -> usize
+    requires { IsAtRest arena.now }
+    ensures { BelongsIn arena.now.nodes arena.now.trees key.now 0 result }
+{
+    arena.facts();
+    linked_from_the_top();
+    let _stored = key.as_bytes();
+    let slice = key.slice(0);
+    let mut node = arena.tree(0).root;
+    while arena.node(node).level() > 0 {
+        node = arena.interior(node).child_of(slice);
+    }
+    node
+}
+
+// Whether a border node misses the key.
+fn misses(arena: &Arena, node: usize, key: &StoredKey) -> bool
+    requires there { node < length arena.now.nodes }
+    requires border { (at arena.now node).level ≡ 0 }
+    ensures { IsTrue result → IsMissing (at arena.now node).slots (slice_of key.now 0) (mark_of key.now 0) }
+{
+    suffix_fits_mark();
+    let border = arena.border(node);
+    match border.find(key.slice(0), key.mark(0), key.suffix(0)) {
+        Find::Missing => true,
+        Find::Slot(..) => false,
+    }
+}
+
+// Whether a node's version may count one more insert or split.
+fn may_count(arena: &Arena, node: usize) -> bool
+    requires { node < length arena.now.nodes }
+    ensures { IsTrue result → MayCount (at arena.now node).version }
+{
+    let version = arena.node(node).version();
+    version.inserts() <= LAST_COUNT && version.splits() <= LAST_COUNT
+}
+
+// Puts in the pair of a key where there is room.
+fn publish(arena: &mut Arena, node: usize, key: &StoredKey, entry: Entry)
+    requires rest { IsAtRest arena.old }
+    requires may { MayTake arena.old node key.now entry }
+    requires room { length (at arena.old node).slots < 15 }
+    ensures { IsAtRest arena.new }
+{
+    arena.facts();
+    arena.lock(node, 5);
+    arena.publish(node, entry, 5);
+    arena.unlock(node, 5);
+}
+
+// Splits the last border node, which is full, with one more key. The operation holds both halves then.
+fn split(
+    arena: &mut Arena,
+    node: usize,
+    key: &StoredKey,
+    entry: Entry,
+) -> Result<usize, AllocError>
+    requires rest { IsAtRest arena.old }
+    requires may { MayTake arena.old node key.now entry }
+    requires full { length (at arena.old node).slots ≡ 15 }
+    requires last { (at arena.old node).next ≡ None }
+    ensures { IfOk result (λ half. AreHalves arena.new node half) }
+{
+    arena.facts();
+    let low = arena.border(node).separator(entry.slice, entry.mark);
+    arena.lock(node, 5);
+    arena.mark_splitting(node, 5);
+    let half = arena.alloc_node(node, low, 5)?;
+    arena.split_border(node, half, entry, 5);
+    arena.facts();
+    Ok(half)
+}
+
+// Puts a right half into its parent, and gives all locks back.
+fn link_up(arena: &mut Arena, parent: usize, left: usize, right: usize)
+    requires halves { AreHalves arena.old left right }
+    requires parent { (at arena.old left).parent ≡ Some parent }
+    requires count { MayCount (at arena.old parent).version }
+    requires room { length (at arena.old parent).separators < 15 }
+    ensures { IsAtRest arena.new }
+{
+    arena.facts();
+    arena.lock(parent, 5);
+    arena.set_parent(right, parent, 5);
+    arena.insert_child(parent, left, right, 5);
+    arena.unlock(parent, 5);
+    arena.unlock(left, 5);
+    arena.unlock(right, 5);
+}
+
+// Puts a new root over the halves of the old one, and gives all locks back.
+fn grow(arena: &mut Arena, left: usize, right: usize) -> Result<(), AllocError>
+    requires halves { AreHalves arena.old left right }
+    requires parentless { (at arena.old left).parent ≡ None }
+    ensures { OnOk result (IsAtRest arena.new) }
+{
+    arena.facts();
+    let top = arena.grow_root(left, right, 5)?;
+    arena.unlock(top, 5);
+    arena.unlock(left, 5);
+    arena.unlock(right, 5);
+    Ok(())
+}
+
+// Has the halves of a node join the tree: in their parent, or under a new root.
+fn join(
+    rt: &impl Abort,
+    arena: &mut Arena,
+    left: usize,
+    right: usize,
+) -> Result<(), AllocError>
+    requires { AreHalves arena.old left right }
+    ensures { OnOk result (IsAtRest arena.new) }
+{
+    arena.facts();
+    let parent = match arena.node(left).parent() {
+        Some(parent) => parent,
+        None => return grow(arena, left, right),
+    };
+    assert!(rt; may_count(arena, parent));
+    assert!(rt; !arena.interior(parent).is_full());
+    link_up(arena, parent, left, right);
+    Ok(())
+}
+
+// Puts in the pair of a missing key, and splits what is full.
+fn put(
+    rt: &impl Abort,
+    arena: &mut Arena,
+    key: &StoredKey,
+    entry: Entry,
+) -> Result<(), AllocError>
+    requires rest { IsAtRest arena.old }
+    requires entry { IsEntry entry }
+    requires has { HasKey [] 0 entry key.now }
+    requires stable { IsStablePair entry.held }
+    ensures { OnOk result (IsAtRest arena.new) }
+{
+    let node = border_of(arena, key);
+    assert!(rt; misses(arena, node, key));
+    assert!(rt; may_count(arena, node));
+    if !arena.border(node).is_full() {
+        publish(arena, node, key, entry);
+        return Ok(());
+    }
+    assert!(rt; arena.border(node).next().is_none());
+    let half = split(arena, node, key, entry)?;
+    join(rt, arena, node, half)
+}
+
+// The stamp of the key's pair, and the node in which it stands.
+fn stamp_of(arena: &Arena, key: &StoredKey) -> Option<(usize, u64)>
+    requires { IsAtRest arena.now }
+{
+    suffix_fits_mark();
+    let node = border_of(arena, key);
+    let border = arena.border(node);
+    match border.find(key.slice(0), key.mark(0), key.suffix(0)) {
+        Find::Slot(slot, FoundKind::ThisKey) => match border.load(slot)? {
+            Held::Stable(pair) => Some((node, pair.stamp)),
+            Held::Unstable(..) | Held::Link(_) => None,
+        },
+        _ => None,
+    }
+}
+
+// Puts in so many keys of one byte, from the lowest on.
+fn put_all(
+    rt: &impl Abort,
+    alloc: Global,
+    arena: &mut Arena,
+    from: u8,
+    until: u8,
+) -> Result<(), Fail>
+    requires { IsAtRest arena.old }
+    ensures { OnOk result (IsAtRest arena.new) }
+{
+    for name in from..until {
+        let key = StoredKey::new(alloc, 7, &[name])?;
+        let entry = entry_of(rt, alloc, &key)?;
+        put(rt, arena, &key, entry)?;
+    }
+    Ok(())
+}
+
+#[test]
+fn full_borders_are_split(rt: HostRuntime) -> Result<(), Fail> {
+    let alloc = rt.alloc();
+    let mut arena = Arena::new(alloc)?;
+    put_all(&rt, alloc, &mut arena, 0, 100)?;
+    for name in 0..100 {
+        let key = StoredKey::new(alloc, 7, &[name])?;
+        let found = stamp_of(&arena, &key);
+        assert!(rt; found.is_some());
+    }
+    Ok(())
+}
