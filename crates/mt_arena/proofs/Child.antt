@@ -62,7 +62,7 @@ module _ (xs : List NodeView) (i j q : ℕ) (nodes : AreNodes xs) (f : Inserts x
   some = not_empty p.children a f.child.in_range
 
   size : length p.children ≡ length p.separators + 1
-  size = omega (arith, h.interior.between, f.child.in_range)
+  size = omega (arith, h.children.interior.between, f.child.in_range)
 
   size_bounds : length (bounds p) ≡ length p.separators + 2
   size_bounds = length_bounds p
@@ -92,12 +92,12 @@ module _ (xs : List NodeView) (i j q : ℕ) (nodes : AreNodes xs) (f : Inserts x
   more = length-insert p.children (a + 1) q at_children
 
   pub still_rise : IsRising (bounds y)
-  still_rise = subst IsRising (sym bounds_are) (rising_insert (bounds p) (a + 1) r.low (h.bounds_rise some) at_bounds
-      (λ b lt. omega (arith, rises (bounds p) b a (h.bounds_rise some) (omega arith) (omega (arith, at_bounds)), left_child.low, f.above))
-      (λ b ge lt. omega (arith, rises (bounds p) (a + 1) b (h.bounds_rise some) ge lt, left_child.reach, f.below)))
+  still_rise = subst IsRising (sym bounds_are) (rising_insert (bounds p) (a + 1) r.low (h.children.rise some) at_bounds
+      (λ b lt. omega (arith, rises (bounds p) b a (h.children.rise some) (omega arith) (omega (arith, at_bounds)), left_child.low, f.above))
+      (λ b ge lt. omega (arith, rises (bounds p) (a + 1) b (h.children.rise some) ge lt, left_child.reach, f.below)))
 
   pub children_within : (b : ℕ) → b < length y.children → get_or y.children b 0 < length xs
-  children_within b lt = all_insert (λ c. c < length xs) p.children (a + 1) q at_children f.right_there h.children_there b (omega (arith, lt, more))
+  children_within b lt = all_insert (λ c. c < length xs) p.children (a + 1) q at_children f.right_there h.names.children b (omega (arith, lt, more))
 
   pub sizes : (length y.separators ≡ length p.separators + 1) × (length y.children ≡ length p.separators + 2)
   sizes = (length-insert p.separators a r.low at_separators, omega (arith, more, size))
@@ -106,27 +106,13 @@ module _ (xs : List NodeView) (i j q : ℕ) (nodes : AreNodes xs) (f : Inserts x
   left_node =
       let g = nodes.each j f.left_there in
       record {
-        next_there = g.next_there;
-        previous_there = g.previous_there;
-        parent_there = g.parent_there;
-        children_there = g.children_there;
-        locked = g.locked;
-        inserting_held = g.inserting_held;
-        splitting_held = g.splitting_held;
-        unstable_held = g.unstable_held;
-        border_level = g.border_level;
-        interior_level = g.interior_level;
-        border = g.border;
-        slots_within = g.slots_within;
-        childless = g.childless;
-        interior = g.interior;
-        bounds_rise = g.bounds_rise;
-        peopled = g.peopled;
-        slotless = g.slotless;
-        within_reach = omega arith;
-        reach_exact = λ e. refl;
-        ends = g.ends;
-        begins = g.begins;
+        names = g.names;
+        lock = g.lock;
+        kind = g.kind;
+        slots = g.slots;
+        children = g.children;
+        reach = record { within = omega arith; exact = λ e. refl };
+        chain = g.chain;
         rooted = g.rooted;
       }
 
@@ -204,58 +190,32 @@ module _ (xs : List NodeView) (i j q : ℕ) (nodes : AreNodes xs) (f : Inserts x
   -- a node beside the changed parent
   parent_from : (k : ℕ) (m : NodeView) → IsPair i p k m → ((b : ℕ) → b < length y.children → get_or y.children b 0 ≡ k → IsChild y b m) → IsPair i y k m
   parent_from k m g child = record {
-    next_follows = g.next_follows;
-    next_tree = g.next_tree;
-    next_level = g.next_level;
-    next_live = g.next_live;
-    previous_back = g.previous_back;
-    previous_live = g.previous_live;
-    parent_knows = g.parent_knows;
+    next = g.next;
+    named = g.named;
     child = λ b lt e live. child b lt e;
     apart = g.apart;
   }
 
   parent_to : (k : ℕ) (n : NodeView) → IsPair k n i p → IsPair k n i y
   parent_to k n g = record {
-    next_follows = g.next_follows;
-    next_tree = g.next_tree;
-    next_level = g.next_level;
-    next_live = g.next_live;
-    previous_back = λ e live free. absurd (f.parent_held free);
-    previous_live = λ e live free. absurd (f.parent_held free);
-    parent_knows = λ e live free. absurd (f.parent_held free);
-    child = λ b lt e live.
-        let c = g.child b lt e live in
-        record { live = c.live; tree = c.tree; level = c.level; knows = c.knows; low = c.low; reach = c.reach };
+    next = g.next;
+    named = λ _ free. absurd (f.parent_held free);
+    child = g.child;
     apart = g.apart;
   }
 
   left_from : (k : ℕ) (m : NodeView) → IsPair j l k m → IsPair j z k m
   left_from k m g = record {
-    next_follows = g.next_follows;
-    next_tree = g.next_tree;
-    next_level = g.next_level;
-    next_live = g.next_live;
-    previous_back = g.previous_back;
-    previous_live = g.previous_live;
-    parent_knows = g.parent_knows;
-    child = λ b lt e live.
-        let c = g.child b lt e live in
-        record { live = c.live; tree = c.tree; level = c.level; knows = c.knows; low = c.low; reach = c.reach };
+    next = g.next;
+    named = g.named;
+    child = g.child;
     apart = g.apart;
   }
 
   left_to : (k : ℕ) (n : NodeView) → IsPair k n j l → ((b : ℕ) → b < length n.children → get_or n.children b 0 ≡ j → n.version.deleted ≡ false → ⊥) → IsPair k n j z
   left_to k n g none = record {
-    next_follows = g.next_follows;
-    next_tree = g.next_tree;
-    next_level = g.next_level;
-    next_live = g.next_live;
-    previous_back = g.previous_back;
-    previous_live = g.previous_live;
-    parent_knows = λ e live free.
-        let c = g.parent_knows e live free in
-        record { live = c.live; place = c.place; in_range = c.in_range; is = c.is };
+    next = g.next;
+    named = g.named;
     child = λ b lt e live. absurd (none b lt e live);
     apart = g.apart;
   }
@@ -273,46 +233,30 @@ module _ (xs : List NodeView) (i j q : ℕ) (nodes : AreNodes xs) (f : Inserts x
 
   parent_left : IsPair i y j z
   parent_left = record {
-    next_follows = g.next_follows;
-    next_tree = g.next_tree;
-    next_level = g.next_level;
-    next_live = g.next_live;
-    previous_back = g.previous_back;
-    previous_live = g.previous_live;
-    parent_knows = λ e live free.
-        let c = g.parent_knows e live free in
-        record { live = c.live; place = c.place; in_range = c.in_range; is = c.is };
+    next = g.next;
+    named = g.named;
     child = λ b lt e live. left_child_of b lt e;
     apart = g.apart;
   }
 
   parent_node : length p.separators < 15 → IsNode (length xs) y
   parent_node room = record {
-    next_there = h.next_there;
-    previous_there = h.previous_there;
-    parent_there = h.parent_there;
-    children_there = children_within;
-    locked = h.locked;
-    inserting_held = h.inserting_held;
-    splitting_held = h.splitting_held;
-    unstable_held = h.unstable_held;
-    border_level = h.border_level;
-    interior_level = h.interior_level;
-    border = h.border;
-    slots_within = h.slots_within;
-    childless = λ level. absurd (omega (arith, level, f.right_level));
-    interior = record {
-      room = omega (arith, sizes.1, room);
-      between = omega (arith, sizes.0, sizes.1);
-      rising = separators_rise y.low y.separators y.high still_rise;
+    names = record { next = h.names.next; previous = h.names.previous; parent = h.names.parent; children = children_within };
+    lock = h.lock;
+    kind = h.kind;
+    slots = h.slots;
+    children = record {
+      childless = λ level. absurd (omega (arith, level, f.right_level));
+      interior = record {
+        room = omega (arith, sizes.1, room);
+        between = omega (arith, sizes.0, sizes.1);
+        rising = separators_rise y.low y.separators y.high still_rise;
+      };
+      rise = λ e. still_rise;
+      peopled = λ level range. not_empty y.children a (omega (arith, more, at_children));
     };
-    bounds_rise = λ e. still_rise;
-    peopled = λ level range. not_empty y.children a (omega (arith, more, at_children));
-    slotless = h.slotless;
-    within_reach = h.within_reach;
-    reach_exact = h.reach_exact;
-    ends = h.ends;
-    begins = h.begins;
+    reach = h.reach;
+    chain = h.chain;
     rooted = h.rooted;
   }
 
@@ -329,7 +273,7 @@ module _ (xs : List NodeView) (i j q : ℕ) (nodes : AreNodes xs) (f : Inserts x
 
   -- the place of the new child is the one behind the left half
   pub inserts_at : place_of p.separators r.low ≡ a
-  inserts_at = place_of-between p.low p.separators p.high r.low a h.interior.rising at_separators (omega (arith, left_child.low, f.above), omega (arith, left_child.reach, f.below))
+  inserts_at = place_of-between p.low p.separators p.high r.low a h.children.interior.rising at_separators (omega (arith, left_child.low, f.above), omega (arith, left_child.reach, f.below))
 
 -- node q becomes a child of node i, which has room, and the range of node j in its parent ends at its fence
 pub nodes_insert_child : (xs : List NodeView) (i j q : ℕ) → AreNodes xs → Inserts xs i j q → length (node_at xs i).separators < 15

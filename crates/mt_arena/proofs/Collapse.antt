@@ -25,7 +25,7 @@ is_true false live = absurd (live refl)
 pub root_left : (xs : List NodeView) (i : ℕ) → i < length xs → AreNodes xs → AreRanged xs → (node_at xs i).low ≡ 0 → (node_at xs i).parent ≡ None → IsLeft xs i
 root_left xs i within nodes ranged low parentless = record {
   nobodys_next = λ k lt e. is_true _ (λ live.
-      let high = ap end_of ((nodes.pairs k i lt within).next_follows e) in
+      let high = ap end_of (((nodes.pairs k i lt within).next e).meets) in
       let range = (ranged k lt).next (some_is _ i e) in
       omega (arith, high, range, low));
   nobodys_child = λ k a lt la e. is_true _ (λ live. ((nodes.pairs k i lt within).child a la e live).knows parentless);
@@ -34,30 +34,16 @@ root_left xs i within nodes ranged low parentless = record {
 -- a node that is no live node's child becomes the root
 crowned_from : (k : ℕ) (n : NodeView) (j : ℕ) (m : NodeView) → IsPair k n j m → IsPair k (crowned n) j m
 crowned_from k n j m h = record {
-  next_follows = h.next_follows;
-  next_tree = h.next_tree;
-  next_level = h.next_level;
-  next_live = h.next_live;
-  previous_back = h.previous_back;
-  previous_live = h.previous_live;
-  parent_knows = λ e. absurd (cc);
-  child = λ i lt e live.
-      let c = h.child i lt e live in
-      record { live = c.live; tree = c.tree; level = c.level; knows = c.knows; low = c.low; reach = c.reach };
+  next = h.next;
+  named = λ live free. record { back = (h.named live free).back; live = (h.named live free).live; knows = λ e. absurd (cc) };
+  child = h.child;
   apart = h.apart;
 }
 
 crowned_to : (k : ℕ) (n : NodeView) (j : ℕ) (m : NodeView) → IsPair k n j m → ((i : ℕ) → i < length n.children → get_or n.children i 0 ≡ j → n.version.deleted ≡ true) → IsPair k n j (crowned m)
 crowned_to k n j m h none = record {
-  next_follows = h.next_follows;
-  next_tree = h.next_tree;
-  next_level = h.next_level;
-  next_live = h.next_live;
-  previous_back = h.previous_back;
-  previous_live = h.previous_live;
-  parent_knows = λ e live free.
-      let c = h.parent_knows e live free in
-      record { live = c.live; place = c.place; in_range = c.in_range; is = c.is };
+  next = h.next;
+  named = h.named;
   child = λ i lt e live. absurd (let dead = none i lt e in cc);
   apart = h.apart;
 }
@@ -69,27 +55,18 @@ nodes_crowned xs i within nodes none =
     let x = node_at xs i in
     let h = nodes.each i within in
     are_set xs i (crowned x) within nodes record {
-      next_there = h.next_there;
-      previous_there = h.previous_there;
-      parent_there = λ j e. absurd (cc);
-      children_there = h.children_there;
-      locked = h.locked;
-      inserting_held = h.inserting_held;
-      splitting_held = h.splitting_held;
-      unstable_held = h.unstable_held;
-      border_level = h.border_level;
-      interior_level = h.interior_level;
-      border = h.border;
-      slots_within = h.slots_within;
-      childless = h.childless;
-      interior = h.interior;
-      bounds_rise = h.bounds_rise;
-      peopled = h.peopled;
-      slotless = h.slotless;
-      within_reach = h.within_reach;
-      reach_exact = h.reach_exact;
-      ends = h.ends;
-      begins = h.begins;
+      names = record {
+        next = h.names.next;
+        previous = h.names.previous;
+        parent = λ j e. absurd (cc);
+        children = h.names.children;
+      };
+      lock = h.lock;
+      kind = h.kind;
+      slots = h.slots;
+      children = h.children;
+      reach = h.reach;
+      chain = h.chain;
       rooted = λ live free parentless. refl;
     }
     (crowned_from i x i (crowned x) (crowned_to i x i x (nodes.pairs i i within within) (λ a. none i a within)))

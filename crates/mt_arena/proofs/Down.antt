@@ -49,7 +49,7 @@ pub goes_on : (nodes : List NodeView) (trees : List Tree) (key : Bytes) (layer k
 goes_on nodes trees key layer k i u arena in_k at link =
     let e = slot_at (node_at nodes k) i in
     let leads : LeadsTo trees (node_at nodes k) i u = arena.layers.links k at.border.there at.border.live i u at.in_range link in
-    let mark = long_link e.mark e u ((arena.nodes.each k at.border.there).border.each i any_entry at.in_range).held link in
+    let mark = long_link e.mark e u ((arena.nodes.each k at.border.there).slots.border.each i any_entry at.in_range).held link in
     let below = long_below key layer (sym at.mark_is ∙ mark) in
     record {
       there = leads.there;

@@ -59,7 +59,7 @@ module _ (nodes : List NodeView) (trees : List Tree) (arena : IsArena nodes tree
   -- a node with a slot is a border node
   level_of : (k i : ℕ) → k < length nodes → i < length (node_at nodes k).slots → (node_at nodes k).level ≡ 0
   level_of k i there within = elim (cases_lt 0 (node_at nodes k).level) [
-    | inl above ↦ absurd (let none = ap length ((arena.nodes.each k there).slotless above) in omega (arith, none, within))
+    | inl above ↦ absurd (let none = ap length ((arena.nodes.each k there).slots.slotless above) in omega (arith, none, within))
     | inr border ↦ omega (arith, border)
   ]
 

@@ -10,36 +10,23 @@ use Rattle.mt_arena.specs.Nodes.{AreNodes, AllNodes, AllPairs, IsNode, IsPair, I
 use Rattle.mt_arena.specs.Settled.{IsSettled}
 use Rattle.mt_arena.specs.Ranges.{AreRanged}
 use Rattle.mt_arena.specs.Growth.{AreRootHalves, fresh_top, below_top, left_below, right_below}
-use Rattle.mt_arena.proofs.Pairs.{here, there, last, before, nodes_set, nodes_push, node_more, pairs_set2, pairs_push}
+use Rattle.mt_arena.proofs.Groups.{node_more, names_none, interior_chain}
+use Rattle.mt_arena.proofs.Pairs.{here, there, last, before, nodes_set, nodes_push, pairs_set2, pairs_push}
 use Rattle.mt_arena.proofs.Push.{no_slots}
 
 -- a node without parent comes below a new one, which is behind all others
 below_from : (top k : ℕ) (n : NodeView) (j : ℕ) (m : NodeView) (reach : Option ℕ) (root : Bool) → j < top → IsPair k n j m → IsPair k (below_top n top reach root) j m
 below_from top k n j m reach root lt h = record {
-  next_follows = h.next_follows;
-  next_tree = h.next_tree;
-  next_level = h.next_level;
-  next_live = h.next_live;
-  previous_back = h.previous_back;
-  previous_live = h.previous_live;
-  parent_knows = λ e. absurd (omega (arith, same_Some _ _ e, lt));
-  child = λ i lt e live.
-      let c = h.child i lt e live in
-      record { live = c.live; tree = c.tree; level = c.level; knows = c.knows; low = c.low; reach = c.reach };
+  next = h.next;
+  named = λ live free. record { back = (h.named live free).back; live = (h.named live free).live; knows = λ e. absurd (omega (arith, same_Some _ _ e, lt)) };
+  child = h.child;
   apart = h.apart;
 }
 
 below_to : (top k : ℕ) (n : NodeView) (j : ℕ) (m : NodeView) (reach : Option ℕ) (root : Bool) → m.parent ≡ None → IsPair k n j m → IsPair k n j (below_top m top reach root)
 below_to top k n j m reach root parentless h = record {
-  next_follows = h.next_follows;
-  next_tree = h.next_tree;
-  next_level = h.next_level;
-  next_live = h.next_live;
-  previous_back = h.previous_back;
-  previous_live = h.previous_live;
-  parent_knows = λ e live free.
-      let c = h.parent_knows e live free in
-      record { live = c.live; place = c.place; in_range = c.in_range; is = c.is };
+  next = h.next;
+  named = h.named;
   child = λ i lt e live. absurd ((h.child i lt e live).knows parentless);
   apart = h.apart;
 }
@@ -48,27 +35,18 @@ below_node : (count : ℕ) (n : NodeView) (reach : Option ℕ) (root : Bool) →
 below_node count n reach root node within exact =
     let h = node_more count (count + 1) n (omega arith) node in
     record {
-      next_there = h.next_there;
-      previous_there = h.previous_there;
-      parent_there = λ j e. omega (arith, same_Some _ _ e);
-      children_there = h.children_there;
-      locked = h.locked;
-      inserting_held = h.inserting_held;
-      splitting_held = h.splitting_held;
-      unstable_held = h.unstable_held;
-      border_level = h.border_level;
-      interior_level = h.interior_level;
-      border = h.border;
-      slots_within = h.slots_within;
-      childless = h.childless;
-      interior = h.interior;
-      bounds_rise = h.bounds_rise;
-      peopled = h.peopled;
-      slotless = h.slotless;
-      within_reach = within;
-      reach_exact = exact;
-      ends = h.ends;
-      begins = h.begins;
+      names = record {
+        next = h.names.next;
+        previous = h.names.previous;
+        parent = λ j e. omega (arith, same_Some _ _ e);
+        children = h.names.children;
+      };
+      lock = h.lock;
+      kind = h.kind;
+      slots = h.slots;
+      children = h.children;
+      reach = record { within = within; exact = exact };
+      chain = h.chain;
       rooted = λ live free none. absurd (cc);
     }
 
@@ -156,7 +134,7 @@ module _ (xs : List NodeView) (i j op : ℕ) (nodes : AreNodes xs) (f : AreRootH
   left_node = below_node (length xs) l l.high false (nodes.each i li) (omega arith) (λ e. refl)
 
   right_node : IsNode (length xs + 1) z
-  right_node = below_node (length xs) r r.reach r.version.root (nodes.each j lj) (nodes.each j lj).within_reach (nodes.each j lj).reach_exact
+  right_node = below_node (length xs) r r.reach r.version.root (nodes.each j lj) (nodes.each j lj).reach.within (nodes.each j lj).reach.exact
 
   each : AllNodes (IsNode (length xs + 1)) ws
   each = nodes_set (IsNode (length xs + 1)) (set xs i y) j z (omega (arith, lj, length-set xs i y))
@@ -170,27 +148,23 @@ module _ (xs : List NodeView) (i j op : ℕ) (nodes : AreNodes xs) (f : AreRootH
 
   top_node : IsNode (length xs + 1) g
   top_node = record {
-    next_there = λ k e. absurd (cc);
-    previous_there = λ k e. absurd (cc);
-    parent_there = λ k e. absurd (cc);
-    children_there = top_children;
-    locked = refl;
-    inserting_held = λ e. absurd (cc);
-    splitting_held = λ e. absurd (cc);
-    unstable_held = λ free. absurd (cc);
-    border_level = λ e. absurd (cc);
-    interior_level = λ e. omega arith;
-    border = no_slots;
-    slots_within = λ k lt. absurd (omega arith);
-    childless = λ level. absurd (omega (arith, level));
-    interior = record { room = omega arith; between = omega arith; rising = one_rises r.low };
-    bounds_rise = λ some. three_rise 0 r.low 18446744073709551616 f.above f.below;
-    peopled = λ level range. λ e. absurd (cc);
-    slotless = λ level. refl;
-    within_reach = omega arith;
-    reach_exact = λ e. refl;
-    ends = λ level. absurd (omega (arith, level));
-    begins = λ level. absurd (omega (arith, level));
+    names = record {
+      next = λ k e. absurd (cc);
+      previous = λ k e. absurd (cc);
+      parent = λ k e. absurd (cc);
+      children = top_children;
+    };
+    lock = record { locked = refl; inserting = λ e. absurd (cc); splitting = λ e. absurd (cc); stable = λ free. absurd (cc) };
+    kind = record { border = λ e. absurd (cc); interior = λ e. omega arith };
+    slots = record { border = no_slots; within = λ k lt. absurd (omega arith); slotless = λ level. refl };
+    children = record {
+      childless = λ level. absurd (omega (arith, level));
+      interior = record { room = omega arith; between = omega arith; rising = one_rises r.low };
+      rise = λ some. three_rise 0 r.low 18446744073709551616 f.above f.below;
+      peopled = λ level range. λ e. absurd (cc);
+    };
+    reach = record { within = omega arith; exact = λ e. refl };
+    chain = interior_chain (omega arith);
     rooted = λ live free. absurd (cc);
   }
 
@@ -217,26 +191,16 @@ module _ (xs : List NodeView) (i j op : ℕ) (nodes : AreNodes xs) (f : AreRootH
 
   top_from : (k : ℕ) → k < length ws → IsPair (length ws) g k (node_at ws k)
   top_from k lt = record {
-    next_follows = λ e. absurd (cc);
-    next_tree = λ e. absurd (cc);
-    next_level = λ e. absurd (cc);
-    next_live = λ e. absurd (cc);
-    previous_back = λ e. absurd (cc);
-    previous_live = λ e. absurd (cc);
-    parent_knows = λ e. absurd (cc);
+    next = λ e. absurd (cc);
+    named = λ _ _. names_none;
     child = λ a la is live. top_child k a la is;
     apart = λ differ tree level live also s hg hk. absurd (omega (arith, top_alone k (omega (arith, lt, size)) (sym tree) (sym level) also s hk, hg.1));
   }
 
   top_self : IsPair (length ws) g (length ws) g
   top_self = record {
-    next_follows = λ e. absurd (cc);
-    next_tree = λ e. absurd (cc);
-    next_level = λ e. absurd (cc);
-    next_live = λ e. absurd (cc);
-    previous_back = λ e. absurd (cc);
-    previous_live = λ e. absurd (cc);
-    parent_knows = λ e. absurd (cc);
+    next = λ e. absurd (cc);
+    named = λ _ _. names_none;
     child = λ a la is live. absurd (beyond a la is);
     apart = λ differ. absurd (differ refl);
   }
@@ -250,13 +214,12 @@ module _ (xs : List NodeView) (i j op : ℕ) (nodes : AreNodes xs) (f : AreRootH
   to_top : (k : ℕ) (m : NodeView) → IsNode (length xs + 1) m → ((c : ℕ) → m.next ≡ Some c → c < length xs) → ((c : ℕ) → m.previous ≡ Some c → c < length xs) → ((a : ℕ) → a < length m.children → get_or m.children a 0 < length xs)
       → (m.parent ≡ Some (length ws) → HasChild g k) → (m.tree ≡ l.tree → m.level ≡ l.level + 1 → m.version.deleted ≡ false → (s : ℕ) → Holds m s → 18446744073709551616 ≤ s) → IsPair k m (length ws) g
   to_top k m h next previous children knows lonely = record {
-    next_follows = λ e. absurd (omega (arith, next (length ws) e, size));
-    next_tree = λ e. absurd (omega (arith, next (length ws) e, size));
-    next_level = λ e. absurd (omega (arith, next (length ws) e, size));
-    next_live = λ e. absurd (omega (arith, next (length ws) e, size));
-    previous_back = λ e. absurd (omega (arith, previous (length ws) e, size));
-    previous_live = λ e. absurd (omega (arith, previous (length ws) e, size));
-    parent_knows = λ e live free. knows e;
+    next = λ e. absurd (omega (arith, next (length ws) e, size));
+    named = λ _ _. record {
+      back = λ e. absurd (omega (arith, previous (length ws) e, size));
+      live = λ e. absurd (omega (arith, previous (length ws) e, size));
+      knows = λ e. knows e;
+    };
     child = λ a la is live. absurd (omega (arith, children a la, is, size));
     apart = λ differ tree level live also s hm hg. absurd (omega (arith, lonely tree level live s hm, hg.1));
   }
@@ -267,15 +230,15 @@ module _ (xs : List NodeView) (i j op : ℕ) (nodes : AreNodes xs) (f : AreRootH
       elim (cases_eq k i) [
         | inl k_i ↦
             let h = nodes.each i li in
-            rw (k_i, at_i) (to_top i y left_node h.next_there h.previous_there h.children_there (λ e. record { live = refl; place = 0; in_range = omega arith; is = refl }) (λ tree level. absurd (omega (arith, level))))
+            rw (k_i, at_i) (to_top i y left_node h.names.next h.names.previous h.names.children (λ e. record { live = refl; place = 0; in_range = omega arith; is = refl }) (λ tree level. absurd (omega (arith, level))))
         | inr k_ni ↦ elim (cases_eq k j) [
           | inl k_j ↦
               let h = nodes.each j lj in
-              rw (k_j, at_j) (to_top j z right_node h.next_there h.previous_there h.children_there (λ e. record { live = refl; place = 1; in_range = omega arith; is = refl }) (λ tree level. absurd (omega (arith, level, f.right_level))))
+              rw (k_j, at_j) (to_top j z right_node h.names.next h.names.previous h.names.children (λ e. record { live = refl; place = 1; in_range = omega arith; is = refl }) (λ tree level. absurd (omega (arith, level, f.right_level))))
           | inr k_nj ↦
               let h = nodes.each k lk in
-              rw (at k k_ni k_nj) (to_top k (node_at xs k) (node_more (length xs) (length xs + 1) (node_at xs k) (omega arith) h) h.next_there h.previous_there h.children_there
-              (λ e. absurd (omega (arith, h.parent_there (length ws) e, size))) (alone k lk))
+              rw (at k k_ni k_nj) (to_top k (node_at xs k) (node_more (length xs) (length xs + 1) (node_at xs k) (omega arith) h) h.names.next h.names.previous h.names.children
+              (λ e. absurd (omega (arith, h.names.parent (length ws) e, size))) (alone k lk))
         ]
       ]
 
@@ -294,10 +257,10 @@ module _ (xs : List NodeView) (i j op : ℕ) (nodes : AreNodes xs) (f : AreRootH
       let lk : k < length xs = omega (arith, lt, size) in
       let h = nodes.each k lk in
       elim (cases_eq k i) [
-        | inl k_i ↦ rw (k_i, at_i) (λ e. omega (arith, (nodes.each i li).previous_there (length ws) e, size), λ e. record { live = refl; place = 0; in_range = omega arith; is = refl })
+        | inl k_i ↦ rw (k_i, at_i) (λ e. omega (arith, (nodes.each i li).names.previous (length ws) e, size), λ e. record { live = refl; place = 0; in_range = omega arith; is = refl })
         | inr k_ni ↦ elim (cases_eq k j) [
-          | inl k_j ↦ rw (k_j, at_j) (λ e. omega (arith, (nodes.each j lj).previous_there (length ws) e, size), λ e. record { live = refl; place = 1; in_range = omega arith; is = refl })
-          | inr k_nj ↦ rw (at k k_ni k_nj) (λ e. omega (arith, h.previous_there (length ws) e, size), λ e. absurd (omega (arith, h.parent_there (length ws) e, size)))
+          | inl k_j ↦ rw (k_j, at_j) (λ e. omega (arith, (nodes.each j lj).names.previous (length ws) e, size), λ e. record { live = refl; place = 1; in_range = omega arith; is = refl })
+          | inr k_nj ↦ rw (at k k_ni k_nj) (λ e. omega (arith, h.names.previous (length ws) e, size), λ e. absurd (omega (arith, h.names.parent (length ws) e, size)))
         ]
       ]
 
@@ -330,9 +293,9 @@ pub none_above : (xs : List NodeView) (i j : ℕ) → AreNodes xs → AreRanged 
 none_above xs i j nodes ranged f k lk tree level live s holds =
     let m = node_at xs k in
     let h = nodes.each k lk in
-    let la : 0 < length m.children = not_none m.children (h.peopled (omega (arith, level)) (omega (arith, holds.0, holds.1))) in
+    let la : 0 < length m.children = not_none m.children (h.children.peopled (omega (arith, level)) (omega (arith, holds.0, holds.1))) in
     let c : ℕ = get_or m.children 0 0 in
-    let lc : c < length xs = h.children_there 0 la in
+    let lc : c < length xs = h.names.children 0 la in
     let child : IsChild m 0 (node_at xs c) = (nodes.pairs k c lk lc).child 0 la refl live in
     let range : HasRange (node_at xs c) = (ranged c lc).parent child.knows in
     let low : (node_at xs c).low ≡ m.low = child.low in

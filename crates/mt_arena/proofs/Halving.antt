@@ -85,10 +85,10 @@ gathers_same xs trees gone room i within sound =
     let x = node_at xs i in
     let h = sound.arena.nodes.each i within in
     record {
-      few = omega (arith, h.border.within);
-      rising = h.border.rising;
-      each = h.border.each;
-      inside = within_each x x.slots h.slots_within;
+      few = omega (arith, h.slots.border.within);
+      rising = h.slots.border.rising;
+      each = h.slots.border.each;
+      inside = within_each x x.slots h.slots.within;
       keys = keys_of xs trees i within sound.arena.forest;
       forth = same_links x.slots;
       back = same_links x.slots;
@@ -103,7 +103,7 @@ gathers_with v room left right op key e sound may place =
     let le = place_in-le x.slots (order_of e) in
     record {
       few = omega (arith, may.full, length-publish x.slots e);
-      rising = rw (orders-insert x.slots p e) (rising_with x.slots e.slice e.mark (sound.arena.nodes.each left may.half.held.there).border place.entry.mark may.missing);
+      rising = rw (orders-insert x.slots p e) (rising_with x.slots e.slice e.mark (sound.arena.nodes.each left may.half.held.there).slots.border place.entry.mark may.missing);
       each = All-insert IsEntry x.slots p e was.each place.entry;
       inside = All-insert (λ (e : Entry). Holds x e.slice) x.slots p e was.inside (subst (Holds x) (sym place.has.slice) place.belongs.holds);
       keys = record {

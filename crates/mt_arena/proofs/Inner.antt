@@ -9,6 +9,7 @@ use Rattle.mt_interior.proofs.CallerLemmas.{bounds_of-take, bounds_of-drop}
 use Rattle.mt_arena.specs.NodeView.{NodeView, node_at}
 use Rattle.mt_arena.specs.Nodes.{AllPairs, IsNode, IsPair, IsChild, HasRange, bounds}
 use Rattle.mt_arena.specs.Splits.{SplitsInner}
+use Rattle.mt_arena.proofs.Groups.{interior_slots, interior_chain}
 use Rattle.mt_arena.proofs.Pairs.{pairs_set2}
 use Rattle.mt_arena.proofs.Ranges.{not_empty, length_bounds, separators_rise, child_ranges}
 
@@ -101,61 +102,53 @@ module _ (ws : List NodeView) (i h k : ℕ) (p : NodeView) (separators children 
 
   pub left_node : IsNode (length ws) y
   left_node = record {
-    next_there = hp.next_there;
-    previous_there = hp.previous_there;
-    parent_there = hp.parent_there;
-    children_there = λ b lt. rw (get_or-take (suc k) children b 0 (omega (arith, lt, left_count))) (wide.there b (omega (arith, lt, left_count, wide.between, wide.in_range)));
-    locked = hp.locked;
-    inserting_held = hp.inserting_held;
-    splitting_held = hp.splitting_held;
-    unstable_held = hp.unstable_held;
-    border_level = hp.border_level;
-    interior_level = hp.interior_level;
-    border = hp.border;
-    slots_within = λ b lt. absurd (omega (arith, lt, ap length (hp.slotless above)));
-    childless = λ level. absurd (omega (arith, level, above));
-    interior = record {
-      room = omega (arith, left_count, wide.left_room);
-      between = omega (arith, left_count, left_separators);
-      rising = separators_rise y.low y.separators y.high left_rise;
+    names = record {
+      next = hp.names.next;
+      previous = hp.names.previous;
+      parent = hp.names.parent;
+      children = λ b lt. rw (get_or-take (suc k) children b 0 (omega (arith, lt, left_count))) (wide.there b (omega (arith, lt, left_count, wide.between, wide.in_range)));
     };
-    bounds_rise = λ some. left_rise;
-    peopled = λ level range. not_empty y.children 0 (omega (arith, left_count));
-    slotless = hp.slotless;
-    within_reach = omega (arith, middle_high, hp.within_reach);
-    reach_exact = λ e. absurd (grind (arith, e, f.marked));
-    ends = λ level. absurd (omega (arith, level, above));
-    begins = λ level. absurd (omega (arith, level, above));
+    lock = hp.lock;
+    kind = hp.kind;
+    slots = interior_slots y.high above hp.slots;
+    children = record {
+      childless = λ level. absurd (omega (arith, level, above));
+      interior = record {
+        room = omega (arith, left_count, wide.left_room);
+        between = omega (arith, left_count, left_separators);
+        rising = separators_rise y.low y.separators y.high left_rise;
+      };
+      rise = λ some. left_rise;
+      peopled = λ level range. not_empty y.children 0 (omega (arith, left_count));
+    };
+    reach = record { within = omega (arith, middle_high, hp.reach.within); exact = λ e. absurd (grind (arith, e, f.marked)) };
+    chain = interior_chain above;
     rooted = λ _ free. absurd (held free);
   }
 
   pub right_node : IsNode (length ws) u
   right_node = record {
-    next_there = ht.next_there;
-    previous_there = ht.previous_there;
-    parent_there = ht.parent_there;
-    children_there = λ b lt. rw (get_or-drop (suc k) children b 0) (wide.there (suc k + b) (omega (arith, lt, right_count)));
-    locked = ht.locked;
-    inserting_held = ht.inserting_held;
-    splitting_held = ht.splitting_held;
-    unstable_held = ht.unstable_held;
-    border_level = ht.border_level;
-    interior_level = ht.interior_level;
-    border = ht.border;
-    slots_within = λ b lt. absurd (omega (arith, lt, ap length (ht.slotless right_above)));
-    childless = λ level. absurd (omega (arith, level, right_above));
-    interior = record {
-      room = omega (arith, right_count, wide.right_room);
-      between = omega (arith, right_count, right_separators, wide.between);
-      rising = separators_rise u.low u.separators u.high right_rise;
+    names = record {
+      next = ht.names.next;
+      previous = ht.names.previous;
+      parent = ht.names.parent;
+      children = λ b lt. rw (get_or-drop (suc k) children b 0) (wide.there (suc k + b) (omega (arith, lt, right_count)));
     };
-    bounds_rise = λ some. right_rise;
-    peopled = λ level range. not_empty u.children 0 (omega (arith, right_count, wide.between, wide.in_range));
-    slotless = ht.slotless;
-    within_reach = hp.within_reach;
-    reach_exact = λ e. absurd (grind (arith, e, f.right_marked));
-    ends = λ level. absurd (omega (arith, level, right_above));
-    begins = λ level. absurd (omega (arith, level, right_above));
+    lock = ht.lock;
+    kind = ht.kind;
+    slots = interior_slots u.high right_above ht.slots;
+    children = record {
+      childless = λ level. absurd (omega (arith, level, right_above));
+      interior = record {
+        room = omega (arith, right_count, wide.right_room);
+        between = omega (arith, right_count, right_separators, wide.between);
+        rising = separators_rise u.low u.separators u.high right_rise;
+      };
+      rise = λ some. right_rise;
+      peopled = λ level range. not_empty u.children 0 (omega (arith, right_count, wide.between, wide.in_range));
+    };
+    reach = record { within = hp.reach.within; exact = λ e. absurd (grind (arith, e, f.right_marked)) };
+    chain = interior_chain right_above;
     rooted = λ _ free. absurd (f.right_held free);
   }
 
@@ -195,55 +188,33 @@ module _ (ws : List NodeView) (i h k : ℕ) (p : NodeView) (separators children 
   -- the left half beside any node
   left_from : (m : ℕ) (n : NodeView) → IsPair i w m n → IsPair i y m n
   left_from m n g = record {
-    next_follows = λ e. absurd (let none = f.next in cc);
-    next_tree = λ e. absurd (let none = f.next in cc);
-    next_level = λ e. absurd (let none = f.next in cc);
-    next_live = λ e. absurd (let none = f.next in cc);
-    previous_back = g.previous_back;
-    previous_live = g.previous_live;
-    parent_knows = g.parent_knows;
+    next = λ e. absurd (let none = f.next in cc);
+    named = g.named;
     child = λ b lt e _. left_child m n g b lt e;
     apart = λ d tree level one also s hy hn. g.apart d tree level one also s (hy.0, omega (arith, hy.1, middle_high)) hn;
   }
 
   left_to : (m : ℕ) (n : NodeView) → IsPair m n i w → IsPair m n i y
   left_to m n g = record {
-    next_follows = g.next_follows;
-    next_tree = g.next_tree;
-    next_level = g.next_level;
-    next_live = g.next_live;
-    previous_back = λ e _ free. absurd (held free);
-    previous_live = λ e _ free. absurd (held free);
-    parent_knows = λ e _ free. absurd (held free);
-    child = λ b lt e one.
-        let c = g.child b lt e one in
-        record { live = c.live; tree = c.tree; level = c.level; knows = c.knows; low = c.low; reach = c.reach };
+    next = g.next;
+    named = λ _ free. absurd (held free);
+    child = g.child;
     apart = λ d tree level one also s hn hy. g.apart d tree level one also s hn (hy.0, omega (arith, hy.1, middle_high));
   }
 
   -- the right half beside any node but the left one
   right_from : (m : ℕ) (n : NodeView) → m ≢ i → IsPair i w m n → IsPair h t m n → IsPair h u m n
   right_from m n ni g e = record {
-    next_follows = λ is. absurd (let none = f.right_next in cc);
-    next_tree = λ is. absurd (let none = f.right_next in cc);
-    next_level = λ is. absurd (let none = f.right_next in cc);
-    next_live = λ is. absurd (let none = f.right_next in cc);
-    previous_back = e.previous_back;
-    previous_live = e.previous_live;
-    parent_knows = e.parent_knows;
+    next = λ is. absurd (let none = f.right_next in cc);
+    named = e.named;
     child = λ b lt is _. right_child m n g b lt is;
     apart = λ d tree level _ also s hu hn. g.apart (λ same. ni (sym same)) (sym f.right_tree ∙ tree) (sym f.right_level ∙ level) live also s (omega (arith, hu.0, low_middle, f.right_low), hu.1) hn;
   }
 
   right_to : (m : ℕ) (n : NodeView) → m ≢ i → IsNode (length ws) n → IsPair m n i w → IsPair m n h t → IsPair m n h u
   right_to m n ni one g e = record {
-    next_follows = e.next_follows;
-    next_tree = e.next_tree;
-    next_level = e.next_level;
-    next_live = e.next_live;
-    previous_back = λ is _ free. absurd (f.right_held free);
-    previous_live = λ is _ free. absurd (f.right_held free);
-    parent_knows = λ is _ free. absurd (f.right_held free);
+    next = e.next;
+    named = λ _ free. absurd (f.right_held free);
     child = λ b lt is alive. absurd (omega (arith, child_ranges (length ws) n b t one lt (e.child b lt is alive), rw f.right_reach at (child_ranges (length ws) n b t one lt (e.child b lt is alive))));
     apart = λ d tree level alive _ s hn hu. g.apart ni (tree ∙ f.right_tree) (level ∙ f.right_level) alive live s hn (omega (arith, hu.0, low_middle, f.right_low), hu.1);
   }
@@ -253,26 +224,16 @@ module _ (ws : List NodeView) (i h k : ℕ) (p : NodeView) (separators children 
 
   right_self : IsPair h u h u
   right_self = record {
-    next_follows = λ is. absurd (let none = f.right_next in cc);
-    next_tree = λ is. absurd (let none = f.right_next in cc);
-    next_level = λ is. absurd (let none = f.right_next in cc);
-    next_live = λ is. absurd (let none = f.right_next in cc);
-    previous_back = λ is _ free. absurd (f.right_held free);
-    previous_live = λ is _ free. absurd (f.right_held free);
-    parent_knows = λ is _ free. absurd (f.right_held free);
+    next = λ is. absurd (let none = f.right_next in cc);
+    named = λ _ free. absurd (f.right_held free);
     child = λ b lt is _. absurd (wide_child (suc k + b) (omega (arith, lt, right_count)) (sym (get_or-drop (suc k) children b 0) ∙ is));
     apart = λ d. absurd (d refl);
   }
 
   left_right : IsPair i y h u
   left_right = record {
-    next_follows = λ is. absurd (let none = f.next in cc);
-    next_tree = λ is. absurd (let none = f.next in cc);
-    next_level = λ is. absurd (let none = f.next in cc);
-    next_live = λ is. absurd (let none = f.next in cc);
-    previous_back = λ is _ free. absurd (f.right_held free);
-    previous_live = λ is _ free. absurd (f.right_held free);
-    parent_knows = λ is _ free. absurd (f.right_held free);
+    next = λ is. absurd (let none = f.next in cc);
+    named = λ _ free. absurd (f.right_held free);
     child = λ b lt is _.
         let small : b < suc k = omega (arith, lt, left_count) in
         absurd (wide_child b (omega (arith, small, wide.between, wide.in_range)) (sym (get_or-take (suc k) children b 0 small) ∙ is));
@@ -281,13 +242,8 @@ module _ (ws : List NodeView) (i h k : ℕ) (p : NodeView) (separators children 
 
   right_left : IsPair h u i y
   right_left = record {
-    next_follows = λ is. absurd (let none = f.right_next in cc);
-    next_tree = λ is. absurd (let none = f.right_next in cc);
-    next_level = λ is. absurd (let none = f.right_next in cc);
-    next_live = λ is. absurd (let none = f.right_next in cc);
-    previous_back = λ is _ free. absurd (held free);
-    previous_live = λ is _ free. absurd (held free);
-    parent_knows = λ is _ free. absurd (held free);
+    next = λ is. absurd (let none = f.right_next in cc);
+    named = λ _ free. absurd (held free);
     child = λ b lt is _. absurd (own_child (suc k + b) (omega (arith, lt, right_count)) (sym (get_or-drop (suc k) children b 0) ∙ is));
     apart = λ d tree level _ _ s hu hy. absurd (omega (arith, hy.1, hu.0, f.right_low));
   }

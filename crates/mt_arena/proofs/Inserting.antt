@@ -61,8 +61,8 @@ module _ (xs : List NodeView) (i j q : ℕ) (nodes : AreNodes xs) (f : Inserts x
   is_new b lt same =
       let a = f.child.place in
       let size = length_bounds p in
-      let rise = (nodes.each i f.parent_there).bounds_rise some_child in
-      let between = (nodes.each i f.parent_there).interior.between in
+      let rise = (nodes.each i f.parent_there).children.rise some_child in
+      let between = (nodes.each i f.parent_there).children.interior.between in
       let at : get_or (bounds p) (b + 1) 0 ≡ get_or p.separators b 0 = ap (λ k. get_or (bounds p) k 0) {x = b + 1} {y = suc b} (omega arith) ∙ get_or_append_left p.separators (end_of p.high ∷ []) 0 b lt in
       elim (cases_lt b a) [
         | inl low ↦ omega (arith, same, at, rises (bounds p) (b + 1) a rise (omega (arith, low)) (omega (arith, size, between, f.child.in_range)), child.low, f.above)

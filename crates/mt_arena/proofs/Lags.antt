@@ -10,7 +10,8 @@ use Rattle.mt_interior.specs.Places.{place_of}
 use Rattle.mt_interior.proofs.CallerLemmas.{place_of-le-length}
 use Rattle.mt_arena.specs.declared.tree.Tree.{Tree}
 use Rattle.mt_arena.specs.NodeView.{NodeView, node_at}
-use Rattle.mt_arena.specs.Nodes.{AreNodes, HasChild, IsUnstable}
+use Rattle.mt_arena.specs.Nodes.{AreNodes, HasChild}
+use Rattle.mt_arena.specs.NodeFacts.{IsUnstable}
 use Rattle.mt_arena.specs.Settled.{IsSettled}
 use Rattle.mt_arena.specs.Guarantee.{NodesGuarantee, PointsOnly}
 use Rattle.mt_arena.specs.Lags.{Follows, IsUnder, AreFollowers, AreFollowersBut, AreChildren, AreChildrenBut}
@@ -130,7 +131,7 @@ pub children_again : (xs : List NodeView) (i j q : ℕ) → AreNodes xs → Inse
 children_again xs i j q nodes f children k is =
     let p = node_at xs i in
     let y = with_child p (node_at xs q).low q in
-    let size : length p.children ≡ length p.separators + 1 = omega (arith, (nodes.each i f.parent_there).interior.between, f.child.in_range) in
+    let size : length p.children ≡ length p.separators + 1 = omega (arith, (nodes.each i f.parent_there).children.interior.between, f.child.in_range) in
     let before : IsUnder xs i k = elim (under_in (set xs i y) i k j (exact (node_at xs j)) (omega (arith, f.left_there, length-set xs i y)) is) [
       | inl left ↦ subst (λ c. IsUnder xs i c) (sym left.0) (f.left_there, left.1, left.2)
       | inr other ↦ elim (under_in xs i k i y f.parent_there other.1) [
@@ -172,7 +173,7 @@ fresh_followers xs y nodes none k is =
       | inr other ↦
           let lt : k < length xs = omega (arith, is.0, size) in
           let old = sym (ap (λ (n : NodeView). n.previous) (before xs y k lt)) ∙ is.1 in
-          absurd (omega (arith, (nodes.each k lt).previous_there (length xs) old))
+          absurd (omega (arith, (nodes.each k lt).names.previous (length xs) old))
     ]
 
 pub fresh_children : (xs : List NodeView) (y n : NodeView) → AreNodes xs → y.parent ≡ None → AreChildren (xs ++ y ∷ []) (length xs) n
@@ -185,7 +186,7 @@ fresh_children xs y n nodes none k is =
       | inr other ↦
           let lt : k < length xs = omega (arith, is.0, size) in
           let old = sym (ap (λ (n : NodeView). n.parent) (before xs y k lt)) ∙ is.1 in
-          absurd (omega (arith, (nodes.each k lt).parent_there (length xs) old))
+          absurd (omega (arith, (nodes.each k lt).names.parent (length xs) old))
     ]
 
 -- one node comes to name node i as its parent

@@ -137,7 +137,7 @@ module _ (nodes : List NodeView) (trees : List Tree) (arena : IsArena nodes tree
         | inl is_i ↦ subst (λ m. IsApart begins (owned key) (get_or (set n.slots i e) m any_entry)) (sym is_i)
             (subst (IsApart begins (owned key)) (sym (get_or-set_same n.slots i e any_entry at.in_range)) (pairless begins (owned key) e none))
         | inr not_i ↦ let long = length-set n.slots i e in subst (IsApart begins (owned key)) (sym (get_or-set_other n.slots i j e any_entry not_i))
-            (apart_beside begins layer n.slots key i (arena.nodes.each k at.there).border keys at.has.of_tree at.in_range (order_of_key begins layer (slot_at n i) key at.has) j any_entry (omega (arith, long)) not_i)
+            (apart_beside begins layer n.slots key i (arena.nodes.each k at.there).slots.border keys at.has.of_tree at.in_range (order_of_key begins layer (slot_at n i) key at.has) j any_entry (omega (arith, long)) not_i)
       ]
 
   key_at_r : get (map_of (live_pairs are (node_at new r))) (owned key) ≡ Some pair.row

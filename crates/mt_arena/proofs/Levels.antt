@@ -60,9 +60,9 @@ module _ (xs : List NodeView) (nodes : AreNodes xs) (ranged : AreRanged xs) wher
     | inr other ↦
         let n = node_at xs k in
         let h = nodes.each k lk in
-        let some : 0 < length n.children = not_none n.children (h.peopled (omega (arith, is)) range) in
+        let some : 0 < length n.children = not_none n.children (h.children.peopled (omega (arith, is)) range) in
         let c : ℕ = get_or n.children 0 0 in
-        let lc : c < length xs = h.children_there 0 some in
+        let lc : c < length xs = h.names.children 0 some in
         let child : IsChild n 0 (node_at xs c) = (nodes.pairs k c lk lc).child 0 some refl live in
         down l c lc child.live ((ranged c lc).parent child.knows) (omega (arith, child.level, is)) m (omega (arith, lt, other))
   ]

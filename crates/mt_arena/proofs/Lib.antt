@@ -1,3 +1,4 @@
+pub mod Groups
 pub mod Pairs
 pub mod Quiet
 pub mod Point

@@ -98,7 +98,7 @@ module _ (nodes : List NodeView) (trees : List Tree) (arena : IsArena nodes tree
 
     level : n.level ≡ 0
     level = elim (cases_lt 0 n.level) [
-      | inl above ↦ absurd (let none = ap length ((arena.nodes.each link.node link.there).slotless above) in omega (arith, none, link.in_range))
+      | inl above ↦ absurd (let none = ap length ((arena.nodes.each link.node link.there).slots.slotless above) in omega (arith, none, link.in_range))
       | inr border ↦ omega (arith, border)
     ]
 
@@ -114,7 +114,7 @@ module _ (nodes : List NodeView) (trees : List Tree) (arena : IsArena nodes tree
         border = record { there = link.there; live = link.live; level = level; tree_is = refl };
         in_range = link.in_range;
         slice_is = slice_is;
-        mark_is = long_link e.mark e t ((arena.nodes.each link.node link.there).border.each link.slot any_entry link.in_range).held link.is;
+        mark_is = long_link e.mark e t ((arena.nodes.each link.node link.there).slots.border.each link.slot any_entry link.in_range).held link.is;
       };
       is = link.is;
       to_live = live;

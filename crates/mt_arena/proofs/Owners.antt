@@ -67,7 +67,7 @@ module _ (nodes : List NodeView) (trees : List Tree) (arena : IsArena nodes tree
         (λ low j other also. differ (sym (stands_once nodes trees arena begun key layer k i pair low l j other at also).0))
 
     border : IsBorder n.slots
-    border = (arena.nodes.each k at.there).border
+    border = (arena.nodes.each k at.there).slots.border
 
     keys : AreKeys begins layer n.slots
     keys = keys_of at.there at.has.of_tree

@@ -1,9 +1,10 @@
 -- Facts of each node and of each two, where one node or two are changed, or one is added.
-use Rattle.std.proofs.Common.{◌≡◌, ◌≢◌, ℕ, zero, suc, ◌+◌, ◌<◌, ◌≤◌, List, [], ◌∷◌, ◌++◌, length, get_or, set, refl, sym, ap, subst, ◌∙◌, inl, inr, arith, length-append}
+use Rattle.std.proofs.Common.{◌≡◌, ◌≢◌, ℕ, zero, suc, ◌+◌, ◌<◌, List, [], ◌∷◌, ◌++◌, length, get_or, set, refl, sym, ap, subst, ◌∙◌, inl, inr, arith, length-append}
 use Rattle.std.proofs.lemmas.Bool.{cases_eq}
 use Rattle.std.proofs.lemmas.List.{get_or-set_same, get_or-set_other, length-set, get_or_default}
 use Rattle.mt_arena.specs.NodeView.{NodeView, node_at, no_node}
 use Rattle.mt_arena.specs.Nodes.{AllPairs, AllNodes, AreNodes, IsNode, IsPair}
+use Rattle.mt_arena.proofs.Groups.{node_more}
 
 pub here : (xs : List NodeView) (i : ℕ) (y : NodeView) → i < length xs → node_at (set xs i y) i ≡ y
 here xs i y within = get_or-set_same xs i y no_node within
@@ -164,33 +165,6 @@ pairs_push R xs y all self from to k j lk lj =
         | inr j_other ↦ rw (before xs y k (omega arith), before xs y j (omega arith)) (all k j (omega arith) (omega arith))
       ]
     ]
-
--- what holds of a node among so many holds of it among more
-pub node_more : (count more : ℕ) (n : NodeView) → count ≤ more → IsNode count n → IsNode more n
-node_more count more n le h = record {
-  next_there = λ j e. omega (arith, h.next_there j e);
-  previous_there = λ j e. omega (arith, h.previous_there j e);
-  parent_there = λ j e. omega (arith, h.parent_there j e);
-  children_there = λ i lt. omega (arith, h.children_there i lt);
-  locked = h.locked;
-  inserting_held = h.inserting_held;
-  splitting_held = h.splitting_held;
-  unstable_held = h.unstable_held;
-  border_level = h.border_level;
-  interior_level = h.interior_level;
-  border = h.border;
-  slots_within = h.slots_within;
-  childless = h.childless;
-  interior = h.interior;
-  bounds_rise = h.bounds_rise;
-  peopled = h.peopled;
-  slotless = h.slotless;
-  within_reach = h.within_reach;
-  reach_exact = h.reach_exact;
-  ends = h.ends;
-  begins = h.begins;
-  rooted = h.rooted;
-}
 
 -- the facts of all nodes, where one of them is another
 pub are_set : (xs : List NodeView) (i : ℕ) (y : NodeView) → i < length xs → AreNodes xs → IsNode (length xs) y

@@ -13,7 +13,7 @@ use Rattle.mt_arena.specs.Stands.{IsLiveBorder, StandsAt}
 -- the slice of a slot lies within its node's fences
 pub slot_within : (nodes : List NodeView) (k i : ℕ) → AreNodes nodes → k < length nodes → i < length (node_at nodes k).slots → Holds (node_at nodes k) (slot_at (node_at nodes k) i).slice
 slot_within nodes k i are there within =
-    subst (Holds (node_at nodes k)) (get_or-map (λ e. e.slice) (node_at nodes k).slots i any_entry 0 within) ((are.each k there).slots_within i within)
+    subst (Holds (node_at nodes k)) (get_or-map (λ e. e.slice) (node_at nodes k).slots i any_entry 0 within) ((are.each k there).slots.within i within)
 
 pub stands_within : (nodes : List NodeView) (tree slice : ℕ) (mark : Mark) (k i : ℕ) → AreNodes nodes → StandsAt nodes tree slice mark k i → Holds (node_at nodes k) slice
 stands_within nodes tree slice mark k i are at = subst (Holds (node_at nodes k)) at.slice_is (slot_within nodes k i are at.border.there at.in_range)
@@ -34,7 +34,7 @@ one_node nodes tree slice mark other k i l j are here there =
 pub same_slot : (nodes : List NodeView) (k i j : ℕ) → AreNodes nodes → k < length nodes → i < length (node_at nodes k).slots → j < length (node_at nodes k).slots
     → (slot_at (node_at nodes k) i).slice ≡ (slot_at (node_at nodes k) j).slice → (slot_at (node_at nodes k) i).mark ≡ (slot_at (node_at nodes k) j).mark → i ≡ j
 same_slot nodes k i j are there within inside slices marks =
-    one_slot (node_at nodes k).slots i j (are.each k there).border.rising within inside
+    one_slot (node_at nodes k).slots i j (are.each k there).slots.border.rising within inside
     (get_or-map order_of (node_at nodes k).slots i any_entry 0 within ∙ (λ a. order_at (slices a) (marks a)) ∙ sym (get_or-map order_of (node_at nodes k).slots j any_entry 0 inside))
 
 -- a slice and a mark stand in one place

@@ -8,15 +8,8 @@ use Rattle.mt_arena.proofs.Pairs.{are_set}
 -- the second node of a pair
 pointed_to : (k : ℕ) (n : NodeView) (j : ℕ) (m : NodeView) (previous parent : Option ℕ) → IsPair k n j m → (parent ≡ None → m.parent ≡ None) → IsPair k n j (pointed m previous parent)
 pointed_to k n j m previous parent h stays = record {
-  next_follows = h.next_follows;
-  next_tree = h.next_tree;
-  next_level = h.next_level;
-  next_live = h.next_live;
-  previous_back = h.previous_back;
-  previous_live = h.previous_live;
-  parent_knows = λ e live free.
-      let c = h.parent_knows e live free in
-      record { live = c.live; place = c.place; in_range = c.in_range; is = c.is };
+  next = h.next;
+  named = h.named;
   child = λ i lt e live.
       let c = h.child i lt e live in
       record { live = c.live; tree = c.tree; level = c.level; knows = λ none. c.knows (stays none); low = c.low; reach = c.reach };
@@ -28,25 +21,22 @@ pointed_from : (k : ℕ) (n : NodeView) (j : ℕ) (m : NodeView) (previous paren
     → (previous ≡ Some j → (n.previous ≡ Some j) ⊎ (m.holder ≢ None)) → (parent ≡ Some j → (n.parent ≡ Some j) ⊎ (m.holder ≢ None))
     → IsPair k (pointed n previous parent) j m
 pointed_from k n j m previous parent h back up = record {
-  next_follows = h.next_follows;
-  next_tree = h.next_tree;
-  next_level = h.next_level;
-  next_live = h.next_live;
-  previous_back = λ e live free. elim (back e) [
-    | inl was ↦ h.previous_back was live free
-    | inr held ↦ absurd (held free)
-  ];
-  previous_live = λ e live free. elim (back e) [
-    | inl was ↦ h.previous_live was live free
-    | inr held ↦ absurd (held free)
-  ];
-  parent_knows = λ e live free. elim (up e) [
-    | inl was ↦ h.parent_knows was live free
-    | inr held ↦ absurd (held free)
-  ];
-  child = λ i lt e live.
-      let c = h.child i lt e live in
-      record { live = c.live; tree = c.tree; level = c.level; knows = c.knows; low = c.low; reach = c.reach };
+  next = h.next;
+  named = λ live free. record {
+    back = λ e. elim (back e) [
+      | inl was ↦ (h.named live free).back was
+      | inr held ↦ absurd (held free)
+    ];
+    live = λ e. elim (back e) [
+      | inl was ↦ (h.named live free).live was
+      | inr held ↦ absurd (held free)
+    ];
+    knows = λ e. elim (up e) [
+      | inl was ↦ (h.named live free).knows was
+      | inr held ↦ absurd (held free)
+    ];
+  };
+  child = h.child;
   apart = h.apart;
 }
 
@@ -57,27 +47,21 @@ nodes_pointed xs i previous parent within nodes points =
     let y = pointed x previous parent in
     let h = nodes.each i within in
     are_set xs i y within nodes record {
-      next_there = h.next_there;
-      previous_there = points.previous_there;
-      parent_there = points.parent_there;
-      children_there = h.children_there;
-      locked = h.locked;
-      inserting_held = h.inserting_held;
-      splitting_held = h.splitting_held;
-      unstable_held = h.unstable_held;
-      border_level = h.border_level;
-      interior_level = h.interior_level;
-      border = h.border;
-      slots_within = h.slots_within;
-      childless = h.childless;
-      interior = h.interior;
-      bounds_rise = h.bounds_rise;
-      peopled = h.peopled;
-      slotless = h.slotless;
-      within_reach = h.within_reach;
-      reach_exact = h.reach_exact;
-      ends = h.ends;
-      begins = λ level range live none. h.begins level range live (points.previous_stays none);
+      names = record {
+        next = h.names.next;
+        previous = points.previous_there;
+        parent = points.parent_there;
+        children = h.names.children;
+      };
+      lock = h.lock;
+      kind = h.kind;
+      slots = h.slots;
+      children = h.children;
+      reach = h.reach;
+      chain = record {
+        last = h.chain.last;
+        first = λ level range live none. h.chain.first level range live (points.previous_stays none);
+      };
       rooted = λ live free none. h.rooted live free (points.parent_stays none);
     }
     (pointed_to i y i x previous parent (pointed_from i x i x previous parent (nodes.pairs i i within within) (points.previous_held i) (points.parent_held i)) points.parent_stays)

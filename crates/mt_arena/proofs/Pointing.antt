@@ -79,7 +79,7 @@ sound_previous xs trees gone room i k op within inside held sound =
     let h = sound.arena.nodes.each i within in
     sound_pointed xs trees gone room i (Some k) (node_at xs i).parent within sound record {
       previous_there = λ j e. omega (arith, same_Some k j e, inside);
-      parent_there = h.parent_there;
+      parent_there = h.names.parent;
       previous_held = λ j e. inr (λ none. absurd (let at = ap (λ k. (node_at xs k).holder) (same_Some k j e) in cc));
       parent_held = λ j e. inl e;
       previous_stays = λ none. absurd (cc);
@@ -96,7 +96,7 @@ pub sound_parent : (xs : List NodeView) (trees : List Tree) (gone : List Retired
 sound_parent xs trees gone room i k op within inside held sound no_root range =
     let h = sound.arena.nodes.each i within in
     sound_pointed xs trees gone room i (node_at xs i).previous (Some k) within sound record {
-      previous_there = h.previous_there;
+      previous_there = h.names.previous;
       parent_there = λ j e. omega (arith, same_Some k j e, inside);
       previous_held = λ j e. inl e;
       parent_held = λ j e. inr (λ none. absurd (let at = ap (λ k. (node_at xs k).holder) (same_Some k j e) in cc));

@@ -5,6 +5,7 @@ use Rattle.mt_interior.specs.Node.{IsInterior}
 use Rattle.mt_arena.specs.NodeView.{NodeView, node_at}
 use Rattle.mt_arena.specs.Nodes.{AreNodes, IsNode, IsPair}
 use Rattle.mt_arena.specs.Edits.{fresh_half, fresh_root}
+use Rattle.mt_arena.proofs.Groups.{names_none}
 use Rattle.mt_arena.proofs.Pairs.{nodes_pushed}
 
 -- neither slots nor children
@@ -17,54 +18,44 @@ no_children = record { room = omega arith; between = refl; rising = λ i j lt wi
 -- the right half of a split, before it has a range
 half_node : (count seen : ℕ) (n : NodeView) (low op : ℕ) → IsNode seen n → IsNode count (fresh_half n low op)
 half_node count seen n low op h = record {
-  next_there = λ j e. absurd (cc);
-  previous_there = λ j e. absurd (cc);
-  parent_there = λ j e. absurd (cc);
-  children_there = λ i lt. absurd (omega arith);
-  locked = refl;
-  inserting_held = λ e f. absurd (cc);
-  splitting_held = λ e f. absurd (cc);
-  unstable_held = λ free. absurd (cc);
-  border_level = h.border_level;
-  interior_level = h.interior_level;
-  border = no_slots;
-  slots_within = λ i lt. absurd (omega arith);
-  childless = λ level. refl;
-  interior = no_children;
-  bounds_rise = λ some. absurd (some refl);
-  peopled = λ level range. absurd (omega arith);
-  slotless = λ level. refl;
-  within_reach = omega arith;
-  reach_exact = λ e. refl;
-  ends = λ level range. absurd (omega arith);
-  begins = λ level range. absurd (omega arith);
+  names = record {
+    next = λ j e. absurd (cc);
+    previous = λ j e. absurd (cc);
+    parent = λ j e. absurd (cc);
+    children = λ i lt. absurd (omega arith);
+  };
+  lock = record { locked = refl; inserting = λ e f. absurd (cc); splitting = λ e f. absurd (cc); stable = λ free. absurd (cc) };
+  kind = h.kind;
+  slots = record { border = no_slots; within = λ i lt. absurd (omega arith); slotless = λ level. refl };
+  children = record {
+    childless = λ level. refl;
+    interior = no_children;
+    rise = λ some. absurd (some refl);
+    peopled = λ level range. absurd (omega arith);
+  };
+  reach = record { within = omega arith; exact = λ e. refl };
+  chain = record { last = λ level range. absurd (omega arith); first = λ level range. absurd (omega arith) };
   rooted = λ live free. absurd (cc);
 }
 
 -- beside a node that it does not name
 half_from : (k : ℕ) (n : NodeView) (low op j : ℕ) (m : NodeView) → IsPair k (fresh_half n low op) j m
 half_from k n low op j m = record {
-  next_follows = λ e. absurd (cc);
-  next_tree = λ e. absurd (cc);
-  next_level = λ e. absurd (cc);
-  next_live = λ e. absurd (cc);
-  previous_back = λ e. absurd (cc);
-  previous_live = λ e. absurd (cc);
-  parent_knows = λ e. absurd (cc);
+  next = λ e. absurd (cc);
+  named = λ _ _. names_none;
   child = λ i lt. absurd (omega arith);
   apart = λ differ tree level live also s holds _. absurd (omega (arith, holds.0, holds.1));
 }
 
 half_to : (count k : ℕ) (m n : NodeView) (low op : ℕ) → IsNode count m → IsPair k m count (fresh_half n low op)
 half_to count k m n low op h = record {
-  next_follows = λ e. absurd (omega (arith, h.next_there count e));
-  next_tree = λ e. absurd (omega (arith, h.next_there count e));
-  next_level = λ e. absurd (omega (arith, h.next_there count e));
-  next_live = λ e. absurd (omega (arith, h.next_there count e));
-  previous_back = λ e. absurd (omega (arith, h.previous_there count e));
-  previous_live = λ e. absurd (omega (arith, h.previous_there count e));
-  parent_knows = λ e. absurd (omega (arith, h.parent_there count e));
-  child = λ i lt e. absurd (omega (arith, h.children_there i lt, e));
+  next = λ e. absurd (omega (arith, h.names.next count e));
+  named = λ _ _. record {
+    back = λ e. absurd (omega (arith, h.names.previous count e));
+    live = λ e. absurd (omega (arith, h.names.previous count e));
+    knows = λ e. absurd (omega (arith, h.names.parent count e));
+  };
+  child = λ i lt e. absurd (omega (arith, h.names.children i lt, e));
   apart = λ differ tree level live also s _ holds. absurd (omega (arith, holds.0, holds.1));
 }
 
@@ -80,53 +71,48 @@ nodes_half xs i low op within nodes =
 -- the root of a new tree
 root_node : (count tree : ℕ) → IsNode count (fresh_root tree)
 root_node count tree = record {
-  next_there = λ j e. absurd (cc);
-  previous_there = λ j e. absurd (cc);
-  parent_there = λ j e. absurd (cc);
-  children_there = λ i lt. absurd (omega arith);
-  locked = refl;
-  inserting_held = λ e. absurd (cc);
-  splitting_held = λ e. absurd (cc);
-  unstable_held = λ free i d lt. absurd (omega arith);
-  border_level = λ e. refl;
-  interior_level = λ e. absurd (cc);
-  border = no_slots;
-  slots_within = λ i lt. absurd (omega arith);
-  childless = λ level. refl;
-  interior = no_children;
-  bounds_rise = λ some. absurd (some refl);
-  peopled = λ level range. absurd (omega arith);
-  slotless = λ level. refl;
-  within_reach = omega arith;
-  reach_exact = λ e. refl;
-  ends = λ level range none. refl;
-  begins = λ level range live none. refl;
+  names = record {
+    next = λ j e. absurd (cc);
+    previous = λ j e. absurd (cc);
+    parent = λ j e. absurd (cc);
+    children = λ i lt. absurd (omega arith);
+  };
+  lock = record {
+    locked = refl;
+    inserting = λ e. absurd (cc);
+    splitting = λ e. absurd (cc);
+    stable = λ free i d lt. absurd (omega arith);
+  };
+  kind = record { border = λ e. refl; interior = λ e. absurd (cc) };
+  slots = record { border = no_slots; within = λ i lt. absurd (omega arith); slotless = λ level. refl };
+  children = record {
+    childless = λ level. refl;
+    interior = no_children;
+    rise = λ some. absurd (some refl);
+    peopled = λ level range. absurd (omega arith);
+  };
+  reach = record { within = omega arith; exact = λ e. refl };
+  chain = record { last = λ level range none. refl; first = λ level range live none. refl };
   rooted = λ live free none. refl;
 }
 
 root_from : (k tree j : ℕ) (m : NodeView) → (k ≢ j → m.tree ≢ tree) → IsPair k (fresh_root tree) j m
 root_from k tree j m new = record {
-  next_follows = λ e. absurd (cc);
-  next_tree = λ e. absurd (cc);
-  next_level = λ e. absurd (cc);
-  next_live = λ e. absurd (cc);
-  previous_back = λ e. absurd (cc);
-  previous_live = λ e. absurd (cc);
-  parent_knows = λ e. absurd (cc);
+  next = λ e. absurd (cc);
+  named = λ _ _. names_none;
   child = λ i lt. absurd (omega arith);
   apart = λ differ same. absurd (new differ (sym same));
 }
 
 root_to : (count k : ℕ) (m : NodeView) (tree : ℕ) → IsNode count m → m.tree ≢ tree → IsPair k m count (fresh_root tree)
 root_to count k m tree h new = record {
-  next_follows = λ e. absurd (omega (arith, h.next_there count e));
-  next_tree = λ e. absurd (omega (arith, h.next_there count e));
-  next_level = λ e. absurd (omega (arith, h.next_there count e));
-  next_live = λ e. absurd (omega (arith, h.next_there count e));
-  previous_back = λ e. absurd (omega (arith, h.previous_there count e));
-  previous_live = λ e. absurd (omega (arith, h.previous_there count e));
-  parent_knows = λ e. absurd (omega (arith, h.parent_there count e));
-  child = λ i lt e. absurd (omega (arith, h.children_there i lt, e));
+  next = λ e. absurd (omega (arith, h.names.next count e));
+  named = λ _ _. record {
+    back = λ e. absurd (omega (arith, h.names.previous count e));
+    live = λ e. absurd (omega (arith, h.names.previous count e));
+    knows = λ e. absurd (omega (arith, h.names.parent count e));
+  };
+  child = λ i lt e. absurd (omega (arith, h.names.children i lt, e));
   apart = λ differ same. absurd (new same);
 }
 

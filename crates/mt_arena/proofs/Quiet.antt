@@ -1,27 +1,24 @@
 -- Changes that facts of two nodes do not read, but for a lock that is taken: other slots, another version, another holder.
-use Rattle.std.proofs.Common.{◌≡◌, ◌≢◌, ℕ, ◌<◌, List, [], length, slice_index, is_some, Option, Some, None, true, false, set, refl, sym, ◌∙◌, arith}
+use Rattle.std.proofs.Common.{◌≡◌, ◌≢◌, ℕ, ◌<◌, List, length, slice_index, is_some, Option, Some, None, true, false, set, refl, sym, ◌∙◌, arith}
 use Rattle.mt_version.specs.Parts.{Parts}
 use Rattle.mt_border.specs.declared.entry.Entry.{Entry}
 use Rattle.mt_border.specs.Entries.{IsBorder, slices}
 use Rattle.mt_arena.specs.NodeView.{NodeView, node_at}
 use Rattle.mt_arena.specs.Nodes.{AreNodes, IsNode, IsPair, Holds}
+use Rattle.mt_arena.specs.NodeFacts.{FitsSlots}
 use Rattle.mt_arena.specs.Edits.{turned, locked, inserting, splitting, with_slots}
+use Rattle.mt_arena.proofs.Groups.{held_lock}
 use Rattle.mt_arena.proofs.Pairs.{are_set}
 
 -- the first node of a pair
 turned_from : (k : ℕ) (n : NodeView) (j : ℕ) (m : NodeView) (slots : List Entry) (version : Parts) (holder : Option ℕ) → IsPair k n j m
     → version.deleted ≡ n.version.deleted → IsPair k (turned n slots version holder) j m
 turned_from k n j m slots version holder h same = record {
-  next_follows = h.next_follows;
-  next_tree = h.next_tree;
-  next_level = h.next_level;
-  next_live = λ e live. h.next_live e (sym same ∙ live);
-  previous_back = λ e live free. h.previous_back e (sym same ∙ live) free;
-  previous_live = λ e live free. h.previous_live e (sym same ∙ live) free;
-  parent_knows = λ e live free. h.parent_knows e (sym same ∙ live) free;
-  child = λ i lt e live.
-      let c = h.child i lt e (sym same ∙ live) in
-      record { live = c.live; tree = c.tree; level = c.level; knows = c.knows; low = c.low; reach = c.reach };
+  next = λ e.
+      let s = h.next e in
+      record { meets = s.meets; tree = s.tree; level = s.level; live = λ live. s.live (sym same ∙ live) };
+  named = λ live free. h.named (sym same ∙ live) free;
+  child = λ i lt e live. h.child i lt e (sym same ∙ live);
   apart = λ differ tree level live also. h.apart differ tree level (sym same ∙ live) also;
 }
 
@@ -34,15 +31,18 @@ was_free (Some q) new held free = absurd (held (λ e. absurd (cc)) free)
 turned_to : (k : ℕ) (n : NodeView) (j : ℕ) (m : NodeView) (slots : List Entry) (version : Parts) (holder : Option ℕ) → IsPair k n j m
     → version.deleted ≡ m.version.deleted → (m.holder ≢ None → holder ≢ None) → IsPair k n j (turned m slots version holder)
 turned_to k n j m slots version holder h same held = record {
-  next_follows = h.next_follows;
-  next_tree = h.next_tree;
-  next_level = h.next_level;
-  next_live = λ e live. same ∙ h.next_live e live;
-  previous_back = λ e live free. h.previous_back e live (was_free m.holder holder held free);
-  previous_live = λ e live free. same ∙ h.previous_live e live (was_free m.holder holder held free);
-  parent_knows = λ e live free.
-      let c = h.parent_knows e live (was_free m.holder holder held free) in
-      record { live = same ∙ c.live; place = c.place; in_range = c.in_range; is = c.is };
+  next = λ e.
+      let s = h.next e in
+      record { meets = s.meets; tree = s.tree; level = s.level; live = λ live. same ∙ s.live live };
+  named = λ live free.
+      let s = h.named live (was_free m.holder holder held free) in
+      record {
+        back = s.back;
+        live = λ e. same ∙ s.live e;
+        knows = λ e.
+            let c = s.knows e in
+            record { live = same ∙ c.live; place = c.place; in_range = c.in_range; is = c.is };
+      };
   child = λ i lt e live.
       let c = h.child i lt e live in
       record { live = same ∙ c.live; tree = c.tree; level = c.level; knows = c.knows; low = c.low; reach = c.reach };
@@ -65,30 +65,15 @@ nodes_quiet xs i slots version holder within nodes same held one =
 -- a node that is held, with other marks and slots that may stand in it
 held_node : (count : ℕ) (n : NodeView) (slots : List Entry) (version : Parts) (holder : Option ℕ) → IsNode count n → holder ≢ None
     → version.locked ≡ is_some holder → version.border ≡ n.version.border → version.deleted ≡ n.version.deleted → (version.splitting ≡ false → n.version.splitting ≡ false)
-    → IsBorder slots → ((i : ℕ) → i < length slots → Holds n (slice_index (slices slots) i)) → (0 < n.level → slots ≡ [])
-    → IsNode count (turned n slots version holder)
-held_node count n slots version holder h held lock kind standing marked border within slotless = record {
-  next_there = h.next_there;
-  previous_there = h.previous_there;
-  parent_there = h.parent_there;
-  children_there = h.children_there;
-  locked = lock;
-  inserting_held = λ e. held;
-  splitting_held = λ e. held;
-  unstable_held = λ free. absurd (held free);
-  border_level = λ e. h.border_level (sym kind ∙ e);
-  interior_level = λ e. h.interior_level (sym kind ∙ e);
-  border = border;
-  slots_within = within;
-  childless = h.childless;
-  interior = h.interior;
-  bounds_rise = h.bounds_rise;
-  peopled = h.peopled;
-  slotless = slotless;
-  within_reach = h.within_reach;
-  reach_exact = λ e. h.reach_exact (marked e);
-  ends = h.ends;
-  begins = λ level range live. h.begins level range (sym standing ∙ live);
+    → FitsSlots n.level n.low n.high slots → IsNode count (turned n slots version holder)
+held_node count n slots version holder h held lock kind standing marked fit = record {
+  names = h.names;
+  lock = held_lock holder slots held lock;
+  kind = record { border = λ e. h.kind.border (sym kind ∙ e); interior = λ e. h.kind.interior (sym kind ∙ e) };
+  slots = fit;
+  children = h.children;
+  reach = record { within = h.reach.within; exact = λ e. h.reach.exact (marked e) };
+  chain = record { last = h.chain.last; first = λ level range live. h.chain.first level range (sym standing ∙ live) };
   rooted = λ live free. absurd (held free);
 }
 
@@ -98,7 +83,7 @@ nodes_locked xs i op within nodes =
     let h = nodes.each i within in
     let version : Parts = record x.version { locked = true } in
     nodes_quiet xs i x.slots version (Some op) within nodes refl (λ e f. absurd (cc))
-    (held_node (length xs) x x.slots version (Some op) h (λ e. absurd (cc)) refl refl refl (λ e. e) h.border h.slots_within h.slotless)
+    (held_node (length xs) x x.slots version (Some op) h (λ e. absurd (cc)) refl refl refl (λ e. e) h.slots)
 
 pub nodes_inserting : (xs : List NodeView) (i : ℕ) → i < length xs → AreNodes xs → (node_at xs i).holder ≢ None → AreNodes (set xs i (inserting (node_at xs i)))
 nodes_inserting xs i within nodes held =
@@ -106,7 +91,7 @@ nodes_inserting xs i within nodes held =
     let h = nodes.each i within in
     let version : Parts = record x.version { inserting = true } in
     nodes_quiet xs i x.slots version x.holder within nodes refl (λ e. e)
-    (held_node (length xs) x x.slots version x.holder h held h.locked refl refl (λ e. e) h.border h.slots_within h.slotless)
+    (held_node (length xs) x x.slots version x.holder h held h.lock.locked refl refl (λ e. e) h.slots)
 
 pub nodes_splitting : (xs : List NodeView) (i : ℕ) → i < length xs → AreNodes xs → (node_at xs i).holder ≢ None → AreNodes (set xs i (splitting (node_at xs i)))
 nodes_splitting xs i within nodes held =
@@ -114,7 +99,7 @@ nodes_splitting xs i within nodes held =
     let h = nodes.each i within in
     let version : Parts = record x.version { splitting = true } in
     nodes_quiet xs i x.slots version x.holder within nodes refl (λ e. e)
-    (held_node (length xs) x x.slots version x.holder h held h.locked refl refl (λ e. absurd (cc)) h.border h.slots_within h.slotless)
+    (held_node (length xs) x x.slots version x.holder h held h.lock.locked refl refl (λ e. absurd (cc)) h.slots)
 
 -- other slots of a held border node
 pub nodes_slots : (xs : List NodeView) (i : ℕ) (slots : List Entry) → i < length xs → AreNodes xs → (node_at xs i).holder ≢ None → (node_at xs i).level ≡ 0
@@ -125,4 +110,4 @@ nodes_slots xs i slots within nodes held level border inside =
     let h = nodes.each i within in
     let version : Parts = record x.version { inserting = true } in
     nodes_quiet xs i slots version x.holder within nodes refl (λ e. e)
-    (held_node (length xs) x slots version x.holder h held h.locked refl refl (λ e. e) border inside (λ above. absurd (omega (arith, above, level))))
+    (held_node (length xs) x slots version x.holder h held h.lock.locked refl refl (λ e. e) record { border = border; within = inside; slotless = λ above. absurd (omega (arith, above, level)) })

@@ -79,7 +79,7 @@ ranged_unlinked xs i j q a nodes ranged f =
     let size2 = length-set (set xs i y) j (retired x) in
     let old = (nodes.pairs q j f.parent_there f.removed_there).child a f.in_range f.child f.parent_live in
     let some : l.next ≢ None = λ none. absurd (let next = f.next in cc) in
-    let range : HasRange y = omega (arith, (ranged i f.left_there).next some, (ranged j f.removed_there).parent old.knows, ap end_of ((nodes.pairs i j f.left_there f.removed_there).next_follows f.next)) in
+    let range : HasRange y = omega (arith, (ranged i f.left_there).next some, (ranged j f.removed_there).parent old.knows, ap end_of (((nodes.pairs i j f.left_there f.removed_there).next f.next).meets)) in
     nodes_set IsRanged (set (set xs i y) j (retired x)) q (without_child p a) (omega (arith, f.parent_there, size, size2))
     (nodes_set IsRanged (set xs i y) j (retired x) (omega (arith, f.removed_there, size))
     (nodes_set IsRanged xs i y f.left_there ranged (record { next = λ e. range; parent = λ e. range; unmarked = λ whole live. range }))

@@ -24,7 +24,7 @@ pub length_bounds : (n : NodeView) → length (bounds n) ≡ length n.separators
 length_bounds n = omega (arith, length-append n.separators (end_of n.high ∷ []))
 
 pub length_children : (count : ℕ) (n : NodeView) (a : ℕ) → IsNode count n → a < length n.children → length (bounds n) ≡ length n.children + 1
-length_children count n a h lt = omega (arith, length_bounds n, h.interior.between)
+length_children count n a h lt = omega (arith, length_bounds n, h.children.interior.between)
 
 -- where bounds rise, the separators between them do
 pub separators_rise : (low : ℕ) (xs : List ℕ) (high : Option ℕ) → IsRising (bounds_of low xs high) → IsRising xs
@@ -37,7 +37,7 @@ pub child_ranges : (count : ℕ) (n : NodeView) (a : ℕ) (m : NodeView) → IsN
 child_ranges count n a m h lt c =
     let size = length_children count n a h lt in
     let some = not_empty n.children a lt in
-    omega (arith, c.low, c.reach, (h.bounds_rise some) a (a + 1) (omega arith) (omega arith))
+    omega (arith, c.low, c.reach, (h.children.rise some) a (a + 1) (omega arith) (omega arith))
 
 -- where a child begins lies within the node's fences
 pub holds_low : (count : ℕ) (n : NodeView) (a : ℕ) → IsNode count n → a < length n.children → Holds n (get_or (bounds n) a 0)
@@ -46,7 +46,7 @@ holds_low count n a h lt =
     let all = length_bounds n in
     let some = not_empty n.children a lt in
     let end : get_or (bounds n) (suc (length n.separators)) 0 ≡ end_of n.high = bounds_of-end n.low n.separators n.high in
-    (rises (bounds n) 0 a (h.bounds_rise some) (omega arith) (omega arith), omega (arith, end, (h.bounds_rise some) a (suc (length n.separators)) (omega arith) (omega arith)))
+    (rises (bounds n) 0 a (h.children.rise some) (omega arith) (omega arith), omega (arith, end, (h.children.rise some) a (suc (length n.separators)) (omega arith) (omega arith)))
 
 -- a node is a child of one live node
 pub one_parent : (xs : List NodeView) (i k j a b : ℕ) → AreNodes xs → i < length xs → k < length xs → j < length xs
@@ -67,4 +67,4 @@ pub one_place : (count : ℕ) (n : NodeView) (a b : ℕ) (m : NodeView) → IsNo
 one_place count n a b m h la lb first second =
     let size = length_children count n a h la in
     let some = not_empty n.children a la in
-    grind (arith, size, la, lb, first.low, second.low, (h.bounds_rise some) a b, (h.bounds_rise some) b a)
+    grind (arith, size, la, lb, first.low, second.low, (h.children.rise some) a b, (h.children.rise some) b a)

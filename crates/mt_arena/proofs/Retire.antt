@@ -8,13 +8,8 @@ use Rattle.mt_arena.proofs.Pairs.{are_set}
 -- the first node of a pair
 retired_from : (k : ℕ) (n : NodeView) (j : ℕ) (m : NodeView) → IsPair k n j m → IsPair k (retired n) j m
 retired_from k n j m h = record {
-  next_follows = h.next_follows;
-  next_tree = h.next_tree;
-  next_level = h.next_level;
-  next_live = λ e live. absurd (cc);
-  previous_back = λ e live. absurd (cc);
-  previous_live = λ e live. absurd (cc);
-  parent_knows = λ e live. absurd (cc);
+  next = λ e. record { meets = (h.next e).meets; tree = (h.next e).tree; level = (h.next e).level; live = λ live. absurd (cc) };
+  named = λ live. absurd (cc);
   child = λ i lt e live. absurd (cc);
   apart = λ differ tree level live. absurd (cc);
 }
@@ -22,13 +17,8 @@ retired_from k n j m h = record {
 -- the second one, which no live node names
 retired_to : (nodes : List NodeView) (k i : ℕ) (x : NodeView) → k < length nodes → x.holder ≢ None → IsLeft nodes i → IsPair k (node_at nodes k) i x → IsPair k (node_at nodes k) i (retired x)
 retired_to nodes k i x within held left h = record {
-  next_follows = h.next_follows;
-  next_tree = h.next_tree;
-  next_level = h.next_level;
-  next_live = λ e live. absurd (let dead = left.nobodys_next k within e in cc);
-  previous_back = λ e live free. absurd (held free);
-  previous_live = λ e live free. absurd (held free);
-  parent_knows = λ e live free. absurd (held free);
+  next = λ e. record { meets = (h.next e).meets; tree = (h.next e).tree; level = (h.next e).level; live = λ live. absurd (let dead = left.nobodys_next k within e in cc) };
+  named = λ _ free. absurd (held free);
   child = λ a lt e live. absurd (let dead = left.nobodys_child k a within lt e in cc);
   apart = λ differ tree level live also. absurd (cc);
 }
@@ -38,27 +28,13 @@ nodes_retired xs i within nodes held left =
     let x = node_at xs i in
     let h = nodes.each i within in
     are_set xs i (retired x) within nodes record {
-      next_there = h.next_there;
-      previous_there = h.previous_there;
-      parent_there = h.parent_there;
-      children_there = h.children_there;
-      locked = h.locked;
-      inserting_held = h.inserting_held;
-      splitting_held = h.splitting_held;
-      unstable_held = h.unstable_held;
-      border_level = h.border_level;
-      interior_level = h.interior_level;
-      border = h.border;
-      slots_within = h.slots_within;
-      childless = h.childless;
-      interior = h.interior;
-      bounds_rise = h.bounds_rise;
-      peopled = h.peopled;
-      slotless = h.slotless;
-      within_reach = h.within_reach;
-      reach_exact = h.reach_exact;
-      ends = h.ends;
-      begins = λ level range live. absurd (cc);
+      names = h.names;
+      lock = h.lock;
+      kind = h.kind;
+      slots = h.slots;
+      children = h.children;
+      reach = h.reach;
+      chain = record { last = h.chain.last; first = λ level range live. absurd (cc) };
       rooted = λ live. absurd (cc);
     }
     (retired_from i x i (retired x) (retired_to xs i i x within held left (nodes.pairs i i within within)))

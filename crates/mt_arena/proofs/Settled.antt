@@ -7,7 +7,8 @@ use Rattle.mt_border.specs.declared.entry.Entry.{Entry}
 use Rattle.std.specs.List.{All}
 use Rattle.mt_arena.specs.declared.tree.Tree.{Tree}
 use Rattle.mt_arena.specs.NodeView.{NodeView, node_at}
-use Rattle.mt_arena.specs.Nodes.{AreNodes, IsUnstable}
+use Rattle.mt_arena.specs.Nodes.{AreNodes}
+use Rattle.mt_arena.specs.NodeFacts.{IsUnstable}
 use Rattle.mt_arena.specs.Settled.{IsSettled}
 use Rattle.mt_arena.specs.Guarantee.{NodesGuarantee, PointsOnly}
 
@@ -66,10 +67,10 @@ settled_free xs i within nodes free =
     let x = node_at xs i in
     let h = nodes.each i within in
     record {
-      previous = λ k lt e live. (nodes.pairs k i lt within).previous_back e live free;
-      previous_live = λ k lt e live. (nodes.pairs k i lt within).previous_live e live free;
-      parent = λ k lt e live. (nodes.pairs k i lt within).parent_knows e live free;
-      reach = h.reach_exact (not_true x.version.splitting (λ marked. h.splitting_held marked free));
-      stable = h.unstable_held free;
+      previous = λ k lt e live. ((nodes.pairs k i lt within).named live free).back e;
+      previous_live = λ k lt e live. ((nodes.pairs k i lt within).named live free).live e;
+      parent = λ k lt e live. ((nodes.pairs k i lt within).named live free).knows e;
+      reach = h.reach.exact (not_true x.version.splitting (λ marked. h.lock.splitting marked free));
+      stable = h.lock.stable free;
       rooted = λ live none. h.rooted live free none;
     }

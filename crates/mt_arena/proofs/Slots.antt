@@ -96,10 +96,10 @@ module _ (xs : List NodeView) (trees : List Tree) (gone : List Retired) (room i 
 
   -- of the slots as they are
   was_inside : All (λ (e : Entry). Holds x e.slice) x.slots
-  was_inside = within_each x x.slots (sound.arena.nodes.each i within).slots_within
+  was_inside = within_each x x.slots (sound.arena.nodes.each i within).slots.within
 
   was_border : IsBorder x.slots
-  was_border = (sound.arena.nodes.each i within).border
+  was_border = (sound.arena.nodes.each i within).slots.border
 
   was_keys : HaveKeys prefix x.slots
   was_keys = keys_of xs trees i within sound.arena.forest
@@ -201,7 +201,7 @@ module _ (v : ArenaView) (room k op : ℕ) (key : Bytes) (sound : ArenaInvariant
     pub content_stored : (row : Columns) (stamp : ℕ) → content v.trees (set v.nodes k (with_slots n (replaced n.slots (with_row was pair row stamp)))) ≡ finite.insert (content v.trees v.nodes) (owned key) row
     content_stored row stamp =
         stored v.nodes v.trees sound.arena (begun v.nodes v.trees sound.arena.forest) key (layer_of (tree_of v k).prefix) k i pair may.stands (with_slots n (replaced n.slots (with_row was pair row stamp))) row stamp
-        record { slots = replaced_at n.slots i (with_row was pair row stamp) any_entry (sound.arena.nodes.each k may.held.there).border.rising may.stands.in_range refl; deleted = refl; tree = refl }
+        record { slots = replaced_at n.slots i (with_row was pair row stamp) any_entry (sound.arena.nodes.each k may.held.there).slots.border.rising may.stands.in_range refl; deleted = refl; tree = refl }
 
     pub sound_dropped : ArenaInvariant (set v.nodes k (with_slots n (without n.slots was))) v.trees v.retired room
     sound_dropped =
@@ -211,4 +211,4 @@ module _ (v : ArenaView) (room k op : ℕ) (key : Bytes) (sound : ArenaInvariant
     pub content_dropped : content v.trees (set v.nodes k (with_slots n (without n.slots was))) ≡ finite.remove (content v.trees v.nodes) (owned key)
     content_dropped =
         dropped v.nodes v.trees sound.arena (begun v.nodes v.trees sound.arena.forest) key (layer_of (tree_of v k).prefix) k i pair may.stands (with_slots n (without n.slots was))
-        record { slots = without_at n.slots i was (sound.arena.nodes.each k may.held.there).border.rising may.stands.in_range (get_or_default n.slots i any_entry was may.stands.in_range); deleted = refl; tree = refl }
+        record { slots = without_at n.slots i was (sound.arena.nodes.each k may.held.there).slots.border.rising may.stands.in_range (get_or_default n.slots i any_entry was may.stands.in_range); deleted = refl; tree = refl }

@@ -12,6 +12,7 @@ use Rattle.mt_arena.specs.Nodes.{AreNodes, IsNode, IsPair, IsChild, bounds}
 use Rattle.mt_arena.specs.Ranges.{AreRanged}
 use Rattle.mt_arena.specs.Edits.{retired}
 use Rattle.mt_arena.specs.Unlinks.{Unlinks, joined, without_child}
+use Rattle.mt_arena.proofs.Groups.{border_children}
 use Rattle.mt_arena.proofs.Pairs.{are_set3}
 use Rattle.mt_arena.proofs.Ranges.{not_empty, length_bounds, separators_rise, one_parent, one_place}
 
@@ -75,7 +76,7 @@ module _ (xs : List NodeView) (i j q a : ℕ) (nodes : AreNodes xs) (ranged : Ar
 
   -- where the two meet, and where they end
   meet : end_of l.high ≡ x.low
-  meet = ap end_of ((nodes.pairs i j li lj).next_follows f.next)
+  meet = ap end_of (((nodes.pairs i j li lj).next f.next).meets)
 
   left_range : l.low < x.low
   left_range = omega (arith, meet, (ranged i li).parent left_child.knows)
@@ -84,7 +85,7 @@ module _ (xs : List NodeView) (i j q a : ℕ) (nodes : AreNodes xs) (ranged : Ar
   range = (ranged j lj).parent old_child.knows
 
   ends_so : x.reach ≡ x.high
-  ends_so = hx.reach_exact f.removed_whole
+  ends_so = hx.reach.exact f.removed_whole
 
   -- the three are three
   differ_ij : i ≢ j
@@ -101,15 +102,15 @@ module _ (xs : List NodeView) (i j q a : ℕ) (nodes : AreNodes xs) (ranged : Ar
   only_next k lk ni e live =
       let m = node_at xs k in
       let from = nodes.pairs k j lk lj in
-      let high : end_of m.high ≡ x.low = ap end_of (from.next_follows e) in
+      let high : end_of m.high ≡ x.low = ap end_of ((from.next e).meets) in
       let some : m.next ≢ None = λ none. absurd (cc) in
       let wide : m.low < x.low = omega (arith, high, (ranged k lk).next some) in
       let here = nodes.pairs i j li lj in
-      (nodes.pairs k i lk li).apart ni (sym (from.next_tree e) ∙ here.next_tree f.next) (sym (from.next_level e) ∙ here.next_level f.next) live left_child.live (x.low - 1)
+      (nodes.pairs k i lk li).apart ni (sym ((from.next e).tree) ∙ (here.next f.next).tree) (sym ((from.next e).level) ∙ (here.next f.next).level) live left_child.live (x.low - 1)
       (omega (arith, wide), omega (arith, wide, high)) (omega (arith, left_range), omega (arith, left_range, meet))
 
   not_own_next : x.next ≢ Some j
-  not_own_next e = omega (arith, range, ap end_of ((nodes.pairs j j lj lj).next_follows e))
+  not_own_next e = omega (arith, range, ap end_of (((nodes.pairs j j lj lj).next e).meets))
 
   only_child : (k b : ℕ) → k < length xs → k ≢ q → b < length (node_at xs k).children → get_or (node_at xs k).children b 0 ≡ j → (node_at xs k).version.deleted ≡ false → ⊥
   only_child k b lk nq lb is live = nq (one_parent xs q k j a b nodes lq lk lj f.parent_live live f.in_range f.child lb is)
@@ -118,14 +119,14 @@ module _ (xs : List NodeView) (i j q a : ℕ) (nodes : AreNodes xs) (ranged : Ar
   only_left k b lk nq lb is live = nq (one_parent xs q k i (a - 1) b nodes lq lk li f.parent_live live la f.left_child lb is)
 
   no_child : (b : ℕ) → b < length l.children → ⊥
-  no_child b lt = omega (arith, lt, ap length (hl.childless left_border))
+  no_child b lt = omega (arith, lt, ap length (hl.children.childless left_border))
 
   -- the parent's bounds and children
   some : p.children ≢ []
   some = not_empty p.children a f.in_range
 
   size : length p.children ≡ length p.separators + 1
-  size = omega (arith, hp.interior.between, f.in_range)
+  size = omega (arith, hp.children.interior.between, f.in_range)
 
   at_separators : a - 1 < length p.separators
   at_separators = omega (arith, size, f.in_range, f.not_first)
@@ -152,88 +153,63 @@ module _ (xs : List NodeView) (i j q a : ℕ) (nodes : AreNodes xs) (ranged : Ar
   fewer = length-remove p.children a f.in_range
 
   still_rise : IsRising (bounds v)
-  still_rise = subst IsRising (sym bounds_are) (rising_remove (bounds p) a (hp.bounds_rise some) at_bounds)
+  still_rise = subst IsRising (sym bounds_are) (rising_remove (bounds p) a (hp.children.rise some) at_bounds)
 
   -- the three nodes
   left_node : IsNode (length xs) y
   left_node = record {
-    next_there = hx.next_there;
-    previous_there = hl.previous_there;
-    parent_there = hl.parent_there;
-    children_there = hl.children_there;
-    locked = hl.locked;
-    inserting_held = hl.inserting_held;
-    splitting_held = hl.splitting_held;
-    unstable_held = hl.unstable_held;
-    border_level = hl.border_level;
-    interior_level = hl.interior_level;
-    border = hl.border;
-    slots_within = λ k lt. ((hl.slots_within k lt).0, omega (arith, (hl.slots_within k lt).1, meet, range));
-    childless = hl.childless;
-    interior = hl.interior;
-    bounds_rise = λ e. absurd (e (hl.childless left_border));
-    peopled = λ level. absurd (omega (arith, level, left_border));
-    slotless = hl.slotless;
-    within_reach = hx.within_reach;
-    reach_exact = λ e. ends_so;
-    ends = λ level _ none. hx.ends f.border range none;
-    begins = λ level _ live none. hl.begins level (omega (arith, left_range, meet)) live none;
+    names = record { next = hx.names.next; previous = hl.names.previous; parent = hl.names.parent; children = hl.names.children };
+    lock = hl.lock;
+    kind = hl.kind;
+    slots = record {
+      border = hl.slots.border;
+      within = λ k lt. ((hl.slots.within k lt).0, omega (arith, (hl.slots.within k lt).1, meet, range));
+      slotless = hl.slots.slotless;
+    };
+    children = border_children y.high left_border hl.children;
+    reach = record { within = hx.reach.within; exact = λ e. ends_so };
+    chain = record {
+      last = λ level _ none. hx.chain.last f.border range none;
+      first = λ level _ live none. hl.chain.first level (omega (arith, left_range, meet)) live none;
+    };
     rooted = hl.rooted;
   }
 
   removed_node : IsNode (length xs) w
   removed_node = record {
-    next_there = hx.next_there;
-    previous_there = hx.previous_there;
-    parent_there = hx.parent_there;
-    children_there = hx.children_there;
-    locked = hx.locked;
-    inserting_held = hx.inserting_held;
-    splitting_held = hx.splitting_held;
-    unstable_held = hx.unstable_held;
-    border_level = hx.border_level;
-    interior_level = hx.interior_level;
-    border = hx.border;
-    slots_within = hx.slots_within;
-    childless = hx.childless;
-    interior = hx.interior;
-    bounds_rise = hx.bounds_rise;
-    peopled = hx.peopled;
-    slotless = hx.slotless;
-    within_reach = hx.within_reach;
-    reach_exact = hx.reach_exact;
-    ends = hx.ends;
-    begins = λ level _ live. absurd (cc);
+    names = hx.names;
+    lock = hx.lock;
+    kind = hx.kind;
+    slots = hx.slots;
+    children = hx.children;
+    reach = hx.reach;
+    chain = record { last = hx.chain.last; first = λ level _ live. absurd (cc) };
     rooted = λ live. absurd (cc);
   }
 
   parent_node : IsNode (length xs) v
   parent_node = record {
-    next_there = hp.next_there;
-    previous_there = hp.previous_there;
-    parent_there = hp.parent_there;
-    children_there = all_remove (λ c. c < length xs) p.children a f.in_range hp.children_there;
-    locked = hp.locked;
-    inserting_held = hp.inserting_held;
-    splitting_held = hp.splitting_held;
-    unstable_held = hp.unstable_held;
-    border_level = hp.border_level;
-    interior_level = hp.interior_level;
-    border = hp.border;
-    slots_within = hp.slots_within;
-    childless = λ level. absurd (omega (arith, level, old_child.level));
-    interior = record {
-      room = omega (arith, fewer, hp.interior.room);
-      between = omega (arith, fewer, size, length-remove p.separators (a - 1) at_separators);
-      rising = separators_rise v.low v.separators v.high still_rise;
+    names = record {
+      next = hp.names.next;
+      previous = hp.names.previous;
+      parent = hp.names.parent;
+      children = all_remove (λ c. c < length xs) p.children a f.in_range hp.names.children;
     };
-    bounds_rise = λ e. still_rise;
-    peopled = λ level _. not_empty v.children 0 (omega (arith, fewer, f.in_range, f.not_first));
-    slotless = hp.slotless;
-    within_reach = hp.within_reach;
-    reach_exact = hp.reach_exact;
-    ends = hp.ends;
-    begins = hp.begins;
+    lock = hp.lock;
+    kind = hp.kind;
+    slots = hp.slots;
+    children = record {
+      childless = λ level. absurd (omega (arith, level, old_child.level));
+      interior = record {
+        room = omega (arith, fewer, hp.children.interior.room);
+        between = omega (arith, fewer, size, length-remove p.separators (a - 1) at_separators);
+        rising = separators_rise v.low v.separators v.high still_rise;
+      };
+      rise = λ e. still_rise;
+      peopled = λ level _. not_empty v.children 0 (omega (arith, fewer, f.in_range, f.not_first));
+    };
+    reach = hp.reach;
+    chain = hp.chain;
     rooted = hp.rooted;
   }
 
@@ -289,59 +265,39 @@ module _ (xs : List NodeView) (i j q a : ℕ) (nodes : AreNodes xs) (ranged : Ar
   -- the left neighbour beside any node but the removed one
   left_from : (k : ℕ) (m : NodeView) → k ≢ j → IsPair i l k m → IsPair j x k m → IsPair i y k m
   left_from k m nj g h = record {
-    next_follows = h.next_follows;
-    next_tree = λ e. h.next_tree e ∙ (nodes.pairs i j li lj).next_tree f.next;
-    next_level = λ e. h.next_level e ∙ (nodes.pairs i j li lj).next_level f.next;
-    next_live = λ e live. h.next_live e f.removed_live;
-    previous_back = g.previous_back;
-    previous_live = g.previous_live;
-    parent_knows = g.parent_knows;
+    next = λ e. record { meets = (h.next e).meets; tree = (h.next e).tree ∙ ((nodes.pairs i j li lj).next f.next).tree; level = (h.next e).level ∙ ((nodes.pairs i j li lj).next f.next).level; live = λ live. (h.next e).live f.removed_live };
+    named = g.named;
     child = λ b lt. absurd (no_child b lt);
     apart = λ differ tree level live also s hy hm. elim (cases_lt s x.low) [
       | inl low ↦ g.apart differ tree level live also s (hy.0, omega (arith, low, meet)) hm
-      | inr high ↦ h.apart (λ e. nj (sym e)) ((nodes.pairs i j li lj).next_tree f.next ∙ tree) ((nodes.pairs i j li lj).next_level f.next ∙ level) f.removed_live also s (high, hy.1) hm
+      | inr high ↦ h.apart (λ e. nj (sym e)) (((nodes.pairs i j li lj).next f.next).tree ∙ tree) (((nodes.pairs i j li lj).next f.next).level ∙ level) f.removed_live also s (high, hy.1) hm
     ];
   }
 
   left_to : (k : ℕ) (m : NodeView) → k ≢ j → IsPair k m i l → IsPair k m j x → ((b : ℕ) → b < length m.children → get_or m.children b 0 ≡ i → m.version.deleted ≡ false → IsChild m b y) → IsPair k m i y
   left_to k m nj g h child = record {
-    next_follows = g.next_follows;
-    next_tree = g.next_tree;
-    next_level = g.next_level;
-    next_live = g.next_live;
-    previous_back = λ e live free. absurd (f.left_held free);
-    previous_live = λ e live free. absurd (f.left_held free);
-    parent_knows = λ e live free. absurd (f.left_held free);
+    next = g.next;
+    named = λ _ free. absurd (f.left_held free);
     child = child;
     apart = λ differ tree level live also s hm hy. elim (cases_lt s x.low) [
       | inl low ↦ g.apart differ tree level live also s hm (hy.0, omega (arith, low, meet))
-      | inr high ↦ h.apart nj (tree ∙ sym ((nodes.pairs i j li lj).next_tree f.next)) (level ∙ sym ((nodes.pairs i j li lj).next_level f.next)) live f.removed_live s hm (high, hy.1)
+      | inr high ↦ h.apart nj (tree ∙ sym (((nodes.pairs i j li lj).next f.next).tree)) (level ∙ sym (((nodes.pairs i j li lj).next f.next).level)) live f.removed_live s hm (high, hy.1)
     ];
   }
 
   -- the removed node
   removed_from : (k : ℕ) (m : NodeView) → IsPair j x k m → IsPair j w k m
   removed_from k m h = record {
-    next_follows = h.next_follows;
-    next_tree = h.next_tree;
-    next_level = h.next_level;
-    next_live = λ e live. absurd (cc);
-    previous_back = λ e live. absurd (cc);
-    previous_live = λ e live. absurd (cc);
-    parent_knows = λ e live. absurd (cc);
+    next = λ e. record { meets = (h.next e).meets; tree = (h.next e).tree; level = (h.next e).level; live = λ live. absurd (cc) };
+    named = λ live. absurd (cc);
     child = λ b lt e live. absurd (cc);
     apart = λ differ tree level live. absurd (cc);
   }
 
   removed_to : (k : ℕ) (m : NodeView) → IsPair k m j x → (m.next ≡ Some j → m.version.deleted ≡ false → ⊥) → ((b : ℕ) → b < length m.children → get_or m.children b 0 ≡ j → m.version.deleted ≡ false → ⊥) → IsPair k m j w
   removed_to k m h none childless = record {
-    next_follows = h.next_follows;
-    next_tree = h.next_tree;
-    next_level = h.next_level;
-    next_live = λ e live. absurd (none e live);
-    previous_back = λ e live free. absurd (f.removed_held free);
-    previous_live = λ e live free. absurd (f.removed_held free);
-    parent_knows = λ e live free. absurd (f.removed_held free);
+    next = λ e. record { meets = (h.next e).meets; tree = (h.next e).tree; level = (h.next e).level; live = λ live. absurd (none e live) };
+    named = λ _ free. absurd (f.removed_held free);
     child = λ b lt e live. absurd (childless b lt e live);
     apart = λ differ tree level live also. absurd (cc);
   }
@@ -349,29 +305,17 @@ module _ (xs : List NodeView) (i j q a : ℕ) (nodes : AreNodes xs) (ranged : Ar
   -- the parent
   parent_from : (k : ℕ) (m : NodeView) → IsPair q p k m → ((b : ℕ) → b < length v.children → get_or v.children b 0 ≡ k → IsChild v b m) → IsPair q v k m
   parent_from k m g child = record {
-    next_follows = g.next_follows;
-    next_tree = g.next_tree;
-    next_level = g.next_level;
-    next_live = g.next_live;
-    previous_back = g.previous_back;
-    previous_live = g.previous_live;
-    parent_knows = g.parent_knows;
+    next = g.next;
+    named = g.named;
     child = λ b lt e live. child b lt e;
     apart = g.apart;
   }
 
   parent_to : (k : ℕ) (m : NodeView) → IsPair k m q p → IsPair k m q v
   parent_to k m g = record {
-    next_follows = g.next_follows;
-    next_tree = g.next_tree;
-    next_level = g.next_level;
-    next_live = g.next_live;
-    previous_back = λ e live free. absurd (f.parent_held free);
-    previous_live = λ e live free. absurd (f.parent_held free);
-    parent_knows = λ e live free. absurd (f.parent_held free);
-    child = λ b lt e live.
-        let c = g.child b lt e live in
-        record { live = c.live; tree = c.tree; level = c.level; knows = c.knows; low = c.low; reach = c.reach };
+    next = g.next;
+    named = λ _ free. absurd (f.parent_held free);
+    child = g.child;
     apart = g.apart;
   }
 
@@ -391,13 +335,8 @@ module _ (xs : List NodeView) (i j q a : ℕ) (nodes : AreNodes xs) (ranged : Ar
       let g = nodes.pairs q i lq li in
       let h = nodes.pairs q j lq lj in
       record {
-        next_follows = g.next_follows;
-        next_tree = g.next_tree;
-        next_level = g.next_level;
-        next_live = g.next_live;
-        previous_back = λ e live free. absurd (f.left_held free);
-        previous_live = λ e live free. absurd (f.left_held free);
-        parent_knows = λ e live free. absurd (f.left_held free);
+        next = g.next;
+        named = λ _ free. absurd (f.left_held free);
         child = λ b lt e live. left_child_of b lt e;
         apart = λ differ tree level. absurd (omega (arith, level, left_child.level));
       }
@@ -406,13 +345,8 @@ module _ (xs : List NodeView) (i j q a : ℕ) (nodes : AreNodes xs) (ranged : Ar
   parent_removed =
       let h = nodes.pairs q j lq lj in
       record {
-        next_follows = h.next_follows;
-        next_tree = h.next_tree;
-        next_level = h.next_level;
-        next_live = λ e live. absurd (only_next q lq (λ e. differ_iq (sym e)) e live);
-        previous_back = λ e live free. absurd (f.removed_held free);
-        previous_live = λ e live free. absurd (f.removed_held free);
-        parent_knows = λ e live free. absurd (f.removed_held free);
+        next = λ e. record { meets = (h.next e).meets; tree = (h.next e).tree; level = (h.next e).level; live = λ live. absurd (only_next q lq (λ e. differ_iq (sym e)) e live) };
+        named = λ _ free. absurd (f.removed_held free);
         child = λ b lt e live. absurd (removed_no_child b lt e);
         apart = λ differ tree level live also. absurd (cc);
       }
@@ -421,13 +355,8 @@ module _ (xs : List NodeView) (i j q a : ℕ) (nodes : AreNodes xs) (ranged : Ar
   left_removed =
       let h = nodes.pairs j j lj lj in
       record {
-        next_follows = λ e. absurd (not_own_next e);
-        next_tree = λ e. absurd (not_own_next e);
-        next_level = λ e. absurd (not_own_next e);
-        next_live = λ e. absurd (not_own_next e);
-        previous_back = λ e live free. absurd (f.removed_held free);
-        previous_live = λ e live free. absurd (f.removed_held free);
-        parent_knows = λ e live free. absurd (f.removed_held free);
+        next = λ e. absurd (not_own_next e);
+        named = λ _ free. absurd (f.removed_held free);
         child = λ b lt. absurd (no_child b lt);
         apart = λ differ tree level live also. absurd (cc);
       }
@@ -436,13 +365,8 @@ module _ (xs : List NodeView) (i j q a : ℕ) (nodes : AreNodes xs) (ranged : Ar
   removed_left =
       let h = nodes.pairs j i lj li in
       record {
-        next_follows = h.next_follows;
-        next_tree = h.next_tree;
-        next_level = h.next_level;
-        next_live = λ e live. absurd (cc);
-        previous_back = λ e live. absurd (cc);
-        previous_live = λ e live. absurd (cc);
-        parent_knows = λ e live. absurd (cc);
+        next = λ e. record { meets = (h.next e).meets; tree = (h.next e).tree; level = (h.next e).level; live = λ live. absurd (cc) };
+        named = λ live. absurd (cc);
         child = λ b lt e live. absurd (cc);
         apart = λ differ tree level live. absurd (cc);
       }
@@ -451,13 +375,8 @@ module _ (xs : List NodeView) (i j q a : ℕ) (nodes : AreNodes xs) (ranged : Ar
   left_self =
       let h = nodes.pairs j i lj li in
       record {
-        next_follows = h.next_follows;
-        next_tree = λ e. refl;
-        next_level = λ e. refl;
-        next_live = λ e live. live;
-        previous_back = λ e live free. absurd (f.left_held free);
-        previous_live = λ e live free. absurd (f.left_held free);
-        parent_knows = λ e live free. absurd (f.left_held free);
+        next = λ e. record { meets = (h.next e).meets; tree = refl; level = refl; live = λ live. live };
+        named = λ _ free. absurd (f.left_held free);
         child = λ b lt. absurd (no_child b lt);
         apart = λ differ. absurd (differ refl);
       }
@@ -466,13 +385,8 @@ module _ (xs : List NodeView) (i j q a : ℕ) (nodes : AreNodes xs) (ranged : Ar
   removed_self =
       let h = nodes.pairs j j lj lj in
       record {
-        next_follows = h.next_follows;
-        next_tree = h.next_tree;
-        next_level = h.next_level;
-        next_live = λ e live. absurd (cc);
-        previous_back = λ e live. absurd (cc);
-        previous_live = λ e live. absurd (cc);
-        parent_knows = λ e live. absurd (cc);
+        next = λ e. record { meets = (h.next e).meets; tree = (h.next e).tree; level = (h.next e).level; live = λ live. absurd (cc) };
+        named = λ live. absurd (cc);
         child = λ b lt e live. absurd (cc);
         apart = λ differ. absurd (differ refl);
       }

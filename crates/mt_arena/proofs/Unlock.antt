@@ -9,34 +9,23 @@ use Rattle.mt_arena.proofs.Pairs.{are_set}
 -- the first node of a pair
 unlocked_from : (k : ℕ) (n : NodeView) (j : ℕ) (m : NodeView) → IsPair k n j m → IsPair k (unlocked n) j m
 unlocked_from k n j m h = record {
-  next_follows = h.next_follows;
-  next_tree = h.next_tree;
-  next_level = h.next_level;
-  next_live = h.next_live;
-  previous_back = h.previous_back;
-  previous_live = h.previous_live;
-  parent_knows = h.parent_knows;
-  child = λ i lt e live.
-      let c = h.child i lt e live in
-      record { live = c.live; tree = c.tree; level = c.level; knows = c.knows; low = c.low; reach = c.reach };
+  next = h.next;
+  named = h.named;
+  child = h.child;
   apart = h.apart;
 }
 
 -- the second one, behind which nothing lags
 unlocked_to : (nodes : List NodeView) (k i : ℕ) (x : NodeView) → k < length nodes → IsSettled nodes i x → IsPair k (node_at nodes k) i x → IsPair k (node_at nodes k) i (unlocked x)
 unlocked_to nodes k i x within settled h = record {
-  next_follows = h.next_follows;
-  next_tree = h.next_tree;
-  next_level = h.next_level;
-  next_live = h.next_live;
-  previous_back = λ e live free. settled.previous k within e live;
-  previous_live = λ e live free. settled.previous_live k within e live;
-  parent_knows = λ e live free.
-      let c = settled.parent k within e live in
-      record { live = c.live; place = c.place; in_range = c.in_range; is = c.is };
-  child = λ i lt e live.
-      let c = h.child i lt e live in
-      record { live = c.live; tree = c.tree; level = c.level; knows = c.knows; low = c.low; reach = c.reach };
+  next = h.next;
+  named = λ live free. record {
+    back = λ e. settled.previous k within e live;
+    live = λ e. settled.previous_live k within e live;
+    knows = λ e. let c = settled.parent k within e live in
+        record { live = c.live; place = c.place; in_range = c.in_range; is = c.is };
+  };
+  child = h.child;
   apart = h.apart;
 }
 
@@ -45,27 +34,18 @@ nodes_unlocked xs i within nodes settled =
     let x = node_at xs i in
     let h = nodes.each i within in
     are_set xs i (unlocked x) within nodes record {
-      next_there = h.next_there;
-      previous_there = h.previous_there;
-      parent_there = h.parent_there;
-      children_there = h.children_there;
-      locked = refl;
-      inserting_held = λ e. absurd (cc);
-      splitting_held = λ e. absurd (cc);
-      unstable_held = λ free. settled.stable;
-      border_level = h.border_level;
-      interior_level = h.interior_level;
-      border = h.border;
-      slots_within = h.slots_within;
-      childless = h.childless;
-      interior = h.interior;
-      bounds_rise = h.bounds_rise;
-      peopled = h.peopled;
-      slotless = h.slotless;
-      within_reach = h.within_reach;
-      reach_exact = λ e. settled.reach;
-      ends = h.ends;
-      begins = h.begins;
+      names = h.names;
+      lock = record {
+        locked = refl;
+        inserting = λ e. absurd (cc);
+        splitting = λ e. absurd (cc);
+        stable = λ free. settled.stable;
+      };
+      kind = h.kind;
+      slots = h.slots;
+      children = h.children;
+      reach = record { within = h.reach.within; exact = λ e. settled.reach };
+      chain = h.chain;
       rooted = λ live free none. settled.rooted live none;
     }
     (unlocked_from i x i (unlocked x) (unlocked_to xs i i x within settled (nodes.pairs i i within within)))

@@ -1,4 +1,5 @@
 pub mod NodeView
+pub mod NodeFacts
 pub mod Nodes
 pub mod Ranges
 pub mod Forests

@@ -1,11 +1,12 @@
 -- What a split makes of two nodes and of their parent, and what it needs.
-use Rattle.std.specs.Prelude.{take, drop, ◌≡◌, ◌≢◌, ℕ, ◌+◌, ◌<◌, ◌≤◌, true, false, List, length, insert, Some, None, slice_index}
+use Rattle.std.specs.Prelude.{take, drop, ◌≡◌, ◌≢◌, ℕ, ◌+◌, ◌<◌, true, false, List, length, insert, Some, None, slice_index}
 use Rattle.mt_border.specs.declared.entry.Entry.{Entry}
-use Rattle.mt_border.specs.Entries.{IsBorder, slices}
+use Rattle.mt_border.specs.Entries.{IsBorder}
 use Rattle.mt_interior.specs.Places.{place_of}
 use Rattle.mt_interior.specs.Fences.{end_of}
 use Rattle.mt_arena.specs.NodeView.{NodeView, node_at}
 use Rattle.mt_arena.specs.Nodes.{HasChild}
+use Rattle.mt_arena.specs.NodeFacts.{AreWithin}
 
 -- what is left of a border node that keeps these slots and ends where the right half begins
 abbrev pub left_half : NodeView → List Entry → ℕ → ℕ → NodeView
@@ -14,10 +15,6 @@ left_half x kept low right = record x { slots = kept; high = Some low; next = So
 -- the right half with the other slots, which ends where the node ended
 abbrev pub right_half : NodeView → NodeView → List Entry → ℕ → NodeView
 right_half x r moved left = record r { slots = moved; high = x.high; reach = x.reach; next = x.next; previous = Some left }
-
--- each slice of the slots is one of these
-abbrev pub AreWithin : List Entry → ℕ → ℕ → Type 0
-AreWithin slots low end = (i : ℕ) → i < length slots → (low ≤ slice_index (slices slots) i) × (slice_index (slices slots) i < end)
 
 -- a marked border node x and a right half r without range, which begins within it; the slots that x keeps, and those that r gets
 pub record Splits (x r : NodeView) (kept moved : List Entry) : Type 0 where

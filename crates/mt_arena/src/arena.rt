@@ -86,7 +86,8 @@ impl Arena {
         })
     }
 
-    /// What holds of all nodes, all trees and the retired, for the proofs of callers.
+    /// What holds of all nodes, all trees and the retired after every step, for the proofs of callers:
+    /// nothing runs.
     pub fn facts(&self)
         ensures arena { IsArena self.now.nodes self.now.trees }
         ensures retired { AreRetired self.now.nodes self.now.retired }
@@ -116,13 +117,6 @@ impl Arena {
             Some(interior) => interior,
             None => unreachable!(),
         }
-    }
-
-    /// Nothing runs: what holds of all nodes, trees and links after every step, for a caller's proof.
-    pub fn fits_together(&self)
-        ensures { IsArena self.now.nodes self.now.trees }
-    {
-        let _nodes = &self.nodes;
     }
 
     /// The node of a number.

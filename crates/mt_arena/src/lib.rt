@@ -3,7 +3,7 @@
 //! A tree is a B+tree over the slices of one layer; its record names the bytes with which all its
 //! keys begin, and its root. What holds of all nodes and trees after every step of every operation
 //! is said in `specs/Nodes.antt`, `specs/Forests.antt` and `specs/Layers.antt`, fact by fact, each of
-//! one node or of two; what one step may change, in `specs/NodesGuarantee.antt`. Start with `arena.rt`.
+//! one node or of two; what one step may change, in `specs/Guarantee.antt`. Start with `arena.rt`.
 #![tactic(auto)]
 
 pub mod arena;
