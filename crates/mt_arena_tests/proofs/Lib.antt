@@ -2,3 +2,4 @@ pub mod ArenaSteps
 pub mod TreeReads
 pub mod TreeFacts
 pub mod TreeLinks
+pub mod TreeTops

@@ -1,5 +1,5 @@
 -- What the facts of an arena say of one tree, for the stories of a tree.
-use Rattle.std.proofs.Common.{◌≡◌, ◌≢◌, ◌⊎◌, ℕ, ◌+◌, ◌<◌, ◌≤◌, List, [], length, get_or, Some, None, false, sym, ap, ◌∙◌, arith, inl, inr}
+use Rattle.std.proofs.Common.{◌≡◌, ◌≢◌, ◌⊎◌, ℕ, ◌+◌, ◌<◌, ◌≤◌, List, [], length, Some, None, false, sym, ap, ◌∙◌, arith, inl, inr}
 use Rattle.std.proofs.lemmas.Bool.{cases_lt}
 use Rattle.std.proofs.lemmas.List.Edits.{length-insert, get_or-insert_below, get_or-insert_at, get_or-insert_above}
 use Rattle.mt_interior.specs.Places.{place_of}
@@ -26,15 +26,6 @@ open_of trees t op live q made = absurd (cc)
 -- a child is one of its parent's level
 pub as_child : (xs : List NodeView) (p k : ℕ) → AreNodes xs → p < length xs → k < length xs → (c : HasChild (node_at xs p) k) → IsChild (node_at xs p) c.place (node_at xs k)
 as_child xs p k nodes lp lk c = (nodes.pairs p k lp lk).child c.place c.in_range c.is c.live
-
--- a child of a node is one of any that has its children
-pub same_child : (n m : NodeView) (k : ℕ) → m.children ≡ n.children → m.version.deleted ≡ n.version.deleted → HasChild n k → HasChild m k
-same_child n m k children deleted c = record {
-  live = deleted ∙ c.live;
-  place = c.place;
-  in_range = omega (arith, c.in_range, ap length children);
-  is = ap (λ cs. get_or cs c.place 0) children ∙ c.is;
-}
 
 -- what was a child is one among one more, and so is the new one
 pub child_more : (p : NodeView) (separator q k : ℕ) → length p.children ≡ length p.separators + 1 → HasChild p k → HasChild (with_child p separator q) k

@@ -15,8 +15,8 @@ use Rattle.mt_arena.specs.Accesses.{at, with_node, IsHeld}
 use Rattle.mt_arena.proofs.Settled.{settled_free}
 use Rattle.mt_arena.proofs.Lags.{settled_of}
 use Rattle.mt_arena_tests.specs.TreeStory.{IsAtRest, AreHalves, MayCount}
-use Rattle.mt_arena_tests.proofs.TreeReads.{Reads, reads_i, reads_j, reads_q, reads_all, reads_right, NamesBefore, NamesAbove, follows_on, under_on}
-use Rattle.mt_arena_tests.proofs.TreeFacts.{of_top, tree_live, open_of, as_child, same_child, child_more, new_child}
+use Rattle.mt_arena_tests.proofs.TreeReads.{Reads, reads_i, reads_j, reads_q, reads_all, reads_right, follows_on, under_on}
+use Rattle.mt_arena_tests.proofs.TreeFacts.{of_top, tree_live, open_of, as_child, child_more, new_child}
 
 module _ (v : ArenaView) (i j q : ℕ) (arena : IsArena v.nodes v.trees) (h : AreHalves v j q) (up : (at v j).parent ≡ Some i) where
   abbrev xs : List NodeView
@@ -38,7 +38,7 @@ module _ (v : ArenaView) (i j q : ℕ) (arena : IsArena v.nodes v.trees) (h : Ar
   right_there = h.right_tidy.held.there
 
   pub parent_there : i < length xs
-  parent_there = (arena.nodes.each j left_there).parent_there i up
+  parent_there = (arena.nodes.each j left_there).names.parent i up
 
   pub is_child : IsChild p (h.under i up).place l
   is_child = as_child xs i j arena.nodes parent_there left_there (h.under i up)
@@ -75,7 +75,7 @@ module _ (v : ArenaView) (i j q : ℕ) (arena : IsArena v.nodes v.trees) (h : Ar
   wide = with_child (inserting (locked p 5)) r.low q
 
   reads1 : Reads v1.nodes xs i j q (locked p 5) l r
-  reads1 = reads_i xs xs i j q p l r ij iq h.differ (record { size = refl; at_i = refl; at_j = refl; at_q = refl; others = λ k _ _ _. refl }) (locked p 5) parent_there
+  reads1 = reads_i xs xs i j q p l r ij iq h.differ (record { size = refl; at_i = refl; at_j = refl; at_q = refl; others = λ k _ _ _ _. refl }) (locked p 5) parent_there
 
   reads2 : Reads v2.nodes xs i j q (locked p 5) l told
   reads2 =
@@ -107,7 +107,7 @@ module _ (v : ArenaView) (i j q : ℕ) (arena : IsArena v.nodes v.trees) (h : Ar
     right_there = omega (arith, right_there, reads2.size);
     parent_held = rw reads2.at_i (λ e. absurd (cc));
     parent_live = rw reads2.at_i (h.under i up).live;
-    child = rw reads2.at_i (same_child p (locked p 5) j refl refl (h.under i up));
+    child = rw reads2.at_i (h.under i up);
     differ = h.differ;
     right_live = rw reads2.at_q h.right_tidy.live;
     right_tree = rw (reads2.at_q, reads2.at_i) (of_top v q arena h.one_tree right_there ∙ sym (of_top v i arena h.one_tree parent_there));
@@ -154,12 +154,12 @@ module _ (v : ArenaView) (i j q : ℕ) (arena : IsArena v.nodes v.trees) (h : Ar
   pub settled3 : IsSettled v3.nodes i (at v3 i)
   settled3 =
       let s = settled_free xs i parent_there arena.nodes parent_free in
-      let size : length p.children ≡ length p.separators + 1 = omega (arith, (arena.nodes.each i parent_there).interior.between, (h.under i up).in_range) in
+      let size : length p.children ≡ length p.separators + 1 = omega (arith, (arena.nodes.each i parent_there).children.interior.between, (h.under i up).in_range) in
       subst (λ (n : NodeView). IsSettled v3.nodes i n) (sym reads3.at_i) (settled_of v3.nodes i wide
         (λ k f. let b = back3 i k f in s.previous k b.0 b.1 b.2) (λ k f. let b = back3 i k f in s.previous_live k b.0 b.1 b.2)
         (λ k u. elim (up3 i k u) [
           | inl new ↦ subst (λ c. HasChild wide c) (sym new.0) (new_child (inserting (locked p 5)) r.low q size (h.under i up).live)
-          | inr old ↦ child_more (inserting (locked p 5)) r.low q k size (same_child p (inserting (locked p 5)) k refl refl (s.parent k old.0 old.1 old.2))
+          | inr old ↦ child_more (inserting (locked p 5)) r.low q k size (s.parent k old.0 old.1 old.2)
         ])
         s.reach s.stable s.rooted)
 
@@ -175,7 +175,7 @@ module _ (v : ArenaView) (i j q : ℕ) (arena : IsArena v.nodes v.trees) (h : Ar
     (λ k f. h.left_tidy.followers k (back4 j k f)) (λ _ _. h.left_tidy.live)
     (λ k u. elim (up4 j k u) [
       | inl new ↦ absurd (ij (same_Some _ _ new.1))
-      | inr old ↦ same_child l (exact l) k refl refl (h.left_tidy.children k old)
+      | inr old ↦ h.left_tidy.children k old
     ])
     refl h.left_tidy.stable (λ _ none. h.rooted none))
 
@@ -191,7 +191,7 @@ module _ (v : ArenaView) (i j q : ℕ) (arena : IsArena v.nodes v.trees) (h : Ar
     (λ k f. h.right_tidy.followers k (back5 q k f)) (λ _ _. h.right_tidy.live)
     (λ k u. elim (up5 q k u) [
       | inl new ↦ absurd (iq (same_Some _ _ new.1))
-      | inr old ↦ same_child r told k refl refl (h.right_tidy.children k old)
+      | inr old ↦ h.right_tidy.children k old
     ])
     h.exact h.right_tidy.stable (λ _ none. absurd (cc)))
 

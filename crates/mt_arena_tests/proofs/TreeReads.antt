@@ -15,7 +15,7 @@ pub record Reads (ys xs : List NodeView) (i j q : ℕ) (y z w : NodeView) : Type
   pub at_i : node_at ys i ≡ y
   pub at_j : node_at ys j ≡ z
   pub at_q : node_at ys q ≡ w
-  pub others : (k : ℕ) → k ≢ i → k ≢ j → k ≢ q → node_at ys k ≡ node_at xs k
+  pub others : (k : ℕ) → k < length xs → k ≢ i → k ≢ j → k ≢ q → node_at ys k ≡ node_at xs k
 
 module _ (ys xs : List NodeView) (i j q : ℕ) (y z w : NodeView) (ij : i ≢ j) (iq : i ≢ q) (jq : j ≢ q) (r : Reads ys xs i j q y z w) where
   pub reads_i : (n : NodeView) → i < length xs → Reads (set ys i n) xs i j q n z w
@@ -24,7 +24,7 @@ module _ (ys xs : List NodeView) (i j q : ℕ) (y z w : NodeView) (ij : i ≢ j)
     at_i = here ys i n (omega (arith, lt, r.size));
     at_j = there ys i j n (λ e. ij (sym e)) ∙ r.at_j;
     at_q = there ys i q n (λ e. iq (sym e)) ∙ r.at_q;
-    others = λ k ni nj nq. there ys i k n ni ∙ r.others k ni nj nq;
+    others = λ k lt ni nj nq. there ys i k n ni ∙ r.others k lt ni nj nq;
   }
 
   pub reads_j : (n : NodeView) → j < length xs → Reads (set ys j n) xs i j q y n w
@@ -33,7 +33,7 @@ module _ (ys xs : List NodeView) (i j q : ℕ) (y z w : NodeView) (ij : i ≢ j)
     at_i = there ys j i n ij ∙ r.at_i;
     at_j = here ys j n (omega (arith, lt, r.size));
     at_q = there ys j q n (λ e. jq (sym e)) ∙ r.at_q;
-    others = λ k ni nj nq. there ys j k n nj ∙ r.others k ni nj nq;
+    others = λ k lt ni nj nq. there ys j k n nj ∙ r.others k lt ni nj nq;
   }
 
   pub reads_q : (n : NodeView) → q < length xs → Reads (set ys q n) xs i j q y z n
@@ -42,7 +42,7 @@ module _ (ys xs : List NodeView) (i j q : ℕ) (y z w : NodeView) (ij : i ≢ j)
     at_i = there ys q i n iq ∙ r.at_i;
     at_j = there ys q j n jq ∙ r.at_j;
     at_q = here ys q n (omega (arith, lt, r.size));
-    others = λ k ni nj nq. there ys q k n nq ∙ r.others k ni nj nq;
+    others = λ k lt ni nj nq. there ys q k n nq ∙ r.others k lt ni nj nq;
   }
 
 -- what holds of these three, and of the others in xs, holds of all
@@ -54,32 +54,33 @@ reads_all P ys xs i j q y z w r one two three rest k lt = elim (cases_eq k i) [
     | inl k_j ↦ rw (k_j, r.at_j) two
     | inr nj ↦ elim (cases_eq k q) [
       | inl k_q ↦ rw (k_q, r.at_q) three
-      | inr nq ↦ rw (r.others k ni nj nq) (rest k (omega (arith, lt, r.size)) ni nj nq)
+      | inr nq ↦
+          let within : k < length xs = omega (arith, lt, r.size) in
+          rw (r.others k within ni nj nq) (rest k within ni nj nq)
     ]
   ]
 ]
 
--- the node names the same one before it as another, and is as live
-pub record NamesBefore (n m : NodeView) : Type 0 where
+-- the node names the same one before it, or the same parent, as another, and is as live
+pub record SamePrevious (n m : NodeView) : Type 0 where
   pub previous : m.previous ≡ n.previous
+  pub deleted : m.version.deleted ≡ n.version.deleted
+
+pub record SameParent (n m : NodeView) : Type 0 where
+  pub parent : m.parent ≡ n.parent
   pub deleted : m.version.deleted ≡ n.version.deleted
 
 -- who names a node as the one before did so already
 pub follows_on : (ys xs : List NodeView) (i j q : ℕ) (y z w : NodeView) → Reads ys xs i j q y z w → i < length xs → j < length xs → q < length xs
-    → NamesBefore (node_at xs i) y → NamesBefore (node_at xs j) z → NamesBefore (node_at xs q) w → (t k : ℕ) → Follows ys t k → Follows xs t k
+    → SamePrevious (node_at xs i) y → SamePrevious (node_at xs j) z → SamePrevious (node_at xs q) w → (t k : ℕ) → Follows ys t k → Follows xs t k
 follows_on ys xs i j q y z w r li lj lq one two three t k is =
     reads_all (λ k n. n.previous ≡ Some t → n.version.deleted ≡ false → Follows xs t k) ys xs i j q y z w r
     (λ e live. (li, sym one.previous ∙ e, sym one.deleted ∙ live)) (λ e live. (lj, sym two.previous ∙ e, sym two.deleted ∙ live))
     (λ e live. (lq, sym three.previous ∙ e, sym three.deleted ∙ live)) (λ k lt _ _ _ e live. (lt, e, live)) k is.0 is.1 is.2
 
--- the node names the same parent as another, and is as live
-pub record NamesAbove (n m : NodeView) : Type 0 where
-  pub parent : m.parent ≡ n.parent
-  pub deleted : m.version.deleted ≡ n.version.deleted
-
 -- who names a node as its parent did so already, but for the third
 pub under_on : (ys xs : List NodeView) (i j q : ℕ) (y z w : NodeView) → Reads ys xs i j q y z w → i < length xs → j < length xs
-    → NamesAbove (node_at xs i) y → NamesAbove (node_at xs j) z → (t k : ℕ) → IsUnder ys t k → ((k ≡ q) × (w.parent ≡ Some t)) ⊎ IsUnder xs t k
+    → SameParent (node_at xs i) y → SameParent (node_at xs j) z → (t k : ℕ) → IsUnder ys t k → ((k ≡ q) × (w.parent ≡ Some t)) ⊎ IsUnder xs t k
 under_on ys xs i j q y z w r li lj one two t k is =
     reads_all (λ k n. n.parent ≡ Some t → n.version.deleted ≡ false → ((k ≡ q) × (w.parent ≡ Some t)) ⊎ IsUnder xs t k) ys xs i j q y z w r
     (λ e live. inr (li, sym one.parent ∙ e, sym one.deleted ∙ live)) (λ e live. inr (lj, sym two.parent ∙ e, sym two.deleted ∙ live))

@@ -9,7 +9,8 @@ use Rattle.mt_border.specs.Entry.{IsEntry, IsStablePair}
 use Rattle.mt_border.specs.Entries.{IsMissing}
 use Rattle.mt_border.specs.Contents.{HasKey}
 use Rattle.mt_arena.specs.NodeView.{NodeView}
-use Rattle.mt_arena.specs.Nodes.{HasRange, HasChild, IsUnstable}
+use Rattle.mt_arena.specs.NodeFacts.{IsUnstable}
+use Rattle.mt_arena.specs.Nodes.{HasRange, HasChild}
 use Rattle.mt_arena.specs.Lags.{AreFollowers, AreChildren}
 use Rattle.mt_arena.specs.Ways.{BelongsIn}
 use Rattle.mt_arena.specs.Arena.{ArenaView}

@@ -1,0 +1,184 @@
+-- A root is put over the halves of the old one: what each call needs, and that nothing lags behind the three nodes when they are unlocked.
+use Rattle.std.proofs.Common.{◌≡◌, ◌≢◌, ◌⊎◌, ℕ, ◌+◌, ◌<◌, ◌≤◌, List, [], ◌∷◌, ◌++◌, length, set, Some, None, true, false, refl, sym, ap, subst, ◌∙◌, arith, inl, inr, length-append}
+use Rattle.std.proofs.lemmas.Option.{same_Some}
+use Rattle.std.proofs.lemmas.List.{length-set}
+use Rattle.mt_interior.specs.Fences.{end_of}
+use Rattle.mt_arena.specs.declared.tree.Tree.{Tree}
+use Rattle.mt_arena.specs.NodeView.{NodeView, node_at}
+use Rattle.mt_arena.specs.Forests.{IsRoot}
+use Rattle.mt_arena.specs.Settled.{IsSettled}
+use Rattle.mt_arena.specs.Lags.{Follows, IsUnder}
+use Rattle.mt_arena.specs.Edits.{unlocked}
+use Rattle.mt_arena.specs.Growth.{fresh_top, left_below, right_below}
+use Rattle.mt_arena.specs.Several.{MayGrow, with_root}
+use Rattle.mt_arena.specs.Arena.{ArenaView, IsArena}
+use Rattle.mt_arena.specs.Accesses.{at, tree_of, with_node}
+use Rattle.mt_arena.proofs.Pairs.{here, there, last, before}
+use Rattle.mt_arena.proofs.Lags.{settled_of}
+use Rattle.mt_arena_tests.specs.TreeStory.{IsAtRest, AreHalves}
+use Rattle.mt_arena_tests.proofs.TreeReads.{Reads, reads_i, reads_j, reads_q, reads_all}
+use Rattle.mt_arena_tests.proofs.TreeFacts.{of_top, tree_live, open_of}
+
+module _ (v : ArenaView) (j q : ℕ) (arena : IsArena v.nodes v.trees) (h : AreHalves v j q) (none : (at v j).parent ≡ None) where
+  abbrev xs : List NodeView
+  xs = v.nodes
+
+  abbrev n : ℕ
+  n = length v.nodes
+
+  abbrev l : NodeView
+  l = at v j
+
+  abbrev r : NodeView
+  r = at v q
+
+  left_there : j < n
+  left_there = h.left_tidy.held.there
+
+  right_there : q < n
+  right_there = h.right_tidy.held.there
+
+  was_root : IsRoot l
+  was_root =
+      let home = arena.forest.homes j l.tree left_there (arena.forest.tree_there j left_there) in
+      home.root_is (home.root_named refl h.left_tidy.live (h.rooted none)) (home.standing refl h.left_tidy.live)
+
+  no_end : r.high ≡ None
+  no_end = sym h.exact ∙ h.reach ∙ was_root.reach
+
+  pub may_grow : MayGrow v j q 5
+  may_grow = record {
+    grows = record {
+      left_there = left_there;
+      right_there = right_there;
+      differ = h.differ;
+      left_live = h.left_tidy.live;
+      right_live = h.right_tidy.live;
+      left_parentless = none;
+      right_parentless = h.orphan;
+      right_tree = of_top v q arena h.one_tree right_there ∙ sym (of_top v j arena h.one_tree left_there);
+      right_level = h.level;
+      left_low = was_root.low;
+      fence = h.fence;
+      right_high = no_end;
+      right_reach = h.reach ∙ was_root.reach;
+      above = omega (arith, h.above, was_root.low);
+      below = subst (λ o. r.low < end_of o) no_end h.range;
+    };
+    held = h.left_tidy.held;
+    right_held = h.right_tidy.held;
+    mine = open_of v.trees l.tree 5 (tree_live v j arena h.one_tree left_there);
+    marked = h.left_tidy.marked;
+    right_marked = h.right_tidy.marked;
+    is_root = h.rooted none;
+    no_root = h.no_root;
+  }
+
+  -- the nodes as the calls go on
+  abbrev v1 : ArenaView
+  v1 = with_root v j q 5
+
+  abbrev v2 : ArenaView
+  v2 = with_node v1 n (unlocked (at v1 n))
+
+  abbrev v3 : ArenaView
+  v3 = with_node v2 j (unlocked (at v2 j))
+
+  abbrev top : NodeView
+  top = fresh_top l j r.low q 5
+
+  abbrev low : NodeView
+  low = left_below l n
+
+  abbrev high : NodeView
+  high = right_below r n
+
+  abbrev ws : List NodeView
+  ws = set (set xs j low) q high
+
+  abbrev all : List NodeView
+  all = xs ++ top ∷ []
+
+  one_more : length all ≡ n + 1
+  one_more = length-append xs (top ∷ [])
+
+  as_many : length ws ≡ n
+  as_many = length-set (set xs j low) q high ∙ length-set xs j low
+
+  jn : j ≢ n
+  jn e = absurd (omega (arith, left_there, e))
+
+  qn : q ≢ n
+  qn e = absurd (omega (arith, right_there, e))
+
+  reads1 : Reads v1.nodes all j q n low high top
+  reads1 = record {
+    size = length-append ws (top ∷ []) ∙ ap (λ k. k + 1) as_many ∙ sym one_more;
+    at_i = before ws top j (omega (arith, left_there, as_many)) ∙ there (set xs j low) q j high h.differ ∙ here xs j low left_there;
+    at_j = before ws top q (omega (arith, right_there, as_many)) ∙ here (set xs j low) q high (omega (arith, right_there, length-set xs j low));
+    at_q = ap (node_at (ws ++ top ∷ [])) (sym as_many) ∙ last ws top;
+    others = λ k lt nj nq nn.
+        let was : k < n = omega (arith, lt, one_more, nn) in
+        before ws top k (omega (arith, was, as_many)) ∙ there (set xs j low) q k high nq ∙ there xs j k low nj ∙ sym (before xs top k was);
+  }
+
+  reads2 : Reads v2.nodes all j q n low high (unlocked top)
+  reads2 =
+      let after = reads_q v1.nodes all j q n low high top h.differ jn qn reads1 (unlocked (at v1 n)) (omega (arith, one_more)) in
+      record { size = after.size; at_i = after.at_i; at_j = after.at_j; at_q = after.at_q ∙ ap unlocked reads1.at_q; others = after.others }
+
+  reads3 : Reads v3.nodes all j q n (unlocked low) high (unlocked top)
+  reads3 =
+      let after = reads_i v2.nodes all j q n low high (unlocked top) h.differ jn qn reads2 (unlocked (at v2 j)) (omega (arith, left_there, one_more)) in
+      record { size = after.size; at_i = after.at_i ∙ ap unlocked reads2.at_i; at_j = after.at_j; at_q = after.at_q; others = after.others }
+
+  was_there : (k : ℕ) → k < length all → k ≢ n → k < n
+  was_there k lt other = omega (arith, lt, one_more, other)
+
+  -- who names which node
+  back2 : (t k : ℕ) → Follows v2.nodes t k → Follows xs t k
+  back2 t k is = reads_all (λ k m. m.previous ≡ Some t → m.version.deleted ≡ false → Follows xs t k) v2.nodes all j q n low high (unlocked top) reads2
+      (λ e live. (left_there, e, live)) (λ e live. (right_there, e, live)) (λ e. absurd (cc))
+      (λ k lt _ _ nn. rw (before xs top k (was_there k lt nn)) (λ e live. (was_there k lt nn, e, live))) k is.0 is.1 is.2
+
+  back3 : (t k : ℕ) → Follows v3.nodes t k → Follows xs t k
+  back3 t k is = reads_all (λ k m. m.previous ≡ Some t → m.version.deleted ≡ false → Follows xs t k) v3.nodes all j q n (unlocked low) high (unlocked top) reads3
+      (λ e live. (left_there, e, live)) (λ e live. (right_there, e, live)) (λ e. absurd (cc))
+      (λ k lt _ _ nn. rw (before xs top k (was_there k lt nn)) (λ e live. (was_there k lt nn, e, live))) k is.0 is.1 is.2
+
+  up2 : (t k : ℕ) → IsUnder v2.nodes t k → (n ≡ t) ⊎ IsUnder xs t k
+  up2 t k is = reads_all (λ k m. m.parent ≡ Some t → m.version.deleted ≡ false → (n ≡ t) ⊎ IsUnder xs t k) v2.nodes all j q n low high (unlocked top) reads2
+      (λ e live. inl (same_Some _ _ e)) (λ e live. inl (same_Some _ _ e)) (λ e. absurd (cc))
+      (λ k lt _ _ nn. rw (before xs top k (was_there k lt nn)) (λ e live. inr (was_there k lt nn, e, live))) k is.0 is.1 is.2
+
+  up3 : (t k : ℕ) → IsUnder v3.nodes t k → (n ≡ t) ⊎ IsUnder xs t k
+  up3 t k is = reads_all (λ k m. m.parent ≡ Some t → m.version.deleted ≡ false → (n ≡ t) ⊎ IsUnder xs t k) v3.nodes all j q n (unlocked low) high (unlocked top) reads3
+      (λ e live. inl (same_Some _ _ e)) (λ e live. inl (same_Some _ _ e)) (λ e. absurd (cc))
+      (λ k lt _ _ nn. rw (before xs top k (was_there k lt nn)) (λ e live. inr (was_there k lt nn, e, live))) k is.0 is.1 is.2
+
+  pub settled2 : IsSettled v2.nodes j (at v2 j)
+  settled2 = subst (λ (m : NodeView). IsSettled v2.nodes j m) (sym reads2.at_i) (settled_of v2.nodes j low
+    (λ k f. h.left_tidy.followers k (back2 j k f)) (λ _ _. h.left_tidy.live)
+    (λ k u. elim (up2 j k u) [
+      | inl new ↦ absurd (jn (sym new))
+      | inr old ↦ h.left_tidy.children k old
+    ])
+    refl h.left_tidy.stable (λ _ orphan. absurd (cc)))
+
+  pub settled3 : IsSettled v3.nodes q (at v3 q)
+  settled3 = subst (λ (m : NodeView). IsSettled v3.nodes q m) (sym reads3.at_j) (settled_of v3.nodes q high
+    (λ k f. h.right_tidy.followers k (back3 q k f)) (λ _ _. h.right_tidy.live)
+    (λ k u. elim (up3 q k u) [
+      | inl new ↦ absurd (qn (sym new))
+      | inr old ↦ h.right_tidy.children k old
+    ])
+    h.exact h.right_tidy.stable (λ _ orphan. absurd (cc)))
+
+  pub rest4 : IsAtRest (with_node v3 q (unlocked (at v3 q)))
+  rest4 =
+      let after = reads_j v3.nodes all j q n (unlocked low) high (unlocked top) h.differ jn qn reads3 (unlocked (at v3 q)) (omega (arith, right_there, one_more)) in
+      record {
+        one_tree = length-set v.trees l.tree (record (tree_of v j) { root = n }) ∙ h.one_tree;
+        free = reads_all (λ k m. m.holder ≡ None) (set v3.nodes q (unlocked (at v3 q))) all j q n (unlocked low) (unlocked (at v3 q)) (unlocked top) after refl refl refl
+            (λ k lt nj nq nn. rw (before xs top k (was_there k lt nn)) (h.free k (was_there k lt nn) nj nq));
+      }
