@@ -3,3 +3,5 @@ pub mod TreeReads
 pub mod TreeFacts
 pub mod TreeLinks
 pub mod TreeTops
+pub mod TreeSplits
+pub mod TreeWays

@@ -1,0 +1,34 @@
+use Rattle.std.proofs.Common.{sym, ap, subst}
+use Rattle.mt_border.specs.Split.{IsSeparator, slices_with}
+use Rattle.mt_arena.specs.NodeView.{NodeView}
+use Rattle.mt_arena.specs.Accesses.{at}
+use Rattle.mt_arena.proofs.Settled.{settled_free}
+use Rattle.mt_arena_tests.proofs.TreeSplits.{all_stable, may_split, stable3, may_place, are_halves}
+use Rattle.mt_arena_tests.proofs.tree.split.Goals as goal
+
+pub split_border-requires-clause-may : goal.split_border-requires-clause-may
+split_border-requires-clause-may c =
+    let v = c.args.arena.now in
+    let may = c.requires.may in
+    rw (c.in_ok-half.ensures.number, c.in_ok-half.ensures.is, c.mark_splitting.ensures.is, c.lock.ensures.is)
+    (may_split v c.args.node c.separator-low.result c.facts.ensures.arena c.requires.rest may.belongs.border.there may.belongs.border.live c.args.entry.slice c.args.entry.mark may.belongs.border.level c.requires.full
+      may.entry.mark may.missing (rw (c.border.ensures) c.separator-low.ensures))
+
+pub split_border-requires-clause-place : goal.split_border-requires-clause-place
+split_border-requires-clause-place c =
+    let may = c.requires.may in
+    rw (c.in_ok-half.ensures.is, c.mark_splitting.ensures.is, c.lock.ensures.is)
+    (c.args.key.now, may_place c.args.arena.now c.args.node c.separator-low.result c.facts.ensures.arena c.requires.rest may.belongs.border.there may.belongs.border.live c.args.key.now c.args.entry may)
+
+pub returns : goal.returns
+returns c =
+    let v = c.args.arena.now in
+    let may = c.requires.may in
+    let low = c.separator-low.result in
+    let there = may.belongs.border.there in
+    let live = may.belongs.border.live in
+    let halved = rw (c.in_ok-half.ensures.number, c.in_ok-half.ensures.is, c.mark_splitting.ensures.is, c.lock.ensures.is) at c.split_border.ensures.nodes in
+    let others = rw (c.in_ok-half.ensures.is, c.mark_splitting.ensures.is, c.lock.ensures.is) at c.split_border.ensures.others in
+    rw (c.in_ok-half.ensures.number, c.mark_splitting.ensures.is, c.lock.ensures.is)
+    (are_halves v c.args.node low c.facts.ensures.arena c.requires.rest there live c.split_border.new.self _ halved others c.facts-2.ensures.arena may.belongs.border.level c.requires.last
+      (all_stable _ c.args.entry (stable3 v c.args.node low c.facts.ensures.arena c.requires.rest there live) may.stable) may.count)
