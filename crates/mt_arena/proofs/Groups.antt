@@ -1,9 +1,9 @@
 -- Groups of a node's facts that hold again after a change, for the lemmas of single edits.
-use Rattle.std.proofs.Common.{◌≡◌, ◌≢◌, ℕ, ◌<◌, ◌≤◌, List, length, Bool, Option, None, is_some, ap, arith}
+use Rattle.std.proofs.Common.{◌≡◌, ◌≢◌, ℕ, ◌<◌, ◌≤◌, List, [], length, Bool, Option, None, is_some, ap, arith}
 use Rattle.mt_border.specs.declared.entry.Entry.{Entry}
 use Rattle.mt_arena.specs.NodeView.{NodeView}
 use Rattle.mt_arena.specs.Nodes.{IsNode, IsNamed}
-use Rattle.mt_arena.specs.NodeFacts.{IsGuarded, FitsSlots, FitsChildren, FitsChain}
+use Rattle.mt_arena.specs.NodeFacts.{AreThere, IsGuarded, FitsSlots, FitsChildren, FitsChain}
 
 -- a held node need only be locked: its marks and slots are free
 pub held_lock : {lock insert split : Bool} (holder : Option ℕ) (entries : List Entry) → holder ≢ None → lock ≡ is_some holder → IsGuarded lock insert split holder entries
@@ -22,6 +22,9 @@ pub interior_chain : {level low : ℕ} {high after before : Option ℕ} {deleted
 interior_chain above = record { last = λ level. absurd (omega (arith, level, above)); first = λ level. absurd (omega (arith, level, above)) }
 
 -- a node that names nobody
+pub there_none : {count : ℕ} → AreThere count None None None []
+there_none = record { next = λ j e. absurd (cc); previous = λ j e. absurd (cc); parent = λ j e. absurd (cc); children = λ i lt. absurd (omega arith) }
+
 pub names_none : {k j : ℕ} {deleted : Bool} {after : Option ℕ} {children : List ℕ} → IsNamed k None None j deleted after children
 names_none = record { back = λ e. absurd (cc); live = λ e. absurd (cc); knows = λ e. absurd (cc) }
 

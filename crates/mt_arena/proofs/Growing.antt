@@ -53,20 +53,20 @@ layers_push xs trees y none layers = record {
 }
 
 -- no keys are keys of any tree
-no_keys : (prefix : Bytes) (slots : List Entry) → slots ≡ [] → HaveKeys prefix slots
+pub no_keys : (prefix : Bytes) (slots : List Entry) → slots ≡ [] → HaveKeys prefix slots
 no_keys prefix slots none = subst (HaveKeys prefix) (sym none) record { keys = λ k d inside. absurd (omega arith); begun = λ k d inside. absurd (omega arith) }
 
 -- a right half more, beside a live node
-pub sound_half : (xs : List NodeView) (trees : List Tree) (gone : List Retired) (room more i low op : ℕ) → i < length xs → ArenaInvariant xs trees gone room → length xs + 1 ≤ more → (node_at xs i).version.deleted ≡ false
+pub sound_half : (xs : List NodeView) (trees : List Tree) (gone : List Retired) (room more i low op : ℕ) → i < length xs → ArenaInvariant xs trees gone room → length xs + 1 ≤ more → (node_at xs i).version.deleted ≡ false → (node_at xs i).level ≡ 0
     → ArenaInvariant (xs ++ fresh_half (node_at xs i) low op ∷ []) trees gone more
-sound_half xs trees gone room more i low op within sound enough live =
+sound_half xs trees gone room more i low op within sound enough live level =
     let x = node_at xs i in
     let y = fresh_half x low op in
     let forest = sound.arena.forest in
     let there_is = forest.tree_there i within in
     record {
       arena = record {
-        nodes = nodes_half xs i low op within sound.arena.nodes;
+        nodes = nodes_half xs i low op level sound.arena.nodes;
         ranged = ranged_half xs x low op sound.arena.ranged;
         forest = forest_push xs trees y forest there_is ((forest.homes i x.tree within there_is).standing refl live) refl (no_keys (tree_at trees x.tree).prefix y.slots refl);
         layers = layers_push xs trees y refl sound.arena.layers;

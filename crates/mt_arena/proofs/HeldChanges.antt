@@ -10,7 +10,7 @@ use Rattle.mt_interior.specs.Places.{place_of}
 use Rattle.mt_interior.specs.Fences.{end_of}
 use Rattle.mt_arena.specs.NodeView.{NodeView}
 use Rattle.mt_arena.specs.Guarantee.{Changes, HasSameKeys}
-use Rattle.mt_arena.specs.Splits.{left_half, right_half, with_child, exact, inner_left, inner_right}
+use Rattle.mt_arena.specs.Splits.{left_half, right_half, with_child, exact, inner_left}
 use Rattle.mt_arena.specs.Unlinks.{joined, without_child}
 use Rattle.mt_arena.specs.Growth.{left_below, right_below}
 use Rattle.mt_arena.proofs.Ranges.{not_empty}
@@ -86,13 +86,10 @@ pub changes_without_child : (op : ℕ) (p : NodeView) (a : ℕ) → p.holder ≡
 changes_without_child op p a held marked not_first within = changes_held op p (without_child p a) held held refl refl refl (versions.ages_refl p.version)
     (λ some. not_empty (remove p.children a) 0 (omega (arith, length-remove p.children a within))) (λ whole live. omega arith) (λ whole still. absurd (marks p.version.inserting marked still))
 
--- the halves of an interior node that is marked as split
+-- the left half of an interior node that is marked as split
 pub changes_inner_left : (op : ℕ) (p : NodeView) (separator q : ℕ) → p.holder ≡ Some op → p.version.splitting ≡ true → Changes op p (inner_left (with_child p separator q))
 changes_inner_left op p separator q held marked = changes_split op p (inner_left (with_child p separator q)) held held refl refl refl (versions.ages_refl p.version)
     (λ some. take_some (with_child p separator q).children 8 (insert_some p.children (place_of p.separators separator + 1) q)) marked
-
-pub changes_inner_right : (op : ℕ) (wide r : NodeView) → r.holder ≡ Some op → r.version.splitting ≡ true → r.children ≡ [] → Changes op r (inner_right wide r)
-changes_inner_right op wide r held marked none = changes_split op r (inner_right wide r) held held refl refl refl (versions.ages_refl r.version) (λ some. absurd (some none)) marked
 
 -- the left neighbour of a removed node gets its range
 pub changes_joined : (op : ℕ) (n x : NodeView) → n.holder ≡ Some op → end_of n.high ≤ end_of x.high → Changes op n (joined n x)

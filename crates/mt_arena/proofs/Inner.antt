@@ -1,5 +1,5 @@
 -- An interior node with one child too many is parted.
-use Rattle.std.proofs.Common.{◌≡◌, ◌≢◌, ℕ, suc, ◌+◌, ◌-◌, ◌<◌, ◌≤◌, List, length, get_or, take, drop, Option, Some, None, false, set, refl, sym, ap, subst, ◌∙◌, arith, length-drop}
+use Rattle.std.proofs.Common.{◌≡◌, ◌≢◌, ℕ, suc, ◌+◌, ◌-◌, ◌<◌, ◌≤◌, List, length, get_or, take, drop, Option, Some, None, true, false, set, refl, sym, ap, subst, ◌∙◌, arith, length-drop}
 use Rattle.std.proofs.lemmas.List.{length-take-le, get_or-take, get_or-drop}
 use Rattle.mt_interior.specs.Rising.{IsRising}
 use Rattle.mt_interior.specs.Fences.{end_of, bounds_of}
@@ -8,7 +8,6 @@ use Rattle.mt_interior.proofs.PlaceLemmas.{bounds_of-inner, bounds_of-end}
 use Rattle.mt_interior.proofs.CallerLemmas.{bounds_of-take, bounds_of-drop}
 use Rattle.mt_arena.specs.NodeView.{NodeView, node_at}
 use Rattle.mt_arena.specs.Nodes.{AllPairs, IsNode, IsPair, IsChild, HasRange, bounds}
-use Rattle.mt_arena.specs.Splits.{SplitsInner}
 use Rattle.mt_arena.proofs.Groups.{interior_slots, interior_chain}
 use Rattle.mt_arena.proofs.Pairs.{pairs_set2}
 use Rattle.mt_arena.proofs.Ranges.{not_empty, length_bounds, separators_rise, child_ranges}
@@ -21,6 +20,19 @@ pub record IsWide (count : ℕ) (low : ℕ) (high : Option ℕ) (separators chil
   pub right_room : length children ≤ k + 17
   pub rise : IsRising (bounds_of low separators high)
   pub there : (b : ℕ) → b < length children → get_or children b 0 < count
+
+-- a marked interior node p, and a right half r without range, which begins in the middle of it
+pub record SplitsInner (p r : NodeView) (middle : ℕ) : Type 0 where
+  pub marked : p.version.splitting ≡ true
+  pub next : p.next ≡ None
+  pub right_held : r.holder ≢ None
+  pub right_marked : r.version.splitting ≡ true
+  pub right_live : r.version.deleted ≡ false
+  pub right_tree : r.tree ≡ p.tree
+  pub right_level : r.level ≡ p.level
+  pub right_next : r.next ≡ None
+  pub right_low : r.low ≡ middle
+  pub right_reach : r.reach ≡ Some r.low
 
 module _ (ws : List NodeView) (i h k : ℕ) (p : NodeView) (separators children : List ℕ) (node_is : node_at ws i ≡ record p { separators = separators; children = children })
     (pairs : AllPairs IsPair ws) (others : (m : ℕ) → m < length ws → m ≢ i → IsNode (length ws) (node_at ws m)) (hp : IsNode (length ws) p)

@@ -1,16 +1,18 @@
 -- A right half comes to stand in a full parent, which is parted.
-use Rattle.std.proofs.Common.{◌≡◌, ◌≢◌, ℕ, ◌+◌, ◌<◌, List, length, get_or, set, sym, ap, subst, ◌∙◌, inl, inr, arith}
+use Rattle.std.proofs.Common.{◌≡◌, ◌≢◌, ℕ, ◌+◌, ◌<◌, List, length, get_or, drop, set, sym, ap, subst, ◌∙◌, inl, inr, arith}
 use Rattle.std.specs.List.{insert}
 use Rattle.std.proofs.lemmas.Bool.{cases_eq}
 use Rattle.std.proofs.lemmas.List.{length-set, set-set, set_comm}
 use Rattle.mt_arena.specs.NodeView.{NodeView, node_at}
 use Rattle.mt_arena.specs.Nodes.{AreNodes, AllNodes, AllPairs, IsNode, IsPair, HasRange}
-use Rattle.mt_arena.specs.Ranges.{AreRanged}
-use Rattle.mt_arena.proofs.Ranged.{ranged_parted}
-use Rattle.mt_arena.specs.Splits.{Inserts, SplitsInner, with_child, exact, middle, inner_left, inner_right}
+use Rattle.mt_arena.specs.Splits.{Inserts, with_child, exact, middle, inner_left}
 use Rattle.mt_arena.proofs.Pairs.{here, there, nodes_set}
 use Rattle.mt_arena.proofs.Child.{inserts_at, inserted_pairs, children_within, sizes, still_rise, differ_ij, left_child, left_node as exact_node}
-use Rattle.mt_arena.proofs.Inner.{IsWide, parted_pairs, left_node, right_node, halves_range}
+use Rattle.mt_arena.proofs.Inner.{IsWide, SplitsInner, parted_pairs, left_node, right_node, halves_range}
+
+-- a right half that gets the upper children, and the range from its low fence on
+abbrev pub given : NodeView → NodeView → NodeView
+given wide r = record r { separators = drop 9 wide.separators; children = drop 9 wide.children; high = wide.high; reach = wide.reach }
 
 module _ (xs : List NodeView) (i j q h : ℕ) (nodes : AreNodes xs) (f : Inserts xs i j q) (full : length (node_at xs i).separators ≡ 15) (lh : h < length xs) (differ : i ≢ h)
     (s : SplitsInner (node_at xs i) (node_at xs h) (get_or (insert (node_at xs i).separators f.child.place (node_at xs q).low) 8 0)) where
@@ -36,7 +38,7 @@ module _ (xs : List NodeView) (i j q h : ℕ) (nodes : AreNodes xs) (f : Inserts
   y = inner_left w
 
   abbrev u : NodeView
-  u = inner_right w t
+  u = given w t
 
   abbrev ws : List NodeView
   ws = set (set xs i w) j z
@@ -101,15 +103,15 @@ module _ (xs : List NodeView) (i j q h : ℕ) (nodes : AreNodes xs) (f : Inserts
   li_ws = omega (arith, li, size)
 
   pairs : AllPairs IsPair (set (set ws i y) h u)
-  pairs = subst (λ (n : NodeView). AllPairs IsPair (set (set ws i y) h (inner_right w n))) at_h
+  pairs = subst (λ (n : NodeView). AllPairs IsPair (set (set ws i y) h (given w n))) at_h
       (parted_pairs ws i h 8 p separators children at_i (inserted_pairs xs i j q nodes f) each hp li_ws lh_ws differ f.parent_held f.parent_live above wide s_ws)
 
   left : IsNode (length xs) y
   left = subst (λ n. IsNode n y) size (left_node ws i h 8 p separators children at_i (inserted_pairs xs i j q nodes f) each hp li_ws lh_ws differ f.parent_held f.parent_live above wide s_ws)
 
   right : IsNode (length xs) u
-  right = subst (λ (n : NodeView). IsNode (length xs) (inner_right w n)) at_h
-      (subst (λ n. IsNode n (inner_right w (node_at ws h))) size (right_node ws i h 8 p separators children at_i (inserted_pairs xs i j q nodes f) each hp li_ws lh_ws differ f.parent_held f.parent_live above wide s_ws))
+  right = subst (λ (n : NodeView). IsNode (length xs) (given w n)) at_h
+      (subst (λ n. IsNode n (given w (node_at ws h))) size (right_node ws i h 8 p separators children at_i (inserted_pairs xs i j q nodes f) each hp li_ws lh_ws differ f.parent_held f.parent_live above wide s_ws))
 
   -- the node that was too wide is nowhere
   same : set ws i y ≡ set (set xs i y) j z
@@ -133,23 +135,16 @@ module _ (xs : List NodeView) (i j q h : ℕ) (nodes : AreNodes xs) (f : Inserts
   pub parted_ranges : HasRange y × HasRange u
   parted_ranges =
       let ranges = halves_range ws i h 8 p separators children at_i (inserted_pairs xs i j q nodes f) each hp li_ws lh_ws differ f.parent_held f.parent_live above wide s_ws in
-      (ranges.0, subst (λ (n : NodeView). HasRange (inner_right w n)) at_h ranges.1)
+      (ranges.0, subst (λ (n : NodeView). HasRange (given w n)) at_h ranges.1)
 
 -- node q becomes a child of node i, which is full and is parted: node h gets its upper children
 pub nodes_split_inner : (xs : List NodeView) (i j q h : ℕ) → AreNodes xs → Inserts xs i j q → length (node_at xs i).separators ≡ 15 → h < length xs → i ≢ h
     → SplitsInner (node_at xs i) (node_at xs h) (middle (with_child (node_at xs i) (node_at xs q).low q))
-    → AreNodes (set (set (set xs i (inner_left (with_child (node_at xs i) (node_at xs q).low q))) j (exact (node_at xs j))) h (inner_right (with_child (node_at xs i) (node_at xs q).low q) (node_at xs h)))
+    → AreNodes (set (set (set xs i (inner_left (with_child (node_at xs i) (node_at xs q).low q))) j (exact (node_at xs j))) h (given (with_child (node_at xs i) (node_at xs q).low q) (node_at xs h)))
 nodes_split_inner xs i j q h nodes f full lh differ s = rw (inserts_at xs i j q nodes f) (parted_nodes xs i j q h nodes f full lh differ (rw (inserts_at xs i j q nodes f) at s))
 
 -- and both halves have a range
 pub ranges_split_inner : (xs : List NodeView) (i j q h : ℕ) → AreNodes xs → Inserts xs i j q → length (node_at xs i).separators ≡ 15 → h < length xs → i ≢ h
     → SplitsInner (node_at xs i) (node_at xs h) (middle (with_child (node_at xs i) (node_at xs q).low q))
-    → HasRange (inner_left (with_child (node_at xs i) (node_at xs q).low q)) × HasRange (inner_right (with_child (node_at xs i) (node_at xs q).low q) (node_at xs h))
+    → HasRange (inner_left (with_child (node_at xs i) (node_at xs q).low q)) × HasRange (given (with_child (node_at xs i) (node_at xs q).low q) (node_at xs h))
 ranges_split_inner xs i j q h nodes f full lh differ s = rw (inserts_at xs i j q nodes f) (parted_ranges xs i j q h nodes f full lh differ (rw (inserts_at xs i j q nodes f) at s))
-
-pub ranged_split_inner : (xs : List NodeView) (i j q h : ℕ) → AreNodes xs → AreRanged xs → Inserts xs i j q → length (node_at xs i).separators ≡ 15 → h < length xs → i ≢ h
-    → SplitsInner (node_at xs i) (node_at xs h) (middle (with_child (node_at xs i) (node_at xs q).low q))
-    → AreRanged (set (set (set xs i (inner_left (with_child (node_at xs i) (node_at xs q).low q))) j (exact (node_at xs j))) h (inner_right (with_child (node_at xs i) (node_at xs q).low q) (node_at xs h)))
-ranged_split_inner xs i j q h nodes ranged f full lh differ s =
-    let both = ranges_split_inner xs i j q h nodes f full lh differ s in
-    ranged_parted xs i j q h ranged f lh both.0 both.1

@@ -1,5 +1,5 @@
 -- How pointers to a node come to name it rightly again, from the split of a border node to the insert of its right half.
-use Rattle.std.proofs.Common.{◌≡◌, ◌≢◌, ◌⊎◌, ℕ, ◌+◌, ◌-◌, ◌<◌, ◌≤◌, List, [], ◌∷◌, ◌++◌, length, get_or, Option, Some, None, false, true, set, sym, ap, subst, ◌∙◌, inl, inr, arith, length-append, length-drop}
+use Rattle.std.proofs.Common.{◌≡◌, ◌≢◌, ◌⊎◌, ℕ, ◌+◌, ◌-◌, ◌<◌, ◌≤◌, List, [], ◌∷◌, ◌++◌, length, get_or, Option, Some, None, false, true, set, refl, sym, ap, subst, ◌∙◌, inl, inr, arith, length-append, length-drop}
 use Rattle.std.specs.List.{All}
 use Rattle.std.proofs.lemmas.Bool.{cases_eq, cases_lt}
 use Rattle.std.proofs.lemmas.Option.{same_Some}
@@ -197,8 +197,8 @@ children_but xs i q n previous within children k nq is = elim (under_in xs i k q
 ]
 
 -- a child of a node that is parted is one of a half
-pub child_parted : (wide t : NodeView) (k : ℕ) → t.version.deleted ≡ false → HasChild wide k → HasChild (inner_left wide) k ⊎ HasChild (inner_right wide t) k
-child_parted wide t k live c = elim (cases_lt c.place 9) [
+pub child_parted : (wide : NodeView) (op k : ℕ) → HasChild wide k → HasChild (inner_left wide) k ⊎ HasChild (inner_right wide op) k
+child_parted wide op k c = elim (cases_lt c.place 9) [
   | inl low ↦ inl (record {
     live = c.live;
     place = c.place;
@@ -206,7 +206,7 @@ child_parted wide t k live c = elim (cases_lt c.place 9) [
     is = get_or-take 9 wide.children c.place 0 low ∙ c.is;
   })
   | inr high ↦ inr (record {
-    live = live;
+    live = refl;
     place = c.place - 9;
     in_range = omega (arith, length-drop 9 wide.children, high, c.in_range);
     is = get_or-drop 9 wide.children (c.place - 9) 0 ∙ ap (λ b. get_or wide.children b 0) {x = 9 + (c.place - 9)} {y = c.place} (omega arith) ∙ c.is;

@@ -94,7 +94,7 @@ sound_splitting xs trees gone room i within sound held =
     (keys_of xs trees i within sound.arena.forest)
     record { tree = refl; deleted = refl; forth = same_links x.slots; back = same_links x.slots }
 
-changes_splitting : (op : ℕ) (x : NodeView) → x.holder ≡ Some op → Changes op x (splitting x)
+pub changes_splitting : (op : ℕ) (x : NodeView) → x.holder ≡ Some op → Changes op x (splitting x)
 changes_splitting op x mine = record {
   tree = refl;
   level = refl;

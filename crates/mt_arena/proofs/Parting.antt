@@ -1,113 +1,226 @@
 -- A right half comes to stand in a full parent, which is parted, as one step: what holds, and what others rely on.
-use Rattle.std.proofs.Common.{◌≡◌, ◌≢◌, ℕ, ◌<◌, List, length, refl, sym, ap, ◌∙◌, arith}
-use Rattle.mt_arena.specs.NodeView.{NodeView}
+use Rattle.std.proofs.Common.{◌≡◌, ◌≢◌, ℕ, ◌+◌, ◌<◌, ◌≤◌, List, [], ◌∷◌, ◌++◌, length, set, false, None, refl, sym, ap, subst, ◌∙◌, arith, length-append}
+use Rattle.std.proofs.lemmas.Option.{same_Some}
+use Rattle.std.proofs.lemmas.List.{length-set, set-set, set-append_left, set_at}
+use Rattle.mt_arena.specs.NodeView.{NodeView, node_at}
+use Rattle.mt_arena.specs.Nodes.{AreNodes, HasRange}
+use Rattle.mt_arena.specs.NodeFacts.{TellsKind}
 use Rattle.mt_arena.specs.Forests.{tree_at}
 use Rattle.mt_arena.specs.Contents.{content}
 use Rattle.mt_arena.specs.Arena.{ArenaInvariant, ArenaView, Guarantee}
 use Rattle.mt_arena.specs.Accesses.{at}
-use Rattle.mt_arena.specs.Splits.{SplitsInner, with_child, exact, middle, inner_left, inner_right}
+use Rattle.mt_arena.specs.Edits.{bare, splitting}
+use Rattle.mt_arena.specs.Splits.{Inserts, with_child, exact, middle, inner_left, inner_right}
 use Rattle.mt_arena.specs.Several.{MaySplitInner, with_parts}
-use Rattle.mt_arena.proofs.Locks.{is_held}
+use Rattle.mt_arena.proofs.Pairs.{here, there, last, before}
+use Rattle.mt_arena.proofs.Quiet.{nodes_splitting}
+use Rattle.mt_arena.proofs.Push.{nodes_bare}
+use Rattle.mt_arena.proofs.Homes.{forest_push}
+use Rattle.mt_arena.proofs.Growing.{layers_push, no_keys}
+use Rattle.mt_arena.proofs.Retiring.{retired_push}
+use Rattle.mt_arena.proofs.Ranged.{ranged_parts}
 use Rattle.mt_arena.proofs.Steps.{keys_of}
-use Rattle.mt_arena.proofs.InnerSplit.{nodes_split_inner, ranged_split_inner}
-use Rattle.mt_arena.proofs.HeldChanges.{changes_inner_left, changes_inner_right, marks}
-use Rattle.mt_arena.proofs.Guarantees.{PointsSo}
-use Rattle.mt_arena.proofs.Naming.{names_same, points_each, each_set3}
-use Rattle.mt_arena.proofs.Several.{AreKept, kept_set3, forest_set3, guarantee_set3}
-use Rattle.mt_arena.proofs.Inserting.{apart_j, left_level, exact_place, exact_turn}
+use Rattle.mt_arena.proofs.Inner.{SplitsInner}
+use Rattle.mt_arena.proofs.InnerSplit.{given, nodes_split_inner, ranges_split_inner}
+use Rattle.mt_arena.proofs.HeldChanges.{changes_inner_left}
+use Rattle.mt_arena.proofs.Locks.{changes_splitting}
+use Rattle.mt_arena.proofs.Guarantees.{changes_on, guarantee_on, guarantee_push, PointsSo}
+use Rattle.mt_arena.proofs.Naming.{names_same, points_more, each_set2}
+use Rattle.mt_arena.proofs.Several.{AreKept, kept_set2, forest_set2, guarantee_set2}
+use Rattle.mt_arena.proofs.ContentQuiet.{stands_pushed}
+use Rattle.mt_arena.proofs.Inserting.{apart_j, is_interior, exact_place, exact_turn}
 
-module _ (v : ArenaView) (room parent left right half op : ℕ) (sound : ArenaInvariant v.nodes v.trees v.retired room) (may : MaySplitInner v parent left right half op) where
+-- the nodes: the parent is marked, a node without range is added, and the children are parted
+module _ (xs : List NodeView) (i j q op : ℕ) (nodes : AreNodes xs) (f : Inserts xs i j q) (full : length (node_at xs i).separators ≡ 15) (next : (node_at xs i).next ≡ None) where
   abbrev p : NodeView
-  p = at v parent
+  p = node_at xs i
 
-  abbrev t : NodeView
-  t = at v half
+  abbrev l : NodeView
+  l = node_at xs j
+
+  abbrev r : NodeView
+  r = node_at xs q
+
+  abbrev m : NodeView
+  m = splitting p
 
   abbrev wide : NodeView
-  wide = with_child p (at v right).low right
+  wide = with_child m r.low q
+
+  abbrev h : ℕ
+  h = length xs
+
+  abbrev t : NodeView
+  t = bare false p.tree p.level (middle wide) op
+
+  abbrev ys : List NodeView
+  ys = set xs i m
+
+  abbrev zs : List NodeView
+  zs = ys ++ t ∷ []
+
+  abbrev ws : List NodeView
+  ws = set (set xs i (inner_left wide)) j (exact l)
+
+  size : length ys ≡ length xs
+  size = length-set xs i m
+
+  size_z : length zs ≡ length xs + 1
+  size_z = omega (arith, length-append ys (t ∷ []), size)
+
+  ij : i ≢ j
+  ij = apart_j xs i j q nodes f
+
+  qi : q ≢ i
+  qi e = omega (arith, f.right_level, ap (λ k. (node_at xs k).level) e)
+
+  at_i : node_at zs i ≡ m
+  at_i = before ys t i (omega (arith, f.parent_there, size)) ∙ here xs i m f.parent_there
+
+  at_j : node_at zs j ≡ l
+  at_j = before ys t j (omega (arith, f.left_there, size)) ∙ there xs i j m (λ e. ij (sym e))
+
+  at_q : node_at zs q ≡ r
+  at_q = before ys t q (omega (arith, f.right_there, size)) ∙ there xs i q m qi
+
+  at_h : node_at zs h ≡ t
+  at_h = ap (node_at zs) (sym size) ∙ last ys t
+
+  kind : TellsKind false p.level
+  kind = record { border = λ e. absurd (cc); interior = λ e. is_interior xs i j q nodes f }
+
+  nodes_z : AreNodes zs
+  nodes_z = nodes_bare ys false p.tree p.level (middle wide) op kind (nodes_splitting xs i f.parent_there nodes f.parent_held)
+
+  inserts : Inserts zs i j q
+  inserts = record {
+    parent_there = omega (arith, size_z, f.parent_there);
+    left_there = omega (arith, size_z, f.left_there);
+    right_there = omega (arith, size_z, f.right_there);
+    parent_held = rw at_i f.parent_held;
+    parent_live = rw at_i f.parent_live;
+    child = rw at_i f.child;
+    differ = f.differ;
+    right_live = rw at_q f.right_live;
+    right_tree = rw (at_q, at_i) f.right_tree;
+    right_level = rw (at_q, at_i) f.right_level;
+    right_knows = rw at_q f.right_knows;
+    fence = rw (at_j, at_q) f.fence;
+    right_reach = rw (at_j, at_q) f.right_reach;
+    above = rw (at_j, at_q) f.above;
+    below = rw (at_j, at_q) f.below;
+  }
+
+  splits : SplitsInner m t (middle wide)
+  splits = record {
+    marked = refl;
+    next = next;
+    right_held = λ e. absurd (cc);
+    right_marked = refl;
+    right_live = refl;
+    right_tree = refl;
+    right_level = refl;
+    right_next = refl;
+    right_low = refl;
+    right_reach = refl;
+  }
+
+  splits_z : SplitsInner (node_at zs i) (node_at zs h) (middle (with_child (node_at zs i) (node_at zs q).low q))
+  splits_z = rw (at_i, at_h, at_q) splits
+
+  ih : i ≢ h
+  ih e = omega (arith, f.parent_there, e)
+
+  full_z : length (node_at zs i).separators ≡ 15
+  full_z = rw at_i full
+
+  -- the list that the steps leave is the one with the parts
+  same : set (set (set zs i (inner_left wide)) j (exact l)) h (given wide t) ≡ ws ++ inner_right wide op ∷ []
+  same =
+      ap (λ vs. set (set vs j (exact l)) h (given wide t)) (set-append_left ys (t ∷ []) i (inner_left wide) (omega (arith, f.parent_there, size)) ∙ ap (λ vs. vs ++ t ∷ []) (set-set xs i m (inner_left wide)))
+      ∙ ap (λ vs. set vs h (given wide t)) (set-append_left (set xs i (inner_left wide)) (t ∷ []) j (exact l) (omega (arith, f.left_there, length-set xs i (inner_left wide))))
+      ∙ set_at ws t [] (given wide t) h (length-set (set xs i (inner_left wide)) j (exact l) ∙ length-set xs i (inner_left wide))
+
+  parted_z : AreNodes (set (set (set zs i (inner_left (with_child (node_at zs i) (node_at zs q).low q))) j (exact (node_at zs j))) h (given (with_child (node_at zs i) (node_at zs q).low q) (node_at zs h)))
+  parted_z = nodes_split_inner zs i j q h nodes_z inserts full_z (omega (arith, size_z)) ih splits_z
+
+  pub nodes_parts : AreNodes (with_parts xs i j q op)
+  nodes_parts = subst AreNodes same (rw (at_i, at_j, at_q, at_h) at parted_z)
+
+  ranges_z : HasRange (inner_left (with_child (node_at zs i) (node_at zs q).low q)) × HasRange (given (with_child (node_at zs i) (node_at zs q).low q) (node_at zs h))
+  ranges_z = ranges_split_inner zs i j q h nodes_z inserts full_z (omega (arith, size_z)) ih splits_z
+
+  -- both halves have a range
+  pub ranges_parts : HasRange (inner_left wide) × HasRange (inner_right wide op)
+  ranges_parts = rw (at_i, at_q, at_h) at ranges_z
+
+module _ (v : ArenaView) (room more parent left right op : ℕ) (sound : ArenaInvariant v.nodes v.trees v.retired room) (may : MaySplitInner v parent left right op) where
+  abbrev x : NodeView
+  x = at v parent
+
+  abbrev w : NodeView
+  w = with_child (splitting x) (at v right).low right
 
   abbrev y : NodeView
-  y = inner_left wide
+  y = inner_left w
 
   abbrev z : NodeView
   z = exact (at v left)
 
   abbrev u : NodeView
-  u = inner_right wide t
+  u = inner_right w op
+
+  abbrev halves : List NodeView
+  halves = set (set v.nodes parent y) left z
 
   abbrev new : List NodeView
-  new = with_parts v.nodes parent left right half
+  new = with_parts v.nodes parent left right op
 
   li : parent < length v.nodes
-  li = may.parted.held.there
+  li = may.held.there
 
   lj : left < length v.nodes
   lj = may.left_held.there
 
-  lh : half < length v.nodes
-  lh = may.parted.right_held.there
+  apart : parent ≢ left
+  apart = apart_j v.nodes parent left right sound.arena.nodes may.inserts
 
-  ij : parent ≢ left
-  ij = apart_j v.nodes parent left right sound.arena.nodes may.inserts
+  kept : AreKept v.nodes halves v.trees v.retired
+  kept = kept_set2 v.nodes v.trees v.retired parent left y z li lj apart (record { slots = refl; deleted = refl; tree = refl }) (record { slots = refl; deleted = refl; tree = refl })
 
-  ih : parent ≢ half
-  ih = may.parted.differ
+  ranges : HasRange y × HasRange u
+  ranges = ranges_parts v.nodes parent left right op sound.arena.nodes may.inserts may.full may.next
 
-  -- the parent and its right half are a level above the children
-  pub apart_half : left ≢ half
-  apart_half e = omega (arith, left_level v.nodes parent left right sound.arena.nodes may.inserts, ap (λ k. (at v k).level) e, may.parted.right_level)
-
-  splits : SplitsInner p t (middle wide)
-  splits = record {
-    marked = may.parted.marked;
-    next = may.next;
-    right_held = is_held op t may.parted.right_held.holder;
-    right_marked = may.parted.right_marked;
-    right_live = may.parted.right_live;
-    right_tree = may.parted.right_tree;
-    right_level = may.parted.right_level;
-    right_next = may.half_next;
-    right_low = may.begins;
-    right_reach = may.parted.right_reach;
-  }
-
-  kept : AreKept v.nodes new v.trees v.retired
-  kept = kept_set3 v.nodes v.trees v.retired parent left half y z u li lj lh ij ih apart_half
-      (record { slots = refl; deleted = refl; tree = refl }) (record { slots = refl; deleted = refl; tree = refl }) (record { slots = refl; deleted = refl; tree = refl })
-
-  pub sound_parts : ArenaInvariant new v.trees v.retired room
-  sound_parts = record {
-    arena = record {
-      nodes = nodes_split_inner v.nodes parent left right half sound.arena.nodes may.inserts may.full lh ih splits;
-      ranged = ranged_split_inner v.nodes parent left right half sound.arena.nodes sound.arena.ranged may.inserts may.full lh ih splits;
-      forest = forest_set3 v.nodes v.trees parent left half y z u li lj lh ij ih apart_half sound.arena.forest
-          (record {
+  pub sound_parts : length v.nodes + 1 ≤ more → ArenaInvariant new v.trees v.retired more
+  sound_parts enough =
+      let forest = sound.arena.forest in
+      let there_is = forest.tree_there parent li in
+      record {
+        arena = record {
+          nodes = nodes_parts v.nodes parent left right op sound.arena.nodes may.inserts may.full may.next;
+          ranged = ranged_parts v.nodes parent left w op li lj sound.arena.ranged ranges.0 ranges.1;
+          forest = forest_push halves v.trees u (forest_set2 v.nodes v.trees parent left y z li lj apart forest (record {
             home = record { tree = refl; deleted = refl; flag = refl; root = λ h. record { live = h.live; flag = h.flag; parentless = h.parentless; low = h.low; reach = h.reach } };
-            keys = keys_of v.nodes v.trees parent li sound.arena.forest;
-          })
-          (exact_place v.nodes parent left right sound.arena.nodes may.inserts v.trees sound.arena.forest)
-          (record {
-            home = record { tree = refl; deleted = refl; flag = refl; root = λ h. absurd (marks t.version.root h.flag may.parted.no_root) };
-            keys = keys_of v.nodes v.trees half lh sound.arena.forest;
-          });
-      layers = kept.layers sound.arena.layers;
-    };
-    retired = kept.retired sound.retired;
-    enough = omega (arith, kept.count, sound.enough);
-  }
+            keys = keys_of v.nodes v.trees parent li forest;
+          }) (exact_place v.nodes parent left right sound.arena.nodes may.inserts v.trees forest))
+              there_is ((forest.homes parent x.tree li there_is).standing refl may.inserts.parent_live) refl (no_keys (tree_at v.trees x.tree).prefix u.slots refl);
+          layers = layers_push halves v.trees u refl (kept.layers sound.arena.layers);
+        };
+        retired = retired_push halves v.retired u (kept.retired sound.retired) refl;
+        enough = omega (arith, length-append halves (u ∷ []), kept.count, enough);
+      }
 
   pub step_parts : Guarantee op v (record v { nodes = new })
   step_parts = record {
-    nodes = guarantee_set3 op v.nodes v.trees parent left half y z u li lj lh ij ih apart_half sound.arena.forest
-        (record { changes = changes_inner_left op p (at v right).low right may.parted.held.holder may.parted.marked; mine = may.parted.mine })
-        (exact_turn v.nodes parent left right sound.arena.nodes may.inserts op v.trees may.left_held.holder may.parted.mine)
-        (record {
-          changes = changes_inner_right op wide t may.parted.right_held.holder may.parted.right_marked may.parted.childless;
-          mine = λ q e. may.parted.mine q (ap (λ a. (tree_at v.trees a).standing) (sym may.parted.right_tree) ∙ e);
-        });
-    points = points_each op v.nodes new kept.count (each_set3 (λ k n. PointsSo op new (at v k) n) v.nodes parent left half y z u li lj lh ij ih apart_half
-        (names_same op new p y refl refl) (names_same op new (at v left) z refl refl) (names_same op new t u refl refl) (λ k lt ni nj nh. names_same op new (at v k) (at v k) refl refl));
+    nodes = guarantee_on op v.nodes halves new v.trees v.trees v.trees
+        (guarantee_set2 op v.nodes v.trees parent left y z li lj apart sound.arena.forest (record {
+          changes = changes_on op x (splitting x) y (changes_splitting op x may.held.holder) (changes_inner_left op (splitting x) (at v right).low right may.held.holder refl);
+          mine = may.mine;
+        }) (exact_turn v.nodes parent left right sound.arena.nodes may.inserts op v.trees may.left_held.holder may.mine))
+        (guarantee_push op halves v.trees u may.mine (λ q other e. other (same_Some q op (sym e)))) sound.arena.forest.tree_there;
+    points = points_more op v.nodes halves u kept.count refl refl (each_set2 (λ k n. PointsSo op new (at v k) n) v.nodes parent left y z li lj apart
+        (names_same op new x y refl refl) (names_same op new (at v left) z refl refl) (λ k lt ni nj. names_same op new (at v k) (at v k) refl refl));
   }
 
   pub content_parts : content v.trees new ≡ content v.trees v.nodes
-  content_parts = kept.content
+  content_parts = stands_pushed v.trees halves u refl ∙ kept.content

@@ -1,11 +1,12 @@
 -- One more node.
-use Rattle.std.proofs.Common.{◌≢◌, ℕ, ◌+◌, ◌<◌, List, [], ◌∷◌, ◌++◌, length, refl, sym, arith}
+use Rattle.std.proofs.Common.{◌≡◌, ◌≢◌, ℕ, ◌+◌, ◌<◌, Bool, true, List, [], ◌∷◌, ◌++◌, length, Some, refl, sym, arith}
 use Rattle.mt_border.specs.Entries.{IsBorder}
 use Rattle.mt_interior.specs.Node.{IsInterior}
 use Rattle.mt_arena.specs.NodeView.{NodeView, node_at}
 use Rattle.mt_arena.specs.Nodes.{AreNodes, IsNode, IsPair}
-use Rattle.mt_arena.specs.Edits.{fresh_half, fresh_root}
-use Rattle.mt_arena.proofs.Groups.{names_none}
+use Rattle.mt_arena.specs.NodeFacts.{TellsKind}
+use Rattle.mt_arena.specs.Edits.{bare, fresh_half, fresh_root}
+use Rattle.mt_arena.proofs.Groups.{held_lock, there_none, names_none}
 use Rattle.mt_arena.proofs.Pairs.{nodes_pushed}
 
 -- neither slots nor children
@@ -15,17 +16,12 @@ no_slots = record { within = omega arith; each = λ i d lt. absurd (omega arith)
 pub no_children : IsInterior [] []
 no_children = record { room = omega arith; between = refl; rising = λ i j lt within. absurd (omega arith) }
 
--- the right half of a split, before it has a range
-half_node : (count seen : ℕ) (n : NodeView) (low op : ℕ) → IsNode seen n → IsNode count (fresh_half n low op)
-half_node count seen n low op h = record {
-  names = record {
-    next = λ j e. absurd (cc);
-    previous = λ j e. absurd (cc);
-    parent = λ j e. absurd (cc);
-    children = λ i lt. absurd (omega arith);
-  };
-  lock = record { locked = refl; inserting = λ e f. absurd (cc); splitting = λ e f. absurd (cc); stable = λ free. absurd (cc) };
-  kind = h.kind;
+-- a node that an operation makes, before it has a range
+bare_node : (count : ℕ) (border : Bool) (tree level low op : ℕ) → TellsKind border level → IsNode count (bare border tree level low op)
+bare_node count border tree level low op kind = record {
+  names = there_none;
+  lock = held_lock (Some op) [] (λ e. absurd (cc)) refl;
+  kind = kind;
   slots = record { border = no_slots; within = λ i lt. absurd (omega arith); slotless = λ level. refl };
   children = record {
     childless = λ level. refl;
@@ -39,16 +35,16 @@ half_node count seen n low op h = record {
 }
 
 -- beside a node that it does not name
-half_from : (k : ℕ) (n : NodeView) (low op j : ℕ) (m : NodeView) → IsPair k (fresh_half n low op) j m
-half_from k n low op j m = record {
+bare_from : (k : ℕ) (border : Bool) (tree level low op j : ℕ) (m : NodeView) → IsPair k (bare border tree level low op) j m
+bare_from k border tree level low op j m = record {
   next = λ e. absurd (cc);
   named = λ _ _. names_none;
   child = λ i lt. absurd (omega arith);
   apart = λ differ tree level live also s holds _. absurd (omega (arith, holds.0, holds.1));
 }
 
-half_to : (count k : ℕ) (m n : NodeView) (low op : ℕ) → IsNode count m → IsPair k m count (fresh_half n low op)
-half_to count k m n low op h = record {
+bare_to : (count k : ℕ) (m : NodeView) (border : Bool) (tree level low op : ℕ) → IsNode count m → IsPair k m count (bare border tree level low op)
+bare_to count k m border tree level low op h = record {
   next = λ e. absurd (omega (arith, h.names.next count e));
   named = λ _ _. record {
     back = λ e. absurd (omega (arith, h.names.previous count e));
@@ -59,24 +55,22 @@ half_to count k m n low op h = record {
   apart = λ differ tree level live also s _ holds. absurd (omega (arith, holds.0, holds.1));
 }
 
-pub nodes_half : (xs : List NodeView) (i low op : ℕ) → i < length xs → AreNodes xs → AreNodes (xs ++ fresh_half (node_at xs i) low op ∷ [])
-nodes_half xs i low op within nodes =
-    let x = node_at xs i in
-    let y = fresh_half x low op in
-    nodes_pushed xs y nodes (half_node (length xs + 1) (length xs) x low op (nodes.each i within))
-    (half_from (length xs) x low op (length xs) y)
-    (λ j lt. half_from (length xs) x low op j (node_at xs j))
-    (λ j lt. half_to (length xs) j (node_at xs j) x low op (nodes.each j lt))
+pub nodes_bare : (xs : List NodeView) (border : Bool) (tree level low op : ℕ) → TellsKind border level → AreNodes xs → AreNodes (xs ++ bare border tree level low op ∷ [])
+nodes_bare xs border tree level low op kind nodes =
+    let y = bare border tree level low op in
+    nodes_pushed xs y nodes (bare_node (length xs + 1) border tree level low op kind)
+    (bare_from (length xs) border tree level low op (length xs) y)
+    (λ j lt. bare_from (length xs) border tree level low op j (node_at xs j))
+    (λ j lt. bare_to (length xs) j (node_at xs j) border tree level low op (nodes.each j lt))
+
+-- the right half of a border node
+pub nodes_half : (xs : List NodeView) (i low op : ℕ) → (node_at xs i).level ≡ 0 → AreNodes xs → AreNodes (xs ++ fresh_half (node_at xs i) low op ∷ [])
+nodes_half xs i low op level nodes = nodes_bare xs true (node_at xs i).tree (node_at xs i).level low op (record { border = λ e. level; interior = λ e. absurd (cc) }) nodes
 
 -- the root of a new tree
 root_node : (count tree : ℕ) → IsNode count (fresh_root tree)
 root_node count tree = record {
-  names = record {
-    next = λ j e. absurd (cc);
-    previous = λ j e. absurd (cc);
-    parent = λ j e. absurd (cc);
-    children = λ i lt. absurd (omega arith);
-  };
+  names = there_none;
   lock = record {
     locked = refl;
     inserting = λ e. absurd (cc);

@@ -87,17 +87,12 @@ ranged_unlinked xs i j q a nodes ranged f =
     (record { next = (ranged q f.parent_there).next; parent = (ranged q f.parent_there).parent; unmarked = (ranged q f.parent_there).unmarked })
 
 -- so do those of an interior node that is parted
-pub ranged_parted : (xs : List NodeView) (i j q h : ℕ) → AreRanged xs → Inserts xs i j q → h < length xs
-    → HasRange (inner_left (with_child (node_at xs i) (node_at xs q).low q)) → HasRange (inner_right (with_child (node_at xs i) (node_at xs q).low q) (node_at xs h))
-    → AreRanged (set (set (set xs i (inner_left (with_child (node_at xs i) (node_at xs q).low q))) j (exact (node_at xs j))) h (inner_right (with_child (node_at xs i) (node_at xs q).low q) (node_at xs h)))
-ranged_parted xs i j q h ranged f lh left right =
-    let wide = with_child (node_at xs i) (node_at xs q).low q in
+pub ranged_parts : (xs : List NodeView) (i j : ℕ) (wide : NodeView) (op : ℕ) → i < length xs → j < length xs → AreRanged xs → HasRange (inner_left wide) → HasRange (inner_right wide op)
+    → AreRanged (set (set xs i (inner_left wide)) j (exact (node_at xs j)) ++ inner_right wide op ∷ [])
+ranged_parts xs i j wide op li lj ranged left right =
     let y = inner_left wide in
-    let z = exact (node_at xs j) in
-    let size = length-set xs i y in
-    let size2 = length-set (set xs i y) j z in
-    nodes_set IsRanged (set (set xs i y) j z) h (inner_right wide (node_at xs h)) (omega (arith, lh, size, size2))
-    (nodes_set IsRanged (set xs i y) j z (omega (arith, f.left_there, size))
-    (nodes_set IsRanged xs i y f.parent_there ranged (record { next = λ some. left; parent = λ some. left; unmarked = λ whole live. left }))
-    (record { next = (ranged j f.left_there).next; parent = (ranged j f.left_there).parent; unmarked = (ranged j f.left_there).unmarked }))
+    nodes_push IsRanged (set (set xs i y) j (exact (node_at xs j))) (inner_right wide op)
+    (nodes_set IsRanged (set xs i y) j (exact (node_at xs j)) (omega (arith, lj, length-set xs i y))
+    (nodes_set IsRanged xs i y li ranged (record { next = λ some. left; parent = λ some. left; unmarked = λ whole live. left }))
+    (record { next = (ranged j lj).next; parent = (ranged j lj).parent; unmarked = (ranged j lj).unmarked }))
     (record { next = λ some. right; parent = λ some. right; unmarked = λ whole live. right })

@@ -4,9 +4,8 @@ use Rattle.std.proofs.lemmas.List.{get_or-take, get_or-drop, get_or_default, set
 use Rattle.mt_border.specs.declared.entry.Entry.{Entry}
 use Rattle.mt_border.specs.Split.{IsParted}
 use Rattle.mt_arena.specs.NodeView.{NodeView, node_at, no_node}
-use Rattle.mt_arena.specs.Splits.{left_half, right_half, with_child, exact, inner_left, inner_right}
-use Rattle.mt_arena.specs.Several.{AreHalved, with_parts}
-use Rattle.mt_arena.proofs.Pairs.{read, there}
+use Rattle.mt_arena.specs.Splits.{left_half, right_half}
+use Rattle.mt_arena.specs.Several.{AreHalved}
 
 -- the first node behind is another
 back_set : (xs : List NodeView) (j : ℕ) (z : NodeView) → j < length xs → take j xs ++ set (drop j xs) 0 z ≡ set xs j z
@@ -67,42 +66,9 @@ module _ (all : List Entry → List Entry) (xs front back : List NodeView) (i j 
       halved (all (node_at xs i).slots) xs i j y z (set front j z ++ set back 0 y) (rw (first, second) (both_back xs i j y z differ le within))
       (rw (x_is, r_is) at parted) some_kept some_moved (rw (x_is, r_is) at left) (rw (x_is, r_is) at right)
 
--- and of an interior node
-pub inner_front : (xs front back : List NodeView) (i j s q : ℕ) (d e y z : NodeView) → front ≡ take j xs → back ≡ drop j xs → i < j → j < length xs → y ≡ inner_left (with_child (get_or front i d) s q) → z ≡ inner_right (with_child (get_or front i d) s q) (get_or back 0 e)
-    → set front i y ++ set back 0 z ≡ set (set xs i (inner_left (with_child (node_at xs i) s q))) j (inner_right (with_child (node_at xs i) s q) (node_at xs j))
-inner_front xs front back i j s q d e y z first second lt within left right =
-    let x_is = in_front xs front i j d first lt within in
-    let r_is = in_back xs back j e second within in
-    let y_is = rw (x_is) at left in
-    let z_is = rw (x_is, r_is) at right in
-    rw (first, second) (both_set xs i j y z lt within) ∙ ap (λ (n : NodeView). set (set xs i n) j z) y_is ∙ ap (λ (n : NodeView). set (set xs i (inner_left (with_child (node_at xs i) s q))) j n) z_is
-
-pub inner_back : (xs front back : List NodeView) (i j s q : ℕ) (d e y z : NodeView) → front ≡ take i xs → back ≡ drop i xs → i ≢ j → j ≤ i → i < length xs → y ≡ inner_left (with_child (get_or back 0 d) s q) → z ≡ inner_right (with_child (get_or back 0 d) s q) (get_or front j e)
-    → set front j z ++ set back 0 y ≡ set (set xs i (inner_left (with_child (node_at xs i) s q))) j (inner_right (with_child (node_at xs i) s q) (node_at xs j))
-inner_back xs front back i j s q d e y z first second differ le within left right =
-    let r_is = in_front xs front j i e first (omega (arith, differ, le)) within in
-    let x_is = in_back xs back i d second within in
-    let y_is = rw (x_is) at left in
-    let z_is = rw (x_is, r_is) at right in
-    rw (first, second) (both_back xs i j y z differ le within) ∙ ap (λ (n : NodeView). set (set xs i n) j z) y_is ∙ ap (λ (n : NodeView). set (set xs i (inner_left (with_child (node_at xs i) s q))) j n) z_is
-
 -- the whole list, written back
 pub written : (xs ws : List NodeView) (n : ℕ) → length xs ≡ n → length ws ≡ length xs → take n (ws ++ drop (length ws) xs) ≡ ws
 written xs ws n all same = take_at ws (drop (length ws) xs) n (same ∙ all)
 
 pub two_long : (xs ys : List NodeView) (i j : ℕ) (y z : NodeView) → ys ≡ set (set xs i y) j z → length ys ≡ length xs
 two_long xs ys i j y z is = ap length is ∙ length-set (set xs i y) j z ∙ length-set xs i y
-
--- as a full node is parted
-pub parts_long : (xs ys : List NodeView) (i q h : ℕ) → ys ≡ set (set xs i (inner_left (with_child (node_at xs i) (node_at xs q).low q))) h (inner_right (with_child (node_at xs i) (node_at xs q).low q) (node_at xs h)) → length ys ≡ length xs
-parts_long xs ys i q h is = two_long xs ys i h (inner_left (with_child (node_at xs i) (node_at xs q).low q)) (inner_right (with_child (node_at xs i) (node_at xs q).low q) (node_at xs h)) is
-
--- and a third node, which keeps what it had but its reach
-pub parts_is : (xs ys : List NodeView) (i j q h : ℕ) (n m : NodeView) → ys ≡ set (set xs i (inner_left (with_child (node_at xs i) (node_at xs q).low q))) h (inner_right (with_child (node_at xs i) (node_at xs q).low q) (node_at xs h)) → i ≢ j → j ≢ h → j < length xs
-    → n ≡ get_or ys j n → m ≡ exact n → set ys j m ≡ with_parts xs i j q h
-parts_is xs ys i j q h n m is ij jh lj read_is after =
-    let wide = with_child (node_at xs i) (node_at xs q).low q in
-    let y = inner_left wide in
-    let u = inner_right wide (node_at xs h) in
-    let same : n ≡ node_at xs j = read ys j n (omega (arith, lj, parts_long xs ys i q h is)) read_is ∙ ap (λ zs. node_at zs j) is ∙ there (set xs i y) h j u jh ∙ there xs i j y (λ e. ij (sym e)) in
-    (λ a. set (is a) j ((after ∙ ap exact same) a)) ∙ set_comm (set xs i y) h j u (exact (node_at xs j)) (λ e. jh (sym e))

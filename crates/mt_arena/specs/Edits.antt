@@ -1,5 +1,5 @@
 -- What single edits make of a node, and what they need of the others.
-use Rattle.std.specs.Prelude.{◌≡◌, ◌≢◌, ℕ, ◌<◌, ◌⊎◌, true, false, List, length, Option, Some, None, slice_index}
+use Rattle.std.specs.Prelude.{◌≡◌, ◌≢◌, ℕ, ◌<◌, ◌⊎◌, Bool, true, false, List, length, Option, Some, None, slice_index}
 use Rattle.mt_version.specs.Parts.{Parts, fresh_parts}
 use Rattle.mt_version.specs.Changes.{unlocked_parts}
 use Rattle.mt_border.specs.declared.entry.Entry.{Entry}
@@ -45,17 +45,21 @@ pub record Points (nodes : List NodeView) (x : NodeView) (previous parent : Opti
   pub previous_stays : previous ≡ None → x.previous ≡ None
   pub parent_stays : parent ≡ None → x.parent ≡ None
 
--- a new node without range, at the right of the one that an operation splits
-abbrev pub fresh_half : NodeView → ℕ → ℕ → NodeView
-fresh_half n low op = record no_node {
+-- a new node without range, held by an operation: a border node or an interior one, of a tree and on a level of it
+abbrev pub bare : Bool → ℕ → ℕ → ℕ → ℕ → NodeView
+bare border tree level low op = record no_node {
   low = low;
   high = Some low;
   reach = Some low;
-  version = record (fresh_parts false n.version.border) { locked = true; splitting = true };
-  tree = n.tree;
-  level = n.level;
+  version = record (fresh_parts false border) { locked = true; splitting = true };
+  tree = tree;
+  level = level;
   holder = Some op;
 }
+
+-- the right half of a border node that an operation splits
+abbrev pub fresh_half : NodeView → ℕ → ℕ → NodeView
+fresh_half n low op = bare true n.tree n.level low op
 
 -- the first node of a tree
 abbrev pub fresh_root : ℕ → NodeView

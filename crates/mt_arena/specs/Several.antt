@@ -11,8 +11,8 @@ use Rattle.mt_border.specs.declared.entry.Entry.{Entry}
 use Rattle.mt_arena.specs.NodeView.{NodeView, node_at}
 use Rattle.mt_arena.specs.Ways.{BelongsIn}
 use Rattle.mt_arena.specs.Forests.{layer_of}
-use Rattle.mt_arena.specs.Splits.{Inserts, left_half, right_half, with_child, exact, middle, inner_left, inner_right}
-use Rattle.mt_arena.specs.Edits.{inserting}
+use Rattle.mt_arena.specs.Splits.{Inserts, left_half, right_half, with_child, exact, inner_left, inner_right}
+use Rattle.mt_arena.specs.Edits.{inserting, splitting}
 use Rattle.mt_arena.specs.Growth.{AreRootHalves, fresh_top, left_below, right_below}
 use Rattle.mt_arena.specs.Arena.{ArenaView}
 use Rattle.mt_arena.specs.Accesses.{at, tree_of, IsHeld, IsOpen}
@@ -97,18 +97,17 @@ abbrev pub with_right : List NodeView → ℕ → ℕ → ℕ → List NodeView
 with_right nodes parent left right =
     slice_set (slice_set nodes parent (with_child (inserting (node_at nodes parent)) (node_at nodes right).low right)) left (exact (node_at nodes left))
 
--- and where the parent is full: it is split, and its right half begins in the middle of its children and the new one
-pub record MaySplitInner (v : ArenaView) (parent left right half op : ℕ) : Type 0 where
+-- and where the parent is full: it is split as the right half comes in
+pub record MaySplitInner (v : ArenaView) (parent left right op : ℕ) : Type 0 where
   pub inserts : Inserts v.nodes parent left right
-  pub parted : IsHalf v parent half op
+  pub held : IsHeld v parent op
   pub left_held : IsHeld v left op
+  pub mine : IsOpen v parent op
   pub full : length (at v parent).separators ≡ 15
   pub next : (at v parent).next ≡ None
-  pub half_next : (at v half).next ≡ None
-  pub begins : (at v half).low ≡ middle (with_child (at v parent) (at v right).low right)
 
--- a parent with one more child, parted among it and its right half, and the left half of the two children
+-- a marked parent with one more child, of which the upper ones go to a new node, its right half, and the left half of the two children
 abbrev pub with_parts : List NodeView → ℕ → ℕ → ℕ → ℕ → List NodeView
-with_parts nodes parent left right half =
-    let wide = with_child (node_at nodes parent) (node_at nodes right).low right in
-    slice_set (slice_set (slice_set nodes parent (inner_left wide)) left (exact (node_at nodes left))) half (inner_right wide (node_at nodes half))
+with_parts nodes parent left right op =
+    let wide = with_child (splitting (node_at nodes parent)) (node_at nodes right).low right in
+    slice_set (slice_set nodes parent (inner_left wide)) left (exact (node_at nodes left)) ++ inner_right wide op ∷ []

@@ -7,6 +7,7 @@ use Rattle.mt_interior.specs.Fences.{end_of}
 use Rattle.mt_arena.specs.NodeView.{NodeView, node_at}
 use Rattle.mt_arena.specs.Nodes.{HasChild}
 use Rattle.mt_arena.specs.NodeFacts.{AreWithin}
+use Rattle.mt_arena.specs.Edits.{bare}
 
 -- what is left of a border node that keeps these slots and ends where the right half begins
 abbrev pub left_half : NodeView → List Entry → ℕ → ℕ → NodeView
@@ -68,22 +69,9 @@ pub record Inserts (nodes : List NodeView) (i j q : ℕ) : Type 0 where
 abbrev pub middle : NodeView → ℕ
 middle wide = slice_index wide.separators 8
 
--- what is left of it, and what its right half gets
+-- what is left of it, and its right half, held by the operation: the upper children and the range from the middle on
 abbrev pub inner_left : NodeView → NodeView
 inner_left wide = record wide { separators = take 8 wide.separators; children = take 9 wide.children; high = Some (middle wide) }
 
-abbrev pub inner_right : NodeView → NodeView → NodeView
-inner_right wide r = record r { separators = drop 9 wide.separators; children = drop 9 wide.children; high = wide.high; reach = wide.reach }
-
--- a marked interior node p, and a right half r without range, which begins in the middle of it
-pub record SplitsInner (p r : NodeView) (middle : ℕ) : Type 0 where
-  pub marked : p.version.splitting ≡ true
-  pub next : p.next ≡ None
-  pub right_held : r.holder ≢ None
-  pub right_marked : r.version.splitting ≡ true
-  pub right_live : r.version.deleted ≡ false
-  pub right_tree : r.tree ≡ p.tree
-  pub right_level : r.level ≡ p.level
-  pub right_next : r.next ≡ None
-  pub right_low : r.low ≡ middle
-  pub right_reach : r.reach ≡ Some r.low
+abbrev pub inner_right : NodeView → ℕ → NodeView
+inner_right wide op = record (bare false wide.tree wide.level (middle wide) op) { separators = drop 9 wide.separators; children = drop 9 wide.children; high = wide.high; reach = wide.reach }

@@ -3,8 +3,8 @@
 //! Invariant: `IsArena`, fact by fact in `specs/Nodes.antt`, `specs/Forests.antt` and
 //! `specs/Layers.antt`; it names no operation but those that hold a node or make a tree. Each call that
 //! changes a node does it in place, and says in `Guarantee` what others may rely on.
-//! Owns its nodes. Errors: `AllocError`, from `new`, `alloc_node` and `new_tree` alone. Units: nodes,
-//! trees and operations by their numbers, from 0.
+//! Owns its nodes. Errors: `AllocError`, from `new`, `alloc_node`, `new_tree`, `grow_root` and
+//! `split_interior` alone. Units: nodes, trees and operations by their numbers, from 0.
 
 ghost use Rattle.std.specs.Prelude.{◌≡◌, ◌≢◌, ◌<◌, ◌≤◌, ℕ, [], ◌∷◌, ◌++◌, ◌+◌, length, slice_set, true, false, Some, None, IfOk, OnOk, OnErr};
 ghost use Rattle.std.specs.Vec.{vec_len, vec_capacity};
@@ -28,7 +28,6 @@ ghost use Rattle.mt_arena.specs.Edits.{locked, unlocked, splitting, retired, wit
 ghost use Rattle.mt_arena.specs.Arena.{IsArena, AreRetired, content_of, Guarantee};
 ghost use Rattle.mt_slices.specs.Marks.{IsMark};
 ghost use Rattle.mt_border.specs.Split.{IsParted, IsSeparator, slices_with};
-ghost use Rattle.mt_arena.specs.Splits.{with_child, inner_left, inner_right};
 ghost use Rattle.mt_interior.specs.Places.{IsNew};
 ghost use Rattle.mt_arena.specs.Several.{AreHalved, MaySplit, MayPlace, MayGrow, with_top, with_root, MayInsert, with_right, MaySplitInner, with_parts};
 ghost use Rattle.mt_arena.specs.Accesses.{new_arena, at, tree_of, IsHeld, IsOpen, with_node, with_half, with_tree, with_row, IsFreshPrefix, MayPublish, MayChange, MayRetire};
@@ -238,8 +237,8 @@ impl Arena {
         self.nodes[node].drop_key(slot)
     }
 
-    /// A new node without range, which the operation holds, for the right half of one that it splits.
-    /// An error leaves all as it was.
+    /// A new border node without range, which the operation holds, for the right half of one that it
+    /// splits. An error leaves all as it was.
     pub fn alloc_node(
         &mut self,
         left: usize,
@@ -248,6 +247,7 @@ impl Arena {
     ) -> Result<usize, AllocError>
         requires held { IsHeld self.old left operation }
         requires live { (at self.old left).version.deleted ≡ false }
+        requires border { (at self.old left).level ≡ 0 }
         requires mine { IsOpen self.old left operation }
         ensures number { IfOk result (λ node. node ≡ length self.old.nodes) }
         ensures is { OnOk result (self.new ≡ with_half self.old left low operation) }
@@ -353,22 +353,27 @@ impl Arena {
         put_child(&mut self.nodes, parent, left, right);
     }
 
-    /// Puts a right half into a full parent, behind the left one, and parts the parent's children among
-    /// it and its own right half, which gets its range from the middle on.
+    /// Puts a right half into a full parent, behind the left one, marks the parent for readers of its
+    /// range, and gives its upper children to a new right half, which the operation holds and which
+    /// gets the range from the middle on. An error leaves all as it was.
     pub fn split_interior(
         &mut self,
         parent: usize,
         left: usize,
         right: usize,
-        half: usize,
         operation: usize,
-    )
-        requires { MaySplitInner self.old parent left right half operation }
-        ensures is { self.new ≡ record self.old { nodes = with_parts self.old.nodes parent left right half } }
+    ) -> Result<usize, AllocError>
+        requires { MaySplitInner self.old parent left right operation }
+        ensures number { IfOk result (λ half. half ≡ length self.old.nodes) }
+        ensures is { OnOk result (self.new ≡ record self.old { nodes = with_parts self.old.nodes parent left right operation }) }
+        ensures unchanged_on_err { OnErr result (self.new ≡ self.old) }
         ensures step { Guarantee operation self.old self.new }
         ensures contents { content_of self.new ≡ content_of self.old }
     {
-        part_parent(&mut self.nodes, parent, left, right, half);
+        make_room(&mut self.nodes, &mut self.trees, &mut self.retired)?;
+        let number = self.nodes.len();
+        part_parent(&mut self.nodes, parent, left, right, operation);
+        Ok(number)
     }
 
     /// Takes a node out by the step of this number. Takes no memory.
@@ -432,28 +437,6 @@ fn halve_without(nodes: &mut [Node], left: usize, right: usize, slice: u64, mark
     }
 }
 
-// Puts a child into a full node, and parts its children among it and its right half.
-fn part_inner(nodes: &mut [Node], left: usize, right: usize, separator: u64, child: usize)
-    requires there { left < length nodes.old }
-    requires right_there { right < length nodes.old }
-    requires differ { left ≢ right }
-    requires interior { 0 < (node_at nodes.old left).level }
-    requires right_interior { 0 < (node_at nodes.old right).level }
-    requires full { length (node_at nodes.old left).separators ≡ 15 }
-    requires missing { IsNew (node_at nodes.old left).separators separator }
-    requires childless { (node_at nodes.old right).children ≡ [] }
-    ensures { let wide = with_child (node_at nodes.old left) separator child in
-        nodes.new ≡ slice_set (slice_set nodes.old left (inner_left wide)) right (inner_right wide (node_at nodes.old right)) }
-{
-    if left < right {
-        let (front, back) = nodes.split_at_mut(right);
-        front[left].split_inner(separator, child, &mut back[0]);
-    } else {
-        let (front, back) = nodes.split_at_mut(left);
-        back[0].split_inner(separator, child, &mut front[right]);
-    }
-}
-
 // Puts a new root over two nodes.
 fn put_top(nodes: &mut Vec<Node>, left: usize, right: usize, operation: usize)
     requires there { left < length nodes.old.items }
@@ -488,25 +471,22 @@ fn put_child(nodes: &mut Vec<Node>, parent: usize, left: usize, right: usize)
     nodes[left].make_exact();
 }
 
-// Puts a child into a full node, behind another one, and parts the node among it and its right half.
-fn part_parent(nodes: &mut Vec<Node>, parent: usize, left: usize, right: usize, half: usize)
+// Puts a child into a full node, behind another one, and gives its upper children to a new right half.
+fn part_parent(nodes: &mut Vec<Node>, parent: usize, left: usize, right: usize, operation: usize)
     requires there { parent < length nodes.old.items }
     requires left_there { left < length nodes.old.items }
     requires right_there { right < length nodes.old.items }
-    requires half_there { half < length nodes.old.items }
     requires differ { parent ≢ left }
-    requires differ_half { parent ≢ half }
-    requires apart { left ≢ half }
     requires interior { 0 < (node_at nodes.old.items parent).level }
-    requires half_interior { 0 < (node_at nodes.old.items half).level }
     requires full { length (node_at nodes.old.items parent).separators ≡ 15 }
     requires missing { IsNew (node_at nodes.old.items parent).separators (node_at nodes.old.items right).low }
-    requires childless { (node_at nodes.old.items half).children ≡ [] }
-    ensures { nodes.new.items ≡ with_parts nodes.old.items parent left right half }
+    requires room { vec_len nodes.old < vec_capacity nodes.old }
+    ensures { nodes.new.items ≡ with_parts nodes.old.items parent left right operation }
 {
     let separator = nodes[right].low();
-    part_inner(nodes, parent, half, separator, right);
+    let half = nodes[parent].split_inner(separator, right, operation);
     nodes[left].make_exact();
+    nodes.push_reserved(half);
 }
 
 // Takes the memory for one more node and one more tree, and for the number of each node among the

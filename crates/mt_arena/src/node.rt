@@ -5,6 +5,10 @@
 //! arena's to keep: whoever changes a node does it through a call of `arena.rt`.
 
 ghost use Rattle.std.specs.Prelude.{◌≡◌, ◌≢◌, ◌<◌, ℕ, [], IfSome, IsSome, IfNone, Some, None, length, true, false, ◌↔◌};
+ghost use Rattle.mt_version.specs.Parts.{fresh_parts};
+ghost use Rattle.mt_interior.specs.Node.{childless};
+ghost use Rattle.mt_interior.specs.Places.{IsNew};
+ghost use Rattle.mt_interior.specs.Changes as inner;
 
 use mt_border::{Border, Entry};
 use mt_interior::Interior;
@@ -54,8 +58,7 @@ impl Node {
     ghost use Rattle.mt_arena.specs.Edits.{locked, unlocked, inserting, splitting, retired, with_slots, pointed, fresh_half, fresh_root};
     ghost use Rattle.mt_slices.specs.Marks.{IsMark};
     ghost use Rattle.mt_border.specs.Split.{IsParted, IsSeparator, slices_with};
-    ghost use Rattle.mt_interior.specs.Places.{IsNew};
-    ghost use Rattle.mt_arena.specs.Splits.{left_half, right_half, with_child, exact, middle, inner_left, inner_right};
+    ghost use Rattle.mt_arena.specs.Splits.{left_half, right_half, with_child, exact, inner_left, inner_right};
     ghost use Rattle.mt_arena.specs.Growth.{fresh_top, below_top, left_below};
 
     /// The first node of a tree.
@@ -71,24 +74,14 @@ impl Node {
         }
     }
 
-    /// A node without range, which an operation holds, to the right of one that it splits.
+    /// A border node without range, which an operation holds, to the right of one that it splits.
     pub(crate) fn half(&self, alloc: Global, low: u64, operation: usize) -> Self
-        requires border { self.now.version.border ≡ true → self.now.level ≡ 0 }
-        requires interior { self.now.version.border ≡ false → 0 < self.now.level }
+        requires border { self.now.level ≡ 0 }
         ensures { result ≡ fresh_half self.now low operation }
     {
-        let kind = match &self.kind {
-            NodeKind::Leaf(_) => {
-                let version = Version::child_border().locked().marked_splitting();
-                NodeKind::Leaf(Border::new(alloc, low, Some(low), version))
-            }
-            NodeKind::Inner(_) => {
-                let version = Version::child_interior().locked().marked_splitting();
-                NodeKind::Inner(Interior::new(low, Some(low), version))
-            }
-        };
+        let version = Version::child_border().locked().marked_splitting();
         Node {
-            kind,
+            kind: NodeKind::Leaf(Border::new(alloc, low, Some(low), version)),
             tree: self.tree,
             level: self.level,
             reach: Some(low),
@@ -429,30 +422,45 @@ impl Node {
         self.mark_inserting();
     }
 
-    /// Puts a child that begins at the separator into a full node, and parts its children among it and
-    /// its right half, which gets its range from the middle on.
-    pub(crate) fn split_inner(&mut self, separator: u64, child: usize, right: &mut Node)
+    /// Puts a child that begins at the separator into a full node, marks the node for readers of its
+    /// range, and gives its upper children to a new right half, which the operation holds and which
+    /// gets the range from the middle on.
+    pub(crate) fn split_inner(&mut self, separator: u64, child: usize, operation: usize) -> Self
         requires interior { 0 < self.old.level }
-        requires right_interior { 0 < right.old.level }
         requires full { length self.old.separators ≡ 15 }
         requires missing { IsNew self.old.separators separator }
-        requires childless { right.old.children ≡ [] }
-        ensures left { self.new ≡ inner_left (with_child self.old separator child) }
-        ensures right { right.new ≡ inner_right (with_child self.old separator child) right.old }
+        ensures left { self.new ≡ inner_left (with_child (splitting self.old) separator child) }
+        ensures right { result ≡ inner_right (with_child (splitting self.old) separator child) operation }
     {
-        match &mut self.kind {
+        self.mark_splitting();
+        let half = match &mut self.kind {
             NodeKind::Leaf(_) => unreachable!(),
-            NodeKind::Inner(left) => match &mut right.kind {
-                NodeKind::Leaf(_) => unreachable!(),
-                NodeKind::Inner(half) => {
-                    let middle = left.split_into(separator, child, half);
-                    half.set_high(left.high());
-                    left.set_high(Some(middle));
-                }
-            },
+            NodeKind::Inner(left) => part(left, separator, child),
+        };
+        Node {
+            kind: NodeKind::Inner(half),
+            tree: self.tree,
+            level: self.level,
+            reach: self.reach,
+            holder: Some(operation),
         }
-        right.reach = self.reach;
     }
+}
+
+// Puts a child into a full interior node, and gives its upper children to a new right half.
+fn part(left: &mut Interior, separator: u64, child: usize) -> Interior
+    requires full { length left.old.separators ≡ 15 }
+    requires missing { IsNew left.old.separators separator }
+    ensures left { let wide = inner.with_child left.old separator child in
+        left.new ≡ record (inner.left_half wide) { high = Some (inner.middle wide) } }
+    ensures right { let wide = inner.with_child left.old separator child in
+        result ≡ inner.right_half wide (childless (inner.middle wide) left.old.high (record (fresh_parts false false) { locked = true; splitting = true })) }
+{
+    let version = Version::child_interior().locked().marked_splitting();
+    let mut right = Interior::new(left.middle_with(separator), left.high(), version);
+    let middle = left.split_into(separator, child, &mut right);
+    left.set_high(Some(middle));
+    right
 }
 
 // The right half gets the range from its low fence on, and stands between the left one and the next.

@@ -11,7 +11,7 @@ invariant_of-self-2 c =
     let now : c.index.result.now ≡ node_at c.self.inside.nodes.items c.args.left = read c.self.inside.nodes.items c.args.left c.index.result.now held.there (rw c.in_ok-make_room.ensures.nodes at c.index.ensures) in
     rw (c.push_reserved.ensures.items, c.half-half.ensures, now, c.in_ok-make_room.ensures.nodes, c.in_ok-make_room.ensures.trees, c.in_ok-make_room.ensures.retired)
     (sound_half c.self.inside.nodes.items c.self.inside.trees.items c.self.inside.retired.items _ _ c.args.left c.args.low c.args.operation held.there c.self.invariant
-    (omega (arith, c.in_ok-make_room.ensures.room, ap length c.in_ok-make_room.ensures.nodes)) (rw (← c.self.view_is) at c.requires.live))
+    (omega (arith, c.in_ok-make_room.ensures.room, ap length c.in_ok-make_room.ensures.nodes)) (rw (← c.self.view_is) at c.requires.live) (rw (← c.self.view_is) at c.requires.border))
 
 pub returns-clause-contents : goal.returns-clause-contents
 returns-clause-contents c =
