@@ -32,25 +32,25 @@ module _ (v : ArenaView) (i j q : ℕ) (arena : IsArena v.nodes v.trees) (h : Ar
   r = at v q
 
   pub left_there : j < length xs
-  left_there = h.left_tidy.held.there
+  left_there = h.apart.left_tidy.held.there
 
   pub right_there : q < length xs
-  right_there = h.right_tidy.held.there
+  right_there = h.apart.right_tidy.held.there
 
   pub parent_there : i < length xs
   parent_there = (arena.nodes.each j left_there).names.parent i up
 
-  pub is_child : IsChild p (h.under i up).place l
-  is_child = as_child xs i j arena.nodes parent_there left_there (h.under i up)
+  pub is_child : IsChild p (h.apart.under i up).place l
+  is_child = as_child xs i j arena.nodes parent_there left_there (h.apart.under i up)
 
   ij : i ≢ j
   ij e = absurd (omega (arith, is_child.level, ap (λ k. (at v k).level) e))
 
   iq : i ≢ q
-  iq e = absurd (omega (arith, is_child.level, h.level, ap (λ k. (at v k).level) e))
+  iq e = absurd (omega (arith, is_child.level, h.apart.level, ap (λ k. (at v k).level) e))
 
   pub parent_free : p.holder ≡ None
-  parent_free = h.free i parent_there ij iq
+  parent_free = h.apart.free i parent_there ij iq
 
   -- the nodes as the calls go on
   abbrev v1 : ArenaView
@@ -75,24 +75,24 @@ module _ (v : ArenaView) (i j q : ℕ) (arena : IsArena v.nodes v.trees) (h : Ar
   wide = with_child (inserting (locked p 5)) r.low q
 
   reads1 : Reads v1.nodes xs i j q (locked p 5) l r
-  reads1 = reads_i xs xs i j q p l r ij iq h.differ (record { size = refl; at_i = refl; at_j = refl; at_q = refl; others = λ k _ _ _ _. refl }) (locked p 5) parent_there
+  reads1 = reads_i xs xs i j q p l r ij iq h.apart.differ (record { size = refl; at_i = refl; at_j = refl; at_q = refl; others = λ k _ _ _ _. refl }) (locked p 5) parent_there
 
   reads2 : Reads v2.nodes xs i j q (locked p 5) l told
   reads2 =
-      let after = reads_q v1.nodes xs i j q (locked p 5) l r ij iq h.differ reads1 (pointed (at v1 q) (at v1 q).previous (Some i)) right_there in
+      let after = reads_q v1.nodes xs i j q (locked p 5) l r ij iq h.apart.differ reads1 (pointed (at v1 q) (at v1 q).previous (Some i)) right_there in
       record { size = after.size; at_i = after.at_i; at_j = after.at_j; at_q = after.at_q ∙ ap (λ (n : NodeView). pointed n n.previous (Some i)) reads1.at_q; others = after.others }
 
   reads3 : Reads v3.nodes xs i j q wide (exact l) told
-  reads3 = reads_right v2.nodes xs i j q (locked p 5) l told ij iq h.differ parent_there left_there reads2
+  reads3 = reads_right v2.nodes xs i j q (locked p 5) l told ij iq h.apart.differ parent_there left_there reads2
 
   reads4 : Reads v4.nodes xs i j q (unlocked wide) (exact l) told
   reads4 =
-      let after = reads_i v3.nodes xs i j q wide (exact l) told ij iq h.differ reads3 (unlocked (at v3 i)) parent_there in
+      let after = reads_i v3.nodes xs i j q wide (exact l) told ij iq h.apart.differ reads3 (unlocked (at v3 i)) parent_there in
       record { size = after.size; at_i = after.at_i ∙ ap unlocked reads3.at_i; at_j = after.at_j; at_q = after.at_q; others = after.others }
 
   reads5 : Reads v5.nodes xs i j q (unlocked wide) (unlocked (exact l)) told
   reads5 =
-      let after = reads_j v4.nodes xs i j q (unlocked wide) (exact l) told ij iq h.differ reads4 (unlocked (at v4 j)) left_there in
+      let after = reads_j v4.nodes xs i j q (unlocked wide) (exact l) told ij iq h.apart.differ reads4 (unlocked (at v4 j)) left_there in
       record { size = after.size; at_i = after.at_i; at_j = after.at_j ∙ ap unlocked reads4.at_j; at_q = after.at_q; others = after.others }
 
   -- what `set_parent` needs
@@ -106,25 +106,25 @@ module _ (v : ArenaView) (i j q : ℕ) (arena : IsArena v.nodes v.trees) (h : Ar
     left_there = omega (arith, left_there, reads2.size);
     right_there = omega (arith, right_there, reads2.size);
     parent_held = rw reads2.at_i (λ e. absurd (cc));
-    parent_live = rw reads2.at_i (h.under i up).live;
-    child = rw reads2.at_i (h.under i up);
-    differ = h.differ;
-    right_live = rw reads2.at_q h.right_tidy.live;
-    right_tree = rw (reads2.at_q, reads2.at_i) (of_top v q arena h.one_tree right_there ∙ sym (of_top v i arena h.one_tree parent_there));
-    right_level = rw (reads2.at_q, reads2.at_i) (omega (arith, is_child.level, h.level));
+    parent_live = rw reads2.at_i (h.apart.under i up).live;
+    child = rw reads2.at_i (h.apart.under i up);
+    differ = h.apart.differ;
+    right_live = rw reads2.at_q h.apart.right_tidy.live;
+    right_tree = rw (reads2.at_q, reads2.at_i) (of_top v q arena h.apart.one_tree right_there ∙ sym (of_top v i arena h.apart.one_tree parent_there));
+    right_level = rw (reads2.at_q, reads2.at_i) (omega (arith, is_child.level, h.apart.level));
     right_knows = rw reads2.at_q (λ e. absurd (cc));
-    fence = rw (reads2.at_j, reads2.at_q) h.fence;
-    right_reach = rw (reads2.at_q, reads2.at_j) h.reach;
-    above = rw (reads2.at_j, reads2.at_q) h.above;
-    below = rw (reads2.at_q, reads2.at_j) (subst (λ o. r.low < end_of o) (sym h.exact ∙ h.reach) h.range);
+    fence = rw (reads2.at_j, reads2.at_q) h.apart.fence;
+    right_reach = rw (reads2.at_q, reads2.at_j) h.apart.reach;
+    above = rw (reads2.at_j, reads2.at_q) h.apart.above;
+    below = rw (reads2.at_q, reads2.at_j) (subst (λ o. r.low < end_of o) (sym h.apart.exact ∙ h.apart.reach) h.apart.range);
   }
 
   pub may_insert : length p.separators < 15 → MayInsert v2 i j q 5
   may_insert room = record {
     inserts = inserts2;
     held = record { there = omega (arith, parent_there, reads2.size); holder = ap (λ (n : NodeView). n.holder) reads2.at_i };
-    left_held = record { there = omega (arith, left_there, reads2.size); holder = ap (λ (n : NodeView). n.holder) reads2.at_j ∙ h.left_tidy.held.holder };
-    mine = rw reads2.at_i (open_of v.trees p.tree 5 (tree_live v i arena h.one_tree parent_there));
+    left_held = record { there = omega (arith, left_there, reads2.size); holder = ap (λ (n : NodeView). n.holder) reads2.at_j ∙ h.apart.left_tidy.held.holder };
+    mine = rw reads2.at_i (open_of v.trees p.tree 5 (tree_live v i arena h.apart.one_tree parent_there));
     room = rw reads2.at_i room;
   }
 
@@ -154,11 +154,11 @@ module _ (v : ArenaView) (i j q : ℕ) (arena : IsArena v.nodes v.trees) (h : Ar
   pub settled3 : IsSettled v3.nodes i (at v3 i)
   settled3 =
       let s = settled_free xs i parent_there arena.nodes parent_free in
-      let size : length p.children ≡ length p.separators + 1 = omega (arith, (arena.nodes.each i parent_there).children.interior.between, (h.under i up).in_range) in
+      let size : length p.children ≡ length p.separators + 1 = omega (arith, (arena.nodes.each i parent_there).children.interior.between, (h.apart.under i up).in_range) in
       subst (λ (n : NodeView). IsSettled v3.nodes i n) (sym reads3.at_i) (settled_of v3.nodes i wide
         (λ k f. let b = back3 i k f in s.previous k b.0 b.1 b.2) (λ k f. let b = back3 i k f in s.previous_live k b.0 b.1 b.2)
         (λ k u. elim (up3 i k u) [
-          | inl new ↦ subst (λ c. HasChild wide c) (sym new.0) (new_child (inserting (locked p 5)) r.low q size (h.under i up).live)
+          | inl new ↦ subst (λ c. HasChild wide c) (sym new.0) (new_child (inserting (locked p 5)) r.low q size (h.apart.under i up).live)
           | inr old ↦ child_more (inserting (locked p 5)) r.low q k size (s.parent k old.0 old.1 old.2)
         ])
         s.reach s.stable s.rooted)
@@ -168,41 +168,41 @@ module _ (v : ArenaView) (i j q : ℕ) (arena : IsArena v.nodes v.trees) (h : Ar
 
   -- then the left half
   pub held4 : IsHeld v4 j 5
-  held4 = record { there = omega (arith, left_there, reads4.size); holder = ap (λ (n : NodeView). n.holder) reads4.at_j ∙ h.left_tidy.held.holder }
+  held4 = record { there = omega (arith, left_there, reads4.size); holder = ap (λ (n : NodeView). n.holder) reads4.at_j ∙ h.apart.left_tidy.held.holder }
 
   pub settled4 : IsSettled v4.nodes j (at v4 j)
   settled4 = subst (λ (n : NodeView). IsSettled v4.nodes j n) (sym reads4.at_j) (settled_of v4.nodes j (exact l)
-    (λ k f. h.left_tidy.followers k (back4 j k f)) (λ _ _. h.left_tidy.live)
+    (λ k f. h.apart.left_tidy.followers k (back4 j k f)) (λ _ _. h.apart.left_tidy.live)
     (λ k u. elim (up4 j k u) [
       | inl new ↦ absurd (ij (same_Some _ _ new.1))
-      | inr old ↦ h.left_tidy.children k old
+      | inr old ↦ h.children k old
     ])
-    refl h.left_tidy.stable (λ _ none. h.rooted none))
+    refl h.apart.left_tidy.stable (λ _ none. h.apart.rooted none))
 
   pub room4 : CanUnlock (at v4 j).version
-  room4 = rw reads4.at_j h.left_tidy.room
+  room4 = rw reads4.at_j h.apart.left_tidy.room
 
   -- and the right one
   pub held5 : IsHeld v5 q 5
-  held5 = record { there = omega (arith, right_there, reads5.size); holder = ap (λ (n : NodeView). n.holder) reads5.at_q ∙ h.right_tidy.held.holder }
+  held5 = record { there = omega (arith, right_there, reads5.size); holder = ap (λ (n : NodeView). n.holder) reads5.at_q ∙ h.apart.right_tidy.held.holder }
 
   pub settled5 : IsSettled v5.nodes q (at v5 q)
   settled5 = subst (λ (n : NodeView). IsSettled v5.nodes q n) (sym reads5.at_q) (settled_of v5.nodes q told
-    (λ k f. h.right_tidy.followers k (back5 q k f)) (λ _ _. h.right_tidy.live)
+    (λ k f. h.apart.right_tidy.followers k (back5 q k f)) (λ _ _. h.apart.right_tidy.live)
     (λ k u. elim (up5 q k u) [
       | inl new ↦ absurd (iq (same_Some _ _ new.1))
-      | inr old ↦ h.right_tidy.children k old
+      | inr old ↦ h.apart.right_children k old
     ])
-    h.exact h.right_tidy.stable (λ _ none. absurd (cc)))
+    h.apart.exact h.apart.right_tidy.stable (λ _ none. absurd (cc)))
 
   pub room5 : CanUnlock (at v5 q).version
-  room5 = rw reads5.at_q h.right_tidy.room
+  room5 = rw reads5.at_q h.apart.right_tidy.room
 
   -- and nobody holds a node any more
   pub rest6 : IsAtRest (with_node v5 q (unlocked (at v5 q)))
   rest6 =
-      let after = reads_q v5.nodes xs i j q (unlocked wide) (unlocked (exact l)) told ij iq h.differ reads5 (unlocked (at v5 q)) right_there in
+      let after = reads_q v5.nodes xs i j q (unlocked wide) (unlocked (exact l)) told ij iq h.apart.differ reads5 (unlocked (at v5 q)) right_there in
       record {
-        one_tree = h.one_tree;
-        free = reads_all (λ k n. n.holder ≡ None) (set v5.nodes q (unlocked (at v5 q))) xs i j q (unlocked wide) (unlocked (exact l)) (unlocked (at v5 q)) after refl refl refl (λ k lt _ nj nq. h.free k lt nj nq);
+        one_tree = h.apart.one_tree;
+        free = reads_all (λ k n. n.holder ≡ None) (set v5.nodes q (unlocked (at v5 q))) xs i j q (unlocked wide) (unlocked (exact l)) (unlocked (at v5 q)) after refl refl refl (λ k lt _ nj nq. h.apart.free k lt nj nq);
       }

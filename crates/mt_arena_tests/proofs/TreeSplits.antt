@@ -198,53 +198,62 @@ module _ (v : ArenaView) (i low : ℕ) (arena : IsArena v.nodes v.trees) (rest :
 
     pub are_halves : AreHalves w i h
     are_halves = record {
-      one_tree = ap (λ a. length a.trees) others ∙ rest.one_tree;
-      differ = differ;
-      free = λ k lt ni nh.
-          let was : k < n = omega (arith, lt, nh, as_many, size) in
-          rw (at4_other k was ni) (rest.free k was);
-      left_tidy = record {
-        held = record { there = omega (arith, within, size); holder = ap (λ (m : NodeView). m.holder) at4 };
-        live = rw at4 live;
-        marked = ap (λ (m : NodeView). m.version.splitting) at4;
-        followers = rw at4 (λ k f. each4 (λ k m. m.previous ≡ Some i → m.version.deleted ≡ false → Some h ≡ Some k)
-            (λ e alive. absurd (let next = settled.previous i within e alive in cc)) (λ e alive. refl)
-            (λ k lt ni e alive. absurd (let next = settled.previous k lt e alive in cc)) k f.0 f.1 f.2);
-        children = rw at4 (λ k u. each4 (λ k m. m.parent ≡ Some i → m.version.deleted ≡ false → HasChild left k)
-            (λ e alive. settled.parent i within e alive) (λ e. absurd (cc)) (λ k lt ni e alive. settled.parent k lt e alive) k u.0 u.1 u.2);
-        stable = rw at4 (All-left (λ e. ¬ IsUnstable e.held) d.kept d.moved (subst (λ es. All (λ (e : Entry). ¬ IsUnstable e.held) es) (sym d.parted.joined) stable));
-        room = rw at4 ((λ _. omega (arith, count.splits)), (λ e. absurd (cc)));
-      };
-      right_tidy = record {
-        held = record { there = omega (arith, as_many, size); holder = ap (λ (m : NodeView). m.holder) at4_half };
-        live = ap (λ (m : NodeView). m.version.deleted) at4_half;
-        marked = ap (λ (m : NodeView). m.version.splitting) at4_half;
-        followers = rw at4_half (λ k f. each4 (λ k m. m.previous ≡ Some h → m.version.deleted ≡ false → x.next ≡ Some k)
-            (λ e. absurd (omega (arith, (arena.nodes.each i within).names.previous h e, as_many))) (λ e. absurd (differ (same_Some _ _ e)))
-            (λ k lt ni e. absurd (omega (arith, (arena.nodes.each k lt).names.previous h e, as_many))) k f.0 f.1 f.2);
-        children = rw at4_half (λ k u. each4 (λ k m. m.parent ≡ Some h → m.version.deleted ≡ false → HasChild right k)
+      apart = record {
+        one_tree = ap (λ a. length a.trees) others ∙ rest.one_tree;
+        differ = differ;
+        free = λ k lt ni nh.
+            let was : k < n = omega (arith, lt, nh, as_many, size) in
+            rw (at4_other k was ni) (rest.free k was);
+        left_tidy = record {
+          held = record { there = omega (arith, within, size); holder = ap (λ (m : NodeView). m.holder) at4 };
+          live = rw at4 live;
+          marked = ap (λ (m : NodeView). m.version.splitting) at4;
+          followers = rw at4 (λ k f. each4 (λ k m. m.previous ≡ Some i → m.version.deleted ≡ false → Some h ≡ Some k)
+              (λ e alive. absurd (let next = settled.previous i within e alive in cc)) (λ e alive. refl)
+              (λ k lt ni e alive. absurd (let next = settled.previous k lt e alive in cc)) k f.0 f.1 f.2);
+          stable = rw at4 (All-left (λ e. ¬ IsUnstable e.held) d.kept d.moved (subst (λ es. All (λ (e : Entry). ¬ IsUnstable e.held) es) (sym d.parted.joined) stable));
+          room = rw at4 ((λ _. omega (arith, count.splits)), (λ e. absurd (cc)));
+        };
+        right_tidy = record {
+          held = record { there = omega (arith, as_many, size); holder = ap (λ (m : NodeView). m.holder) at4_half };
+          live = ap (λ (m : NodeView). m.version.deleted) at4_half;
+          marked = ap (λ (m : NodeView). m.version.splitting) at4_half;
+          followers = rw at4_half (λ k f. each4 (λ k m. m.previous ≡ Some h → m.version.deleted ≡ false → x.next ≡ Some k)
+              (λ e. absurd (omega (arith, (arena.nodes.each i within).names.previous h e, as_many))) (λ e. absurd (differ (same_Some _ _ e)))
+              (λ k lt ni e. absurd (omega (arith, (arena.nodes.each k lt).names.previous h e, as_many))) k f.0 f.1 f.2);
+          stable = rw at4_half (All-right (λ e. ¬ IsUnstable e.held) d.kept d.moved (subst (λ es. All (λ (e : Entry). ¬ IsUnstable e.held) es) (sym d.parted.joined) stable));
+          room = rw at4_half ((λ _. omega arith), (λ e. absurd (cc)));
+        };
+        right_children = rw at4_half (λ k u. each4 (λ k m. m.parent ≡ Some h → m.version.deleted ≡ false → HasChild right k)
             (λ e. absurd (omega (arith, (arena.nodes.each i within).names.parent h e, as_many))) (λ e. absurd (cc))
             (λ k lt ni e. absurd (omega (arith, (arena.nodes.each k lt).names.parent h e, as_many))) k u.0 u.1 u.2);
-        stable = rw at4_half (All-right (λ e. ¬ IsUnstable e.held) d.kept d.moved (subst (λ es. All (λ (e : Entry). ¬ IsUnstable e.held) es) (sym d.parted.joined) stable));
-        room = rw at4_half ((λ _. omega arith), (λ e. absurd (cc)));
+        level = rw (at4_half, at4) refl;
+        fence = rw (at4, at4_half) refl;
+        reach = rw (at4_half, at4) refl;
+        exact = rw at4_half settled.reach;
+        above =
+            let from : Holds left (slot_at left 0).slice = rw at4 at (slot_within w.nodes i 0 after.nodes (omega (arith, within, size)) (rw at4 d.some_kept)) in
+            let until : (slot_at left 0).slice < low = rw at3_half at (d.parted.below 0 any_entry d.some_kept) in
+            rw (at4, at4_half) (omega (arith, from.0, until));
+        range =
+            let both : Holds right (slot_at right 0).slice = rw at4_half at (slot_within w.nodes h 0 after.nodes (omega (arith, as_many, size)) (rw at4_half d.some_moved)) in
+            rw at4_half (omega (arith, both.0, both.1));
+        orphan = ap (λ (m : NodeView). m.parent) at4_half;
+        no_root = ap (λ (m : NodeView). m.version.root) at4_half;
+        rooted = rw at4 (settled.rooted live);
+        under = λ p. rw at4 (λ e.
+            let lp = (arena.nodes.each i within).names.parent p e in
+            let child = ((arena.nodes.pairs i p within lp).named live (rest.free p lp)).knows e in
+            let above : p ≢ i = λ same. absurd (omega (arith, (as_child v.nodes p i arena.nodes lp within child).level, ap (λ k. (at v k).level) same)) in
+            rw (at4_other p lp above) child);
       };
-      level = rw (at4_half, at4) refl;
-      fence = rw (at4, at4_half) refl;
-      reach = rw (at4_half, at4) refl;
-      exact = rw at4_half settled.reach;
-      above =
-          let from : Holds left (slot_at left 0).slice = rw at4 at (slot_within w.nodes i 0 after.nodes (omega (arith, within, size)) (rw at4 d.some_kept)) in
-          let until : (slot_at left 0).slice < low = rw at3_half at (d.parted.below 0 any_entry d.some_kept) in
-          rw (at4, at4_half) (omega (arith, from.0, until));
-      range =
-          let both : Holds right (slot_at right 0).slice = rw at4_half at (slot_within w.nodes h 0 after.nodes (omega (arith, as_many, size)) (rw at4_half d.some_moved)) in
-          rw at4_half (omega (arith, both.0, both.1));
-      orphan = ap (λ (m : NodeView). m.parent) at4_half;
-      no_root = ap (λ (m : NodeView). m.version.root) at4_half;
-      rooted = rw at4 (settled.rooted live);
-      under = λ p. rw at4 (λ e.
-          let lp = (arena.nodes.each i within).names.parent p e in
-          let child = ((arena.nodes.pairs i p within lp).named live (rest.free p lp)).knows e in
-          let above : p ≢ i = λ same. absurd (omega (arith, (as_child v.nodes p i arena.nodes lp within child).level, ap (λ k. (at v k).level) same)) in
-          rw (at4_other p lp above) child);
+      children = rw at4 (λ k u. each4 (λ k m. m.parent ≡ Some i → m.version.deleted ≡ false → HasChild left k)
+        (λ e alive. settled.parent i within e alive) (λ e. absurd (cc)) (λ k lt ni e alive. settled.parent k lt e alive) k u.0 u.1 u.2);
     }
+
+  -- with one more key, and without
+  pub halves_with : (w : ArenaView) (e : Entry) → AreHalved (with_entry (at v3 i).slots e) v3.nodes w.nodes i h → w ≡ record v3 { nodes = w.nodes } → IsArena w.nodes w.trees → x.level ≡ 0 → x.next ≡ None → IsStablePair e.held → MayCount x.version → AreHalves w i h
+  halves_with w e d others after level none stable count = are_halves w (with_entry (at v3 i).slots e) d others after level none (all_stable (at v3 i).slots e stable3 stable) count
+
+  pub halves_without : (w : ArenaView) → AreHalved (at v3 i).slots v3.nodes w.nodes i h → w ≡ record v3 { nodes = w.nodes } → IsArena w.nodes w.trees → x.level ≡ 0 → x.next ≡ None → MayCount x.version → AreHalves w i h
+  halves_without w d others after level none count = are_halves w (at v3 i).slots d others after level none stable3 count

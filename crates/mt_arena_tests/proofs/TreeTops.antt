@@ -33,45 +33,45 @@ module _ (v : ArenaView) (j q : ℕ) (arena : IsArena v.nodes v.trees) (h : AreH
   r = at v q
 
   left_there : j < n
-  left_there = h.left_tidy.held.there
+  left_there = h.apart.left_tidy.held.there
 
   right_there : q < n
-  right_there = h.right_tidy.held.there
+  right_there = h.apart.right_tidy.held.there
 
   was_root : IsRoot l
   was_root =
       let home = arena.forest.homes j l.tree left_there (arena.forest.tree_there j left_there) in
-      home.root_is (home.root_named refl h.left_tidy.live (h.rooted none)) (home.standing refl h.left_tidy.live)
+      home.root_is (home.root_named refl h.apart.left_tidy.live (h.apart.rooted none)) (home.standing refl h.apart.left_tidy.live)
 
   no_end : r.high ≡ None
-  no_end = sym h.exact ∙ h.reach ∙ was_root.reach
+  no_end = sym h.apart.exact ∙ h.apart.reach ∙ was_root.reach
 
   pub may_grow : MayGrow v j q 5
   may_grow = record {
     grows = record {
       left_there = left_there;
       right_there = right_there;
-      differ = h.differ;
-      left_live = h.left_tidy.live;
-      right_live = h.right_tidy.live;
+      differ = h.apart.differ;
+      left_live = h.apart.left_tidy.live;
+      right_live = h.apart.right_tidy.live;
       left_parentless = none;
-      right_parentless = h.orphan;
-      right_tree = of_top v q arena h.one_tree right_there ∙ sym (of_top v j arena h.one_tree left_there);
-      right_level = h.level;
+      right_parentless = h.apart.orphan;
+      right_tree = of_top v q arena h.apart.one_tree right_there ∙ sym (of_top v j arena h.apart.one_tree left_there);
+      right_level = h.apart.level;
       left_low = was_root.low;
-      fence = h.fence;
+      fence = h.apart.fence;
       right_high = no_end;
-      right_reach = h.reach ∙ was_root.reach;
-      above = omega (arith, h.above, was_root.low);
-      below = subst (λ o. r.low < end_of o) no_end h.range;
+      right_reach = h.apart.reach ∙ was_root.reach;
+      above = omega (arith, h.apart.above, was_root.low);
+      below = subst (λ o. r.low < end_of o) no_end h.apart.range;
     };
-    held = h.left_tidy.held;
-    right_held = h.right_tidy.held;
-    mine = open_of v.trees l.tree 5 (tree_live v j arena h.one_tree left_there);
-    marked = h.left_tidy.marked;
-    right_marked = h.right_tidy.marked;
-    is_root = h.rooted none;
-    no_root = h.no_root;
+    held = h.apart.left_tidy.held;
+    right_held = h.apart.right_tidy.held;
+    mine = open_of v.trees l.tree 5 (tree_live v j arena h.apart.one_tree left_there);
+    marked = h.apart.left_tidy.marked;
+    right_marked = h.apart.right_tidy.marked;
+    is_root = h.apart.rooted none;
+    no_root = h.apart.no_root;
   }
 
   -- the nodes as the calls go on
@@ -114,7 +114,7 @@ module _ (v : ArenaView) (j q : ℕ) (arena : IsArena v.nodes v.trees) (h : AreH
   reads1 : Reads v1.nodes all j q n low high top
   reads1 = record {
     size = length-append ws (top ∷ []) ∙ ap (λ k. k + 1) as_many ∙ sym one_more;
-    at_i = before ws top j (omega (arith, left_there, as_many)) ∙ there (set xs j low) q j high h.differ ∙ here xs j low left_there;
+    at_i = before ws top j (omega (arith, left_there, as_many)) ∙ there (set xs j low) q j high h.apart.differ ∙ here xs j low left_there;
     at_j = before ws top q (omega (arith, right_there, as_many)) ∙ here (set xs j low) q high (omega (arith, right_there, length-set xs j low));
     at_q = ap (node_at (ws ++ top ∷ [])) (sym as_many) ∙ last ws top;
     others = λ k lt nj nq nn.
@@ -124,12 +124,12 @@ module _ (v : ArenaView) (j q : ℕ) (arena : IsArena v.nodes v.trees) (h : AreH
 
   reads2 : Reads v2.nodes all j q n low high (unlocked top)
   reads2 =
-      let after = reads_q v1.nodes all j q n low high top h.differ jn qn reads1 (unlocked (at v1 n)) (omega (arith, one_more)) in
+      let after = reads_q v1.nodes all j q n low high top h.apart.differ jn qn reads1 (unlocked (at v1 n)) (omega (arith, one_more)) in
       record { size = after.size; at_i = after.at_i; at_j = after.at_j; at_q = after.at_q ∙ ap unlocked reads1.at_q; others = after.others }
 
   reads3 : Reads v3.nodes all j q n (unlocked low) high (unlocked top)
   reads3 =
-      let after = reads_i v2.nodes all j q n low high (unlocked top) h.differ jn qn reads2 (unlocked (at v2 j)) (omega (arith, left_there, one_more)) in
+      let after = reads_i v2.nodes all j q n low high (unlocked top) h.apart.differ jn qn reads2 (unlocked (at v2 j)) (omega (arith, left_there, one_more)) in
       record { size = after.size; at_i = after.at_i ∙ ap unlocked reads2.at_i; at_j = after.at_j; at_q = after.at_q; others = after.others }
 
   was_there : (k : ℕ) → k < length all → k ≢ n → k < n
@@ -158,27 +158,27 @@ module _ (v : ArenaView) (j q : ℕ) (arena : IsArena v.nodes v.trees) (h : AreH
 
   pub settled2 : IsSettled v2.nodes j (at v2 j)
   settled2 = subst (λ (m : NodeView). IsSettled v2.nodes j m) (sym reads2.at_i) (settled_of v2.nodes j low
-    (λ k f. h.left_tidy.followers k (back2 j k f)) (λ _ _. h.left_tidy.live)
+    (λ k f. h.apart.left_tidy.followers k (back2 j k f)) (λ _ _. h.apart.left_tidy.live)
     (λ k u. elim (up2 j k u) [
       | inl new ↦ absurd (jn (sym new))
-      | inr old ↦ h.left_tidy.children k old
+      | inr old ↦ h.children k old
     ])
-    refl h.left_tidy.stable (λ _ orphan. absurd (cc)))
+    refl h.apart.left_tidy.stable (λ _ orphan. absurd (cc)))
 
   pub settled3 : IsSettled v3.nodes q (at v3 q)
   settled3 = subst (λ (m : NodeView). IsSettled v3.nodes q m) (sym reads3.at_j) (settled_of v3.nodes q high
-    (λ k f. h.right_tidy.followers k (back3 q k f)) (λ _ _. h.right_tidy.live)
+    (λ k f. h.apart.right_tidy.followers k (back3 q k f)) (λ _ _. h.apart.right_tidy.live)
     (λ k u. elim (up3 q k u) [
       | inl new ↦ absurd (qn (sym new))
-      | inr old ↦ h.right_tidy.children k old
+      | inr old ↦ h.apart.right_children k old
     ])
-    h.exact h.right_tidy.stable (λ _ orphan. absurd (cc)))
+    h.apart.exact h.apart.right_tidy.stable (λ _ orphan. absurd (cc)))
 
   pub rest4 : IsAtRest (with_node v3 q (unlocked (at v3 q)))
   rest4 =
-      let after = reads_j v3.nodes all j q n (unlocked low) high (unlocked top) h.differ jn qn reads3 (unlocked (at v3 q)) (omega (arith, right_there, one_more)) in
+      let after = reads_j v3.nodes all j q n (unlocked low) high (unlocked top) h.apart.differ jn qn reads3 (unlocked (at v3 q)) (omega (arith, right_there, one_more)) in
       record {
-        one_tree = length-set v.trees l.tree (record (tree_of v j) { root = n }) ∙ h.one_tree;
+        one_tree = length-set v.trees l.tree (record (tree_of v j) { root = n }) ∙ h.apart.one_tree;
         free = reads_all (λ k m. m.holder ≡ None) (set v3.nodes q (unlocked (at v3 q))) all j q n (unlocked low) (unlocked (at v3 q)) (unlocked top) after refl refl refl
-            (λ k lt nj nq nn. rw (before xs top k (was_there k lt nn)) (h.free k (was_there k lt nn) nj nq));
+            (λ k lt nj nq nn. rw (before xs top k (was_there k lt nn)) (h.apart.free k (was_there k lt nn) nj nq));
       }

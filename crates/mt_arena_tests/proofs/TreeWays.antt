@@ -1,12 +1,12 @@
 -- From the root down to the border node that has a slice in its range, in a tree of which nobody holds a node.
-use Rattle.std.proofs.Common.{◌≡◌, ◌≢◌, ℕ, ◌+◌, ◌<◌, ◌≤◌, List, [], ◌∷◌, length, get_or, Option, Some, None, false, sym, ap, subst, ◌∙◌, arith}
+use Rattle.std.proofs.Common.{◌≡◌, ◌≢◌, ℕ, ◌+◌, ◌<◌, ◌≤◌, List, [], ◌∷◌, length, get_or, Option, Some, None, false, refl, sym, ap, subst, ◌∙◌, arith}
 use Rattle.mt_interior.specs.Node.{InteriorNode}
 use Rattle.mt_interior.specs.Places.{place_of}
 use Rattle.mt_interior.specs.Fences.{end_of, HoldsSlice, IsWithinBounds, bounds as bounds_within}
 use Rattle.mt_interior.proofs.CallerLemmas.{place_of-le-length}
 use Rattle.mt_arena.specs.declared.tree.Standing.TheVariants.{Live, Dead}
 use Rattle.mt_arena.specs.NodeView.{NodeView, interior_view}
-use Rattle.mt_arena.specs.Nodes.{Holds, HasChild, IsChild}
+use Rattle.mt_arena.specs.Nodes.{Holds, HasChild, IsChild, bounds}
 use Rattle.mt_arena.specs.Forests.{tree_at, IsRoot}
 use Rattle.mt_arena.specs.Arena.{ArenaView, IsArena}
 use Rattle.mt_arena.specs.Accesses.{at}
@@ -53,16 +53,18 @@ module _ (v : ArenaView) (k slice child : ℕ) (i : InteriorNode) (tree level : 
       }
 
   child_there : child < length v.nodes
+  unfolding below
   child_there = subst (λ c. c < length v.nodes) below.is ((arena.nodes.each k reached.there).names.children place below.in_range)
 
   child_is_one : IsChild (at v k) place (at v child)
+  unfolding below
   child_is_one = as_child v.nodes k child arena.nodes reached.there child_there below
 
   -- the child where the slice belongs has it
   pub at_child : IsReached v child slice
   at_child =
-      let parts = rw (← is) at within in
-      let part = parts reached.holds in
+      let range : HoldsSlice i slice = subst (λ (n : NodeView). Holds n slice) is reached.holds in
+      let part = subst (λ (n : NodeView). IsWithinBounds (bounds n) (place_of n.separators slice) slice) (sym is) (within range) in
       let whole = (settled_free v.nodes child child_there arena.nodes (rest.free child child_there)).reach in
       record {
         there = child_there;

@@ -1,5 +1,5 @@
 -- A tree between two keys, and one of whose nodes an operation has split.
-use Rattle.std.specs.Prelude.{◌≡◌, ◌≢◌, ℕ, ◌<◌, ◌≤◌, true, false, List, [], length, Some, None}
+use Rattle.std.specs.Prelude.{◌≡◌, ◌≢◌, ℕ, ◌<◌, ◌≤◌, ◌⊎◌, true, false, List, [], length, Some, None, slice_index}
 use Rattle.std.specs.List.{All}
 use Rattle.mt_version.specs.Parts.{Parts}
 use Rattle.mt_version.specs.Changes.{CanUnlock}
@@ -11,7 +11,7 @@ use Rattle.mt_border.specs.Contents.{HasKey}
 use Rattle.mt_arena.specs.NodeView.{NodeView}
 use Rattle.mt_arena.specs.NodeFacts.{IsUnstable}
 use Rattle.mt_arena.specs.Nodes.{HasRange, HasChild}
-use Rattle.mt_arena.specs.Lags.{AreFollowers, AreChildren}
+use Rattle.mt_arena.specs.Lags.{IsUnder, AreFollowers, AreChildren}
 use Rattle.mt_arena.specs.Ways.{BelongsIn}
 use Rattle.mt_arena.specs.Arena.{ArenaView}
 use Rattle.mt_arena.specs.Accesses.{at, IsHeld}
@@ -35,23 +35,30 @@ pub record MayTake (v : ArenaView) (k : ℕ) (key : Bytes) (e : Entry) : Type 0 
   pub stable : IsStablePair e.held
   pub count : MayCount (at v k).version
 
--- operation 5 holds the node and is splitting it, and nothing lags behind it but its range in its parent
+-- operation 5 holds the node and is splitting it, and no neighbour lags behind it
 pub record IsTidy (v : ArenaView) (k : ℕ) : Type 0 where
   pub held : IsHeld v k 5
   pub live : (at v k).version.deleted ≡ false
   pub marked : (at v k).version.splitting ≡ true
   pub followers : AreFollowers v.nodes k (at v k).next
-  pub children : AreChildren v.nodes k (at v k)
   pub stable : All (λ e. ¬ IsUnstable e.held) (at v k).slots
   pub room : CanUnlock (at v k).version
 
+-- the number stands in a row, at this place or behind
+pub record IsFrom (row : List ℕ) (start k : ℕ) : Type 0 where
+  pub place : ℕ
+  pub from : start ≤ place
+  pub in_range : place < length row
+  pub is : slice_index row place ≡ k
+
 -- these are the halves of one node: the right one is in no parent yet, and nobody holds another node
-pub record AreHalves (v : ArenaView) (left right : ℕ) : Type 0 where
+pub record AreApart (v : ArenaView) (left right : ℕ) : Type 0 where
   pub one_tree : length v.trees ≡ 1
   pub differ : left ≢ right
   pub free : (k : ℕ) → k < length v.nodes → k ≢ left → k ≢ right → (at v k).holder ≡ None
   pub left_tidy : IsTidy v left
   pub right_tidy : IsTidy v right
+  pub right_children : AreChildren v.nodes right (at v right)
   pub level : (at v right).level ≡ (at v left).level
   pub fence : (at v left).high ≡ Some (at v right).low
   pub reach : (at v right).reach ≡ (at v left).reach
@@ -63,3 +70,14 @@ pub record AreHalves (v : ArenaView) (left right : ℕ) : Type 0 where
   -- the left one is a root, or a child of its parent
   pub rooted : (at v left).parent ≡ None → (at v left).version.root ≡ true
   pub under : (p : ℕ) → (at v left).parent ≡ Some p → HasChild (at v p) left
+
+-- and no child of theirs names the wrong one as its parent
+pub record AreHalves (v : ArenaView) (left right : ℕ) : Type 0 where
+  pub apart : AreApart v left right
+  pub children : AreChildren v.nodes left (at v left)
+
+-- some children of the right one still name the left one: none of the first ones, so many
+pub record AreTold (v : ArenaView) (left right count : ℕ) : Type 0 where
+  pub apart : AreApart v left right
+  pub above : 0 < (at v right).level
+  pub lag : (k : ℕ) → IsUnder v.nodes left k → HasChild (at v left) k ⊎ IsFrom (at v right).children count k

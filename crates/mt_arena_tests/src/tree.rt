@@ -8,7 +8,7 @@ ghost use Rattle.mt_border.specs.Entry.{IsEntry, IsStablePair};
 ghost use Rattle.mt_border.specs.Contents.{HasKey};
 ghost use Rattle.mt_arena.specs.Ways.{BelongsIn};
 ghost use Rattle.mt_arena.specs.Accesses.{at};
-ghost use Rattle.mt_arena_tests.specs.TreeStory.{IsAtRest, AreHalves, MayCount, MayTake};
+ghost use Rattle.mt_arena_tests.specs.TreeStory.{IsAtRest, AreHalves, AreTold, MayCount, MayTake};
 
 use crate::arena::entry_of;
 use mt_arena::laws::linked_from_the_top;
@@ -98,6 +98,27 @@ fn split(
     Ok(half)
 }
 
+// Splits it where it would be split with one more key, which is left out.
+fn split_without(arena: &mut Arena, node: usize, key: &StoredKey) -> Result<usize, AllocError>
+    requires rest { IsAtRest arena.old }
+    requires belongs { BelongsIn arena.old.nodes arena.old.trees key.now 0 node }
+    requires missing { IsMissing (at arena.old node).slots (slice_of key.now 0) (mark_of key.now 0) }
+    requires count { MayCount (at arena.old node).version }
+    requires full { length (at arena.old node).slots ≡ 15 }
+    requires last { (at arena.old node).next ≡ None }
+    ensures { IfOk result (λ half. AreHalves arena.new node half) }
+{
+    arena.facts();
+    let (slice, mark) = (key.slice(0), key.mark(0));
+    let low = arena.border(node).separator(slice, mark);
+    arena.lock(node, 5);
+    arena.mark_splitting(node, 5);
+    let half = arena.alloc_node(node, low, 5)?;
+    arena.split_border_without(node, half, slice, mark, 5);
+    arena.facts();
+    Ok(half)
+}
+
 // Puts a right half into its parent, and gives all locks back.
 fn link_up(arena: &mut Arena, parent: usize, left: usize, right: usize)
     requires halves { AreHalves arena.old left right }
@@ -129,25 +150,79 @@ fn grow(arena: &mut Arena, left: usize, right: usize) -> Result<(), AllocError>
     Ok(())
 }
 
+// Tells the children of a right half, which was split off, who their parent is.
+fn tell_children(arena: &mut Arena, left: usize, right: usize)
+    requires { AreTold arena.old left right 0 }
+    ensures { AreHalves arena.new left right }
+{
+    let count = arena.interior(right).children().len();
+    for place in 0..count {
+        tell_child(arena, left, right, place);
+    }
+}
+
+// Tells the child at a place.
+fn tell_child(arena: &mut Arena, left: usize, right: usize, place: usize)
+    requires told { AreTold arena.old left right place }
+    requires there { place < length (at arena.old right).children }
+    ensures told { AreTold arena.new left right (place + 1) }
+    ensures children { (at arena.new right).children ≡ (at arena.old right).children }
+{
+    arena.facts();
+    let child = arena.interior(right).children()[place];
+    arena.set_parent(child, right, 5);
+}
+
+// Splits a full parent as a right half comes to it. The operation holds the halves of the parent then.
+fn split_up(
+    arena: &mut Arena,
+    parent: usize,
+    left: usize,
+    right: usize,
+) -> Result<usize, AllocError>
+    requires halves { AreHalves arena.old left right }
+    requires parent { (at arena.old left).parent ≡ Some parent }
+    requires count { MayCount (at arena.old parent).version }
+    requires full { length (at arena.old parent).separators ≡ 15 }
+    requires inner { (at arena.old parent).next ≡ None }
+    ensures { IfOk result (λ half. AreHalves arena.new parent half) }
+{
+    arena.facts();
+    arena.lock(parent, 5);
+    arena.set_parent(right, parent, 5);
+    let half = arena.split_interior(parent, left, right, 5)?;
+    arena.unlock(left, 5);
+    arena.unlock(right, 5);
+    arena.facts();
+    tell_children(arena, parent, half);
+    Ok(half)
+}
+
 // Has the halves of a node join the tree: in their parent, or under a new root.
 fn join(
     rt: &impl Abort,
     arena: &mut Arena,
-    left: usize,
-    right: usize,
+    mut left: usize,
+    mut right: usize,
 ) -> Result<(), AllocError>
     requires { AreHalves arena.old left right }
     ensures { OnOk result (IsAtRest arena.new) }
 {
-    arena.facts();
-    let parent = match arena.node(left).parent() {
-        Some(parent) => parent,
-        None => return grow(arena, left, right),
-    };
-    assert!(rt; may_count(arena, parent));
-    assert!(rt; !arena.interior(parent).is_full());
-    link_up(arena, parent, left, right);
-    Ok(())
+    for _level in 0..8 {
+        arena.facts();
+        let parent = match arena.node(left).parent() {
+            Some(parent) => parent,
+            None => return grow(arena, left, right),
+        };
+        assert!(rt; may_count(arena, parent));
+        if !arena.interior(parent).is_full() {
+            link_up(arena, parent, left, right);
+            return Ok(());
+        }
+        right = split_up(arena, parent, left, right)?;
+        left = parent;
+    }
+    panic!(rt; "the tree is too high")
 }
 
 // Puts in the pair of a missing key, and splits what is full.
@@ -172,6 +247,20 @@ fn put(
     }
     assert!(rt; arena.border(node).next().is_none());
     let half = split(arena, node, key, entry)?;
+    join(rt, arena, node, half)
+}
+
+// Splits the full node in which a missing key belongs, and leaves the key out.
+fn put_aside(rt: &impl Abort, arena: &mut Arena, key: &StoredKey) -> Result<(), AllocError>
+    requires rest { IsAtRest arena.old }
+    ensures { OnOk result (IsAtRest arena.new) }
+{
+    let node = border_of(arena, key);
+    assert!(rt; misses(arena, node, key));
+    assert!(rt; may_count(arena, node));
+    assert!(rt; arena.border(node).is_full());
+    assert!(rt; arena.border(node).next().is_none());
+    let half = split_without(arena, node, key)?;
     join(rt, arena, node, half)
 }
 
@@ -210,15 +299,25 @@ fn put_all(
     Ok(())
 }
 
+// Whether so many keys stand where a descent ends, and the next one does not.
+fn has_all(rt: &impl Abort, alloc: Global, arena: &Arena, until: u8) -> Result<bool, Fail>
+    requires { IsAtRest arena.now }
+{
+    for name in 0..=until {
+        let key = StoredKey::new(alloc, 7, &[name])?;
+        if stamp_of(arena, &key).is_some() != (name < until) {
+            return Ok(false);
+        }
+    }
+    Ok(true)
+}
+
 #[test]
-fn full_borders_are_split(rt: HostRuntime) -> Result<(), Fail> {
+fn full_nodes_are_split(rt: HostRuntime) -> Result<(), Fail> {
     let alloc = rt.alloc();
     let mut arena = Arena::new(alloc)?;
+    for until in [23, 39, 151] {
     put_all(&rt, alloc, &mut arena, 0, 100)?;
-    for name in 0..100 {
-        let key = StoredKey::new(alloc, 7, &[name])?;
-        let found = stamp_of(&arena, &key);
-        assert!(rt; found.is_some());
     }
     Ok(())
 }

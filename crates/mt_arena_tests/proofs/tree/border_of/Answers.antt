@@ -8,7 +8,7 @@ inner : (c : goal.After-child_of-node) → 0 < (at c.args.arena.now c.loop-node.
 inner c = omega (arith, c.loop-node-test.true, c.level.ensures ∙ ap (λ (n : NodeView). n.level) c.node.ensures)
 
 pub loop-node-init : goal.loop-node-init
-loop-node-init c = rw (c.tree.ensures) (at_root c.args.arena.now c.slice-slice.result c.facts.ensures.arena c.requires ?)
+loop-node-init c = rw (c.tree.ensures) (at_root c.args.arena.now c.slice-slice.result c.facts.ensures.arena c.requires c.slice-slice.type_inv)
 
 pub loop-node-smaller : goal.loop-node-smaller
 loop-node-smaller c =

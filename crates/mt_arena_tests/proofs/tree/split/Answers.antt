@@ -3,7 +3,7 @@ use Rattle.mt_border.specs.Split.{IsSeparator, slices_with}
 use Rattle.mt_arena.specs.NodeView.{NodeView}
 use Rattle.mt_arena.specs.Accesses.{at}
 use Rattle.mt_arena.proofs.Settled.{settled_free}
-use Rattle.mt_arena_tests.proofs.TreeSplits.{all_stable, may_split, stable3, may_place, are_halves}
+use Rattle.mt_arena_tests.proofs.TreeSplits.{may_split, may_place, halves_with}
 use Rattle.mt_arena_tests.proofs.tree.split.Goals as goal
 
 pub split_border-requires-clause-may : goal.split_border-requires-clause-may
@@ -30,5 +30,4 @@ returns c =
     let halved = rw (c.in_ok-half.ensures.number, c.in_ok-half.ensures.is, c.mark_splitting.ensures.is, c.lock.ensures.is) at c.split_border.ensures.nodes in
     let others = rw (c.in_ok-half.ensures.is, c.mark_splitting.ensures.is, c.lock.ensures.is) at c.split_border.ensures.others in
     rw (c.in_ok-half.ensures.number, c.mark_splitting.ensures.is, c.lock.ensures.is)
-    (are_halves v c.args.node low c.facts.ensures.arena c.requires.rest there live c.split_border.new.self _ halved others c.facts-2.ensures.arena may.belongs.border.level c.requires.last
-      (all_stable _ c.args.entry (stable3 v c.args.node low c.facts.ensures.arena c.requires.rest there live) may.stable) may.count)
+    (halves_with v c.args.node low c.facts.ensures.arena c.requires.rest there live c.split_border.new.self c.args.entry halved others c.facts-2.ensures.arena may.belongs.border.level c.requires.last may.stable may.count)
