@@ -5,3 +5,4 @@ pub mod TreeLinks
 pub mod TreeTops
 pub mod TreeSplits
 pub mod TreeWays
+pub mod TreeTold

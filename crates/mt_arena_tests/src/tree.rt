@@ -1,7 +1,7 @@
 //! A tree that grows: keys come to border nodes, full ones are split, their right halves come to their
 //! parents, and these are split in turn. Between two keys nobody holds a node.
 
-ghost use Rattle.std.specs.Prelude.{◌≡◌, ◌<◌, ◌≤◌, ◌-◌, [], length, None, Some, IfOk, IfSome, IsTrue, OnOk};
+ghost use Rattle.std.specs.Prelude.{◌≡◌, ◌+◌, ◌<◌, [], length, None, Some, IfOk, IfSome, IsTrue, OnOk};
 ghost use Rattle.mt_slices.specs.Slices.{slice_of, mark_of};
 ghost use Rattle.mt_border.specs.Entries.{IsMissing};
 ghost use Rattle.mt_border.specs.Entry.{IsEntry, IsStablePair};
