@@ -5,10 +5,11 @@ use Rattle.std.proofs.lemmas.List.{length-set}
 use Rattle.mt_interior.specs.Fences.{end_of}
 use Rattle.mt_arena.specs.NodeView.{NodeView, node_at}
 use Rattle.mt_arena.specs.Nodes.{AreNodes, IsPair}
-use Rattle.mt_arena.specs.Ranges.{IsRanged, AreRanged}
+use Rattle.mt_arena.specs.Ranges.{AreRanged}
 use Rattle.mt_arena.specs.Edits.{retired, IsLeft}
 use Rattle.mt_arena.specs.Collapses.{Collapses, crowned}
-use Rattle.mt_arena.proofs.Pairs.{are_set, here, there, nodes_set}
+use Rattle.mt_arena.proofs.Pairs.{are_set, here, there}
+use Rattle.mt_arena.proofs.Ranged.{no_wait, stays, ranged_set, ranged_retired}
 use Rattle.mt_arena.proofs.Ranges.{one_parent}
 use Rattle.mt_arena.proofs.Retire.{nodes_retired}
 
@@ -17,7 +18,7 @@ some_is : (o : Option ℕ) (k : ℕ) → o ≡ Some k → o ≢ None
 some_is o k e none = absurd (cc)
 
 -- a flag that is not false
-is_true : (b : Bool) → (b ≡ false → ⊥) → b ≡ true
+pub is_true : (b : Bool) → (b ≡ false → ⊥) → b ≡ true
 is_true true live = refl
 is_true false live = absurd (live refl)
 
@@ -26,7 +27,7 @@ pub root_left : (xs : List NodeView) (i : ℕ) → i < length xs → AreNodes xs
 root_left xs i within nodes ranged low parentless = record {
   nobodys_next = λ k lt e. is_true _ (λ live.
       let high = ap end_of (((nodes.pairs k i lt within).next e).meets) in
-      let range = (ranged k lt).next (some_is _ i e) in
+      let range = (ranged.each k lt).next (some_is _ i e) in
       omega (arith, high, range, low));
   nobodys_child = λ k a lt la e. is_true _ (λ live. ((nodes.pairs k i lt within).child a la e live).knows parentless);
 }
@@ -95,9 +96,14 @@ nodes_collapsed xs i q nodes ranged f =
           other (one_parent xs q k i f.child.place a nodes f.root_there (omega (arith, lk, size)) f.child_there f.child.live live f.child.in_range f.child.is la e)))
     ]))
 
-pub ranged_collapsed : (xs : List NodeView) (i q : ℕ) → AreRanged xs → Collapses xs i q → AreRanged (set (set xs q (retired (node_at xs q))) i (crowned (node_at xs i)))
-ranged_collapsed xs i q ranged f =
+pub ranged_collapsed : (xs : List NodeView) (i q : ℕ) → AreNodes xs → AreRanged xs → Collapses xs i q → AreRanged (set (set xs q (retired (node_at xs q))) i (crowned (node_at xs i)))
+ranged_collapsed xs i q nodes ranged f =
     let p = node_at xs q in
-    nodes_set IsRanged (set xs q (retired p)) i (crowned (node_at xs i)) (omega (arith, f.child_there, length-set xs q (retired p)))
-    (nodes_set IsRanged xs q (retired p) f.root_there ranged (record { next = (ranged q f.root_there).next; parent = (ranged q f.root_there).parent; unmarked = λ whole live. absurd (cc) }))
-    (record { next = (ranged i f.child_there).next; parent = λ some. absurd (some refl); unmarked = (ranged i f.child_there).unmarked })
+    let x = node_at xs i in
+    let c = (nodes.pairs q i f.root_there f.child_there).child f.child.place f.child.in_range f.child.is f.child.live in
+    let at_i : node_at (set xs q (retired p)) i ≡ x = there xs q i (retired p) (differ_from xs i q nodes f) in
+    let h = ranged.each i f.child_there in
+    let gone = ranged_retired xs q f.root_there ranged (λ k lk e waits. no_wait (node_at xs k) ((ranged.each k lk).interior (omega (arith, ((ranged.ties k q lk f.root_there).left e waits).level, c.level)) waits.0) waits) in
+    ranged_set (set xs q (retired p)) i (crowned x) (omega (arith, f.child_there, length-set xs q (retired p))) gone
+    (record { next = h.next; parent = λ some. absurd (some refl); unmarked = h.unmarked; interior = h.interior; named = h.named; fits = h.fits })
+    (rw at_i (stays x (crowned x) refl refl (λ range. range) refl refl refl)) (rw at_i refl) (rw at_i (λ waits. (waits, refl)))

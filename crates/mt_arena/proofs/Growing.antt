@@ -12,22 +12,25 @@ use Rattle.mt_arena.specs.declared.retired.Retired.{Retired}
 use Rattle.mt_arena.specs.NodeView.{NodeView, node_at}
 use Rattle.mt_arena.specs.Forests.{IsForest, HaveKeys, tree_at, layer_of}
 use Rattle.mt_arena.specs.Layers.{AreLayered, LeadsTo, HasLink, slot_at}
-use Rattle.mt_arena.specs.Guarantee.{Changes}
-use Rattle.mt_arena.specs.Edits.{fresh_half, fresh_root, retired}
+use Rattle.mt_arena.specs.Nodes.{HasRange}
+use Rattle.mt_arena.specs.Guarantee.{Changes, NodesGuarantee, PointsOnly}
+use Rattle.mt_arena.specs.Edits.{splitting, fresh_half, fresh_root, retired}
 use Rattle.mt_arena.specs.Contents.{content}
 use Rattle.mt_arena.specs.Arena.{IsArena, ArenaInvariant, ArenaView, Guarantee}
 use Rattle.mt_arena.specs.Accesses.{at, IsOpen, with_node, with_half, with_tree, MayRetire}
 use Rattle.mt_arena.proofs.Pairs.{here, there, last, before}
 use Rattle.mt_arena.proofs.Push.{nodes_half, nodes_root}
 use Rattle.mt_arena.proofs.Retire.{nodes_retired}
-use Rattle.mt_arena.proofs.Ranged.{ranged_turned, ranged_half, ranged_root}
+use Rattle.mt_arena.proofs.Ranged.{ranged_retired, ranged_root}
+use Rattle.mt_arena.proofs.RangedEdits.{ranged_half}
 use Rattle.mt_arena.proofs.Homes.{forest_push}
 use Rattle.mt_arena.proofs.Trees.{forest_tree, made, last_tree, before_tree}
 use Rattle.mt_arena.proofs.LinkEdits.{layers_empty, no_links}
 use Rattle.mt_arena.proofs.Retiring.{retired_push, retired_more}
-use Rattle.mt_arena.proofs.Guarantees.{guarantee_push, guarantee_tree, points_push}
-use Rattle.mt_arena.proofs.ContentQuiet.{stands_pushed, stands_tree_pushed}
-use Rattle.mt_arena.proofs.Locks.{not_others, is_held}
+use Rattle.mt_arena.proofs.Guarantees.{guarantee_on, guarantee_set, guarantee_push, guarantee_tree, points_set, points_push}
+use Rattle.mt_arena.proofs.ContentQuiet.{content-set, stands_pushed, stands_tree_pushed}
+use Rattle.mt_arena.proofs.Locks.{not_others, is_held, sound_splitting, changes_splitting}
+use Rattle.mt_arena.proofs.Naming.{points_on}
 use Rattle.mt_arena.proofs.Steps.{step_set}
 
 -- a link stays where a node is added
@@ -56,29 +59,60 @@ layers_push xs trees y none layers = record {
 pub no_keys : (prefix : Bytes) (slots : List Entry) → slots ≡ [] → HaveKeys prefix slots
 no_keys prefix slots none = subst (HaveKeys prefix) (sym none) record { keys = λ k d inside. absurd (omega arith); begun = λ k d inside. absurd (omega arith) }
 
--- a right half more, beside a live node
-pub sound_half : (xs : List NodeView) (trees : List Tree) (gone : List Retired) (room more i low op : ℕ) → i < length xs → ArenaInvariant xs trees gone room → length xs + 1 ≤ more → (node_at xs i).version.deleted ≡ false → (node_at xs i).level ≡ 0
-    → ArenaInvariant (xs ++ fresh_half (node_at xs i) low op ∷ []) trees gone more
-sound_half xs trees gone room more i low op within sound enough live level =
-    let x = node_at xs i in
-    let y = fresh_half x low op in
-    let forest = sound.arena.forest in
-    let there_is = forest.tree_there i within in
-    record {
-      arena = record {
-        nodes = nodes_half xs i low op level sound.arena.nodes;
-        ranged = ranged_half xs x low op sound.arena.ranged;
-        forest = forest_push xs trees y forest there_is ((forest.homes i x.tree within there_is).standing refl live) refl (no_keys (tree_at trees x.tree).prefix y.slots refl);
-        layers = layers_push xs trees y refl sound.arena.layers;
-      };
-      retired = retired_push xs gone y sound.retired refl;
-      enough = omega (arith, length-append xs (y ∷ []), enough);
-    }
+-- a right half more, beside a live border node that is marked
+module _ (xs : List NodeView) (i low op : ℕ) (within : i < length xs) (held : (node_at xs i).holder ≡ Some op) (live : (node_at xs i).version.deleted ≡ false) (level : (node_at xs i).level ≡ 0) where
+  abbrev m : NodeView
+  m = splitting (node_at xs i)
 
-pub step_half : (v : ArenaView) (i low op : ℕ) → IsOpen v i op → Guarantee op v (with_half v i low op)
-step_half v i low op mine = record {
-  nodes = guarantee_push op v.nodes v.trees (fresh_half (at v i) low op) mine (λ q other e. other (same_Some q op (sym e)));
-  points = points_push op v.nodes (fresh_half (at v i) low op) refl refl;
+  abbrev ys : List NodeView
+  ys = set xs i m
+
+  abbrev half : NodeView
+  half = fresh_half (node_at xs i) i low op
+
+  size_y : length ys ≡ length xs
+  size_y = length-set xs i m
+
+  at_m : node_at ys i ≡ m
+  at_m = here xs i m within
+
+  pub sound_half : (trees : List Tree) (gone : List Retired) (room more : ℕ) → ArenaInvariant xs trees gone room → length xs + 1 ≤ more → HasRange (node_at xs i) → ArenaInvariant (ys ++ half ∷ []) trees gone more
+  sound_half trees gone room more sound enough range =
+      let marked = sound_splitting xs trees gone room i within sound (is_held op (node_at xs i) held) in
+      let forest = marked.arena.forest in
+      let x = node_at xs i in
+      let there_is = sound.arena.forest.tree_there i within in
+      record {
+        arena = record {
+          nodes = nodes_half ys x i low op (omega (arith, within, size_y)) (rw at_m (is_held op x held)) level marked.arena.nodes;
+          ranged = ranged_half xs i low op within marked.arena.nodes sound.arena.ranged live level range held;
+          forest = forest_push ys trees half forest there_is ((sound.arena.forest.homes i x.tree within there_is).standing refl live) refl (no_keys (tree_at trees x.tree).prefix [] refl);
+          layers = layers_push ys trees half refl marked.arena.layers;
+        };
+        retired = retired_push ys gone half marked.retired refl;
+        enough = omega (arith, length-append ys (half ∷ []), size_y, enough);
+      }
+
+  pub guarantee_half : (trees : List Tree) → IsForest xs trees → ((q : ℕ) → (tree_at trees (node_at xs i).tree).standing ≡ Made q → q ≡ op) → NodesGuarantee op xs (ys ++ half ∷ []) trees trees
+  guarantee_half trees forest mine =
+      guarantee_on op xs ys (ys ++ half ∷ []) trees trees trees
+      (guarantee_set op xs trees i m within (changes_splitting op (node_at xs i) held) mine)
+      (guarantee_push op ys trees half mine (λ q other e. other (same_Some q op (sym e)))) forest.tree_there
+
+  pub points_half : PointsOnly op xs (ys ++ half ∷ [])
+  points_half =
+      let pushed = points_push op ys half (λ j lt e. ap (λ k. (node_at ys k).holder) (sym (same_Some _ _ e)) ∙ ap (λ (n : NodeView). n.holder) at_m ∙ held) refl in
+      points_on op xs ys (ys ++ half ∷ []) (omega (arith, size_y))
+      (points_set op xs i m within (record { previous = λ j e not_mine. e; parent = λ j e not_mine. e })) pushed
+      (λ j lt mine. ap (λ (n : NodeView). n.holder) (before ys half j lt) ∙ mine)
+
+  pub content_half : (trees : List Tree) → content trees (ys ++ half ∷ []) ≡ content trees xs
+  content_half trees = stands_pushed trees ys half refl ∙ content-set trees xs i m refl
+
+pub step_half : (v : ArenaView) (room i low op : ℕ) → i < length v.nodes → (at v i).holder ≡ Some op → (at v i).version.deleted ≡ false → (at v i).level ≡ 0 → ArenaInvariant v.nodes v.trees v.retired room → IsOpen v i op → Guarantee op v (with_half v i low op)
+step_half v room i low op within held live level sound mine = record {
+  nodes = guarantee_half v.nodes i low op within held live level v.trees sound.arena.forest mine;
+  points = points_half v.nodes i low op within held live level;
 }
 
 -- links where a tree is added that is not live
@@ -116,7 +150,7 @@ sound_tree xs trees gone room more op prefix sound enough whole =
     record {
       arena = record {
         nodes = nodes_root xs (length trees) sound.arena.nodes (λ k lt e. absurd (omega (arith, e, forest.tree_there k lt)));
-        ranged = ranged_root xs (length trees) sound.arena.ranged;
+        ranged = ranged_root xs (length trees) sound.arena.nodes sound.arena.ranged;
         forest = forest_tree xs trees prefix op forest whole;
         layers = layers_tree xs trees y (made prefix (length xs) op) op refl refl forest sound.arena.layers;
       };
@@ -127,7 +161,7 @@ sound_tree xs trees gone room more op prefix sound enough whole =
 pub step_tree : (v : ArenaView) (prefix : Bytes) (op : ℕ) → Guarantee op v (with_tree v prefix op)
 step_tree v prefix op = record {
   nodes = guarantee_tree op v.nodes v.trees (fresh_root (length v.trees)) (made prefix (length v.nodes) op) (omega arith) (λ q other e. absurd (cc));
-  points = points_push op v.nodes (fresh_root (length v.trees)) refl refl;
+  points = points_push op v.nodes (fresh_root (length v.trees)) (λ j lt e. absurd (cc)) refl;
 }
 
 pub content_tree : (xs : List NodeView) (trees : List Tree) (y : NodeView) (u : Tree) → IsArena xs trees → y.slots ≡ [] → content (trees ++ u ∷ []) (xs ++ y ∷ []) ≡ content trees xs
@@ -166,7 +200,7 @@ sound_retired v room i op step sound may =
     record {
       arena = record {
         nodes = nodes_retired v.nodes i within sound.arena.nodes (is_held op (at v i) may.held.holder) may.left;
-        ranged = ranged_turned v.nodes i (at v i).slots (retired (at v i)).version (at v i).holder within sound.arena.ranged (λ whole live. absurd (cc));
+        ranged = ranged_retired v.nodes i within sound.arena.ranged may.unawaited;
         forest = forest_retired v.nodes v.trees i within sound.arena.forest may.no_root;
         layers = layers_empty v.nodes v.trees i (retired (at v i)) within sound.arena.layers record { old = may.empty; new = may.empty };
       };

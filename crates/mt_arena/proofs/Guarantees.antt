@@ -202,16 +202,16 @@ points_set op xs i y within so = record {
   new_parent = λ k j from lt. absurd (omega (arith, from, lt, length-set xs i y));
 }
 
--- a new node names nobody
-pub points_push : (op : ℕ) (xs : List NodeView) (y : NodeView) → y.previous ≡ None → y.parent ≡ None → PointsOnly op xs (xs ++ y ∷ [])
+-- a new node names no parent, and nobody before it but one that the operation holds
+pub points_push : (op : ℕ) (xs : List NodeView) (y : NodeView) → ((j : ℕ) → j < length xs → y.previous ≡ Some j → (node_at xs j).holder ≡ Some op) → y.parent ≡ None → PointsOnly op xs (xs ++ y ∷ [])
 points_push op xs y previous parent =
     let size : length (xs ++ y ∷ []) ≡ length xs + 1 = length-append xs (y ∷ []) in
     record {
       previous = λ k j lt _ e not_mine. ap (λ (n : NodeView). n.previous) (sym (before xs y k lt)) ∙ e;
       parent = λ k j lt _ e not_mine. ap (λ (n : NodeView). n.parent) (sym (before xs y k lt)) ∙ e;
-      new_previous = λ k j from lt _ e.
+      new_previous = λ k j from lt lt_j e.
           let is : k ≡ length xs = omega arith in
-          absurd (let at = sym previous ∙ ap (λ (n : NodeView). n.previous) (sym (last xs y)) ∙ ap (λ k. (node_at (xs ++ y ∷ []) k).previous) (sym is) ∙ e in cc);
+          ap (λ (n : NodeView). n.holder) (before xs y j lt_j) ∙ previous j lt_j (ap (λ (n : NodeView). n.previous) (sym (last xs y)) ∙ ap (λ k. (node_at (xs ++ y ∷ []) k).previous) (sym is) ∙ e);
       new_parent = λ k j from lt _ e.
           let is : k ≡ length xs = omega arith in
           absurd (let at = sym parent ∙ ap (λ (n : NodeView). n.parent) (sym (last xs y)) ∙ ap (λ k. (node_at (xs ++ y ∷ []) k).parent) (sym is) ∙ e in cc);

@@ -19,7 +19,8 @@ use Rattle.mt_arena.specs.Several.{MayInsert, with_right}
 use Rattle.mt_arena.proofs.Pairs.{here, there}
 use Rattle.mt_arena.proofs.Quiet.{nodes_inserting}
 use Rattle.mt_arena.proofs.Ranges.{rises, not_empty, length_bounds}
-use Rattle.mt_arena.proofs.Ranged.{ranged_turned, ranged_insert_child}
+use Rattle.mt_arena.proofs.Ranged.{ranged_marked}
+use Rattle.mt_arena.proofs.RangedEdits.{ranged_insert_child}
 use Rattle.mt_arena.proofs.Child.{nodes_insert_child, left_child, differ_ij}
 use Rattle.mt_arena.proofs.Steps.{keys_of}
 use Rattle.mt_arena.proofs.Slots.{changes_slots}
@@ -111,7 +112,8 @@ module _ (xs : List NodeView) (i j q : ℕ) (nodes : AreNodes xs) (f : Inserts x
   nodes_right room = subst AreNodes same (nodes_insert_child ys i j q (nodes_inserting xs i f.parent_there nodes f.parent_held) marked (rw at_i room))
 
   pub ranged_right : AreRanged xs → AreRanged (with_right xs i j q)
-  ranged_right ranged = subst AreRanged same (ranged_insert_child ys i j q (ranged_turned xs i p.slots (inserting p).version p.holder f.parent_there ranged (ranged i f.parent_there).unmarked) marked)
+  ranged_right ranged = subst AreRanged same (ranged_insert_child ys i j (node_at ys q).low q (omega (arith, size, f.parent_there)) (omega (arith, size, f.left_there)) apart_j
+      (ranged_marked xs i p.slots (inserting p).version f.parent_there ranged refl (λ marked. marked) (λ whole. whole)))
 
   -- a child is no root
   pub exact_place : (trees : List Tree) → IsForest xs trees → KeepsPlace trees l (exact l)

@@ -15,7 +15,7 @@ use Rattle.mt_arena.specs.NodeFacts.{IsUnstable}
 use Rattle.mt_arena.specs.Settled.{IsSettled}
 use Rattle.mt_arena.specs.Guarantee.{NodesGuarantee, PointsOnly}
 use Rattle.mt_arena.specs.Lags.{Follows, IsUnder, AreFollowers, AreFollowersBut, AreChildren, AreChildrenBut}
-use Rattle.mt_arena.specs.Edits.{pointed}
+use Rattle.mt_arena.specs.Edits.{pointed, fresh_half}
 use Rattle.mt_arena.specs.Splits.{Splits, Inserts, left_half, right_half, with_child, exact, inner_left, inner_right}
 use Rattle.mt_arena.proofs.Pairs.{here, there, last, before}
 use Rattle.mt_arena.proofs.Settled.{alive}
@@ -57,16 +57,16 @@ under_in xs i k b y within is = elim (cases_eq k b) [
       inr (other, (omega (arith, is.0, length-set xs b y), sym (ap (λ (n : NodeView). n.parent) old) ∙ is.1, sym (ap (λ (n : NodeView). n.version.deleted) old) ∙ is.2))
 ]
 
--- after the slots were parted, all that name the left half as the one before are the right half and the one that was next
-pub left_followers : (xs : List NodeView) (i j : ℕ) (kept moved : List Entry) → i < length xs → j < length xs → i ≢ j → Splits (node_at xs i) (node_at xs j) kept moved → AreFollowers xs i (node_at xs i).next
+-- after the slots were parted, all that name the left half as the one before are, as they were, the right half and the one that was next
+pub left_followers : (xs : List NodeView) (i j : ℕ) (kept moved : List Entry) → i < length xs → j < length xs → i ≢ j → Splits (node_at xs i) (node_at xs j) kept moved → AreFollowersBut xs i (node_at xs i).next j
     → AreFollowersBut (set (set xs i (left_half (node_at xs i) kept (node_at xs j).low j)) j (right_half (node_at xs i) (node_at xs j) moved i)) i (node_at xs i).next j
 left_followers xs i j kept moved li lj differ splits followers k nj is =
     let y = left_half (node_at xs i) kept (node_at xs j).low j in
     elim (follows_in (set xs i y) i k j (right_half (node_at xs i) (node_at xs j) moved i) (omega (arith, lj, length-set xs i y)) is) [
       | inl right ↦ absurd (nj right.0)
       | inr other ↦ elim (follows_in xs i k i y li other.1) [
-        | inl own ↦ followers k (subst (λ c. Follows xs i c) (sym own.0) (li, own.1, splits.live))
-        | inr old ↦ followers k old.1
+        | inl own ↦ followers k nj (subst (λ c. Follows xs i c) (sym own.0) (li, own.1, splits.live))
+        | inr old ↦ followers k nj old.1
       ]
     ]
 
@@ -162,19 +162,24 @@ settled_of xs i x followers followed children reach stable rooted = record {
   rooted = rooted;
 }
 
--- nobody names a new node
-pub fresh_followers : (xs : List NodeView) (y : NodeView) → AreNodes xs → y.previous ≡ None → AreFollowers (xs ++ y ∷ []) (length xs) None
-fresh_followers xs y nodes none k is =
+-- nobody names a new right half, and it alone comes to name its left half
+pub fresh_followers : (xs : List NodeView) (x : NodeView) (i low op : ℕ) → AreNodes xs → i < length xs → AreFollowers (xs ++ fresh_half x i low op ∷ []) (length xs) None
+fresh_followers xs x i low op nodes within k is =
+    let y = fresh_half x i low op in
     let size : length (xs ++ y ∷ []) ≡ length xs + 1 = length-append xs (y ∷ []) in
     elim (cases_eq k (length xs)) [
-      | inl same ↦
-          let own = sym (ap (λ (n : NodeView). n.previous) (ap (node_at (xs ++ y ∷ [])) same ∙ last xs y)) ∙ is.1 in
-          absurd (cc)
+      | inl same ↦ absurd (omega (arith, within, same_Some _ _ (sym (ap (λ (n : NodeView). n.previous) (ap (node_at (xs ++ y ∷ [])) same ∙ last xs y)) ∙ is.1)))
       | inr other ↦
           let lt : k < length xs = omega (arith, is.0, size) in
           let old = sym (ap (λ (n : NodeView). n.previous) (before xs y k lt)) ∙ is.1 in
           absurd (omega (arith, (nodes.each k lt).names.previous (length xs) old))
     ]
+
+pub half_followers : (xs : List NodeView) (x : NodeView) (i low op : ℕ) (next : Option ℕ) → AreFollowers xs i next → AreFollowersBut (xs ++ fresh_half x i low op ∷ []) i next (length xs)
+half_followers xs x i low op next followers k nk is =
+    let y = fresh_half x i low op in
+    let lt : k < length xs = omega (arith, is.0, length-append xs (y ∷ []), nk) in
+    followers k (lt, sym (ap (λ (n : NodeView). n.previous) (before xs y k lt)) ∙ is.1, sym (ap (λ (n : NodeView). n.version.deleted) (before xs y k lt)) ∙ is.2)
 
 pub fresh_children : (xs : List NodeView) (y n : NodeView) → AreNodes xs → y.parent ≡ None → AreChildren (xs ++ y ∷ []) (length xs) n
 fresh_children xs y n nodes none k is =

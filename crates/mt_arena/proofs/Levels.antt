@@ -64,7 +64,7 @@ module _ (xs : List NodeView) (nodes : AreNodes xs) (ranged : AreRanged xs) wher
         let c : ℕ = get_or n.children 0 0 in
         let lc : c < length xs = h.names.children 0 some in
         let child : IsChild n 0 (node_at xs c) = (nodes.pairs k c lk lc).child 0 some refl live in
-        down l c lc child.live ((ranged c lc).parent child.knows) (omega (arith, child.level, is)) m (omega (arith, lt, other))
+        down l c lc child.live ((ranged.each c lc).parent child.knows) (omega (arith, child.level, is)) m (omega (arith, lt, other))
   ]
 
   pub level_few : (k : ℕ) → k < length xs → (node_at xs k).version.deleted ≡ false → HasRange (node_at xs k) → (node_at xs k).level < length xs

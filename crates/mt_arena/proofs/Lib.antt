@@ -34,6 +34,7 @@ pub mod Inner
 pub mod InnerSplit
 pub mod Move
 pub mod Ranged
+pub mod RangedEdits
 pub mod Ranges
 pub mod SettledEdits
 pub mod Unlink
@@ -49,3 +50,4 @@ pub mod Topping
 pub mod Inserting
 pub mod Parting
 pub mod Levels
+pub mod Alone

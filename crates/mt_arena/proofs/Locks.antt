@@ -13,15 +13,15 @@ use Rattle.mt_arena.specs.Edits.{locked, unlocked, splitting}
 use Rattle.mt_arena.specs.Arena.{IsArena, ArenaInvariant, ArenaView, Guarantee}
 use Rattle.mt_arena.specs.Accesses.{at, IsOpen, with_node}
 use Rattle.mt_arena.proofs.Quiet.{nodes_locked, nodes_splitting}
-use Rattle.mt_arena.proofs.Ranged.{ranged_turned}
+use Rattle.mt_arena.proofs.Ranged.{ranged_locked, ranged_unlocked, ranged_marked}
 use Rattle.mt_arena.proofs.Unlock.{nodes_unlocked}
 use Rattle.mt_arena.proofs.LinkEdits.{same_links}
 use Rattle.mt_arena.proofs.Steps.{sound_set, keys_of, step_set}
 
-pub sound_locked : (xs : List NodeView) (trees : List Tree) (gone : List Retired) (room i op : ℕ) → i < length xs → ArenaInvariant xs trees gone room → ArenaInvariant (set xs i (locked (node_at xs i) op)) trees gone room
-sound_locked xs trees gone room i op within sound =
+pub sound_locked : (xs : List NodeView) (trees : List Tree) (gone : List Retired) (room i op : ℕ) → i < length xs → ArenaInvariant xs trees gone room → (node_at xs i).holder ≡ None → ArenaInvariant (set xs i (locked (node_at xs i) op)) trees gone room
+sound_locked xs trees gone room i op within sound free =
     let x = node_at xs i in
-    sound_set xs trees gone room i (locked x op) within sound (nodes_locked xs i op within sound.arena.nodes) (ranged_turned xs i x.slots (locked x op).version (Some op) within sound.arena.ranged (sound.arena.ranged i within).unmarked)
+    sound_set xs trees gone room i (locked x op) within sound (nodes_locked xs i op within sound.arena.nodes) (ranged_locked xs i op within sound.arena.nodes sound.arena.ranged free)
     record { tree = refl; deleted = refl; flag = refl; root = λ r. record { live = r.live; flag = r.flag; parentless = r.parentless; low = r.low; reach = r.reach } }
     (keys_of xs trees i within sound.arena.forest)
     record { tree = refl; deleted = refl; forth = same_links x.slots; back = same_links x.slots }
@@ -48,7 +48,7 @@ settled_range : (xs : List NodeView) (trees : List Tree) (i : ℕ) → i < lengt
 settled_range xs trees i within arena settled live = by (node_at xs i).parent refl
   where
     by : (p : Option ℕ) → (node_at xs i).parent ≡ p → HasRange (node_at xs i)
-    by (Some p) is = (arena.ranged i within).parent (λ none. absurd (let both = sym is ∙ none in cc))
+    by (Some p) is = (arena.ranged.each i within).parent (λ none. absurd (let both = sym is ∙ none in cc))
     by None is =
         let x = node_at xs i in
         let home = arena.forest.homes i x.tree within (arena.forest.tree_there i within) in
@@ -59,7 +59,7 @@ settled_range xs trees i within arena settled live = by (node_at xs i).parent re
 pub sound_unlocked : (xs : List NodeView) (trees : List Tree) (gone : List Retired) (room i : ℕ) → i < length xs → ArenaInvariant xs trees gone room → IsSettled xs i (node_at xs i) → ArenaInvariant (set xs i (unlocked (node_at xs i))) trees gone room
 sound_unlocked xs trees gone room i within sound settled =
     let x = node_at xs i in
-    sound_set xs trees gone room i (unlocked x) within sound (nodes_unlocked xs i within sound.arena.nodes settled) (ranged_turned xs i x.slots (unlocked x).version None within sound.arena.ranged (λ whole live. settled_range xs trees i within sound.arena settled live))
+    sound_set xs trees gone room i (unlocked x) within sound (nodes_unlocked xs i within sound.arena.nodes settled) (ranged_unlocked xs i within sound.arena.ranged settled (settled_range xs trees i within sound.arena settled))
     record { tree = refl; deleted = refl; flag = refl; root = λ r. record { live = r.live; flag = r.flag; parentless = r.parentless; low = r.low; reach = r.reach } }
     (keys_of xs trees i within sound.arena.forest)
     record { tree = refl; deleted = refl; forth = same_links x.slots; back = same_links x.slots }
@@ -89,7 +89,7 @@ step_unlocked v i op within held mine =
 pub sound_splitting : (xs : List NodeView) (trees : List Tree) (gone : List Retired) (room i : ℕ) → i < length xs → ArenaInvariant xs trees gone room → (node_at xs i).holder ≢ None → ArenaInvariant (set xs i (splitting (node_at xs i))) trees gone room
 sound_splitting xs trees gone room i within sound held =
     let x = node_at xs i in
-    sound_set xs trees gone room i (splitting x) within sound (nodes_splitting xs i within sound.arena.nodes held) (ranged_turned xs i x.slots (splitting x).version x.holder within sound.arena.ranged (λ whole live. absurd (cc)))
+    sound_set xs trees gone room i (splitting x) within sound (nodes_splitting xs i within sound.arena.nodes held) (ranged_marked xs i x.slots (splitting x).version within sound.arena.ranged refl (λ _. refl) (λ e. absurd (cc)))
     record { tree = refl; deleted = refl; flag = refl; root = λ r. record { live = r.live; flag = r.flag; parentless = r.parentless; low = r.low; reach = r.reach } }
     (keys_of xs trees i within sound.arena.forest)
     record { tree = refl; deleted = refl; forth = same_links x.slots; back = same_links x.slots }

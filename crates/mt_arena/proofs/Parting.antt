@@ -18,7 +18,7 @@ use Rattle.mt_arena.proofs.Push.{nodes_bare}
 use Rattle.mt_arena.proofs.Homes.{forest_push}
 use Rattle.mt_arena.proofs.Growing.{layers_push, no_keys}
 use Rattle.mt_arena.proofs.Retiring.{retired_push}
-use Rattle.mt_arena.proofs.Ranged.{ranged_parts}
+use Rattle.mt_arena.proofs.RangedEdits.{ranged_parts}
 use Rattle.mt_arena.proofs.Steps.{keys_of}
 use Rattle.mt_arena.proofs.Inner.{SplitsInner}
 use Rattle.mt_arena.proofs.InnerSplit.{given, nodes_split_inner, ranges_split_inner}
@@ -198,7 +198,7 @@ module _ (v : ArenaView) (room more parent left right op : ℕ) (sound : ArenaIn
       record {
         arena = record {
           nodes = nodes_parts v.nodes parent left right op sound.arena.nodes may.inserts may.full may.next;
-          ranged = ranged_parts v.nodes parent left w op li lj sound.arena.ranged ranges.0 ranges.1;
+          ranged = ranged_parts v.nodes parent left (at v right).low right op li lj apart sound.arena.nodes sound.arena.ranged may.next ranges.0 ranges.1;
           forest = forest_push halves v.trees u (forest_set2 v.nodes v.trees parent left y z li lj apart forest (record {
             home = record { tree = refl; deleted = refl; flag = refl; root = λ h. record { live = h.live; flag = h.flag; parentless = h.parentless; low = h.low; reach = h.reach } };
             keys = keys_of v.nodes v.trees parent li forest;

@@ -7,6 +7,7 @@ use Rattle.mt_arena.specs.declared.tree.Tree.{Tree}
 use Rattle.mt_arena.specs.declared.retired.Retired.{Retired}
 use Rattle.mt_arena.specs.NodeView.{NodeView, node_at}
 use Rattle.mt_arena.specs.Nodes.{HasRange}
+use Rattle.mt_arena.specs.Ranges.{Waits}
 use Rattle.mt_arena.specs.Guarantee.{Changes}
 use Rattle.mt_arena.specs.Edits.{pointed, Points}
 use Rattle.mt_arena.specs.Arena.{ArenaInvariant, ArenaView, Guarantee}
@@ -19,10 +20,11 @@ use Rattle.mt_arena.proofs.Steps.{sound_set, keys_of, step_set}
 
 -- where a live root keeps its want of a parent
 pub sound_pointed : (xs : List NodeView) (trees : List Tree) (gone : List Retired) (room i : ℕ) (previous parent : Option ℕ) → i < length xs → ArenaInvariant xs trees gone room → Points xs (node_at xs i) previous parent
-    → ((node_at xs i).version.root ≡ true → parent ≡ (node_at xs i).parent) → (parent ≢ None → HasRange (node_at xs i)) → ArenaInvariant (set xs i (pointed (node_at xs i) previous parent)) trees gone room
-sound_pointed xs trees gone room i previous parent within sound points no_root range =
+    → ((node_at xs i).version.root ≡ true → parent ≡ (node_at xs i).parent) → (parent ≢ None → HasRange (node_at xs i)) → (Waits (node_at xs i) → previous ≡ (node_at xs i).previous)
+    → ArenaInvariant (set xs i (pointed (node_at xs i) previous parent)) trees gone room
+sound_pointed xs trees gone room i previous parent within sound points no_root range tied =
     let x = node_at xs i in
-    sound_set xs trees gone room i (pointed x previous parent) within sound (nodes_pointed xs i previous parent within sound.arena.nodes points) (ranged_pointed xs i previous parent within sound.arena.ranged range)
+    sound_set xs trees gone room i (pointed x previous parent) within sound (nodes_pointed xs i previous parent within sound.arena.nodes points) (ranged_pointed xs i previous parent within sound.arena.ranged range tied)
     record { tree = refl; deleted = refl; flag = refl; root = λ r. record { live = r.live; flag = r.flag; parentless = no_root r.flag ∙ r.parentless; low = r.low; reach = r.reach } }
     (keys_of xs trees i within sound.arena.forest)
     record { tree = refl; deleted = refl; forth = same_links x.slots; back = same_links x.slots }
@@ -74,8 +76,8 @@ names_own op nodes was k held = record { names = λ j e. inr (ap (λ k. (node_at
 
 -- the neighbour before a node is one that the operation holds
 pub sound_previous : (xs : List NodeView) (trees : List Tree) (gone : List Retired) (room i k op : ℕ) → i < length xs → k < length xs → (node_at xs k).holder ≡ Some op → ArenaInvariant xs trees gone room
-    → ArenaInvariant (set xs i (pointed (node_at xs i) (Some k) (node_at xs i).parent)) trees gone room
-sound_previous xs trees gone room i k op within inside held sound =
+    → (Waits (node_at xs i) → (node_at xs i).previous ≡ Some k) → ArenaInvariant (set xs i (pointed (node_at xs i) (Some k) (node_at xs i).parent)) trees gone room
+sound_previous xs trees gone room i k op within inside held sound tied =
     let h = sound.arena.nodes.each i within in
     sound_pointed xs trees gone room i (Some k) (node_at xs i).parent within sound record {
       previous_there = λ j e. omega (arith, same_Some k j e, inside);
@@ -84,7 +86,7 @@ sound_previous xs trees gone room i k op within inside held sound =
       parent_held = λ j e. inl e;
       previous_stays = λ none. absurd (cc);
       parent_stays = λ none. none;
-    } (λ root. refl) (sound.arena.ranged i within).parent
+    } (λ root. refl) (sound.arena.ranged.each i within).parent (λ waits. sym (tied waits))
 
 pub step_previous : (v : ArenaView) (i k op : ℕ) → i < length v.nodes → (at v k).holder ≡ Some op → IsOpen v i op → Guarantee op v (with_node v i (pointed (at v i) (Some k) (at v i).parent))
 step_previous v i k op within held mine =
@@ -102,7 +104,7 @@ sound_parent xs trees gone room i k op within inside held sound no_root range =
       parent_held = λ j e. inr (λ none. absurd (let at = ap (λ k. (node_at xs k).holder) (same_Some k j e) in cc));
       previous_stays = λ none. none;
       parent_stays = λ none. absurd (cc);
-    } (λ root. absurd (cc)) (λ some. range)
+    } (λ root. absurd (cc)) (λ some. range) (λ waits. refl)
 
 pub step_parent : (v : ArenaView) (i k op : ℕ) → i < length v.nodes → (at v k).holder ≡ Some op → IsOpen v i op → ((q : ℕ) → (at v i).holder ≡ Some q → q ≢ op → (at v i).parent ≢ None) → Guarantee op v (with_node v i (pointed (at v i) (at v i).previous (Some k)))
 step_parent v i k op within held mine theirs =

@@ -1,13 +1,16 @@
 -- One more node.
-use Rattle.std.proofs.Common.{◌≡◌, ◌≢◌, ℕ, ◌+◌, ◌<◌, Bool, true, List, [], ◌∷◌, ◌++◌, length, Some, refl, sym, arith}
+use Rattle.std.proofs.Common.{◌≡◌, ◌≢◌, ℕ, ◌+◌, ◌<◌, Bool, true, List, [], ◌∷◌, ◌++◌, length, set, Some, None, refl, sym, ap, subst, ◌∙◌, inr, arith, length-append}
+use Rattle.std.proofs.lemmas.List.{set_at}
+use Rattle.std.proofs.lemmas.Option.{same_Some}
 use Rattle.mt_border.specs.Entries.{IsBorder}
 use Rattle.mt_interior.specs.Node.{IsInterior}
 use Rattle.mt_arena.specs.NodeView.{NodeView, node_at}
 use Rattle.mt_arena.specs.Nodes.{AreNodes, IsNode, IsPair}
 use Rattle.mt_arena.specs.NodeFacts.{TellsKind}
-use Rattle.mt_arena.specs.Edits.{bare, fresh_half, fresh_root}
+use Rattle.mt_arena.specs.Edits.{bare, pointed, fresh_half, fresh_root}
 use Rattle.mt_arena.proofs.Groups.{held_lock, there_none, names_none}
-use Rattle.mt_arena.proofs.Pairs.{nodes_pushed}
+use Rattle.mt_arena.proofs.Pairs.{nodes_pushed, last, before}
+use Rattle.mt_arena.proofs.Point.{nodes_pointed}
 
 -- neither slots nor children
 pub no_slots : IsBorder []
@@ -63,9 +66,23 @@ nodes_bare xs border tree level low op kind nodes =
     (λ j lt. bare_from (length xs) border tree level low op j (node_at xs j))
     (λ j lt. bare_to (length xs) j (node_at xs j) border tree level low op (nodes.each j lt))
 
--- the right half of a border node
-pub nodes_half : (xs : List NodeView) (i low op : ℕ) → (node_at xs i).level ≡ 0 → AreNodes xs → AreNodes (xs ++ fresh_half (node_at xs i) low op ∷ [])
-nodes_half xs i low op level nodes = nodes_bare xs true (node_at xs i).tree (node_at xs i).level low op (record { border = λ e. level; interior = λ e. absurd (cc) }) nodes
+-- the right half of a border node that an operation holds, which it names as the one before
+pub nodes_half : (xs : List NodeView) (x : NodeView) (i low op : ℕ) → i < length xs → (node_at xs i).holder ≢ None → x.level ≡ 0 → AreNodes xs → AreNodes (xs ++ fresh_half x i low op ∷ [])
+nodes_half xs x i low op within held level nodes =
+    let y = bare true x.tree x.level low op in
+    let more : length (xs ++ y ∷ []) ≡ length xs + 1 = length-append xs (y ∷ []) in
+    let made : AreNodes (xs ++ y ∷ []) = nodes_bare xs true x.tree x.level low op (record { border = λ e. level; interior = λ e. absurd (cc) }) nodes in
+    let at_y : node_at (xs ++ y ∷ []) (length xs) ≡ y = last xs y in
+    let at_i : node_at (xs ++ y ∷ []) i ≡ node_at xs i = before xs y i within in
+    subst AreNodes (ap (λ (n : NodeView). set (xs ++ y ∷ []) (length xs) (pointed n (Some i) None)) at_y ∙ set_at xs y [] (fresh_half x i low op) (length xs) refl)
+    (nodes_pointed (xs ++ y ∷ []) (length xs) (Some i) None (omega (arith, more)) made record {
+      previous_there = λ j e. omega (arith, same_Some _ _ e, within, more);
+      parent_there = λ j e. absurd (cc);
+      previous_held = λ j e. inr (subst (λ k. (node_at (xs ++ y ∷ []) k).holder ≢ None) (same_Some _ _ e) (λ none. held (ap (λ (n : NodeView). n.holder) (sym at_i) ∙ none)));
+      parent_held = λ j e. absurd (cc);
+      previous_stays = λ none. absurd (cc);
+      parent_stays = λ none. ap (λ (n : NodeView). n.parent) at_y;
+    })
 
 -- the root of a new tree
 root_node : (count tree : ℕ) → IsNode count (fresh_root tree)

@@ -1,98 +1,175 @@
--- Nodes keep their ranges through each edit.
-use Rattle.std.proofs.Common.{◌≡◌, ◌≢◌, false, ℕ, ◌<◌, List, [], ◌∷◌, ◌++◌, length, Option, None, set, refl, ap, arith}
+-- Nodes keep their ranges, and right halves that wait for theirs keep their left halves, through each edit.
+use Rattle.std.proofs.Common.{◌≡◌, ◌≢◌, true, false, ℕ, ◌<◌, ◌≤◌, List, [], ◌∷◌, ◌++◌, length, Option, Some, None, set, refl, sym, ◌∙◌, arith}
 use Rattle.mt_version.specs.Parts.{Parts}
 use Rattle.mt_border.specs.declared.entry.Entry.{Entry}
 use Rattle.mt_interior.specs.Fences.{end_of}
 use Rattle.mt_arena.specs.NodeView.{NodeView, node_at}
-use Rattle.mt_arena.specs.Nodes.{AreNodes, HasRange}
-use Rattle.mt_arena.specs.Ranges.{IsRanged, AreRanged}
-use Rattle.mt_arena.specs.Edits.{turned, retired, pointed, fresh_half, fresh_root}
-use Rattle.mt_arena.specs.Unlinks.{Unlinks, joined, without_child}
-use Rattle.mt_arena.specs.Splits.{Splits, Inserts, left_half, right_half, with_child, exact, inner_left, inner_right}
-use Rattle.mt_arena.specs.Growth.{AreRootHalves, fresh_top, left_below, right_below}
-use Rattle.mt_arena.proofs.Pairs.{nodes_set, nodes_push}
-use Rattle.std.proofs.lemmas.List.{length-set}
+use Rattle.mt_arena.specs.Nodes.{AreNodes, IsNode, HasRange}
+use Rattle.mt_arena.specs.Ranges.{IsRanged, AreRanged, AreTied, IsLeftHalf, Waits}
+use Rattle.mt_arena.specs.Settled.{IsSettled}
+use Rattle.mt_arena.specs.Edits.{turned, locked, unlocked, retired, pointed, fresh_root}
+use Rattle.mt_arena.proofs.Pairs.{nodes_set, nodes_push, pairs_set, pairs_push}
 
--- other slots, another version and another holder: locked, unlocked, marked and retired nodes too
-pub ranged_turned : (xs : List NodeView) (i : ℕ) (slots : List Entry) (version : Parts) (holder : Option ℕ) → i < length xs → AreRanged xs → (version.splitting ≡ false → version.deleted ≡ false → HasRange (node_at xs i))
-    → AreRanged (set xs i (turned (node_at xs i) slots version holder))
-ranged_turned xs i slots version holder within ranged unmarked = nodes_set IsRanged xs i (turned (node_at xs i) slots version holder) within ranged record {
-  next = (ranged i within).next;
-  parent = (ranged i within).parent;
-  unmarked = unmarked;
+-- a node with a range waits for none
+pub no_wait : (n : NodeView) → HasRange n → Waits n → ⊥
+no_wait n range waits = omega (arith, range, waits.1)
+
+-- one that waits is held
+pub waits_held : (count : ℕ) (n : NodeView) → IsNode count n → IsRanged n → Waits n → n.holder ≢ None
+waits_held count n h ranged waits = h.lock.splitting (by n.version.splitting refl)
+  where
+    by : (b : _) → n.version.splitting ≡ b → n.version.splitting ≡ true
+    by true is = is
+    by false is = absurd (no_wait n (ranged.unmarked is waits.0) waits)
+
+-- a node takes another one's place beside those that name it and that it names
+pub record Stays (x y : NodeView) : Type 0 where
+  pub live : x.version.deleted ≡ false → y.version.deleted ≡ false
+  pub range : HasRange x → HasRange y
+  pub marked : x.version.splitting ≡ true → y.version.splitting ≡ true
+  pub tree : y.tree ≡ x.tree
+  pub level : y.level ≡ x.level
+  pub holder : y.holder ≡ x.holder
+
+-- one that keeps its deleted mark, its splitting mark, its tree, its level and its holder
+pub stays : (x y : NodeView) → y.version.deleted ≡ x.version.deleted → y.version.splitting ≡ x.version.splitting → (HasRange x → HasRange y) → y.tree ≡ x.tree → y.level ≡ x.level → y.holder ≡ x.holder → Stays x y
+stays x y deleted splitting range tree level holder = record { live = λ live. deleted ∙ live; range = range; marked = λ marked. splitting ∙ marked; tree = tree; level = level; holder = holder }
+
+left_stays : (x y n : NodeView) → Stays x y → IsLeftHalf x n → IsLeftHalf y n
+left_stays x y n s l = record { live = s.live l.live; range = s.range l.range; marked = s.marked l.marked; tree = s.tree ∙ l.tree; level = s.level ∙ l.level; holder = s.holder ∙ l.holder }
+
+pub tied_to : (k : ℕ) (n : NodeView) (j : ℕ) (x y : NodeView) → Stays x y → AreTied k n j x → AreTied k n j y
+tied_to k n j x y s h = record { next = λ e. s.range (h.next e); left = λ e waits. left_stays x y n s (h.left e waits) }
+
+pub tied_from : (k : ℕ) (x y : NodeView) (j : ℕ) (m : NodeView) → Stays x y → y.next ≡ x.next → (Waits y → Waits x × (y.previous ≡ x.previous)) → AreTied k x j m → AreTied k y j m
+tied_from k x y j m s next was h = record {
+  next = λ e. h.next (sym next ∙ e);
+  left = λ e waits.
+      let old = was waits in
+      let l = h.left (sym old.1 ∙ e) old.0 in
+      record { live = l.live; range = l.range; marked = l.marked; tree = l.tree ∙ sym s.tree; level = l.level ∙ sym s.level; holder = l.holder ∙ sym s.holder };
 }
 
--- another node before it and another parent: only a node with a range comes to have one
-pub ranged_pointed : (xs : List NodeView) (i : ℕ) (previous parent : Option ℕ) → i < length xs → AreRanged xs → (parent ≢ None → HasRange (node_at xs i)) → AreRanged (set xs i (pointed (node_at xs i) previous parent))
-ranged_pointed xs i previous parent within ranged range = nodes_set IsRanged xs i (pointed (node_at xs i) previous parent) within ranged record {
-  next = (ranged i within).next;
-  parent = range;
-  unmarked = (ranged i within).unmarked;
+-- a node with a range is tied to its next one alone
+pub ranged_from : (k : ℕ) (y : NodeView) (j : ℕ) (m : NodeView) → HasRange y → (y.next ≡ Some j → HasRange m) → AreTied k y j m
+ranged_from k y j m range next = record { next = next; left = λ e waits. absurd (no_wait y range waits) }
+
+-- a node changes, and keeps its place beside the others
+pub ranged_set : (xs : List NodeView) (i : ℕ) (y : NodeView) → i < length xs → AreRanged xs → IsRanged y → Stays (node_at xs i) y → y.next ≡ (node_at xs i).next → (Waits y → Waits (node_at xs i) × (y.previous ≡ (node_at xs i).previous))
+    → AreRanged (set xs i y)
+ranged_set xs i y within ranged one s next was =
+    let x = node_at xs i in
+    record {
+      each = nodes_set IsRanged xs i y within ranged.each one;
+      ties = pairs_set AreTied xs i y within ranged.ties
+          (tied_from i x y i y s next was (tied_to i x i x y s (ranged.ties i i within within)))
+          (λ j lt _. tied_from i x y j (node_at xs j) s next was (ranged.ties i j within lt))
+          (λ j lt _. tied_to j (node_at xs j) i x y s (ranged.ties j i lt within));
+    }
+
+-- other slots and marks
+pub ranged_marked : (xs : List NodeView) (i : ℕ) (slots : List Entry) (version : Parts) → i < length xs → AreRanged xs → version.deleted ≡ (node_at xs i).version.deleted → ((node_at xs i).version.splitting ≡ true → version.splitting ≡ true)
+    → (version.splitting ≡ false → (node_at xs i).version.splitting ≡ false) → AreRanged (set xs i (turned (node_at xs i) slots version (node_at xs i).holder))
+ranged_marked xs i slots version within ranged same kept marked =
+    let x = node_at xs i in
+    let h = ranged.each i within in
+    ranged_set xs i (turned x slots version x.holder) within ranged record {
+      next = h.next;
+      parent = h.parent;
+      unmarked = λ whole live. h.unmarked (marked whole) (sym same ∙ live);
+      interior = λ above live. h.interior above (sym same ∙ live);
+      named = λ waits. h.named (sym same ∙ waits.0, waits.1);
+      fits = h.fits;
+    } record { live = λ live. same ∙ live; range = λ range. range; marked = kept; tree = refl; level = refl; holder = refl } refl (λ waits. ((sym same ∙ waits.0, waits.1), refl))
+
+-- a lock is taken: nobody waits at a node that nobody holds
+pub ranged_locked : (xs : List NodeView) (i op : ℕ) → i < length xs → AreNodes xs → AreRanged xs → (node_at xs i).holder ≡ None → AreRanged (set xs i (locked (node_at xs i) op))
+ranged_locked xs i op within nodes ranged free =
+    let x = node_at xs i in
+    let y = locked x op in
+    let h = ranged.each i within in
+    let range : Waits x → ⊥ = λ waits. waits_held (length xs) x (nodes.each i within) h waits free in
+    let to : (k : ℕ) → k < length xs → AreTied k (node_at xs k) i y = λ k lk. record {
+      next = (ranged.ties k i lk within).next;
+      left = λ e waits. absurd (waits_held (length xs) (node_at xs k) (nodes.each k lk) (ranged.each k lk) waits (sym ((ranged.ties k i lk within).left e waits).holder ∙ free));
+    } in
+    record {
+      each = nodes_set IsRanged xs i y within ranged.each record { next = h.next; parent = h.parent; unmarked = h.unmarked; interior = h.interior; named = h.named; fits = h.fits };
+      ties = pairs_set AreTied xs i y within ranged.ties
+          record { next = (to i within).next; left = λ e waits. absurd (range waits) }
+          (λ j lt _. record { next = (ranged.ties i j within lt).next; left = λ e waits. absurd (range waits) })
+          (λ j lt _. to j lt);
+    }
+
+-- a lock is given back: nothing lags behind the node, so nobody waits at it
+pub ranged_unlocked : (xs : List NodeView) (i : ℕ) → i < length xs → AreRanged xs → IsSettled xs i (node_at xs i) → ((node_at xs i).version.deleted ≡ false → HasRange (node_at xs i)) → AreRanged (set xs i (unlocked (node_at xs i)))
+ranged_unlocked xs i within ranged settled range =
+    let x = node_at xs i in
+    let y = unlocked x in
+    let h = ranged.each i within in
+    let none : Waits x → ⊥ = λ waits. no_wait x (range waits.0) waits in
+    let to : (k : ℕ) → k < length xs → AreTied k (node_at xs k) i y = λ k lk. record {
+      next = (ranged.ties k i lk within).next;
+      left = λ e waits. absurd (no_wait (node_at xs k) ((ranged.ties i k within lk).next (settled.previous k lk e waits.0)) waits);
+    } in
+    record {
+      each = nodes_set IsRanged xs i y within ranged.each record { next = h.next; parent = h.parent; unmarked = λ whole live. range live; interior = h.interior; named = h.named; fits = h.fits };
+      ties = pairs_set AreTied xs i y within ranged.ties
+          record { next = (to i within).next; left = λ e waits. absurd (none waits) }
+          (λ j lt _. record { next = (ranged.ties i j within lt).next; left = λ e waits. absurd (none waits) })
+          (λ j lt _. to j lt);
+    }
+
+-- a node is taken out at which nobody waits
+pub ranged_retired : (xs : List NodeView) (i : ℕ) → i < length xs → AreRanged xs → ((k : ℕ) → k < length xs → (node_at xs k).previous ≡ Some i → Waits (node_at xs k) → ⊥) → AreRanged (set xs i (retired (node_at xs i)))
+ranged_retired xs i within ranged unawaited =
+    let x = node_at xs i in
+    let y = retired x in
+    let h = ranged.each i within in
+    record {
+      each = nodes_set IsRanged xs i y within ranged.each record { next = h.next; parent = h.parent; unmarked = λ whole live. absurd (cc); interior = λ above live. absurd (cc); named = λ waits. absurd (let dead = waits.0 in cc); fits = h.fits };
+      ties = pairs_set AreTied xs i y within ranged.ties
+          record { next = (ranged.ties i i within within).next; left = λ e waits. absurd (let dead = waits.0 in cc) }
+          (λ j lt _. record { next = (ranged.ties i j within lt).next; left = λ e waits. absurd (let dead = waits.0 in cc) })
+          (λ j lt _. record { next = (ranged.ties j i lt within).next; left = λ e waits. absurd (unawaited j lt e waits) });
+    }
+
+-- another node before it and another parent: only a node with a range comes to have a parent, and one that waits keeps its left half
+pub ranged_pointed : (xs : List NodeView) (i : ℕ) (previous parent : Option ℕ) → i < length xs → AreRanged xs → (parent ≢ None → HasRange (node_at xs i)) → (Waits (node_at xs i) → previous ≡ (node_at xs i).previous)
+    → AreRanged (set xs i (pointed (node_at xs i) previous parent))
+ranged_pointed xs i previous parent within ranged range tied =
+    let x = node_at xs i in
+    let h = ranged.each i within in
+    ranged_set xs i (pointed x previous parent) within ranged
+    record { next = h.next; parent = range; unmarked = h.unmarked; interior = h.interior; named = λ waits none. h.named waits (sym (tied waits) ∙ none); fits = h.fits }
+    record { live = λ live. live; range = λ range. range; marked = λ marked. marked; tree = refl; level = refl; holder = refl } refl (λ waits. (waits, tied waits))
+
+-- the node does not name number c as its next one or as the one before
+abbrev pub IsBeside : ℕ → NodeView → Type 0
+IsBeside c n = (n.next ≢ Some c) × (n.previous ≢ Some c)
+
+-- none names a number behind the last one
+pub all_beside : (xs : List NodeView) → AreNodes xs → (j : ℕ) → j < length xs → IsBeside (length xs) (node_at xs j)
+all_beside xs nodes j lt = (λ e. omega (arith, (nodes.each j lt).names.next (length xs) e), λ e. omega (arith, (nodes.each j lt).names.previous (length xs) e))
+
+-- one node more, which no other one names
+pub ranged_push : (xs : List NodeView) (y : NodeView) → ((j : ℕ) → j < length xs → IsBeside (length xs) (node_at xs j)) → AreRanged xs → IsRanged y → y.next ≡ None
+    → (y.previous ≡ Some (length xs) → Waits y → IsLeftHalf y y) → ((j : ℕ) → j < length xs → y.previous ≡ Some j → Waits y → IsLeftHalf (node_at xs j) y) → AreRanged (xs ++ y ∷ [])
+ranged_push xs y beside ranged one none self left = record {
+  each = nodes_push IsRanged xs y ranged.each one;
+  ties = pairs_push AreTied xs y ranged.ties
+      record { next = λ e. absurd (let no = none in cc); left = self }
+      (λ j lt. record { next = λ e. absurd (let no = none in cc); left = left j lt })
+      (λ j lt. record { next = λ e. absurd ((beside j lt).0 e); left = λ e. absurd ((beside j lt).1 e) });
 }
 
--- one node more
-pub ranged_half : (xs : List NodeView) (n : NodeView) (low op : ℕ) → AreRanged xs → AreRanged (xs ++ fresh_half n low op ∷ [])
-ranged_half xs n low op ranged = nodes_push IsRanged xs (fresh_half n low op) ranged record { next = λ some. absurd (some refl); parent = λ some. absurd (some refl); unmarked = λ whole live. absurd (cc) }
+-- what holds of a node with a range
+pub with_range : (y : NodeView) → HasRange y → end_of y.high ≤ 18446744073709551616 → IsRanged y
+with_range y range fits = record { next = λ some. range; parent = λ some. range; unmarked = λ whole live. range; interior = λ above live. range; named = λ waits. absurd (no_wait y range waits); fits = λ _. fits }
 
-pub ranged_root : (xs : List NodeView) (tree : ℕ) → AreRanged xs → AreRanged (xs ++ fresh_root tree ∷ [])
-ranged_root xs tree ranged = nodes_push IsRanged xs (fresh_root tree) ranged record { next = λ some. absurd (some refl); parent = λ some. absurd (some refl); unmarked = λ whole live. omega arith }
+-- one with a range
+pub ranged_more : (xs : List NodeView) (y : NodeView) → ((j : ℕ) → j < length xs → IsBeside (length xs) (node_at xs j)) → AreRanged xs → HasRange y → end_of y.high ≤ 18446744073709551616 → y.next ≡ None → AreRanged (xs ++ y ∷ [])
+ranged_more xs y beside ranged range fits none = ranged_push xs y beside ranged (with_range y range fits) none (λ _ waits. absurd (no_wait y range waits)) (λ j lt _ waits. absurd (no_wait y range waits))
 
--- both halves of a split have a range
-pub ranged_split_move : (xs : List NodeView) (i j : ℕ) (kept moved : List Entry) → i < length xs → j < length xs → AreRanged xs → Splits (node_at xs i) (node_at xs j) kept moved
-    → AreRanged (set (set xs i (left_half (node_at xs i) kept (node_at xs j).low j)) j (right_half (node_at xs i) (node_at xs j) moved i))
-ranged_split_move xs i j kept moved li lj ranged splits =
-    let y = left_half (node_at xs i) kept (node_at xs j).low j in
-    nodes_set IsRanged (set xs i y) j (right_half (node_at xs i) (node_at xs j) moved i) (omega (arith, lj, length-set xs i y))
-    (nodes_set IsRanged xs i y li ranged (record { next = λ some. splits.above; parent = λ some. splits.above; unmarked = λ whole live. splits.above }))
-    (record { next = λ some. splits.below; parent = λ some. splits.below; unmarked = λ whole live. splits.below })
-
--- a right half that comes to stand in the parent changes no range
-pub ranged_insert_child : (xs : List NodeView) (i j q : ℕ) → AreRanged xs → Inserts xs i j q → AreRanged (set (set xs i (with_child (node_at xs i) (node_at xs q).low q)) j (exact (node_at xs j)))
-ranged_insert_child xs i j q ranged f =
-    let y = with_child (node_at xs i) (node_at xs q).low q in
-    nodes_set IsRanged (set xs i y) j (exact (node_at xs j)) (omega (arith, f.left_there, length-set xs i y))
-    (nodes_set IsRanged xs i y f.parent_there ranged (record { next = (ranged i f.parent_there).next; parent = (ranged i f.parent_there).parent; unmarked = (ranged i f.parent_there).unmarked }))
-    (record { next = (ranged j f.left_there).next; parent = (ranged j f.left_there).parent; unmarked = (ranged j f.left_there).unmarked })
-
--- the halves of a root have one each
-pub ranged_root_grow : (xs : List NodeView) (i j op : ℕ) → AreRanged xs → AreRootHalves xs i j
-    → AreRanged (set (set xs i (left_below (node_at xs i) (length xs))) j (right_below (node_at xs j) (length xs)) ++ fresh_top (node_at xs i) i (node_at xs j).low j op ∷ [])
-ranged_root_grow xs i j op ranged f =
-    let y = left_below (node_at xs i) (length xs) in
-    let z = right_below (node_at xs j) (length xs) in
-    let g = fresh_top (node_at xs i) i (node_at xs j).low j op in
-    nodes_push IsRanged (set (set xs i y) j z) g
-    (nodes_set IsRanged (set xs i y) j z (omega (arith, f.right_there, length-set xs i y))
-    (nodes_set IsRanged xs i y f.left_there ranged (record { next = (ranged i f.left_there).next; parent = λ some. omega (arith, f.left_low, f.above, ap end_of f.fence); unmarked = (ranged i f.left_there).unmarked }))
-    (record { next = (ranged j f.right_there).next; parent = λ some. omega (arith, f.below, ap end_of f.right_high); unmarked = (ranged j f.right_there).unmarked }))
-    (record { next = λ some. absurd (some refl); parent = λ some. absurd (some refl); unmarked = λ whole live. omega arith })
-
--- the left neighbour of a node that is taken out ends where that ended
-pub ranged_unlinked : (xs : List NodeView) (i j q a : ℕ) → AreNodes xs → AreRanged xs → Unlinks xs i j q a
-    → AreRanged (set (set (set xs i (joined (node_at xs i) (node_at xs j))) j (retired (node_at xs j))) q (without_child (node_at xs q) a))
-ranged_unlinked xs i j q a nodes ranged f =
-    let l = node_at xs i in
-    let x = node_at xs j in
-    let p = node_at xs q in
-    let y = joined l x in
-    let size = length-set xs i y in
-    let size2 = length-set (set xs i y) j (retired x) in
-    let old = (nodes.pairs q j f.parent_there f.removed_there).child a f.in_range f.child f.parent_live in
-    let some : l.next ≢ None = λ none. absurd (let next = f.next in cc) in
-    let range : HasRange y = omega (arith, (ranged i f.left_there).next some, (ranged j f.removed_there).parent old.knows, ap end_of (((nodes.pairs i j f.left_there f.removed_there).next f.next).meets)) in
-    nodes_set IsRanged (set (set xs i y) j (retired x)) q (without_child p a) (omega (arith, f.parent_there, size, size2))
-    (nodes_set IsRanged (set xs i y) j (retired x) (omega (arith, f.removed_there, size))
-    (nodes_set IsRanged xs i y f.left_there ranged (record { next = λ e. range; parent = λ e. range; unmarked = λ whole live. range }))
-    (record { next = (ranged j f.removed_there).next; parent = (ranged j f.removed_there).parent; unmarked = λ whole live. absurd (cc) }))
-    (record { next = (ranged q f.parent_there).next; parent = (ranged q f.parent_there).parent; unmarked = (ranged q f.parent_there).unmarked })
-
--- so do those of an interior node that is parted
-pub ranged_parts : (xs : List NodeView) (i j : ℕ) (wide : NodeView) (op : ℕ) → i < length xs → j < length xs → AreRanged xs → HasRange (inner_left wide) → HasRange (inner_right wide op)
-    → AreRanged (set (set xs i (inner_left wide)) j (exact (node_at xs j)) ++ inner_right wide op ∷ [])
-ranged_parts xs i j wide op li lj ranged left right =
-    let y = inner_left wide in
-    nodes_push IsRanged (set (set xs i y) j (exact (node_at xs j))) (inner_right wide op)
-    (nodes_set IsRanged (set xs i y) j (exact (node_at xs j)) (omega (arith, lj, length-set xs i y))
-    (nodes_set IsRanged xs i y li ranged (record { next = λ some. left; parent = λ some. left; unmarked = λ whole live. left }))
-    (record { next = (ranged j lj).next; parent = (ranged j lj).parent; unmarked = (ranged j lj).unmarked }))
-    (record { next = λ some. right; parent = λ some. right; unmarked = λ whole live. right })
+pub ranged_root : (xs : List NodeView) (tree : ℕ) → AreNodes xs → AreRanged xs → AreRanged (xs ++ fresh_root tree ∷ [])
+ranged_root xs tree nodes ranged = ranged_more xs (fresh_root tree) (all_beside xs nodes) ranged (omega arith) (omega arith) refl

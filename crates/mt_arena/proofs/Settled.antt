@@ -18,7 +18,7 @@ alive true b stays live = absurd (grind (arith, stays refl, live))
 alive false b stays live = refl
 
 -- what can't be true is false
-not_true : (b : Bool) → (b ≡ true → ⊥) → b ≡ false
+pub not_true : (b : Bool) → (b ≡ true → ⊥) → b ≡ false
 not_true true refuted = absurd (refuted refl)
 not_true false refuted = refl
 

@@ -33,7 +33,7 @@ use Rattle.mt_arena.specs.Arena.{ArenaInvariant, ArenaView, Guarantee}
 use Rattle.mt_arena.specs.Contents.{content}
 use Rattle.mt_arena.specs.Accesses.{at, tree_of, IsOpen, with_node, with_row, MayPublish, MayChange}
 use Rattle.mt_arena.proofs.Quiet.{nodes_slots}
-use Rattle.mt_arena.proofs.Ranged.{ranged_turned}
+use Rattle.mt_arena.proofs.Ranged.{ranged_marked}
 use Rattle.mt_arena.proofs.Homes.{begun}
 use Rattle.mt_arena.proofs.Owners.{published, stored, dropped}
 use Rattle.mt_arena.proofs.LinkEdits.{HasLinksOf, links_insert, links_insert_back, links_set, links_set_back, links_remove, links_remove_back}
@@ -59,7 +59,7 @@ pub sound_slots : (xs : List NodeView) (trees : List Tree) (gone : List Retired)
     → MayHold trees (node_at xs i) slots → ArenaInvariant (set xs i (with_slots (node_at xs i) slots)) trees gone room
 sound_slots xs trees gone room i slots within sound held level may =
     let x = node_at xs i in
-    sound_set xs trees gone room i (with_slots x slots) within sound (nodes_slots xs i slots within sound.arena.nodes held level may.border (within_all x slots may.inside)) (ranged_turned xs i slots (with_slots x slots).version x.holder within sound.arena.ranged (sound.arena.ranged i within).unmarked)
+    sound_set xs trees gone room i (with_slots x slots) within sound (nodes_slots xs i slots within sound.arena.nodes held level may.border (within_all x slots may.inside)) (ranged_marked xs i slots (with_slots x slots).version within sound.arena.ranged refl (λ marked. marked) (λ whole. whole))
     record { tree = refl; deleted = refl; flag = refl; root = λ r. record { live = r.live; flag = r.flag; parentless = r.parentless; low = r.low; reach = r.reach } }
     may.keys
     record { tree = refl; deleted = refl; forth = may.forth; back = may.back }

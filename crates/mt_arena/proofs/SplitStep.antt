@@ -20,7 +20,7 @@ use Rattle.mt_arena.proofs.Pairs.{here, there}
 use Rattle.mt_arena.proofs.Homes.{KeepsHome, forest_set}
 use Rattle.mt_arena.proofs.LinkEdits.{HasSlot, HasLinksOf}
 use Rattle.mt_arena.proofs.Retiring.{retired_set}
-use Rattle.mt_arena.proofs.Ranged.{ranged_split_move}
+use Rattle.mt_arena.proofs.RangedEdits.{ranged_split_move}
 use Rattle.mt_arena.proofs.Move.{nodes_split_move}
 use Rattle.mt_arena.proofs.Guarantees.{guarantee_set, guarantee_on}
 use Rattle.mt_arena.proofs.HeldChanges.{changes_left_half, changes_right_half}
@@ -141,7 +141,7 @@ module _ (xs : List NodeView) (trees : List Tree) (i j : ℕ) (kept moved : List
   sound_split gone room sound empty no_root left right back_kept back_moved forth = record {
     arena = record {
       nodes = nodes_split_move xs i j kept moved li lj differ sound.arena.nodes s;
-      ranged = ranged_split_move xs i j kept moved li lj sound.arena.ranged s;
+      ranged = ranged_split_move xs i j kept moved li lj differ sound.arena.ranged s;
       forest = forest_split sound.arena.forest left right no_root;
       layers = layers_split sound.arena.layers empty back_kept back_moved forth;
     };

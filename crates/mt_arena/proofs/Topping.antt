@@ -19,7 +19,7 @@ use Rattle.mt_arena.specs.Growth.{fresh_top, left_below, right_below}
 use Rattle.mt_arena.specs.Several.{MayGrow, with_root}
 use Rattle.mt_arena.proofs.Pairs.{there, last}
 use Rattle.mt_arena.proofs.Grow.{nodes_root_grow, settled_root_grow}
-use Rattle.mt_arena.proofs.Ranged.{ranged_root_grow}
+use Rattle.mt_arena.proofs.RangedEdits.{ranged_root_grow}
 use Rattle.mt_arena.proofs.GrowStep.{forest_grown, same_prefix, same_standing}
 use Rattle.mt_arena.proofs.Growing.{layers_push}
 use Rattle.mt_arena.proofs.Retiring.{retired_push}
@@ -109,7 +109,7 @@ module _ (v : ArenaView) (room more left right op : ℕ) (sound : ArenaInvariant
       record {
         arena = record {
           nodes = nodes_root_grow xs left right op sound.arena.nodes sound.arena.ranged may.grows;
-          ranged = ranged_root_grow xs left right op sound.arena.ranged may.grows;
+          ranged = ranged_root_grow xs left right op sound.arena.nodes sound.arena.ranged may.grows;
           forest = forest_grown xs v.trees left right op may.grows forest may.is_root may.no_root;
           layers = layers_trees (ws ++ g ∷ []) v.trees ts (length-set v.trees l.tree grown)
               (same_prefix xs v.trees left right op may.grows forest may.is_root may.no_root) (same_standing xs v.trees left right op may.grows forest may.is_root may.no_root)

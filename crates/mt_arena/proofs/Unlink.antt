@@ -79,10 +79,10 @@ module _ (xs : List NodeView) (i j q a : ℕ) (nodes : AreNodes xs) (ranged : Ar
   meet = ap end_of (((nodes.pairs i j li lj).next f.next).meets)
 
   left_range : l.low < x.low
-  left_range = omega (arith, meet, (ranged i li).parent left_child.knows)
+  left_range = omega (arith, meet, (ranged.each i li).parent left_child.knows)
 
   range : x.low < end_of x.high
-  range = (ranged j lj).parent old_child.knows
+  range = (ranged.each j lj).parent old_child.knows
 
   ends_so : x.reach ≡ x.high
   ends_so = hx.reach.exact f.removed_whole
@@ -104,7 +104,7 @@ module _ (xs : List NodeView) (i j q a : ℕ) (nodes : AreNodes xs) (ranged : Ar
       let from = nodes.pairs k j lk lj in
       let high : end_of m.high ≡ x.low = ap end_of ((from.next e).meets) in
       let some : m.next ≢ None = λ none. absurd (cc) in
-      let wide : m.low < x.low = omega (arith, high, (ranged k lk).next some) in
+      let wide : m.low < x.low = omega (arith, high, (ranged.each k lk).next some) in
       let here = nodes.pairs i j li lj in
       (nodes.pairs k i lk li).apart ni (sym ((from.next e).tree) ∙ (here.next f.next).tree) (sym ((from.next e).level) ∙ (here.next f.next).level) live left_child.live (x.low - 1)
       (omega (arith, wide), omega (arith, wide, high)) (omega (arith, left_range), omega (arith, left_range, meet))

@@ -13,7 +13,8 @@ use Rattle.mt_arena.specs.declared.tree.Tree.{Tree}
 use Rattle.mt_arena.specs.declared.tree.Standing.TheVariants.{Made, Live, Dead}
 use Rattle.mt_arena.specs.NodeView.{NodeView, node_at}
 use Rattle.mt_arena.specs.Forests.{tree_at, layer_of}
-use Rattle.mt_arena.specs.Edits.{fresh_half, fresh_root, IsLeft}
+use Rattle.mt_arena.specs.Edits.{splitting, fresh_half, fresh_root, IsLeft}
+use Rattle.mt_arena.specs.Ranges.{Waits}
 use Rattle.mt_arena.specs.Arena.{ArenaView}
 
 -- the top tree of a new arena, and what such an arena shows
@@ -71,9 +72,9 @@ pub record IsFreshPrefix (v : ArenaView) (prefix : Bytes) : Type 0 where
   pub whole : 8 * layer_of prefix ≡ length prefix
   pub fresh : (t : ℕ) → t < length v.trees → (tree_at v.trees t).standing ≡ Live → (tree_at v.trees t).prefix ≢ prefix
 
--- one more node, without range, at the right of one that an operation splits
+-- a node that is being split, and one more node, without range, as its right half
 abbrev pub with_half : ArenaView → ℕ → ℕ → ℕ → ArenaView
-with_half v k low op = record v { nodes = v.nodes ++ fresh_half (at v k) low op ∷ [] }
+with_half v k low op = record v { nodes = slice_set v.nodes k (splitting (at v k)) ++ fresh_half (at v k) k low op ∷ [] }
 
 -- one more tree, with its root
 abbrev pub with_tree : ArenaView → Bytes → ℕ → ArenaView
@@ -82,10 +83,12 @@ with_tree v prefix op = record v {
   trees = v.trees ++ (record { prefix = prefix; root = length v.nodes; standing = Made op }) ∷ [];
 }
 
--- the operation may take a node out: it is empty, no live node leads to it, and it is no root of a tree that stands
+-- the operation may take a node out: it is empty, no live node leads to it, no right half waits at it, and it is no root of a tree that
+-- stands
 pub record MayRetire (v : ArenaView) (k op : ℕ) : Type 0 where
   pub held : IsHeld v k op
   pub live : (at v k).version.deleted ≡ false
   pub empty : (at v k).slots ≡ []
   pub left : IsLeft v.nodes k
+  pub unawaited : (j : ℕ) → j < length v.nodes → (at v j).previous ≡ Some k → Waits (at v j) → ⊥
   pub no_root : (t : ℕ) → t < length v.trees → (tree_at v.trees t).root ≡ k → (tree_at v.trees t).standing ≡ Dead

@@ -57,9 +57,9 @@ bare border tree level low op = record no_node {
   holder = Some op;
 }
 
--- the right half of a border node that an operation splits
-abbrev pub fresh_half : NodeView → ℕ → ℕ → NodeView
-fresh_half n low op = bare true n.tree n.level low op
+-- the right half of a border node that an operation splits, whose number it has: it names the node as the one before
+abbrev pub fresh_half : NodeView → ℕ → ℕ → ℕ → NodeView
+fresh_half n left low op = record (bare true n.tree n.level low op) { previous = Some left }
 
 -- the first node of a tree
 abbrev pub fresh_root : ℕ → NodeView

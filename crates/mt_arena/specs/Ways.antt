@@ -1,5 +1,5 @@
 -- The way of a key down the layers, and the slots that stand for it.
-use Rattle.std.specs.Prelude.{◌≡◌, ◌≢◌, ℕ, ◌+◌, ◌*◌, ◌<◌, false, List, [], ◌∷◌, length, take, Some}
+use Rattle.std.specs.Prelude.{◌≡◌, ◌≢◌, ℕ, ◌+◌, ◌*◌, ◌<◌, false, List, [], ◌∷◌, length, take, Some, None}
 use Rattle.std.specs.List.{All}
 use Rattle.mt_slices.specs.Slices.{slice_of}
 use Rattle.mt_slices.specs.declared.mark.Mark.TheVariants.{Short, Long}
@@ -10,7 +10,7 @@ use Rattle.mt_border.specs.declared.entry.Held.TheVariants.{Link}
 use Rattle.mt_border.specs.Entry.{pair_of}
 use Rattle.mt_border.specs.Contents.{HasKey, IsOfTree}
 use Rattle.mt_arena.specs.declared.tree.Tree.{Tree}
-use Rattle.mt_arena.specs.declared.tree.Standing.TheVariants.{Made, Live}
+use Rattle.mt_arena.specs.declared.tree.Standing.TheVariants.{Made, Live, Dead}
 use Rattle.mt_arena.specs.NodeView.{NodeView, node_at}
 use Rattle.mt_arena.specs.Nodes.{Holds}
 use Rattle.mt_arena.specs.Forests.{tree_at}
@@ -87,3 +87,11 @@ pub record GoesOn (trees : List Tree) (key : Bytes) (layer u : ℕ) : Type 0 whe
   pub live : (tree_at trees u).standing ≡ Live
   pub of_tree : IsOfTree (tree_at trees u).prefix layer key
   pub begun : 8 * layer < length key
+
+-- node r is the root of a tree that is not dead, a border node, and nobody holds it
+pub record IsFreeRoot (nodes : List NodeView) (trees : List Tree) (r : ℕ) : Type 0 where
+  pub there : r < length nodes
+  pub root : (tree_at trees (node_at nodes r).tree).root ≡ r
+  pub stands : (tree_at trees (node_at nodes r).tree).standing ≢ Dead
+  pub border : (node_at nodes r).level ≡ 0
+  pub free : (node_at nodes r).holder ≡ None

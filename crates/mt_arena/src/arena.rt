@@ -24,6 +24,7 @@ ghost use Rattle.mt_arena.specs.Forests.{tree_at, layer_of};
 ghost use Rattle.mt_arena.specs.Layers.{slot_at};
 ghost use Rattle.mt_arena.specs.Settled.{IsSettled};
 ghost use Rattle.mt_arena.specs.Nodes.{HasRange};
+ghost use Rattle.mt_arena.specs.Ranges.{Waits};
 ghost use Rattle.mt_arena.specs.Edits.{locked, unlocked, splitting, retired, with_slots, pointed, fresh_root, Points};
 ghost use Rattle.mt_arena.specs.Arena.{IsArena, AreRetired, content_of, Guarantee};
 ghost use Rattle.mt_slices.specs.Marks.{IsMark};
@@ -170,11 +171,13 @@ impl Arena {
         self.nodes[node].mark_splitting();
     }
 
-    /// Writes the neighbour before a border node: one that the operation holds.
+    /// Writes the neighbour before a border node: one that the operation holds. A right half that waits
+    /// for its range keeps its left half.
     pub fn set_previous(&mut self, node: usize, previous: usize, operation: usize)
         requires there { node < length self.old.nodes }
         requires border { (at self.old node).level ≡ 0 }
         requires held { IsHeld self.old previous operation }
+        requires tied { Waits (at self.old node) → (at self.old node).previous ≡ Some previous }
         requires mine { IsOpen self.old node operation }
         ensures is { self.new ≡ with_node self.old node (pointed (at self.old node) (Some previous) (at self.old node).parent) }
         ensures step { Guarantee operation self.old self.new }
@@ -237,8 +240,9 @@ impl Arena {
         self.nodes[node].drop_key(slot)
     }
 
-    /// A new border node without range, which the operation holds, for the right half of one that it
-    /// splits. An error leaves all as it was.
+    /// Begins the split of a border node: marks it for readers of its range, and makes its right half, a
+    /// node without range that names it as the one before, and which the operation holds. An error
+    /// leaves all as it was.
     pub fn alloc_node(
         &mut self,
         left: usize,
@@ -248,6 +252,7 @@ impl Arena {
         requires held { IsHeld self.old left operation }
         requires live { (at self.old left).version.deleted ≡ false }
         requires border { (at self.old left).level ≡ 0 }
+        requires range { HasRange (at self.old left) }
         requires mine { IsOpen self.old left operation }
         ensures number { IfOk result (λ node. node ≡ length self.old.nodes) }
         ensures is { OnOk result (self.new ≡ with_half self.old left low operation) }
@@ -257,7 +262,8 @@ impl Arena {
     {
         make_room(&mut self.nodes, &mut self.trees, &mut self.retired)?;
         let number = self.nodes.len();
-        let half = self.nodes[left].half(self.alloc, low, operation);
+        let half = self.nodes[left].half(self.alloc, left, low, operation);
+        self.nodes[left].mark_splitting();
         self.nodes.push_reserved(half);
         Ok(number)
     }

@@ -27,7 +27,7 @@ ghost use Rattle.mt_arena.specs.Arena.{IsArena};
 ghost use Rattle.mt_arena.specs.Guarantee.{NodesGuarantee, PointsOnly};
 ghost use Rattle.mt_arena.specs.Settled.{IsSettled};
 ghost use Rattle.mt_arena.specs.Stands.{IsLiveBorder, StandsAt};
-ghost use Rattle.mt_arena.specs.Ways.{LinksOn, BelongsIn, StandsFor, GoesOn, HasSlots, IsUnfilled, IsMadeFor};
+ghost use Rattle.mt_arena.specs.Ways.{LinksOn, BelongsIn, StandsFor, GoesOn, HasSlots, IsUnfilled, IsMadeFor, IsFreeRoot};
 
 /// In a tree a slice and a mark stand in one slot of one live border node, and all slots of one
 /// slice stand in one node: the one that has the slice in its range.
@@ -174,6 +174,14 @@ pub fn a_child_is_no_root()
     ensures { (nodes : List NodeView) (trees : List Tree) (k : ℕ) → IsArena nodes trees → k < length nodes →
         (node_at nodes k).version.deleted ≡ false → (node_at nodes k).parent ≢ None →
         HasRange (node_at nodes k) × ((node_at nodes k).version.root ≡ false) }
+{}
+
+/// A root that is a border node and that nobody holds is the only live node of its tree: every other
+/// one, also one that an operation has just made, is deleted.
+pub fn alone_in_its_tree()
+    ensures { (nodes : List NodeView) (trees : List Tree) (r k : ℕ) → IsArena nodes trees → IsFreeRoot nodes trees r →
+        k < length nodes → k ≢ r → (node_at nodes k).tree ≡ (node_at nodes r).tree →
+        (node_at nodes k).version.deleted ≡ true }
 {}
 
 /// What steps of one operation leave to others adds up: nothing is done by no step, and two steps are

@@ -74,14 +74,17 @@ impl Node {
         }
     }
 
-    /// A border node without range, which an operation holds, to the right of one that it splits.
-    pub(crate) fn half(&self, alloc: Global, low: u64, operation: usize) -> Self
+    /// A border node without range, which an operation holds, to the right of one that it splits: the
+    /// node of the number `left`, which is this one.
+    pub(crate) fn half(&self, alloc: Global, left: usize, low: u64, operation: usize) -> Self
         requires border { self.now.level ≡ 0 }
-        ensures { result ≡ fresh_half self.now low operation }
+        ensures { result ≡ fresh_half self.now left low operation }
     {
         let version = Version::child_border().locked().marked_splitting();
+        let mut half = Border::new(alloc, low, Some(low), version);
+        half.set_previous(Some(left));
         Node {
-            kind: NodeKind::Leaf(Border::new(alloc, low, Some(low), version)),
+            kind: NodeKind::Leaf(half),
             tree: self.tree,
             level: self.level,
             reach: Some(low),
