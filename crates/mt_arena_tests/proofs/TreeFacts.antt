@@ -1,8 +1,10 @@
 -- What the facts of an arena say of one tree, for the stories of a tree.
-use Rattle.std.proofs.Common.{◌≡◌, ◌≢◌, ◌⊎◌, ℕ, ◌+◌, ◌<◌, ◌≤◌, List, [], length, Some, None, false, sym, ap, ◌∙◌, arith, inl, inr}
+use Rattle.std.proofs.Common.{◌≡◌, ◌≢◌, ◌⊎◌, ℕ, suc, ◌+◌, ◌<◌, ◌≤◌, List, [], ◌∷◌, ◌++◌, length, get_or, Option, Some, None, false, refl, sym, ap, ◌∙◌, arith, inl, inr, length-append}
 use Rattle.std.proofs.lemmas.Bool.{cases_lt}
 use Rattle.std.proofs.lemmas.List.Edits.{length-insert, get_or-insert_below, get_or-insert_at, get_or-insert_above}
 use Rattle.mt_interior.specs.Places.{place_of}
+use Rattle.mt_interior.specs.Fences.{end_of}
+use Rattle.mt_arena.specs.NodeFacts.{FitsChildren}
 use Rattle.mt_interior.proofs.CallerLemmas.{place_of-le-length}
 use Rattle.mt_arena.specs.declared.tree.Tree.{Tree}
 use Rattle.mt_arena.specs.declared.tree.Standing.TheVariants.{Made, Live}
@@ -44,3 +46,14 @@ new_child p separator q size live =
     let within : a ≤ length p.children = omega (arith, place_of-le-length p.separators separator, size) in
     let more = length-insert p.children a q within in
     record { live = live; place = a; in_range = omega (arith, within, more); is = get_or-insert_at p.children a q 0 within }
+
+-- an interior node with children has a range
+end_at : (xs : List ℕ) (e : ℕ) → get_or (xs ++ e ∷ []) (length xs) 0 ≡ e
+end_at [] e = refl
+end_at (x ∷ xs) e = end_at xs e
+
+pub has_range : (level low : ℕ) (high : Option ℕ) (separators children : List ℕ) → FitsChildren level low high separators children → 0 < length children → low < end_of high
+has_range level low high separators children facts some =
+    let e : ℕ = end_of high in
+    let rises = facts.rise (λ none. omega (arith, some, ap length none)) 0 (suc (length separators)) (omega arith) (omega (arith, length-append separators (e ∷ []))) in
+    omega (arith, rises, end_at separators e)

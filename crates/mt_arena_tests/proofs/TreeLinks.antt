@@ -1,22 +1,27 @@
 -- A right half comes to its parent: what each call needs, and that nothing lags behind the three nodes when they are unlocked.
 use Rattle.std.proofs.lemmas.Option.{same_Some}
-use Rattle.std.proofs.Common.{◌≡◌, ◌≢◌, ◌⊎◌, ℕ, ◌+◌, ◌<◌, ◌≤◌, List, [], length, set, Some, None, true, false, refl, sym, ap, subst, ◌∙◌, arith, inl, inr}
+use Rattle.std.proofs.lemmas.List.{length-take, length-drop}
+use Rattle.std.proofs.lemmas.List.Edits.{length-insert}
+use Rattle.mt_interior.specs.Places.{place_of}
+use Rattle.mt_interior.proofs.CallerLemmas.{place_of-le-length}
+use Rattle.std.proofs.Common.{◌≡◌, ◌≢◌, ◌⊎◌, ℕ, ◌+◌, ◌<◌, ◌≤◌, List, [], ◌∷◌, ◌++◌, length, set, Some, None, true, false, refl, sym, ap, subst, ◌∙◌, arith, inl, inr, length-append}
 use Rattle.mt_interior.specs.Fences.{end_of}
 use Rattle.mt_arena.specs.NodeView.{NodeView, node_at}
 use Rattle.mt_arena.specs.Nodes.{HasChild, IsChild}
 use Rattle.mt_arena.specs.Settled.{IsSettled}
 use Rattle.mt_arena.specs.Lags.{Follows, IsUnder}
-use Rattle.mt_arena.specs.Edits.{locked, unlocked, inserting, pointed}
-use Rattle.mt_arena.specs.Splits.{Inserts, with_child, exact}
-use Rattle.mt_arena.specs.Several.{with_right, MayInsert}
+use Rattle.mt_arena.specs.Edits.{locked, unlocked, inserting, splitting, pointed}
+use Rattle.mt_arena.specs.Splits.{Inserts, with_child, exact, inner_left, inner_right}
+use Rattle.mt_arena.specs.Several.{with_right, with_parts, MayInsert, MaySplitInner}
 use Rattle.mt_version.specs.Changes.{CanUnlock}
 use Rattle.mt_arena.specs.Arena.{ArenaView, IsArena}
 use Rattle.mt_arena.specs.Accesses.{at, with_node, IsHeld}
 use Rattle.mt_arena.proofs.Settled.{settled_free}
-use Rattle.mt_arena.proofs.Lags.{settled_of}
-use Rattle.mt_arena_tests.specs.TreeStory.{IsAtRest, AreHalves, MayCount}
-use Rattle.mt_arena_tests.proofs.TreeReads.{Reads, reads_i, reads_j, reads_q, reads_all, reads_right, follows_on, under_on}
-use Rattle.mt_arena_tests.proofs.TreeFacts.{of_top, tree_live, open_of, as_child, child_more, new_child}
+use Rattle.mt_arena.proofs.Lags.{settled_of, child_parted}
+use Rattle.mt_arena.proofs.Pairs.{last, before}
+use Rattle.mt_arena_tests.specs.TreeStory.{IsAtRest, AreHalves, AreTold, MayCount}
+use Rattle.mt_arena_tests.proofs.TreeReads.{Reads, reads_i, reads_j, reads_q, reads_all, reads_right, reads_more, follows_more, under_more, SamePrevious, SameParent, follows_on, under_on}
+use Rattle.mt_arena_tests.proofs.TreeFacts.{of_top, tree_live, open_of, as_child, child_more, new_child, has_range}
 
 module _ (v : ArenaView) (i j q : ℕ) (arena : IsArena v.nodes v.trees) (h : AreHalves v j q) (up : (at v j).parent ≡ Some i) where
   abbrev xs : List NodeView
@@ -206,3 +211,233 @@ module _ (v : ArenaView) (i j q : ℕ) (arena : IsArena v.nodes v.trees) (h : Ar
         one_tree = h.apart.one_tree;
         free = reads_all (λ k n. n.holder ≡ None) (set v5.nodes q (unlocked (at v5 q))) xs i j q (unlocked wide) (unlocked (exact l)) (unlocked (at v5 q)) after refl refl refl (λ k lt _ nj nq. h.apart.free k lt nj nq);
       }
+
+  -- where the parent is full, it is split in its turn
+  module _ (full : length p.separators ≡ 15) (inner : p.next ≡ None) (count : MayCount p.version) where
+    abbrev n : ℕ
+    n = length v.nodes
+
+    abbrev parted : NodeView
+    parted = with_child (splitting (locked p 5)) r.low q
+
+    abbrev lower : NodeView
+    lower = inner_left parted
+
+    abbrev upper : NodeView
+    upper = inner_right parted 5
+
+    abbrev w3 : ArenaView
+    w3 = record v2 { nodes = with_parts v2.nodes i j q 5 }
+
+    abbrev w4 : ArenaView
+    w4 = with_node w3 j (unlocked (at w3 j))
+
+    abbrev w5 : ArenaView
+    w5 = with_node w4 q (unlocked (at w4 q))
+
+    pub may_part : MaySplitInner v2 i j q 5
+    may_part = record {
+      inserts = inserts2;
+      held = record { there = omega (arith, parent_there, reads2.size); holder = ap (λ (m : NodeView). m.holder) reads2.at_i };
+      left_held = record { there = omega (arith, left_there, reads2.size); holder = ap (λ (m : NodeView). m.holder) reads2.at_j ∙ h.apart.left_tidy.held.holder };
+      mine = rw reads2.at_i (open_of v.trees p.tree 5 (tree_live v i arena h.apart.one_tree parent_there));
+      full = rw reads2.at_i full;
+      next = rw reads2.at_i inner;
+    }
+
+    abbrev wide2 : NodeView
+    wide2 = with_child (splitting (at v2 i)) (at v2 q).low q
+
+    abbrev fresh : NodeView
+    fresh = inner_right wide2 5
+
+    abbrev all : List NodeView
+    all = xs ++ fresh ∷ []
+
+    one_more : length all ≡ n + 1
+    one_more = length-append xs (fresh ∷ [])
+
+    wide_is : wide2 ≡ parted
+    wide_is = λ a. with_child (splitting (reads2.at_i a)) (reads2.at_q a).low q
+
+    in_all : (k : ℕ) → k < n → k < length all
+    in_all k lt = omega (arith, lt, one_more)
+
+    parts3 : Reads w3.nodes all i j q lower (exact l) told
+    parts3 =
+        let half = set v2.nodes i (inner_left wide2) in
+        let both = reads_j half xs i j q (inner_left wide2) l told ij iq h.apart.differ (reads_i v2.nodes xs i j q (locked p 5) l told ij iq h.apart.differ reads2 (inner_left wide2) parent_there) (exact (at v2 j)) left_there in
+        let after = reads_more xs fresh (set half j (exact (at v2 j))) i j q (inner_left wide2) (exact (at v2 j)) told parent_there left_there right_there both in
+        record { size = after.size; at_i = after.at_i ∙ ap inner_left wide_is; at_j = after.at_j ∙ ap exact reads2.at_j; at_q = after.at_q; others = after.others }
+
+    parts4 : Reads w4.nodes all i j q lower (unlocked (exact l)) told
+    parts4 =
+        let after = reads_j w3.nodes all i j q lower (exact l) told ij iq h.apart.differ parts3 (unlocked (at w3 j)) (in_all j left_there) in
+        record { size = after.size; at_i = after.at_i; at_j = after.at_j ∙ ap unlocked parts3.at_j; at_q = after.at_q; others = after.others }
+
+    parts5 : Reads w5.nodes all i j q lower (unlocked (exact l)) (unlocked told)
+    parts5 =
+        let after = reads_q w4.nodes all i j q lower (unlocked (exact l)) told ij iq h.apart.differ parts4 (unlocked (at w4 q)) (in_all q right_there) in
+        record { size = after.size; at_i = after.at_i; at_j = after.at_j; at_q = after.at_q ∙ ap unlocked parts4.at_q; others = after.others }
+
+    -- who names which node
+    same_i : SamePrevious (node_at all i) lower × SameParent (node_at all i) lower
+    same_i = rw (before xs fresh i parent_there) (record { previous = refl; deleted = refl }, record { parent = refl; deleted = refl })
+
+    same_j : SamePrevious (node_at all j) (exact l) × SameParent (node_at all j) (exact l)
+    same_j = rw (before xs fresh j left_there) (record { previous = refl; deleted = refl }, record { parent = refl; deleted = refl })
+
+    same_q : SamePrevious (node_at all q) told
+    same_q = rw (before xs fresh q right_there) (record { previous = refl; deleted = refl })
+
+    behind3 : (t k : ℕ) → Follows w3.nodes t k → Follows xs t k
+    behind3 t k f = follows_more xs fresh t k refl (follows_on w3.nodes all i j q lower (exact l) told parts3 (in_all i parent_there) (in_all j left_there) (in_all q right_there) same_i.0 same_j.0 same_q t k f)
+
+    behind4 : (t k : ℕ) → Follows w4.nodes t k → Follows xs t k
+    behind4 t k f = follows_more xs fresh t k refl (follows_on w4.nodes all i j q lower (unlocked (exact l)) told parts4 (in_all i parent_there) (in_all j left_there) (in_all q right_there) same_i.0 (record { previous = same_j.0.previous; deleted = same_j.0.deleted }) same_q t k f)
+
+    behind5 : (t k : ℕ) → Follows w5.nodes t k → Follows xs t k
+    behind5 t k f = follows_more xs fresh t k refl (follows_on w5.nodes all i j q lower (unlocked (exact l)) (unlocked told) parts5 (in_all i parent_there) (in_all j left_there) (in_all q right_there) same_i.0
+        (record { previous = same_j.0.previous; deleted = same_j.0.deleted }) (record { previous = same_q.previous; deleted = same_q.deleted }) t k f)
+
+    above3 : (t k : ℕ) → IsUnder w3.nodes t k → ((k ≡ q) × (Some i ≡ Some t)) ⊎ IsUnder xs t k
+    above3 t k u = elim (under_on w3.nodes all i j q lower (exact l) told parts3 (in_all i parent_there) (in_all j left_there) same_i.1 same_j.1 t k u) [
+      | inl new ↦ inl new
+      | inr old ↦ inr (under_more xs fresh t k refl old)
+    ]
+
+    above4 : (t k : ℕ) → IsUnder w4.nodes t k → ((k ≡ q) × (Some i ≡ Some t)) ⊎ IsUnder xs t k
+    above4 t k u = elim (under_on w4.nodes all i j q lower (unlocked (exact l)) told parts4 (in_all i parent_there) (in_all j left_there) same_i.1 (record { parent = same_j.1.parent; deleted = same_j.1.deleted }) t k u) [
+      | inl new ↦ inl new
+      | inr old ↦ inr (under_more xs fresh t k refl old)
+    ]
+
+    above5 : (t k : ℕ) → IsUnder w5.nodes t k → ((k ≡ q) × (Some i ≡ Some t)) ⊎ IsUnder xs t k
+    above5 t k u = elim (under_on w5.nodes all i j q lower (unlocked (exact l)) (unlocked told) parts5 (in_all i parent_there) (in_all j left_there) same_i.1 (record { parent = same_j.1.parent; deleted = same_j.1.deleted }) t k u) [
+      | inl new ↦ inl new
+      | inr old ↦ inr (under_more xs fresh t k refl old)
+    ]
+
+    -- the left half is given back, then the right one
+    pub held_left : IsHeld w3 j 5
+    held_left = record { there = omega (arith, left_there, one_more, parts3.size); holder = ap (λ (m : NodeView). m.holder) parts3.at_j ∙ h.apart.left_tidy.held.holder }
+
+    pub settled_left : IsSettled w3.nodes j (at w3 j)
+    settled_left = subst (λ (m : NodeView). IsSettled w3.nodes j m) (sym parts3.at_j) (settled_of w3.nodes j (exact l)
+      (λ k f. h.apart.left_tidy.followers k (behind3 j k f)) (λ _ _. h.apart.left_tidy.live)
+      (λ k u. elim (above3 j k u) [
+        | inl new ↦ absurd (ij (same_Some _ _ new.1))
+        | inr old ↦ h.children k old
+      ])
+      refl h.apart.left_tidy.stable (λ _ none. h.apart.rooted none))
+
+    pub room_left : CanUnlock (at w3 j).version
+    room_left = rw parts3.at_j h.apart.left_tidy.room
+
+    pub held_right : IsHeld w4 q 5
+    held_right = record { there = omega (arith, right_there, one_more, parts4.size); holder = ap (λ (m : NodeView). m.holder) parts4.at_q ∙ h.apart.right_tidy.held.holder }
+
+    pub settled_right : IsSettled w4.nodes q (at w4 q)
+    settled_right = subst (λ (m : NodeView). IsSettled w4.nodes q m) (sym parts4.at_q) (settled_of w4.nodes q told
+      (λ k f. h.apart.right_tidy.followers k (behind4 q k f)) (λ _ _. h.apart.right_tidy.live)
+      (λ k u. elim (above4 q k u) [
+        | inl new ↦ absurd (iq (same_Some _ _ new.1))
+        | inr old ↦ h.apart.right_children k old
+      ])
+      h.apart.exact h.apart.right_tidy.stable (λ _ none. absurd (cc)))
+
+    pub room_right : CanUnlock (at w4 q).version
+    room_right = rw parts4.at_q h.apart.right_tidy.room
+
+    -- and the halves of the parent are left, whose children are to be told
+    at_low : at w5 i ≡ lower
+    at_low = parts5.at_i
+
+    at_high : at w5 n ≡ upper
+    at_high = parts5.others n (omega (arith, one_more)) (λ e. absurd (omega (arith, parent_there, e))) (λ e. absurd (omega (arith, left_there, e))) (λ e. absurd (omega (arith, right_there, e)))
+        ∙ last xs fresh ∙ ap (λ (m : NodeView). inner_right m 5) wide_is
+
+    p_settled : IsSettled xs i p
+    p_settled = settled_free xs i parent_there arena.nodes parent_free
+
+    p_live : p.version.deleted ≡ false
+    p_live = (h.apart.under i up).live
+
+    p_size : length p.children ≡ length p.separators + 1
+    p_size = omega (arith, (arena.nodes.each i parent_there).children.interior.between, (h.apart.under i up).in_range)
+
+    low_long : length lower.children ≡ 9
+    low_long = omega (arith, length-take 9 parted.children, length-insert p.children (place_of p.separators r.low + 1) q (omega (arith, place_of-le-length p.separators r.low, p_size)), p_size, full)
+
+    high_long : length upper.children ≡ 8
+    high_long = omega (arith, length-drop 9 parted.children, length-insert p.children (place_of p.separators r.low + 1) q (omega (arith, place_of-le-length p.separators r.low, p_size)), p_size, full)
+
+    -- the parent's own parent is neither of the two children
+    grand : (b : ℕ) → p.parent ≡ Some b → HasChild (at v b) i
+    grand b e =
+        let lb : b < n = (arena.nodes.each i parent_there).names.parent b e in
+        let nj : b ≢ j = λ same. absurd (
+          let c = h.children i (parent_there, e ∙ ap (λ (k : ℕ). Some k) same, p_live) in
+          omega (arith, is_child.level, (as_child xs j i arena.nodes left_there parent_there c).level)) in
+        let nq : b ≢ q = λ same. absurd (
+          let c = h.apart.right_children i (parent_there, e ∙ ap (λ (k : ℕ). Some k) same, p_live) in
+          omega (arith, is_child.level, h.apart.level, (as_child xs q i arena.nodes right_there parent_there c).level)) in
+        ((arena.nodes.pairs i b parent_there lb).named p_live (h.apart.free b lb nj nq)).knows e
+
+    pub told5 : IsArena w5.nodes w5.trees → AreTold w5 i n 0
+    told5 after = record {
+      apart = record {
+        one_tree = h.apart.one_tree;
+        differ = λ e. absurd (omega (arith, parent_there, e));
+        free = λ k lt. reads_all (λ k m. k ≢ i → k ≢ n → m.holder ≡ None) w5.nodes all i j q lower (unlocked (exact l)) (unlocked told) parts5 (λ ni _. absurd (ni refl)) (λ _ _. refl) (λ _ _. refl)
+            (λ k lt ni nj nq _ nn.
+              let was : k < n = omega (arith, lt, one_more, nn) in
+              rw (before xs fresh k was) (h.apart.free k was nj nq)) k lt;
+        left_tidy = record {
+          held = record { there = omega (arith, parent_there, one_more, parts5.size); holder = ap (λ (m : NodeView). m.holder) at_low };
+          live = rw at_low p_live;
+          marked = ap (λ (m : NodeView). m.version.splitting) at_low;
+          followers = rw at_low (λ k f. let b = behind5 i k f in p_settled.previous k b.0 b.1 b.2);
+          stable = rw at_low p_settled.stable;
+          room = rw at_low ((λ _. omega (arith, count.splits)), (λ e. absurd (cc)));
+        };
+        right_tidy = record {
+          held = record { there = omega (arith, one_more, parts5.size); holder = ap (λ (m : NodeView). m.holder) at_high };
+          live = ap (λ (m : NodeView). m.version.deleted) at_high;
+          marked = ap (λ (m : NodeView). m.version.splitting) at_high;
+          followers = λ k f. let b = behind5 n k f in absurd (omega (arith, (arena.nodes.each k b.0).names.previous n b.1));
+          stable = rw at_high (λ a d lt. absurd (omega (arith, lt)));
+          room = rw at_high ((λ _. omega arith), (λ e. absurd (cc)));
+        };
+        right_children = λ k u. elim (above5 n k u) [
+          | inl new ↦ absurd (omega (arith, parent_there, same_Some _ _ new.1))
+          | inr old ↦ absurd (omega (arith, (arena.nodes.each k old.0).names.parent n old.1))
+        ];
+        level = rw (at_high, at_low) refl;
+        fence = rw (at_low, at_high) refl;
+        reach = rw (at_high, at_low) refl;
+        exact = rw at_high p_settled.reach;
+        above = rw (at_low, at_high) (has_range lower.level lower.low lower.high lower.separators lower.children (rw at_low at (after.nodes.each i (omega (arith, parent_there, one_more, parts5.size))).children) (omega (arith, low_long)));
+        range = rw at_high (has_range upper.level upper.low upper.high upper.separators upper.children (rw at_high at (after.nodes.each n (omega (arith, one_more, parts5.size))).children) (omega (arith, high_long)));
+        orphan = ap (λ (m : NodeView). m.parent) at_high;
+        no_root = ap (λ (m : NodeView). m.version.root) at_high;
+        rooted = rw at_low (p_settled.rooted p_live);
+        under = λ b. rw at_low (λ e.
+          let lb : b < n = (arena.nodes.each i parent_there).names.parent b e in
+          let level = (as_child xs b i arena.nodes lb parent_there (grand b e)).level in
+          let ni : b ≢ i = λ same. absurd (omega (arith, level, ap (λ k. (at v k).level) same)) in
+          let nj : b ≢ j = λ same. absurd (omega (arith, level, is_child.level, ap (λ k. (at v k).level) same)) in
+          let nq : b ≢ q = λ same. absurd (omega (arith, level, is_child.level, h.apart.level, ap (λ k. (at v k).level) same)) in
+          rw (parts5.others b (in_all b lb) ni nj nq, before xs fresh b lb) (grand b e));
+      };
+      above = rw at_high (omega (arith, is_child.level));
+      lag = rw (at_low, at_high) (λ k u.
+        let child : HasChild parted k = elim (above5 i k u) [
+          | inl new ↦ rw new.0 (new_child (splitting (locked p 5)) r.low q p_size p_live)
+          | inr old ↦ child_more (splitting (locked p 5)) r.low q k p_size (p_settled.parent k old.0 old.1 old.2)
+        ] in
+        elim (child_parted parted 5 k child) [
+          | inl low ↦ inl low
+          | inr high ↦ inr (record { place = high.place; from = omega arith; in_range = high.in_range; is = high.is })
+        ]);
+    }

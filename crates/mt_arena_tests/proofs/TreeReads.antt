@@ -1,5 +1,5 @@
 -- What stands in a list of nodes of which three are changed, one after the other: for the steps of the stories of a tree.
-use Rattle.std.proofs.Common.{◌≡◌, ◌≢◌, ◌⊎◌, ℕ, ◌+◌, ◌<◌, List, [], ◌∷◌, ◌++◌, length, set, Some, None, false, refl, sym, ap, subst, ◌∙◌, inl, inr, arith}
+use Rattle.std.proofs.Common.{◌≡◌, ◌≢◌, ◌⊎◌, ℕ, ◌+◌, ◌<◌, List, [], ◌∷◌, ◌++◌, length, set, Some, None, false, refl, sym, ap, subst, ◌∙◌, inl, inr, arith, length-append}
 use Rattle.std.proofs.lemmas.Bool.{cases_eq}
 use Rattle.std.proofs.lemmas.List.{length-set}
 use Rattle.mt_arena.specs.NodeView.{NodeView, node_at}
@@ -7,7 +7,7 @@ use Rattle.mt_arena.specs.Lags.{Follows, IsUnder}
 use Rattle.mt_arena.specs.Several.{with_right}
 use Rattle.mt_arena.specs.Splits.{with_child, exact}
 use Rattle.mt_arena.specs.Edits.{inserting}
-use Rattle.mt_arena.proofs.Pairs.{here, there}
+use Rattle.mt_arena.proofs.Pairs.{here, there, last, before}
 
 -- these three nodes stand in ys, and the others as in xs
 pub record Reads (ys xs : List NodeView) (i j q : ℕ) (y z w : NodeView) : Type 0 where
@@ -85,6 +85,45 @@ under_on ys xs i j q y z w r li lj one two t k is =
     reads_all (λ k n. n.parent ≡ Some t → n.version.deleted ≡ false → ((k ≡ q) × (w.parent ≡ Some t)) ⊎ IsUnder xs t k) ys xs i j q y z w r
     (λ e live. inr (li, sym one.parent ∙ e, sym one.deleted ∙ live)) (λ e live. inr (lj, sym two.parent ∙ e, sym two.deleted ∙ live))
     (λ e live. inl (refl, e)) (λ k lt _ _ _ e live. inr (lt, e, live)) k is.0 is.1 is.2
+
+-- with one more node behind, which names none
+module _ (xs : List NodeView) (m : NodeView) where
+  pub reads_more : (ys : List NodeView) (i j q : ℕ) (y z w : NodeView) → i < length xs → j < length xs → q < length xs → Reads ys xs i j q y z w → Reads (ys ++ m ∷ []) (xs ++ m ∷ []) i j q y z w
+  reads_more ys i j q y z w li lj lq r =
+      let more : length (ys ++ m ∷ []) ≡ length xs + 1 = length-append ys (m ∷ []) ∙ ap (λ k. k + 1) r.size in
+      let size : length (xs ++ m ∷ []) ≡ length xs + 1 = length-append xs (m ∷ []) in
+      record {
+        size = more ∙ sym size;
+        at_i = before ys m i (omega (arith, li, r.size)) ∙ r.at_i;
+        at_j = before ys m j (omega (arith, lj, r.size)) ∙ r.at_j;
+        at_q = before ys m q (omega (arith, lq, r.size)) ∙ r.at_q;
+        others = λ k lt ni nj nq. elim (cases_eq k (length xs)) [
+          | inl end ↦ rw end (ap (node_at (ys ++ m ∷ [])) (sym r.size) ∙ last ys m ∙ sym (last xs m))
+          | inr other ↦
+              let was : k < length xs = omega (arith, lt, size, other) in
+              before ys m k (omega (arith, was, r.size)) ∙ r.others k was ni nj nq ∙ sym (before xs m k was)
+        ];
+      }
+
+  pub follows_more : (t k : ℕ) → m.previous ≡ None → Follows (xs ++ m ∷ []) t k → Follows xs t k
+  follows_more t k none is = elim (cases_eq k (length xs)) [
+    | inl end ↦
+        let own = sym (ap (λ (n : NodeView). n.previous) (ap (node_at (xs ++ m ∷ [])) end ∙ last xs m)) ∙ is.1 in
+        absurd (cc)
+    | inr other ↦
+        let was : k < length xs = omega (arith, is.0, length-append xs (m ∷ []), other) in
+        (was, rw (before xs m k was) at is.1, rw (before xs m k was) at is.2)
+  ]
+
+  pub under_more : (t k : ℕ) → m.parent ≡ None → IsUnder (xs ++ m ∷ []) t k → IsUnder xs t k
+  under_more t k none is = elim (cases_eq k (length xs)) [
+    | inl end ↦
+        let own = sym (ap (λ (n : NodeView). n.parent) (ap (node_at (xs ++ m ∷ [])) end ∙ last xs m)) ∙ is.1 in
+        absurd (cc)
+    | inr other ↦
+        let was : k < length xs = omega (arith, is.0, length-append xs (m ∷ []), other) in
+        (was, rw (before xs m k was) at is.1, rw (before xs m k was) at is.2)
+  ]
 
 -- as the right half q comes to its parent i, behind the left one j
 pub reads_right : (ys xs : List NodeView) (i j q : ℕ) (y z w : NodeView) → i ≢ j → i ≢ q → j ≢ q → i < length xs → j < length xs → Reads ys xs i j q y z w

@@ -68,41 +68,47 @@ module _ (v : ArenaView) (i low : ℕ) (arena : IsArena v.nodes v.trees) (rest :
   abbrev v1 : ArenaView
   v1 = with_node v i (locked x 5)
 
-  abbrev v2 : ArenaView
-  v2 = with_node v1 i (splitting (at v1 i))
-
   abbrev v3 : ArenaView
-  v3 = with_half v2 i low 5
+  v3 = with_half v1 i low 5
 
   abbrev held : NodeView
   held = splitting (locked x 5)
 
   abbrev half : NodeView
-  half = fresh_half held low 5
+  half = fresh_half held i low 5
 
   abbrev h : ℕ
-  h = length v2.nodes
+  h = length v1.nodes
+
+  abbrev ws : List NodeView
+  ws = set v1.nodes i (splitting (at v1 i))
+
+  abbrev fresh : NodeView
+  fresh = fresh_half (at v1 i) i low 5
 
   as_many : h ≡ n
-  as_many = length-set v1.nodes i (splitting (at v1 i)) ∙ length-set v.nodes i (locked x 5)
+  as_many = length-set v.nodes i (locked x 5)
+
+  all_but_one : length ws ≡ h
+  all_but_one = length-set v1.nodes i (splitting (at v1 i))
 
   one_more : length v3.nodes ≡ n + 1
-  one_more = length-append v2.nodes (fresh_half (at v2 i) low 5 ∷ []) ∙ ap (λ k. k + 1) as_many
+  one_more = length-append ws (fresh ∷ []) ∙ ap (λ k. k + 1) (all_but_one ∙ as_many)
 
   pub differ : i ≢ h
   differ e = absurd (omega (arith, within, as_many, e))
 
-  at2 : at v2 i ≡ held
-  at2 = here v1.nodes i (splitting (at v1 i)) (omega (arith, within, length-set v.nodes i (locked x 5))) ∙ ap splitting (here v.nodes i (locked x 5) within)
+  at1 : at v1 i ≡ locked x 5
+  at1 = here v.nodes i (locked x 5) within
 
   at3 : at v3 i ≡ held
-  at3 = before v2.nodes (fresh_half (at v2 i) low 5) i (omega (arith, within, as_many)) ∙ at2
+  at3 = before ws fresh i (omega (arith, within, as_many, all_but_one)) ∙ here v1.nodes i (splitting (at v1 i)) (omega (arith, within, as_many)) ∙ ap splitting at1
 
   at3_half : at v3 h ≡ half
-  at3_half = last v2.nodes (fresh_half (at v2 i) low 5) ∙ ap (λ (m : NodeView). fresh_half m low 5) at2
+  at3_half = ap (node_at (ws ++ fresh ∷ [])) (sym all_but_one) ∙ last ws fresh ∙ ap (λ (m : NodeView). fresh_half m i low 5) at1
 
   at3_other : (k : ℕ) → k < n → k ≢ i → at v3 k ≡ at v k
-  at3_other k lt other = before v2.nodes (fresh_half (at v2 i) low 5) k (omega (arith, lt, as_many)) ∙ there v1.nodes i k (splitting (at v1 i)) other ∙ there v.nodes i k (locked x 5) other
+  at3_other k lt other = before ws fresh k (omega (arith, lt, as_many, all_but_one)) ∙ there v1.nodes i k (splitting (at v1 i)) other ∙ there v.nodes i k (locked x 5) other
 
   -- what a split needs of the two nodes
   is_half : IsHalf v3 i h 5

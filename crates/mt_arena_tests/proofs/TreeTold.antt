@@ -57,7 +57,7 @@ module _ (v : ArenaView) (j q place : ℕ) (arena : IsArena v.nodes v.trees) (t 
   child_no_root = no_root v.nodes v.trees child arena.forest child_there below.live below.knows
 
   pub child_range : HasRange (at v child)
-  child_range = (arena.ranged child child_there).parent below.knows
+  child_range = (arena.ranged.each child child_there).parent below.knows
 
   pub child_open : IsOpen v child 5
   child_open = open_of v.trees (at v child).tree 5 (tree_live v child arena t.apart.one_tree child_there)

@@ -135,9 +135,9 @@ fn begin_split(arena: &mut Arena) -> Result<usize, AllocError>
     ensures number { IfOk result (λ node. node ≡ 1) }
     ensures is { OnOk result (arena.new ≡ split_begun) }
 {
+    arena.mark_splitting(0, 5);
     let node = arena.alloc_node(0, 9, 5)?;
     arena.set_previous(node, 0, 5);
-    arena.mark_splitting(0, 5);
     Ok(node)
 }
 

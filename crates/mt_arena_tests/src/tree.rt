@@ -91,7 +91,6 @@ fn split(
     arena.facts();
     let low = arena.border(node).separator(entry.slice, entry.mark);
     arena.lock(node, 5);
-    arena.mark_splitting(node, 5);
     let half = arena.alloc_node(node, low, 5)?;
     arena.split_border(node, half, entry, 5);
     arena.facts();
@@ -112,7 +111,6 @@ fn split_without(arena: &mut Arena, node: usize, key: &StoredKey) -> Result<usiz
     let (slice, mark) = (key.slice(0), key.mark(0));
     let low = arena.border(node).separator(slice, mark);
     arena.lock(node, 5);
-    arena.mark_splitting(node, 5);
     let half = arena.alloc_node(node, low, 5)?;
     arena.split_border_without(node, half, slice, mark, 5);
     arena.facts();
