@@ -384,7 +384,7 @@ module _ (v : ArenaView) (i j q : ℕ) (arena : IsArena v.nodes v.trees) (h : Ar
           omega (arith, is_child.level, h.apart.level, (as_child xs q i arena.nodes right_there parent_there c).level)) in
         ((arena.nodes.pairs i b parent_there lb).named p_live (h.apart.free b lb nj nq)).knows e
 
-    pub told5 : IsArena w5.nodes w5.trees → AreTold w5 i n 0
+    told5 : IsArena w5.nodes w5.trees → AreTold w5 i n 0
     told5 after = record {
       apart = record {
         one_tree = h.apart.one_tree;
@@ -441,3 +441,14 @@ module _ (v : ArenaView) (i j q : ℕ) (arena : IsArena v.nodes v.trees) (h : Ar
           | inr high ↦ inr (record { place = high.place; from = omega arith; in_range = high.in_range; is = high.is })
         ]);
     }
+
+    -- what the calls one by one lead to
+    pub told_at : (a b c d e : ArenaView) (half : ℕ) → a ≡ v1 → b ≡ with_node a q (pointed (at a q) (at a q).previous (Some i)) → half ≡ length b.nodes → c ≡ record b { nodes = with_parts b.nodes i j q 5 } → d ≡ with_node c j (unlocked (at c j)) → e ≡ with_node d q (unlocked (at d q))
+        → IsArena e.nodes e.trees → AreTold e i half 0
+    told_at a b c d e half one two number three four five after =
+        let is2 : b ≡ v2 = two ∙ ap (λ (u : ArenaView). with_node u q (pointed (at u q) (at u q).previous (Some i))) one in
+        let is3 : c ≡ w3 = three ∙ ap (λ (u : ArenaView). record u { nodes = with_parts u.nodes i j q 5 }) is2 in
+        let is4 : d ≡ w4 = four ∙ ap (λ (u : ArenaView). with_node u j (unlocked (at u j))) is3 in
+        let is5 : e ≡ w5 = five ∙ ap (λ (u : ArenaView). with_node u q (unlocked (at u q))) is4 in
+        let last : half ≡ n = number ∙ ap (λ (u : ArenaView). length u.nodes) is2 ∙ reads2.size in
+        subst (λ b. AreTold e i b 0) (sym last) (subst (λ (u : ArenaView). AreTold u i n 0) (sym is5) (told5 (subst (λ (u : ArenaView). IsArena u.nodes u.trees) is5 after)))
