@@ -161,12 +161,12 @@ module _ (v : ArenaView) (i j q : ℕ) (arena : IsArena v.nodes v.trees) (h : Ar
       let s = settled_free xs i parent_there arena.nodes parent_free in
       let size : length p.children ≡ length p.separators + 1 = omega (arith, (arena.nodes.each i parent_there).children.interior.between, (h.apart.under i up).in_range) in
       subst (λ (n : NodeView). IsSettled v3.nodes i n) (sym reads3.at_i) (settled_of v3.nodes i wide
-        (λ k f. let b = back3 i k f in s.previous k b.0 b.1 b.2) (λ k f. let b = back3 i k f in s.previous_live k b.0 b.1 b.2)
-        (λ k u. elim (up3 i k u) [
-          | inl new ↦ subst (λ c. HasChild wide c) (sym new.0) (new_child (inserting (locked p 5)) r.low q size (h.apart.under i up).live)
-          | inr old ↦ child_more (inserting (locked p 5)) r.low q k size (s.parent k old.0 old.1 old.2)
-        ])
-        s.reach s.stable s.rooted)
+      (λ k f. let b = back3 i k f in s.previous k b.0 b.1 b.2) (λ k f. let b = back3 i k f in s.previous_live k b.0 b.1 b.2)
+      (λ k u. elim (up3 i k u) [
+        | inl new ↦ subst (λ c. HasChild wide c) (sym new.0) (new_child (inserting (locked p 5)) r.low q size (h.apart.under i up).live)
+        | inr old ↦ child_more (inserting (locked p 5)) r.low q k size (s.parent k old.0 old.1 old.2)
+      ])
+      s.reach s.stable s.rooted)
 
   pub room3 : MayCount p.version → CanUnlock (at v3 i).version
   room3 count = rw reads3.at_i ((λ _. omega (arith, count.splits)), (λ _ _. omega (arith, count.inserts)))
@@ -177,12 +177,12 @@ module _ (v : ArenaView) (i j q : ℕ) (arena : IsArena v.nodes v.trees) (h : Ar
 
   pub settled4 : IsSettled v4.nodes j (at v4 j)
   settled4 = subst (λ (n : NodeView). IsSettled v4.nodes j n) (sym reads4.at_j) (settled_of v4.nodes j (exact l)
-    (λ k f. h.apart.left_tidy.followers k (back4 j k f)) (λ _ _. h.apart.left_tidy.live)
-    (λ k u. elim (up4 j k u) [
-      | inl new ↦ absurd (ij (same_Some _ _ new.1))
-      | inr old ↦ h.children k old
-    ])
-    refl h.apart.left_tidy.stable (λ _ none. h.apart.rooted none))
+      (λ k f. h.apart.left_tidy.followers k (back4 j k f)) (λ _ _. h.apart.left_tidy.live)
+      (λ k u. elim (up4 j k u) [
+        | inl new ↦ absurd (ij (same_Some _ _ new.1))
+        | inr old ↦ h.children k old
+      ])
+      refl h.apart.left_tidy.stable (λ _ none. h.apart.rooted none))
 
   pub room4 : CanUnlock (at v4 j).version
   room4 = rw reads4.at_j h.apart.left_tidy.room
@@ -193,12 +193,12 @@ module _ (v : ArenaView) (i j q : ℕ) (arena : IsArena v.nodes v.trees) (h : Ar
 
   pub settled5 : IsSettled v5.nodes q (at v5 q)
   settled5 = subst (λ (n : NodeView). IsSettled v5.nodes q n) (sym reads5.at_q) (settled_of v5.nodes q told
-    (λ k f. h.apart.right_tidy.followers k (back5 q k f)) (λ _ _. h.apart.right_tidy.live)
-    (λ k u. elim (up5 q k u) [
-      | inl new ↦ absurd (iq (same_Some _ _ new.1))
-      | inr old ↦ h.apart.right_children k old
-    ])
-    h.apart.exact h.apart.right_tidy.stable (λ _ none. absurd (cc)))
+      (λ k f. h.apart.right_tidy.followers k (back5 q k f)) (λ _ _. h.apart.right_tidy.live)
+      (λ k u. elim (up5 q k u) [
+        | inl new ↦ absurd (iq (same_Some _ _ new.1))
+        | inr old ↦ h.apart.right_children k old
+      ])
+      h.apart.exact h.apart.right_tidy.stable (λ _ none. absurd (cc)))
 
   pub room5 : CanUnlock (at v5 q).version
   room5 = rw reads5.at_q h.apart.right_tidy.room
@@ -324,12 +324,12 @@ module _ (v : ArenaView) (i j q : ℕ) (arena : IsArena v.nodes v.trees) (h : Ar
 
     pub settled_left : IsSettled w3.nodes j (at w3 j)
     settled_left = subst (λ (m : NodeView). IsSettled w3.nodes j m) (sym parts3.at_j) (settled_of w3.nodes j (exact l)
-      (λ k f. h.apart.left_tidy.followers k (behind3 j k f)) (λ _ _. h.apart.left_tidy.live)
-      (λ k u. elim (above3 j k u) [
-        | inl new ↦ absurd (ij (same_Some _ _ new.1))
-        | inr old ↦ h.children k old
-      ])
-      refl h.apart.left_tidy.stable (λ _ none. h.apart.rooted none))
+        (λ k f. h.apart.left_tidy.followers k (behind3 j k f)) (λ _ _. h.apart.left_tidy.live)
+        (λ k u. elim (above3 j k u) [
+          | inl new ↦ absurd (ij (same_Some _ _ new.1))
+          | inr old ↦ h.children k old
+        ])
+        refl h.apart.left_tidy.stable (λ _ none. h.apart.rooted none))
 
     pub room_left : CanUnlock (at w3 j).version
     room_left = rw parts3.at_j h.apart.left_tidy.room
@@ -339,12 +339,12 @@ module _ (v : ArenaView) (i j q : ℕ) (arena : IsArena v.nodes v.trees) (h : Ar
 
     pub settled_right : IsSettled w4.nodes q (at w4 q)
     settled_right = subst (λ (m : NodeView). IsSettled w4.nodes q m) (sym parts4.at_q) (settled_of w4.nodes q told
-      (λ k f. h.apart.right_tidy.followers k (behind4 q k f)) (λ _ _. h.apart.right_tidy.live)
-      (λ k u. elim (above4 q k u) [
-        | inl new ↦ absurd (iq (same_Some _ _ new.1))
-        | inr old ↦ h.apart.right_children k old
-      ])
-      h.apart.exact h.apart.right_tidy.stable (λ _ none. absurd (cc)))
+        (λ k f. h.apart.right_tidy.followers k (behind4 q k f)) (λ _ _. h.apart.right_tidy.live)
+        (λ k u. elim (above4 q k u) [
+          | inl new ↦ absurd (iq (same_Some _ _ new.1))
+          | inr old ↦ h.apart.right_children k old
+        ])
+        h.apart.exact h.apart.right_tidy.stable (λ _ none. absurd (cc)))
 
     pub room_right : CanUnlock (at w4 q).version
     room_right = rw parts4.at_q h.apart.right_tidy.room
@@ -377,11 +377,11 @@ module _ (v : ArenaView) (i j q : ℕ) (arena : IsArena v.nodes v.trees) (h : Ar
     grand b e =
         let lb : b < n = (arena.nodes.each i parent_there).names.parent b e in
         let nj : b ≢ j = λ same. absurd (
-          let c = h.children i (parent_there, e ∙ ap (λ (k : ℕ). Some k) same, p_live) in
-          omega (arith, is_child.level, (as_child xs j i arena.nodes left_there parent_there c).level)) in
+        let c = h.children i (parent_there, e ∙ ap (λ (k : ℕ). Some k) same, p_live) in
+        omega (arith, is_child.level, (as_child xs j i arena.nodes left_there parent_there c).level)) in
         let nq : b ≢ q = λ same. absurd (
-          let c = h.apart.right_children i (parent_there, e ∙ ap (λ (k : ℕ). Some k) same, p_live) in
-          omega (arith, is_child.level, h.apart.level, (as_child xs q i arena.nodes right_there parent_there c).level)) in
+        let c = h.apart.right_children i (parent_there, e ∙ ap (λ (k : ℕ). Some k) same, p_live) in
+        omega (arith, is_child.level, h.apart.level, (as_child xs q i arena.nodes right_there parent_there c).level)) in
         ((arena.nodes.pairs i b parent_there lb).named p_live (h.apart.free b lb nj nq)).knows e
 
     told5 : IsArena w5.nodes w5.trees → AreTold w5 i n 0
@@ -391,8 +391,8 @@ module _ (v : ArenaView) (i j q : ℕ) (arena : IsArena v.nodes v.trees) (h : Ar
         differ = λ e. absurd (omega (arith, parent_there, e));
         free = λ k lt. reads_all (λ k m. k ≢ i → k ≢ n → m.holder ≡ None) w5.nodes all i j q lower (unlocked (exact l)) (unlocked told) parts5 (λ ni _. absurd (ni refl)) (λ _ _. refl) (λ _ _. refl)
             (λ k lt ni nj nq _ nn.
-              let was : k < n = omega (arith, lt, one_more, nn) in
-              rw (before xs fresh k was) (h.apart.free k was nj nq)) k lt;
+            let was : k < n = omega (arith, lt, one_more, nn) in
+            rw (before xs fresh k was) (h.apart.free k was nj nq)) k lt;
         left_tidy = record {
           held = record { there = omega (arith, parent_there, one_more, parts5.size); holder = ap (λ (m : NodeView). m.holder) at_low };
           live = rw at_low p_live;
@@ -423,23 +423,23 @@ module _ (v : ArenaView) (i j q : ℕ) (arena : IsArena v.nodes v.trees) (h : Ar
         no_root = ap (λ (m : NodeView). m.version.root) at_high;
         rooted = rw at_low (p_settled.rooted p_live);
         under = λ b. rw at_low (λ e.
-          let lb : b < n = (arena.nodes.each i parent_there).names.parent b e in
-          let level = (as_child xs b i arena.nodes lb parent_there (grand b e)).level in
-          let ni : b ≢ i = λ same. absurd (omega (arith, level, ap (λ k. (at v k).level) same)) in
-          let nj : b ≢ j = λ same. absurd (omega (arith, level, is_child.level, ap (λ k. (at v k).level) same)) in
-          let nq : b ≢ q = λ same. absurd (omega (arith, level, is_child.level, h.apart.level, ap (λ k. (at v k).level) same)) in
-          rw (parts5.others b (in_all b lb) ni nj nq, before xs fresh b lb) (grand b e));
+            let lb : b < n = (arena.nodes.each i parent_there).names.parent b e in
+            let level = (as_child xs b i arena.nodes lb parent_there (grand b e)).level in
+            let ni : b ≢ i = λ same. absurd (omega (arith, level, ap (λ k. (at v k).level) same)) in
+            let nj : b ≢ j = λ same. absurd (omega (arith, level, is_child.level, ap (λ k. (at v k).level) same)) in
+            let nq : b ≢ q = λ same. absurd (omega (arith, level, is_child.level, h.apart.level, ap (λ k. (at v k).level) same)) in
+            rw (parts5.others b (in_all b lb) ni nj nq, before xs fresh b lb) (grand b e));
       };
       above = rw at_high (omega (arith, is_child.level));
       lag = rw (at_low, at_high) (λ k u.
-        let child : HasChild parted k = elim (above5 i k u) [
-          | inl new ↦ rw new.0 (new_child (splitting (locked p 5)) r.low q p_size p_live)
-          | inr old ↦ child_more (splitting (locked p 5)) r.low q k p_size (p_settled.parent k old.0 old.1 old.2)
-        ] in
-        elim (child_parted parted 5 k child) [
-          | inl low ↦ inl low
-          | inr high ↦ inr (record { place = high.place; from = omega arith; in_range = high.in_range; is = high.is })
-        ]);
+          let child : HasChild parted k = elim (above5 i k u) [
+            | inl new ↦ rw new.0 (new_child (splitting (locked p 5)) r.low q p_size p_live)
+            | inr old ↦ child_more (splitting (locked p 5)) r.low q k p_size (p_settled.parent k old.0 old.1 old.2)
+          ] in
+          elim (child_parted parted 5 k child) [
+            | inl low ↦ inl low
+            | inr high ↦ inr (record { place = high.place; from = omega arith; in_range = high.in_range; is = high.is })
+          ]);
     }
 
     -- what the calls one by one lead to

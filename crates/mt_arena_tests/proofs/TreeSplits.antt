@@ -254,7 +254,7 @@ module _ (v : ArenaView) (i low : ℕ) (arena : IsArena v.nodes v.trees) (rest :
             rw (at4_other p lp above) child);
       };
       children = rw at4 (λ k u. each4 (λ k m. m.parent ≡ Some i → m.version.deleted ≡ false → HasChild left k)
-        (λ e alive. settled.parent i within e alive) (λ e. absurd (cc)) (λ k lt ni e alive. settled.parent k lt e alive) k u.0 u.1 u.2);
+          (λ e alive. settled.parent i within e alive) (λ e. absurd (cc)) (λ k lt ni e alive. settled.parent k lt e alive) k u.0 u.1 u.2);
     }
 
   -- with one more key, and without

@@ -158,21 +158,21 @@ module _ (v : ArenaView) (j q : ℕ) (arena : IsArena v.nodes v.trees) (h : AreH
 
   pub settled2 : IsSettled v2.nodes j (at v2 j)
   settled2 = subst (λ (m : NodeView). IsSettled v2.nodes j m) (sym reads2.at_i) (settled_of v2.nodes j low
-    (λ k f. h.apart.left_tidy.followers k (back2 j k f)) (λ _ _. h.apart.left_tidy.live)
-    (λ k u. elim (up2 j k u) [
-      | inl new ↦ absurd (jn (sym new))
-      | inr old ↦ h.children k old
-    ])
-    refl h.apart.left_tidy.stable (λ _ orphan. absurd (cc)))
+      (λ k f. h.apart.left_tidy.followers k (back2 j k f)) (λ _ _. h.apart.left_tidy.live)
+      (λ k u. elim (up2 j k u) [
+        | inl new ↦ absurd (jn (sym new))
+        | inr old ↦ h.children k old
+      ])
+      refl h.apart.left_tidy.stable (λ _ orphan. absurd (cc)))
 
   pub settled3 : IsSettled v3.nodes q (at v3 q)
   settled3 = subst (λ (m : NodeView). IsSettled v3.nodes q m) (sym reads3.at_j) (settled_of v3.nodes q high
-    (λ k f. h.apart.right_tidy.followers k (back3 q k f)) (λ _ _. h.apart.right_tidy.live)
-    (λ k u. elim (up3 q k u) [
-      | inl new ↦ absurd (qn (sym new))
-      | inr old ↦ h.apart.right_children k old
-    ])
-    h.apart.exact h.apart.right_tidy.stable (λ _ orphan. absurd (cc)))
+      (λ k f. h.apart.right_tidy.followers k (back3 q k f)) (λ _ _. h.apart.right_tidy.live)
+      (λ k u. elim (up3 q k u) [
+        | inl new ↦ absurd (qn (sym new))
+        | inr old ↦ h.apart.right_children k old
+      ])
+      h.apart.exact h.apart.right_tidy.stable (λ _ orphan. absurd (cc)))
 
   pub rest4 : IsAtRest (with_node v3 q (unlocked (at v3 q)))
   rest4 =

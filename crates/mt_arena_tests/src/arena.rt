@@ -11,7 +11,7 @@ ghost use Rattle.mt_arena_tests.specs.ArenaStory.{held_root, of_nodes, holding, 
 
 use mt_arena::{Arena, Prefix, Standing};
 use mt_border::laws::suffix_fits_mark;
-use mt_border::{Entry, Find, Held, FoundKind, Pair, Suffix};
+use mt_border::{Entry, Find, FoundKind, Held, Pair, Suffix};
 use mt_rows::{Column, Row};
 use mt_slices::StoredKey;
 use std::alloc::{AllocError, Global};

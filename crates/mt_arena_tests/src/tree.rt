@@ -11,10 +11,10 @@ ghost use Rattle.mt_arena.specs.Accesses.{at};
 ghost use Rattle.mt_arena_tests.specs.TreeStory.{IsAtRest, AreHalves, AreTold, MayCount, MayTake};
 
 use crate::arena::entry_of;
-use mt_arena::laws::linked_from_the_top;
 use mt_arena::Arena;
+use mt_arena::laws::linked_from_the_top;
 use mt_border::laws::suffix_fits_mark;
-use mt_border::{Entry, Find, FoundKind, Held};
+use mt_border::{Entry, Find, FoundKind};
 use mt_slices::StoredKey;
 use std::alloc::{AllocError, Global};
 use std::process::Abort;
@@ -76,12 +76,7 @@ fn publish(arena: &mut Arena, node: usize, key: &StoredKey, entry: Entry)
 }
 
 // Splits the last border node, which is full, with one more key. The operation holds both halves then.
-fn split(
-    arena: &mut Arena,
-    node: usize,
-    key: &StoredKey,
-    entry: Entry,
-) -> Result<usize, AllocError>
+fn split(arena: &mut Arena, node: usize, key: &StoredKey, entry: Entry) -> Result<usize, AllocError>
     requires rest { IsAtRest arena.old }
     requires may { MayTake arena.old node key.now entry }
     requires full { length (at arena.old node).slots ≡ 15 }
@@ -224,12 +219,7 @@ fn join(
 }
 
 // Puts in the pair of a missing key, and splits what is full.
-fn put(
-    rt: &impl Abort,
-    arena: &mut Arena,
-    key: &StoredKey,
-    entry: Entry,
-) -> Result<(), AllocError>
+fn put(rt: &impl Abort, arena: &mut Arena, key: &StoredKey, entry: Entry) -> Result<(), AllocError>
     requires rest { IsAtRest arena.old }
     requires entry { IsEntry entry }
     requires has { HasKey [] 0 entry key.now }
@@ -262,20 +252,17 @@ fn put_aside(rt: &impl Abort, arena: &mut Arena, key: &StoredKey) -> Result<(), 
     join(rt, arena, node, half)
 }
 
-// The stamp of the key's pair, and the node in which it stands.
-fn stamp_of(arena: &Arena, key: &StoredKey) -> Option<(usize, u64)>
+// Whether the key's pair stands in the border node in which it belongs.
+fn stands(arena: &Arena, key: &StoredKey) -> bool
     requires { IsAtRest arena.now }
 {
     suffix_fits_mark();
     let node = border_of(arena, key);
     let border = arena.border(node);
-    match border.find(key.slice(0), key.mark(0), key.suffix(0)) {
-        Find::Slot(slot, FoundKind::ThisKey) => match border.load(slot)? {
-            Held::Stable(pair) => Some((node, pair.stamp)),
-            Held::Unstable(..) | Held::Link(_) => None,
-        },
-        _ => None,
-    }
+    matches!(
+        border.find(key.slice(0), key.mark(0), key.suffix(0)),
+        Find::Slot(_, FoundKind::ThisKey)
+    )
 }
 
 // Puts in so many keys of one byte, from the lowest on.
@@ -297,25 +284,53 @@ fn put_all(
     Ok(())
 }
 
-// Whether so many keys stand where a descent ends, and the next one does not.
-fn has_all(rt: &impl Abort, alloc: Global, arena: &Arena, until: u8) -> Result<bool, Fail>
+// Whether the keys below this one stand where they belong, and this one does not.
+fn has_all(alloc: Global, arena: &Arena, until: u8) -> Result<bool, Fail>
     requires { IsAtRest arena.now }
 {
     for name in 0..=until {
         let key = StoredKey::new(alloc, 7, &[name])?;
-        if stamp_of(arena, &key).is_some() != (name < until) {
+        if stands(arena, &key) != (name < until) {
             return Ok(false);
         }
     }
     Ok(true)
 }
 
+// Keys come until this one, which is left out where the last border node is split without it.
+fn put_until(
+    rt: &impl Abort,
+    alloc: Global,
+    arena: &mut Arena,
+    from: u8,
+    until: u8,
+) -> Result<(), Fail>
+    requires { IsAtRest arena.old }
+    ensures { OnOk result (IsAtRest arena.new) }
+{
+    put_all(rt, alloc, arena, from, until)?;
+    let key = StoredKey::new(alloc, 7, &[until])?;
+    put_aside(rt, arena, &key)?;
+    assert!(rt; has_all(alloc, arena, until)?);
+    Ok(())
+}
+
+// The root is split first, then every eighth key splits the last border node: the halves come to their
+// parent, until it has 16 children and is split itself.
+fn grow_tree(rt: &impl Abort, alloc: Global, arena: &mut Arena) -> Result<(), Fail>
+    requires { IsAtRest arena.old }
+{
+    put_until(rt, alloc, arena, 0, 15)?;
+    put_until(rt, alloc, arena, 15, 23)?;
+    put_until(rt, alloc, arena, 23, 151)
+}
+
 #[test]
-fn full_nodes_are_split(rt: HostRuntime) -> Result<(), Fail> {
+fn a_tree_grows_to_three_levels(rt: HostRuntime) -> Result<(), Fail> {
     let alloc = rt.alloc();
     let mut arena = Arena::new(alloc)?;
-    for until in [23, 39, 151] {
-    put_all(&rt, alloc, &mut arena, 0, 100)?;
-    }
+    grow_tree(&rt, alloc, &mut arena)?;
+    let top = arena.tree(0).root;
+    assert_eq!(rt; arena.node(top).level(), 2);
     Ok(())
 }

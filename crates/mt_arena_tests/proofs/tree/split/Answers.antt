@@ -12,7 +12,7 @@ split_border-requires-clause-may c =
     let may = c.requires.may in
     rw (c.in_ok-half.ensures.number, c.in_ok-half.ensures.is, c.lock.ensures.is)
     (may_split v c.args.node c.separator-low.result c.facts.ensures.arena c.requires.rest may.belongs.border.there may.belongs.border.live c.args.entry.slice c.args.entry.mark may.belongs.border.level c.requires.full
-      may.entry.mark may.missing (rw (c.border.ensures) c.separator-low.ensures))
+    may.entry.mark may.missing (rw (c.border.ensures) c.separator-low.ensures))
 
 pub split_border-requires-clause-place : goal.split_border-requires-clause-place
 split_border-requires-clause-place c =

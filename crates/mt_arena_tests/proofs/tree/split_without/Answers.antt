@@ -6,7 +6,7 @@ split_border_without-requires-clause-may c =
     let border = c.requires.belongs.border in
     rw (c.in_ok-half.ensures.number, c.in_ok-half.ensures.is, c.lock.ensures.is)
     (may_split c.args.arena.now c.args.node c.separator-low.result c.facts.ensures.arena c.requires.rest border.there border.live c.slice-slice.result c.mark-mark.result border.level c.requires.full
-      c.mark-mark.ensures.at_most_eight (rw (c.slice-slice.ensures, c.mark-mark.ensures.value) c.requires.missing) (rw (c.border.ensures) c.separator-low.ensures))
+    c.mark-mark.ensures.at_most_eight (rw (c.slice-slice.ensures, c.mark-mark.ensures.value) c.requires.missing) (rw (c.border.ensures) c.separator-low.ensures))
 
 pub returns : goal.returns
 returns c =
@@ -15,4 +15,4 @@ returns c =
     let others = rw (c.in_ok-half.ensures.is, c.lock.ensures.is) at c.split_border_without.ensures.others in
     rw (c.in_ok-half.ensures.number, c.lock.ensures.is)
     (halves_without c.args.arena.now c.args.node c.separator-low.result c.facts.ensures.arena c.requires.rest border.there border.live c.split_border_without.new.self halved others c.facts-2.ensures.arena
-      border.level c.requires.last c.requires.count)
+    border.level c.requires.last c.requires.count)
