@@ -1,4 +1,4 @@
--- A root that is a border node which nobody holds is the only live node of its tree.
+-- A root that is a border node which nobody holds is the only live node of its tree: for the law of that name.
 use Rattle.std.proofs.Common.{◌≡◌, ◌≢◌, ℕ, zero, suc, ◌<◌, List, length, get_or, true, false, Option, Some, None, refl, sym, ap, ◌∙◌, inl, inr, arith}
 use Rattle.std.proofs.lemmas.Bool.{cases_eq, cases_lt}
 use Rattle.mt_interior.specs.Fences.{end_of}

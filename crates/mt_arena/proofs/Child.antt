@@ -1,4 +1,4 @@
--- A right half comes to stand in the parent.
+-- The facts of nodes are kept as a right half comes to stand in its parent: for `Inserting` and `InnerSplit`.
 use Rattle.std.proofs.Common.{◌≡◌, ◌≢◌, ℕ, ◌+◌, ◌-◌, ◌<◌, ◌≤◌, List, [], length, get_or, false, set, refl, sym, ap, subst, ◌∙◌, inl, inr, arith}
 use Rattle.std.specs.List.{insert}
 use Rattle.std.proofs.lemmas.Bool.{cases_eq, cases_lt}
@@ -52,9 +52,11 @@ module _ (xs : List NodeView) (i j q : ℕ) (nodes : AreNodes xs) (f : Inserts x
   h : IsNode (length xs) p
   h = nodes.each i f.parent_there
 
+  -- the left half is child a of the parent
   pub left_child : IsChild p a l
   left_child = (nodes.pairs i j f.parent_there f.left_there).child a f.child.in_range f.child.is f.parent_live
 
+  -- so the two are two nodes
   pub differ_ij : i ≢ j
   differ_ij e = omega (arith, left_child.level, ap (λ k. (node_at xs k).level) e)
 
@@ -91,17 +93,20 @@ module _ (xs : List NodeView) (i j q : ℕ) (nodes : AreNodes xs) (f : Inserts x
   more : length y.children ≡ length p.children + 1
   more = length-insert p.children (a + 1) q at_children
 
+  -- the bounds still rise with the new separator
   pub still_rise : IsRising (bounds y)
   still_rise = subst IsRising (sym bounds_are) (rising_insert (bounds p) (a + 1) r.low (h.children.rise some) at_bounds
       (λ b lt. omega (arith, rises (bounds p) b a (h.children.rise some) (omega arith) (omega (arith, at_bounds)), left_child.low, f.above))
       (λ b ge lt. omega (arith, rises (bounds p) (a + 1) b (h.children.rise some) ge lt, left_child.reach, f.below)))
 
+  -- all children are there, and there is one more, and one separator
   pub children_within : (b : ℕ) → b < length y.children → get_or y.children b 0 < length xs
   children_within b lt = all_insert (λ c. c < length xs) p.children (a + 1) q at_children f.right_there h.names.children b (omega (arith, lt, more))
 
   pub sizes : (length y.separators ≡ length p.separators + 1) × (length y.children ≡ length p.separators + 2)
   sizes = (length-insert p.separators a r.low at_separators, omega (arith, more, size))
 
+  -- the facts of the left half, whose range in the parent ends at its fence
   pub left_node : IsNode (length xs) z
   left_node =
       let g = nodes.each j f.left_there in
@@ -260,6 +265,7 @@ module _ (xs : List NodeView) (i j q : ℕ) (nodes : AreNodes xs) (f : Inserts x
     rooted = h.rooted;
   }
 
+  -- the facts of each two nodes
   pub inserted_pairs : AllPairs IsPair (set (set xs i y) j z)
   inserted_pairs = pairs_set2 IsPair xs i j y z f.parent_there f.left_there differ_ij nodes.pairs
       (parent_from i y (parent_to i p (nodes.pairs i i f.parent_there f.parent_there)) no_self)

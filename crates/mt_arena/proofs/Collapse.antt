@@ -1,4 +1,5 @@
--- A root is taken out, and its child is the root.
+-- The facts of nodes and ranges are kept as a root gives way to its only child, and no live node leads to a root: for a call that
+-- collapses a tree.
 use Rattle.std.proofs.Common.{◌≡◌, ◌≢◌, ℕ, ◌<◌, List, length, get_or, Bool, Option, Some, None, true, false, set, refl, ap, subst, inl, inr, arith}
 use Rattle.std.proofs.lemmas.Bool.{cases_eq}
 use Rattle.std.proofs.lemmas.List.{length-set}

@@ -1,4 +1,4 @@
--- Steps that leave the contents as they are.
+-- Which changes of nodes and trees leave the contents as they are: for the clause `contents` of most calls, and for the laws.
 use Rattle.std.proofs.Common.{◌≡◌, ℕ, zero, suc, ◌<◌, List, [], ◌∷◌, ◌++◌, length, get_or, set, Option, None, refl, sym, ap, ◌∙◌, inl, inr, arith}
 use Rattle.std.specs.Prelude.{filter_map, if◌then◌else◌, false, true, ◌⊎◌}
 use Rattle.std.specs.List.{flat_map, cons_option, remove}

@@ -1,4 +1,4 @@
--- The pairs of one node in the contents, and what a change of that node makes of them.
+-- What one node adds to the contents, and what a change of that node makes of them: for `Owners` and `ContentQuiet`.
 use Rattle.std.proofs.Common.{◌≡◌, ◌≢◌, ℕ, suc, ◌+◌, ◌<◌, Bool, true, false, List, [], ◌∷◌, ◌++◌, length, get_or, set, take, drop, drop-cons, Option, Some, None, sym, refl, ap, subst, ◌∙◌, arith, take-append-drop}
 use Rattle.std.specs.Prelude.{filter_map, if◌then◌else◌, cond}
 use Rattle.std.specs.List.{All, flat_map, cons_option, remove as remove_at_place}
@@ -128,6 +128,7 @@ module _ (trees : List Tree) (nodes : List NodeView) (q : ℕ × Bytes) where
   abbrev pub HasNone : ℕ → Type 0
   HasNone k = get (map_of (live_pairs trees (node_at nodes k))) q ≡ None
 
+  -- where no node has the key, the contents have none
   pub content-none : ((k : ℕ) → k < length nodes → HasNone k) → get (content trees nodes) q ≡ None
   content-none none = ap (λ c. get c q) (content-is trees nodes) ∙ all_none (live_pairs trees) q no_node nodes none
 
@@ -182,6 +183,7 @@ module _ (nodes : List NodeView) (trees : List Tree) (arena : IsArena nodes tree
         pair_is = is;
       })
 
+  -- a node in whose slots the key is missing has none
   pub none_at : HasNone trees nodes (owned key) k
   none_at = counted-none n.version.deleted (tree_at trees n.tree).standing _ (owned key) (λ live tree_live.
       ap (λ c. get c (owned key)) (sym (contents_of-is begins n.slots))

@@ -1,4 +1,4 @@
--- A link at a key's slice and mark leads down the key's way.
+-- A link at a key's slice and mark leads to the tree in which the key's way goes on: for the laws of descents.
 use Rattle.std.proofs.Common.{◌≡◌, ℕ, ◌+◌, ◌*◌, ◌<◌, ◌≤◌, List, ◌++◌, length, take, replicate, refl, sym, ap, subst, ◌∙◌, inl, inr, arith}
 use Rattle.std.specs.Int.{w64, to_be_bytes}
 use Rattle.std.proofs.Math.Seq.{take-add}

@@ -1,4 +1,4 @@
--- Groups of a node's facts that hold again after a change, for the lemmas of single edits.
+-- Groups of a node's facts that hold again after a change: for the lemmas of single edits.
 use Rattle.std.proofs.Common.{◌≡◌, ◌≢◌, ℕ, ◌<◌, ◌≤◌, List, [], length, Bool, Option, None, is_some, ap, arith}
 use Rattle.mt_border.specs.declared.entry.Entry.{Entry}
 use Rattle.mt_arena.specs.NodeView.{NodeView}

@@ -1,4 +1,4 @@
--- A new root over the halves of the old one.
+-- The facts of nodes are kept as a new root comes over the halves of the old one, and nothing lags behind it: for `Topping`.
 use Rattle.std.proofs.Common.{◌≡◌, ◌≢◌, ℕ, zero, suc, ◌+◌, ◌<◌, ◌≤◌, Bool, List, [], ◌∷◌, ◌++◌, length, get_or, Option, Some, None, false, set, refl, sym, ap, subst, ◌∙◌, inl, inr, arith, length-append}
 use Rattle.std.proofs.lemmas.Bool.{cases_eq, cases_lt}
 use Rattle.std.proofs.lemmas.List.{length-set}
@@ -242,6 +242,7 @@ module _ (xs : List NodeView) (i j op : ℕ) (nodes : AreNodes xs) (f : AreRootH
         ]
       ]
 
+  -- the facts of all nodes with the new root
   pub grown_nodes : AreNodes (ws ++ g ∷ [])
   grown_nodes = record {
     each = subst (λ c. AllNodes (IsNode c) (ws ++ g ∷ [])) (sym (length-push ∙ ap (λ c. c + 1) size)) (nodes_push (IsNode (length xs + 1)) ws g each top_node);
@@ -282,6 +283,7 @@ module _ (xs : List NodeView) (i j op : ℕ) (nodes : AreNodes xs) (f : AreRootH
         rooted = λ live none. refl;
       }
 
+-- what is not empty has a first element
 pub not_none : (cs : List ℕ) → cs ≢ [] → 0 < length cs
 not_none [] some = absurd (some refl)
 not_none (c ∷ cs) some = omega arith

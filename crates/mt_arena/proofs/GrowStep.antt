@@ -1,4 +1,4 @@
--- A new root as one step.
+-- The facts of trees are kept as a new root comes over the halves of the old one: for `Topping`.
 use Rattle.std.proofs.Common.{◌≡◌, ◌≢◌, ℕ, ◌+◌, ◌<◌, ◌++◌, List, [], ◌∷◌, length, set, true, false, refl, sym, ap, ◌∙◌, inl, inr, arith, length-append}
 use Rattle.std.proofs.lemmas.Bool.{cases_eq}
 use Rattle.std.proofs.lemmas.List.{length-set, get_or-set_same, get_or-set_other}
@@ -93,6 +93,7 @@ module _ (xs : List NodeView) (trees : List Tree) (i j op : ℕ) (f : AreRootHal
   trees_size : length ts ≡ length trees
   trees_size = length-set trees t grown
 
+  -- every tree keeps its prefix and its standing
   pub same_prefix : (u : ℕ) → (tree_at ts u).prefix ≡ (tree_at trees u).prefix
   same_prefix u = elim (cases_eq u t) [
     | inl is ↦ ap (λ u. (tree_at ts u).prefix) is ∙ ap (λ (w : Tree). w.prefix) tree_t ∙ ap (λ u. (tree_at trees u).prefix) (sym is)

@@ -1,4 +1,5 @@
--- A node is added, or a tree with its root, or a node is taken out.
+-- The whole invariant, the guarantee and the contents where a right half is made, a tree with its root, or a node is taken out: for
+-- `alloc_node`, `new_tree` and `retire`.
 use Rattle.std.proofs.Common.{◌≡◌, ℕ, ◌+◌, ◌*◌, ◌<◌, ◌≤◌, List, [], ◌∷◌, ◌++◌, length, set, false, Some, refl, sym, ap, subst, ◌∙◌, inl, inr, arith, length-append}
 use Rattle.std.proofs.lemmas.Bool.{cases_eq}
 use Rattle.std.proofs.lemmas.List.{length-set}
@@ -93,6 +94,7 @@ module _ (xs : List NodeView) (i low op : ℕ) (within : i < length xs) (held : 
         enough = omega (arith, length-append ys (half ∷ []), size_y, enough);
       }
 
+  -- the guarantee: of nodes and trees, and of who names whom
   pub guarantee_half : (trees : List Tree) → IsForest xs trees → ((q : ℕ) → (tree_at trees (node_at xs i).tree).standing ≡ Made q → q ≡ op) → NodesGuarantee op xs (ys ++ half ∷ []) trees trees
   guarantee_half trees forest mine =
       guarantee_on op xs ys (ys ++ half ∷ []) trees trees trees

@@ -1,4 +1,4 @@
--- What a step leaves to others is a relation that joins, and the steps that keep it.
+-- The guarantees of two steps join to one, and which changes give one: for the clause `step` of every call, and for the laws.
 use Rattle.std.proofs.Common.{◌≡◌, ◌≢◌, ℕ, ◌+◌, ◌<◌, ◌≤◌, List, [], ◌∷◌, ◌++◌, length, set, Bool, true, false, Some, None, refl, sym, ap, subst, ◌∙◌, inl, inr, arith, length-append}
 use Rattle.std.proofs.lemmas.Bool.{cases_eq, cases_lt}
 use Rattle.std.proofs.lemmas.List.{length-set, get_or_past}
@@ -31,6 +31,7 @@ untouched_on n m p a b = record {
   orphaned = λ none. b.orphaned (a.orphaned none);
 }
 
+-- a node has the keys and children that it has
 pub same_keys : (n : NodeView) → HasSameKeys n n
 same_keys n = record { slots = refl; separators = refl; children = refl }
 

@@ -1,4 +1,4 @@
--- What the contents have where the slots of one node are parted among two.
+-- What the contents have where the slots of one node are parted among two: for `Halving` and the laws.
 use Rattle.std.proofs.Common.{◌≡◌, ◌≢◌, ℕ, suc, ◌+◌, ◌<◌, ◌≤◌, Bool, true, false, cond, List, [], ◌∷◌, ◌++◌, length, get_or, set, Option, Some, None, sym, refl, ap, subst, ◌∙◌, inl, inr, arith, length-append}
 use Rattle.std.specs.Prelude.{filter_map}
 use Rattle.std.specs.List.{All, flat_map, cons_option}

@@ -1,4 +1,5 @@
--- The slots of a border node are parted among it and its right half, with a new key's or without: what holds, and what others rely on.
+-- The whole invariant, the guarantee and the contents where the slots of a border node are parted, with a new key's or without: for the
+-- two calls that split one.
 use Rattle.std.proofs.Common.{◌≡◌, ◌≢◌, ◌⊎◌, ℕ, ◌+◌, ◌-◌, ◌<◌, ◌≤◌, List, ◌++◌, length, take, drop, get_or, set, Some, refl, sym, ap, subst, ◌∙◌, inl, inr, arith, length-append}
 use Rattle.std.specs.List.{All}
 use Rattle.std.specs.FinMap as finite

@@ -1,4 +1,4 @@
--- What an operation may do to a node that it holds.
+-- Which changes of a node that an operation holds its guarantee allows: for the clause `step` of the calls that change several nodes.
 use Rattle.std.proofs.Common.{◌≡◌, ◌≢◌, ℕ, suc, ◌+◌, ◌<◌, ◌≤◌, List, [], ◌∷◌, length, take, drop, Bool, Some, true, false, refl, sym, ap, ◌∙◌, arith, length-append}
 use Rattle.std.proofs.lemmas.Option.{same_Some}
 use Rattle.std.specs.List.{insert, remove}

@@ -1,4 +1,4 @@
--- Facts of trees and their nodes, where a node changes, or a node or a tree is added.
+-- The facts of trees and their nodes are kept where a node changes or is added: for the invariant of every call.
 use Rattle.std.proofs.Common.{◌≡◌, ◌≢◌, ℕ, ◌+◌, ◌<◌, ◌≤◌, List, [], ◌∷◌, ◌++◌, length, set, Bool, true, false, None, refl, sym, subst, ◌∙◌, inl, inr, arith, length-append}
 use Rattle.std.proofs.lemmas.Bool.{cases_eq}
 use Rattle.std.proofs.lemmas.List.{length-set}

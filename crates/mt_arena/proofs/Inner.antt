@@ -1,4 +1,4 @@
--- An interior node with one child too many is parted.
+-- The facts of nodes are kept as an interior node with one child too many is parted: for `InnerSplit`.
 use Rattle.std.proofs.Common.{◌≡◌, ◌≢◌, ℕ, suc, ◌+◌, ◌-◌, ◌<◌, ◌≤◌, List, length, get_or, take, drop, Option, Some, None, true, false, set, refl, sym, ap, subst, ◌∙◌, arith, length-drop}
 use Rattle.std.proofs.lemmas.List.{length-take-le, get_or-take, get_or-drop}
 use Rattle.mt_interior.specs.Rising.{IsRising}
@@ -112,6 +112,7 @@ module _ (ws : List NodeView) (i h k : ℕ) (p : NodeView) (separators children 
   right_above : 0 < t.level
   right_above = omega (arith, above, f.right_level)
 
+  -- the facts of the left half, and of the right one
   pub left_node : IsNode (length ws) y
   left_node = record {
     names = record {
@@ -260,6 +261,7 @@ module _ (ws : List NodeView) (i h k : ℕ) (p : NodeView) (separators children 
     apart = λ d tree level _ _ s hu hy. absurd (omega (arith, hy.1, hu.0, f.right_low));
   }
 
+  -- the facts of each two nodes
   pub parted_pairs : AllPairs IsPair (set (set ws i y) h u)
   parted_pairs = pairs_set2 IsPair ws i h y u li lh differ pairs left_self right_self left_right right_left
       (λ m lm ni nh. (
@@ -267,5 +269,6 @@ module _ (ws : List NodeView) (i h k : ℕ) (p : NodeView) (separators children 
         (right_from m (node_at ws m) ni (from_w m lm) (pairs h m lh lm), right_to m (node_at ws m) ni (others m lm ni) (to_w m lm) (pairs m h lm lh)),
       ))
 
+  -- both halves have a range
   pub halves_range : HasRange y × HasRange u
   halves_range = (low_middle, omega (arith, middle_high, f.right_low))

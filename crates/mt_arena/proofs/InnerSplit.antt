@@ -1,4 +1,4 @@
--- A right half comes to stand in a full parent, which is parted.
+-- The facts of nodes are kept as a right half comes to stand in a full parent, which is parted: for `Parting`.
 use Rattle.std.proofs.Common.{◌≡◌, ◌≢◌, ℕ, ◌+◌, ◌<◌, List, length, get_or, drop, set, sym, ap, subst, ◌∙◌, inl, inr, arith}
 use Rattle.std.specs.List.{insert}
 use Rattle.std.proofs.lemmas.Bool.{cases_eq}
@@ -123,6 +123,7 @@ module _ (xs : List NodeView) (i j q h : ℕ) (nodes : AreNodes xs) (f : Inserts
   size_ys : length ys ≡ length xs
   size_ys = length-set (set (set xs i y) j z) h u ∙ length-set (set xs i y) j z ∙ length-set xs i y
 
+  -- the facts of all nodes
   pub parted_nodes : AreNodes ys
   parted_nodes = record {
     each = subst (λ n. AllNodes (IsNode n) ys) (sym size_ys)

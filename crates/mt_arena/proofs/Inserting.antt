@@ -1,4 +1,4 @@
--- A right half comes to stand in its parent, as one step: what holds, and what others rely on.
+-- The whole invariant, the guarantee and the contents where a right half comes to stand in its parent: for `insert_child`.
 use Rattle.std.proofs.Common.{◌≡◌, ◌≢◌, ℕ, suc, ◌+◌, ◌<◌, List, ◌∷◌, [], length, get_or, set, Some, refl, sym, ap, subst, ◌∙◌, inl, inr, arith}
 use Rattle.std.proofs.lemmas.Bool.{cases_lt}
 use Rattle.std.proofs.lemmas.List.{length-set, set-set, get_or_append_left}
@@ -42,6 +42,7 @@ module _ (xs : List NodeView) (i j q : ℕ) (nodes : AreNodes xs) (f : Inserts x
   child : IsChild p f.child.place l
   child = left_child xs i j q nodes f
 
+  -- the parent is an interior node with children, and none of the two halves; the left one is a level below it
   pub is_interior : 0 < p.level
   is_interior = omega (arith, f.right_level)
 

@@ -1,4 +1,4 @@
--- The contents of pairs in two lists, one behind the other.
+-- Contents of pairs in two lists, one behind the other, as maps: for the lemmas of contents.
 use Rattle.std.proofs.Common.{◌≡◌, ◌≢◌, ℕ, zero, suc, ◌<◌, Bool, true, false, cond, List, [], ◌∷◌, ◌++◌, length, get_or, set, Option, Some, None, sym, refl, ap, ◌∙◌, arith}
 use Rattle.std.specs.List.{flat_map}
 use Rattle.std.specs.Option.{option_or}
@@ -14,18 +14,20 @@ use Rattle.mt_rows.proofs.CommandLaws.{keys_exact}
 use Rattle.mt_rows.proofs.ContentLaws.{owned_total}
 use Rattle.mt_border.proofs.ContentsMaps.{same_contents}
 
+-- pairs with their owners, as a list and as a map
 abbrev pub Pairs : Type 0
 Pairs = List ((ℕ × Bytes) × Columns)
 
 abbrev pub map_of : Pairs → Contents
 map_of ps = from_entries ps
 
--- owned keys that tie are one
+-- what compares as equal is so
 ties : (o : Ordering) → is_eq o ≡ true → o ≡ Equal
 ties Less e = absurd (cc)
 ties Equal e = refl
 ties Greater e = absurd (cc)
 
+-- owned keys that tie are one
 pub tied_owner : (a b : ℕ × Bytes) → eq_by_cmp owned_cmp a b ≡ true → a ≡ b
 tied_owner a b tied =
     elim (nat_cmp a.0 b.0) as (λ o. nat_cmp a.0 b.0 ≡ o → ordering_then o (slice_cmp nat_cmp a.1 b.1) ≡ Equal → a ≡ b) [
@@ -43,9 +45,11 @@ or_cond : (b : Bool) (row : Columns) (x y : Option Columns) → cond b (Some row
 or_cond true row x y = refl
 or_cond false row x y = refl
 
+-- what the first list does not say the second one does
 pub or_none : (x y : Option Columns) → x ≡ None → option_or x y ≡ y
 or_none x y none = ap (λ o. option_or o y) none
 
+-- a key's row in both is that of the first list that has it
 pub get-append : (ps qs : Pairs) (q : ℕ × Bytes) → get (map_of (ps ++ qs)) q ≡ option_or (get (map_of ps) q) (get (map_of qs) q)
 get-append [] qs q = ap (λ o. option_or o (get (map_of qs) q)) (sym (get-empty owned_cmp q))
 get-append (p ∷ ps) qs q =

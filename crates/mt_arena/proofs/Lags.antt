@@ -1,4 +1,5 @@
--- How pointers to a node come to name it rightly again, from the split of a border node to the insert of its right half.
+-- How all that name a node come to name it rightly again, from the split of a border node to the insert of its right half: for the proofs
+-- of whole splits.
 use Rattle.std.proofs.Common.{◌≡◌, ◌≢◌, ◌⊎◌, ℕ, ◌+◌, ◌-◌, ◌<◌, ◌≤◌, List, [], ◌∷◌, ◌++◌, length, get_or, Option, Some, None, false, true, set, refl, sym, ap, subst, ◌∙◌, inl, inr, arith, length-append, length-drop}
 use Rattle.std.specs.List.{All}
 use Rattle.std.proofs.lemmas.Bool.{cases_eq, cases_lt}
@@ -24,6 +25,7 @@ use Rattle.mt_arena.proofs.Settled.{alive}
 not_theirs : (op q : ℕ) (old new : List NodeView) (were are : List Tree) (i : ℕ) → NodesGuarantee op old new were are → q ≢ op → i < length old → (node_at old i).holder ≡ Some q → (node_at new i).holder ≢ Some op
 not_theirs op q old new were are i guarantee other within holder e = other (same_Some _ _ (sym (((guarantee.nodes i within).held q other holder).holder ∙ holder) ∙ e))
 
+-- who names a held node after a step of another operation named it before
 pub follows_before : (op q : ℕ) (old new : List NodeView) (were are : List Tree) (i k : ℕ) → NodesGuarantee op old new were are → PointsOnly op old new → q ≢ op → i < length old → (node_at old i).holder ≡ Some q
     → Follows new i k → Follows old i k
 follows_before op q old new were are i k guarantee points other within holder is = elim (cases_lt k (length old)) [
@@ -93,6 +95,7 @@ left_again xs i j b parent differ lb followers k is = elim (follows_in xs i k b 
   ]
 ]
 
+-- and the right half has the one behind it alone
 pub right_again : (xs : List NodeView) (j b : ℕ) (parent : Option ℕ) → b < length xs → AreFollowers xs j None → AreFollowers (set xs b (pointed (node_at xs b) (Some j) parent)) j (Some b)
 right_again xs j b parent lb followers k is = elim (follows_in xs j k b (pointed (node_at xs b) (Some j) parent) lb is) [
   | inl behind ↦ ap (λ (c : ℕ). Some c) (sym behind.0)
@@ -151,6 +154,7 @@ followers_of xs i x settled k is = settled.previous k is.0 is.1 is.2
 pub children_of : (xs : List NodeView) (i : ℕ) (x : NodeView) → IsSettled xs i x → AreChildren xs i x
 children_of xs i x settled k is = settled.parent k is.0 is.1 is.2
 
+-- and how a settled node is made of the words
 pub settled_of : (xs : List NodeView) (i : ℕ) (x : NodeView) → AreFollowers xs i x.next → ((k : ℕ) → Follows xs i k → x.version.deleted ≡ false) → AreChildren xs i x → x.reach ≡ x.high → All (λ e. ¬ IsUnstable e.held) x.slots
     → (x.version.deleted ≡ false → x.parent ≡ None → x.version.root ≡ true) → IsSettled xs i x
 settled_of xs i x followers followed children reach stable rooted = record {
@@ -175,6 +179,7 @@ fresh_followers xs x i low op nodes within k is =
           absurd (omega (arith, (nodes.each k lt).names.previous (length xs) old))
     ]
 
+-- the new right half alone comes to name its left half
 pub half_followers : (xs : List NodeView) (x : NodeView) (i low op : ℕ) (next : Option ℕ) → AreFollowers xs i next → AreFollowersBut (xs ++ fresh_half x i low op ∷ []) i next (length xs)
 half_followers xs x i low op next followers k nk is =
     let y = fresh_half x i low op in

@@ -1,4 +1,4 @@
--- What the contents have where a slot becomes a link to the tree that was made for its key.
+-- What the contents have where a slot becomes a link to the tree that was made for its key: for the law of that name.
 use Rattle.std.proofs.Common.{◌≡◌, ◌≢◌, ℕ, zero, suc, ◌<◌, Bool, true, false, cond, List, [], ◌∷◌, length, get_or, set, Option, Some, None, sym, refl, ap, subst, ◌∙◌, inl, inr, arith}
 use Rattle.std.specs.Prelude.{filter_map}
 use Rattle.std.specs.List.{flat_map, cons_option}

@@ -1,4 +1,5 @@
--- A node with a range stands above nodes of all lower levels, so its level is below the number of nodes.
+-- A node with a range stands above nodes of all lower levels, so its level is below the number of nodes: for `grow_root`, whose level
+-- must fit its type.
 use Rattle.std.proofs.Common.{◌≡◌, ℕ, zero, suc, ◌+◌, ◌<◌, ◌≤◌, List, [], ◌∷◌, length, get_or, false, refl, sym, ◌∙◌, inl, inr, arith}
 use Rattle.std.specs.Prelude.{if◌then◌else◌, nat_lt}
 use Rattle.std.proofs.lemmas.Bool.{cases_eq, cases_lt}
@@ -67,6 +68,7 @@ module _ (xs : List NodeView) (nodes : AreNodes xs) (ranged : AreRanged xs) wher
         down l c lc child.live ((ranged.each c lc).parent child.knows) (omega (arith, child.level, is)) m (omega (arith, lt, other))
   ]
 
+  -- the level of a live node with a range is below the number of nodes
   pub level_few : (k : ℕ) → k < length xs → (node_at xs k).version.deleted ≡ false → HasRange (node_at xs k) → (node_at xs k).level < length xs
   level_few k lk live range =
       let l : ℕ = (node_at xs k).level in

@@ -1,4 +1,4 @@
--- Facts of links, where a node changes, or a node or a tree is added.
+-- The facts of links are kept where a node changes: for the invariant of every call.
 use Rattle.std.proofs.Common.{◌≡◌, ◌≢◌, ℕ, ◌+◌, ◌-◌, ◌<◌, ◌≤◌, List, [], ◌++◌, length, get_or, set, false, refl, sym, ap, subst, ◌∙◌, inl, inr, arith}
 use Rattle.std.specs.List.{insert, remove}
 use Rattle.std.proofs.lemmas.Bool.{cases_eq, cases_lt}
@@ -26,6 +26,7 @@ pub record HasSlot (es : List Entry) (u slice : ℕ) : Type 0 where
 abbrev pub HasLinksOf : List Entry → List Entry → Type 0
 HasLinksOf es of = (j u : ℕ) → j < length of → (get_or of j any_entry).held ≡ Link u → HasSlot es u (get_or of j any_entry).slice
 
+-- slots have the links that they have
 pub same_links : (es : List Entry) → HasLinksOf es es
 same_links es j u lt e = record { slot = j; in_range = lt; is = e; slice_is = refl }
 
@@ -154,6 +155,7 @@ pub record HasNoSlots (x y : NodeView) : Type 0 where
   pub old : x.slots ≡ []
   pub new : y.slots ≡ []
 
+-- a node without slots has no links
 pub no_links : (trees : List Tree) (y : NodeView) → y.slots ≡ [] → AreLinks trees y
 no_links trees y none live i u lt is = absurd (omega (arith, subst (λ (es : List Entry). i < length es) none lt))
 

@@ -1,4 +1,4 @@
--- A lock is taken or given back, or a mark is set.
+-- The whole invariant and the guarantee where a lock is taken or given back, or a mark is set: for `lock`, `unlock` and `mark_splitting`.
 use Rattle.std.proofs.Common.{◌≡◌, ◌≢◌, ℕ, ◌<◌, List, length, set, false, Option, Some, None, refl, sym, ap, ◌∙◌, arith}
 use Rattle.mt_interior.specs.Fences.{end_of}
 use Rattle.mt_arena.specs.Nodes.{HasRange}

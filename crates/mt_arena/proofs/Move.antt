@@ -1,4 +1,4 @@
--- The upper slots of a border node go to its right half.
+-- The facts of nodes are kept as the upper slots of a border node go to its right half: for `SplitStep`.
 use Rattle.std.proofs.Common.{◌≡◌, ◌≢◌, ℕ, ◌<◌, List, length, set, refl, sym, ap, ◌∙◌, arith}
 use Rattle.std.proofs.lemmas.Option.{same_Some}
 use Rattle.mt_border.specs.declared.entry.Entry.{Entry}

@@ -1,4 +1,5 @@
--- A step that changes several nodes lets none name another one but those that the operation holds.
+-- A step that changes several nodes lets them name, as the one before or as their parent, only nodes that its operation holds: for the
+-- clause `step` of their calls.
 use Rattle.std.proofs.Common.{◌≡◌, ◌≢◌, ◌⊎◌, ℕ, ◌+◌, ◌<◌, ◌≤◌, List, [], ◌∷◌, ◌++◌, length, set, Option, Some, None, sym, ap, ◌∙◌, inl, inr, arith, length-append}
 use Rattle.std.proofs.lemmas.Bool.{cases_eq, cases_lt}
 use Rattle.std.proofs.lemmas.Option.{same_Some}

@@ -1,4 +1,4 @@
--- What the contents have at a key, and what a change of one slot makes of them.
+-- What the contents have at a key, and what a change of one slot makes of them: for `Slots` and the laws.
 use Rattle.std.proofs.Common.{◌≡◌, ◌≢◌, ℕ, ◌<◌, List, length, get_or, set, take, Some, None, sym, refl, subst}
 use Rattle.std.specs.List.{All, remove as remove_at_place}
 use Rattle.std.specs.FinMap.{get, insert, remove}

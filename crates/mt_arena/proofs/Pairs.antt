@@ -1,4 +1,4 @@
--- Facts of each node and of each two, where one node or two are changed, or one is added.
+-- Facts of each node and of each two, where up to three nodes are changed or one is added: for the lemmas of every edit.
 use Rattle.std.proofs.Common.{◌≡◌, ◌≢◌, ℕ, zero, suc, ◌+◌, ◌<◌, List, [], ◌∷◌, ◌++◌, length, get_or, set, refl, sym, ap, subst, ◌∙◌, inl, inr, arith, length-append}
 use Rattle.std.proofs.lemmas.Bool.{cases_eq}
 use Rattle.std.proofs.lemmas.List.{get_or-set_same, get_or-set_other, length-set, get_or_default}
@@ -6,6 +6,7 @@ use Rattle.mt_arena.specs.NodeView.{NodeView, node_at, no_node}
 use Rattle.mt_arena.specs.Nodes.{AllPairs, AllNodes, AreNodes, IsNode, IsPair}
 use Rattle.mt_arena.proofs.Groups.{node_more}
 
+-- the node that was written, and the others
 pub here : (xs : List NodeView) (i : ℕ) (y : NodeView) → i < length xs → node_at (set xs i y) i ≡ y
 here xs i y within = get_or-set_same xs i y no_node within
 
@@ -26,6 +27,7 @@ before [] y k lt = absurd (omega arith)
 before (x ∷ xs) y zero lt = refl
 before (x ∷ xs) y (suc k) lt = before xs y k (omega arith)
 
+-- a fact of each node, where one node is another
 pub nodes_set : (P : NodeView → Type 0) (xs : List NodeView) (i : ℕ) (y : NodeView) → i < length xs → AllNodes P xs → P y → AllNodes P (set xs i y)
 nodes_set P xs i y within all new k lt = elim (cases_eq k i) [
   | inl is ↦ subst P (sym (here xs i y within) ∙ ap (node_at (set xs i y)) (sym is)) new
@@ -148,6 +150,7 @@ nodes_push P xs y all new k lt =
       | inr other ↦ rw (before xs y k (omega arith)) (all k (omega arith))
     ]
 
+-- a fact of each two, where one is added
 pub pairs_push : (R : ℕ → NodeView → ℕ → NodeView → Type 0) (xs : List NodeView) (y : NodeView) → AllPairs R xs
     → R (length xs) y (length xs) y
     → ((j : ℕ) → j < length xs → R (length xs) y j (node_at xs j))

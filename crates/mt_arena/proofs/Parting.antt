@@ -1,4 +1,5 @@
--- A right half comes to stand in a full parent, which is parted, as one step: what holds, and what others rely on.
+-- The whole invariant, the guarantee and the contents where a right half comes to stand in a full parent, which is parted: for
+-- `split_interior`.
 use Rattle.std.proofs.Common.{◌≡◌, ◌≢◌, ℕ, ◌+◌, ◌<◌, ◌≤◌, List, [], ◌∷◌, ◌++◌, length, set, false, None, refl, sym, ap, subst, ◌∙◌, arith, length-append}
 use Rattle.std.proofs.lemmas.Option.{same_Some}
 use Rattle.std.proofs.lemmas.List.{length-set, set-set, set-append_left, set_at}

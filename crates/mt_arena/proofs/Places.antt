@@ -1,4 +1,4 @@
--- A key's slice and mark stand in one place of a tree.
+-- A slice and a mark stand in one slot of a tree: for `Elsewhere` and the laws.
 use Rattle.std.proofs.Common.{◌≡◌, ℕ, ◌<◌, List, length, sym, subst, ◌∙◌, inl, inr}
 use Rattle.std.proofs.lemmas.Bool.{cases_eq}
 use Rattle.std.proofs.lemmas.List.{get_or-map}
@@ -15,6 +15,7 @@ pub slot_within : (nodes : List NodeView) (k i : ℕ) → AreNodes nodes → k <
 slot_within nodes k i are there within =
     subst (Holds (node_at nodes k)) (get_or-map (λ e. e.slice) (node_at nodes k).slots i any_entry 0 within) ((are.each k there).slots.within i within)
 
+-- so does the slice that stands in it
 pub stands_within : (nodes : List NodeView) (tree slice : ℕ) (mark : Mark) (k i : ℕ) → AreNodes nodes → StandsAt nodes tree slice mark k i → Holds (node_at nodes k) slice
 stands_within nodes tree slice mark k i are at = subst (Holds (node_at nodes k)) at.slice_is (slot_within nodes k i are at.border.there at.in_range)
 

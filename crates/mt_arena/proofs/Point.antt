@@ -1,4 +1,4 @@
--- A node before and a parent that are as they were, or held.
+-- The facts of nodes are kept as a node comes to name others, before it or as its parent: for `Pointing` and `Push`.
 use Rattle.std.proofs.Common.{◌≡◌, ◌≢◌, ◌⊎◌, ℕ, ◌<◌, List, length, Option, Some, None, set, inl, inr}
 use Rattle.mt_arena.specs.NodeView.{NodeView, node_at}
 use Rattle.mt_arena.specs.Nodes.{AreNodes, IsPair}

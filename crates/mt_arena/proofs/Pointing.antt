@@ -1,4 +1,4 @@
--- A neighbour before a node or its parent is written.
+-- The whole invariant and the guarantee where the node before another one or its parent is written: for `set_previous` and `set_parent`.
 use Rattle.std.proofs.Common.{◌≡◌, ◌≢◌, ℕ, ◌<◌, ◌⊎◌, List, length, set, true, false, Option, Some, None, refl, sym, ap, ◌∙◌, inl, inr, arith}
 use Rattle.std.proofs.lemmas.Bool.{cases_eq}
 use Rattle.std.proofs.lemmas.Option.{same_Some}
@@ -68,6 +68,7 @@ step_pointed v i op previous parent within mine before above stays first =
       parent = λ j e not_mine. own_or_old op v.nodes x.parent parent j above e (λ held. not_mine (holder_pointed v.nodes i j previous parent within ∙ held));
     }
 
+-- a node names what it named, or one that the operation holds
 pub names_same : (op : ℕ) (nodes : List NodeView) (was : Option ℕ) → NamesOwn op nodes was was
 names_same op nodes was = record { names = λ j e. inl e }
 

@@ -1,4 +1,5 @@
--- One more node.
+-- The facts of nodes are kept as a node is added: a right half, an interior node without range, or the root of a tree: for `Growing`,
+-- `Parting` and `Start`.
 use Rattle.std.proofs.Common.{◌≡◌, ◌≢◌, ℕ, ◌+◌, ◌<◌, Bool, true, List, [], ◌∷◌, ◌++◌, length, set, Some, None, refl, sym, ap, subst, ◌∙◌, inr, arith, length-append}
 use Rattle.std.proofs.lemmas.List.{set_at}
 use Rattle.std.proofs.lemmas.Option.{same_Some}

@@ -1,4 +1,4 @@
--- Changes that facts of two nodes do not read, but for a lock that is taken: other slots, another version, another holder.
+-- The facts of nodes are kept where slots, version and holder change: for locks, marks and keys.
 use Rattle.std.proofs.Common.{◌≡◌, ◌≢◌, ℕ, ◌<◌, List, length, slice_index, is_some, Option, Some, None, true, false, set, refl, sym, ◌∙◌, arith}
 use Rattle.mt_version.specs.Parts.{Parts}
 use Rattle.mt_border.specs.declared.entry.Entry.{Entry}

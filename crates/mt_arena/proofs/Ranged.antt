@@ -1,4 +1,5 @@
--- Nodes keep their ranges, and right halves that wait for theirs keep their left halves, through each edit.
+-- Nodes keep their ranges, and right halves that wait for theirs keep their left halves, as one node changes or is added: for the
+-- invariant of every call.
 use Rattle.std.proofs.Common.{◌≡◌, ◌≢◌, true, false, ℕ, ◌<◌, ◌≤◌, List, [], ◌∷◌, ◌++◌, length, Option, Some, None, set, refl, sym, ◌∙◌, arith}
 use Rattle.mt_version.specs.Parts.{Parts}
 use Rattle.mt_border.specs.declared.entry.Entry.{Entry}
@@ -38,6 +39,7 @@ stays x y deleted splitting range tree level holder = record { live = λ live. d
 left_stays : (x y n : NodeView) → Stays x y → IsLeftHalf x n → IsLeftHalf y n
 left_stays x y n s l = record { live = s.live l.live; range = s.range l.range; marked = s.marked l.marked; tree = s.tree ∙ l.tree; level = s.level ∙ l.level; holder = s.holder ∙ l.holder }
 
+-- the other node as the one that is named, and as the one that names
 pub tied_to : (k : ℕ) (n : NodeView) (j : ℕ) (x y : NodeView) → Stays x y → AreTied k n j x → AreTied k n j y
 tied_to k n j x y s h = record { next = λ e. s.range (h.next e); left = λ e waits. left_stays x y n s (h.left e waits) }
 
@@ -171,5 +173,6 @@ with_range y range fits = record { next = λ some. range; parent = λ some. rang
 pub ranged_more : (xs : List NodeView) (y : NodeView) → ((j : ℕ) → j < length xs → IsBeside (length xs) (node_at xs j)) → AreRanged xs → HasRange y → end_of y.high ≤ 18446744073709551616 → y.next ≡ None → AreRanged (xs ++ y ∷ [])
 ranged_more xs y beside ranged range fits none = ranged_push xs y beside ranged (with_range y range fits) none (λ _ waits. absurd (no_wait y range waits)) (λ j lt _ waits. absurd (no_wait y range waits))
 
+-- and the root of a new tree
 pub ranged_root : (xs : List NodeView) (tree : ℕ) → AreNodes xs → AreRanged xs → AreRanged (xs ++ fresh_root tree ∷ [])
 ranged_root xs tree nodes ranged = ranged_more xs (fresh_root tree) (all_beside xs nodes) ranged (omega arith) (omega arith) refl

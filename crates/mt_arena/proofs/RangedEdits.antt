@@ -1,4 +1,5 @@
--- Nodes keep their ranges where several change at once: in splits, under a new root, and where a node is taken out.
+-- Nodes keep their ranges where several change at once, in splits, under a new root, and where a node is taken out: for the calls that do
+-- so.
 use Rattle.std.proofs.Common.{◌≡◌, ◌≢◌, false, ℕ, ◌<◌, List, [], ◌∷◌, ◌++◌, length, Some, None, set, refl, sym, ap, subst, ◌∙◌, arith}
 use Rattle.std.proofs.lemmas.Option.{same_Some}
 use Rattle.std.proofs.lemmas.List.{length-set}
@@ -13,6 +14,7 @@ use Rattle.mt_arena.specs.Splits.{Splits, left_half, right_half, with_child, exa
 use Rattle.mt_arena.specs.Growth.{AreRootHalves, fresh_top, left_below, right_below}
 use Rattle.mt_arena.proofs.Pairs.{here, there, nodes_set, pairs_set2, pairs_set3}
 use Rattle.mt_arena.proofs.Naming.{each_set2}
+use Rattle.mt_arena.proofs.Unlink.{differ_ij, differ_iq, differ_jq}
 use Rattle.mt_arena.proofs.Ranged.{stays, IsBeside, all_beside, no_wait, tied_to, ranged_from, ranged_set, ranged_marked, with_range, ranged_push, ranged_more}
 
 -- a right half more, beside its left half, which is marked
@@ -110,9 +112,12 @@ ranged_root_grow xs i j op nodes ranged f =
     two (omega arith) (omega arith) refl
 
 -- the left neighbour of a node that is taken out ends where that ended; nobody waits at a node that is not being split
-pub ranged_unlinked : (xs : List NodeView) (i j q a : ℕ) → AreNodes xs → AreRanged xs → Unlinks xs i j q a → i ≢ j → i ≢ q → j ≢ q
+pub ranged_unlinked : (xs : List NodeView) (i j q a : ℕ) → AreNodes xs → AreRanged xs → Unlinks xs i j q a
     → AreRanged (set (set (set xs i (joined (node_at xs i) (node_at xs j))) j (retired (node_at xs j))) q (without_child (node_at xs q) a))
-ranged_unlinked xs i j q a nodes ranged f ij iq jq =
+ranged_unlinked xs i j q a nodes ranged f =
+    let ij = differ_ij xs i j q a nodes ranged f in
+    let iq = differ_iq xs i j q a nodes ranged f in
+    let jq = differ_jq xs i j q a nodes ranged f in
     let l = node_at xs i in
     let x = node_at xs j in
     let p = node_at xs q in

@@ -1,4 +1,4 @@
--- The ranges of a node's children: none is empty, and a node is a child of one node.
+-- The ranges of a node's children: none is empty, and a node is a child of one node, at one place: for the edits of children.
 use Rattle.std.proofs.Common.{◌≡◌, ◌≢◌, ℕ, suc, ◌+◌, ◌<◌, ◌≤◌, List, [], ◌∷◌, length, get_or, Option, false, sym, subst, ◌∙◌, inl, inr, arith, length-append}
 use Rattle.std.proofs.lemmas.Bool.{cases_eq}
 use Rattle.mt_interior.specs.Rising.{IsRising}
@@ -23,6 +23,7 @@ not_empty (x ∷ xs) a lt e = absurd (cc)
 pub length_bounds : (n : NodeView) → length (bounds n) ≡ length n.separators + 2
 length_bounds n = omega (arith, length-append n.separators (end_of n.high ∷ []))
 
+-- a node with children has one bound more than children
 pub length_children : (count : ℕ) (n : NodeView) (a : ℕ) → IsNode count n → a < length n.children → length (bounds n) ≡ length n.children + 1
 length_children count n a h lt = omega (arith, length_bounds n, h.children.interior.between)
 

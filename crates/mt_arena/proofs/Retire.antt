@@ -1,4 +1,4 @@
--- A node that is taken out of its tree.
+-- The facts of nodes are kept as a node is taken out: for `Growing` and `Collapse`.
 use Rattle.std.proofs.Common.{◌≢◌, ℕ, ◌<◌, List, length, None, set}
 use Rattle.mt_arena.specs.NodeView.{NodeView, node_at}
 use Rattle.mt_arena.specs.Nodes.{AreNodes, IsPair}

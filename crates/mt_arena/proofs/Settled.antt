@@ -1,4 +1,4 @@
--- What lags behind a held node is not changed by others.
+-- Behind a node that nobody holds nothing lags, and other operations let nothing come to lag behind one that is held: for the laws.
 use Rattle.std.proofs.Common.{◌≡◌, ◌≢◌, ℕ, ◌<◌, List, length, get_or, Bool, Option, Some, None, true, false, refl, sym, ap, subst, ◌∙◌, inl, inr, arith}
 use Rattle.std.proofs.lemmas.Bool.{cases_lt}
 use Rattle.std.proofs.lemmas.Option.{same_Some}

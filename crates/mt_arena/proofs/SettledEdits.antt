@@ -1,4 +1,4 @@
--- What an operation's own edits leave of "nothing lags behind the node".
+-- What an operation's own edits leave of "nothing lags behind the node": for the proofs of whole operations.
 use Rattle.std.proofs.Common.{◌≡◌, ◌≢◌, ℕ, ◌+◌, ◌<◌, List, [], ◌∷◌, ◌++◌, length, get_or, Some, None, false, set, refl, sym, ap, subst, ◌∙◌, inl, inr, arith, length-append}
 use Rattle.std.proofs.lemmas.Bool.{cases_eq}
 use Rattle.std.proofs.lemmas.List.{length-set}
@@ -47,6 +47,7 @@ pub record KeepsSettled (x y : NodeView) : Type 0 where
   pub high : y.high ≡ x.high
   pub reach : y.reach ≡ x.reach
 
+-- a settled node that keeps what `KeepsSettled` names stays settled
 pub settled_self : (xs : List NodeView) (i : ℕ) (y : NodeView) → i < length xs → IsSettled xs i (node_at xs i) → KeepsSettled (node_at xs i) y → All (λ e. ¬ IsUnstable e.held) y.slots
     → IsSettled (set xs i y) i (node_at (set xs i y) i)
 settled_self xs i y within settled keeps stable =

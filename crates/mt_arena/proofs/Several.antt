@@ -1,4 +1,5 @@
--- Nodes that keep their slots, their tree and whether they are deleted: two of them change, or three.
+-- Nodes that keep their slots, their tree and whether they are deleted, where two of them change, or three: for the calls that change
+-- several nodes.
 use Rattle.std.proofs.Common.{◌≡◌, ◌≢◌, ℕ, ◌<◌, List, length, set, sym, ap, subst, ◌∙◌, arith}
 use Rattle.std.proofs.lemmas.List.{length-set}
 use Rattle.mt_border.specs.declared.entry.Entry.{Entry}

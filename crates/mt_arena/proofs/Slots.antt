@@ -1,4 +1,4 @@
--- The slots of a border node change: a key is published, stored or dropped.
+-- The whole invariant, the guarantee and the contents where a key is published, stored or dropped: for the calls of these names.
 use Rattle.std.proofs.Common.{◌≡◌, ◌≢◌, ℕ, ◌*◌, ◌<◌, List, length, get_or, set, Bool, true, false, Some, None, refl, sym, ap, subst, ◌∙◌, arith}
 use Rattle.std.specs.Prelude.{if◌then◌else◌, nat_le}
 use Rattle.std.specs.FinMap as finite
@@ -44,6 +44,7 @@ use Rattle.mt_arena.proofs.Steps.{sound_set, keys_of, step_set}
 pub within_each : (n : NodeView) (es : List Entry) → ((i : ℕ) → i < length es → Holds n (get_or (slices es) i 0)) → All (λ (e : Entry). Holds n e.slice) es
 within_each n es inside k d lt = subst (Holds n) (get_or-map (λ (e : Entry). e.slice) es k d 0 lt) (inside k lt)
 
+-- and back
 pub within_all : (n : NodeView) (es : List Entry) → All (λ (e : Entry). Holds n e.slice) es → (i : ℕ) → i < length es → Holds n (get_or (slices es) i 0)
 within_all n es each i lt = subst (Holds n) (sym (get_or-map (λ (e : Entry). e.slice) es i any_entry 0 lt)) (each i any_entry lt)
 
@@ -64,6 +65,7 @@ sound_slots xs trees gone room i slots within sound held level may =
     may.keys
     record { tree = refl; deleted = refl; forth = may.forth; back = may.back }
 
+-- other slots under the mark for readers of keys
 pub changes_slots : (op : ℕ) (x : NodeView) (slots : List Entry) → x.holder ≡ Some op → Changes op x (with_slots x slots)
 changes_slots op x slots mine = record {
   tree = refl;

@@ -1,4 +1,4 @@
--- A border split as one step.
+-- The facts of nodes, trees and links, and the guarantee, where a border node is split: for `Halving`.
 use Rattle.std.proofs.Common.{◌≡◌, ◌≢◌, ◌⊎◌, ℕ, ◌<◌, ◌++◌, List, [], length, get_or, set, Some, false, refl, sym, ap, subst, ◌∙◌, inl, inr, arith}
 use Rattle.std.proofs.lemmas.Bool.{cases_eq}
 use Rattle.std.proofs.lemmas.List.{length-set}

@@ -1,4 +1,4 @@
--- An arena with an empty top tree.
+-- The invariant of an arena with an empty top tree: for `new`.
 use Rattle.std.proofs.Common.{◌≢◌, ℕ, zero, suc, ◌<◌, ◌≤◌, List, [], ◌∷◌, refl, arith}
 use Rattle.mt_arena.specs.declared.tree.Tree.{Tree}
 use Rattle.mt_arena.specs.NodeView.{NodeView, node_at}

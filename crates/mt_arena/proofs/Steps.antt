@@ -1,4 +1,4 @@
--- What each call of an arena leaves: all that holds, and what others rely on.
+-- The whole invariant and the guarantee where one node changes: for the calls that change one node.
 use Rattle.std.proofs.Common.{ℕ, ◌<◌, List, length, set, refl, arith}
 use Rattle.std.proofs.lemmas.List.{length-set}
 use Rattle.mt_arena.specs.declared.tree.Tree.{Tree}

@@ -1,4 +1,4 @@
--- A new root over two halves, as one step: what holds, and what others rely on.
+-- The whole invariant, the guarantee and the contents where a new root comes over two halves: for `grow_root`.
 use Rattle.std.proofs.Common.{◌≡◌, ℕ, ◌+◌, ◌<◌, ◌≤◌, ◌++◌, List, ◌∷◌, [], length, get_or, set, Some, refl, sym, ap, subst, ◌∙◌, inl, inr, arith, length-append}
 use Rattle.std.proofs.lemmas.Bool.{cases_eq}
 use Rattle.std.proofs.lemmas.Option.{same_Some}

@@ -1,4 +1,4 @@
--- Facts of trees and of their nodes, where an operation begins to make a tree.
+-- The facts of trees and their nodes are kept where an operation begins to make a tree: for `new_tree`.
 use Rattle.std.proofs.Common.{◌≡◌, ℕ, zero, suc, ◌+◌, ◌*◌, ◌<◌, List, [], ◌∷◌, ◌++◌, length, refl, inl, inr, arith, length-append}
 use Rattle.std.proofs.lemmas.Bool.{cases_eq}
 use Rattle.mt_rows.specs.Rows.{Bytes}
@@ -14,6 +14,7 @@ pub last_tree : (ts : List Tree) (u : Tree) → tree_at (ts ++ u ∷ []) (length
 last_tree [] u = refl
 last_tree (t ∷ ts) u = last_tree ts u
 
+-- and those before it
 pub before_tree : (ts : List Tree) (u : Tree) (k : ℕ) → k < length ts → tree_at (ts ++ u ∷ []) k ≡ tree_at ts k
 before_tree [] u k lt = absurd (omega arith)
 before_tree (t ∷ ts) u zero lt = refl

@@ -1,4 +1,4 @@
--- Two nodes of a list, each in its part.
+-- Two nodes of a list that is cut in two are those of the whole list: for the bodies that change two nodes at once.
 use Rattle.std.proofs.Common.{◌≡◌, ◌≢◌, ℕ, zero, suc, ◌+◌, ◌<◌, ◌≤◌, List, [], ◌∷◌, ◌++◌, length, take, drop, get_or, set, refl, sym, ap, ◌∙◌, arith}
 use Rattle.std.proofs.lemmas.List.{get_or-take, get_or-drop, get_or_default, set_comm, length-set, take_at}
 use Rattle.mt_border.specs.declared.entry.Entry.{Entry}
@@ -28,6 +28,7 @@ module _ (all : List Entry) (xs : List NodeView) (i j : ℕ) (y z : NodeView) wh
   abbrev r : NodeView
   r = node_at xs j
 
+  -- the two halves as the clause of a split wants them
   pub halved : (ys : List NodeView) → ys ≡ set (set xs i y) j z → IsParted all y.slots z.slots r.low → 0 < length y.slots → 0 < length z.slots → y ≡ left_half x y.slots r.low j → z ≡ right_half x r z.slots i → AreHalved all xs ys i j
   halved ys are parted some_kept some_moved left right = record {
     kept = y.slots;
@@ -38,6 +39,7 @@ module _ (all : List Entry) (xs : List NodeView) (i j : ℕ) (y z : NodeView) wh
     is = are ∙ ap (λ (n : NodeView). set (set xs i n) j z) left ∙ ap (λ (n : NodeView). set (set xs i (left_half x y.slots r.low j)) j n) right;
   }
 
+-- and where the right one stands before the left one
 pub both_back : (xs : List NodeView) (i j : ℕ) (y z : NodeView) → i ≢ j → j ≤ i → i < length xs → set (take i xs) j z ++ set (drop i xs) 0 y ≡ set (set xs i y) j z
 both_back xs i j y z differ le within = both_set xs j i z y (omega (arith, differ, le)) within ∙ set_comm xs j i z y (λ e. differ (sym e))
 
@@ -70,5 +72,6 @@ module _ (all : List Entry → List Entry) (xs front back : List NodeView) (i j 
 pub written : (xs ws : List NodeView) (n : ℕ) → length xs ≡ n → length ws ≡ length xs → take n (ws ++ drop (length ws) xs) ≡ ws
 written xs ws n all same = take_at ws (drop (length ws) xs) n (same ∙ all)
 
+-- two writes keep the number of nodes
 pub two_long : (xs ys : List NodeView) (i j : ℕ) (y z : NodeView) → ys ≡ set (set xs i y) j z → length ys ≡ length xs
 two_long xs ys i j y z is = ap length is ∙ length-set (set xs i y) j z ∙ length-set xs i y

@@ -1,4 +1,4 @@
--- A border node is taken out, and the one before it gets its range.
+-- The facts of nodes are kept as a border node is taken out and the one before it gets its range: for a call that removes a border node.
 use Rattle.std.proofs.Common.{◌≡◌, ◌≢◌, ℕ, ◌+◌, ◌-◌, ◌<◌, ◌≤◌, List, [], length, get_or, Some, None, false, set, refl, sym, ap, subst, ◌∙◌, inl, inr, arith}
 use Rattle.std.specs.List.{remove}
 use Rattle.std.proofs.lemmas.Bool.{cases_eq, cases_lt}
@@ -88,13 +88,13 @@ module _ (xs : List NodeView) (i j q a : ℕ) (nodes : AreNodes xs) (ranged : Ar
   ends_so = hx.reach.exact f.removed_whole
 
   -- the three are three
-  differ_ij : i ≢ j
+  pub differ_ij : i ≢ j
   differ_ij e = omega (arith, left_range, ap (λ k. (node_at xs k).low) e)
 
-  differ_iq : i ≢ q
+  pub differ_iq : i ≢ q
   differ_iq e = omega (arith, left_child.level, ap (λ k. (node_at xs k).level) e)
 
-  differ_jq : j ≢ q
+  pub differ_jq : j ≢ q
   differ_jq e = omega (arith, old_child.level, ap (λ k. (node_at xs k).level) e)
 
   -- nobody else names the removed node

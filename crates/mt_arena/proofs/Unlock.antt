@@ -1,4 +1,4 @@
--- The end of a lock.
+-- The facts of nodes are kept as a lock is given back: for `Locks`.
 use Rattle.std.proofs.Common.{ℕ, ◌<◌, List, length, set, refl}
 use Rattle.mt_arena.specs.NodeView.{NodeView, node_at}
 use Rattle.mt_arena.specs.Nodes.{AreNodes, IsPair}

@@ -121,8 +121,8 @@ pub fn contents_by_slot()
 {}
 
 /// What leaves the contents as they are: a change of a node but for its slots, its tree and whether
-/// it is deleted, slots that are parted among two nodes, a slot that holds its pair otherwise, a link that is taken out, any change of a
-/// node without slots, one more such node, one more tree, another root in a tree's record, and any
+/// it is deleted, slots that are parted among two nodes, a slot that holds its pair otherwise, a link
+/// that is taken out, any change of a node without slots, one more such node, one more tree, another root in a tree's record, and any
 /// change of a tree whose nodes are deleted or have no slots.
 pub fn contents_stand()
     ensures same_slots { (nodes : List NodeView) (trees : List Tree) (k : ℕ) (y : NodeView) →
@@ -184,8 +184,9 @@ pub fn alone_in_its_tree()
         (node_at nodes k).version.deleted ≡ true }
 {}
 
-/// What steps of one operation leave to others adds up: nothing is done by no step, and two steps are
-/// as one, also for whom nodes name where the second one gives no lock back. While another operation goes on, nothing comes to lag behind a node that is held.
+/// The guarantees of one operation's steps add up: where nothing is done nothing changes, and two
+/// steps are as one, also in whom nodes name where the second one gives no lock back. While another
+/// operation goes on, nothing comes to lag behind a node that is held.
 pub fn steps_add_up()
     ensures none { (op : ℕ) (nodes : List NodeView) (trees : List Tree) → NodesGuarantee op nodes nodes trees trees }
     ensures two { (op : ℕ) (old mid new : List NodeView) (were between are : List Tree) → IsArena old were →
