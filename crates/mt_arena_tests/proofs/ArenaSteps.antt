@@ -1,5 +1,5 @@
 -- What the steps of the stories of an arena need.
-use Rattle.std.proofs.Common.{◌≡◌, ℕ, ◌<◌, List, [], ◌∷◌, refl, ap, ◌∙◌, arith}
+use Rattle.std.proofs.Common.{◌≡◌, ℕ, [], ◌∷◌, refl, ap, ◌∙◌, arith}
 use Rattle.mt_rows.specs.Rows.{Bytes, Columns}
 use Rattle.mt_border.specs.declared.entry.Pair.{Pair}
 use Rattle.mt_border.specs.declared.entry.Entry.{Entry}
@@ -8,7 +8,7 @@ use Rattle.mt_border.specs.declared.entry.Held.TheVariants.{Stable, Unstable, Li
 use Rattle.mt_border.specs.Entry.{IsStablePair, pair_of}
 use Rattle.mt_border.specs.Entries.{IsRising, orders, replaced}
 use Rattle.mt_border.specs.Contents.{HasKey}
-use Rattle.mt_border.proofs.Edits.{any_entry, replaced_at}
+use Rattle.mt_border.proofs.Edits.{replaced_at}
 use Rattle.mt_border.proofs.ContentsKeys.{has_rewritten_key}
 use Rattle.mt_arena.specs.Layers.{slot_at}
 use Rattle.mt_arena.specs.Edits.{with_slots}

@@ -1,5 +1,5 @@
 -- What the facts of an arena say of one tree, for the stories of a tree.
-use Rattle.std.proofs.Common.{◌≡◌, ◌≢◌, ◌⊎◌, ℕ, suc, ◌+◌, ◌<◌, ◌≤◌, List, [], ◌∷◌, ◌++◌, length, get_or, Option, Some, None, false, refl, sym, ap, ◌∙◌, arith, inl, inr, length-append}
+use Rattle.std.proofs.Common.{◌≡◌, ℕ, suc, ◌+◌, ◌<◌, ◌≤◌, List, [], ◌∷◌, ◌++◌, length, get_or, Option, false, refl, ap, ◌∙◌, arith, inl, inr, length-append}
 use Rattle.std.proofs.lemmas.Bool.{cases_lt}
 use Rattle.std.proofs.lemmas.List.Edits.{length-insert, get_or-insert_below, get_or-insert_at, get_or-insert_above}
 use Rattle.mt_interior.specs.Places.{place_of}
@@ -13,7 +13,7 @@ use Rattle.mt_arena.specs.Nodes.{AreNodes, HasChild, IsChild}
 use Rattle.mt_arena.specs.Forests.{tree_at}
 use Rattle.mt_arena.specs.Splits.{with_child}
 use Rattle.mt_arena.specs.Arena.{ArenaView, IsArena}
-use Rattle.mt_arena.specs.Accesses.{at, tree_of, IsOpen}
+use Rattle.mt_arena.specs.Accesses.{at, tree_of}
 
 -- each node is of the one tree, which is live: any operation may change it
 pub of_top : (v : ArenaView) (k : ℕ) → IsArena v.nodes v.trees → length v.trees ≡ 1 → k < length v.nodes → (at v k).tree ≡ 0

@@ -1,18 +1,18 @@
 -- The children of a right half come to name it as their parent, one after the other.
-use Rattle.std.proofs.Common.{◌≡◌, ◌≢◌, ◌⊎◌, ℕ, ◌+◌, ◌<◌, ◌≤◌, List, [], length, get_or, set, Some, None, false, refl, sym, ap, ◌∙◌, arith, inl, inr}
+use Rattle.std.proofs.Common.{◌≡◌, ◌≢◌, ◌⊎◌, ℕ, ◌+◌, ◌<◌, length, get_or, Some, None, false, refl, sym, ap, ◌∙◌, arith, inl, inr}
 use Rattle.std.proofs.lemmas.Bool.{cases_eq}
 use Rattle.std.proofs.lemmas.Option.{same_Some}
 use Rattle.std.proofs.lemmas.List.{length-set}
-use Rattle.mt_arena.specs.NodeView.{NodeView, node_at}
+use Rattle.mt_arena.specs.NodeView.{NodeView}
 use Rattle.mt_arena.specs.Nodes.{HasChild, HasRange, IsChild}
 use Rattle.mt_arena.specs.Lags.{Follows, IsUnder}
 use Rattle.mt_arena.specs.Edits.{pointed}
 use Rattle.mt_arena.specs.Arena.{ArenaView, IsArena}
-use Rattle.mt_arena.specs.Accesses.{at, with_node, IsHeld, IsOpen}
+use Rattle.mt_arena.specs.Accesses.{at, with_node, IsOpen}
 use Rattle.mt_arena.proofs.Pairs.{here, there}
 use Rattle.mt_arena.proofs.Homes.{no_root}
-use Rattle.mt_arena_tests.specs.TreeStory.{IsTidy, IsFrom, AreApart, AreHalves, AreTold}
-use Rattle.mt_arena_tests.proofs.TreeFacts.{tree_live, open_of, as_child}
+use Rattle.mt_arena_tests.specs.TreeStory.{IsTidy, AreHalves, AreTold}
+use Rattle.mt_arena_tests.proofs.TreeFacts.{tree_live, open_of}
 
 -- once all are told, nothing lags
 pub all_told : (v : ArenaView) (j q count : ℕ) → count ≡ length (at v q).children → AreTold v j q count → AreHalves v j q

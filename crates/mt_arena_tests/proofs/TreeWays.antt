@@ -1,10 +1,9 @@
 -- From the root down to the border node that has a slice in its range, in a tree of which nobody holds a node.
-use Rattle.std.proofs.Common.{◌≡◌, ◌≢◌, ℕ, ◌+◌, ◌<◌, ◌≤◌, List, [], ◌∷◌, length, get_or, Option, Some, None, false, refl, sym, ap, subst, ◌∙◌, arith}
+use Rattle.std.proofs.Common.{◌≡◌, ◌≢◌, ℕ, ◌<◌, List, [], ◌∷◌, length, get_or, Option, None, false, refl, sym, subst, ◌∙◌, arith}
 use Rattle.mt_interior.specs.Node.{InteriorNode}
 use Rattle.mt_interior.specs.Places.{place_of}
 use Rattle.mt_interior.specs.Fences.{end_of, HoldsSlice, IsWithinBounds, bounds as bounds_within}
 use Rattle.mt_interior.proofs.CallerLemmas.{place_of-le-length}
-use Rattle.mt_arena.specs.declared.tree.Standing.TheVariants.{Live, Dead}
 use Rattle.mt_arena.specs.NodeView.{NodeView, interior_view}
 use Rattle.mt_arena.specs.Nodes.{Holds, HasChild, IsChild, bounds}
 use Rattle.mt_arena.specs.Forests.{tree_at, IsRoot}

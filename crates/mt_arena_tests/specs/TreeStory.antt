@@ -8,7 +8,6 @@ use Rattle.mt_border.specs.declared.entry.Entry.{Entry}
 use Rattle.mt_border.specs.Entry.{IsEntry, IsStablePair}
 use Rattle.mt_border.specs.Entries.{IsMissing}
 use Rattle.mt_border.specs.Contents.{HasKey}
-use Rattle.mt_arena.specs.NodeView.{NodeView}
 use Rattle.mt_arena.specs.NodeFacts.{IsUnstable}
 use Rattle.mt_arena.specs.Nodes.{HasRange, HasChild}
 use Rattle.mt_arena.specs.Lags.{IsUnder, AreFollowers, AreChildren}

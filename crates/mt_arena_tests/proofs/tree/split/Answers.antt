@@ -1,8 +1,3 @@
-use Rattle.std.proofs.Common.{sym, ap, subst}
-use Rattle.mt_border.specs.Split.{IsSeparator, slices_with}
-use Rattle.mt_arena.specs.NodeView.{NodeView}
-use Rattle.mt_arena.specs.Accesses.{at}
-use Rattle.mt_arena.proofs.Settled.{settled_free}
 use Rattle.mt_arena_tests.proofs.TreeSplits.{may_split, may_place, halves_with}
 use Rattle.mt_arena_tests.proofs.tree.split.Goals as goal
 
