@@ -1,6 +1,7 @@
 pub mod ArenaSteps
 pub mod TreeReads
 pub mod TreeFacts
+pub mod TreeLocks
 pub mod TreeLinks
 pub mod TreeTops
 pub mod TreeSplits

@@ -19,7 +19,7 @@ use Rattle.mt_arena.specs.Accesses.{at, with_node, IsHeld}
 use Rattle.mt_arena.proofs.Settled.{settled_free}
 use Rattle.mt_arena.proofs.Lags.{settled_of, child_parted}
 use Rattle.mt_arena.proofs.Pairs.{last, before}
-use Rattle.mt_arena_tests.specs.TreeStory.{IsAtRest, AreHalves, AreTold, MayCount}
+use Rattle.mt_arena_tests.specs.TreeStory.{IsReady, MayRelease, AreHalves, AreTold, MayCount}
 use Rattle.mt_arena_tests.proofs.TreeReads.{Reads, reads_i, reads_j, reads_q, reads_all, reads_right, reads_more, follows_more, under_more, SamePrevious, SameParent, follows_on, under_on}
 use Rattle.mt_arena_tests.proofs.TreeFacts.{of_top, tree_live, open_of, as_child, child_more, new_child, has_range}
 
@@ -67,12 +67,6 @@ module _ (v : ArenaView) (i j q : ℕ) (arena : IsArena v.nodes v.trees) (h : Ar
   abbrev v3 : ArenaView
   v3 = record v2 { nodes = with_right v2.nodes i j q }
 
-  abbrev v4 : ArenaView
-  v4 = with_node v3 i (unlocked (at v3 i))
-
-  abbrev v5 : ArenaView
-  v5 = with_node v4 j (unlocked (at v4 j))
-
   abbrev told : NodeView
   told = pointed r r.previous (Some i)
 
@@ -89,16 +83,6 @@ module _ (v : ArenaView) (i j q : ℕ) (arena : IsArena v.nodes v.trees) (h : Ar
 
   reads3 : Reads v3.nodes xs i j q wide (exact l) told
   reads3 = reads_right v2.nodes xs i j q (locked p 5) l told ij iq h.apart.differ parent_there left_there reads2
-
-  reads4 : Reads v4.nodes xs i j q (unlocked wide) (exact l) told
-  reads4 =
-      let after = reads_i v3.nodes xs i j q wide (exact l) told ij iq h.apart.differ reads3 (unlocked (at v3 i)) parent_there in
-      record { size = after.size; at_i = after.at_i ∙ ap unlocked reads3.at_i; at_j = after.at_j; at_q = after.at_q; others = after.others }
-
-  reads5 : Reads v5.nodes xs i j q (unlocked wide) (unlocked (exact l)) told
-  reads5 =
-      let after = reads_j v4.nodes xs i j q (unlocked wide) (exact l) told ij iq h.apart.differ reads4 (unlocked (at v4 j)) left_there in
-      record { size = after.size; at_i = after.at_i; at_j = after.at_j ∙ ap unlocked reads4.at_j; at_q = after.at_q; others = after.others }
 
   -- what `set_parent` needs
   pub held1 : IsHeld v1 i 5
@@ -137,80 +121,75 @@ module _ (v : ArenaView) (i j q : ℕ) (arena : IsArena v.nodes v.trees) (h : Ar
   back3 : (t k : ℕ) → Follows v3.nodes t k → Follows xs t k
   back3 = follows_on v3.nodes xs i j q wide (exact l) told reads3 parent_there left_there right_there (record { previous = refl; deleted = refl }) (record { previous = refl; deleted = refl }) (record { previous = refl; deleted = refl })
 
-  back4 : (t k : ℕ) → Follows v4.nodes t k → Follows xs t k
-  back4 = follows_on v4.nodes xs i j q (unlocked wide) (exact l) told reads4 parent_there left_there right_there (record { previous = refl; deleted = refl }) (record { previous = refl; deleted = refl }) (record { previous = refl; deleted = refl })
-
-  back5 : (t k : ℕ) → Follows v5.nodes t k → Follows xs t k
-  back5 = follows_on v5.nodes xs i j q (unlocked wide) (unlocked (exact l)) told reads5 parent_there left_there right_there (record { previous = refl; deleted = refl }) (record { previous = refl; deleted = refl }) (record { previous = refl; deleted = refl })
-
   up3 : (t k : ℕ) → IsUnder v3.nodes t k → ((k ≡ q) × (Some i ≡ Some t)) ⊎ IsUnder xs t k
   up3 = under_on v3.nodes xs i j q wide (exact l) told reads3 parent_there left_there (record { parent = refl; deleted = refl }) (record { parent = refl; deleted = refl })
 
-  up4 : (t k : ℕ) → IsUnder v4.nodes t k → ((k ≡ q) × (Some i ≡ Some t)) ⊎ IsUnder xs t k
-  up4 = under_on v4.nodes xs i j q (unlocked wide) (exact l) told reads4 parent_there left_there (record { parent = refl; deleted = refl }) (record { parent = refl; deleted = refl })
-
-  up5 : (t k : ℕ) → IsUnder v5.nodes t k → ((k ≡ q) × (Some i ≡ Some t)) ⊎ IsUnder xs t k
-  up5 = under_on v5.nodes xs i j q (unlocked wide) (unlocked (exact l)) told reads5 parent_there left_there (record { parent = refl; deleted = refl }) (record { parent = refl; deleted = refl })
-
-  -- the parent is given back
-  pub held3 : IsHeld v3 i 5
-  held3 = record { there = omega (arith, parent_there, reads3.size); holder = ap (λ (n : NodeView). n.holder) reads3.at_i }
-
-  pub settled3 : IsSettled v3.nodes i (at v3 i)
-  settled3 =
+  -- then all three may be given back
+  settled_parent : IsSettled v3.nodes i (at v3 i)
+  settled_parent =
       let s = settled_free xs i parent_there arena.nodes parent_free in
       let size : length p.children ≡ length p.separators + 1 = omega (arith, (arena.nodes.each i parent_there).children.interior.between, (h.apart.under i up).in_range) in
       subst (λ (n : NodeView). IsSettled v3.nodes i n) (sym reads3.at_i) (settled_of v3.nodes i wide
-      (λ k f. let b = back3 i k f in s.previous k b.0 b.1 b.2) (λ k f. let b = back3 i k f in s.previous_live k b.0 b.1 b.2)
-      (λ k u. elim (up3 i k u) [
-        | inl new ↦ subst (λ c. HasChild wide c) (sym new.0) (new_child (inserting (locked p 5)) r.low q size (h.apart.under i up).live)
-        | inr old ↦ child_more (inserting (locked p 5)) r.low q k size (s.parent k old.0 old.1 old.2)
-      ])
-      s.reach s.stable s.rooted)
+        (λ k f. let b = back3 i k f in s.previous k b.0 b.1 b.2) (λ k f. let b = back3 i k f in s.previous_live k b.0 b.1 b.2)
+        (λ k u. elim (up3 i k u) [
+          | inl new ↦ subst (λ c. HasChild wide c) (sym new.0) (new_child (inserting (locked p 5)) r.low q size (h.apart.under i up).live)
+          | inr old ↦ child_more (inserting (locked p 5)) r.low q k size (s.parent k old.0 old.1 old.2)
+        ])
+        s.reach s.stable s.rooted)
 
-  pub room3 : MayCount p.version → CanUnlock (at v3 i).version
-  room3 count = rw reads3.at_i ((λ _. omega (arith, count.splits)), (λ _ _. omega (arith, count.inserts)))
+  settled_left : IsSettled v3.nodes j (at v3 j)
+  settled_left = subst (λ (n : NodeView). IsSettled v3.nodes j n) (sym reads3.at_j) (settled_of v3.nodes j (exact l)
+    (λ k f. h.apart.left_tidy.followers k (back3 j k f)) (λ _ _. h.apart.left_tidy.live)
+    (λ k u. elim (up3 j k u) [
+      | inl new ↦ absurd (ij (same_Some _ _ new.1))
+      | inr old ↦ h.children k old
+    ])
+    refl h.apart.left_tidy.stable (λ _ none. h.apart.rooted none))
 
-  -- then the left half
-  pub held4 : IsHeld v4 j 5
-  held4 = record { there = omega (arith, left_there, reads4.size); holder = ap (λ (n : NodeView). n.holder) reads4.at_j ∙ h.apart.left_tidy.held.holder }
+  settled_right : IsSettled v3.nodes q (at v3 q)
+  settled_right = subst (λ (n : NodeView). IsSettled v3.nodes q n) (sym reads3.at_q) (settled_of v3.nodes q told
+    (λ k f. h.apart.right_tidy.followers k (back3 q k f)) (λ _ _. h.apart.right_tidy.live)
+    (λ k u. elim (up3 q k u) [
+      | inl new ↦ absurd (iq (same_Some _ _ new.1))
+      | inr old ↦ h.apart.right_children k old
+    ])
+    h.apart.exact h.apart.right_tidy.stable (λ _ none. absurd (cc)))
 
-  pub settled4 : IsSettled v4.nodes j (at v4 j)
-  settled4 = subst (λ (n : NodeView). IsSettled v4.nodes j n) (sym reads4.at_j) (settled_of v4.nodes j (exact l)
-      (λ k f. h.apart.left_tidy.followers k (back4 j k f)) (λ _ _. h.apart.left_tidy.live)
-      (λ k u. elim (up4 j k u) [
-        | inl new ↦ absurd (ij (same_Some _ _ new.1))
-        | inr old ↦ h.children k old
-      ])
-      refl h.apart.left_tidy.stable (λ _ none. h.apart.rooted none))
+  pub is_ready : MayCount p.version → IsReady v3 i j q
+  is_ready count = record {
+    one_tree = h.apart.one_tree;
+    not_second = ij;
+    not_third = iq;
+    apart = h.apart.differ;
+    first = record {
+      held = record { there = omega (arith, parent_there, reads3.size); holder = ap (λ (n : NodeView). n.holder) reads3.at_i };
+      settled = settled_parent;
+      room = rw reads3.at_i ((λ _. omega (arith, count.splits)), (λ _ _. omega (arith, count.inserts)));
+      mine = rw reads3.at_i (open_of v.trees p.tree 5 (tree_live v i arena h.apart.one_tree parent_there));
+    };
+    second = record {
+      held = record { there = omega (arith, left_there, reads3.size); holder = ap (λ (n : NodeView). n.holder) reads3.at_j ∙ h.apart.left_tidy.held.holder };
+      settled = settled_left;
+      room = rw reads3.at_j h.apart.left_tidy.room;
+      mine = rw reads3.at_j (open_of v.trees l.tree 5 (tree_live v j arena h.apart.one_tree left_there));
+    };
+    third = record {
+      held = record { there = omega (arith, right_there, reads3.size); holder = ap (λ (n : NodeView). n.holder) reads3.at_q ∙ h.apart.right_tidy.held.holder };
+      settled = settled_right;
+      room = rw reads3.at_q h.apart.right_tidy.room;
+      mine = rw reads3.at_q (open_of v.trees r.tree 5 (tree_live v q arena h.apart.one_tree right_there));
+    };
+    free = λ k lt ni nj nq.
+      let was : k < length xs = omega (arith, lt, reads3.size) in
+      rw (reads3.others k was ni nj nq) (h.apart.free k was nj nq);
+  }
 
-  pub room4 : CanUnlock (at v4 j).version
-  room4 = rw reads4.at_j h.apart.left_tidy.room
-
-  -- and the right one
-  pub held5 : IsHeld v5 q 5
-  held5 = record { there = omega (arith, right_there, reads5.size); holder = ap (λ (n : NodeView). n.holder) reads5.at_q ∙ h.apart.right_tidy.held.holder }
-
-  pub settled5 : IsSettled v5.nodes q (at v5 q)
-  settled5 = subst (λ (n : NodeView). IsSettled v5.nodes q n) (sym reads5.at_q) (settled_of v5.nodes q told
-      (λ k f. h.apart.right_tidy.followers k (back5 q k f)) (λ _ _. h.apart.right_tidy.live)
-      (λ k u. elim (up5 q k u) [
-        | inl new ↦ absurd (iq (same_Some _ _ new.1))
-        | inr old ↦ h.apart.right_children k old
-      ])
-      h.apart.exact h.apart.right_tidy.stable (λ _ none. absurd (cc)))
-
-  pub room5 : CanUnlock (at v5 q).version
-  room5 = rw reads5.at_q h.apart.right_tidy.room
-
-  -- and nobody holds a node any more
-  pub rest6 : IsAtRest (with_node v5 q (unlocked (at v5 q)))
-  rest6 =
-      let after = reads_q v5.nodes xs i j q (unlocked wide) (unlocked (exact l)) told ij iq h.apart.differ reads5 (unlocked (at v5 q)) right_there in
-      record {
-        one_tree = h.apart.one_tree;
-        free = reads_all (λ k n. n.holder ≡ None) (set v5.nodes q (unlocked (at v5 q))) xs i j q (unlocked wide) (unlocked (exact l)) (unlocked (at v5 q)) after refl refl refl (λ k lt _ nj nq. h.apart.free k lt nj nq);
-      }
+  -- the calls one by one lead there
+  pub ready_at : (a b c : ArenaView) → a ≡ v1 → b ≡ with_node a q (pointed (at a q) (at a q).previous (Some i)) → c ≡ record b { nodes = with_right b.nodes i j q } → MayCount p.version → IsReady c i j q
+  ready_at a b c one two three count =
+      let is2 : b ≡ v2 = two ∙ ap (λ (u : ArenaView). with_node u q (pointed (at u q) (at u q).previous (Some i))) one in
+      let is3 : c ≡ v3 = three ∙ ap (λ (u : ArenaView). record u { nodes = with_right u.nodes i j q }) is2 in
+      subst (λ (u : ArenaView). IsReady u i j q) (sym is3) (is_ready count)
 
   -- where the parent is full, it is split in its turn
   module _ (full : length p.separators ≡ 15) (inner : p.next ≡ None) (count : MayCount p.version) where
@@ -293,9 +272,6 @@ module _ (v : ArenaView) (i j q : ℕ) (arena : IsArena v.nodes v.trees) (h : Ar
     behind3 : (t k : ℕ) → Follows w3.nodes t k → Follows xs t k
     behind3 t k f = follows_more xs fresh t k refl (follows_on w3.nodes all i j q lower (exact l) told parts3 (in_all i parent_there) (in_all j left_there) (in_all q right_there) same_i.0 same_j.0 same_q t k f)
 
-    behind4 : (t k : ℕ) → Follows w4.nodes t k → Follows xs t k
-    behind4 t k f = follows_more xs fresh t k refl (follows_on w4.nodes all i j q lower (unlocked (exact l)) told parts4 (in_all i parent_there) (in_all j left_there) (in_all q right_there) same_i.0 (record { previous = same_j.0.previous; deleted = same_j.0.deleted }) same_q t k f)
-
     behind5 : (t k : ℕ) → Follows w5.nodes t k → Follows xs t k
     behind5 t k f = follows_more xs fresh t k refl (follows_on w5.nodes all i j q lower (unlocked (exact l)) (unlocked told) parts5 (in_all i parent_there) (in_all j left_there) (in_all q right_there) same_i.0
         (record { previous = same_j.0.previous; deleted = same_j.0.deleted }) (record { previous = same_q.previous; deleted = same_q.deleted }) t k f)
@@ -306,48 +282,46 @@ module _ (v : ArenaView) (i j q : ℕ) (arena : IsArena v.nodes v.trees) (h : Ar
       | inr old ↦ inr (under_more xs fresh t k refl old)
     ]
 
-    above4 : (t k : ℕ) → IsUnder w4.nodes t k → ((k ≡ q) × (Some i ≡ Some t)) ⊎ IsUnder xs t k
-    above4 t k u = elim (under_on w4.nodes all i j q lower (unlocked (exact l)) told parts4 (in_all i parent_there) (in_all j left_there) same_i.1 (record { parent = same_j.1.parent; deleted = same_j.1.deleted }) t k u) [
-      | inl new ↦ inl new
-      | inr old ↦ inr (under_more xs fresh t k refl old)
-    ]
-
     above5 : (t k : ℕ) → IsUnder w5.nodes t k → ((k ≡ q) × (Some i ≡ Some t)) ⊎ IsUnder xs t k
     above5 t k u = elim (under_on w5.nodes all i j q lower (unlocked (exact l)) (unlocked told) parts5 (in_all i parent_there) (in_all j left_there) same_i.1 (record { parent = same_j.1.parent; deleted = same_j.1.deleted }) t k u) [
       | inl new ↦ inl new
       | inr old ↦ inr (under_more xs fresh t k refl old)
     ]
 
-    -- the left half is given back, then the right one
-    pub held_left : IsHeld w3 j 5
-    held_left = record { there = omega (arith, left_there, one_more, parts3.size); holder = ap (λ (m : NodeView). m.holder) parts3.at_j ∙ h.apart.left_tidy.held.holder }
+    -- both halves may be given back
+    parted_left : IsSettled w3.nodes j (at w3 j)
+    parted_left = subst (λ (m : NodeView). IsSettled w3.nodes j m) (sym parts3.at_j) (settled_of w3.nodes j (exact l)
+      (λ k f. h.apart.left_tidy.followers k (behind3 j k f)) (λ _ _. h.apart.left_tidy.live)
+      (λ k u. elim (above3 j k u) [
+        | inl new ↦ absurd (ij (same_Some _ _ new.1))
+        | inr old ↦ h.children k old
+      ])
+      refl h.apart.left_tidy.stable (λ _ none. h.apart.rooted none))
 
-    pub settled_left : IsSettled w3.nodes j (at w3 j)
-    settled_left = subst (λ (m : NodeView). IsSettled w3.nodes j m) (sym parts3.at_j) (settled_of w3.nodes j (exact l)
-        (λ k f. h.apart.left_tidy.followers k (behind3 j k f)) (λ _ _. h.apart.left_tidy.live)
-        (λ k u. elim (above3 j k u) [
-          | inl new ↦ absurd (ij (same_Some _ _ new.1))
-          | inr old ↦ h.children k old
-        ])
-        refl h.apart.left_tidy.stable (λ _ none. h.apart.rooted none))
+    parted_right : IsSettled w3.nodes q (at w3 q)
+    parted_right = subst (λ (m : NodeView). IsSettled w3.nodes q m) (sym parts3.at_q) (settled_of w3.nodes q told
+      (λ k f. h.apart.right_tidy.followers k (behind3 q k f)) (λ _ _. h.apart.right_tidy.live)
+      (λ k u. elim (above3 q k u) [
+        | inl new ↦ absurd (iq (same_Some _ _ new.1))
+        | inr old ↦ h.apart.right_children k old
+      ])
+      h.apart.exact h.apart.right_tidy.stable (λ _ none. absurd (cc)))
 
-    pub room_left : CanUnlock (at w3 j).version
-    room_left = rw parts3.at_j h.apart.left_tidy.room
+    pub left_ready : MayRelease w3 j
+    left_ready = record {
+      held = record { there = omega (arith, left_there, one_more, parts3.size); holder = ap (λ (m : NodeView). m.holder) parts3.at_j ∙ h.apart.left_tidy.held.holder };
+      settled = parted_left;
+      room = rw parts3.at_j h.apart.left_tidy.room;
+      mine = rw parts3.at_j (open_of v.trees l.tree 5 (tree_live v j arena h.apart.one_tree left_there));
+    }
 
-    pub held_right : IsHeld w4 q 5
-    held_right = record { there = omega (arith, right_there, one_more, parts4.size); holder = ap (λ (m : NodeView). m.holder) parts4.at_q ∙ h.apart.right_tidy.held.holder }
-
-    pub settled_right : IsSettled w4.nodes q (at w4 q)
-    settled_right = subst (λ (m : NodeView). IsSettled w4.nodes q m) (sym parts4.at_q) (settled_of w4.nodes q told
-        (λ k f. h.apart.right_tidy.followers k (behind4 q k f)) (λ _ _. h.apart.right_tidy.live)
-        (λ k u. elim (above4 q k u) [
-          | inl new ↦ absurd (iq (same_Some _ _ new.1))
-          | inr old ↦ h.apart.right_children k old
-        ])
-        h.apart.exact h.apart.right_tidy.stable (λ _ none. absurd (cc)))
-
-    pub room_right : CanUnlock (at w4 q).version
-    room_right = rw parts4.at_q h.apart.right_tidy.room
+    pub right_ready : MayRelease w3 q
+    right_ready = record {
+      held = record { there = omega (arith, right_there, one_more, parts3.size); holder = ap (λ (m : NodeView). m.holder) parts3.at_q ∙ h.apart.right_tidy.held.holder };
+      settled = parted_right;
+      room = rw parts3.at_q h.apart.right_tidy.room;
+      mine = rw parts3.at_q (open_of v.trees r.tree 5 (tree_live v q arena h.apart.one_tree right_there));
+    }
 
     -- and the halves of the parent are left, whose children are to be told
     at_low : at w5 i ≡ lower

@@ -7,15 +7,14 @@ use Rattle.mt_arena.specs.NodeView.{NodeView, node_at}
 use Rattle.mt_arena.specs.Forests.{IsRoot}
 use Rattle.mt_arena.specs.Settled.{IsSettled}
 use Rattle.mt_arena.specs.Lags.{Follows, IsUnder}
-use Rattle.mt_arena.specs.Edits.{unlocked}
 use Rattle.mt_arena.specs.Growth.{fresh_top, left_below, right_below}
 use Rattle.mt_arena.specs.Several.{MayGrow, with_root}
 use Rattle.mt_arena.specs.Arena.{ArenaView, IsArena}
-use Rattle.mt_arena.specs.Accesses.{at, tree_of, with_node}
+use Rattle.mt_arena.specs.Accesses.{at, tree_of, IsOpen}
 use Rattle.mt_arena.proofs.Pairs.{here, there, last, before}
 use Rattle.mt_arena.proofs.Lags.{settled_of}
-use Rattle.mt_arena_tests.specs.TreeStory.{IsAtRest, AreHalves}
-use Rattle.mt_arena_tests.proofs.TreeReads.{Reads, reads_i, reads_j, reads_q, reads_all}
+use Rattle.mt_arena_tests.specs.TreeStory.{IsReady, AreHalves}
+use Rattle.mt_arena_tests.proofs.TreeReads.{Reads, reads_all}
 use Rattle.mt_arena_tests.proofs.TreeFacts.{of_top, tree_live, open_of}
 
 module _ (v : ArenaView) (j q : ℕ) (arena : IsArena v.nodes v.trees) (h : AreHalves v j q) (none : (at v j).parent ≡ None) where
@@ -77,12 +76,6 @@ module _ (v : ArenaView) (j q : ℕ) (arena : IsArena v.nodes v.trees) (h : AreH
   abbrev v1 : ArenaView
   v1 = with_root v j q 5
 
-  abbrev v2 : ArenaView
-  v2 = with_node v1 n (unlocked (at v1 n))
-
-  abbrev v3 : ArenaView
-  v3 = with_node v2 j (unlocked (at v2 j))
-
   abbrev top : NodeView
   top = fresh_top l j r.low q 5
 
@@ -121,63 +114,71 @@ module _ (v : ArenaView) (j q : ℕ) (arena : IsArena v.nodes v.trees) (h : AreH
         before ws top k (omega (arith, was, as_many)) ∙ there (set xs j low) q k high nq ∙ there xs j k low nj ∙ sym (before xs top k was);
   }
 
-  reads2 : Reads v2.nodes all j q n low high (unlocked top)
-  reads2 =
-      let after = reads_q v1.nodes all j q n low high top h.apart.differ jn qn reads1 (unlocked (at v1 n)) (omega (arith, one_more)) in
-      record { size = after.size; at_i = after.at_i; at_j = after.at_j; at_q = after.at_q ∙ ap unlocked reads1.at_q; others = after.others }
-
-  reads3 : Reads v3.nodes all j q n (unlocked low) high (unlocked top)
-  reads3 =
-      let after = reads_i v2.nodes all j q n low high (unlocked top) h.apart.differ jn qn reads2 (unlocked (at v2 j)) (omega (arith, left_there, one_more)) in
-      record { size = after.size; at_i = after.at_i ∙ ap unlocked reads2.at_i; at_j = after.at_j; at_q = after.at_q; others = after.others }
-
   was_there : (k : ℕ) → k < length all → k ≢ n → k < n
   was_there k lt other = omega (arith, lt, one_more, other)
 
   -- who names which node
-  back2 : (t k : ℕ) → Follows v2.nodes t k → Follows xs t k
-  back2 t k is = reads_all (λ k m. m.previous ≡ Some t → m.version.deleted ≡ false → Follows xs t k) v2.nodes all j q n low high (unlocked top) reads2
+  back1 : (t k : ℕ) → Follows v1.nodes t k → Follows xs t k
+  back1 t k is = reads_all (λ k m. m.previous ≡ Some t → m.version.deleted ≡ false → Follows xs t k) v1.nodes all j q n low high top reads1
       (λ e live. (left_there, e, live)) (λ e live. (right_there, e, live)) (λ e. absurd (cc))
       (λ k lt _ _ nn. rw (before xs top k (was_there k lt nn)) (λ e live. (was_there k lt nn, e, live))) k is.0 is.1 is.2
 
-  back3 : (t k : ℕ) → Follows v3.nodes t k → Follows xs t k
-  back3 t k is = reads_all (λ k m. m.previous ≡ Some t → m.version.deleted ≡ false → Follows xs t k) v3.nodes all j q n (unlocked low) high (unlocked top) reads3
-      (λ e live. (left_there, e, live)) (λ e live. (right_there, e, live)) (λ e. absurd (cc))
-      (λ k lt _ _ nn. rw (before xs top k (was_there k lt nn)) (λ e live. (was_there k lt nn, e, live))) k is.0 is.1 is.2
-
-  up2 : (t k : ℕ) → IsUnder v2.nodes t k → (n ≡ t) ⊎ IsUnder xs t k
-  up2 t k is = reads_all (λ k m. m.parent ≡ Some t → m.version.deleted ≡ false → (n ≡ t) ⊎ IsUnder xs t k) v2.nodes all j q n low high (unlocked top) reads2
+  up1 : (t k : ℕ) → IsUnder v1.nodes t k → (n ≡ t) ⊎ IsUnder xs t k
+  up1 t k is = reads_all (λ k m. m.parent ≡ Some t → m.version.deleted ≡ false → (n ≡ t) ⊎ IsUnder xs t k) v1.nodes all j q n low high top reads1
       (λ e live. inl (same_Some _ _ e)) (λ e live. inl (same_Some _ _ e)) (λ e. absurd (cc))
       (λ k lt _ _ nn. rw (before xs top k (was_there k lt nn)) (λ e live. inr (was_there k lt nn, e, live))) k is.0 is.1 is.2
 
-  up3 : (t k : ℕ) → IsUnder v3.nodes t k → (n ≡ t) ⊎ IsUnder xs t k
-  up3 t k is = reads_all (λ k m. m.parent ≡ Some t → m.version.deleted ≡ false → (n ≡ t) ⊎ IsUnder xs t k) v3.nodes all j q n (unlocked low) high (unlocked top) reads3
-      (λ e live. inl (same_Some _ _ e)) (λ e live. inl (same_Some _ _ e)) (λ e. absurd (cc))
-      (λ k lt _ _ nn. rw (before xs top k (was_there k lt nn)) (λ e live. inr (was_there k lt nn, e, live))) k is.0 is.1 is.2
+  settled_left : IsSettled v1.nodes j (at v1 j)
+  settled_left = subst (λ (m : NodeView). IsSettled v1.nodes j m) (sym reads1.at_i) (settled_of v1.nodes j low
+    (λ k f. h.apart.left_tidy.followers k (back1 j k f)) (λ _ _. h.apart.left_tidy.live)
+    (λ k u. elim (up1 j k u) [
+      | inl new ↦ absurd (jn (sym new))
+      | inr old ↦ h.children k old
+    ])
+    refl h.apart.left_tidy.stable (λ _ orphan. absurd (cc)))
 
-  pub settled2 : IsSettled v2.nodes j (at v2 j)
-  settled2 = subst (λ (m : NodeView). IsSettled v2.nodes j m) (sym reads2.at_i) (settled_of v2.nodes j low
-      (λ k f. h.apart.left_tidy.followers k (back2 j k f)) (λ _ _. h.apart.left_tidy.live)
-      (λ k u. elim (up2 j k u) [
-        | inl new ↦ absurd (jn (sym new))
-        | inr old ↦ h.children k old
-      ])
-      refl h.apart.left_tidy.stable (λ _ orphan. absurd (cc)))
+  settled_right : IsSettled v1.nodes q (at v1 q)
+  settled_right = subst (λ (m : NodeView). IsSettled v1.nodes q m) (sym reads1.at_j) (settled_of v1.nodes q high
+    (λ k f. h.apart.right_tidy.followers k (back1 q k f)) (λ _ _. h.apart.right_tidy.live)
+    (λ k u. elim (up1 q k u) [
+      | inl new ↦ absurd (qn (sym new))
+      | inr old ↦ h.apart.right_children k old
+    ])
+    h.apart.exact h.apart.right_tidy.stable (λ _ orphan. absurd (cc)))
 
-  pub settled3 : IsSettled v3.nodes q (at v3 q)
-  settled3 = subst (λ (m : NodeView). IsSettled v3.nodes q m) (sym reads3.at_j) (settled_of v3.nodes q high
-      (λ k f. h.apart.right_tidy.followers k (back3 q k f)) (λ _ _. h.apart.right_tidy.live)
-      (λ k u. elim (up3 q k u) [
-        | inl new ↦ absurd (qn (sym new))
-        | inr old ↦ h.apart.right_children k old
-      ])
-      h.apart.exact h.apart.right_tidy.stable (λ _ orphan. absurd (cc)))
-
-  pub rest4 : IsAtRest (with_node v3 q (unlocked (at v3 q)))
-  rest4 =
-      let after = reads_j v3.nodes all j q n (unlocked low) high (unlocked top) h.apart.differ jn qn reads3 (unlocked (at v3 q)) (omega (arith, right_there, one_more)) in
+  -- then all three may be given back
+  pub is_ready : IsArena v1.nodes v1.trees → IsSettled v1.nodes n (at v1 n) → IsReady v1 n j q
+  is_ready after settled =
+      let one : length v1.trees ≡ 1 = length-set v.trees l.tree (record (tree_of v j) { root = n }) ∙ h.apart.one_tree in
+      let open_at : (k : ℕ) → k < n + 1 → IsOpen v1 k 5 = λ k lt. open_of v1.trees (at v1 k).tree 5 (tree_live v1 k after one (omega (arith, lt, reads1.size, one_more))) in
       record {
-        one_tree = length-set v.trees l.tree (record (tree_of v j) { root = n }) ∙ h.apart.one_tree;
-        free = reads_all (λ k m. m.holder ≡ None) (set v3.nodes q (unlocked (at v3 q))) all j q n (unlocked low) (unlocked (at v3 q)) (unlocked top) after refl refl refl
-            (λ k lt nj nq nn. rw (before xs top k (was_there k lt nn)) (h.apart.free k (was_there k lt nn) nj nq));
+        one_tree = one;
+        not_second = λ e. jn (sym e);
+        not_third = λ e. qn (sym e);
+        apart = h.apart.differ;
+        first = record {
+          held = record { there = omega (arith, reads1.size, one_more); holder = ap (λ (m : NodeView). m.holder) reads1.at_q };
+          settled = settled;
+          room = rw reads1.at_q ((λ e. absurd (cc)), (λ _ e. absurd (cc)));
+          mine = open_at n (omega arith);
+        };
+        second = record {
+          held = record { there = omega (arith, left_there, reads1.size, one_more); holder = ap (λ (m : NodeView). m.holder) reads1.at_i ∙ h.apart.left_tidy.held.holder };
+          settled = settled_left;
+          room = rw reads1.at_i h.apart.left_tidy.room;
+          mine = open_at j (omega (arith, left_there));
+        };
+        third = record {
+          held = record { there = omega (arith, right_there, reads1.size, one_more); holder = ap (λ (m : NodeView). m.holder) reads1.at_j ∙ h.apart.right_tidy.held.holder };
+          settled = settled_right;
+          room = rw reads1.at_j h.apart.right_tidy.room;
+          mine = open_at q (omega (arith, right_there));
+        };
+        free = λ k lt nn nj nq.
+          let more : k < length all = omega (arith, lt, reads1.size) in
+          rw (reads1.others k more nj nq nn, before xs top k (was_there k more nn)) (h.apart.free k (was_there k more nn) nj nq);
       }
+
+  pub ready_at : (u : ArenaView) (t : ℕ) → u ≡ v1 → t ≡ n → IsArena u.nodes u.trees → IsSettled u.nodes t (at u t) → IsReady u t j q
+  ready_at u t is number after settled =
+      rw (is, number) (is_ready (subst (λ (w : ArenaView). IsArena w.nodes w.trees) is after) (rw (is, number) at settled))

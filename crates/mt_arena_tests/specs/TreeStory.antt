@@ -13,7 +13,8 @@ use Rattle.mt_arena.specs.Nodes.{HasRange, HasChild}
 use Rattle.mt_arena.specs.Lags.{IsUnder, AreFollowers, AreChildren}
 use Rattle.mt_arena.specs.Ways.{BelongsIn}
 use Rattle.mt_arena.specs.Arena.{ArenaView}
-use Rattle.mt_arena.specs.Accesses.{at, IsHeld}
+use Rattle.mt_arena.specs.Settled.{IsSettled}
+use Rattle.mt_arena.specs.Accesses.{at, IsHeld, IsOpen}
 
 -- one tree, of which nobody holds a node
 pub record IsAtRest (v : ArenaView) : Type 0 where
@@ -42,6 +43,24 @@ pub record IsTidy (v : ArenaView) (k : ℕ) : Type 0 where
   pub followers : AreFollowers v.nodes k (at v k).next
   pub stable : All (λ e. ¬ IsUnstable e.held) (at v k).slots
   pub room : CanUnlock (at v k).version
+
+-- operation 5 may give the lock of the node back
+pub record MayRelease (v : ArenaView) (k : ℕ) : Type 0 where
+  pub held : IsHeld v k 5
+  pub settled : IsSettled v.nodes k (at v k)
+  pub room : CanUnlock (at v k).version
+  pub mine : IsOpen v k 5
+
+-- and those of these three, which are all that are held
+pub record IsReady (v : ArenaView) (i j q : ℕ) : Type 0 where
+  pub one_tree : length v.trees ≡ 1
+  pub not_second : i ≢ j
+  pub not_third : i ≢ q
+  pub apart : j ≢ q
+  pub first : MayRelease v i
+  pub second : MayRelease v j
+  pub third : MayRelease v q
+  pub free : (k : ℕ) → k < length v.nodes → k ≢ i → k ≢ j → k ≢ q → (at v k).holder ≡ None
 
 -- the number stands in a row, at this place or behind
 pub record IsFrom (row : List ℕ) (start k : ℕ) : Type 0 where

@@ -1,14 +1,15 @@
 //! A tree that grows: keys come to border nodes, full ones are split, their right halves come to their
 //! parents, and these are split in turn. Between two keys nobody holds a node.
 
-ghost use Rattle.std.specs.Prelude.{◌≡◌, ◌+◌, ◌<◌, [], length, None, Some, IfOk, IfSome, IsTrue, OnOk};
+ghost use Rattle.std.specs.Prelude.{◌≡◌, ◌≢◌, ℕ, ◌+◌, ◌<◌, [], length, None, Some, IfOk, IfSome, IsTrue, OnOk};
 ghost use Rattle.mt_slices.specs.Slices.{slice_of, mark_of};
 ghost use Rattle.mt_border.specs.Entries.{IsMissing};
 ghost use Rattle.mt_border.specs.Entry.{IsEntry, IsStablePair};
 ghost use Rattle.mt_border.specs.Contents.{HasKey};
 ghost use Rattle.mt_arena.specs.Ways.{BelongsIn};
-ghost use Rattle.mt_arena.specs.Accesses.{at};
-ghost use Rattle.mt_arena_tests.specs.TreeStory.{IsAtRest, AreHalves, AreTold, MayCount, MayTake};
+ghost use Rattle.mt_arena.specs.Edits.{unlocked};
+ghost use Rattle.mt_arena.specs.Accesses.{at, with_node};
+ghost use Rattle.mt_arena_tests.specs.TreeStory.{IsAtRest, IsReady, MayRelease, AreHalves, AreTold, MayCount, MayTake};
 
 use crate::arena::entry_of;
 use mt_arena::Arena;
@@ -60,6 +61,25 @@ fn may_count(arena: &Arena, node: usize) -> bool
 {
     let version = arena.node(node).version();
     version.inserts() <= LAST_COUNT && version.splits() <= LAST_COUNT
+}
+
+// Gives the lock of a node back.
+fn release(arena: &mut Arena, node: usize)
+    requires { MayRelease arena.old node }
+    ensures is { arena.new ≡ with_node arena.old node (unlocked (at arena.old node)) }
+    ensures others { (k : ℕ) → k ≢ node → MayRelease arena.old k → MayRelease arena.new k }
+{
+    arena.unlock(node, 5);
+}
+
+// Gives the three locks back that the operation has.
+fn release_all(arena: &mut Arena, parent: usize, left: usize, right: usize)
+    requires { IsReady arena.old parent left right }
+    ensures { IsAtRest arena.new }
+{
+    release(arena, parent);
+    release(arena, left);
+    release(arena, right);
 }
 
 // Puts in the pair of a key where there is room.
@@ -124,9 +144,7 @@ fn link_up(arena: &mut Arena, parent: usize, left: usize, right: usize)
     arena.lock(parent, 5);
     arena.set_parent(right, parent, 5);
     arena.insert_child(parent, left, right, 5);
-    arena.unlock(parent, 5);
-    arena.unlock(left, 5);
-    arena.unlock(right, 5);
+    release_all(arena, parent, left, right);
 }
 
 // Puts a new root over the halves of the old one, and gives all locks back.
@@ -137,9 +155,8 @@ fn grow(arena: &mut Arena, left: usize, right: usize) -> Result<(), AllocError>
 {
     arena.facts();
     let top = arena.grow_root(left, right, 5)?;
-    arena.unlock(top, 5);
-    arena.unlock(left, 5);
-    arena.unlock(right, 5);
+    arena.facts();
+    release_all(arena, top, left, right);
     Ok(())
 }
 
@@ -184,8 +201,8 @@ fn split_up(
     arena.lock(parent, 5);
     arena.set_parent(right, parent, 5);
     let half = arena.split_interior(parent, left, right, 5)?;
-    arena.unlock(left, 5);
-    arena.unlock(right, 5);
+    release(arena, left);
+    release(arena, right);
     arena.facts();
     tell_children(arena, parent, half);
     Ok(half)
