@@ -4,7 +4,7 @@ use Rattle.std.proofs.lemmas.List.{length-take, length-drop}
 use Rattle.std.proofs.lemmas.List.Edits.{length-insert}
 use Rattle.mt_interior.specs.Places.{place_of}
 use Rattle.mt_interior.proofs.CallerLemmas.{place_of-le-length}
-use Rattle.std.proofs.Common.{◌≡◌, ◌≢◌, ◌⊎◌, ℕ, ◌+◌, ◌<◌, List, [], ◌∷◌, ◌++◌, length, set, Some, None, false, refl, sym, ap, subst, ◌∙◌, arith, inl, inr, length-append}
+use Rattle.std.proofs.Common.{◌≡◌, ◌≢◌, ◌⊎◌, ℕ, ◌+◌, ◌<◌, ◌≤◌, List, [], ◌∷◌, ◌++◌, length, set, Some, None, false, refl, sym, ap, subst, ◌∙◌, arith, inl, inr, length-append}
 use Rattle.mt_interior.specs.Fences.{end_of}
 use Rattle.mt_arena.specs.NodeView.{NodeView, node_at}
 use Rattle.mt_arena.specs.Nodes.{HasChild, IsChild}
@@ -73,6 +73,36 @@ module _ (v : ArenaView) (i j q : ℕ) (arena : IsArena v.nodes v.trees) (h : Ar
   abbrev wide : NodeView
   wide = with_child (inserting (locked p 5)) r.low q
 
+  -- once its range in the parent ends at its fence, nothing lags behind the left half
+  left_released : (ys : List NodeView) → length xs ≤ length ys → node_at ys j ≡ exact l → ((k : ℕ) → Follows ys j k → Follows xs j k) → ((k : ℕ) → IsUnder ys j k → ((k ≡ q) × (Some i ≡ Some j)) ⊎ IsUnder xs j k) → MayRelease (record v { nodes = ys }) j
+  left_released ys more is back up = record {
+    held = record { there = omega (arith, left_there, more); holder = ap (λ (n : NodeView). n.holder) is ∙ h.apart.left_tidy.held.holder };
+    settled = subst (λ (n : NodeView). IsSettled ys j n) (sym is) (settled_of ys j (exact l)
+      (λ k f. h.apart.left_tidy.followers k (back k f)) (λ _ _. h.apart.left_tidy.live)
+      (λ k u. elim (up k u) [
+        | inl new ↦ absurd (ij (same_Some _ _ new.1))
+        | inr old ↦ h.children k old
+      ])
+      refl h.apart.left_tidy.stable (λ _ none. h.apart.rooted none));
+    room = rw is h.apart.left_tidy.room;
+    mine = rw is (open_of v.trees l.tree 5 (tree_live v j arena h.apart.one_tree left_there));
+  }
+
+  -- nor behind the right one, once it knows its parent
+  right_released : (ys : List NodeView) → length xs ≤ length ys → node_at ys q ≡ told → ((k : ℕ) → Follows ys q k → Follows xs q k) → ((k : ℕ) → IsUnder ys q k → ((k ≡ q) × (Some i ≡ Some q)) ⊎ IsUnder xs q k) → MayRelease (record v { nodes = ys }) q
+  right_released ys more is back up = record {
+    held = record { there = omega (arith, right_there, more); holder = ap (λ (n : NodeView). n.holder) is ∙ h.apart.right_tidy.held.holder };
+    settled = subst (λ (n : NodeView). IsSettled ys q n) (sym is) (settled_of ys q told
+      (λ k f. h.apart.right_tidy.followers k (back k f)) (λ _ _. h.apart.right_tidy.live)
+      (λ k u. elim (up k u) [
+        | inl new ↦ absurd (iq (same_Some _ _ new.1))
+        | inr old ↦ h.apart.right_children k old
+      ])
+      h.apart.exact h.apart.right_tidy.stable (λ _ none. absurd (cc)));
+    room = rw is h.apart.right_tidy.room;
+    mine = rw is (open_of v.trees r.tree 5 (tree_live v q arena h.apart.one_tree right_there));
+  }
+
   reads1 : Reads v1.nodes xs i j q (locked p 5) l r
   reads1 = reads_i xs xs i j q p l r ij iq h.apart.differ (record { size = refl; at_i = refl; at_j = refl; at_q = refl; others = λ k _ _ _ _. refl }) (locked p 5) parent_there
 
@@ -137,24 +167,6 @@ module _ (v : ArenaView) (i j q : ℕ) (arena : IsArena v.nodes v.trees) (h : Ar
         ])
         s.reach s.stable s.rooted)
 
-  settled_left : IsSettled v3.nodes j (at v3 j)
-  settled_left = subst (λ (n : NodeView). IsSettled v3.nodes j n) (sym reads3.at_j) (settled_of v3.nodes j (exact l)
-    (λ k f. h.apart.left_tidy.followers k (back3 j k f)) (λ _ _. h.apart.left_tidy.live)
-    (λ k u. elim (up3 j k u) [
-      | inl new ↦ absurd (ij (same_Some _ _ new.1))
-      | inr old ↦ h.children k old
-    ])
-    refl h.apart.left_tidy.stable (λ _ none. h.apart.rooted none))
-
-  settled_right : IsSettled v3.nodes q (at v3 q)
-  settled_right = subst (λ (n : NodeView). IsSettled v3.nodes q n) (sym reads3.at_q) (settled_of v3.nodes q told
-    (λ k f. h.apart.right_tidy.followers k (back3 q k f)) (λ _ _. h.apart.right_tidy.live)
-    (λ k u. elim (up3 q k u) [
-      | inl new ↦ absurd (iq (same_Some _ _ new.1))
-      | inr old ↦ h.apart.right_children k old
-    ])
-    h.apart.exact h.apart.right_tidy.stable (λ _ none. absurd (cc)))
-
   pub is_ready : MayCount p.version → IsReady v3 i j q
   is_ready count = record {
     one_tree = h.apart.one_tree;
@@ -167,18 +179,8 @@ module _ (v : ArenaView) (i j q : ℕ) (arena : IsArena v.nodes v.trees) (h : Ar
       room = rw reads3.at_i ((λ _. omega (arith, count.splits)), (λ _ _. omega (arith, count.inserts)));
       mine = rw reads3.at_i (open_of v.trees p.tree 5 (tree_live v i arena h.apart.one_tree parent_there));
     };
-    second = record {
-      held = record { there = omega (arith, left_there, reads3.size); holder = ap (λ (n : NodeView). n.holder) reads3.at_j ∙ h.apart.left_tidy.held.holder };
-      settled = settled_left;
-      room = rw reads3.at_j h.apart.left_tidy.room;
-      mine = rw reads3.at_j (open_of v.trees l.tree 5 (tree_live v j arena h.apart.one_tree left_there));
-    };
-    third = record {
-      held = record { there = omega (arith, right_there, reads3.size); holder = ap (λ (n : NodeView). n.holder) reads3.at_q ∙ h.apart.right_tidy.held.holder };
-      settled = settled_right;
-      room = rw reads3.at_q h.apart.right_tidy.room;
-      mine = rw reads3.at_q (open_of v.trees r.tree 5 (tree_live v q arena h.apart.one_tree right_there));
-    };
+    second = left_released v3.nodes (omega (arith, reads3.size)) reads3.at_j (back3 j) (up3 j);
+    third = right_released v3.nodes (omega (arith, reads3.size)) reads3.at_q (back3 q) (up3 q);
     free = λ k lt ni nj nq.
       let was : k < length xs = omega (arith, lt, reads3.size) in
       rw (reads3.others k was ni nj nq) (h.apart.free k was nj nq);
@@ -289,39 +291,11 @@ module _ (v : ArenaView) (i j q : ℕ) (arena : IsArena v.nodes v.trees) (h : Ar
     ]
 
     -- both halves may be given back
-    parted_left : IsSettled w3.nodes j (at w3 j)
-    parted_left = subst (λ (m : NodeView). IsSettled w3.nodes j m) (sym parts3.at_j) (settled_of w3.nodes j (exact l)
-      (λ k f. h.apart.left_tidy.followers k (behind3 j k f)) (λ _ _. h.apart.left_tidy.live)
-      (λ k u. elim (above3 j k u) [
-        | inl new ↦ absurd (ij (same_Some _ _ new.1))
-        | inr old ↦ h.children k old
-      ])
-      refl h.apart.left_tidy.stable (λ _ none. h.apart.rooted none))
-
-    parted_right : IsSettled w3.nodes q (at w3 q)
-    parted_right = subst (λ (m : NodeView). IsSettled w3.nodes q m) (sym parts3.at_q) (settled_of w3.nodes q told
-      (λ k f. h.apart.right_tidy.followers k (behind3 q k f)) (λ _ _. h.apart.right_tidy.live)
-      (λ k u. elim (above3 q k u) [
-        | inl new ↦ absurd (iq (same_Some _ _ new.1))
-        | inr old ↦ h.apart.right_children k old
-      ])
-      h.apart.exact h.apart.right_tidy.stable (λ _ none. absurd (cc)))
-
     pub left_ready : MayRelease w3 j
-    left_ready = record {
-      held = record { there = omega (arith, left_there, one_more, parts3.size); holder = ap (λ (m : NodeView). m.holder) parts3.at_j ∙ h.apart.left_tidy.held.holder };
-      settled = parted_left;
-      room = rw parts3.at_j h.apart.left_tidy.room;
-      mine = rw parts3.at_j (open_of v.trees l.tree 5 (tree_live v j arena h.apart.one_tree left_there));
-    }
+    left_ready = left_released w3.nodes (omega (arith, one_more, parts3.size)) parts3.at_j (behind3 j) (above3 j)
 
     pub right_ready : MayRelease w3 q
-    right_ready = record {
-      held = record { there = omega (arith, right_there, one_more, parts3.size); holder = ap (λ (m : NodeView). m.holder) parts3.at_q ∙ h.apart.right_tidy.held.holder };
-      settled = parted_right;
-      room = rw parts3.at_q h.apart.right_tidy.room;
-      mine = rw parts3.at_q (open_of v.trees r.tree 5 (tree_live v q arena h.apart.one_tree right_there));
-    }
+    right_ready = right_released w3.nodes (omega (arith, one_more, parts3.size)) parts3.at_q (behind3 q) (above3 q)
 
     -- and the halves of the parent are left, whose children are to be told
     at_low : at w5 i ≡ lower
