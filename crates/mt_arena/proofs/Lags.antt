@@ -16,7 +16,7 @@ use Rattle.mt_arena.specs.NodeFacts.{IsUnstable}
 use Rattle.mt_arena.specs.Settled.{IsSettled}
 use Rattle.mt_arena.specs.Guarantee.{NodesGuarantee, PointsOnly}
 use Rattle.mt_arena.specs.Lags.{Follows, IsUnder, AreFollowers, AreFollowersBut, AreChildren, AreChildrenBut}
-use Rattle.mt_arena.specs.Edits.{pointed, fresh_half}
+use Rattle.mt_arena.specs.Edits.{splitting, pointed, fresh_half}
 use Rattle.mt_arena.specs.Splits.{Splits, Inserts, left_half, right_half, with_child, exact, inner_left, inner_right}
 use Rattle.mt_arena.proofs.Pairs.{here, there, last, before}
 use Rattle.mt_arena.proofs.Settled.{alive}
@@ -185,6 +185,23 @@ half_followers xs x i low op next followers k nk is =
     let y = fresh_half x i low op in
     let lt : k < length xs = omega (arith, is.0, length-append xs (y ∷ []), nk) in
     followers k (lt, sym (ap (λ (n : NodeView). n.previous) (before xs y k lt)) ∙ is.1, sym (ap (λ (n : NodeView). n.version.deleted) (before xs y k lt)) ∙ is.2)
+
+-- as a split begins: all that name the left node as the one before are the half and the one that was next, and none names the half
+pub begun_left : (xs : List NodeView) (i low op : ℕ) (next : Option ℕ) → i < length xs → AreFollowers xs i next → AreFollowersBut (set xs i (splitting (node_at xs i)) ++ fresh_half (node_at xs i) i low op ∷ []) i next (length xs)
+begun_left xs i low op next within followers =
+    let x = node_at xs i in
+    let ys = set xs i (splitting x) in
+    subst (AreFollowersBut (ys ++ fresh_half x i low op ∷ []) i next) (length-set xs i (splitting x)) (half_followers ys x i low op next (λ k is. elim (follows_in xs i k i (splitting x) within is) [
+      | inl own ↦ followers k (subst (λ c. Follows xs i c) (sym own.0) (within, own.1, sym (ap (λ (n : NodeView). n.version.deleted) (ap (node_at ys) own.0 ∙ here xs i (splitting x) within)) ∙ is.2))
+      | inr other ↦ followers k other.1
+    ]))
+
+pub begun_right : (xs : List NodeView) (i low op : ℕ) → i < length xs → AreNodes (set xs i (splitting (node_at xs i))) → AreFollowers (set xs i (splitting (node_at xs i)) ++ fresh_half (node_at xs i) i low op ∷ []) (length xs) None
+begun_right xs i low op within nodes =
+    let x = node_at xs i in
+    let ys = set xs i (splitting x) in
+    let size = length-set xs i (splitting x) in
+    subst (λ c. AreFollowers (ys ++ fresh_half x i low op ∷ []) c None) size (fresh_followers ys x i low op nodes (omega (arith, within, size)))
 
 pub fresh_children : (xs : List NodeView) (y n : NodeView) → AreNodes xs → y.parent ≡ None → AreChildren (xs ++ y ∷ []) (length xs) n
 fresh_children xs y n nodes none k is =
