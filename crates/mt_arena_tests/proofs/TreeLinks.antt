@@ -78,12 +78,12 @@ module _ (v : ArenaView) (i j q : ℕ) (arena : IsArena v.nodes v.trees) (h : Ar
   left_released ys more is back up = record {
     held = record { there = omega (arith, left_there, more); holder = ap (λ (n : NodeView). n.holder) is ∙ h.apart.left_tidy.held.holder };
     settled = subst (λ (n : NodeView). IsSettled ys j n) (sym is) (settled_of ys j (exact l)
-      (λ k f. h.apart.left_tidy.followers k (back k f)) (λ _ _. h.apart.left_tidy.live)
-      (λ k u. elim (up k u) [
-        | inl new ↦ absurd (ij (same_Some _ _ new.1))
-        | inr old ↦ h.children k old
-      ])
-      refl h.apart.left_tidy.stable (λ _ none. h.apart.rooted none));
+        (λ k f. h.apart.left_tidy.followers k (back k f)) (λ _ _. h.apart.left_tidy.live)
+        (λ k u. elim (up k u) [
+          | inl new ↦ absurd (ij (same_Some _ _ new.1))
+          | inr old ↦ h.children k old
+        ])
+        refl h.apart.left_tidy.stable (λ _ none. h.apart.rooted none));
     room = rw is h.apart.left_tidy.room;
     mine = rw is (open_of v.trees l.tree 5 (tree_live v j arena h.apart.one_tree left_there));
   }
@@ -93,12 +93,12 @@ module _ (v : ArenaView) (i j q : ℕ) (arena : IsArena v.nodes v.trees) (h : Ar
   right_released ys more is back up = record {
     held = record { there = omega (arith, right_there, more); holder = ap (λ (n : NodeView). n.holder) is ∙ h.apart.right_tidy.held.holder };
     settled = subst (λ (n : NodeView). IsSettled ys q n) (sym is) (settled_of ys q told
-      (λ k f. h.apart.right_tidy.followers k (back k f)) (λ _ _. h.apart.right_tidy.live)
-      (λ k u. elim (up k u) [
-        | inl new ↦ absurd (iq (same_Some _ _ new.1))
-        | inr old ↦ h.apart.right_children k old
-      ])
-      h.apart.exact h.apart.right_tidy.stable (λ _ none. absurd (cc)));
+        (λ k f. h.apart.right_tidy.followers k (back k f)) (λ _ _. h.apart.right_tidy.live)
+        (λ k u. elim (up k u) [
+          | inl new ↦ absurd (iq (same_Some _ _ new.1))
+          | inr old ↦ h.apart.right_children k old
+        ])
+        h.apart.exact h.apart.right_tidy.stable (λ _ none. absurd (cc)));
     room = rw is h.apart.right_tidy.room;
     mine = rw is (open_of v.trees r.tree 5 (tree_live v q arena h.apart.one_tree right_there));
   }
@@ -160,12 +160,12 @@ module _ (v : ArenaView) (i j q : ℕ) (arena : IsArena v.nodes v.trees) (h : Ar
       let s = settled_free xs i parent_there arena.nodes parent_free in
       let size : length p.children ≡ length p.separators + 1 = omega (arith, (arena.nodes.each i parent_there).children.interior.between, (h.apart.under i up).in_range) in
       subst (λ (n : NodeView). IsSettled v3.nodes i n) (sym reads3.at_i) (settled_of v3.nodes i wide
-        (λ k f. let b = back3 i k f in s.previous k b.0 b.1 b.2) (λ k f. let b = back3 i k f in s.previous_live k b.0 b.1 b.2)
-        (λ k u. elim (up3 i k u) [
-          | inl new ↦ subst (λ c. HasChild wide c) (sym new.0) (new_child (inserting (locked p 5)) r.low q size (h.apart.under i up).live)
-          | inr old ↦ child_more (inserting (locked p 5)) r.low q k size (s.parent k old.0 old.1 old.2)
-        ])
-        s.reach s.stable s.rooted)
+      (λ k f. let b = back3 i k f in s.previous k b.0 b.1 b.2) (λ k f. let b = back3 i k f in s.previous_live k b.0 b.1 b.2)
+      (λ k u. elim (up3 i k u) [
+        | inl new ↦ subst (λ c. HasChild wide c) (sym new.0) (new_child (inserting (locked p 5)) r.low q size (h.apart.under i up).live)
+        | inr old ↦ child_more (inserting (locked p 5)) r.low q k size (s.parent k old.0 old.1 old.2)
+      ])
+      s.reach s.stable s.rooted)
 
   pub is_ready : MayCount p.version → IsReady v3 i j q
   is_ready count = record {
@@ -182,8 +182,8 @@ module _ (v : ArenaView) (i j q : ℕ) (arena : IsArena v.nodes v.trees) (h : Ar
     second = left_released v3.nodes (omega (arith, reads3.size)) reads3.at_j (back3 j) (up3 j);
     third = right_released v3.nodes (omega (arith, reads3.size)) reads3.at_q (back3 q) (up3 q);
     free = λ k lt ni nj nq.
-      let was : k < length xs = omega (arith, lt, reads3.size) in
-      rw (reads3.others k was ni nj nq) (h.apart.free k was nj nq);
+        let was : k < length xs = omega (arith, lt, reads3.size) in
+        rw (reads3.others k was ni nj nq) (h.apart.free k was nj nq);
   }
 
   -- the calls one by one lead there

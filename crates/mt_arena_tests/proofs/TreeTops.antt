@@ -130,21 +130,21 @@ module _ (v : ArenaView) (j q : ℕ) (arena : IsArena v.nodes v.trees) (h : AreH
 
   settled_left : IsSettled v1.nodes j (at v1 j)
   settled_left = subst (λ (m : NodeView). IsSettled v1.nodes j m) (sym reads1.at_i) (settled_of v1.nodes j low
-    (λ k f. h.apart.left_tidy.followers k (back1 j k f)) (λ _ _. h.apart.left_tidy.live)
-    (λ k u. elim (up1 j k u) [
-      | inl new ↦ absurd (jn (sym new))
-      | inr old ↦ h.children k old
-    ])
-    refl h.apart.left_tidy.stable (λ _ orphan. absurd (cc)))
+      (λ k f. h.apart.left_tidy.followers k (back1 j k f)) (λ _ _. h.apart.left_tidy.live)
+      (λ k u. elim (up1 j k u) [
+        | inl new ↦ absurd (jn (sym new))
+        | inr old ↦ h.children k old
+      ])
+      refl h.apart.left_tidy.stable (λ _ orphan. absurd (cc)))
 
   settled_right : IsSettled v1.nodes q (at v1 q)
   settled_right = subst (λ (m : NodeView). IsSettled v1.nodes q m) (sym reads1.at_j) (settled_of v1.nodes q high
-    (λ k f. h.apart.right_tidy.followers k (back1 q k f)) (λ _ _. h.apart.right_tidy.live)
-    (λ k u. elim (up1 q k u) [
-      | inl new ↦ absurd (qn (sym new))
-      | inr old ↦ h.apart.right_children k old
-    ])
-    h.apart.exact h.apart.right_tidy.stable (λ _ orphan. absurd (cc)))
+      (λ k f. h.apart.right_tidy.followers k (back1 q k f)) (λ _ _. h.apart.right_tidy.live)
+      (λ k u. elim (up1 q k u) [
+        | inl new ↦ absurd (qn (sym new))
+        | inr old ↦ h.apart.right_children k old
+      ])
+      h.apart.exact h.apart.right_tidy.stable (λ _ orphan. absurd (cc)))
 
   -- then all three may be given back
   pub is_ready : IsArena v1.nodes v1.trees → IsSettled v1.nodes n (at v1 n) → IsReady v1 n j q
@@ -175,8 +175,8 @@ module _ (v : ArenaView) (j q : ℕ) (arena : IsArena v.nodes v.trees) (h : AreH
           mine = open_at q (omega (arith, right_there));
         };
         free = λ k lt nn nj nq.
-          let more : k < length all = omega (arith, lt, reads1.size) in
-          rw (reads1.others k more nj nq nn, before xs top k (was_there k more nn)) (h.apart.free k (was_there k more nn) nj nq);
+            let more : k < length all = omega (arith, lt, reads1.size) in
+            rw (reads1.others k more nj nq nn, before xs top k (was_there k more nn)) (h.apart.free k (was_there k more nn) nj nq);
       }
 
   pub ready_at : (u : ArenaView) (t : ℕ) → u ≡ v1 → t ≡ n → IsArena u.nodes u.trees → IsSettled u.nodes t (at u t) → IsReady u t j q

@@ -8,6 +8,7 @@ ghost use Rattle.mt_border.specs.Entry.{IsEntry, IsStablePair};
 ghost use Rattle.mt_border.specs.Contents.{HasKey};
 ghost use Rattle.mt_arena.specs.Ways.{BelongsIn};
 ghost use Rattle.mt_arena.specs.Edits.{unlocked};
+ghost use Rattle.mt_arena.specs.Arena.{content_of};
 ghost use Rattle.mt_arena.specs.Accesses.{at, with_node};
 ghost use Rattle.mt_arena_tests.specs.TreeStory.{IsAtRest, IsReady, MayRelease, AreHalves, AreTold, MayCount, MayTake};
 
@@ -120,7 +121,8 @@ fn split_without(arena: &mut Arena, node: usize, key: &StoredKey) -> Result<usiz
     requires count { MayCount (at arena.old node).version }
     requires full { length (at arena.old node).slots ≡ 15 }
     requires last { (at arena.old node).next ≡ None }
-    ensures { IfOk result (λ half. AreHalves arena.new node half) }
+    ensures halves { IfOk result (λ half. AreHalves arena.new node half) }
+    ensures contents { content_of arena.new ≡ content_of arena.old }
 {
     arena.facts();
     let (slice, mark) = (key.slice(0), key.mark(0));

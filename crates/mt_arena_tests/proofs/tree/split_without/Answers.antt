@@ -8,8 +8,8 @@ split_border_without-requires-clause-may c =
     (may_split c.args.arena.now c.args.node c.separator-low.result c.facts.ensures.arena c.requires.rest border.there border.live c.slice-slice.result c.mark-mark.result border.level c.requires.full
     c.mark-mark.ensures.at_most_eight (rw (c.slice-slice.ensures, c.mark-mark.ensures.value) c.requires.missing) (rw (c.border.ensures) c.separator-low.ensures))
 
-pub returns : goal.returns
-returns c =
+pub returns-clause-halves : goal.returns-clause-halves
+returns-clause-halves c =
     let border = c.requires.belongs.border in
     let halved = rw (c.in_ok-half.ensures.number, c.in_ok-half.ensures.is, c.lock.ensures.is) at c.split_border_without.ensures.nodes in
     let others = rw (c.in_ok-half.ensures.is, c.lock.ensures.is) at c.split_border_without.ensures.others in
