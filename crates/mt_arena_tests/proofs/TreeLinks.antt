@@ -113,10 +113,6 @@ module _ (v : ArenaView) (i j q : ℕ) (arena : IsArena v.nodes v.trees) (h : Ar
   reads3 : Reads v3.nodes xs i j q wide (exact l) told
   reads3 = reads_right v2.nodes xs i j q (locked p 5) l told ij iq h.apart.differ parent_there left_there reads2
 
-  -- what `set_parent` needs
-  pub held1 : IsHeld v1 i 5
-  held1 = record { there = omega (arith, parent_there, reads1.size); holder = ap (λ (n : NodeView). n.holder) reads1.at_i }
-
   -- what `insert_child` needs
   inserts2 : Inserts v2.nodes i j q
   inserts2 = record {

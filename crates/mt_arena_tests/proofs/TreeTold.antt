@@ -8,21 +8,10 @@ use Rattle.mt_arena.specs.Nodes.{HasChild, HasRange, IsChild}
 use Rattle.mt_arena.specs.Lags.{Follows, IsUnder}
 use Rattle.mt_arena.specs.Edits.{pointed}
 use Rattle.mt_arena.specs.Arena.{ArenaView, IsArena}
-use Rattle.mt_arena.specs.Accesses.{at, with_node, IsOpen}
+use Rattle.mt_arena.specs.Accesses.{at, with_node}
 use Rattle.mt_arena.proofs.Pairs.{here, there}
 use Rattle.mt_arena.proofs.Homes.{no_root}
-use Rattle.mt_arena_tests.specs.TreeStory.{IsTidy, AreHalves, AreTold}
-use Rattle.mt_arena_tests.proofs.TreeFacts.{tree_live, open_of}
-
--- once all are told, nothing lags
-pub all_told : (v : ArenaView) (j q count : ℕ) → count ≡ length (at v q).children → AreTold v j q count → AreHalves v j q
-all_told v j q count all t = record {
-  apart = t.apart;
-  children = λ k u. elim (t.lag k u) [
-    | inl own ↦ own
-    | inr other ↦ absurd (omega (arith, other.from, other.in_range, all))
-  ];
-}
+use Rattle.mt_arena_tests.specs.TreeStory.{IsTidy, AreTold}
 
 module _ (v : ArenaView) (j q place : ℕ) (arena : IsArena v.nodes v.trees) (t : AreTold v j q place) (more : place < length (at v q).children) where
   abbrev child : ℕ
@@ -34,7 +23,7 @@ module _ (v : ArenaView) (j q place : ℕ) (arena : IsArena v.nodes v.trees) (t 
   abbrev v1 : ArenaView
   v1 = with_node v child told
 
-  pub child_there : child < length v.nodes
+  child_there : child < length v.nodes
   child_there = (arena.nodes.each q t.apart.right_tidy.held.there).names.children place more
 
   is_child : HasChild (at v q) child
@@ -58,12 +47,6 @@ module _ (v : ArenaView) (j q place : ℕ) (arena : IsArena v.nodes v.trees) (t 
 
   pub child_range : HasRange (at v child)
   child_range = (arena.ranged.each child child_there).parent below.knows
-
-  pub child_open : IsOpen v child 5
-  child_open = open_of v.trees (at v child).tree 5 (tree_live v child arena t.apart.one_tree child_there)
-
-  pub child_knows : (at v child).parent ≢ None
-  child_knows = below.knows
 
   size : length v1.nodes ≡ length v.nodes
   size = length-set v.nodes child told
@@ -136,6 +119,3 @@ module _ (v : ArenaView) (j q place : ℕ) (arena : IsArena v.nodes v.trees) (t 
       ]
     ]);
   }
-
-  pub same_children : (at v1 q).children ≡ (at v q).children
-  same_children = ap (λ (m : NodeView). m.children) at_right
