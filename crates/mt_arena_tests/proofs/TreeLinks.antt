@@ -14,7 +14,7 @@ use Rattle.mt_arena.specs.Edits.{locked, unlocked, inserting, splitting, pointed
 use Rattle.mt_arena.specs.Splits.{Inserts, with_child, exact, inner_left, inner_right}
 use Rattle.mt_arena.specs.Several.{with_right, with_parts, MayInsert, MaySplitInner}
 use Rattle.mt_arena.specs.Arena.{ArenaView, IsArena}
-use Rattle.mt_arena.specs.Accesses.{at, with_node, IsHeld}
+use Rattle.mt_arena.specs.Accesses.{at, with_node}
 use Rattle.mt_arena.proofs.Settled.{settled_free}
 use Rattle.mt_arena.proofs.Lags.{settled_of, child_parted}
 use Rattle.mt_arena.proofs.Pairs.{last, before}
