@@ -1,5 +1,5 @@
 -- What the steps of the stories of an arena need.
-use Rattle.std.proofs.Common.{◌≡◌, ℕ, ◌<◌, List, [], ◌∷◌, refl, ap, ◌∙◌, arith}
+use Rattle.std.proofs.Common.{◌≡◌, ℕ, [], ◌∷◌, refl, ap, ◌∙◌, arith}
 use Rattle.mt_rows.specs.Rows.{Bytes, Columns}
 use Rattle.mt_border.specs.declared.entry.Pair.{Pair}
 use Rattle.mt_border.specs.declared.entry.Entry.{Entry}
@@ -9,15 +9,13 @@ use Rattle.mt_border.specs.Entry.{IsStablePair, pair_of}
 use Rattle.mt_lists.specs.Rising.{IsRising}
 use Rattle.mt_border.specs.Entries.{orders, replaced}
 use Rattle.mt_border.specs.Contents.{HasKey}
-use Rattle.mt_border.proofs.Edits.{any_entry, replaced_at}
+use Rattle.mt_border.proofs.Edits.{replaced_at}
 use Rattle.mt_border.proofs.ContentsKeys.{has_rewritten_key}
 use Rattle.mt_arena.specs.Layers.{slot_at}
-use Rattle.mt_arena.specs.Edits.{with_slots, splitting, fresh_half}
-use Rattle.mt_arena.specs.Splits.{left_half, right_half}
-use Rattle.mt_arena.specs.Several.{AreHalved, MayGrow}
+use Rattle.mt_arena.specs.Edits.{with_slots}
 use Rattle.mt_arena.specs.Arena.{ArenaView}
 use Rattle.mt_arena.specs.Accesses.{at, with_node, with_row, MayChange}
-use Rattle.mt_arena_tests.specs.ArenaStory.{held_root, of_nodes, holding}
+use Rattle.mt_arena_tests.specs.ArenaStory.{holding}
 
 -- a stable slot has a pair
 held_pair : (h : Held) → IsStablePair h → (pair : Pair) × (h ≡ Stable pair)
@@ -56,35 +54,3 @@ changed v new key e row stamp is has stable step =
       has_rewritten_key [] 0 e key found.0 row stamp has (ap pair_of found.1),
       tt,
     )
-
--- the halves of the root may get a new root
-pub may_grow : (v new : ArenaView) (slots all : List Entry) (low half : ℕ) → v ≡ of_nodes (splitting (with_slots held_root slots) ∷ fresh_half (with_slots held_root slots) low 5 ∷ []) → half ≡ 1 → low < 18446744073709551616 → AreHalved all v.nodes new.nodes 0 half → new ≡ record v { nodes = new.nodes } → MayGrow new 0 half 5
-may_grow v new slots all low half is number fits halves others =
-    let h = rw (is, number) at halves in
-    let after : new ≡ of_nodes (left_half (splitting (with_slots held_root slots)) h.kept low 1 ∷ right_half (splitting (with_slots held_root slots)) (fresh_half (with_slots held_root slots) low 5) h.moved 0 ∷ []) = others ∙ (λ a. record (is a) { nodes = h.is a }) in
-    rw (after, number) (record {
-      grows = record {
-        left_there = omega arith;
-        right_there = omega arith;
-        differ = λ e. absurd (omega (arith, e));
-        left_live = refl;
-        right_live = refl;
-        left_parentless = refl;
-        right_parentless = refl;
-        right_tree = refl;
-        right_level = refl;
-        left_low = refl;
-        fence = refl;
-        right_high = refl;
-        right_reach = refl;
-        above = omega (arith, h.parted.below 0 any_entry h.some_kept);
-        below = fits;
-      };
-      held = record { there = omega arith; holder = refl };
-      right_held = record { there = omega arith; holder = refl };
-      mine = λ q making. absurd (cc);
-      marked = refl;
-      right_marked = refl;
-      is_root = refl;
-      no_root = refl;
-    })

@@ -1,1 +1,9 @@
 pub mod ArenaSteps
+pub mod TreeReads
+pub mod TreeFacts
+pub mod TreeLocks
+pub mod TreeLinks
+pub mod TreeTops
+pub mod TreeSplits
+pub mod TreeWays
+pub mod TreeTold

@@ -20,7 +20,7 @@ holding entries = of_nodes (with_slots held_root entries ∷ [])
 
 -- the root, marked for readers of its range, and a right half without range, before which it stands
 abbrev pub half : NodeView
-half = fresh_half held_root 9 5
+half = fresh_half held_root 0 9 5
 
 abbrev pub split_begun : ArenaView
 split_begun = of_nodes (splitting held_root ∷ pointed half (Some 0) None ∷ [])

@@ -1,1 +1,2 @@
 pub mod ArenaStory
+pub mod TreeStory

@@ -1,11 +1,7 @@
-//! The arena: most calls once, in four stories of an arena whose root one operation holds. None has a
-//! child come to a parent that was there: `set_parent`, `insert_child` and `split_interior` stand in
-//! no story, nor does `split_border_without`.
+//! The arena: the calls that change one node, in three stories of an arena whose root one operation
+//! holds. `tree.rt` has the others.
 
-ghost use Rattle.std.specs.Prelude.{◌≡◌, ◌<◌, [], ◌∷◌, List, length, IfOk, IfSome, IsTrue, OnOk};
-ghost use Rattle.mt_slices.specs.Slices.{slice_of, mark_of};
-ghost use Rattle.mt_border.specs.Entries.{IsMissing};
-ghost use Rattle.mt_border.specs.Split.{IsSeparator, slices_with};
+ghost use Rattle.std.specs.Prelude.{◌≡◌, ◌<◌, [], ◌∷◌, length, IfOk, OnOk};
 ghost use Rattle.mt_border.specs.declared.entry.Entry.{Entry as Slot};
 ghost use Rattle.mt_border.specs.Entry.{IsEntry, IsStablePair};
 ghost use Rattle.mt_border.specs.Contents.{HasKey};
@@ -15,7 +11,7 @@ ghost use Rattle.mt_arena_tests.specs.ArenaStory.{held_root, of_nodes, holding, 
 
 use mt_arena::{Arena, Prefix, Standing};
 use mt_border::laws::suffix_fits_mark;
-use mt_border::{Entry, Find, Held, FoundKind, Pair, Suffix};
+use mt_border::{Entry, Find, FoundKind, Held, Pair, Suffix};
 use mt_rows::{Column, Row};
 use mt_slices::StoredKey;
 use std::alloc::{AllocError, Global};
@@ -23,7 +19,7 @@ use std::process::Abort;
 use std::test::Fail;
 
 // A row of one column.
-fn row_of(rt: &impl Abort, alloc: Global, column: &[u8]) -> Result<Row, AllocError> {
+pub fn row_of(rt: &impl Abort, alloc: Global, column: &[u8]) -> Result<Row, AllocError> {
     let mut columns = Vec::new(alloc);
     columns.push(Column::new(Vec::from_slice(alloc, column)?))?;
     assert!(rt; Row::fits(&columns));
@@ -31,7 +27,7 @@ fn row_of(rt: &impl Abort, alloc: Global, column: &[u8]) -> Result<Row, AllocErr
 }
 
 // The entry of a key's pair in the top tree, placed by step 6.
-fn entry_of(rt: &impl Abort, alloc: Global, key: &StoredKey) -> Result<Entry, AllocError>
+pub fn entry_of(rt: &impl Abort, alloc: Global, key: &StoredKey) -> Result<Entry, AllocError>
     ensures entry { IfOk result (λ entry. IsEntry entry) }
     ensures has { IfOk result (λ entry. HasKey [] 0 entry key.now) }
     ensures stable { IfOk result (λ entry. IsStablePair entry.held) }
@@ -139,9 +135,9 @@ fn begin_split(arena: &mut Arena) -> Result<usize, AllocError>
     ensures number { IfOk result (λ node. node ≡ 1) }
     ensures is { OnOk result (arena.new ≡ split_begun) }
 {
+    arena.mark_splitting(0, 5);
     let node = arena.alloc_node(0, 9, 5)?;
     arena.set_previous(node, 0, 5);
-    arena.mark_splitting(0, 5);
     Ok(node)
 }
 
@@ -190,128 +186,6 @@ fn a_right_half_is_made_and_taken_out(rt: HostRuntime) -> Result<(), Fail> {
     end_split(&mut arena);
     assert_eq!(rt; splits_of(&arena, 0), 1);
     assert!(rt; arena.node(0).holder().is_none());
-    Ok(())
-}
-
-// Puts in the pair of one more key, if it is missing and there is room.
-fn put_more(arena: &mut Arena, key: &StoredKey, entry: Entry) -> bool
-    requires arena { (slots : List Slot) × (arena.old ≡ holding slots) }
-    requires entry { IsEntry entry }
-    requires has { HasKey [] 0 entry key.now }
-    requires stable { IsStablePair entry.held }
-    ensures { (slots : List Slot) × (arena.new ≡ holding slots) }
-{
-    if !has_room(arena, key) {
-        return false;
-    }
-    arena.publish(0, entry, 5);
-    true
-}
-
-// Whether the root has room, and misses the key.
-fn has_room(arena: &Arena, key: &StoredKey) -> bool
-    requires { (slots : List Slot) × (arena.now ≡ holding slots) }
-    ensures { IsTrue result → (length (at arena.now 0).slots < 15) × IsMissing (at arena.now 0).slots (slice_of key.now 0) (mark_of key.now 0) }
-{
-    suffix_fits_mark();
-    let border = arena.border(0);
-    match border.find(key.slice(0), key.mark(0), key.suffix(0)) {
-        Find::Missing => !border.is_full(),
-        Find::Slot(..) => false,
-    }
-}
-
-// The first slice on the right, if the root is full and misses the key.
-fn separator_of(arena: &Arena, key: &StoredKey) -> Option<u64>
-    requires { (slots : List Slot) × (arena.now ≡ holding slots) }
-    ensures fits { IfSome result (λ low. low < 18446744073709551616) }
-    ensures found { IfSome result (λ low. (length (at arena.now 0).slots ≡ 15) × IsMissing (at arena.now 0).slots (slice_of key.now 0) (mark_of key.now 0)
-        × IsSeparator (slices_with (at arena.now 0).slots (slice_of key.now 0) (mark_of key.now 0)) low) }
-{
-    suffix_fits_mark();
-    let border = arena.border(0);
-    match border.find(key.slice(0), key.mark(0), key.suffix(0)) {
-        Find::Missing if border.is_full() => Some(border.separator(key.slice(0), key.mark(0))),
-        _ => None,
-    }
-}
-
-// Puts in the pair of a key for each of these bytes.
-fn put_all(rt: &impl Abort, alloc: Global, arena: &mut Arena, names: &[u8]) -> Result<(), Fail>
-    requires { (slots : List Slot) × (arena.old ≡ holding slots) }
-    ensures { (slots : List Slot) × (arena.new ≡ holding slots) }
-{
-    for name in names {
-        let key = StoredKey::new(alloc, 7, &[*name])?;
-        let entry = entry_of(rt, alloc, &key)?;
-        assert!(rt; put_more(arena, &key, entry));
-    }
-    Ok(())
-}
-
-// Splits the full root with one more key, and puts a new root over its halves.
-fn split_and_grow(
-    arena: &mut Arena,
-    key: &StoredKey,
-    entry: Entry,
-) -> Result<Option<usize>, AllocError>
-    requires arena { (slots : List Slot) × (arena.old ≡ holding slots) }
-    requires entry { IsEntry entry }
-    requires has { HasKey [] 0 entry key.now }
-    requires stable { IsStablePair entry.held }
-    ensures { IfOk result (λ top. IfSome top (λ top. (top ≡ 2) × (length arena.new.nodes ≡ 3))) }
-{
-    let low = match separator_of(arena, key) {
-        Some(low) => low,
-        None => return Ok(None),
-    };
-    let half = arena.alloc_node(0, low, 5)?;
-    arena.mark_splitting(0, 5);
-    arena.split_border(0, half, entry, 5);
-    Ok(Some(arena.grow_root(0, half, 5)?))
-}
-
-// How many keys a border node has.
-fn keys_of(arena: &Arena, node: usize) -> Option<usize>
-    requires { node < length arena.now.nodes }
-{
-    Some(arena.node(node).border()?.len())
-}
-
-// The one separator of an interior node.
-fn separator_above(arena: &Arena, node: usize) -> Option<u64>
-    requires { node < length arena.now.nodes }
-{
-    let interior = arena.node(node).interior()?;
-    interior.separators().first().copied()
-}
-
-#[test]
-fn a_full_root_is_split_and_grows(rt: HostRuntime) -> Result<(), Fail> {
-    let alloc = rt.alloc();
-    let mut arena = held_arena(alloc)?;
-    let first = StoredKey::new(alloc, 7, b"a")?;
-    let entry = entry_of(&rt, alloc, &first)?;
-    put(&mut arena, &first, entry);
-    put_all(&rt, alloc, &mut arena, b"bcdefghijklmno")?;
-    let last = StoredKey::new(alloc, 7, b"p")?;
-    let entry = entry_of(&rt, alloc, &last)?;
-    let top = match split_and_grow(&mut arena, &last, entry)? {
-        Some(top) => top,
-        None => panic!(rt; "the root is not full"),
-    };
-    assert_eq!(rt;
-        (keys_of(&arena, 0), keys_of(&arena, 1)),
-        (Some(8), Some(8))
-    );
-    assert_eq!(rt; arena.node(0).high(), Some(arena.node(1).low()));
-    assert_eq!(rt; separator_above(&arena, top), Some(arena.node(1).low()));
-    assert_eq!(rt;
-        (arena.node(0).parent(), arena.node(1).parent()),
-        (Some(2), Some(2))
-    );
-    assert!(rt; !arena.node(0).version().is_root());
-    assert!(rt; arena.node(top).version().is_root());
     Ok(())
 }
 

@@ -5,3 +5,5 @@
 
 #[cfg(test)]
 mod arena;
+#[cfg(test)]
+mod tree;
