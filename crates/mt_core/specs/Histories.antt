@@ -1,5 +1,5 @@
 -- What ties a run's story to the state that it led to.
-use Rattle.std.specs.Prelude.{◌≡◌, ◌≢◌, ℕ, ◌<◌, ◌≤◌, ◌^◌, true, false, ◌∷◌, [], Option, Some, None}
+use Rattle.std.specs.Prelude.{◌≡◌, ◌≢◌, ℕ, ◌<◌, ◌≤◌, ◌^◌, true, false, ◌∷◌, [], Option, Some, None, IsSome}
 use Rattle.std.specs.Option.{option_map}
 use Rattle.std.specs.List.{All}
 use Rattle.std.specs.Ordering.{nat_cmp}
@@ -40,6 +40,14 @@ pub record Renames (old new : Names) (o : ℕ) (stands : Option ℕ) : Type 0 wh
 -- every operation of a table has a name
 abbrev pub AreNamed : Names → Table → Type 0
 AreNamed names table = (n : ℕ) (op : Operation) → op_at table n ≡ Some op → (o : ℕ) × (names o ≡ Some (Some n))
+
+-- every operation that has a name is in the table
+abbrev pub AreHeld : Names → Table → Type 0
+AreHeld names table = (o n : ℕ) → names o ≡ Some (Some n) → IsSome (op_at table n)
+
+-- a map from ids has the name of each operation that has one
+abbrev pub AreById : BTreeMap ℕ ℕ → Names → Type 0
+AreById ids names = (o n : ℕ) → names o ≡ Some (Some n) → get nat_cmp ids n ≡ Some o
 
 -- what a run's story tells of an open operation by its name: its command, its first and last step, that it is not finished, and that
 -- the change which it remembers, if any, is the one that it made
