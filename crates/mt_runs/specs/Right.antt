@@ -38,7 +38,6 @@ pub record Right (quotas : Quotas) (first : Maps) (story : Story) (map_at : ℕ 
   pub stays : (m t : ℕ) → story.base ≤ m → suc m ≤ last_step story → changed (suc m) ≡ false → map_at t (suc m) ≡ map_at t m
   pub changes : (m : ℕ) → story.base ≤ m → suc m ≤ last_step story → changed (suc m) ≡ true → IsChangeAfter quotas story map_at m
   pub once : (m n o : ℕ) → changed m ≡ true → changed n ≡ true → owner story m ≡ Some o → owner story n ≡ Some o → m ≡ n
-  pub one_end : (m n o : ℕ) (a b : Answer) → step_of story m ≡ Some (record { op = o; answer = Some a }) → step_of story n ≡ Some (record { op = o; answer = Some b }) → m ≡ n
   pub last_end : (m k o : ℕ) (a : Answer) → step_of story m ≡ Some (record { op = o; answer = Some a }) → owner story k ≡ Some o → k ≤ m
   pub answers : (o : ℕ) (answer : Answer) → Finished story o answer → IsAnswered quotas story map_at changed o answer
   pub scans : (o : ℕ) (answer : Answer) (a : Asked) → Finished story o answer → story.asked o ≡ Some a → IsLawfulScan (map_at a.tenant) (IsBetween story o) a.command answer.reply
