@@ -1,6 +1,6 @@
 pub mod Tables
 pub mod Links
-pub mod RowLaws
+pub mod QueueLaws
 pub mod Rely
 pub mod Quiet
 pub mod Replies

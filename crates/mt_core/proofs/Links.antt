@@ -1,14 +1,14 @@
--- What one place that is written over makes of the links and of the table: for the functions of row.rt, and TableMoves.
+-- What one place that is written over makes of the links and of the table: for the functions of queue.rt, and TableMoves.
 use Rattle.std.proofs.Common.{◌≡◌, ◌≢◌, ℕ, zero, suc, inl, inr, [], ◌∷◌, set, Option, Some, None, is_some, refl, sym, ap, subst, ◌∙◌}
 use Rattle.std.proofs.lemmas.Bool.{cases_eq}
 use Rattle.std.proofs.lemmas.Option.{same_Some}
 use Rattle.mt_core.specs.declared.operation.Operation.{Operation}
 use Rattle.mt_core.specs.declared.operation.Progress.{Progress}
-use Rattle.mt_core.specs.declared.row.Place.{Place}
-use Rattle.mt_core.specs.declared.row.Ends.{Ends}
+use Rattle.mt_core.specs.declared.queue.Place.{Place}
+use Rattle.mt_core.specs.declared.queue.Ends.{Ends}
 use Rattle.mt_core.specs.Operations.{moved}
 use Rattle.mt_core.specs.Views.{op_at}
-use Rattle.mt_core.specs.Tables.{Places, place_at, operation_in, table_of, after_in, before_in, after_of, before_of, IsPlace, SetsAfter, SetsBefore, Unlinks, LinksLast, Moves}
+use Rattle.mt_core.specs.Tables.{Places, place_at, operation_in, table_of, after_in, before_in, after_of, before_of, IsEndOrPlace, SetsAfter, SetsBefore, CutsOut, LinksLast, Moves}
 use Rattle.mt_core.proofs.Tables.{set_is, set_there, set_same}
 
 -- the operation of an id is that of the place there
@@ -32,7 +32,7 @@ pub place_there : (places : Places) (o : ℕ) → is_some (op_at (table_of place
 place_there places o = ap is_some (op_place places o) ∙ some_in (place_at places o)
 
 -- the same places are there where the table is the same
-pub place_kept : (old new : Places) (s : Option ℕ) → table_of new ≡ table_of old → IsPlace old s → IsPlace new s
+pub place_kept : (old new : Places) (s : Option ℕ) → table_of new ≡ table_of old → IsEndOrPlace old s → IsEndOrPlace new s
 place_kept old new None same there = there
 place_kept old new (Some o) same there = sym (place_there new o) ∙ ap (λ t. is_some (op_at t o)) same ∙ place_there old o ∙ there
 
@@ -130,7 +130,7 @@ linked p0 p1 p2 p3 p4 e0 e1 e2 e3 e4 o new a b c d = record {
     some_none e = cc
 
 -- two new links take out what was between
-pub unlinked : (p0 p1 p2 : Places) (e0 e1 e2 : Ends) (s t : Option ℕ) → SetsAfter p0 e0 p1 e1 s t → SetsBefore p1 e1 p2 e2 t s → Unlinks p0 e0 p2 e2 s t
+pub unlinked : (p0 p1 p2 : Places) (e0 e1 e2 : Ends) (s t : Option ℕ) → SetsAfter p0 e0 p1 e1 s t → SetsBefore p1 e1 p2 e2 t s → CutsOut p0 e0 p2 e2 s t
 unlinked p0 p1 p2 e0 e1 e2 s t a b = record {
   after = b.afters s ∙ a.here;
   before = b.here;

@@ -9,18 +9,18 @@ use Rattle.mt_rows.specs.declared.reply.Reply.{Reply}
 use Rattle.mt_core.specs.declared.operation.Operation.{Operation}
 use Rattle.mt_core.specs.declared.operation.Progress.{Progress}
 use Rattle.mt_core.specs.declared.operation.Progress.TheVariants.{Finished}
-use Rattle.mt_core.specs.declared.row.Place.{Place}
-use Rattle.mt_core.specs.declared.row.Ends.{Ends}
+use Rattle.mt_core.specs.declared.queue.Place.{Place}
+use Rattle.mt_core.specs.declared.queue.Ends.{Ends}
 use Rattle.mt_core.specs.Operations.{moved, ending, is_open_put}
 use Rattle.mt_core.specs.Views.{Table, op_at}
 use Rattle.mt_core.specs.Kept.{ask}
 use Rattle.mt_core.specs.Invariant.{is_unfinished}
 use Rattle.mt_core.specs.Begins.{HasOpenPut}
 use Rattle.mt_core.specs.Tidies.{IsFloorNeeded}
-use Rattle.mt_core.specs.Tables.{Places, place_at, operation_in, table_of, first_in, first_at, is_still, after_in, before_in, after_of, before_of, IsInRow, number_of, Follows, IsRow, IsLastPut, IsTable, IsPlace, Unlinks, LinksLast, Moves, MayMove}
+use Rattle.mt_core.specs.Tables.{Places, place_at, operation_in, table_of, first_in, first_at, is_still, after_in, before_in, after_of, before_of, IsInQueue, queue_number, ComesNext, IsQueue, IsLastPut, IsTable, IsEndOrPlace, CutsOut, LinksLast, Moves, MayMove}
 use Rattle.mt_core.proofs.Tables.{set_is, set_there, set_none}
 use Rattle.mt_core.proofs.Links.{op_place, table_set, place_there, written_in}
-use Rattle.mt_core.proofs.RowLaws.{some_none, in_follows, same_row, cut_row, behind_row}
+use Rattle.mt_core.proofs.QueueLaws.{some_none, in_follows, same_queue, cut_queue, behind_queue}
 use Rattle.mt_core.proofs.OpenPuts.{open_parts, open_joins}
 
 none_op : {op : Operation} → ◌≡◌ {A = Option Operation} None (Some op) → ⊥
@@ -34,22 +34,22 @@ first_some : (x : Option Operation) → 0 < first_in x → is_some x ≡ true
 first_some None lt = absurd (omega (arith, lt))
 first_some (Some op) lt = refl
 
-row_place : (places : Places) (s : Option ℕ) → IsInRow (first_at (table_of places)) s → IsPlace places s
-row_place places None here = tt
-row_place places (Some o) here = sym (place_there places o) ∙ first_some (op_at (table_of places) o) here
+queue_place : (places : Places) (s : Option ℕ) → IsInQueue (first_at (table_of places)) s → IsEndOrPlace places s
+queue_place places None here = tt
+queue_place places (Some o) here = sym (place_there places o) ∙ first_some (op_at (table_of places) o) here
 
--- the row's last operation is there, and is none that has made no step
-pub last_place : (places : Places) (ends : Ends) (put : Option ℕ) → IsTable places ends put → IsPlace places ends.last
-last_place places ends put h = row_place places ends.last ((h.row.befores None tt).0)
+-- the queue's last operation is there, and is none that has made no step
+pub last_place : (places : Places) (ends : Ends) (put : Option ℕ) → IsTable places ends put → IsEndOrPlace places ends.last
+last_place places ends put h = queue_place places ends.last ((h.queue.befores None tt).0)
 
 still_first : (x : Option Place) → is_still x ≡ true → first_in (operation_in x) ≡ 0
 still_first None e = absurd (cc)
 still_first (Some place) e = eqb-true place.operation.first 0 e
 
--- an operation that has made no step is not the row's last
+-- an operation that has made no step is not the queue's last
 pub last_new : (places : Places) (ends : Ends) (put : Option ℕ) (o : ℕ) → IsTable places ends put → is_still (place_at places o) ≡ true → ends.last ≢ Some o
 last_new places ends put o h still is =
-    let here = subst (IsInRow (first_at (table_of places))) is ((h.row.befores None tt).0) in
+    let here = subst (IsInQueue (first_at (table_of places))) is ((h.queue.befores None tt).0) in
     absurd (omega (arith, here, ap first_in (op_place places o), still_first (place_at places o) still))
 
 -- the place of an operation that is there
@@ -126,7 +126,7 @@ module _ (p0 p1 p2 : Places) (e0 e1 : Ends) (put : Option ℕ) (now : Table) (o 
       let first : first_at (table_of p2) o ≡ step =
       ap (λ t. first_at t o) table ∙ ap first_in (set_is (table_of p0) o (moved place.operation step progress) place.operation there) ∙ first_step place.operation still in
       record {
-        row = behind_row (first_at (table_of p0)) (first_at (table_of p2)) (after_of p0 e0) (after_of p2 e1) (before_of p0 e0) (before_of p2 e1) o h.row
+        queue = behind_queue (first_at (table_of p0)) (first_at (table_of p2)) (after_of p0 e0) (after_of p2 e1) (before_of p0 e0) (before_of p2 e1) o h.queue
             (ap first_in there ∙ still_first (Some place) still)
             (omega (arith, first, may.later o place.operation (ap (λ t. op_at t o) (sym is) ∙ there)))
             (λ q. omega (arith, first, below q (op_at (table_of p0) q) refl))
@@ -149,14 +149,14 @@ module _ (p0 p1 p2 : Places) (e0 e1 : Ends) (put : Option ℕ) (now : Table) (o 
       let at_1 : place_at p1 o ≡ Some place = ap (λ p. place_at p o) s.0 ∙ at in
       let table = moved_table p0 p1 p2 (table_of p0) o step progress place.operation refl (ap table_of s.0) moves there in
       record {
-        row = same_row (first_at (table_of p0)) (first_at (table_of p2)) (after_of p0 e0) (after_of p2 e1) (before_of p0 e0) (before_of p2 e1)
+        queue = same_queue (first_at (table_of p0)) (first_at (table_of p2)) (after_of p0 e0) (after_of p2 e1) (before_of p0 e0) (before_of p2 e1)
             (λ q. elim (cases_eq q o) [
               | inl here ↦ ap (λ n. first_at (table_of p2) n) here ∙ ap (λ t. first_at t o) table ∙ ap first_in (set_is (table_of p0) o (moved place.operation step progress) place.operation there) ∙ first_stays place.operation still ∙ sym (ap first_in there) ∙ ap (λ n. first_at (table_of p0) n) (sym here)
               | inr other ↦ other_first (moved place.operation step progress) (table_of p2) table q other
             ])
             (λ t here. afters_moved place at_1 t ∙ ap (λ p. after_of p e1 t) s.0 ∙ ap (λ e. after_of p0 e t) s.1)
             (λ t here. befores_moved place at_1 t ∙ ap (λ p. before_of p e1 t) s.0 ∙ ap (λ e. before_of p0 e t) s.1)
-            h.row;
+            h.queue;
         last_put = subst (λ t. IsLastPut t put) (sym table) (put_moved (table_of p0) o step place.operation progress put there (may.unfinished place.operation (ap (λ t. op_at t o) (sym is) ∙ there)) h.last_put);
       }
     where
@@ -177,24 +177,24 @@ module _ (p0 p1 p2 : Places) (e0 e1 : Ends) (put : Option ℕ) (now : Table) (o 
 -- an operation more, which has made no step
 module _ (old new : Slab Place) (ends : Ends) (put : Option ℕ) (o : ℕ) (op : Operation) (h : IsTable old.slots ends put) (vacant : place_at old.slots o ≡ None)
     (updates : Updates old new o (Some (record { operation = op; before = None; after = None }))) (still : op.first ≡ 0) where
-  kept_row : IsRow (first_at (table_of new.slots)) (after_of new.slots ends) (before_of new.slots ends)
-  kept_row = same_row (first_at (table_of old.slots)) (first_at (table_of new.slots)) (after_of old.slots ends) (after_of new.slots ends) (before_of old.slots ends) (before_of new.slots ends)
+  kept_queue : IsQueue (first_at (table_of new.slots)) (after_of new.slots ends) (before_of new.slots ends)
+  kept_queue = same_queue (first_at (table_of old.slots)) (first_at (table_of new.slots)) (after_of old.slots ends) (after_of new.slots ends) (before_of old.slots ends) (before_of new.slots ends)
       (λ q. elim (cases_eq q o) [
         | inl is ↦ ap (λ n. first_at (table_of new.slots) n) is ∙ ap first_in (op_place new.slots o ∙ ap operation_in updates.changed) ∙ still ∙ sym (ap first_in (op_place old.slots o ∙ ap operation_in vacant)) ∙ ap (λ n. first_at (table_of old.slots) n) (sym is)
         | inr other ↦ ap first_in (op_place new.slots q ∙ ap operation_in (updates.others q other) ∙ sym (op_place old.slots q))
       ])
       afters
       befores
-      h.row
+      h.queue
     where
-      new_here : (q : ℕ) → IsInRow (first_at (table_of old.slots)) (Some q) → q ≢ o
+      new_here : (q : ℕ) → IsInQueue (first_at (table_of old.slots)) (Some q) → q ≢ o
       new_here q here is = absurd (omega (arith, here, ap (first_at (table_of old.slots)) is, ap first_in (op_place old.slots o ∙ ap operation_in vacant)))
 
-      afters : (s : Option ℕ) → IsInRow (first_at (table_of old.slots)) s → after_of new.slots ends s ≡ after_of old.slots ends s
+      afters : (s : Option ℕ) → IsInQueue (first_at (table_of old.slots)) s → after_of new.slots ends s ≡ after_of old.slots ends s
       afters None here = refl
       afters (Some q) here = ap after_in (updates.others q (new_here q here))
 
-      befores : (s : Option ℕ) → IsInRow (first_at (table_of old.slots)) s → before_of new.slots ends s ≡ before_of old.slots ends s
+      befores : (s : Option ℕ) → IsInQueue (first_at (table_of old.slots)) s → before_of new.slots ends s ≡ before_of old.slots ends s
       befores None here = refl
       befores (Some q) here = ap before_in (updates.others q (new_here q here))
 
@@ -209,7 +209,7 @@ module _ (old new : Slab Place) (ends : Ends) (put : Option ℕ) (o : ℕ) (op :
   -- a put is the only open one
   pub kept_put : (now : Table) → table_of old.slots ≡ now → ¬ HasOpenPut now → IsTable new.slots ends (Some o)
   kept_put now is alone = record {
-    row = kept_row;
+    queue = kept_queue;
     last_put = λ q x at is_open. elim (cases_eq q o) [
       | inl here ↦ ap (λ n. Some n) (sym here)
       | inr other ↦ let w = open_parts x is_open in absurd (alone (q, x, sym (kept_others now is q other) ∙ at, w.0, w.1))
@@ -219,7 +219,7 @@ module _ (old new : Slab Place) (ends : Ends) (put : Option ℕ) (o : ℕ) (op :
   -- and a get is no put
   pub kept_get : is_get (ask op) ≡ true → IsTable new.slots ends put
   kept_get get = record {
-    row = kept_row;
+    queue = kept_queue;
     last_put = λ q x at is_open. elim (cases_eq q o) [
       | inl here ↦
           let same : op ≡ x = same_Some op x (sym kept_there ∙ ap (op_at (table_of new.slots)) (sym here) ∙ at) in
@@ -241,26 +241,26 @@ module _ (p0 p1 : Places) (e0 : Ends) (put : Option ℕ) (o : ℕ) (place : Plac
   gone_shows now p2 is same = same ∙ table_gone ∙ ap (λ t. set t o None) is
 
   -- its neighbours are there still
-  still_there : (s : Option ℕ) → IsInRow (first_at (table_of p0)) s → s ≢ Some o → IsPlace p1 s
+  still_there : (s : Option ℕ) → IsInQueue (first_at (table_of p0)) s → s ≢ Some o → IsEndOrPlace p1 s
   still_there None here ne = tt
-  still_there (Some q) here ne = ap (λ p. is_some (place_at p q)) gone ∙ ap is_some (set_there p0 o q None (λ is. ne (ap (λ n. Some n) is))) ∙ row_place p0 (Some q) here
+  still_there (Some q) here ne = ap (λ p. is_some (place_at p q)) gone ∙ ap is_some (set_there p0 o q None (λ is. ne (ap (λ n. Some n) is))) ∙ queue_place p0 (Some q) here
 
-  ahead : 0 < place.operation.first → Follows (first_at (table_of p0)) place.before (Some o)
-  ahead begun = subst (λ x. Follows (first_at (table_of p0)) (before_in x) (Some o)) at (h.row.befores (Some o) (omega (arith, begun, ap first_in there)))
+  ahead : 0 < place.operation.first → ComesNext (first_at (table_of p0)) place.before (Some o)
+  ahead begun = subst (λ x. ComesNext (first_at (table_of p0)) (before_in x) (Some o)) at (h.queue.befores (Some o) (omega (arith, begun, ap first_in there)))
 
-  behind : 0 < place.operation.first → Follows (first_at (table_of p0)) (Some o) place.after
-  behind begun = subst (λ x. Follows (first_at (table_of p0)) (Some o) (after_in x)) at (h.row.afters (Some o) (omega (arith, begun, ap first_in there)))
+  behind : 0 < place.operation.first → ComesNext (first_at (table_of p0)) (Some o) place.after
+  behind begun = subst (λ x. ComesNext (first_at (table_of p0)) (Some o) (after_in x)) at (h.queue.afters (Some o) (omega (arith, begun, ap first_in there)))
 
-  -- the operation before it in the row is there
-  pub before_there : 0 < place.operation.first → IsPlace p1 place.before
-  before_there begun = still_there place.before (ahead begun).0 (λ is. absurd (omega (arith, ap (number_of (first_at (table_of p0))) is, (ahead begun).1)))
+  -- the operation before it in the queue is there
+  pub before_there : 0 < place.operation.first → IsEndOrPlace p1 place.before
+  before_there begun = still_there place.before (ahead begun).0 (λ is. absurd (omega (arith, ap (queue_number (first_at (table_of p0))) is, (ahead begun).1)))
 
-  not_behind : (t : Option ℕ) → Follows (first_at (table_of p0)) (Some o) t → t ≢ Some o
+  not_behind : (t : Option ℕ) → ComesNext (first_at (table_of p0)) (Some o) t → t ≢ Some o
   not_behind None f is = some_none (sym is)
   not_behind (Some q) f is = absurd (omega (arith, f.1, ap (first_at (table_of p0)) (same_Some q o is)))
 
   -- and so is the one after it
-  pub after_there : 0 < place.operation.first → IsPlace p1 place.after
+  pub after_there : 0 < place.operation.first → IsEndOrPlace p1 place.after
   after_there begun = still_there place.after (in_follows (first_at (table_of p0)) (Some o) place.after (behind begun)) (not_behind place.after (behind begun))
 
   -- the put that is kept in mind may be gone
@@ -284,12 +284,12 @@ module _ (p0 p1 : Places) (e0 : Ends) (put : Option ℕ) (o : ℕ) (place : Plac
   befores_gone None ne = refl
   befores_gone (Some q) ne = ap (λ p. before_in (place_at p q)) gone ∙ ap before_in (set_there p0 o q None (λ is. ne (ap (λ n. Some n) is)))
 
-  cut_by : (p2 : Places) (e2 : Ends) → 0 < place.operation.first → Unlinks p1 e0 p2 e2 place.before place.after → IsTable p2 e2 put
+  cut_by : (p2 : Places) (e2 : Ends) → 0 < place.operation.first → CutsOut p1 e0 p2 e2 place.before place.after → IsTable p2 e2 put
   cut_by p2 e2 begun u =
       let before_is : before_of p0 e0 (Some o) ≡ place.before = ap before_in at in
       let after_is : after_of p0 e0 (Some o) ≡ place.after = ap after_in at in
       record {
-        row = cut_row (first_at (table_of p0)) (first_at (table_of p2)) (after_of p0 e0) (after_of p2 e2) (before_of p0 e0) (before_of p2 e2) o h.row
+        queue = cut_queue (first_at (table_of p0)) (first_at (table_of p2)) (after_of p0 e0) (after_of p2 e2) (before_of p0 e0) (before_of p2 e2) o h.queue
             (omega (arith, begun, ap first_in there)) (none_first p2 u.table) (others_first p2 u.table)
             (ap (after_of p2 e2) before_is ∙ u.after ∙ sym after_is) (ap (before_of p2 e2) after_is ∙ u.before ∙ sym before_is)
             (λ s ne other. u.afters s (λ is. ne (is ∙ sym before_is)) ∙ afters_gone s other) (λ s ne other. u.befores s (λ is. ne (is ∙ sym after_is)) ∙ befores_gone s other);
@@ -298,16 +298,16 @@ module _ (p0 p1 : Places) (e0 : Ends) (put : Option ℕ) (o : ℕ) (place : Plac
 
   left_by : place.operation.first ≡ 0 → IsTable p1 e0 put
   left_by still = record {
-    row = same_row (first_at (table_of p0)) (first_at (table_of p1)) (after_of p0 e0) (after_of p1 e0) (before_of p0 e0) (before_of p1 e0)
+    queue = same_queue (first_at (table_of p0)) (first_at (table_of p1)) (after_of p0 e0) (after_of p1 e0) (before_of p0 e0) (before_of p1 e0)
         (λ q. elim (cases_eq q o) [
           | inl is ↦ ap (first_at (table_of p1)) is ∙ none_first p1 refl ∙ sym still ∙ sym (ap first_in there) ∙ ap (first_at (table_of p0)) (sym is)
           | inr other ↦ others_first p1 refl q other
         ])
-        (λ s here. afters_gone s (not_here s here)) (λ s here. befores_gone s (not_here s here)) h.row;
+        (λ s here. afters_gone s (not_here s here)) (λ s here. befores_gone s (not_here s here)) h.queue;
     last_put = subst (λ t. IsLastPut t put) (sym table_gone) put_gone;
   }
     where
-      not_here : (s : Option ℕ) → IsInRow (first_at (table_of p0)) s → s ≢ Some o
+      not_here : (s : Option ℕ) → IsInQueue (first_at (table_of p0)) s → s ≢ Some o
       not_here None here is = some_none (sym is)
       not_here (Some q) here is = absurd (omega (arith, here, still, ap first_in there, ap (first_at (table_of p0)) (same_Some q o is)))
 
@@ -316,14 +316,14 @@ module _ (p0 p1 : Places) (e0 : Ends) (put : Option ℕ) (o : ℕ) (place : Plac
   cases_first (suc n) = inl (omega arith)
 
   -- what is left is a table
-  pub gone_sound : (p2 : Places) (e2 : Ends) → (0 < place.operation.first → Unlinks p1 e0 p2 e2 place.before place.after) → (place.operation.first ≡ 0 → (p2 ≡ p1) × (e2 ≡ e0)) → IsTable p2 e2 put
+  pub gone_sound : (p2 : Places) (e2 : Ends) → (0 < place.operation.first → CutsOut p1 e0 p2 e2 place.before place.after) → (place.operation.first ≡ 0 → (p2 ≡ p1) × (e2 ≡ e0)) → IsTable p2 e2 put
   gone_sound p2 e2 unlinks same = elim (cases_first place.operation.first) [
     | inl begun ↦ cut_by p2 e2 begun (unlinks begun)
     | inr still ↦ let s = same still in subst (λ e. IsTable p2 e put) (sym s.1) (subst (λ p. IsTable p e0 put) (sym s.0) (left_by still))
   ]
 
-  -- cutting it out of the row changes no operation
-  pub gone_table : (p2 : Places) (e2 : Ends) → (0 < place.operation.first → Unlinks p1 e0 p2 e2 place.before place.after) → (place.operation.first ≡ 0 → (p2 ≡ p1) × (e2 ≡ e0)) → table_of p2 ≡ table_of p1
+  -- cutting it out of the queue changes no operation
+  pub gone_table : (p2 : Places) (e2 : Ends) → (0 < place.operation.first → CutsOut p1 e0 p2 e2 place.before place.after) → (place.operation.first ≡ 0 → (p2 ≡ p1) × (e2 ≡ e0)) → table_of p2 ≡ table_of p1
   gone_table p2 e2 unlinks same = elim (cases_first place.operation.first) [
     | inl begun ↦ (unlinks begun).table
     | inr still ↦ ap table_of (same still).0
@@ -332,7 +332,7 @@ module _ (p0 p1 : Places) (e0 : Ends) (put : Option ℕ) (o : ℕ) (place : Plac
 -- the floor that is needed where no operation has made a step
 pub floor_none : (places : Places) (ends : Ends) (put : Option ℕ) (now : Table) (steps : ℕ) → table_of places ≡ now → IsTable places ends put → ends.first ≡ None → IsFloorNeeded now steps steps
 floor_none places ends put now steps is h none =
-    let f = subst (Follows (first_at (table_of places)) None) none (h.row.afters None tt) in
+    let f = subst (ComesNext (first_at (table_of places)) None) none (h.queue.afters None tt) in
     record {
       made = omega arith;
       before = λ o op at begun. absurd (omega (arith, f.1 o, ap first_in (ap (λ t. op_at t o) is ∙ at), begun));
@@ -341,10 +341,10 @@ floor_none places ends put now steps is h none =
 
 -- and where one did so first
 module _ (places : Places) (ends : Ends) (put : Option ℕ) (o : ℕ) (h : IsTable places ends put) (first : ends.first ≡ Some o) where
-  first_follows : Follows (first_at (table_of places)) None (Some o)
-  first_follows = subst (Follows (first_at (table_of places)) None) first (h.row.afters None tt)
+  first_follows : ComesNext (first_at (table_of places)) None (Some o)
+  first_follows = subst (ComesNext (first_at (table_of places)) None) first (h.queue.afters None tt)
 
-  -- the row's first operation is there
+  -- the queue's first operation is there
   pub first_there : place_at places o ≡ None → ⊥
   first_there none = absurd (omega (arith, first_follows.1, ap first_in (op_place places o ∙ ap operation_in none)))
 

@@ -1,8 +1,8 @@
--- The table of operations as it lies in memory: each operation in a place, and a row through those that have made a step, in the order of their first steps.
+-- The table of operations as it lies in memory: each operation in a place, and a queue of those that have made a step, in the order of their first steps.
 use Rattle.std.specs.Prelude.{◌≡◌, ◌≢◌, ℕ, ◌<◌, ◌≤◌, ◌⊎◌, ◌==◌, Bool, true, false, List, map, Option, Some, None, IsSome, slice_index_or, slice_set}
 use Rattle.mt_core.specs.declared.operation.Operation.{Operation}
-use Rattle.mt_core.specs.declared.row.Place.{Place}
-use Rattle.mt_core.specs.declared.row.Ends.{Ends}
+use Rattle.mt_core.specs.declared.queue.Place.{Place}
+use Rattle.mt_core.specs.declared.queue.Ends.{Ends}
 use Rattle.mt_core.specs.declared.operation.Progress.{Progress}
 use Rattle.mt_core.specs.Operations.{is_open_put, moved}
 use Rattle.mt_core.specs.Views.{Table, op_at}
@@ -48,7 +48,7 @@ abbrev pub before_in : Option Place → Option ℕ
 before_in None = None
 before_in (Some place) = place.before
 
--- what comes after an operation in the row, and before it; none is the end at either side, so that after none comes the row's first operation
+-- what comes after an operation in the queue, and before it; none is the end at either side, so that after none comes the queue's first operation
 abbrev pub after_of : Places → Ends → Option ℕ → Option ℕ
 after_of places ends None = ends.first
 after_of places ends (Some o) = after_in (place_at places o)
@@ -58,25 +58,25 @@ before_of places ends None = ends.last
 before_of places ends (Some o) = before_in (place_at places o)
 
 -- an operation that has made a step, or none
-abbrev pub IsInRow : (ℕ → ℕ) → Option ℕ → Type 0
-IsInRow firsts None = Unit {0}
-IsInRow firsts (Some o) = 0 < firsts o
+abbrev pub IsInQueue : (ℕ → ℕ) → Option ℕ → Type 0
+IsInQueue firsts None = Unit {0}
+IsInQueue firsts (Some o) = 0 < firsts o
 
--- the number after which the next in the row comes
-abbrev pub number_of : (ℕ → ℕ) → Option ℕ → ℕ
-number_of firsts None = 0
-number_of firsts (Some o) = firsts o
+-- the number after which the next in the queue comes
+abbrev pub queue_number : (ℕ → ℕ) → Option ℕ → ℕ
+queue_number firsts None = 0
+queue_number firsts (Some o) = firsts o
 
 -- one comes directly after another: its first step is later, and no first step lies between the two
-abbrev pub Follows : (ℕ → ℕ) → Option ℕ → Option ℕ → Type 0
-Follows firsts s None = IsInRow firsts s × ((r : ℕ) → firsts r ≤ number_of firsts s)
-Follows firsts s (Some o) = IsInRow firsts s × (number_of firsts s < firsts o) × ((r : ℕ) → (firsts r ≤ number_of firsts s) ⊎ (firsts o ≤ firsts r))
+abbrev pub ComesNext : (ℕ → ℕ) → Option ℕ → Option ℕ → Type 0
+ComesNext firsts s None = IsInQueue firsts s × ((r : ℕ) → firsts r ≤ queue_number firsts s)
+ComesNext firsts s (Some o) = IsInQueue firsts s × (queue_number firsts s < firsts o) × ((r : ℕ) → (firsts r ≤ queue_number firsts s) ⊎ (firsts o ≤ firsts r))
 
--- a row: no two operations made one first step, and each has the neighbours that it names
-pub record IsRow (firsts : ℕ → ℕ) (after before : Option ℕ → Option ℕ) : Type 0 where
+-- a queue: no two operations made one first step, and each has the neighbours that it names
+pub record IsQueue (firsts : ℕ → ℕ) (after before : Option ℕ → Option ℕ) : Type 0 where
   pub apart : (o q : ℕ) → 0 < firsts o → firsts o ≡ firsts q → o ≡ q
-  pub afters : (s : Option ℕ) → IsInRow firsts s → Follows firsts s (after s)
-  pub befores : (s : Option ℕ) → IsInRow firsts s → Follows firsts (before s) s
+  pub afters : (s : Option ℕ) → IsInQueue firsts s → ComesNext firsts s (after s)
+  pub befores : (s : Option ℕ) → IsInQueue firsts s → ComesNext firsts (before s) s
 
 -- a put with a step left is the one that is kept in mind
 abbrev pub IsLastPut : Table → Option ℕ → Type 0
@@ -84,13 +84,13 @@ IsLastPut table put = (o : ℕ) (op : Operation) → op_at table o ≡ Some op �
 
 -- what holds of a table at all times
 pub record IsTable (places : Places) (ends : Ends) (put : Option ℕ) : Type 0 where
-  pub row : IsRow (first_at (table_of places)) (after_of places ends) (before_of places ends)
+  pub queue : IsQueue (first_at (table_of places)) (after_of places ends) (before_of places ends)
   pub last_put : IsLastPut (table_of places) put
 
 -- a place that is there, or the end
-abbrev pub IsPlace : Places → Option ℕ → Type 0
-IsPlace places None = Unit {0}
-IsPlace places (Some o) = IsSome (place_at places o)
+abbrev pub IsEndOrPlace : Places → Option ℕ → Type 0
+IsEndOrPlace places None = Unit {0}
+IsEndOrPlace places (Some o) = IsSome (place_at places o)
 
 -- one has a new neighbour after it; all other links and all operations are as they were
 pub record SetsAfter (old : Places) (old_ends : Ends) (new : Places) (new_ends : Ends) (s to : Option ℕ) : Type 0 where
@@ -107,14 +107,14 @@ pub record SetsBefore (old : Places) (old_ends : Ends) (new : Places) (new_ends 
   pub table : table_of new ≡ table_of old
 
 -- two that had one between them are neighbours
-pub record Unlinks (old : Places) (old_ends : Ends) (new : Places) (new_ends : Ends) (s t : Option ℕ) : Type 0 where
+pub record CutsOut (old : Places) (old_ends : Ends) (new : Places) (new_ends : Ends) (s t : Option ℕ) : Type 0 where
   pub after : after_of new new_ends s ≡ t
   pub before : before_of new new_ends t ≡ s
   pub afters : (u : Option ℕ) → u ≢ s → after_of new new_ends u ≡ after_of old old_ends u
   pub befores : (u : Option ℕ) → u ≢ t → before_of new new_ends u ≡ before_of old old_ends u
   pub table : table_of new ≡ table_of old
 
--- an operation that was in no row is its last
+-- an operation that was not in the queue is its last
 pub record LinksLast (old : Places) (old_ends : Ends) (new : Places) (new_ends : Ends) (o : ℕ) : Type 0 where
   pub after : after_of new new_ends (before_of old old_ends None) ≡ Some o
   pub ends : after_of new new_ends (Some o) ≡ None

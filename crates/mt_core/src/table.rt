@@ -1,10 +1,10 @@
 //! The table of operations, in which no call walks from one to the next.
 //!
-//! Each operation has an id, its key in a slab, which is given again once it is free. A row goes
-//! through those that have made a step, from neighbour to neighbour, in the order of their first
-//! steps; so the earliest first step is read at its end, and an operation that leaves is cut out of
-//! it. Invariant: `IsTable` of `specs/Tables.antt`. Memory: one place for each operation, as many as
-//! stood open at once.
+//! Each operation has an id, its key in a slab, which is given again once it is free. Those that have
+//! made a step stand in a queue, in the order of their first steps, in which each names its
+//! neighbours; so the earliest first step is read at its head, and an operation that leaves is cut
+//! out of it. Invariant: `IsTable` of `specs/Tables.antt`. Memory: one place for each operation, as
+//! many as stood open at once.
 
 ghost use Rattle.std.specs.Prelude.{◌≡◌, ◌≢◌, ◌↔◌, ◌≤◌, ℕ, false, [], IsTrue, IfOk, IfErr, OnErr, OnSome, IfNone, Some, None, slice_set, option_copied};
 ghost use Rattle.std.specs.Option.{option_map};
@@ -13,7 +13,7 @@ ghost use Rattle.mt_rows.specs.declared.reply.Reply.{Reply as AnyReply};
 ghost use Rattle.mt_core.specs.declared.operation.Operation.{Operation as AnyOperation};
 
 use crate::operation::{Operation, Progress};
-use crate::row::{Ends, Place, cut, finish_at, link_still, move_at};
+use crate::queue::{Ends, Place, cut, finish_at, link_still, move_at};
 use mt_rows::Refusal;
 use slab::Slab;
 use std::alloc::Global;

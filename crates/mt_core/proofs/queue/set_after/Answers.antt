@@ -1,6 +1,6 @@
 use Rattle.std.proofs.Common.{sym}
 use Rattle.mt_core.proofs.Links.{after_named}
-use Rattle.mt_core.proofs.row.set_after.Goals as goal
+use Rattle.mt_core.proofs.queue.set_after.Goals as goal
 
 pub returns-in-Some-get_mut : goal.returns-in-Some-get_mut
 returns-in-Some-get_mut c =

@@ -1,7 +1,7 @@
 use Rattle.std.proofs.Common.{sym}
 use Rattle.mt_core.specs.declared.operation.Progress.TheVariants.{Judge}
 use Rattle.mt_core.proofs.Links.{moves_by, no_move}
-use Rattle.mt_core.proofs.row.finish_at.Goals as goal
+use Rattle.mt_core.proofs.queue.finish_at.Goals as goal
 
 pub returns-in-Some-clause-moves : goal.returns-in-Some-clause-moves
 returns-in-Some-clause-moves c = (c.finish.new.self.progress, moves_by c.args.places.now.slots c.args.id c.in-Some.place.now c.args.step c.finish.new.self.progress c.finish.new.self (sym c.in-Some.ensures.value) c.finish.ensures.moves)

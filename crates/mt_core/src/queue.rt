@@ -1,4 +1,4 @@
-//! Operations in their places, and the row through those that have made a step.
+//! Operations in their places, and the queue of those that have made a step.
 //!
 //! Each place names its neighbours in the order of first steps. What these functions do to the links
 //! is said link by link; `table.rt` keeps what holds of all of them.
@@ -6,15 +6,15 @@
 ghost use Rattle.std.specs.Prelude.{◌≡◌, ◌≢◌, ◌<◌, ℕ, true, false, Some, None};
 ghost use Rattle.std.specs.Option.{option_map};
 ghost use Rattle.mt_rows.specs.declared.reply.Reply.{Reply as AnyReply};
-ghost use Rattle.mt_core.specs.declared.row.Place.{Place as AnyPlace};
+ghost use Rattle.mt_core.specs.declared.queue.Place.{Place as AnyPlace};
 ghost use Rattle.mt_core.specs.declared.operation.Progress.{Progress as AnyProgress};
 ghost use Rattle.mt_core.specs.Operations.{ending};
-ghost use Rattle.mt_core.specs.Tables.{place_at, is_still, IsPlace, SetsAfter, SetsBefore, Unlinks, LinksLast, Moves};
+ghost use Rattle.mt_core.specs.Tables.{place_at, is_still, IsEndOrPlace, SetsAfter, SetsBefore, CutsOut, LinksLast, Moves};
 
 use crate::operation::{Operation, Progress};
 use slab::Slab;
 
-/// An operation, and its neighbours in the row.
+/// An operation, and its neighbours in the queue.
 #[derive(Drop)]
 pub(crate) struct Place {
     pub operation: Operation,
@@ -22,7 +22,7 @@ pub(crate) struct Place {
     pub after: Option<usize>,
 }
 
-/// The operations at the ends of the row.
+/// The operations at the ends of the queue.
 #[derive(Clone, Copy)]
 pub(crate) struct Ends {
     pub first: Option<usize>,
@@ -68,9 +68,9 @@ pub(crate) fn finish_at(places: &mut Slab<Place>, id: usize, step: u64)
     }
 }
 
-/// Puts an operation behind all others of the row, where it has made no step.
+/// Puts an operation behind all others of the queue, where it has made no step.
 pub(crate) fn link_still(places: &mut Slab<Place>, ends: &mut Ends, id: usize)
-    requires last { IsPlace places.old.slots ends.old.last }
+    requires last { IsEndOrPlace places.old.slots ends.old.last }
     requires new { is_still (place_at places.old.slots id) ≡ true → ends.old.last ≢ Some id }
     ensures links { is_still (place_at places.old.slots id) ≡ true → LinksLast places.old.slots ends.old places.new.slots ends.new id }
     ensures same { is_still (place_at places.old.slots id) ≡ false → (places.new.slots ≡ places.old.slots) × (ends.new ≡ ends.old) }
@@ -82,9 +82,9 @@ pub(crate) fn link_still(places: &mut Slab<Place>, ends: &mut Ends, id: usize)
 
 /// Makes neighbours of the two between which a place was, where its operation has made a step.
 pub(crate) fn cut(places: &mut Slab<Place>, ends: &mut Ends, place: &Place)
-    requires before { 0 < place.now.operation.first → IsPlace places.old.slots place.now.before }
-    requires after { 0 < place.now.operation.first → IsPlace places.old.slots place.now.after }
-    ensures unlinks { 0 < place.now.operation.first → Unlinks places.old.slots ends.old places.new.slots ends.new place.now.before place.now.after }
+    requires before { 0 < place.now.operation.first → IsEndOrPlace places.old.slots place.now.before }
+    requires after { 0 < place.now.operation.first → IsEndOrPlace places.old.slots place.now.after }
+    ensures unlinks { 0 < place.now.operation.first → CutsOut places.old.slots ends.old places.new.slots ends.new place.now.before place.now.after }
     ensures same { place.now.operation.first ≡ 0 → (places.new.slots ≡ places.old.slots) × (ends.new ≡ ends.old) }
 {
     if place.operation.first > 0 {
@@ -92,10 +92,10 @@ pub(crate) fn cut(places: &mut Slab<Place>, ends: &mut Ends, place: &Place)
     }
 }
 
-// Puts an operation behind all others of the row.
+// Puts an operation behind all others of the queue.
 fn link_last(places: &mut Slab<Place>, ends: &mut Ends, id: usize)
-    requires there { IsPlace places.old.slots (Some id) }
-    requires last { IsPlace places.old.slots ends.old.last }
+    requires there { IsEndOrPlace places.old.slots (Some id) }
+    requires last { IsEndOrPlace places.old.slots ends.old.last }
     requires new { ends.old.last ≢ Some id }
     ensures { LinksLast places.old.slots ends.old places.new.slots ends.new id }
 {
@@ -108,17 +108,17 @@ fn link_last(places: &mut Slab<Place>, ends: &mut Ends, id: usize)
 
 // Makes neighbours of two that had one between them.
 fn unlink(places: &mut Slab<Place>, ends: &mut Ends, before: Option<usize>, after: Option<usize>)
-    requires before { IsPlace places.old.slots before }
-    requires after { IsPlace places.old.slots after }
-    ensures { Unlinks places.old.slots ends.old places.new.slots ends.new before after }
+    requires before { IsEndOrPlace places.old.slots before }
+    requires after { IsEndOrPlace places.old.slots after }
+    ensures { CutsOut places.old.slots ends.old places.new.slots ends.new before after }
 {
     set_after(places, ends, before, after);
     set_before(places, ends, after, before);
 }
 
-// Names another neighbour after a place, or the row's first where there is none.
+// Names another neighbour after a place, or the queue's first where there is none.
 fn set_after(places: &mut Slab<Place>, ends: &mut Ends, of: Option<usize>, to: Option<usize>)
-    requires { IsPlace places.old.slots of }
+    requires { IsEndOrPlace places.old.slots of }
     ensures { SetsAfter places.old.slots ends.old places.new.slots ends.new of to }
 {
     match of {
@@ -131,9 +131,9 @@ fn set_after(places: &mut Slab<Place>, ends: &mut Ends, of: Option<usize>, to: O
     }
 }
 
-// Names another neighbour before a place, or the row's last where there is none.
+// Names another neighbour before a place, or the queue's last where there is none.
 fn set_before(places: &mut Slab<Place>, ends: &mut Ends, of: Option<usize>, to: Option<usize>)
-    requires { IsPlace places.old.slots of }
+    requires { IsEndOrPlace places.old.slots of }
     ensures { SetsBefore places.old.slots ends.old places.new.slots ends.new of to }
 {
     match of {

@@ -1,6 +1,6 @@
 use Rattle.std.proofs.Common.{Some, ◌∙◌}
 use Rattle.mt_core.proofs.Links.{place_kept, linked}
-use Rattle.mt_core.proofs.row.link_last.Goals as goal
+use Rattle.mt_core.proofs.queue.link_last.Goals as goal
 
 pub set_after-requires-2 : goal.set_after-requires-2
 set_after-requires-2 c = place_kept c.args.places.now.slots c.set_after.new.places.slots (Some c.args.id) c.set_after.ensures.table c.requires.there
