@@ -1,4 +1,4 @@
--- A numbered step keeps the history of a run; and so does one that ends its operation, with the answer taken.
+-- A numbered step keeps the history of a run, and so does one that ends its operation, with the answer taken: for HistoryEvents.
 use Rattle.std.proofs.Common.{◌≡◌, ◌≢◌, ℕ, zero, suc, ◌+◌, inl, inr, Bool, true, [], ◌∷◌, set, Option, Some, None, sym, refl, ap, subst, ◌∙◌, arith}
 use Rattle.std.proofs.lemmas.Bool.{cases_eq, not-true}
 use Rattle.std.proofs.lemmas.Option.{same_Some}
@@ -27,7 +27,7 @@ taken_none (x ∷ table) (suc n) = taken_none table n
 
 -- what is told of an operation reads no table
 told_without : (story : Story) (v : StateView) (table : Table) (o : ℕ) (op : Operation) → IsTold story v o op → IsTold story (record v { table = table }) o op
-told_without story v table o op k = record { asked_so = k.asked_so; first = k.first; last = k.last; unfinished = k.unfinished; changes = k.changes; own = k.own }
+told_without story v table o op k = record { asked_so = k.asked_so; first = k.first; last = k.last; still = k.still; unfinished = k.unfinished; changes = k.changes; own = k.own }
 
 module _ (quotas : Quotas) (first : Maps) (story : Story) (names : Names) (old new : StateView) (o n : ℕ) (done : Bool) (answer : Option Answer)
     (h : History quotas first story names old) (known : names o ≡ Some (Some n)) (s : IsStep old new n done)
@@ -43,7 +43,7 @@ module _ (quotas : Quotas) (first : Maps) (story : Story) (names : Names) (old n
   right_now : Right quotas first (with_step story o answer) (map_of new) (changed_at new)
   right_now = right_after quotas first story old new o n done answer h.right h.quota h.count h.made s told_before ends
 
-  -- the operation that stepped is the one at its number
+  -- the operation that stepped is the one at its id
   here : (op : Operation) → op_at new.table n ≡ Some op → after ≡ op
   here op at = set_here old.table n after op (ap (λ t. op_at t n) (sym s.table) ∙ at)
 
@@ -53,7 +53,7 @@ module _ (quotas : Quotas) (first : Maps) (story : Story) (names : Names) (old n
   elsewhere : (m : ℕ) → m ≢ n → op_at new.table m ≡ op_at old.table m
   elsewhere m ne = ap (λ t. op_at t m) s.table ∙ set_there old.table n m (Some after) ne
 
-  -- another name stands for another number
+  -- another name stands for another id
   other_number : (q m : ℕ) → q ≢ o → names q ≡ Some (Some m) → m ≢ n
   other_number q m ne e is = ne (h.apart q o n (e ∙ ap (λ k. Some (Some k)) is) known)
 

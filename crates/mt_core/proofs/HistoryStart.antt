@@ -1,4 +1,4 @@
--- Before any event.
+-- Before any event nothing was begun, and the history of no event is right: for `run_events`.
 use Rattle.std.proofs.Common.{◌≡◌, ℕ, ◌≤◌, [], Option, Some, None, sym, refl, ap, subst, ◌∙◌, arith}
 use mathlib.Core.Path.{fun_ext}
 use Rattle.std.specs.FinMap as pairs
@@ -19,8 +19,8 @@ use Rattle.mt_runs.proofs.Growth.{no_story, right_start}
 use Rattle.mt_core.specs.declared.answers.Ticket.{Ticket}
 use Rattle.mt_core.specs.Views.{StateView, op_at, map_of, changed_at, quota_in, quota_of}
 use Rattle.mt_core.specs.Begins.{new_state}
-use Rattle.mt_core.specs.Histories.{no_names, named, History, BringsTo}
-use Rattle.mt_core.proofs.HistoryNames.{number_in}
+use Rattle.mt_core.specs.Histories.{no_names, named, AreById, History, BringsTo}
+use Rattle.mt_core.proofs.HistoryNames.{id_in}
 use Rattle.mt_core.proofs.HistoryMaps.{AreMade, map_of-now}
 
 no_value : {A : Type 0} {a : A} → ◌≡◌ {A = Option A} None (Some a) → ⊥
@@ -52,14 +52,20 @@ history_new logs accounts = history_start (new_state logs accounts) no_pairs (λ
 
 -- an empty map has no names
 unnamed : (names : BTreeMap ℕ (Option Ticket)) → names.entries ≡ [] → named names ≡ no_names
-unnamed names none = fun_ext (λ o. ap (λ es. number_in (lookup (λ q. is_eq (nat_cmp o q)) es)) none)
+unnamed names none = fun_ext (λ o. ap (λ es. id_in (lookup (λ q. is_eq (nat_cmp o q)) es)) none)
 
+-- the history of no event
 pub history_first : (logs : ℕ) (accounts : Accounts) (v : StateView) (names : BTreeMap ℕ (Option Ticket)) → v ≡ new_state logs accounts → names.entries ≡ []
     → History (λ t. quota_in (account_of accounts t)) no_pairs (story_of 0 []) (named names) v
 history_first logs accounts v names is none =
     subst (λ w. History (λ t. quota_in (account_of accounts t)) no_pairs (story_of 0 []) w v) (sym (unnamed names none))
     (subst (History (λ t. quota_in (account_of accounts t)) no_pairs (story_of 0 []) no_names) (sym is) (history_new logs accounts))
 
+-- and no event leads to the new state itself
 pub leads_first : (logs : ℕ) (accounts : Accounts) (v : StateView) (names : BTreeMap ℕ (Option Ticket)) → v ≡ new_state logs accounts → names.entries ≡ []
     → BringsTo no_names (new_state logs accounts) [] (named names) v
 leads_first logs accounts v names is none = (unnamed names none, is)
+
+-- nor are there names by ids
+pub by_id_first : (ids : BTreeMap ℕ ℕ) (names : BTreeMap ℕ (Option Ticket)) → names.entries ≡ [] → AreById ids (named names)
+by_id_first ids names none o n e = absurd (no_value (sym (ap (λ w. w o) (unnamed names none)) ∙ e))

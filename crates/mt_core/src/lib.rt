@@ -10,10 +10,11 @@ pub mod events;
 mod openings;
 pub mod operation;
 pub mod phase;
+mod queue;
 mod reads;
 pub mod shape;
 pub mod state;
-mod tidy;
+mod table;
 
 pub use answers::{Move, Ticket};
 pub use events::{ToldList, run_events};
