@@ -1,0 +1,6 @@
+pub mod Numbers
+pub mod Loop
+pub mod FieldLaws
+pub mod FrameLaws
+pub mod RequestLaws
+pub mod Lists

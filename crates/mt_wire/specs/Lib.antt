@@ -1,0 +1,5 @@
+pub mod Frames
+pub mod Requests
+pub mod Replies
+pub mod Fronts
+pub mod Reading
