@@ -1,5 +1,5 @@
 -- a body that is read is a request's, and one that isn't is none's
-use Rattle.std.proofs.Common.{◌≡◌, Some, None, take, drop, sym, ap, ◌∙◌, arith, inr}
+use Rattle.std.proofs.Common.{◌≡◌, take, drop, sym, ap, ◌∙◌, arith, inr}
 use Rattle.mt_rows.specs.Rows.{Bytes}
 use Rattle.mt_wire.specs.Reading.{request_in}
 use Rattle.mt_wire.proofs.FrameLaws.{whole, bad}
