@@ -1,5 +1,6 @@
 pub mod CommandLaws
 pub mod ContentLaws
 pub mod Indexes
+pub mod Limits
 pub mod RowLaws
 pub mod Sorted

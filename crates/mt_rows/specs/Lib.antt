@@ -1,6 +1,7 @@
 pub mod Rows
 pub mod Changes
 pub mod Commands
+pub mod Limits
 pub mod Maps
 pub mod Tenants
 pub mod Accounts

@@ -10,7 +10,7 @@ ghost use Rattle.std.specs.Cmp.Lexicographic.{slice_cmp};
 ghost use Rattle.std.specs.FinMap as fin;
 ghost use Rattle.mt_rows.specs.Rows.{shown, AreIndexes};
 ghost use Rattle.mt_rows.specs.Changes.{IsChange};
-ghost use Rattle.mt_rows.specs.Commands.{IsTaken};
+ghost use Rattle.mt_rows.specs.Commands.{IsKey, IsTaken};
 ghost use Rattle.mt_rows.specs.Maps.{reply_of, map_after, map_after_put, told_of_put, scanned, is_walked};
 ghost use Rattle.mt_rows.specs.Places.{IsHere, IsGap};
 
@@ -23,17 +23,15 @@ use std::alloc::{AllocError, Global};
 use std::cmp::Ordering;
 use std::marker::Model;
 
-/// A map from keys to rows, in the order of its keys.
+/// A map from keys of at most 251 bytes to rows, in the order of its keys.
 #[derive(Drop)]
 pub struct PlainMap {
     pairs: Vec<(Key, Row)>,
 }
 
 impl Model for PlainMap {
-    ghost use Rattle.std.specs.Prelude.{T};
-    ghost use Rattle.std.specs.Ordering.{nat_cmp};
-    ghost use Rattle.std.specs.Cmp.Lexicographic.{slice_cmp};
     ghost use Rattle.std.specs.FinMap as fin;
+    ghost use Rattle.mt_rows.specs.Limits.{AreEntries};
     ghost use Rattle.mt_rows.specs.Maps.{Map, map_code};
 
     ghost Value = { Map };
@@ -42,7 +40,7 @@ impl Model for PlainMap {
 
     ghost view = { λ m. fin.from_sorted m.pairs.items };
 
-    ghost invariant = { λ m. T (fin.is_sorted (slice_cmp nat_cmp) m.pairs.items) };
+    ghost invariant = { λ m. AreEntries m.pairs.items };
 }
 
 impl PlainMap {
@@ -67,6 +65,7 @@ impl PlainMap {
     }
 
     pub fn insert(&mut self, key: Key, row: Row) -> Result<(), AllocError>
+        requires { IsKey key }
         ensures ok { OnOk result (self.new ≡ fin.insert self.old key row) }
         ensures err { OnErr result (self.new ≡ self.old) }
     {
@@ -89,7 +88,8 @@ impl PlainMap {
         count: u8,
         columns: &ColumnIndexes,
     ) -> Result<PairList, AllocError>
-        requires { AreIndexes columns.now }
+        requires columns { AreIndexes columns.now }
+        requires count { count ≤ 64 }
         ensures { IfOk result (λ ps. ps ≡ scanned from.now after count columns.now self.now) }
     {
         let pairs = walked(alloc, &self.pairs, from, after, count, columns)?;
@@ -140,7 +140,8 @@ impl PlainMap {
         key: Key,
         list: NamedColumns,
     ) -> Result<Reply, AllocError>
-        requires { IsChange list }
+        requires key { IsKey key }
+        requires change { IsChange list }
         ensures reply { IfOk result (λ r. r ≡ told_of_put quota (fin.len self.old) (fin.get self.old key)) }
         ensures map { OnOk result (self.new ≡ map_after_put quota key list self.old (fin.get self.old key)) }
         ensures unchanged_on_err { OnErr result (self.new ≡ self.old) }

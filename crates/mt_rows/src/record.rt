@@ -1,6 +1,7 @@
 //! Placed changes, as a worker hands them to its log.
 
 ghost use Rattle.std.specs.Prelude.{◌≡◌};
+ghost use Rattle.mt_rows.specs.Limits.{AreRecords};
 
 use crate::key::Key;
 use crate::row::Row;
@@ -16,7 +17,7 @@ pub struct Record {
     pub row: Option<Row>,
 }
 
-/// Records in the order of their stamps.
+/// Records by stamps that rise strictly, of keys of at most 251 bytes.
 #[derive(Debug, Drop)]
 pub struct Records {
     records: Vec<Record>,
@@ -25,21 +26,26 @@ pub struct Records {
 impl Model for Records {
     ghost use Rattle.std.specs.Prelude.{List};
     ghost use Rattle.mt_rows.specs.declared.record.Record.{Record};
+    ghost use Rattle.mt_rows.specs.Limits.{AreRecords};
 
     ghost Value = { List Record };
 
     ghost view = { λ r. r.records.items };
+
+    ghost invariant = { λ r. AreRecords r.records.items };
 }
 
 impl Records {
     pub fn new(records: Vec<Record>) -> Self
+        requires { AreRecords records.items }
         ensures { result ≡ records.items }
     {
         Records { records }
     }
 
     pub fn as_slice(&self) -> &[Record]
-        ensures { result.now ≡ self.now }
+        ensures records { result.now ≡ self.now }
+        ensures limits { AreRecords self.now }
     {
         &self.records
     }

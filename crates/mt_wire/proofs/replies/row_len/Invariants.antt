@@ -1,0 +1,10 @@
+use Rattle.std.proofs.Common.{◌≡◌, ◌+◌, ◌*◌, ◌≤◌, length, take}
+use Rattle.std.specs.List.{flat_map}
+use Rattle.mt_wire.specs.Requests.{string}
+use Rattle.mt_wire.proofs.replies.row_len.Given as goal
+
+abbrev pub invariant-loop-column : goal.invariant-loop-column
+invariant-loop-column l = record {
+  exact : l.len ≡ 1 + length (flat_map string (take l.column-index l.columns));
+  few : l.len ≤ 1 + 1026 * l.column-index;
+}

@@ -1,0 +1,6 @@
+pub mod Frames
+pub mod Requests
+pub mod Replies
+pub mod Fronts
+pub mod Reading
+pub mod ReplyReading

@@ -1,0 +1,107 @@
+//! What a client asks and is told.
+
+ghost use Rattle.std.specs.Prelude.{◌≡◌};
+ghost use Rattle.mt_rows.specs.Refusals.{number_of};
+ghost use Rattle.mt_wire.specs.Replies.{IsRefusalNumber};
+
+use mt_rows::{Command, Refusal, Reply};
+use std::marker::Model;
+
+/// What a client asks.
+#[derive(Debug, Drop)]
+pub enum Request {
+    /// To be served as this tenant.
+    Open(u32),
+    /// A command of the opened tenant.
+    Call(Command),
+    /// That all that was answered be kept.
+    Settle,
+}
+
+/// What a client is told.
+#[derive(Debug, Drop)]
+pub enum WireReply {
+    /// The tenant is opened.
+    Opened,
+    /// The reply to a command.
+    Told(Reply),
+    /// All up to this number is kept.
+    Settled(u64),
+    /// Why not.
+    Refused(RefusalNumber),
+}
+
+impl WireReply {
+    /// The reply that refuses for this reason.
+    pub fn refused(refusal: Refusal) -> WireReply
+        ensures { result ≡ WireReply.Refused (number_of refusal) }
+    {
+        WireReply::Refused(RefusalNumber::of(refusal))
+    }
+}
+
+/// The number by which a refusal is told, 1 to 127. A reply tells it alone, without what else the
+/// refusal names.
+#[derive(Debug, Drop)]
+pub struct RefusalNumber {
+    number: u8,
+}
+
+impl Model for RefusalNumber {
+    ghost use Rattle.std.specs.Prelude.{ℕ};
+
+    ghost Value = { ℕ };
+
+    ghost use Rattle.mt_wire.specs.Replies.{IsRefusalNumber};
+
+    ghost view = { λ n. n.number };
+
+    ghost invariant = { λ n. IsRefusalNumber n.number };
+}
+
+impl RefusalNumber {
+    /// The number of a refusal.
+    pub fn of(refusal: Refusal) -> RefusalNumber
+        ensures { result ≡ number_of refusal }
+    {
+        RefusalNumber {
+            number: refusal.number(),
+        }
+    }
+
+    pub(crate) fn new(number: u8) -> RefusalNumber
+        requires { IsRefusalNumber number }
+        ensures { result ≡ number }
+    {
+        RefusalNumber { number }
+    }
+
+    pub fn get(&self) -> u8
+        ensures number { result ≡ self.now }
+        ensures limits { IsRefusalNumber self.now }
+    {
+        self.number
+    }
+}
+
+/// What stands at the front of bytes that ask.
+#[derive(Debug, Drop)]
+pub enum Front {
+    /// A request, in a frame of this many bytes.
+    Whole(Request, usize),
+    /// Less than a frame.
+    Partial,
+    /// What is no frame of a request.
+    Bad,
+}
+
+/// What stands at the front of bytes that tell.
+#[derive(Debug, Drop)]
+pub enum ReplyFront {
+    /// A reply, in a frame of this many bytes.
+    Whole(WireReply, usize),
+    /// Less than a frame.
+    Partial,
+    /// What is no frame of a reply.
+    Bad,
+}
