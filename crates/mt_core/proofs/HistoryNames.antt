@@ -13,20 +13,20 @@ use Rattle.mt_core.specs.declared.answers.Ticket.{Ticket}
 use Rattle.mt_core.specs.Histories.{named, Renames}
 
 -- what a map has for a name is what the name stands for
-abbrev pub number_in : Option (Option Ticket) → Option (Option ℕ)
-number_in w = option_map (option_map (λ (t : Ticket). t.number)) w
+abbrev pub id_in : Option (Option Ticket) → Option (Option ℕ)
+id_in w = option_map (option_map (λ (t : Ticket). t.id)) w
 
-pub named_by : (names : BTreeMap ℕ (Option Ticket)) (o : ℕ) (t : Ticket) → get nat_cmp names o ≡ Some (Some t) → named names o ≡ Some (Some t.number)
-named_by names o t e = ap number_in e
+pub named_by : (names : BTreeMap ℕ (Option Ticket)) (o : ℕ) (t : Ticket) → get nat_cmp names o ≡ Some (Some t) → named names o ≡ Some (Some t.id)
+named_by names o t e = ap id_in e
 
 -- a name stands for one operation
-pub one_number : (names : BTreeMap ℕ (Option Ticket)) (o n m : ℕ) → named names o ≡ Some (Some n) → named names o ≡ Some (Some m) → n ≡ m
-one_number names o n m e f = same_Some n m (same_Some _ _ (sym e ∙ f))
+pub one_id : (names : BTreeMap ℕ (Option Ticket)) (o n m : ℕ) → named names o ≡ Some (Some n) → named names o ≡ Some (Some m) → n ≡ m
+one_id names o n m e f = same_Some n m (same_Some _ _ (sym e ∙ f))
 
 pub named_none : (names : BTreeMap ℕ (Option Ticket)) (o : ℕ) → is_some (get nat_cmp names o) ≡ false → named names o ≡ None
 named_none names o e = by (get nat_cmp names o) e
   where
-    by : (w : Option (Option Ticket)) → is_some w ≡ false → number_in w ≡ None
+    by : (w : Option (Option Ticket)) → is_some w ≡ false → id_in w ≡ None
     by None e = refl
     by (Some t) e = absurd (cc)
 
@@ -39,16 +39,16 @@ other_key o q ne = by (nat_cmp o q) refl
     by Greater e = refl
 
 -- one entry more, or another one at a name
-pub renamed : (old new : BTreeMap ℕ (Option Ticket)) (o : ℕ) (t : Ticket) → Updates nat_cmp old new o (Some (Some t)) → Renames (named old) (named new) o (Some t.number)
+pub renamed : (old new : BTreeMap ℕ (Option Ticket)) (o : ℕ) (t : Ticket) → Updates nat_cmp old new o (Some (Some t)) → Renames (named old) (named new) o (Some t.id)
 renamed old new o t u = record {
-  here = ap number_in u.1;
-  others = λ q ne. ap number_in (u.2 q (other_key o q ne));
+  here = ap id_in u.1;
+  others = λ q ne. ap id_in (u.2 q (other_key o q ne));
 }
 
 is_there : (names : BTreeMap ℕ (Option Ticket)) (o n : ℕ) → named names o ≡ Some (Some n) → IsSome (get nat_cmp names o)
 is_there names o n e = by (get nat_cmp names o) e
   where
-    by : (w : Option (Option Ticket)) → number_in w ≡ Some (Some n) → IsSome w
+    by : (w : Option (Option Ticket)) → id_in w ≡ Some (Some n) → IsSome w
     by None e = absurd (cc)
     by (Some t) e = refl
 

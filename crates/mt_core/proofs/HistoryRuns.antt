@@ -43,7 +43,7 @@ module _ (quotas : Quotas) (first : Maps) (story : Story) (names : Names) (old n
   right_now : Right quotas first (with_step story o answer) (map_of new) (changed_at new)
   right_now = right_after quotas first story old new o n done answer h.right h.quota h.count h.made s told_before ends
 
-  -- the operation that stepped is the one at its number
+  -- the operation that stepped is the one at its id
   here : (op : Operation) → op_at new.table n ≡ Some op → after ≡ op
   here op at = set_here old.table n after op (ap (λ t. op_at t n) (sym s.table) ∙ at)
 
@@ -53,7 +53,7 @@ module _ (quotas : Quotas) (first : Maps) (story : Story) (names : Names) (old n
   elsewhere : (m : ℕ) → m ≢ n → op_at new.table m ≡ op_at old.table m
   elsewhere m ne = ap (λ t. op_at t m) s.table ∙ set_there old.table n m (Some after) ne
 
-  -- another name stands for another number
+  -- another name stands for another id
   other_number : (q m : ℕ) → q ≢ o → names q ≡ Some (Some m) → m ≢ n
   other_number q m ne e is = ne (h.apart q o n (e ∙ ap (λ k. Some (Some k)) is) known)
 

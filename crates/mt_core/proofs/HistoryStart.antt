@@ -20,7 +20,7 @@ use Rattle.mt_core.specs.declared.answers.Ticket.{Ticket}
 use Rattle.mt_core.specs.Views.{StateView, op_at, map_of, changed_at, quota_in, quota_of}
 use Rattle.mt_core.specs.Begins.{new_state}
 use Rattle.mt_core.specs.Histories.{no_names, named, History, BringsTo}
-use Rattle.mt_core.proofs.HistoryNames.{number_in}
+use Rattle.mt_core.proofs.HistoryNames.{id_in}
 use Rattle.mt_core.proofs.HistoryMaps.{AreMade, map_of-now}
 
 no_value : {A : Type 0} {a : A} → ◌≡◌ {A = Option A} None (Some a) → ⊥
@@ -52,7 +52,7 @@ history_new logs accounts = history_start (new_state logs accounts) no_pairs (λ
 
 -- an empty map has no names
 unnamed : (names : BTreeMap ℕ (Option Ticket)) → names.entries ≡ [] → named names ≡ no_names
-unnamed names none = fun_ext (λ o. ap (λ es. number_in (lookup (λ q. is_eq (nat_cmp o q)) es)) none)
+unnamed names none = fun_ext (λ o. ap (λ es. id_in (lookup (λ q. is_eq (nat_cmp o q)) es)) none)
 
 pub history_first : (logs : ℕ) (accounts : Accounts) (v : StateView) (names : BTreeMap ℕ (Option Ticket)) → v ≡ new_state logs accounts → names.entries ≡ []
     → History (λ t. quota_in (account_of accounts t)) no_pairs (story_of 0 []) (named names) v

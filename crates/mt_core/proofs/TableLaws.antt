@@ -1,4 +1,4 @@
--- A table in which one number has another operation, or none, and a new state.
+-- A table in which one id has another operation, or none, and a new state.
 use Rattle.std.proofs.Common.{◌≡◌, ◌≢◌, ℕ, zero, suc, ◌<◌, ◌⊎◌, inl, inr, true, false, [], ◌∷◌, length, set, get_or, Option, Some, None, IsSome, is_some, sym, refl, ap, subst, ◌∙◌, arith}
 use Rattle.std.specs.Prelude.{IfSome, IfNone}
 use Rattle.mt_runs.specs.declared.event.Answer.{Answer}
@@ -107,7 +107,7 @@ module _ (c : Core) (o : ℕ) (op : Operation) (table : Table) (h : StateInvaria
         | inr (other, before) ↦ h.one_put.room q x before put waits
       ]
 
--- nothing is at a number that was given up
+-- nothing is at an id that was given up
 pub gone_is : (table : Table) (o : ℕ) → op_at (set table o None) o ≡ None
 gone_is [] o = refl
 gone_is (x ∷ table) zero = refl

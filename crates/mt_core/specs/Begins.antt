@@ -53,7 +53,7 @@ pub record IsBegun (op : Operation) (worker tenant : ℕ) (command : Command) : 
   pub last : op.last ≡ 0
   pub progress : op.progress ≡ Enter
 
--- an operation more, at a number that was free; all else is as it was
+-- an operation more, at an id that was free; all else is as it was
 pub record Begins (old new : StateView) (o worker tenant : ℕ) (command : Command) : Type 0 where
   pub op : Operation
   pub begun : IsBegun op worker tenant command
@@ -64,7 +64,7 @@ pub record Begins (old new : StateView) (o worker tenant : ℕ) (command : Comma
 
 -- what a begin may answer: a refused one changes nothing
 abbrev pub TellsBegin : StateView → StateView → ℕ → ℕ → Command → Result Ticket Refusal → Type 0
-TellsBegin old new worker tenant command (Ok ticket) = Begins old new ticket.number worker tenant command
+TellsBegin old new worker tenant command (Ok ticket) = Begins old new ticket.id worker tenant command
 TellsBegin old new worker tenant command (Err refusal) = new ≡ old
 
 -- the answer is that of an operation that is finished
@@ -87,5 +87,5 @@ IsEnded table o = (op : Operation) × (op_at table o ≡ Some op) × (is_unfinis
 
 -- what a take may answer: the ticket of an operation that is not finished comes back, and nothing changes
 abbrev pub TellsTake : StateView → StateView → Ticket → Result Answer Ticket → Type 0
-TellsTake old new ticket (Ok answer) = Takes old new ticket.number answer
-TellsTake old new ticket (Err back) = (back ≡ ticket) × (new ≡ old) × ¬ IsEnded old.table ticket.number
+TellsTake old new ticket (Ok answer) = Takes old new ticket.id answer
+TellsTake old new ticket (Err back) = (back ≡ ticket) × (new ≡ old) × ¬ IsEnded old.table ticket.id

@@ -20,7 +20,7 @@ use Rattle.mt_core.specs.Promises.{change_in, IsStep, IsHeldByOther, HasStep}
 use Rattle.mt_core.specs.Refused.{first_fault, cause_of, IsRefusal}
 use Rattle.mt_core.specs.Begins.{IsWorker, MayBegin, Begins, Takes}
 
--- for what each name of a run stands: nothing was begun by it, its operation's answer was taken, or its operation has this number
+-- for what each name of a run stands: nothing was begun by it, its operation's answer was taken, or its operation has this id
 abbrev pub Names : Type 0
 Names = ℕ → Option (Option ℕ)
 
@@ -30,7 +30,7 @@ no_names o = None
 
 -- the names by a map of their tickets
 abbrev pub named : BTreeMap ℕ (Option Ticket) → Names
-named tickets o = option_map (option_map (λ (t : Ticket). t.number)) (get nat_cmp tickets o)
+named tickets o = option_map (option_map (λ (t : Ticket). t.id)) (get nat_cmp tickets o)
 
 -- one name stands for this from now on, and every other for what it did
 pub record Renames (old new : Names) (o : ℕ) (stands : Option ℕ) : Type 0 where

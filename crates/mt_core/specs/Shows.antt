@@ -22,7 +22,7 @@ abbrev pub noted_in : Option Operation → Option Reply
 noted_in None = None
 noted_in (Some op) = noted_of op.progress
 
--- what the next step of the operation of a number does, and the reply that it remembers
+-- what the next step of the operation of an id does, and the reply that it remembers
 abbrev pub phase_at : Table → ℕ → Option Phase
 phase_at table o = phase_in (op_at table o)
 

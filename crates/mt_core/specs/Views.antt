@@ -14,7 +14,7 @@ use Rattle.mt_border.specs.Node.{Node, entries_of}
 use Rattle.mt_core.specs.declared.operation.Operation.{Operation}
 use Rattle.mt_border.specs.Contents.{contents_of}
 
--- the operations by their numbers: those that were begun and whose answer was not taken
+-- the operations by their ids: those that were begun and whose answer was not taken
 abbrev pub Table : Type 0
 Table = List (Option Operation)
 
@@ -50,7 +50,7 @@ shown c = record { steps = c.steps; logs = c.logs; accounts = c.accounts; conten
 abbrev pub contents_code : Coded Contents
 contents_code = pairs.code (coded× coded_ℕ (coded_list coded_ℕ)) (coded_list (coded_list coded_ℕ))
 
--- the operation of a number
+-- the operation of an id
 abbrev pub op_at : Table → ℕ → Option Operation
 op_at table o = slice_index_or table o None
 

@@ -6,16 +6,16 @@ ghost use Rattle.std.specs.Prelude.{◌≡◌};
 /// operation, and gives it back to take the answer.
 #[derive(Debug, Drop)]
 pub struct Ticket {
-    pub(crate) number: usize,
+    pub(crate) id: usize,
 }
 
 impl Ticket {
-    /// The number by which `Move::Again` names the operation. It is given again to a later operation
+    /// The id by which `Move::Again` names the operation. It is given again to a later operation
     /// once this one's answer was taken.
-    pub fn number(&self) -> u64
-        ensures { result ≡ self.now.number }
+    pub fn id(&self) -> u64
+        ensures { result ≡ self.now.id }
     {
-        self.number as u64
+        self.id as u64
     }
 }
 

@@ -151,14 +151,14 @@ fn step_by(state: &mut State, names: &mut BTreeMap<u64, Option<Ticket>>, op: u64
     }
 }
 
-// The name of the operation that has this number.
-fn name_of(names: &BTreeMap<u64, Option<Ticket>>, number: u64) -> u64
-    requires there { (o : ℕ) × (named names.now o ≡ Some (Some number)) }
-    ensures { named names.now result ≡ Some (Some number) }
+// The name of the operation that has this id.
+fn name_of(names: &BTreeMap<u64, Option<Ticket>>, id: u64) -> u64
+    requires there { (o : ℕ) × (named names.now o ≡ Some (Some id)) }
+    ensures { named names.now result ≡ Some (Some id) }
 {
     for name in names.keys() {
         if let Some(Some(ticket)) = names.get(name) {
-            if ticket.number() == number {
+            if ticket.id() == id {
                 return *name;
             }
         }

@@ -117,36 +117,36 @@ pub(crate) fn has_room(root: &Border, operation: &Operation) -> bool
     operation.request.is_get() || !root.is_full() || slot_of(root, &operation.key).is_some()
 }
 
-/// Keeps an operation, at a number that was free.
+/// Keeps an operation, at an id that was free.
 pub(crate) fn keep(operations: &mut Slab<Operation>, operation: Operation) -> Result<usize, Refusal>
     ensures memory { IfErr result (λ refusal. refusal ≡ Refusal.Memory) }
-    ensures vacant { IfOk result (λ number. get operations.old number ≡ None) }
-    ensures kept { IfOk result (λ number. Updates operations.old operations.new number (Some operation)) }
+    ensures vacant { IfOk result (λ id. get operations.old id ≡ None) }
+    ensures kept { IfOk result (λ id. Updates operations.old operations.new id (Some operation)) }
     ensures unchanged_on_err { OnErr result (operations.new.slots ≡ operations.old.slots) }
 {
-    let number = operations.insert(operation)?;
-    Ok(number)
+    let id = operations.insert(operation)?;
+    Ok(id)
 }
 
 /// Takes an operation that is finished out of the table, and tells its answer.
-pub(crate) fn give_up(operations: &mut Slab<Operation>, number: usize) -> Option<Answer>
-    ensures taken { IfSome result (λ answer. (op : AnyOperation) × (get operations.old number ≡ Some op) × IsAnswerOf op answer × (operations.new.slots ≡ slice_set operations.old.slots number None)) }
-    ensures open { IfNone result ((operations.new.slots ≡ operations.old.slots) × ¬ IsEnded operations.old.slots number) }
+pub(crate) fn give_up(operations: &mut Slab<Operation>, id: usize) -> Option<Answer>
+    ensures taken { IfSome result (λ answer. (op : AnyOperation) × (get operations.old id ≡ Some op) × IsAnswerOf op answer × (operations.new.slots ≡ slice_set operations.old.slots id None)) }
+    ensures open { IfNone result ((operations.new.slots ≡ operations.old.slots) × ¬ IsEnded operations.old.slots id) }
 {
-    if !is_ended(operations, number) {
+    if !is_ended(operations, id) {
         return None;
     }
-    match operations.try_remove(number) {
+    match operations.try_remove(id) {
         Some(operation) => Some(answer_of(operation)),
         None => unreachable!(),
     }
 }
 
 // Whether the operation is there, and no step of it is left.
-fn is_ended(operations: &Slab<Operation>, number: usize) -> bool
-    ensures { IsTrue result ↔ IsEnded operations.now.slots number }
+fn is_ended(operations: &Slab<Operation>, id: usize) -> bool
+    ensures { IsTrue result ↔ IsEnded operations.now.slots id }
 {
-    match operations.get(number) {
+    match operations.get(id) {
         Some(operation) => matches!(&operation.progress, Progress::Finished { .. }),
         None => false,
     }

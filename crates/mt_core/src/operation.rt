@@ -178,35 +178,35 @@ impl Operation {
 /// An operation makes the step of this number; gives back what it remembered.
 pub(crate) fn advance(
     operations: &mut Slab<Operation>,
-    number: usize,
+    id: usize,
     step: u64,
     progress: Progress,
 ) -> Option<Progress>
-    ensures remembered { result ≡ option_map (λ op. op.progress) (get operations.old number) }
-    ensures moved { (before : AnyOperation) → get operations.old number ≡ Some before →
-        operations.new.slots ≡ slice_set operations.old.slots number (Some (moved before step progress)) }
+    ensures remembered { result ≡ option_map (λ op. op.progress) (get operations.old id) }
+    ensures moved { (before : AnyOperation) → get operations.old id ≡ Some before →
+        operations.new.slots ≡ slice_set operations.old.slots id (Some (moved before step progress)) }
 {
-    match operations.get_mut(number) {
+    match operations.get_mut(id) {
         Some(operation) => Some(operation.advance(step, progress)),
         None => None,
     }
 }
 
 /// An operation makes the step of this number, and drops what it remembered.
-pub(crate) fn go_on(operations: &mut Slab<Operation>, number: usize, step: u64, progress: Progress)
-    ensures { (before : AnyOperation) → get operations.old number ≡ Some before →
-        operations.new.slots ≡ slice_set operations.old.slots number (Some (moved before step progress)) }
+pub(crate) fn go_on(operations: &mut Slab<Operation>, id: usize, step: u64, progress: Progress)
+    ensures { (before : AnyOperation) → get operations.old id ≡ Some before →
+        operations.new.slots ≡ slice_set operations.old.slots id (Some (moved before step progress)) }
 {
-    let _ = advance(operations, number, step, progress);
+    let _ = advance(operations, id, step, progress);
 }
 
 /// An operation makes the step of this number, its last one, with the reply that it remembers.
-pub(crate) fn finish(operations: &mut Slab<Operation>, number: usize, step: u64)
-    ensures { (before : AnyOperation) (reply : AnyReply) (at : ℕ) → get operations.old number ≡ Some before →
+pub(crate) fn finish(operations: &mut Slab<Operation>, id: usize, step: u64)
+    ensures { (before : AnyOperation) (reply : AnyReply) (at : ℕ) → get operations.old id ≡ Some before →
         ending before.progress ≡ Some (reply, at) →
-        operations.new.slots ≡ slice_set operations.old.slots number (Some (moved before step (Progress.Finished reply at))) }
+        operations.new.slots ≡ slice_set operations.old.slots id (Some (moved before step (Progress.Finished reply at))) }
 {
-    if let Some(operation) = operations.get_mut(number) {
+    if let Some(operation) = operations.get_mut(id) {
         operation.finish(step);
     }
 }

@@ -17,7 +17,7 @@ ghost use Rattle.mt_tape.specs.Tapes.{last_write};
 ghost use Rattle.slab.specs.Slab.{get, ContainsKey};
 
 use crate::operation::{Operation, Progress, Request};
-use mt_border::{Border, Find, Held, FoundKind, Pair, Suffix};
+use mt_border::{Border, Find, FoundKind, Held, Pair, Suffix};
 use mt_rows::{Reply, Row, Tenants, merge};
 use mt_slices::StoredKey;
 use mt_tape::{Entry, Tape};
@@ -106,21 +106,21 @@ pub(crate) fn out_of_memory(step: u64) -> Progress
 }
 
 /// Where an operation goes on from a version: a get looks, a put locks.
-pub(crate) fn turn(operations: &Slab<Operation>, number: usize, seen: Version) -> Progress
-    ensures { (op : AnyOperation) → get operations.now number ≡ Some op → result ≡ turned op seen }
+pub(crate) fn turn(operations: &Slab<Operation>, id: usize, seen: Version) -> Progress
+    ensures { (op : AnyOperation) → get operations.now id ≡ Some op → result ≡ turned op seen }
 {
-    match operations.get(number) {
+    match operations.get(id) {
         Some(operation) if operation.request.is_get() => Progress::Search { seen },
         _ => Progress::Lock { seen },
     }
 }
 
 /// The slot of an operation's key.
-pub(crate) fn slot_at(root: &Border, operations: &Slab<Operation>, number: usize) -> Option<usize>
-    requires { (op : AnyOperation) → get operations.now number ≡ Some op → length op.key ≤ 8 }
-    ensures { (op : AnyOperation) → get operations.now number ≡ Some op → TellsSlot root.now op.key result }
+pub(crate) fn slot_at(root: &Border, operations: &Slab<Operation>, id: usize) -> Option<usize>
+    requires { (op : AnyOperation) → get operations.now id ≡ Some op → length op.key ≤ 8 }
+    ensures { (op : AnyOperation) → get operations.now id ≡ Some op → TellsSlot root.now op.key result }
 {
-    let operation = operations.get(number)?;
+    let operation = operations.get(id)?;
     slot_of(root, &operation.key)
 }
 
@@ -131,12 +131,12 @@ pub(crate) fn taken_at(
     root: &Border,
     slot: usize,
     operations: &Slab<Operation>,
-    number: usize,
+    id: usize,
 ) -> Option<(Reply, Option<u64>)>
-    requires { (op : AnyOperation) → get operations.now number ≡ Some op → HasColumns (command_of op.request) }
-    ensures { (op : AnyOperation) → get operations.now number ≡ Some op → IfSome result (TellsTaken root.now slot op) }
+    requires { (op : AnyOperation) → get operations.now id ≡ Some op → HasColumns (command_of op.request) }
+    ensures { (op : AnyOperation) → get operations.now id ≡ Some op → IfSome result (TellsTaken root.now slot op) }
 {
-    let operation = operations.get(number)?;
+    let operation = operations.get(id)?;
     match shown_at(alloc, root, slot, &operation.request) {
         Ok(Some((reply, stamp))) => Some((reply, Some(operation.first.max(stamp)))),
         Ok(None) => Some((Reply::Absent, None)),
@@ -151,14 +151,14 @@ pub(crate) fn ready_at(
     root: &Border,
     tape: &mut Tape,
     operations: &Slab<Operation>,
-    number: usize,
+    id: usize,
 ) -> Option<Progress>
-    requires { (op : AnyOperation) → get operations.now number ≡ Some op → length op.key ≤ 8 }
-    ensures prepared { (op : AnyOperation) → get operations.now number ≡ Some op → IfSome result (λ next. TellsPrepared root.now op (Some next)) }
+    requires { (op : AnyOperation) → get operations.now id ≡ Some op → length op.key ≤ 8 }
+    ensures prepared { (op : AnyOperation) → get operations.now id ≡ Some op → IfSome result (λ next. TellsPrepared root.now op (Some next)) }
     ensures reserved { IfSome result (λ next. tape.new ≡ record tape.old { reserved = tape.old.reserved + 1 }) }
     ensures unchanged_on_none { IfNone result (tape.new ≡ tape.old) }
 {
-    let operation = operations.get(number)?;
+    let operation = operations.get(id)?;
     let next = prepared(alloc, root, operation)?;
     match tape.reserve() {
         Ok(()) => Some(next),
@@ -180,15 +180,15 @@ fn prepared(alloc: Global, root: &Border, operation: &Operation) -> Option<Progr
 /// The entry of an operation's key with this row, placed by this step.
 pub(crate) fn entry_of(
     operations: &Slab<Operation>,
-    number: usize,
+    id: usize,
     suffix: Suffix,
     row: Row,
     step: u64,
 ) -> mt_border::Entry
-    requires { ContainsKey operations.now number }
-    ensures { (op : AnyOperation) → get operations.now number ≡ Some op → result ≡ new_entry op suffix row step }
+    requires { ContainsKey operations.now id }
+    ensures { (op : AnyOperation) → get operations.now id ≡ Some op → result ≡ new_entry op suffix row step }
 {
-    let key = &operations[number].key;
+    let key = &operations[id].key;
     mt_border::Entry {
         slice: key.slice(0),
         mark: key.mark(0),
@@ -201,11 +201,11 @@ pub(crate) fn entry_of(
 }
 
 /// Counts one pair more of an operation's tenant, where its quota has room.
-pub(crate) fn count_at(tenants: &mut Tenants, operations: &Slab<Operation>, number: usize) -> bool
-    ensures counts { (op : AnyOperation) → get operations.now number ≡ Some op → CountsNew tenants.old tenants.new op.tenant result }
+pub(crate) fn count_at(tenants: &mut Tenants, operations: &Slab<Operation>, id: usize) -> bool
+    ensures counts { (op : AnyOperation) → get operations.now id ≡ Some op → CountsNew tenants.old tenants.new op.tenant result }
     ensures same { result ≡ false → tenants.new ≡ tenants.old }
 {
-    match operations.get(number) {
+    match operations.get(id) {
         Some(operation) => tenants.count_new(operation.tenant),
         None => false,
     }

@@ -1,6 +1,6 @@
 //! The state and its calls.
 //!
-//! Invariant: `StateInvariant` of `specs/StateInvariant.antt`. It owns its node, its tape and its operations. Errors:
+//! Invariant: `StateInvariant` of `specs/Invariant.antt`. It owns its node, its tape and its operations. Errors:
 //! refusals of `begin`, which change nothing. Units: steps by their numbers, which begin at 1.
 
 ghost use Rattle.std.specs.Prelude.{◌≡◌, ◌+◌, ◌<◌, ◌≤◌, ◌^◌, ◌↔◌, ℕ, IsTrue, IfOk, false, max, Some, None};
@@ -114,15 +114,15 @@ impl State {
         if self.steps >= MAX_STEPS {
             return Err(Refusal::Spent);
         }
-        let number = keep(&mut self.operations, operation)?;
-        Ok(Ticket { number })
+        let id = keep(&mut self.operations, operation)?;
+        Ok(Ticket { id })
     }
 
     /// The answer of an operation that is finished; else its ticket comes back.
     pub fn take(&mut self, ticket: Ticket) -> Result<Answer, Ticket>
         ensures { TellsTake self.old self.new ticket result }
     {
-        match give_up(&mut self.operations, ticket.number) {
+        match give_up(&mut self.operations, ticket.id) {
             Some(answer) => Ok(answer),
             None => Err(ticket),
         }
@@ -137,17 +137,17 @@ impl State {
 
     /// What the operation's next step does; nothing, where no step of it is left.
     pub fn phase(&self, ticket: &Ticket) -> Option<Phase>
-        ensures { result ≡ phase_at self.now.table ticket.now.number }
+        ensures { result ≡ phase_at self.now.table ticket.now.id }
     {
-        self.operations.get(ticket.number)?.progress.phase()
+        self.operations.get(ticket.id)?.progress.phase()
     }
 
     /// The reply that a get remembers, which it answers where its next step finds the node's keys
     /// as they were.
     pub fn noted(&self, ticket: &Ticket) -> Option<&Reply>
-        ensures { option_map (λ r. r.now) result ≡ noted_at self.now.table ticket.now.number }
+        ensures { option_map (λ r. r.now) result ≡ noted_at self.now.table ticket.now.id }
     {
-        match &self.operations.get(ticket.number)?.progress {
+        match &self.operations.get(ticket.id)?.progress {
             Progress::Confirm { reply, .. } => Some(reply),
             _ => None,
         }
@@ -187,10 +187,10 @@ impl State {
 
     /// Makes one step of an operation.
     pub fn step(&mut self, ticket: &Ticket) -> Move
-        ensures { Tells self.old self.new ticket.now.number result }
+        ensures { Tells self.old self.new ticket.now.id result }
     {
-        let number = ticket.number;
-        let Some(operation) = self.operations.get(number) else {
+        let id = ticket.id;
+        let Some(operation) = self.operations.get(id) else {
             return Move::NoSuch;
         };
         if let Progress::Finished { .. } = &operation.progress {
@@ -200,10 +200,10 @@ impl State {
             return Move::Spent;
         }
         match &operation.progress {
-            Progress::Enter => self.enter(number),
+            Progress::Enter => self.enter(id),
             Progress::Search { seen } => {
                 let seen = *seen;
-                self.search(number, seen)
+                self.search(id, seen)
             }
             Progress::Load {
                 seen,
@@ -211,24 +211,24 @@ impl State {
                 searched,
             } => {
                 let (seen, slot, searched) = (*seen, *slot, *searched);
-                self.load(number, seen, slot, searched)
+                self.load(id, seen, slot, searched)
             }
             Progress::Confirm { seen, .. } => {
                 let seen = *seen;
-                self.confirm(number, seen)
+                self.confirm(id, seen)
             }
             Progress::Forward { seen } => {
                 let seen = *seen;
-                self.forward(number, seen)
+                self.forward(id, seen)
             }
             Progress::Lock { seen } => {
                 let seen = *seen;
-                self.lock(number, seen)
+                self.lock(id, seen)
             }
-            Progress::Judge => self.judge(number),
-            Progress::Store { .. } => self.store(number),
-            Progress::Publish { .. } => self.publish(number),
-            Progress::Unlock { .. } => self.unlock(number),
+            Progress::Judge => self.judge(id),
+            Progress::Store { .. } => self.store(id),
+            Progress::Publish { .. } => self.publish(id),
+            Progress::Unlock { .. } => self.unlock(id),
             Progress::Finished { .. } => Move::NoSuch,
         }
     }
@@ -236,8 +236,8 @@ impl State {
     /// Makes steps of an operation as long as it moves, `MOST_STEPS` at most, and answers what the last
     /// one answered. An operation that is alone from its first step on is done.
     pub fn run_alone(&mut self, ticket: &Ticket) -> Move
-        ensures runs { Runs self.old self.new ticket.now.number result }
-        ensures alone { (op : AnyOperation) → IsAlone self.old ticket.now.number op → EndsAlone self.old self.new ticket.now.number op result }
+        ensures runs { Runs self.old self.new ticket.now.id result }
+        ensures alone { (op : AnyOperation) → IsAlone self.old ticket.now.id op → EndsAlone self.old self.new ticket.now.id op result }
     {
         for _ in 0..MOST_STEPS {
             match self.step(ticket) {
@@ -249,10 +249,10 @@ impl State {
     }
 
     // Remembers the root's version.
-    fn enter(&mut self, number: usize) -> Move
-        requires next { IsNext self.old number Progress.Enter }
+    fn enter(&mut self, id: usize) -> Move
+        requires next { IsNext self.old id Progress.Enter }
         requires few { self.old.steps < 2 ^ 59 }
-        ensures { Tells self.old self.new number result }
+        ensures { Tells self.old self.new id result }
     {
         let seen = self.root.version();
         if let Some(holder) = marker(seen, self.holder) {
@@ -261,52 +261,52 @@ impl State {
             };
         }
         self.steps += 1;
-        let progress = turn(&self.operations, number, seen);
-        go_on(&mut self.operations, number, self.steps, progress);
+        let progress = turn(&self.operations, id, seen);
+        go_on(&mut self.operations, id, self.steps, progress);
         Move::Moved
     }
 
     // Looks for the key.
-    fn search(&mut self, number: usize, seen: Version) -> Move
-        requires next { IsNext self.old number (Progress.Search seen) }
+    fn search(&mut self, id: usize, seen: Version) -> Move
+        requires next { IsNext self.old id (Progress.Search seen) }
         requires few { self.old.steps < 2 ^ 59 }
-        ensures { Tells self.old self.new number result }
+        ensures { Tells self.old self.new id result }
     {
-        let found = slot_at(&self.root, &self.operations, number);
+        let found = slot_at(&self.root, &self.operations, id);
         self.steps += 1;
         let progress = searched(seen, found, self.steps);
-        go_on(&mut self.operations, number, self.steps, progress);
+        go_on(&mut self.operations, id, self.steps, progress);
         Move::Moved
     }
 
     // Takes the row of the slot that was found.
-    fn load(&mut self, number: usize, seen: Version, slot: usize, searched: u64) -> Move
-        requires next { IsNext self.old number (Progress.Load seen slot searched) }
+    fn load(&mut self, id: usize, seen: Version, slot: usize, searched: u64) -> Move
+        requires next { IsNext self.old id (Progress.Load seen slot searched) }
         requires few { self.old.steps < 2 ^ 59 }
-        ensures { Tells self.old self.new number result }
+        ensures { Tells self.old self.new id result }
     {
-        let taken = taken_at(self.alloc, &self.root, slot, &self.operations, number);
+        let taken = taken_at(self.alloc, &self.root, slot, &self.operations, id);
         self.steps += 1;
         match taken {
             Some((reply, at)) => {
                 let at = at.unwrap_or(searched);
                 let progress = Progress::Confirm { seen, reply, at };
-                go_on(&mut self.operations, number, self.steps, progress);
+                go_on(&mut self.operations, id, self.steps, progress);
                 Move::Moved
             }
             None => {
                 let progress = out_of_memory(self.steps);
-                go_on(&mut self.operations, number, self.steps, progress);
+                go_on(&mut self.operations, id, self.steps, progress);
                 Move::Done
             }
         }
     }
 
     // Compares the version with the one that was remembered.
-    fn confirm(&mut self, number: usize, seen: Version) -> Move
-        requires next { (reply : AnyReply) × (at : ℕ) × IsNext self.old number (Progress.Confirm seen reply at) }
+    fn confirm(&mut self, id: usize, seen: Version) -> Move
+        requires next { (reply : AnyReply) × (at : ℕ) × IsNext self.old id (Progress.Confirm seen reply at) }
         requires few { self.old.steps < 2 ^ 59 }
-        ensures { Tells self.old self.new number result }
+        ensures { Tells self.old self.new id result }
     {
         let version = self.root.version();
         if let Some(holder) = marker(version, self.holder) {
@@ -316,31 +316,31 @@ impl State {
         }
         self.steps += 1;
         if version.same_but_lock(seen) {
-            finish(&mut self.operations, number, self.steps);
+            finish(&mut self.operations, id, self.steps);
             return Move::Done;
         }
         let progress = left(version);
-        go_on(&mut self.operations, number, self.steps, progress);
+        go_on(&mut self.operations, id, self.steps, progress);
         Move::Moved
     }
 
     // There is no next node: goes back.
-    fn forward(&mut self, number: usize, seen: Version) -> Move
-        requires next { IsNext self.old number (Progress.Forward seen) }
+    fn forward(&mut self, id: usize, seen: Version) -> Move
+        requires next { IsNext self.old id (Progress.Forward seen) }
         requires few { self.old.steps < 2 ^ 59 }
-        ensures { Tells self.old self.new number result }
+        ensures { Tells self.old self.new id result }
     {
         self.steps += 1;
-        let progress = turn(&self.operations, number, seen);
-        go_on(&mut self.operations, number, self.steps, progress);
+        let progress = turn(&self.operations, id, seen);
+        go_on(&mut self.operations, id, self.steps, progress);
         Move::Moved
     }
 
     // Takes the lock, where the node still has the keys that it had.
-    fn lock(&mut self, number: usize, seen: Version) -> Move
-        requires next { IsNext self.old number (Progress.Lock seen) }
+    fn lock(&mut self, id: usize, seen: Version) -> Move
+        requires next { IsNext self.old id (Progress.Lock seen) }
         requires few { self.old.steps < 2 ^ 59 }
-        ensures { Tells self.old self.new number result }
+        ensures { Tells self.old self.new id result }
     {
         if let Some(holder) = self.holder {
             return Move::Again {
@@ -351,56 +351,50 @@ impl State {
         let version = self.root.version();
         if version.is_deleted() || version.splits() != seen.splits() {
             let progress = left(version);
-            go_on(&mut self.operations, number, self.steps, progress);
+            go_on(&mut self.operations, id, self.steps, progress);
             return Move::Moved;
         }
         self.root.set_version(version.locked());
-        self.holder = Some(number);
-        go_on(&mut self.operations, number, self.steps, Progress::Judge);
+        self.holder = Some(id);
+        go_on(&mut self.operations, id, self.steps, Progress::Judge);
         Move::Moved
     }
 
     // Looks for the key under the lock, and makes all growths of the placing step.
-    fn judge(&mut self, number: usize) -> Move
-        requires next { IsNext self.old number Progress.Judge }
+    fn judge(&mut self, id: usize) -> Move
+        requires next { IsNext self.old id Progress.Judge }
         requires few { self.old.steps < 2 ^ 59 }
-        ensures { Tells self.old self.new number result }
+        ensures { Tells self.old self.new id result }
     {
         self.steps += 1;
-        let ready = ready_at(
-            self.alloc,
-            &self.root,
-            &mut self.tape,
-            &self.operations,
-            number,
-        );
+        let ready = ready_at(self.alloc, &self.root, &mut self.tape, &self.operations, id);
         match ready {
             Some(progress) => {
-                go_on(&mut self.operations, number, self.steps, progress);
+                go_on(&mut self.operations, id, self.steps, progress);
                 Move::Moved
             }
             None => {
                 self.root.set_version(self.root.version().unlocked());
                 self.holder = None;
                 let progress = out_of_memory(self.steps);
-                go_on(&mut self.operations, number, self.steps, progress);
+                go_on(&mut self.operations, id, self.steps, progress);
                 Move::Done
             }
         }
     }
 
     // Writes the row over the one that is there.
-    fn store(&mut self, number: usize) -> Move
-        requires next { (slot : ℕ) × (row : Columns) × (entry : AnyEntry) × IsNext self.old number (Progress.Store slot row entry) }
+    fn store(&mut self, id: usize) -> Move
+        requires next { (slot : ℕ) × (row : Columns) × (entry : AnyEntry) × IsNext self.old id (Progress.Store slot row entry) }
         requires few { self.old.steps < 2 ^ 59 }
-        ensures { Tells self.old self.new number result }
+        ensures { Tells self.old self.new id result }
     {
         self.steps += 1;
         let placed = Progress::Unlock {
             reply: Reply::Replaced,
             at: self.steps,
         };
-        let ready = advance(&mut self.operations, number, self.steps, placed);
+        let ready = advance(&mut self.operations, id, self.steps, placed);
         let Some(Progress::Store { slot, row, entry }) = ready else {
             unreachable!()
         };
@@ -410,18 +404,18 @@ impl State {
     }
 
     // Judges the quota, and makes the pair live.
-    fn publish(&mut self, number: usize) -> Move
-        requires next { (suffix : Bytes) × (row : Columns) × (entry : AnyEntry) × IsNext self.old number (Progress.Publish suffix row entry) }
+    fn publish(&mut self, id: usize) -> Move
+        requires next { (suffix : Bytes) × (row : Columns) × (entry : AnyEntry) × IsNext self.old id (Progress.Publish suffix row entry) }
         requires few { self.old.steps < 2 ^ 59 }
-        ensures { Tells self.old self.new number result }
+        ensures { Tells self.old self.new id result }
     {
         self.steps += 1;
-        if !count_at(&mut self.tenants, &self.operations, number) {
+        if !count_at(&mut self.tenants, &self.operations, id) {
             let placed = Progress::Unlock {
                 reply: Reply::Full,
                 at: self.steps,
             };
-            go_on(&mut self.operations, number, self.steps, placed);
+            go_on(&mut self.operations, id, self.steps, placed);
             self.tape.release();
             return Move::Moved;
         }
@@ -429,26 +423,26 @@ impl State {
             reply: Reply::New,
             at: self.steps,
         };
-        let ready = advance(&mut self.operations, number, self.steps, placed);
+        let ready = advance(&mut self.operations, id, self.steps, placed);
         let Some(Progress::Publish { suffix, row, entry }) = ready else {
             unreachable!()
         };
-        let added = entry_of(&self.operations, number, suffix, row, self.steps);
+        let added = entry_of(&self.operations, id, suffix, row, self.steps);
         add_entry(&mut self.root, added);
         push_write(&mut self.tape, entry, self.steps);
         Move::Moved
     }
 
     // Gives the lock back.
-    fn unlock(&mut self, number: usize) -> Move
-        requires next { (reply : AnyReply) × (at : ℕ) × IsNext self.old number (Progress.Unlock reply at) }
+    fn unlock(&mut self, id: usize) -> Move
+        requires next { (reply : AnyReply) × (at : ℕ) × IsNext self.old id (Progress.Unlock reply at) }
         requires few { self.old.steps < 2 ^ 59 }
-        ensures { Tells self.old self.new number result }
+        ensures { Tells self.old self.new id result }
     {
         self.steps += 1;
         self.root.set_version(self.root.version().unlocked());
         self.holder = None;
-        finish(&mut self.operations, number, self.steps);
+        finish(&mut self.operations, id, self.steps);
         Move::Done
     }
 }

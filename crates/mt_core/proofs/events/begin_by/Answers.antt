@@ -14,9 +14,9 @@ returns-in-Err-clause-tells c = (
 
 pub returns-in_ok-insert-in-Ok-clause-tells : goal.returns-in_ok-insert-in-Ok-clause-tells
 returns-in_ok-insert-in-Ok-clause-tells c = (
-  c.in-Ok.ticket.number,
+  c.in-Ok.ticket.id,
   named_none c.args.names.now c.args.op (sym c.if-contains_key.ensures),
   renamed c.args.names.now c.insert.new.self c.args.op c.in-Ok.ticket c.in_ok-insert-in-Ok.ensures.updates,
-  subst (Begins c.args.state.now c.begin.new.self c.in-Ok.ticket.number c.args.worker c.args.tenant) c.in_ok-copied.ensures c.in-Ok.ensures.told,
+  subst (Begins c.args.state.now c.begin.new.self c.in-Ok.ticket.id c.args.worker c.args.tenant) c.in_ok-copied.ensures c.in-Ok.ensures.told,
   subst (λ command. cause_of c.args.state.now c.args.tenant command ≡ None) c.in_ok-copied.ensures c.in-Ok.ensures.refused,
 )

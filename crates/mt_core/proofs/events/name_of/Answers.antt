@@ -7,4 +7,4 @@ pub loop-name-init : goal.loop-name-init
 loop-name-init c =
     let o = c.requires.there.0 in
     let rest = c.into_iter-name-iterator.ensures.into_iter_gives ∙ c.keys-name-items.ensures.rest in
-    (o, c.requires.there.1, subst (λ ks. Contains ks o) (sym rest) (is_among c.args.names.now o c.args.number c.requires.there.1))
+    (o, c.requires.there.1, subst (λ ks. Contains ks o) (sym rest) (is_among c.args.names.now o c.args.id c.requires.there.1))

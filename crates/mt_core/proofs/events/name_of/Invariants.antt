@@ -5,4 +5,4 @@ use Rattle.mt_core.proofs.events.name_of.Given as goal
 
 -- the name is among those that are left
 abbrev pub invariant-loop-name : goal.invariant-loop-name
-invariant-loop-name l = (o : ℕ) × (named l.names o ≡ Some (Some l.number)) × Contains l.name-iterator o
+invariant-loop-name l = (o : ℕ) × (named l.names o ≡ Some (Some l.id)) × Contains l.name-iterator o

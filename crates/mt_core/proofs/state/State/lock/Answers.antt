@@ -14,13 +14,13 @@ passes c = left_behind c.self.inside.root.version c.version-version.result c.arg
 ])
 
 pub invariant_of-self : goal.invariant_of-self
-invariant_of-self c = (passed_done (core_of c.self.inside) _ c.args.number _ c.self.view_is c.self.invariant c.requires.few c.args.seen c.requires.next (passes c) (by_progress (core_of c.self.inside) c.args.number _ _ _ (c.left-progress.ensures ∙ ap left c.version-version.ensures) c.go_on.ensures)).0
+invariant_of-self c = (passed_done (core_of c.self.inside) _ c.args.id _ c.self.view_is c.self.invariant c.requires.few c.args.seen c.requires.next (passes c) (by_progress (core_of c.self.inside) c.args.id _ _ _ (c.left-progress.ensures ∙ ap left c.version-version.ensures) c.go_on.ensures)).0
 
 pub returns-then-is_deleted : goal.returns-then-is_deleted
-returns-then-is_deleted c = (passed_done (core_of c.self.inside) _ c.args.number _ c.self.view_is c.self.invariant c.requires.few c.args.seen c.requires.next (passes c) (by_progress (core_of c.self.inside) c.args.number _ _ _ (c.left-progress.ensures ∙ ap left c.version-version.ensures) c.go_on.ensures)).1
+returns-then-is_deleted c = (passed_done (core_of c.self.inside) _ c.args.id _ c.self.view_is c.self.invariant c.requires.few c.args.seen c.requires.next (passes c) (by_progress (core_of c.self.inside) c.args.id _ _ _ (c.left-progress.ensures ∙ ap left c.version-version.ensures) c.go_on.ensures)).1
 
 pub invariant_of-self-2 : goal.invariant_of-self-2
-invariant_of-self-2 c = (written_done (core_of c.self.inside) _ c.args.number _ _ _ _ false _ _ _ (lock_done (core_of c.self.inside) _ c.args.number _ c.self.view_is c.self.invariant c.requires.few c.args.seen c.requires.next c.in_default.not-Some c.go_on-2.ensures) c.set_version.ensures (c.locked.ensures.value ∙ ap with_lock c.version-version.ensures) refl).0
+invariant_of-self-2 c = (written_done (core_of c.self.inside) _ c.args.id _ _ _ _ false _ _ _ (lock_done (core_of c.self.inside) _ c.args.id _ c.self.view_is c.self.invariant c.requires.few c.args.seen c.requires.next c.in_default.not-Some c.go_on-2.ensures) c.set_version.ensures (c.locked.ensures.value ∙ ap with_lock c.version-version.ensures) refl).0
 
 pub returns : goal.returns
-returns c = (written_done (core_of c.self.inside) _ c.args.number _ _ _ _ false _ _ _ (lock_done (core_of c.self.inside) _ c.args.number _ c.self.view_is c.self.invariant c.requires.few c.args.seen c.requires.next c.in_default.not-Some c.go_on-2.ensures) c.set_version.ensures (c.locked.ensures.value ∙ ap with_lock c.version-version.ensures) refl).1
+returns c = (written_done (core_of c.self.inside) _ c.args.id _ _ _ _ false _ _ _ (lock_done (core_of c.self.inside) _ c.args.id _ c.self.view_is c.self.invariant c.requires.few c.args.seen c.requires.next c.in_default.not-Some c.go_on-2.ensures) c.set_version.ensures (c.locked.ensures.value ∙ ap with_lock c.version-version.ensures) refl).1

@@ -4,22 +4,22 @@ use Rattle.mt_core.proofs.AloneRuns.{running_first, alone_goes_on, alone_stops, 
 use Rattle.mt_core.proofs.state.State.run_alone.Goals as goal
 
 pub loop-init : goal.loop-init
-loop-init c = record { going = going_first c.args.self.now c.args.ticket.now.number; running = λ op alone. running_first c.args.self.now c.args.ticket.now.number op alone }
+loop-init c = record { going = going_first c.args.self.now c.args.ticket.now.id; running = λ op alone. running_first c.args.self.now c.args.ticket.now.id op alone }
 
 pub loop-preserved : goal.loop-preserved
 loop-preserved c = record {
-  going = going_on c.args.self.now c.loop.self c.step.new.self c.args.ticket.now.number c.loop.counter c.loop.invariant.going c.in-Moved.ensures;
-  running = λ op alone. alone_goes_on c.args.self.now c.loop.self c.step.new.self c.args.ticket.now.number op c.loop.counter (c.loop.invariant.running op alone) c.in-Moved.ensures;
+  going = going_on c.args.self.now c.loop.self c.step.new.self c.args.ticket.now.id c.loop.counter c.loop.invariant.going c.in-Moved.ensures;
+  running = λ op alone. alone_goes_on c.args.self.now c.loop.self c.step.new.self c.args.ticket.now.id op c.loop.counter (c.loop.invariant.running op alone) c.in-Moved.ensures;
 }
 
 pub returns-in_default : goal.returns-in_default
 returns-in_default c = record {
-  runs = run_stops c.args.self.now c.loop.self c.step.new.self c.args.ticket.now.number c.loop.counter c.step.result c.loop-test.true c.loop.invariant.going c.in_default.not-Moved c.step.ensures;
-  alone = λ op alone. alone_stops c.args.self.now c.loop.self c.step.new.self c.args.ticket.now.number op c.loop.counter c.step.result c.loop-test.true alone (c.loop.invariant.running op alone) c.in_default.not-Moved c.step.ensures;
+  runs = run_stops c.args.self.now c.loop.self c.step.new.self c.args.ticket.now.id c.loop.counter c.step.result c.loop-test.true c.loop.invariant.going c.in_default.not-Moved c.step.ensures;
+  alone = λ op alone. alone_stops c.args.self.now c.loop.self c.step.new.self c.args.ticket.now.id op c.loop.counter c.step.result c.loop-test.true alone (c.loop.invariant.running op alone) c.in_default.not-Moved c.step.ensures;
 }
 
 pub returns : goal.returns
 returns c = record {
-  runs = run_over c.args.self.now c.loop.self c.args.ticket.now.number c.loop.counter (omega (arith, c.loop-test.false, c.loop.auto.counter-end)) c.loop.invariant.going;
-  alone = λ op alone. alone_over c.args.self.now c.loop.self c.args.ticket.now.number op c.loop.counter (omega (arith, c.loop-test.false, c.loop.auto.counter-end)) (c.loop.invariant.running op alone);
+  runs = run_over c.args.self.now c.loop.self c.args.ticket.now.id c.loop.counter (omega (arith, c.loop-test.false, c.loop.auto.counter-end)) c.loop.invariant.going;
+  alone = λ op alone. alone_over c.args.self.now c.loop.self c.args.ticket.now.id op c.loop.counter (omega (arith, c.loop-test.false, c.loop.auto.counter-end)) (c.loop.invariant.running op alone);
 }

@@ -7,6 +7,6 @@ use Rattle.mt_core.proofs.state.State.run_alone.Given as goal
 -- the steps so far lead here; and an operation that is alone has made them all, and has one left
 abbrev pub invariant-loop : goal.invariant-loop
 invariant-loop l = record {
-  going : IsGoing l.initial.self l.self l.ticket.number l.counter;
-  running : (op : Operation) → IsAlone l.initial.self l.ticket.number op → IsRunning l.initial.self l.self l.ticket.number op l.counter;
+  going : IsGoing l.initial.self l.self l.ticket.id l.counter;
+  running : (op : Operation) → IsAlone l.initial.self l.ticket.id op → IsRunning l.initial.self l.self l.ticket.id op l.counter;
 }
