@@ -1,46 +1,61 @@
--- What is written grows.
-use Rattle.std.proofs.Common.{◌≡◌, ℕ, List, [], ◌++◌, Option, Some, None, sym, ◌∙◌, ap, append_assoc, append-nil, take, drop}
-use Rattle.std.specs.Io.KnownBytes.{Appends, Keeps}
-use Rattle.std.proofs.lemmas.List.{take-append-drop}
-use Rattle.mt_lines.specs.Streams.{OnlyAppends}
+-- What reads and writes do to known bytes: for `next_byte`, `write_text` and `run_script`.
+use Rattle.std.proofs.Common.{◌≡◌, ℕ, ◌+◌, ◌≤◌, List, [], ◌++◌, Option, None, Some, refl, sym, ap, ◌∙◌, append_assoc, append-nil, take, drop, take-append-drop}
+use Rattle.std.specs.Io.KnownBytes.{Keeps, Appends, Consumes}
 
--- what grows by one text and then another grows by both
-pub appends_twice : (a b c : Option (List ℕ)) (xs ys : List ℕ) → Appends a b xs → Appends b c ys → Appends a c (xs ++ ys)
-appends_twice None b c xs ys h k = tt
-appends_twice (Some a) None c xs ys h k = absurd h
-appends_twice (Some a) (Some b) None xs ys h k = absurd k
-appends_twice (Some a) (Some b) (Some c) xs ys h k = k ∙ ap (λ s. s ++ ys) h ∙ append_assoc a xs ys
+pub Consumes-nil : (a : Option (List ℕ)) → Consumes a a []
+Consumes-nil None = tt
+Consumes-nil (Some x) = refl
 
--- nothing more
-pub appends_nothing : (a : Option (List ℕ)) → Appends a a []
-appends_nothing None = tt
-appends_nothing (Some a) = sym (append-nil a)
+pub Appends-nil : (a : Option (List ℕ)) → Appends a a []
+Appends-nil None = tt
+Appends-nil (Some x) = sym (append-nil x)
 
-pub grows_nothing : (a : Option (List ℕ)) → OnlyAppends a a
-grows_nothing a = ([], appends_nothing a)
+pub Appends-trans : (a b c : Option (List ℕ)) (bs cs : List ℕ) → Appends a b bs → Appends b c cs → Appends a c (bs ++ cs)
+Appends-trans None b c bs cs p q = tt
+Appends-trans (Some x) None c bs cs p q = absurd p
+Appends-trans (Some x) (Some y) None bs cs p q = absurd q
+Appends-trans (Some x) (Some y) (Some z) bs cs p q = q ∙ ap (λ l. l ++ cs) p ∙ append_assoc x bs cs
 
-pub grows_by : (a b : Option (List ℕ)) (xs : List ℕ) → Appends a b xs → OnlyAppends a b
-grows_by a b xs h = (xs, h)
+pub Consumes-trans : (a b c : Option (List ℕ)) (bs cs : List ℕ) → Consumes a b bs → Consumes b c cs → Consumes a c (bs ++ cs)
+Consumes-trans None b c bs cs p q = tt
+Consumes-trans (Some x) None c bs cs p q = absurd p
+Consumes-trans (Some x) (Some y) None bs cs p q = absurd q
+Consumes-trans (Some x) (Some y) (Some z) bs cs p q = p ∙ ap (λ l. bs ++ l) q ∙ sym (append_assoc bs cs z)
 
--- one growth after another
-pub grows_twice : (a b c : Option (List ℕ)) → OnlyAppends a b → OnlyAppends b c → OnlyAppends a c
-grows_twice a b c (xs, h) (ys, k) = (xs ++ ys, appends_twice a b c xs ys h k)
+pub Keeps-refl : (a : Option (List ℕ)) → Keeps a a
+Keeps-refl None = tt
+Keeps-refl (Some x) = refl
 
--- what keeps its bytes grows by nothing
-pub keeps_appends : (a b : Option (List ℕ)) → Keeps a b → Appends a b []
-keeps_appends None b h = tt
-keeps_appends (Some a) None h = absurd h
-keeps_appends (Some a) (Some b) h = h ∙ sym (append-nil a)
+pub Keeps-trans : (a b c : Option (List ℕ)) → Keeps a b → Keeps b c → Keeps a c
+Keeps-trans None b c p q = tt
+Keeps-trans (Some x) None c p q = absurd p
+Keeps-trans (Some x) (Some y) None p q = absurd q
+Keeps-trans (Some x) (Some y) (Some z) p q = q ∙ p
 
-pub keeps_grows : (a b : Option (List ℕ)) → Keeps a b → OnlyAppends a b
-keeps_grows a b h = ([], keeps_appends a b h)
+pub kept_consumes : (a b c : Option (List ℕ)) (bs : List ℕ) → Keeps a b → Consumes b c bs → Consumes a c bs
+kept_consumes None b c bs p q = tt
+kept_consumes (Some x) None c bs p q = absurd p
+kept_consumes (Some x) (Some y) None bs p q = absurd q
+kept_consumes (Some x) (Some y) (Some z) bs p q = sym p ∙ q
 
--- the front of a text was written, and then the front of what was left
-pub writes_on : (a b c : Option (List ℕ)) (front rest later text : List ℕ) (n : ℕ) → front ++ rest ≡ text → Appends a b front → Appends b c (take n rest) → later ≡ drop n rest → (x : List ℕ) × (x ++ later ≡ text) × Appends a c x
-writes_on a b c front rest later text n whole h k e = (front ++ take n rest, append_assoc front (take n rest) later ∙ ap (λ s. front ++ (take n rest ++ s)) e ∙ ap (λ s. front ++ s) (take-append-drop n rest) ∙ whole, appends_twice a b c front (take n rest) h k)
+pub kept_appends : (a b c : Option (List ℕ)) (bs : List ℕ) → Appends a b bs → Keeps b c → Appends a c bs
+kept_appends None b c bs p q = tt
+kept_appends (Some x) None c bs p q = absurd p
+kept_appends (Some x) (Some y) None bs p q = absurd q
+kept_appends (Some x) (Some y) (Some z) bs p q = q ∙ p
 
--- nothing was written
-pub writes_nothing : (a b c : Option (List ℕ)) (front rest later text : List ℕ) → front ++ rest ≡ text → Appends a b front → Keeps b c → later ≡ rest → (x : List ℕ) × (x ++ later ≡ text) × Appends a c x
-writes_nothing a b c front rest later text whole h k e = (front ++ [], ap (λ s. s ++ later) (append-nil front) ∙ ap (λ s. front ++ s) e ∙ whole, appends_twice a b c front [] h (keeps_appends b c k))
+pub Consumes-kept : (a b c : Option (List ℕ)) (bs : List ℕ) → Consumes a b bs → Keeps b c → Consumes a c bs
+Consumes-kept None b c bs p q = tt
+Consumes-kept (Some x) None c bs p q = absurd p
+Consumes-kept (Some x) (Some y) None bs p q = absurd q
+Consumes-kept (Some x) (Some y) (Some z) bs p q = p ∙ ap (λ l. bs ++ l) (sym q)
 
-pub ruleset stream_rules = (grows_nothing, grows_by, grows_twice, keeps_grows)
+-- what consumes nothing keeps its bytes
+pub Consumes-none : (a b : Option (List ℕ)) → Consumes a b [] → Keeps a b
+Consumes-none None b p = tt
+Consumes-none (Some x) None p = absurd p
+Consumes-none (Some x) (Some y) p = sym p
+
+-- n more bytes of what was left to write
+pub moves_front : (all done rest : List ℕ) (n : ℕ) → all ≡ done ++ rest → all ≡ (done ++ take n rest) ++ drop n rest
+moves_front all done rest n e = e ∙ ap (λ l. done ++ l) (sym (take-append-drop n rest)) ∙ sym (append_assoc done (take n rest) (drop n rest))

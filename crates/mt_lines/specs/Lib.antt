@@ -1,7 +1,10 @@
-pub mod Answers
 pub mod Line
 pub mod Lines
+pub mod Names
+pub mod Scripts
 pub mod Sessions
+pub mod Stores
 pub mod Streams
 pub mod Text
+pub mod Turns
 pub mod Words

@@ -1,5 +1,5 @@
 -- What is kept of the line that is being read.
-use Rattle.std.specs.Prelude.{ℕ, Bool, true, false, ◌||◌, ◌==◌, cond, nat_lt, List, [], ◌∷◌, ◌++◌, length, take, Option, Some, None}
+use Rattle.std.specs.Prelude.{ℕ, Bool, true, ◌||◌, cond, nat_lt, List, [], ◌∷◌, ◌++◌, length, take, Option, Some, None}
 use Rattle.std.specs.Io.BufRead.{strip_last}
 
 -- the front of a line: at most its first 65,537 bytes, and whether it has more
@@ -18,11 +18,6 @@ without_return front = record { bytes = cond front.cut front.bytes (strip_last 1
 -- the whole line, where it is not too long
 abbrev pub whole_line : Front → Option (List ℕ)
 whole_line front = cond (front.cut || nat_lt 65536 (length front.bytes)) None (Some front.bytes)
-
--- whether the line is a comment
-abbrev pub is_comment : List ℕ → Bool
-is_comment [] = false
-is_comment (byte ∷ bytes) = byte == 35
 
 -- the front with one byte more
 abbrev pub with_byte : Front → ℕ → Front

@@ -1,7 +1,14 @@
--- What a script does to the bytes that its writer holds.
-use Rattle.std.specs.Prelude.{ℕ, List, Option}
-use Rattle.std.specs.Io.KnownBytes.{Appends}
+-- How often a reader or a writer failed, where it tells.
+use Rattle.std.specs.Prelude.{ℕ, ◌<◌, ◌≤◌, Option, None, Some}
 
--- what was written before stands, and more may stand behind it
-abbrev pub OnlyAppends : Option (List ℕ) → Option (List ℕ) → Type 0
-OnlyAppends old new = (more : List ℕ) × Appends old new more
+-- it failed no less often than before
+abbrev pub NoFewer : Option ℕ → Option ℕ → Type 0
+NoFewer None new = Unit {0}
+NoFewer (Some n) None = ⊥
+NoFewer (Some n) (Some m) = n ≤ m
+
+-- it has failed since
+abbrev pub Failed : Option ℕ → Option ℕ → Type 0
+Failed None new = Unit {0}
+Failed (Some n) None = ⊥
+Failed (Some n) (Some m) = n < m

@@ -5,14 +5,14 @@ use Rattle.hex.specs.Hex.{encode_lower}
 use Rattle.mt_rows.specs.declared.command.Command.{Command}
 use Rattle.mt_rows.specs.declared.command.Command.TheVariants.{Get, Put, Remove, Scan}
 use Rattle.mt_rows.specs.declared.reply.Reply.{Reply}
-use Rattle.mt_rows.specs.declared.reply.Reply.TheVariants.{Absent, Found, New, Replaced, Full, Removed, Pairs, NoMemory}
+use Rattle.mt_rows.specs.declared.reply.Reply.TheVariants.{Absent, Found, New, Replaced, Full, Removed, Pairs, NoMemory as NoMemoryReply}
 use Rattle.mt_rows.specs.Refusals.{number_of}
 use Rattle.mt_runs.specs.declared.event.Answer.{Answer}
 use Rattle.mt_core.specs.declared.shape.ShapeLine.{ShapeLine}
 use Rattle.mt_core.specs.Names as phases
 use Rattle.mt_core.specs.Shapes.{line_text}
 use Rattle.mt_lines.specs.declared.response.Response.{Response}
-use Rattle.mt_lines.specs.declared.response.Response.TheVariants.{Taken, Refused, Begun, At, Moved, Again, Memory, Spent, NoSuch, Done, Shape, BadLine}
+use Rattle.mt_lines.specs.declared.response.Response.TheVariants.{Taken, Refused, Begun, At, Moved, Again, NoMemory, Spent, NoSuch, Done, Shape, BadLine}
 
 -- the columns that a command names, none for all
 abbrev pub columns_of : Command → List ℕ
@@ -61,7 +61,7 @@ reply_text asked Replaced = codes "replaced"
 reply_text asked Full = codes "full"
 reply_text asked Removed = codes "removed"
 reply_text asked (Pairs list) = pairs_text asked list
-reply_text asked NoMemory = codes "memory"
+reply_text asked NoMemoryReply = codes "memory"
 
 -- the line of an operation that is done
 abbrev pub answer_text : Answer → List ℕ
@@ -80,7 +80,7 @@ IsText (Begun name) text = text ≡ codes "begun " ++ decimal name ++ codes "\n"
 IsText (At phase) text = text ≡ codes "at " ++ phases.name_of phase ++ codes "\n"
 IsText Moved text = text ≡ codes "moved\n"
 IsText (Again name) text = text ≡ codes "again " ++ decimal name ++ codes "\n"
-IsText Memory text = text ≡ codes "memory\n"
+IsText NoMemory text = text ≡ codes "memory\n"
 IsText Spent text = text ≡ codes "spent\n"
 IsText NoSuch text = text ≡ codes "none\n"
 IsText (Done answer) text = text ≡ answer_text answer

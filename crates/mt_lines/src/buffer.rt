@@ -3,9 +3,10 @@
 //! It keeps as much of a line as decides what the line is: of one that is too long the front alone,
 //! so its memory is bounded whatever is read. Units: bytes.
 
-ghost use Rattle.std.specs.Prelude.{◌≡◌, [], IsTrue, ◌↔◌, OnOk, OnErr};
+ghost use Rattle.std.specs.Prelude.{◌≡◌, [], OnOk, OnErr};
 ghost use Rattle.std.specs.Option.{option_map};
-ghost use Rattle.mt_lines.specs.Lines.{front_of, with_byte, without_return, whole_line, is_comment};
+ghost use Rattle.mt_lines.specs.Lines.{front_of, with_byte, without_return, whole_line};
+ghost use Rattle.mt_lines.specs.Scripts.{is_silent};
 
 use std::alloc::{AllocError, Global};
 use std::marker::Model;
@@ -75,20 +76,13 @@ impl LineBuffer {
         Some(&self.bytes)
     }
 
-    /// Whether the line has no bytes.
-    pub fn is_empty(&self) -> bool
-        ensures { IsTrue result ↔ (self.now.bytes ≡ []) }
-    {
-        self.bytes.is_empty()
-    }
-
-    /// Whether the line is a comment.
-    pub fn is_comment(&self) -> bool
-        ensures { result ≡ is_comment self.now.bytes }
+    /// Whether the line has no answer: it is empty, or a comment.
+    pub fn is_silent(&self) -> bool
+        ensures { result ≡ is_silent self.now.bytes }
     {
         match self.bytes.as_slice() {
             [first, ..] => *first == b'#',
-            [] => false,
+            [] => true,
         }
     }
 

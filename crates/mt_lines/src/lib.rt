@@ -7,9 +7,12 @@
 mod buffer;
 mod fault;
 pub mod line;
+pub mod names;
 pub mod response;
 pub mod script;
 pub mod session;
+pub mod store;
+pub mod streams;
 mod words;
 
 pub use script::{ScriptFault, run_script};

@@ -24,7 +24,7 @@ pub enum Response {
     /// The node is held by the operation of this name.
     Again(u32),
     /// A growth was refused; the operation stands.
-    Memory,
+    NoMemory,
     /// All step numbers are given.
     Spent,
     /// No operation of this name is open.
@@ -52,7 +52,7 @@ pub fn push_response(
         Response::At(phase) => write!(text, "at {phase}\n"),
         Response::Moved => text.push_str("moved\n"),
         Response::Again(name) => write!(text, "again {name}\n"),
-        Response::Memory => text.push_str("memory\n"),
+        Response::NoMemory => text.push_str("memory\n"),
         Response::Spent => text.push_str("spent\n"),
         Response::NoSuch => text.push_str("none\n"),
         Response::Done(answer) => push_answer(alloc, text, answer),
