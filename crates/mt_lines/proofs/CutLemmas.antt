@@ -7,8 +7,9 @@ use Rattle.std.proofs.lemmas.List.{take-append-le, length-append, length-take, t
 use Rattle.mt_lines.specs.Line.{line_of}
 use Rattle.mt_lines.specs.declared.line.Line.{Line}
 use Rattle.mt_lines.specs.Lines.{Front, front_of, with_byte, without_return, whole_line}
-use Rattle.mt_lines.specs.Scripts.{Bytes, Cut, cut_at, cut_behind, cut_of, is_silent, asked_by}
-use Rattle.mt_lines.specs.Turns.{asked_in}
+use Rattle.mt_rows.specs.Rows.{Bytes}
+use Rattle.mt_lines.specs.Scripts.{Cut, cut_at, cut_behind, cut_of, is_silent, meaning_of}
+use Rattle.mt_lines.specs.Turns.{meaning_in}
 
 -- one byte more
 pub cut_behind-more : (cut : Cut) (bytes : Bytes) (byte : ℕ) → cut_behind cut (bytes ++ byte ∷ []) ≡ cut_at (cut_behind cut bytes) byte
@@ -64,21 +65,21 @@ strip_length : (l : Bytes) (b : Bool) → length l ≤ length (cond b (take (len
 strip_length l true = omega (arith, length-take (length l - 1) l)
 strip_length l false = omega arith
 
-asked_case : (b : Bool) (l : Bytes) → asked_in (cond b None (Some l)) ≡ cond b None (line_of l)
+asked_case : (b : Bool) (l : Bytes) → meaning_in (cond b None (Some l)) ≡ cond b None (line_of l)
 asked_case true l = refl
 asked_case false l = refl
 
 -- what a front tells of its line: whether it is silent, and what it asks for
-pub record TellsOf (front : Front) (line : Bytes) : Type 0 where
+pub record FrontTells (front : Front) (line : Bytes) : Type 0 where
   pub silent : is_silent front.bytes ≡ is_silent line
-  pub asked : asked_in (whole_line front) ≡ asked_by line
+  pub asked : meaning_in (whole_line front) ≡ meaning_of line
 
 -- of a line that is not cut
-tells_whole : (line : Bytes) → TellsOf (record { bytes = line; cut = false }) line
+tells_whole : (line : Bytes) → FrontTells (record { bytes = line; cut = false }) line
 tells_whole line = record { silent = refl; asked = asked_case (nat_lt 65536 (length line)) line }
 
 -- of one that is
-tells_cut : (bytes line : Bytes) → is_silent bytes ≡ is_silent line → 65536 < length line → TellsOf (record { bytes = bytes; cut = true }) line
+tells_cut : (bytes line : Bytes) → is_silent bytes ≡ is_silent line → 65536 < length line → FrontTells (record { bytes = bytes; cut = true }) line
 tells_cut bytes line same long = record { silent = same; asked = sym (ap (λ b. cond b None (line_of line)) (less 65536 (length line) long)) }
 
 front_short : (l : Bytes) → length l ≤ 65537 → front_of l ≡ record { bytes = l; cut = false }
@@ -87,18 +88,18 @@ front_short l short = ap (λ k. record { bytes = k; cut = nat_lt 65537 (length l
 front_long : (l : Bytes) → 65537 < length l → front_of l ≡ record { bytes = take 65537 l; cut = true }
 front_long l long = ap (λ b. record { bytes = take 65537 l; cut = b }) (less 65537 (length l) long)
 
-last_case : (l : Bytes) → ((65537 < length l) ⊎ (length l ≤ 65537)) → TellsOf (front_of l) l
-last_case l (inl long) = subst (λ (f : Front). TellsOf f l) (sym (front_long l long)) (tells_cut (take 65537 l) l (silent_take 65537 l (omega arith)) (omega arith))
-last_case l (inr short) = subst (λ (f : Front). TellsOf f l) (sym (front_short l short)) (tells_whole l)
+last_case : (l : Bytes) → ((65537 < length l) ⊎ (length l ≤ 65537)) → FrontTells (front_of l) l
+last_case l (inl long) = subst (λ (f : Front). FrontTells f l) (sym (front_long l long)) (tells_cut (take 65537 l) l (silent_take 65537 l (omega arith)) (omega arith))
+last_case l (inr short) = subst (λ (f : Front). FrontTells f l) (sym (front_short l short)) (tells_whole l)
 
 -- of the last line, which has no end
-pub last_tells : (l : Bytes) → TellsOf (front_of l) l
+pub last_tells : (l : Bytes) → FrontTells (front_of l) l
 last_tells l = last_case l (less_or_not 65537 (length l))
 
-ended_case : (l : Bytes) → ((65537 < length l) ⊎ (length l ≤ 65537)) → TellsOf (without_return (front_of l)) (strip_last 13 l)
-ended_case l (inl long) = subst (λ (f : Front). TellsOf (without_return f) (strip_last 13 l)) (sym (front_long l long)) (tells_cut (take 65537 l) (strip_last 13 l) (silent_take 65537 l (omega arith) ∙ sym (strip_case l (ends_with_byte 13 l) (omega arith))) (omega (arith, strip_length l (ends_with_byte 13 l))))
-ended_case l (inr short) = subst (λ (f : Front). TellsOf (without_return f) (strip_last 13 l)) (sym (front_short l short)) (tells_whole (strip_last 13 l))
+ended_case : (l : Bytes) → ((65537 < length l) ⊎ (length l ≤ 65537)) → FrontTells (without_return (front_of l)) (strip_last 13 l)
+ended_case l (inl long) = subst (λ (f : Front). FrontTells (without_return f) (strip_last 13 l)) (sym (front_long l long)) (tells_cut (take 65537 l) (strip_last 13 l) (silent_take 65537 l (omega arith) ∙ sym (strip_case l (ends_with_byte 13 l) (omega arith))) (omega (arith, strip_length l (ends_with_byte 13 l))))
+ended_case l (inr short) = subst (λ (f : Front). FrontTells (without_return f) (strip_last 13 l)) (sym (front_short l short)) (tells_whole (strip_last 13 l))
 
 -- of a line that ended
-pub ended_tells : (l : Bytes) → TellsOf (without_return (front_of l)) (strip_last 13 l)
+pub ended_tells : (l : Bytes) → FrontTells (without_return (front_of l)) (strip_last 13 l)
 ended_tells l = ended_case l (less_or_not 65537 (length l))

@@ -7,11 +7,12 @@ use Rattle.mt_lines.specs.declared.script.ScriptFault.{ScriptFault}
 use Rattle.mt_lines.specs.declared.script.ScriptFault.TheVariants.{Read, Write, Memory}
 use Rattle.mt_lines.specs.declared.session.Session.{Session}
 use Rattle.mt_lines.specs.Lines.{Front, front_of, without_return}
-use Rattle.mt_lines.specs.Scripts.{Bytes, Cut, cut_of, lines_of, AreAnswered, IsAnswered, IsFront, IsUnread, IsCause, StopsAtLine, RunsScript}
+use Rattle.mt_rows.specs.Rows.{Bytes}
+use Rattle.mt_lines.specs.Scripts.{Cut, cut_of, lines_of, AreLinesAnswered, IsLineAnswered, IsFront, IsUnread, IsCause, StopsAtLine, RunsScript}
 use Rattle.mt_lines.specs.Sessions.{fresh}
 use Rattle.mt_lines.specs.Turns.{AnswersFront, Writes, TakesByte}
 use Rattle.mt_lines.proofs.CutLemmas.{cut_of-more, last_tells}
-use Rattle.mt_lines.proofs.ScriptLemmas.{Progress, AreAnswered-more, front_answered, feed_cut, feed_answered, other_cut}
+use Rattle.mt_lines.proofs.ScriptLemmas.{Progress, AreLinesAnswered-more, front_answered, feed_cut, feed_answered, other_cut}
 use Rattle.mt_lines.proofs.StreamLemmas.{Appends-trans, Consumes-trans, Consumes-kept}
 
 -- the reader failed, or gave as many bytes as can be counted
@@ -46,7 +47,7 @@ record IsAt (before left held holds : Option Bytes) (session : Session) (line : 
   lines_before : List Bytes
   consumed : Consumes before left read
   appended : Appends held holds text
-  answered : AreAnswered fresh lines_before session text
+  answered : AreLinesAnswered fresh lines_before session text
   lines : lines_of read ≡ lines_before ++ line ∷ behind
 
 -- it stops there with nothing of that line written, where a growth was refused
@@ -64,7 +65,7 @@ memory_fails before left held holds now session line behind reader_failed writer
 
 -- it stops there with a front of the answer written, where the writer failed
 write_fails : (before left held holds now : Option Bytes) (session new : Session) (line : Bytes) (behind : List Bytes) (front lost : Bytes) (reader_failed writer_failed : Type 0) (error : _) → IsUnread (Write error) behind
-    → IsAt before left held holds session line behind → IsAnswered session line new (front ++ lost) → Appends holds now front → writer_failed → RunsScript before left held now reader_failed writer_failed (Err (Write error))
+    → IsAt before left held holds session line behind → IsLineAnswered session line new (front ++ lost) → Appends holds now front → writer_failed → RunsScript before left held now reader_failed writer_failed (Err (Write error))
 write_fails before left held holds now session new line behind front lost reader_failed writer_failed error unread p a more failed = record {
   read = p.read;
   written = p.text ++ front;
@@ -77,7 +78,7 @@ write_fails before left held holds now session new line behind front lost reader
 
 -- what was to be written of the line was not
 line_fails : (before left held holds now : Option Bytes) (session new : Session) (line : Bytes) (behind : List Bytes) (kept : Front) (reader_failed writer_failed failing : Type 0) (fault : ScriptFault) → (failing → writer_failed)
-    → ((behind ≡ []) ⊎ (behind ≡ [] ∷ [])) → IsAt before left held holds session line behind → ((text : Bytes) → AnswersFront session kept new text → IsAnswered session line new text)
+    → ((behind ≡ []) ⊎ (behind ≡ [] ∷ [])) → IsAt before left held holds session line behind → ((text : Bytes) → AnswersFront session kept new text → IsLineAnswered session line new text)
     → Writes (AnswersFront session kept new) holds now failing (Err fault) → RunsScript before left held now reader_failed writer_failed (Err fault)
 line_fails before left held holds now session new line behind kept reader_failed writer_failed failing (Read e) since unread p says w = absurd w
 line_fails before left held holds now session new line behind kept reader_failed writer_failed failing (Write e) since unread p says (front, lost, a, more, failed) =
@@ -130,7 +131,7 @@ at_end before a b held h session front count p kept = record {
 }
 
 -- the answer to the last line
-last_answered : (read : Bytes) (front : Front) (old new : Session) (text : Bytes) → front ≡ front_of (cut_of read).last → AnswersFront old front new text → IsAnswered old (cut_of read).last new text
+last_answered : (read : Bytes) (front : Front) (old new : Session) (text : Bytes) → front ≡ front_of (cut_of read).last → AnswersFront old front new text → IsLineAnswered old (cut_of read).last new text
 last_answered read front old new text e a = front_answered (front_of (cut_of read).last) (cut_of read).last old new text (last_tells (cut_of read).last) (subst (λ (f : Front). AnswersFront old f new text) e a)
 
 -- all was read
@@ -141,7 +142,7 @@ ends before a b held h k old new front count reader_failed writer_failed failing
   written = p.text ++ answer;
   consumed = Consumes-kept before a b p.read p.consumed kept;
   appended = Appends-trans held h k p.text answer p.appended more;
-  whole = (done, (new, AreAnswered-more fresh old new (cut_of p.read).ended (cut_of p.read).last p.text answer p.answered (last_answered p.read front old new answer p.front_is says)));
+  whole = (done, (new, AreLinesAnswered-more fresh old new (cut_of p.read).ended (cut_of p.read).last p.text answer p.answered (last_answered p.read front old new answer p.front_is says)));
   beginning = tt;
   cause = tt;
 }

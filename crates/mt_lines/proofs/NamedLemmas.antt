@@ -16,14 +16,14 @@ use Rattle.mt_core.specs.Begins.{Begins, Takes}
 use Rattle.mt_core.specs.Tidies.{Tidies}
 use Rattle.mt_core.proofs.Tables.{set_is, set_there}
 use Rattle.mt_core.proofs.TableLaws.{gone_is, gone_others}
-use Rattle.mt_lines.specs.Names.{Named, operation_of, TakesName, FreesName}
-use Rattle.mt_lines.specs.Stores.{AreNamed, IsOpen, TellsMove, Walks, EndsWalk, IsWalk, GivesUp, StoreView}
+use Rattle.mt_lines.specs.Names.{Tickets, operation_of, TakesName, FreesName}
+use Rattle.mt_lines.specs.Stores.{HaveOneName, IsInTable, TellsMove, Walks, EndsWalk, IsWalk, GivesUp, StoreView}
 
 -- the same operations are open
 abbrev pub SameOpen : Table → Table → Type 0
 SameOpen old new = (q : ℕ) → is_some (op_at new q) ≡ is_some (op_at old q)
 
-pub named_same : (old new : Table) (named : Named) → SameOpen old new → AreNamed old named → AreNamed new named
+pub named_same : (old new : Table) (named : Tickets) → SameOpen old new → HaveOneName old named → HaveOneName new named
 named_same old new named same a = record {
   each = λ o there. a.each o (sym (same o) ∙ there);
   one = a.one;
@@ -69,11 +69,11 @@ no_both : false ≡ true → ⊥
 no_both e = absurd cc
 
 -- no name stands for an operation that is not open
-pub unnamed : (table : Table) (named : Named) (o : ℕ) → AreNamed table named → op_at table o ≡ None → (other : ℕ) → operation_of named other ≢ Some o
+pub unnamed : (table : Table) (named : Tickets) (o : ℕ) → HaveOneName table named → op_at table o ≡ None → (other : ℕ) → operation_of named other ≢ Some o
 unnamed table named o a free other e = no_both (sym (ap is_some free) ∙ a.open_ones other o e)
 
 -- an operation is taken, and its name freed
-pub taken_named : (old mid new : StateView) (before after : Named) (name o : ℕ) (answer : Answer) → Takes old mid o answer → Tidies mid new → FreesName before after name → operation_of before name ≡ Some o → AreNamed old.table before → AreNamed new.table after
+pub taken_named : (old mid new : StateView) (before after : Tickets) (name o : ℕ) (answer : Answer) → Takes old mid o answer → Tidies mid new → FreesName before after name → operation_of before name ≡ Some o → HaveOneName old.table before → HaveOneName new.table after
 taken_named old mid new before after name o answer t d f held a = record {
   each = λ q there. each_case q there (cases_eq q o);
   one = λ m n q e g. a.one m n q (before_is m q e) (before_is n q g);
@@ -90,7 +90,7 @@ taken_named old mid new before after name o answer t d f held a = record {
     not_it n q e same = other n q e (a.one n name q (before_is n q e) (held ∙ ap Some (sym same)))
     gone : (q : ℕ) → q ≡ o → is_some (op_at new.table q) ≡ false
     gone q same = ap (λ k. is_some (op_at k q)) table ∙ ap (λ k. is_some (op_at (set old.table o None) k)) same ∙ ap is_some (gone_is old.table o)
-    each_case : (q : ℕ) → IsOpen new.table q → ((q ≡ o) ⊎ (q ≢ o)) → (n : ℕ) × (operation_of after n ≡ Some q)
+    each_case : (q : ℕ) → IsInTable new.table q → ((q ≡ o) ⊎ (q ≢ o)) → (n : ℕ) × (operation_of after n ≡ Some q)
     each_case q there (inl same) = absurd (no_both (sym (gone q same) ∙ there))
     each_case q there (inr apart) =
       let (n, e) = a.each q (sym (ap (λ k. is_some (op_at k q)) table ∙ ap is_some (gone_others old.table o q apart)) ∙ there) in

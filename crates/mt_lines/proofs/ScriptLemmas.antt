@@ -7,21 +7,22 @@ use Rattle.mt_lines.specs.declared.script.ScriptFault.{ScriptFault}
 use Rattle.mt_lines.specs.declared.script.ScriptFault.TheVariants.{Read, Write, Memory}
 use Rattle.mt_lines.specs.declared.session.Session.{Session}
 use Rattle.mt_lines.specs.Lines.{Front, front_of, with_byte, without_return, whole_line}
-use Rattle.mt_lines.specs.Scripts.{Bytes, Cut, cut_of, cut_at, lines_of, is_silent, asked_by, Answers, IsAnswered, AreAnswered}
+use Rattle.mt_rows.specs.Rows.{Bytes}
+use Rattle.mt_lines.specs.Scripts.{Cut, cut_of, cut_at, lines_of, is_silent, meaning_of, Answers, IsLineAnswered, AreLinesAnswered}
 use Rattle.mt_lines.specs.Sessions.{fresh}
-use Rattle.mt_lines.specs.Turns.{asked_in, AnswersFront, Writes, TakesByte}
-use Rattle.mt_lines.proofs.CutLemmas.{cut_of-more, with_byte-front, TellsOf, last_tells, ended_tells}
+use Rattle.mt_lines.specs.Turns.{meaning_in, AnswersFront, Writes, TakesByte}
+use Rattle.mt_lines.proofs.CutLemmas.{cut_of-more, with_byte-front, FrontTells, last_tells, ended_tells}
 use Rattle.mt_lines.proofs.StreamLemmas.{Consumes-nil, Appends-nil, Appends-trans, Consumes-trans, Consumes-kept}
 
 -- one line more is answered
-pub AreAnswered-more : (old mid new : Session) (lines : List Bytes) (line text answer : Bytes) → AreAnswered old lines mid text → IsAnswered mid line new answer → AreAnswered old (lines ++ line ∷ []) new (text ++ answer)
-AreAnswered-more old mid new [] line text answer (stays, none) a =
-    (new, answer, [], subst (λ (s : Session). IsAnswered s line new answer) stays a, (refl, refl), ap (λ t. t ++ answer) none ∙ sym (append-nil answer))
-AreAnswered-more old mid new (first ∷ lines) line text answer (next, said, rest, b, others, parts) a =
-    (next, said, rest ++ answer, b, AreAnswered-more next mid new lines line rest answer others a, ap (λ t. t ++ answer) parts ∙ append_assoc said rest answer)
+pub AreLinesAnswered-more : (old mid new : Session) (lines : List Bytes) (line text answer : Bytes) → AreLinesAnswered old lines mid text → IsLineAnswered mid line new answer → AreLinesAnswered old (lines ++ line ∷ []) new (text ++ answer)
+AreLinesAnswered-more old mid new [] line text answer (stays, none) a =
+    (new, answer, [], subst (λ (s : Session). IsLineAnswered s line new answer) stays a, (refl, refl), ap (λ t. t ++ answer) none ∙ sym (append-nil answer))
+AreLinesAnswered-more old mid new (first ∷ lines) line text answer (next, said, rest, b, others, parts) a =
+    (next, said, rest ++ answer, b, AreLinesAnswered-more next mid new lines line rest answer others a, ap (λ t. t ++ answer) parts ∙ append_assoc said rest answer)
 
 -- what the front of a line is answered is the answer to the line
-pub front_answered : (front : Front) (line : Bytes) (old new : Session) (text : Bytes) → TellsOf front line → AnswersFront old front new text → IsAnswered old line new text
+pub front_answered : (front : Front) (line : Bytes) (old new : Session) (text : Bytes) → FrontTells front line → AnswersFront old front new text → IsLineAnswered old line new text
 front_answered front line old new text t a = rw (← t.silent, ← t.asked) a
 
 -- A script on its way: all lines that ended in what was read are answered, and the front of the last is kept.
@@ -31,7 +32,7 @@ pub record Progress (before left held holds : Option Bytes) (session : Session) 
   pub consumed : Consumes before left read
   pub appended : Appends held holds text
   pub counted : count ≤ length read
-  pub answered : AreAnswered fresh (cut_of read).ended session text
+  pub answered : AreLinesAnswered fresh (cut_of read).ended session text
   pub front_is : front ≡ front_of (cut_of read).last
 
 -- at its start
@@ -64,7 +65,7 @@ takes_other before a b held h k old new front left byte count writer_failed othe
       consumed = Consumes-trans before a b p.read (byte ∷ []) p.consumed read;
       appended = subst (λ (x : Bytes). Appends held k x) (append-nil p.text) (Appends-trans held h k p.text [] p.appended t.1);
       counted = counted_more p.read byte count p.counted;
-      answered = subst (λ (c : Cut). AreAnswered fresh c.ended new p.text) (sym cut) (subst (λ (s : Session). AreAnswered fresh (cut_of p.read).ended s p.text) (sym t.0) p.answered);
+      answered = subst (λ (c : Cut). AreLinesAnswered fresh c.ended new p.text) (sym cut) (subst (λ (s : Session). AreLinesAnswered fresh (cut_of p.read).ended s p.text) (sym t.0) p.answered);
       front_is = t.2 ∙ ap (λ f. with_byte f byte) p.front_is ∙ with_byte-front (cut_of p.read).last byte ∙ ap (λ (c : Cut). front_of c.last) (sym cut);
     }
 
@@ -73,7 +74,7 @@ pub feed_cut : (read : Bytes) (byte : ℕ) → (byte == 10) ≡ true → cut_of 
 feed_cut read byte feed = cut_of-more read byte ∙ ap (λ (b : Bool). cond b (record { ended = (cut_of read).ended ++ strip_last 13 (cut_of read).last ∷ []; last = [] }) (record { ended = (cut_of read).ended; last = (cut_of read).last ++ byte ∷ [] })) feed
 
 -- the answer to the line that ended
-pub feed_answered : (read : Bytes) (front : Front) (old new : Session) (text : Bytes) → front ≡ front_of (cut_of read).last → AnswersFront old (without_return front) new text → IsAnswered old (strip_last 13 (cut_of read).last) new text
+pub feed_answered : (read : Bytes) (front : Front) (old new : Session) (text : Bytes) → front ≡ front_of (cut_of read).last → AnswersFront old (without_return front) new text → IsLineAnswered old (strip_last 13 (cut_of read).last) new text
 feed_answered read front old new text e a =
     front_answered (without_return (front_of (cut_of read).last)) (strip_last 13 (cut_of read).last) old new text (ended_tells (cut_of read).last) (subst (λ (f : Front). AnswersFront old (without_return f) new text) e a)
 
@@ -89,8 +90,8 @@ takes_feed before a b held h k old new front left byte count writer_failed feed 
       consumed = Consumes-trans before a b p.read (byte ∷ []) p.consumed read;
       appended = Appends-trans held h k p.text answer p.appended more;
       counted = counted_more p.read byte count p.counted;
-      answered = subst (λ (c : Cut). AreAnswered fresh c.ended new (p.text ++ answer)) (sym cut)
-        (AreAnswered-more fresh old new (cut_of p.read).ended (strip_last 13 (cut_of p.read).last) p.text answer p.answered (feed_answered p.read front old new answer p.front_is says));
+      answered = subst (λ (c : Cut). AreLinesAnswered fresh c.ended new (p.text ++ answer)) (sym cut)
+        (AreLinesAnswered-more fresh old new (cut_of p.read).ended (strip_last 13 (cut_of p.read).last) p.text answer p.answered (feed_answered p.read front old new answer p.front_is says));
       front_is = t.1 ∙ ap (λ (c : Cut). front_of c.last) (sym cut);
     }
 

@@ -12,8 +12,8 @@ use Rattle.mt_core.specs.Begins.{IsEnded}
 use Rattle.mt_core.proofs.Tables.{set_is}
 use Rattle.mt_lines.specs.declared.response.Response.{Response}
 use Rattle.mt_lines.specs.declared.response.Response.TheVariants as responses
-use Rattle.mt_lines.specs.Names.{Named, operation_of, FreesName}
-use Rattle.mt_lines.specs.Stores.{StoreView, AreNamed, IsOpen, TellsMove, TellsStep, EndsWalk, SaysEnd, IsWalk, TellsWalk, SaysMove, CanSay, TellsNamed}
+use Rattle.mt_lines.specs.Names.{Tickets, operation_of, FreesName}
+use Rattle.mt_lines.specs.Stores.{StoreView, HaveOneName, IsInTable, TellsMove, TellsStep, EndsWalk, SaysEnd, IsWalk, TellsWalk, SaysMove, CanSay, TellsNamed}
 
 not_unfinished : (b : Bool) → true ≡ not b → b ≡ false
 not_unfinished true e = e
@@ -50,7 +50,7 @@ tells_step old mid new name o (Again holder) response same t s =
 tells_step old mid new name o NoMemory response same t s = rw (s.0, s.1) (t, same)
 tells_step old mid new name o Done response same t s =
     let (answer, said, g) = s in
-    rw said (record { made = mid.state; taken = g.taken; last = t; takes = g.takes; tidies = g.tidies }, subst (λ (n : Named). FreesName n new.named name) same g.frees)
+    rw said (record { made = mid.state; taken = g.taken; last = t; takes = g.takes; tidies = g.tidies }, subst (λ (n : Tickets). FreesName n new.named name) same g.frees)
 tells_step old mid new name o Spent response same t s = rw (s.0, s.1) (t, same)
 tells_step old mid new name o NoSuch response same t s = rw (s.0, s.1) (t, same)
 
@@ -108,15 +108,15 @@ stands_there phase old new name o same walk = record {
   steps = walk.steps;
   mid = walk.mid;
   walks = walk.walks;
-  says = (refl, ap (λ (n : Named). record { state = new.state; named = n }) same ∙ ap (λ (v : StateView). record { state = v; named = old.named }) walk.ends.0, walk.ends.1);
+  says = (refl, ap (λ (n : Tickets). record { state = new.state; named = n }) same ∙ ap (λ (v : StateView). record { state = v; named = old.named }) walk.ends.0, walk.ends.1);
 }
 
 -- what is told of the operation that a name stands for
-pub of_named : (named : Named) (name o : ℕ) (old new : StoreView) (response : Response) (told : ℕ → Type 0) → operation_of named name ≡ Some o → told o → TellsNamed (operation_of named name) old new response told
+pub of_named : (named : Tickets) (name o : ℕ) (old new : StoreView) (response : Response) (told : ℕ → Type 0) → operation_of named name ≡ Some o → told o → TellsNamed (operation_of named name) old new response told
 of_named named name o old new response told e t = subst (λ (q : Option ℕ). TellsNamed q old new response told) (sym e) t
 
 -- what is told of a name that is not in use
-pub of_none : (named : Named) (name : ℕ) (old new : StoreView) (response : Response) (told : ℕ → Type 0) → operation_of named name ≡ None → response ≡ responses.NoSuch → new ≡ old → TellsNamed (operation_of named name) old new response told
+pub of_none : (named : Tickets) (name : ℕ) (old new : StoreView) (response : Response) (told : ℕ → Type 0) → operation_of named name ≡ None → response ≡ responses.NoSuch → new ≡ old → TellsNamed (operation_of named name) old new response told
 of_none named name old new response told e said same = subst (λ (q : Option ℕ). TellsNamed q old new response told) (sym e) (said, same)
 
 end_can_say : (stop : Option Phase) (mid new : StateView) (o : ℕ) (move : Move) → EndsWalk stop mid new o move → CanSay new o move

@@ -1,6 +1,7 @@
 pub mod Line
 pub mod Lines
 pub mod Names
+pub mod Programs
 pub mod Scripts
 pub mod Sessions
 pub mod Stores

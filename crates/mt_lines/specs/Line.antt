@@ -7,7 +7,7 @@ use Rattle.mt_core.specs.declared.phase.Phase.TheVariants.{Enter, Search, Load, 
 use Rattle.mt_core.specs.Names as phases
 use Rattle.mt_lines.specs.declared.line.Line.{Line}
 use Rattle.mt_lines.specs.declared.line.Line.TheVariants.{Tenant, Begin, Step, Until, Run, Shape}
-use Rattle.mt_lines.specs.Words.{◌>>=◌, words_of, next, no_more, each, number_up_to, name_of, is_text, key_word, column_word}
+use Rattle.mt_lines.specs.Words.{◌>>=◌, words_of, next, no_more, each, number_up_to, name_word, is_text, key_word, column_word}
 
 -- a number of 32 bits, and a column's index
 abbrev pub number_word : List ℕ → Option ℕ
@@ -76,7 +76,7 @@ unfoldable pub begin_line : List (List ℕ) → Option Line
 begin_line words = do
   first ← next words
   second ← next first.1
-  name ← name_of first.0
+  name ← name_word first.0
   tenant ← number_word second.0
   command ← command_words second.1
   Some (Begin name tenant command)
@@ -86,7 +86,7 @@ unfoldable pub name_alone : List (List ℕ) → Option ℕ
 name_alone words = do
   first ← next words
   end ← no_more first.1
-  name_of first.0
+  name_word first.0
 
 -- until N phase
 unfoldable pub until_line : List (List ℕ) → Option Line
@@ -94,7 +94,7 @@ until_line words = do
   first ← next words
   second ← next first.1
   end ← no_more second.1
-  name ← name_of first.0
+  name ← name_word first.0
   phase ← phase_word second.0
   Some (Until name phase)
 

@@ -2,6 +2,7 @@
 use Rattle.std.specs.Prelude.{◌≡◌, ℕ, ◌-◌, ◌^◌, ◌≤◌, ◌⊎◌, Bool, true, false, ◌==◌, nat_lt, if◌then◌else◌, List, [], ◌∷◌, ◌++◌, length, Option, Some, None, Result, OnOk, IfErr}
 use Rattle.std.specs.Io.BufRead.{strip_last}
 use Rattle.std.specs.Io.KnownBytes.{Consumes, Appends, IsAtEnd}
+use Rattle.mt_rows.specs.Rows.{Bytes}
 use Rattle.mt_lines.specs.declared.line.Line.{Line}
 use Rattle.mt_lines.specs.declared.response.Response.{Response}
 use Rattle.mt_lines.specs.declared.script.ScriptFault.{ScriptFault}
@@ -10,9 +11,6 @@ use Rattle.mt_lines.specs.declared.session.Session.{Session}
 use Rattle.mt_lines.specs.Line.{line_of}
 use Rattle.mt_lines.specs.Sessions.{fresh, TellsReply}
 use Rattle.mt_lines.specs.Text.{IsText}
-
-abbrev pub Bytes : Type 0
-Bytes = List ℕ
 
 -- bytes, cut at each line feed: the lines that end in them, and what stands behind the last end
 pub record Cut : Type 0 where
@@ -40,8 +38,8 @@ is_silent [] = true
 is_silent (byte ∷ bytes) = byte == 35
 
 -- what a line asks for: nothing, where it has over 65,536 bytes or is none of the language's
-abbrev pub asked_by : Bytes → Option Line
-asked_by line = if nat_lt 65536 (length line) then None else line_of line
+abbrev pub meaning_of : Bytes → Option Line
+meaning_of line = if nat_lt 65536 (length line) then None else line_of line
 
 -- A silent line changes nothing, and has no answer. Any other is answered by the text of what the session says of it.
 abbrev pub Answers : Bool → Option Line → Session → Session → Bytes → Type 0
@@ -49,21 +47,21 @@ Answers true asked old new text = (new ≡ old) × (text ≡ [])
 Answers false asked old new text = (response : Response) × TellsReply old new asked response × IsText response text
 
 -- a line is answered by this text
-abbrev pub IsAnswered : Session → Bytes → Session → Bytes → Type 0
-IsAnswered old line new text = Answers (is_silent line) (asked_by line) old new text
+abbrev pub IsLineAnswered : Session → Bytes → Session → Bytes → Type 0
+IsLineAnswered old line new text = Answers (is_silent line) (meaning_of line) old new text
 
 -- lines are answered one after the other, and this is the text of their answers
-abbrev pub AreAnswered : Session → List Bytes → Session → Bytes → Type 0
-AreAnswered old [] new text = (new ≡ old) × (text ≡ [])
-AreAnswered old (line ∷ lines) new text = (mid : Session) × (first : Bytes) × (rest : Bytes) × IsAnswered old line mid first × AreAnswered mid lines new rest × (text ≡ first ++ rest)
+abbrev pub AreLinesAnswered : Session → List Bytes → Session → Bytes → Type 0
+AreLinesAnswered old [] new text = (new ≡ old) × (text ≡ [])
+AreLinesAnswered old (line ∷ lines) new text = (mid : Session) × (first : Bytes) × (rest : Bytes) × IsLineAnswered old line mid first × AreLinesAnswered mid lines new rest × (text ≡ first ++ rest)
 
 -- this was written for a script that was read: the answers of its lines, in a session that begins with the first of them
 abbrev pub IsScript : Bytes → Bytes → Type 0
-IsScript read written = (final : Session) × AreAnswered fresh (lines_of read) final written
+IsScript read written = (final : Session) × AreLinesAnswered fresh (lines_of read) final written
 
 -- what was written of the answer to a line at which a script stopped: a front of it where the writer failed, else nothing
 abbrev pub IsFront : ScriptFault → Session → Bytes → Bytes → Type 0
-IsFront (Write e) old line front = (new : Session) × (lost : Bytes) × IsAnswered old line new (front ++ lost)
+IsFront (Write e) old line front = (new : Session) × (lost : Bytes) × IsLineAnswered old line new (front ++ lost)
 IsFront _ old line front = front ≡ []
 
 -- no byte behind the line was read; where the reader failed, the line's own end was not
@@ -81,7 +79,7 @@ pub record StopsAtLine (fault : ScriptFault) (read written : Bytes) : Type 0 whe
   pub front : Bytes
   pub lines : lines_of read ≡ before ++ line ∷ behind
   pub unread : IsUnread fault behind
-  pub answered : AreAnswered fresh before session text
+  pub answered : AreLinesAnswered fresh before session text
   pub front_of_answer : IsFront fault session line front
   pub written_is : written ≡ text ++ front
 

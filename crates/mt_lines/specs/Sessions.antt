@@ -14,7 +14,7 @@ use Rattle.mt_lines.specs.declared.response.Response.{Response}
 use Rattle.mt_lines.specs.declared.response.Response.TheVariants.{Taken, Refused, Begun, NoSuch, Shape, BadLine}
 use Rattle.mt_lines.specs.declared.session.Session.{Session}
 use Rattle.mt_lines.specs.Names.{operation_of, TakesName}
-use Rattle.mt_lines.specs.Stores.{StoreView, fresh_store, TellsStep, TellsWalk, TellsNamed, MayStand}
+use Rattle.mt_lines.specs.Stores.{StoreView, fresh_store, TellsStep, TellsWalk, TellsNamed, MayBeginAs}
 
 -- a session before its first line
 abbrev pub fresh : Session
@@ -44,8 +44,8 @@ TellsBegun old new name tenant command _ = ⊥
 
 -- what is said of a begin: one that may not stand is a bad line; after any other no tenant is taken
 abbrev pub TellsBeginLine : Session → Session → ℕ → ℕ → Command → Response → Type 0
-TellsBeginLine old new name tenant command BadLine = (new ≡ old) × ¬ MayStand old.store name command
-TellsBeginLine old new name tenant command response = MayStand old.store name command × (new.takes_tenants ≡ false) × TellsBegun old.store new.store name tenant command response
+TellsBeginLine old new name tenant command BadLine = (new ≡ old) × ¬ MayBeginAs old.store name command
+TellsBeginLine old new name tenant command response = MayBeginAs old.store name command × (new.takes_tenants ≡ false) × TellsBegun old.store new.store name tenant command response
 
 -- what is said of the tree: that of the store's pairs
 abbrev pub TellsShape : Session → Response → Type 0

@@ -12,26 +12,26 @@ use Rattle.mt_core.specs.Begins.{new_state, MayBegin, Takes, IsEnded}
 use Rattle.mt_core.specs.Tidies.{Tidies}
 use Rattle.mt_lines.specs.declared.response.Response.{Response}
 use Rattle.mt_lines.specs.declared.response.Response.TheVariants.{Taken, Refused, Begun, At, Moved, Again, NoMemory, Spent, NoSuch, Done, Shape, BadLine}
-use Rattle.mt_lines.specs.Names.{Named, operation_of, FreesName}
+use Rattle.mt_lines.specs.Names.{Tickets, operation_of, FreesName}
 
 -- a store, and the names of its operations
 pub record StoreView : Type 0 where
   pub state : StateView
-  pub named : Named
+  pub named : Tickets
 
 -- a store in which nothing has happened, without tenants
 abbrev pub fresh_store : StoreView
 fresh_store = record { state = new_state 0 []; named = [] }
 
 -- the operation of an id was begun, and its answer not taken
-abbrev pub IsOpen : Table → ℕ → Type 0
-IsOpen table o = is_some (op_at table o) ≡ true
+abbrev pub IsInTable : Table → ℕ → Type 0
+IsInTable table o = is_some (op_at table o) ≡ true
 
 -- the names in use are exactly those of the open operations: each open operation has one name, and each name stands for an open operation
-pub record AreNamed (table : Table) (named : Named) : Type 0 where
-  pub each : (o : ℕ) → IsOpen table o → (name : ℕ) × (operation_of named name ≡ Some o)
+pub record HaveOneName (table : Table) (named : Tickets) : Type 0 where
+  pub each : (o : ℕ) → IsInTable table o → (name : ℕ) × (operation_of named name ≡ Some o)
   pub one : (a b o : ℕ) → operation_of named a ≡ Some o → operation_of named b ≡ Some o → a ≡ b
-  pub open_ones : (name o : ℕ) → operation_of named name ≡ Some o → IsOpen table o
+  pub open_ones : (name o : ℕ) → operation_of named name ≡ Some o → IsInTable table o
 
 -- the last step of an operation: its answer is taken, and the store tidied
 pub record Ends (old new : StateView) (o : ℕ) (answer : Answer) : Type 0 where
@@ -97,13 +97,13 @@ TellsNamed None old new response told = (response ≡ NoSuch) × (new ≡ old)
 TellsNamed (Some o) old new response told = told o
 
 -- a begin may stand here: its name is free, and the store takes its command now
-abbrev pub MayStand : StoreView → ℕ → Command → Type 0
-MayStand store name command = (operation_of store.named name ≡ None) × MayBegin store.state.table command
+abbrev pub MayBeginAs : StoreView → ℕ → Command → Type 0
+MayBeginAs store name command = (operation_of store.named name ≡ None) × MayBegin store.state.table command
 
 -- the operation that is said of is there: for `done` it has ended, and for `again` its holder is open
 abbrev pub CanSay : StateView → ℕ → Move → Type 0
 CanSay v o moves.Done = IsEnded v.table o
-CanSay v o (moves.Again holder) = IsOpen v.table holder
+CanSay v o (moves.Again holder) = IsInTable v.table holder
 CanSay v o _ = Unit {0}
 
 -- an operation that ended was taken with its answer, and the store tidied; its name is free

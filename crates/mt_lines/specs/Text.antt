@@ -15,11 +15,11 @@ use Rattle.mt_lines.specs.declared.response.Response.{Response}
 use Rattle.mt_lines.specs.declared.response.Response.TheVariants.{Taken, Refused, Begun, At, Moved, Again, NoMemory, Spent, NoSuch, Done, Shape, BadLine}
 
 -- the columns that a command names, none for all
-abbrev pub columns_of : Command → List ℕ
-columns_of (Get key columns) = columns
-columns_of (Put key change) = []
-columns_of (Remove key) = []
-columns_of (Scan from after count columns) = columns
+abbrev pub columns_asked : Command → List ℕ
+columns_asked (Get key columns) = columns
+columns_asked (Put key change) = []
+columns_asked (Remove key) = []
+columns_asked (Scan from after count columns) = columns
 
 -- the index of the column at a place of a row: the one asked for, or the place itself
 abbrev pub index_at : List ℕ → ℕ → ℕ
@@ -65,7 +65,7 @@ reply_text asked NoMemoryReply = codes "memory"
 
 -- the line of an operation that is done
 abbrev pub answer_text : Answer → List ℕ
-answer_text answer = codes "done " ++ reply_text (columns_of answer.command) answer.reply ++ codes "\n"
+answer_text answer = codes "done " ++ reply_text (columns_asked answer.command) answer.reply ++ codes "\n"
 
 -- the tree, line by line
 abbrev pub tree_text : List ShapeLine → List ℕ

@@ -7,16 +7,17 @@ use Rattle.mt_lines.specs.declared.script.ScriptFault.TheVariants.{Read, Write, 
 use Rattle.mt_lines.specs.declared.session.Session.{Session}
 use Rattle.mt_lines.specs.Line.{line_of}
 use Rattle.mt_lines.specs.Lines.{Front, front_of, with_byte, without_return, whole_line}
-use Rattle.mt_lines.specs.Scripts.{Bytes, is_silent, Answers}
+use Rattle.mt_rows.specs.Rows.{Bytes}
+use Rattle.mt_lines.specs.Scripts.{is_silent, Answers}
 
 -- what a line that may be too long asks for
-abbrev pub asked_in : Option Bytes → Option Line
-asked_in None = None
-asked_in (Some line) = line_of line
+abbrev pub meaning_in : Option Bytes → Option Line
+meaning_in None = None
+meaning_in (Some line) = line_of line
 
 -- the line of this front is answered by this text
 abbrev pub AnswersFront : Session → Front → Session → Bytes → Type 0
-AnswersFront old front new text = Answers (is_silent front.bytes) (asked_in (whole_line front)) old new text
+AnswersFront old front new text = Answers (is_silent front.bytes) (meaning_in (whole_line front)) old new text
 
 -- a text was written whole; or, where the writer failed, a front of it; or nothing, where a growth was refused
 abbrev pub Writes : (Bytes → Type 0) → Option Bytes → Option Bytes → Type 0 → Result (Unit {0}) ScriptFault → Type 0

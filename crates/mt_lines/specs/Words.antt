@@ -80,8 +80,8 @@ number_up_to most word =
     if is_numeral word && nat_le (digits_behind 0 word) most then Some (digits_behind 0 word) else None
 
 -- a name of an operation
-unfoldable pub name_of : List ℕ → Option ℕ
-name_of word = do
+unfoldable pub name_word : List ℕ → Option ℕ
+name_word word = do
   name ← number_up_to 999999 word
   if nat_lt 0 name then Some name else None
 

@@ -8,6 +8,7 @@ mod buffer;
 mod fault;
 pub mod line;
 pub mod names;
+pub mod program;
 pub mod response;
 pub mod script;
 pub mod session;
@@ -15,4 +16,6 @@ pub mod store;
 pub mod streams;
 mod words;
 
+pub use program::{Ending, Purpose, run_program};
 pub use script::{ScriptFault, run_script};
+pub use streams::{Sink, Source};

@@ -21,13 +21,13 @@ pub struct Names {
 }
 
 impl Model for Names {
-    ghost use Rattle.mt_lines.specs.Names.{Named, IsRow};
+    ghost use Rattle.mt_lines.specs.Names.{Tickets, IsNameRow};
 
-    ghost Value = { Named };
+    ghost Value = { Tickets };
 
     ghost view = { λ n. n.tickets.entries };
 
-    ghost invariant = { λ n. IsRow n.tickets.entries n.row.items };
+    ghost invariant = { λ n. IsNameRow n.tickets.entries n.row.items };
 }
 
 impl Names {

@@ -1,7 +1,7 @@
 //! What a line is answered, and how it is written.
 
 ghost use Rattle.std.specs.Prelude.{◌≡◌, ◌++◌, OnOk, IfOk, string_bytes};
-ghost use Rattle.mt_lines.specs.Text.{columns_of, index_at, cell_text, row_text, key_text, pairs_text, reply_text, answer_text, tree_text, IsText, Adds};
+ghost use Rattle.mt_lines.specs.Text.{columns_asked, index_at, cell_text, row_text, key_text, pairs_text, reply_text, answer_text, tree_text, IsText, Adds};
 
 use mt_core::{Phase, ShapeLine};
 use mt_rows::{Column, Command, Key, PairList, Refusal, Reply, Row};
@@ -82,7 +82,7 @@ fn push_answer(alloc: Global, text: &mut String, answer: &Answer) -> Result<(), 
 
 // The columns that a command names.
 fn columns_asked(command: &Command) -> &[u8]
-    ensures { result.now ≡ columns_of command.now }
+    ensures { result.now ≡ columns_asked command.now }
 {
     match command {
         Command::Get { columns, .. } | Command::Scan { columns, .. } => columns.as_slice(),

@@ -9,11 +9,12 @@ ghost use Rattle.std.specs.Option.{option_map};
 ghost use Rattle.std.specs.Io.KnownBytes.{Consumes, Appends, Keeps, IsAtEnd};
 ghost use Rattle.mt_lines.specs.Line.{line_of};
 ghost use Rattle.mt_lines.specs.Lines.{front_of, whole_line};
-ghost use Rattle.mt_lines.specs.Scripts.{Bytes, Answers, RunsScript};
+ghost use Rattle.mt_rows.specs.Rows.{Bytes};
+ghost use Rattle.mt_lines.specs.Scripts.{Answers, RunsScript};
 ghost use Rattle.mt_lines.specs.Sessions.{fresh, TellsReply};
 ghost use Rattle.mt_lines.specs.Streams.{Failed, NoFewer};
 ghost use Rattle.mt_lines.specs.Text.{IsText};
-ghost use Rattle.mt_lines.specs.Turns.{asked_in, AnswersFront, Writes, TakesByte};
+ghost use Rattle.mt_lines.specs.Turns.{meaning_in, AnswersFront, Writes, TakesByte};
 ghost use Rattle.mt_lines.specs.declared.script.ScriptFault.TheVariants.{Memory};
 
 use crate::buffer::LineBuffer;
@@ -167,7 +168,7 @@ fn answer_text(
     session: &mut Session,
     line: &LineBuffer,
 ) -> Result<String, AllocError>
-    ensures { IfOk result (λ text. Answers false (asked_in (whole_line line.now)) session.old session.new (string_bytes text)) }
+    ensures { IfOk result (λ text. Answers false (meaning_in (whole_line line.now)) session.old session.new (string_bytes text)) }
 {
     let response = response_to(alloc, session, line.line())?;
     let mut text = String::new(alloc);
@@ -177,7 +178,7 @@ fn answer_text(
 
 // Writes a text whole; an error leaves a front of it. (`write_all` says nothing of what an error
 // leaves.)
-fn write_text<W: Sink>(writer: &mut W, text: &[u8]) -> io::Result<()>
+pub(crate) fn write_text<W: Sink>(writer: &mut W, text: &[u8]) -> io::Result<()>
     ensures ok { OnOk result (Appends (W.contents writer.old) (W.contents writer.new) text.now) }
     ensures err { OnErr result ((front : Bytes) × (lost : Bytes) × (text.now ≡ front ++ lost) × Appends (W.contents writer.old) (W.contents writer.new) front) }
     ensures failures { NoFewer (W.failures writer.old) (W.failures writer.new) }
@@ -209,7 +210,7 @@ fn response_to(
     session: &mut Session,
     line: Option<&[u8]>,
 ) -> Result<Response, AllocError>
-    ensures { IfOk result (λ response. TellsReply session.old session.new (asked_in (option_map (λ bytes. bytes.now) line.entry)) response) }
+    ensures { IfOk result (λ response. TellsReply session.old session.new (meaning_in (option_map (λ bytes. bytes.now) line.entry)) response) }
 {
     let Some(bytes) = line else {
         return Ok(Response::BadLine);

@@ -3,7 +3,7 @@
 
 ghost use Rattle.std.specs.Prelude.{◌≡◌, IfOk, OnErr};
 ghost use Rattle.mt_lines.specs.Sessions.{fresh, TellsTenant, TellsBeginLine, TellsLine};
-ghost use Rattle.mt_lines.specs.Stores.{AreNamed};
+ghost use Rattle.mt_lines.specs.Stores.{HaveOneName};
 
 use crate::line::Line;
 use crate::response::Response;

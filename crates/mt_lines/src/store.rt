@@ -12,7 +12,7 @@ ghost use Rattle.mt_core.specs.Shapes.{shape_of};
 ghost use Rattle.mt_runs.specs.declared.event.Answer.{Answer as AnyAnswer};
 ghost use Rattle.mt_lines.specs.Names.{operation_of};
 ghost use Rattle.mt_lines.specs.Sessions.{TellsBegun};
-ghost use Rattle.mt_lines.specs.Stores.{fresh_store, AreNamed, StopsAt, IsWalk, TellsStep, TellsWalk, TellsNamed, MayStand, CanSay, GivesUp, SaysMove};
+ghost use Rattle.mt_lines.specs.Stores.{fresh_store, HaveOneName, StopsAt, IsWalk, TellsStep, TellsWalk, TellsNamed, MayBeginAs, CanSay, GivesUp, SaysMove};
 
 use crate::names::Names;
 use crate::response::Response;
@@ -33,7 +33,7 @@ pub struct NamedStore {
 impl Model for NamedStore {
     ghost use Rattle.std.specs.Coded.{codes};
     ghost use Rattle.mt_core.specs.Views.{contents_code};
-    ghost use Rattle.mt_lines.specs.Stores.{StoreView, AreNamed};
+    ghost use Rattle.mt_lines.specs.Stores.{StoreView, HaveOneName};
 
     ghost Value = { StoreView };
 
@@ -41,7 +41,7 @@ impl Model for NamedStore {
 
     ghost view = { λ s. record { state = s.state; named = s.names } };
 
-    ghost invariant = { λ s. AreNamed s.state.table s.names };
+    ghost invariant = { λ s. HaveOneName s.state.table s.names };
 }
 
 impl NamedStore {
@@ -59,7 +59,7 @@ impl NamedStore {
     /// Whether a begin may stand here: its name is free, and the store takes its command now: a get
     /// at any time, a put where no other put is open.
     pub fn may_begin(&self, name: u32, command: &Command) -> bool
-        ensures { IsTrue result ↔ MayStand self.now name command.now }
+        ensures { IsTrue result ↔ MayBeginAs self.now name command.now }
     {
         if let Some(_) = self.names.ticket(name) {
             return false;
@@ -82,7 +82,7 @@ impl NamedStore {
         tenant: u32,
         command: Command,
     ) -> Result<Response, AllocError>
-        requires { MayStand self.old name command }
+        requires { MayBeginAs self.old name command }
         ensures told { IfOk result (TellsBegun self.old self.new name tenant command) }
         ensures given_up { OnErr result (self.new ≡ fresh_store) }
     {
@@ -144,10 +144,10 @@ impl NamedStore {
 
 // What is said of a step's answer. After the last step the operation is taken with its answer.
 fn respond(state: &mut State, names: &mut Names, name: u32, answer: Move) -> Response
-    requires named { AreNamed state.old.table names.old }
+    requires named { HaveOneName state.old.table names.old }
     requires said { (o : ℕ) × (operation_of names.old name ≡ Some o) × CanSay state.old o answer }
     ensures said { (o : ℕ) → operation_of names.old name ≡ Some o → SaysMove (record { state = state.old; named = names.old }) (record { state = state.new; named = names.new }) name o answer result }
-    ensures named { AreNamed state.new.table names.new }
+    ensures named { HaveOneName state.new.table names.new }
 {
     match answer {
         Move::Moved => Response::Moved,
@@ -172,10 +172,10 @@ fn holder_name(names: &Names, holder: u64) -> u32
 
 // Takes the operation of a name, which has ended, with its answer, and frees the name.
 fn give_up(state: &mut State, names: &mut Names, name: u32) -> Answer
-    requires named { AreNamed state.old.table names.old }
+    requires named { HaveOneName state.old.table names.old }
     requires ended { (o : ℕ) × (operation_of names.old name ≡ Some o) × IsEnded state.old.table o }
     ensures given { (o : ℕ) → operation_of names.old name ≡ Some o → GivesUp (record { state = state.old; named = names.old }) (record { state = state.new; named = names.new }) name o result }
-    ensures named { AreNamed state.new.table names.new }
+    ensures named { HaveOneName state.new.table names.new }
 {
     let Some(ticket) = names.remove(name) else {
         unreachable!()

@@ -4,7 +4,7 @@
 //! nothing, or `Memory`.
 
 ghost use Rattle.std.specs.Prelude.{◌≡◌, ◌<◌, ◌≤◌, length, IfOk, IfErr};
-ghost use Rattle.mt_lines.specs.Words.{Means, words_of, next, no_more, is_text, number_up_to, name_of, hex_of, key_word, parted, column_word, is_space, is_of_word, is_no_sign};
+ghost use Rattle.mt_lines.specs.Words.{Means, words_of, next, no_more, is_text, number_up_to, name_word, hex_of, key_word, parted, column_word, is_space, is_of_word, is_no_sign};
 ghost use Rattle.std.specs.List.{prefix_len};
 
 use crate::fault::LineFault;
@@ -100,9 +100,9 @@ pub fn number(word: &[u8], most: u32) -> Result<u32, LineFault>
 }
 
 /// A name of an operation.
-#[tactic(auto, unfolding(crate::specs::Words::name_of))]
+#[tactic(auto, unfolding(crate::specs::Words::name_word))]
 pub fn name(word: &[u8]) -> Result<u32, LineFault>
-    ensures { Means (λ n. n) result (name_of word.now) }
+    ensures { Means (λ n. n) result (name_word word.now) }
 {
     let name = number(word, MAX_NAME)?;
     if name == 0 {

@@ -1,7 +1,7 @@
 use Rattle.std.proofs.Common.{rules, ◌≡◌, ◌<◌, Some, sym, ◌∙◌, ap, subst, ℕ, length}
 use Rattle.std.specs.Option.{option_map}
 use Rattle.mt_core.specs.declared.answers.Ticket.{Ticket}
-use Rattle.mt_lines.specs.Names.{Named, operation_of, FreesName}
+use Rattle.mt_lines.specs.Names.{Tickets, operation_of, FreesName}
 use Rattle.mt_lines.proofs.NameLemmas.{row_frees, frees_from, within_row}
 use Rattle.mt_lines.proofs.names.Names.remove.Goals as goal
 
@@ -18,4 +18,4 @@ invariant_of-self-2 c =
     (within_row c.self.inside.row.items c.id-id.result c.args.name (c.self.invariant.by_name c.args.name c.id-id.result held)) c.self.invariant
 
 pub returns-clause-freed : goal.returns-clause-freed
-returns-clause-freed c = subst (λ (old : Named). FreesName old c.remove.new.self.entries c.args.name) c.self.view_is (frees_from c.self.inside.tickets c.remove.new.self c.args.name c.remove.ensures.updates)
+returns-clause-freed c = subst (λ (old : Tickets). FreesName old c.remove.new.self.entries c.args.name) c.self.view_is (frees_from c.self.inside.tickets c.remove.new.self c.args.name c.remove.ensures.updates)
