@@ -57,8 +57,10 @@ impl Session {
         let mut tenants = Tenants::new(alloc);
         match tenants.add(tenant, quota) {
             Ok(()) => {
-                self.store = NamedStore::new(alloc, tenants);
-                self.takes_tenants = false;
+                *self = Session {
+                    store: NamedStore::new(alloc, tenants),
+                    takes_tenants: false,
+                };
                 Response::Taken
             }
             Err(refusal) => Response::Refused(refusal),
