@@ -82,16 +82,21 @@ taken_named old mid new before after name o answer t d f held a = record {
   where
     table : new.table ≡ set old.table o None
     table = d.table ∙ ap (λ (v : StateView). v.table) t.gone
+
     other : (n q : ℕ) → operation_of after n ≡ Some q → n ≢ name
     other n q e same = none-some q (sym f.freed ∙ ap (operation_of after) (sym same) ∙ e)
+
     before_is : (n q : ℕ) → operation_of after n ≡ Some q → operation_of before n ≡ Some q
     before_is n q e = sym (f.others n (other n q e)) ∙ e
+
     not_it : (n q : ℕ) → operation_of after n ≡ Some q → q ≢ o
     not_it n q e same = other n q e (a.one n name q (before_is n q e) (held ∙ ap Some (sym same)))
+
     gone : (q : ℕ) → q ≡ o → is_some (op_at new.table q) ≡ false
     gone q same = ap (λ k. is_some (op_at k q)) table ∙ ap (λ k. is_some (op_at (set old.table o None) k)) same ∙ ap is_some (gone_is old.table o)
+
     each_case : (q : ℕ) → IsInTable new.table q → ((q ≡ o) ⊎ (q ≢ o)) → (n : ℕ) × (operation_of after n ≡ Some q)
     each_case q there (inl same) = absurd (no_both (sym (gone q same) ∙ there))
     each_case q there (inr apart) =
-      let (n, e) = a.each q (sym (ap (λ k. is_some (op_at k q)) table ∙ ap is_some (gone_others old.table o q apart)) ∙ there) in
-      (n, f.others n (λ same. apart (same_Some q o (sym e ∙ ap (operation_of before) same ∙ held))) ∙ e)
+        let (n, e) = a.each q (sym (ap (λ k. is_some (op_at k q)) table ∙ ap is_some (gone_others old.table o q apart)) ∙ there) in
+        (n, f.others n (λ same. apart (same_Some q o (sym e ∙ ap (operation_of before) same ∙ held))) ∙ e)

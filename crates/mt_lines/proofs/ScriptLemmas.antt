@@ -91,7 +91,7 @@ takes_feed before a b held h k old new front left byte count writer_failed feed 
       appended = Appends-trans held h k p.text answer p.appended more;
       counted = counted_more p.read byte count p.counted;
       answered = subst (λ (c : Cut). AreLinesAnswered fresh c.ended new (p.text ++ answer)) (sym cut)
-        (AreLinesAnswered-more fresh old new (cut_of p.read).ended (strip_last 13 (cut_of p.read).last) p.text answer p.answered (feed_answered p.read front old new answer p.front_is says));
+          (AreLinesAnswered-more fresh old new (cut_of p.read).ended (strip_last 13 (cut_of p.read).last) p.text answer p.answered (feed_answered p.read front old new answer p.front_is says));
       front_is = t.1 ∙ ap (λ (c : Cut). front_of c.last) (sym cut);
     }
 

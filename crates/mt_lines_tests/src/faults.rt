@@ -97,7 +97,15 @@ fn lines_in(bytes: &[u8]) -> usize {
 #[test]
 fn each_write_fails_in_turn(rt: HostRuntime) -> Result<(), Fail> {
     // (bytes that are taken at a time, writes that succeed)
-    let cases: [(usize, usize); 7] = [(100, 0), (100, 1), (100, 4), (1, 0), (1, 2), (1, 5), (1, 43)];
+    let cases: [(usize, usize); 7] = [
+        (100, 0),
+        (100, 1),
+        (100, 4),
+        (1, 0),
+        (1, 2),
+        (1, 5),
+        (1, 43),
+    ];
     for (most, count) in cases {
         let mut reader = SCRIPT.as_bytes();
         let mut writer = FailingWriter {
@@ -109,7 +117,10 @@ fn each_write_fails_in_turn(rt: HostRuntime) -> Result<(), Fail> {
         let said =
             "writing failed: other error; what was printed stands, and its last answer may be cut";
         assert!(rt; ends_with(&rt, &ending, 1, said)?, "{most} {count}");
-        assert!(rt; ANSWERS.as_bytes().starts_with(&writer.written), "{most} {count}");
+        assert!(rt;
+            ANSWERS.as_bytes().starts_with(&writer.written),
+            "{most} {count}"
+        );
         if most == 1 {
             assert!(rt; writer.written.len() == count);
         } else {

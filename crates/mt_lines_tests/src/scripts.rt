@@ -65,11 +65,7 @@ fn whole_scripts(rt: HostRuntime) -> Result<(), Fail> {
             "tenant 7 1\nbegin 1 7 put 61 0=76\nrun 1\ntenant 7 5\nbegin 1 7 get 61\nrun 1\n",
             "ok\nbegun 1\ndone new\nbad line\nbegun 1\ndone found 0=76\n",
         ),
-        (
-            "fifteen pairs and no more",
-            FIFTEEN_PAIRS,
-            FIFTEEN_ANSWERS,
-        ),
+        ("fifteen pairs and no more", FIFTEEN_PAIRS, FIFTEEN_ANSWERS),
     ];
     for (what, script, wanted) in cases {
         let written = answers(&rt, script.as_bytes())?;
@@ -78,9 +74,11 @@ fn whole_scripts(rt: HostRuntime) -> Result<(), Fail> {
     Ok(())
 }
 
-const FIFTEEN_PAIRS: &str = "tenant 7 100\nbegin 1 7 put 61 0=76\nrun 1\nbegin 1 7 put 62 0=76\nrun 1\nbegin 1 7 put 63 0=76\nrun 1\nbegin 1 7 put 64 0=76\nrun 1\nbegin 1 7 put 65 0=76\nrun 1\nbegin 1 7 put 66 0=76\nrun 1\nbegin 1 7 put 67 0=76\nrun 1\nbegin 1 7 put 68 0=76\nrun 1\nbegin 1 7 put 69 0=76\nrun 1\nbegin 1 7 put 6a 0=76\nrun 1\nbegin 1 7 put 6b 0=76\nrun 1\nbegin 1 7 put 6c 0=76\nrun 1\nbegin 1 7 put 6d 0=76\nrun 1\nbegin 1 7 put 6e 0=76\nrun 1\nbegin 1 7 put 6f 0=76\nrun 1\nbegin 16 7 put 70 0=76\nbegin 1 7 put 61 0=77\nrun 1\n";
+const FIFTEEN_PAIRS: &str =
+    "tenant 7 100\nbegin 1 7 put 61 0=76\nrun 1\nbegin 1 7 put 62 0=76\nrun 1\nbegin 1 7 put 63 0=76\nrun 1\nbegin 1 7 put 64 0=76\nrun 1\nbegin 1 7 put 65 0=76\nrun 1\nbegin 1 7 put 66 0=76\nrun 1\nbegin 1 7 put 67 0=76\nrun 1\nbegin 1 7 put 68 0=76\nrun 1\nbegin 1 7 put 69 0=76\nrun 1\nbegin 1 7 put 6a 0=76\nrun 1\nbegin 1 7 put 6b 0=76\nrun 1\nbegin 1 7 put 6c 0=76\nrun 1\nbegin 1 7 put 6d 0=76\nrun 1\nbegin 1 7 put 6e 0=76\nrun 1\nbegin 1 7 put 6f 0=76\nrun 1\nbegin 16 7 put 70 0=76\nbegin 1 7 put 61 0=77\nrun 1\n";
 
-const FIFTEEN_ANSWERS: &str = "ok\nbegun 1\ndone new\nbegun 1\ndone new\nbegun 1\ndone new\nbegun 1\ndone new\nbegun 1\ndone new\nbegun 1\ndone new\nbegun 1\ndone new\nbegun 1\ndone new\nbegun 1\ndone new\nbegun 1\ndone new\nbegun 1\ndone new\nbegun 1\ndone new\nbegun 1\ndone new\nbegun 1\ndone new\nbegun 1\ndone new\nrefused E19\nbegun 1\ndone replaced\n";
+const FIFTEEN_ANSWERS: &str =
+    "ok\nbegun 1\ndone new\nbegun 1\ndone new\nbegun 1\ndone new\nbegun 1\ndone new\nbegun 1\ndone new\nbegun 1\ndone new\nbegun 1\ndone new\nbegun 1\ndone new\nbegun 1\ndone new\nbegun 1\ndone new\nbegun 1\ndone new\nbegun 1\ndone new\nbegun 1\ndone new\nbegun 1\ndone new\nbegun 1\ndone new\nrefused E19\nbegun 1\ndone replaced\n";
 
 #[test]
 fn single_lines(rt: HostRuntime) -> Result<(), Fail> {
@@ -167,7 +165,10 @@ fn single_lines(rt: HostRuntime) -> Result<(), Fail> {
         ),
         ("\u{0}\n\u{ff}\n", "bad line\nbad line\n"),
         ("step 1 # no comment\nrun 1", "bad line\nnone\n"),
-        ("begin 2 8 get 61\nbegin 2 8 remove 61\n", "refused E4\nbad line\n"),
+        (
+            "begin 2 8 get 61\nbegin 2 8 remove 61\n",
+            "refused E4\nbad line\n",
+        ),
     ];
     for (script, wanted) in cases {
         let written = answers(&rt, script.as_bytes())?;

@@ -14,6 +14,6 @@ invariant_of-self-2 c =
 pub returns : goal.returns
 returns c = record {
   taken =
-    let free : operation_of c.self.inside.tickets.entries c.args.name ≡ None = ap (λ (n : Tickets). operation_of n c.args.name) c.self.view_is ∙ c.requires.free in
-    subst (λ (n : Tickets). TakesName n c.insert.new.self.entries c.args.name c.args.ticket.id) c.self.view_is (takes_from c.self.inside.tickets c.insert.new.self c.args.name c.args.ticket c.in_ok-insert.ensures.updates free);
+      let free : operation_of c.self.inside.tickets.entries c.args.name ≡ None = ap (λ (n : Tickets). operation_of n c.args.name) c.self.view_is ∙ c.requires.free in
+      subst (λ (n : Tickets). TakesName n c.insert.new.self.entries c.args.name c.args.ticket.id) c.self.view_is (takes_from c.self.inside.tickets c.insert.new.self c.args.name c.args.ticket c.in_ok-insert.ensures.updates free);
 }

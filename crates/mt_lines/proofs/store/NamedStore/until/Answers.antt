@@ -16,8 +16,8 @@ pub respond-requires : goal.respond-requires
 respond-requires c = record {
   named = named_same _ _ _ (walk_same (Some c.args.phase) _ _ _ _ c.walk.ensures) c.self.invariant;
   said =
-    let held : operation_of c.self.inside.names c.args.name ≡ Some c.in-Some.ticket.now.id = sym (ap (option_map (λ (t : Ticket). t.id)) c.in-Some.ensures) in
-    (c.in-Some.ticket.now.id, held, walk_can_say (Some c.args.phase) _ _ _ _ c.walk.ensures);
+      let held : operation_of c.self.inside.names c.args.name ≡ Some c.in-Some.ticket.now.id = sym (ap (option_map (λ (t : Ticket). t.id)) c.in-Some.ensures) in
+      (c.in-Some.ticket.now.id, held, walk_can_say (Some c.args.phase) _ _ _ _ c.walk.ensures);
 }
 
 pub returns-in-Moved : goal.returns-in-Moved
