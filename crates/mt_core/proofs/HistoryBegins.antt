@@ -50,6 +50,7 @@ module _ (quotas : Quotas) (first : Maps) (story : Story) (old new : StateView) 
     asked_so = asked_here ∙ same_asked;
     first = λ lt. absurd (none_below (subst (λ k. 0 < k) b.begun.first lt));
     last = λ lt. absurd (none_below (subst (λ k. 0 < k) b.begun.last lt));
+    still = λ none m own. unowned m own;
     unfinished = λ a fin. unowned fin.0 (ap (option_map (λ (s : Made). s.op)) fin.1);
     changes = λ m e own. absurd (unowned m own);
     own = λ m e. absurd (no_value (sym (ap change_in b.begun.progress) ∙ e));
@@ -66,6 +67,7 @@ module _ (quotas : Quotas) (first : Maps) (story : Story) (old new : StateView) 
     asked_so = asked_there q ne ∙ k.asked_so;
     first = k.first;
     last = k.last;
+    still = k.still;
     unfinished = k.unfinished;
     changes = k.changes;
     own = k.own;

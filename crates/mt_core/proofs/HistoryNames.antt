@@ -1,16 +1,16 @@
 -- The names of a run by the map of their tickets.
-use Rattle.std.proofs.Common.{◌≡◌, ◌≢◌, ◌∙◌, ℕ, IsSome, false, Option, Some, None, is_some, sym, refl, ap}
+use Rattle.std.proofs.Common.{◌≡◌, ◌≢◌, ◌∙◌, ℕ, ◌⊎◌, inl, inr, IsSome, true, false, Option, Some, None, is_some, sym, refl, ap}
 use Rattle.std.specs.declared.cmp.Ordering.{Ordering}
 use Rattle.std.specs.declared.cmp.Ordering.TheVariants.{Less, Equal, Greater}
-use Rattle.std.specs.List.{Contains}
 use Rattle.std.specs.Option.{option_map}
 use Rattle.std.proofs.lemmas.Option.{same_Some}
 use Rattle.std.specs.Ordering.{nat_cmp, is_eq}
 use Rattle.std.specs.FinMap.{nat_cmp-IsAntisymmetric}
-use Rattle.std.specs.BTreeMap.{BTreeMap, get, keys, Updates}
-use Rattle.std.proofs.lemmas.Map.Views.{tells_apart, Contains-keys_from_lookup}
+use Rattle.std.specs.BTreeMap.{BTreeMap, get, Updates}
+use Rattle.std.proofs.lemmas.Bool.{cases_eq}
 use Rattle.mt_core.specs.declared.answers.Ticket.{Ticket}
-use Rattle.mt_core.specs.Histories.{named, Renames}
+use Rattle.mt_core.specs.Views.{Table, op_at}
+use Rattle.mt_core.specs.Histories.{Names, named, Renames, AreHeld, AreById}
 
 -- what a map has for a name is what the name stands for
 abbrev pub id_in : Option (Option Ticket) → Option (Option ℕ)
@@ -45,13 +45,34 @@ renamed old new o t u = record {
   others = λ q ne. ap id_in (u.2 q (other_key o q ne));
 }
 
-is_there : (names : BTreeMap ℕ (Option Ticket)) (o n : ℕ) → named names o ≡ Some (Some n) → IsSome (get nat_cmp names o)
-is_there names o n e = by (get nat_cmp names o) e
-  where
-    by : (w : Option (Option Ticket)) → id_in w ≡ Some (Some n) → IsSome w
-    by None e = absurd (cc)
-    by (Some t) e = refl
+none_named : {n : ℕ} → ◌≡◌ {A = Option (Option ℕ)} (Some None) (Some (Some n)) → ⊥
+none_named e = cc
 
--- a name that stands for an operation is one of the map
-pub is_among : (names : BTreeMap ℕ (Option Ticket)) (o n : ℕ) → named names o ≡ Some (Some n) → Contains (keys names) o
-is_among names o n e = Contains-keys_from_lookup (tells_apart nat_cmp-IsAntisymmetric) o names.entries (is_there names o n e)
+-- a map from ids has the names still where one operation more has one, at an id that none had
+pub by_id_begun : (ids now : BTreeMap ℕ ℕ) (old new : Names) (table : Table) (o n : ℕ) → AreById ids old → AreHeld old table → op_at table n ≡ None → Renames old new o (Some n) → Updates nat_cmp ids now n (Some o) → AreById now new
+by_id_begun ids now old new table o n by_id held free renames u q m e = elim (cases_eq q o) [
+  | inl is ↦
+      let same : n ≡ m = same_Some n m (same_Some _ _ (sym renames.here ∙ ap new (sym is) ∙ e)) in
+      ap (get nat_cmp now) (sym same) ∙ u.1 ∙ ap (λ w. Some w) (sym is)
+  | inr other ↦
+      let was = sym (renames.others q other) ∙ e in
+      u.2 m (other_key n m (λ is. free_held (sym (ap (λ w. is_some (op_at table w)) is ∙ ap is_some free) ∙ held q m was))) ∙ by_id q m was
+]
+  where
+    free_held : false ≡ true → ⊥
+    free_held e = cc
+
+-- and where one has none any more
+pub by_id_taken : (ids : BTreeMap ℕ ℕ) (old new : Names) (o : ℕ) → AreById ids old → Renames old new o None → AreById ids new
+by_id_taken ids old new o by_id renames q m e = elim (cases_eq q o) [
+  | inl is ↦ absurd (none_named (sym renames.here ∙ ap new (sym is) ∙ e))
+  | inr other ↦ by_id q m (sym (renames.others q other) ∙ e)
+]
+
+-- the name that the map has of an operation stands for it
+pub by_id_names : (ids : BTreeMap ℕ ℕ) (names : Names) (o n : ℕ) → AreById ids names → (p : ℕ) × (names p ≡ Some (Some n)) → get nat_cmp ids n ≡ Some o → names o ≡ Some (Some n)
+by_id_names ids names o n by_id (p, e) at = ap names (sym (same_Some p o (sym (by_id p n e) ∙ at))) ∙ e
+
+-- there is one, for an operation that has a name
+pub by_id_there : (ids : BTreeMap ℕ ℕ) (names : Names) (n : ℕ) → AreById ids names → (p : ℕ) × (names p ≡ Some (Some n)) → IsSome (get nat_cmp ids n)
+by_id_there ids names n by_id (p, e) = ap is_some (by_id p n e)

@@ -27,7 +27,7 @@ taken_none (x ∷ table) (suc n) = taken_none table n
 
 -- what is told of an operation reads no table
 told_without : (story : Story) (v : StateView) (table : Table) (o : ℕ) (op : Operation) → IsTold story v o op → IsTold story (record v { table = table }) o op
-told_without story v table o op k = record { asked_so = k.asked_so; first = k.first; last = k.last; unfinished = k.unfinished; changes = k.changes; own = k.own }
+told_without story v table o op k = record { asked_so = k.asked_so; first = k.first; last = k.last; still = k.still; unfinished = k.unfinished; changes = k.changes; own = k.own }
 
 module _ (quotas : Quotas) (first : Maps) (story : Story) (names : Names) (old new : StateView) (o n : ℕ) (done : Bool) (answer : Option Answer)
     (h : History quotas first story names old) (known : names o ≡ Some (Some n)) (s : IsStep old new n done)

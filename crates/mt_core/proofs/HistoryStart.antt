@@ -19,7 +19,7 @@ use Rattle.mt_runs.proofs.Growth.{no_story, right_start}
 use Rattle.mt_core.specs.declared.answers.Ticket.{Ticket}
 use Rattle.mt_core.specs.Views.{StateView, op_at, map_of, changed_at, quota_in, quota_of}
 use Rattle.mt_core.specs.Begins.{new_state}
-use Rattle.mt_core.specs.Histories.{no_names, named, History, BringsTo}
+use Rattle.mt_core.specs.Histories.{no_names, named, AreById, History, BringsTo}
 use Rattle.mt_core.proofs.HistoryNames.{id_in}
 use Rattle.mt_core.proofs.HistoryMaps.{AreMade, map_of-now}
 
@@ -63,3 +63,7 @@ history_first logs accounts v names is none =
 pub leads_first : (logs : ℕ) (accounts : Accounts) (v : StateView) (names : BTreeMap ℕ (Option Ticket)) → v ≡ new_state logs accounts → names.entries ≡ []
     → BringsTo no_names (new_state logs accounts) [] (named names) v
 leads_first logs accounts v names is none = (unnamed names none, is)
+
+-- nor are there names by ids
+pub by_id_first : (ids : BTreeMap ℕ ℕ) (names : BTreeMap ℕ (Option Ticket)) → names.entries ≡ [] → AreById ids (named names)
+by_id_first ids names none o n e = absurd (no_value (sym (ap (λ w. w o) (unnamed names none)) ∙ e))

@@ -1,14 +1,14 @@
 -- A numbered step of an operation keeps the story right, and what it tells of every operation.
 use Rattle.std.proofs.Common.{◌≡◌, ◌≢◌, ℕ, suc, ◌+◌, ◌-◌, ◌≤◌, ◌⊎◌, inl, inr, Bool, true, false, not, ◌&&◌, cond, eqb, Option, Some, None, sym, refl, ap, subst, ◌∙◌, arith}
 use mathlib.Core.Path.{fun_ext}
-use Rattle.std.proofs.lemmas.Bool.{both_ways, eqb-false}
+use Rattle.std.proofs.lemmas.Bool.{both_ways, eqb-false, eqb-true}
 use Rattle.std.proofs.lemmas.Option.{same_Some}
 use Rattle.mt_rows.specs.declared.reply.Reply.{Reply}
 use Rattle.mt_rows.specs.declared.reply.Reply.TheVariants.{New, Replaced, Removed}
 use Rattle.mt_rows.specs.Maps.{Map, reply_of, is_change, is_scan, is_no_memory}
 use Rattle.mt_rows.specs.Tenants.{tenant_map}
 use Rattle.mt_runs.specs.declared.event.Answer.{Answer}
-use Rattle.mt_runs.specs.Runs.{Story, Asked, last_step, owner, with_step, IsBetween}
+use Rattle.mt_runs.specs.Runs.{Story, Asked, last_step, owner, with_step, IsFirst, IsLast, IsBetween}
 use Rattle.mt_runs.specs.Scans.{IsLawfulScan}
 use Rattle.mt_runs.specs.Placings.{Quotas, Maps, is_placed, reply_in, maps_after_one}
 use Rattle.mt_runs.specs.Right.{Right, IsChangeAfter, IsAnswered, IsGrowth, maps_at}
@@ -107,13 +107,38 @@ module _ (quotas : Quotas) (first : Maps) (story : Story) (old new : StateView) 
       never : Unlock p.reply (old.steps + 1) ≡ Ended a.reply a.at → ⊥
       never e = cc
 
-  -- the number of the operation's first step has it as its owner
-  first_owner : owner (with_step story o answer) (moved s.before (old.steps + 1) s.progress).first ≡ Some o
-  first_owner = by (eqb s.before.first 0) refl
+  -- the number of the operation's first step, which is this one where it has made none
+  first_number : IsFirst (with_step story o answer) o (moved s.before (old.steps + 1) s.progress).first
+  first_number = by (eqb s.before.first 0) refl
     where
-      by : (b : Bool) → eqb s.before.first 0 ≡ b → owner (with_step story o answer) (cond b (old.steps + 1) s.before.first) ≡ Some o
-      by true e = new_owner story o answer (old.steps + 1) (sym next)
-      by false e = owner_stays story o answer s.before.first o (k.first (let ne = eqb-false s.before.first 0 e in omega (arith, ne)))
+      by : (b : Bool) → eqb s.before.first 0 ≡ b → IsFirst (with_step story o answer) o (cond b (old.steps + 1) s.before.first)
+      by true e = (
+        new_owner story o answer (old.steps + 1) (sym next),
+        λ m own. elim (owner_cases story o answer m o own) [
+          | inl (le, was) ↦ absurd (k.still (eqb-true s.before.first 0 e) m was)
+          | inr (last, is) ↦ omega (arith, last, next)
+        ],
+      )
+      by false e =
+          let ne = eqb-false s.before.first 0 e in
+          let f = k.first (omega (arith, ne)) in
+          let inside = owner_in story s.before.first o f.0 in (
+            owner_stays story o answer s.before.first o f.0,
+            λ m own. elim (owner_cases story o answer m o own) [
+              | inl (le, was) ↦ f.1 m was
+              | inr (last, is) ↦ omega (arith, inside.1, last)
+            ],
+          )
+
+  -- the number of its last one is this
+  last_number : IsLast (with_step story o answer) o (old.steps + 1)
+  last_number = (
+    new_owner story o answer (old.steps + 1) (sym next),
+    λ m own. elim (owner_cases story o answer m o own) [
+      | inl (le, was) ↦ omega (arith, le, next)
+      | inr (last, is) ↦ omega (arith, last, next)
+    ],
+  )
 
   new_change : changed_at new (suc (last_step story)) ≡ true → IsChangeAfter quotas (with_step story o answer) (map_of new) (last_step story)
   new_change e = elim s.effect [
@@ -169,7 +194,9 @@ module _ (quotas : Quotas) (first : Maps) (story : Story) (old new : StateView) 
         what = what;
         asked_so = k.asked_so;
         command = end.command;
-        since = λ placed. ((moved s.before (old.steps + 1) s.progress).first, ans.since, first_owner);
+        first = subst (IsFirst (with_step story o answer) o) (sym end.first) first_number;
+        last = subst (IsLast (with_step story o answer) o) (sym end.last) last_number;
+        since = λ placed. ((moved s.before (old.steps + 1) s.progress).first, ans.since, first_number.0);
         upto = λ placed. (old.steps + 1, ans.upto, new_owner story o answer (old.steps + 1) (sym next));
         looked = λ placed look. (ans.placed (placed_real a placed)).looks look ∙ ap (λ q. reply_of q (ask s.before) (map_of new s.before.tenant a.at)) quota_now;
         changed_so = λ placed is. (
@@ -213,8 +240,9 @@ module _ (quotas : Quotas) (first : Maps) (story : Story) (old new : StateView) 
   pub own_told : ((a : Answer) → answer ≡ Some a → ⊥) → IsTold (with_step story o answer) new o (moved s.before (old.steps + 1) s.progress)
   own_told goes_on = record {
     asked_so = k.asked_so;
-    first = λ lt. first_owner;
-    last = λ lt. new_owner story o answer (old.steps + 1) (sym next);
+    first = λ lt. first_number;
+    last = λ lt. last_number;
+    still = λ none. let inside = owner_in (with_step story o answer) (moved s.before (old.steps + 1) s.progress).first o first_number.0 in absurd (omega (arith, inside.0, none));
     unfinished = λ a fin. elim (finished_cases story o answer o a fin) [
       | inl before ↦ k.unfinished a before
       | inr (is, now) ↦ goes_on a now
@@ -243,8 +271,9 @@ module _ (quotas : Quotas) (first : Maps) (story : Story) (old new : StateView) 
   pub other_told : (q : ℕ) (op : Operation) → q ≢ o → IsTold story old q op → IsTold (with_step story o answer) new q op
   other_told q op other h = record {
     asked_so = h.asked_so;
-    first = λ lt. owner_stays story o answer op.first q (h.first lt);
-    last = λ lt. owner_stays story o answer op.last q (h.last lt);
+    first = λ lt. (owner_stays story o answer op.first q (h.first lt).0, λ m own. (h.first lt).1 m (before m own));
+    last = λ lt. (owner_stays story o answer op.last q (h.last lt).0, λ m own. (h.last lt).1 m (before m own));
+    still = λ none m own. h.still none m (before m own);
     unfinished = λ a fin. elim (finished_cases story o answer q a fin) [
       | inl before ↦ h.unfinished a before
       | inr (is, now) ↦ other is
@@ -255,6 +284,13 @@ module _ (quotas : Quotas) (first : Maps) (story : Story) (old new : StateView) 
     ];
     own = λ m e. owner_stays story o answer m q (h.own m e);
   }
+    where
+      -- its steps are those of before
+      before : (m : ℕ) → owner (with_step story o answer) m ≡ Some q → owner story m ≡ Some q
+      before m own = elim (owner_cases story o answer m q own) [
+        | inl (le, was) ↦ was
+        | inr (last, is) ↦ absurd (other is)
+      ]
 
   -- every change is one of a step made
   pub made_after : AreMade new.tape.entries new.steps

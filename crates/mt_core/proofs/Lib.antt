@@ -1,4 +1,6 @@
 pub mod Tables
+pub mod Links
+pub mod RowLaws
 pub mod Rely
 pub mod Quiet
 pub mod Replies
@@ -19,6 +21,7 @@ pub mod HistoryBegins
 pub mod HistoryRuns
 pub mod HistoryEvents
 pub mod OpenPuts
+pub mod TableMoves
 pub mod Starts
 pub mod Tidies
 pub mod Alone

@@ -1,5 +1,5 @@
 -- A table in which one id has another operation, or none, and a new state.
-use Rattle.std.proofs.Common.{◌≡◌, ◌≢◌, ℕ, zero, suc, ◌<◌, ◌⊎◌, inl, inr, true, false, [], ◌∷◌, length, set, get_or, Option, Some, None, IsSome, is_some, sym, refl, ap, subst, ◌∙◌, arith}
+use Rattle.std.proofs.Common.{◌≡◌, ◌≢◌, ℕ, ◌+◌, ◌<◌, ◌≤◌, ◌⊎◌, inl, inr, true, false, [], length, set, get_or, Option, Some, None, IsSome, is_some, sym, refl, ap, subst, ◌∙◌, arith}
 use Rattle.std.specs.Prelude.{IfSome, IfNone}
 use Rattle.mt_runs.specs.declared.event.Answer.{Answer}
 use Rattle.std.specs.FinMap.{get}
@@ -16,12 +16,16 @@ use Rattle.mt_rows.specs.Accounts.{account_of}
 use Rattle.mt_rows.specs.Maps.{is_get}
 use Rattle.mt_border.specs.Node.{entries_of}
 use Rattle.mt_core.specs.declared.operation.Operation.{Operation}
+use Rattle.mt_core.specs.declared.operation.Progress.{Progress}
 use Rattle.mt_core.specs.declared.operation.Progress.TheVariants.{Enter}
 use Rattle.mt_border.specs.Contents.{owned}
 use Rattle.mt_core.specs.Views.{Core, StateView, Table, shown, pairs_of, op_at}
 use Rattle.mt_core.specs.Kept.{ask, IsKept, IsOpenOperation}
 use Rattle.mt_core.specs.Invariant.{IsOnePut, StateInvariant, StateGuarantee, has_lock, is_unfinished, is_unplaced}
+use Rattle.mt_core.specs.Promises.{IsNext}
+use Rattle.mt_core.specs.Tables.{MayMove}
 use Rattle.mt_core.specs.Begins.{MayBegin, HasOpenPut, IsAnswerOf, IsEnded}
+use Rattle.mt_core.proofs.Tables.{set_there, set_none}
 use Rattle.mt_core.proofs.Rely.{kept_stays, open_stays}
 
 -- the state with another table
@@ -107,25 +111,12 @@ module _ (c : Core) (o : ℕ) (op : Operation) (table : Table) (h : StateInvaria
         | inr (other, before) ↦ h.one_put.room q x before put waits
       ]
 
--- nothing is at an id that was given up
-pub gone_is : (table : Table) (o : ℕ) → op_at (set table o None) o ≡ None
-gone_is [] o = refl
-gone_is (x ∷ table) zero = refl
-gone_is (x ∷ table) (suc o) = gone_is table o
-
-pub gone_others : (table : Table) (o q : ℕ) → q ≢ o → op_at (set table o None) q ≡ op_at table q
-gone_others [] o q ne = refl
-gone_others (x ∷ table) zero zero ne = absurd (ne refl)
-gone_others (x ∷ table) zero (suc q) ne = refl
-gone_others (x ∷ table) (suc o) zero ne = refl
-gone_others (x ∷ table) (suc o) (suc q) ne = gone_others table o q (λ e. ne (ap suc e))
-
 -- an operation less, which was finished
 pub taken_sound : (c : Core) (o : ℕ) (op : Operation) → StateInvariant c → op_at c.table o ≡ Some op → is_unfinished op.progress ≡ false → has_lock op.progress ≡ false → StateInvariant (with_table c (set c.table o None))
 taken_sound c o op h there ended free =
-    table_sound c o (set c.table o None) h (gone_others c.table o)
+    table_sound c o (set c.table o None) h (λ q ne. set_there c.table o q None ne)
     (λ held. let w = h.lock.holder o held in both_ways _ (ap (λ (x : Operation). has_lock x.progress) (same_Some w.0 op (sym w.1 ∙ there)) ∙ free) w.2)
-    (λ x at. absurd (none_some x (sym (gone_is c.table o) ∙ at)))
+    (λ x at. absurd (none_some x (sym (set_none c.table o) ∙ at)))
     (record {
       one = λ p q a b at_a at_b. h.one_put.one p q a b (was p a at_a) (was q b at_b);
       room = λ q x at. h.one_put.room q x (was q x at);
@@ -136,8 +127,8 @@ taken_sound c o op h there ended free =
 
     was : (q : ℕ) (x : Operation) → op_at (set c.table o None) q ≡ Some x → op_at c.table q ≡ Some x
     was q x at = elim (cases_eq q o) [
-      | inl is ↦ absurd (none_some x (sym (gone_is c.table o) ∙ ap (op_at (set c.table o None)) (sym is) ∙ at))
-      | inr other ↦ sym (gone_others c.table o q other) ∙ at
+      | inl is ↦ absurd (none_some x (sym (set_none c.table o) ∙ ap (op_at (set c.table o None)) (sym is) ∙ at))
+      | inr other ↦ sym (set_there c.table o q None other) ∙ at
     ]
 
 -- a take leaves the invariant, whatever it answers
@@ -156,6 +147,23 @@ only_open table now (Put key change) is may put = λ other. may (subst HasOpenPu
 only_open table now (Remove key) is may put = absurd may
 only_open table now (Scan from after count columns) is may put = absurd may
 
+pub begun_alone : (c : Core) (now : StateView) (op : Operation) (worker tenant : ℕ) (command : Command) → shown c ≡ now → IsAdmitted op worker tenant command → MayBegin now.table command → is_get (ask op) ≡ false → ¬ HasOpenPut c.table
+begun_alone c now op worker tenant command is a may put =
+    only_open c.table now.table command (ap (λ (v : StateView). v.table) is) may (ap is_get (sym a.begun.command_is) ∙ put)
+
+-- the operation of an id may make the next step, where it has one left
+pub may_move : (c : Core) (now : StateView) (o : ℕ) (progress : Progress) → shown c ≡ now → StateInvariant c → IsNext now o progress → is_unfinished progress ≡ true → MayMove c.table o (c.steps + 1)
+may_move c now o progress is h next left = record {
+  later = λ q op at. let k = (h.ops q op at).0 in omega (arith, k.order, k.made);
+  unfinished = λ op at.
+      let same : next.0 ≡ op = same_Some next.0 op (sym next.1 ∙ ap (λ (v : StateView). op_at v.table o) (sym is) ∙ at) in
+      ap (λ (x : Operation). is_unfinished x.progress) (sym same) ∙ ap is_unfinished next.2 ∙ left;
+}
+
+-- no first step is later than the last step of all
+pub firsts_made : (c : Core) → StateInvariant c → (q : ℕ) (op : Operation) → op_at c.table q ≡ Some op → op.first ≤ c.steps
+firsts_made c h q op at = let k = (h.ops q op at).0 in omega (arith, k.order, k.made)
+
 -- a begin that was not refused leaves the invariant
 pub begun_by : (c : Core) (now : StateView) (o : ℕ) (op : Operation) (table : Table) (worker tenant : ℕ) (command : Command) (account : Account) → shown c ≡ now → StateInvariant c
     → op_at c.table o ≡ None → op_at table o ≡ Some op → ((q : ℕ) → q ≢ o → op_at table q ≡ op_at c.table q) → IsAdmitted op worker tenant command → MayBegin now.table command
@@ -173,7 +181,7 @@ begun_by c now o op table worker tenant command account is h vacant there others
       made = omega (arith, b.last);
       floor = λ begun. absurd (omega (arith, b.first));
     })
-    (λ put. only_open c.table now.table command (ap (λ (v : StateView). v.table) is) may (ap is_get (sym b.command_is) ∙ put))
+    (begun_alone c now op worker tenant command is a may)
     (λ put. elim (room put) [
       | inl less ↦ inl less
       | inr (slot, found) ↦

@@ -1,8 +1,5 @@
 -- The floor that a tape needs, and that a trim to it leaves the invariant.
-use Rattle.std.proofs.Common.{◌≡◌, ℕ, zero, suc, ◌+◌, ◌-◌, ◌<◌, ◌≤◌, ◌⊎◌, inl, inr, cond, min, List, [], ◌∷◌, Some, None, sym, refl, ap, subst, ◌∙◌, arith}
-use Rattle.std.proofs.lemmas.Option.{same_Some}
-use Rattle.std.proofs.lemmas.Bool.{ne_eqb}
-use Rattle.slab.specs.Slab.{entries_from}
+use Rattle.std.proofs.Common.{◌≡◌, ℕ, ◌-◌, ◌<◌, ◌≤◌, [], Some, sym, refl, ap, subst, ◌∙◌, arith}
 use Rattle.mt_rows.specs.declared.reply.Reply.{Reply}
 use Rattle.mt_rows.specs.declared.command.Command.{Command}
 use Rattle.mt_rows.specs.Maps.{reply_of}
@@ -15,72 +12,12 @@ use Rattle.mt_core.specs.declared.operation.Operation.{Operation}
 use Rattle.mt_core.specs.declared.operation.Progress.{Progress}
 use Rattle.mt_core.specs.declared.operation.Progress.TheVariants.{Enter, Search, Load, Confirm, Forward, Lock, Judge, Store, Publish, Unlock, Finished}
 use Rattle.mt_core.specs.Operations.{steps_to}
-use Rattle.mt_core.specs.Views.{Core, StateView, Table, shown, pairs_of, op_at, map_of, changed_at, quota_of, IsPlaced}
+use Rattle.mt_core.specs.Views.{Core, StateView, shown, pairs_of, op_at, map_of, changed_at, quota_of, IsPlaced}
 use Rattle.mt_core.specs.Kept.{ask, HasRightAnswer, IsKept, IsOpenOperation, IsAtJudge, HasSeen, IsFresh}
 use Rattle.mt_core.specs.Invariant.{IsStampOf, StateInvariant}
-use Rattle.mt_core.specs.Tidies.{IsBeforeFirsts, IsFloorNeeded, Tidies, lowered}
+use Rattle.mt_core.specs.Tidies.{IsBeforeFirsts, IsFloorNeeded, Tidies}
 use Rattle.mt_border.proofs.ContentsStamps.{stamped_weaker}
 use Rattle.mt_core.proofs.Writes.{later_has}
-
--- a floor lowered for each of these operations
-abbrev pub floor_over : ℕ → List (ℕ × Operation) → ℕ
-floor_over floor [] = floor
-floor_over floor (e ∷ es) = floor_over (lowered floor e.1.first) es
-
--- lowering a floor puts it before one first step more, and no more than that
-lowered_cases : (floor first : ℕ) → ((first ≡ 0) × (lowered floor first ≡ floor)) ⊎ ((0 < first) × (lowered floor first ≡ min floor (first - 1)))
-lowered_cases floor zero = inl (refl, refl)
-lowered_cases floor (suc first) = inr (omega arith, ap (λ b. cond b floor (min floor (suc first - 1))) (ne_eqb (suc first) 0 (λ e. absurd (cc))))
-
-lowered_upto : (floor first : ℕ) → lowered floor first ≤ floor
-lowered_upto floor first = elim (lowered_cases floor first) [
-  | inl (none, is) ↦ omega (arith, is)
-  | inr (some, is) ↦ omega (arith, is)
-]
-
-lowered_under : (floor first : ℕ) → 0 < first → lowered floor first < first
-lowered_under floor first begun = elim (lowered_cases floor first) [
-  | inl (none, is) ↦ absurd (omega arith)
-  | inr (some, is) ↦ omega (arith, is)
-]
-
-lowered_over : (n floor first : ℕ) → n ≤ floor → (0 < first → n < first) → n ≤ lowered floor first
-lowered_over n floor first le lt = elim (lowered_cases floor first) [
-  | inl (none, is) ↦ omega (arith, is)
-  | inr (some, is) ↦ omega (arith, is, lt some)
-]
-
-over_upto : (k floor : ℕ) (table : Table) → floor_over floor (entries_from k table) ≤ floor
-over_upto k floor [] = omega arith
-over_upto k floor (None ∷ table) = over_upto (k + 1) floor table
-over_upto k floor (Some op ∷ table) = omega (arith, over_upto (k + 1) (lowered floor op.first) table, lowered_upto floor op.first)
-
-over_before : (k floor : ℕ) (table : Table) → IsBeforeFirsts table (floor_over floor (entries_from k table))
-over_before k floor [] o op at begun = absurd (cc)
-over_before k floor (None ∷ table) zero op at begun = absurd (cc)
-over_before k floor (None ∷ table) (suc o) op at begun = over_before (k + 1) floor table o op at begun
-over_before k floor (Some x ∷ table) zero op at begun =
-    let first : x.first ≡ op.first = ap (λ (w : Operation). w.first) (same_Some x op at) in
-    omega (arith, first, over_upto (k + 1) (lowered floor x.first) table, lowered_under floor x.first (omega arith))
-over_before k floor (Some x ∷ table) (suc o) op at begun = over_before (k + 1) (lowered floor x.first) table o op at begun
-
-over_greatest : (k floor n : ℕ) (table : Table) → n ≤ floor → IsBeforeFirsts table n → n ≤ floor_over floor (entries_from k table)
-over_greatest k floor n [] le before = le
-over_greatest k floor n (None ∷ table) le before = over_greatest (k + 1) floor n table le (λ o op at begun. before (suc o) op at begun)
-over_greatest k floor n (Some x ∷ table) le before =
-    over_greatest (k + 1) (lowered floor x.first) n table (lowered_over n floor x.first le (before zero x refl)) (λ o op at begun. before (suc o) op at begun)
-
--- the floor that was lowered for all operations is the one that is needed
-pub floor_is_needed : (steps floor : ℕ) (table : Table) → floor ≡ floor_over steps (entries_from 0 table) → IsFloorNeeded table steps floor
-floor_is_needed steps floor table is = subst (IsFloorNeeded table steps) (sym is) (record {
-  made = over_upto 0 steps table;
-  before = over_before 0 steps table;
-  greatest = λ n le before. over_greatest 0 steps n table le before;
-})
-
--- an entry's operation lowers the floor for the others
-pub over_past : (floor lower : ℕ) (e : ℕ × Operation) (es all : List (ℕ × Operation)) → all ≡ e ∷ es → lower ≡ lowered floor e.1.first → floor_over lower es ≡ floor_over floor all
-over_past floor lower e es all at is = ap (λ n. floor_over n es) is ∙ sym (ap (floor_over floor) at)
 
 -- the state with a tape that begins at a later floor
 abbrev pub trimmed : Core → ℕ → Core

@@ -1,5 +1,5 @@
 -- What ties a run's story to the state that it led to.
-use Rattle.std.specs.Prelude.{◌≡◌, ◌≢◌, ℕ, ◌<◌, ◌≤◌, ◌^◌, true, false, ◌∷◌, [], Option, Some, None}
+use Rattle.std.specs.Prelude.{◌≡◌, ◌≢◌, ℕ, ◌<◌, ◌≤◌, ◌^◌, true, false, ◌∷◌, [], Option, Some, None, IsSome}
 use Rattle.std.specs.Option.{option_map}
 use Rattle.std.specs.List.{All}
 use Rattle.std.specs.Ordering.{nat_cmp}
@@ -9,7 +9,7 @@ use Rattle.mt_runs.specs.declared.event.Event.{Event}
 use Rattle.mt_runs.specs.declared.event.Event.TheVariants.{Begin, Step}
 use Rattle.mt_runs.specs.declared.event.Told.{Told}
 use Rattle.mt_runs.specs.declared.event.Told.TheVariants.{Begun, Refused, NoSuch, Moved, Again, Spent, Done}
-use Rattle.mt_runs.specs.Runs.{Run, Story, last_step, owner, Finished}
+use Rattle.mt_runs.specs.Runs.{Run, Story, last_step, owner, Finished, IsFirst, IsLast}
 use Rattle.mt_runs.specs.Placings.{Quotas, Maps}
 use Rattle.mt_runs.specs.Right.{Right}
 use Rattle.mt_core.specs.declared.answers.Ticket.{Ticket}
@@ -41,12 +41,21 @@ pub record Renames (old new : Names) (o : ℕ) (stands : Option ℕ) : Type 0 wh
 abbrev pub AreNamed : Names → Table → Type 0
 AreNamed names table = (n : ℕ) (op : Operation) → op_at table n ≡ Some op → (o : ℕ) × (names o ≡ Some (Some n))
 
--- what a run's story tells of an open operation by its name: its command, its first and last step, that it is not finished, and that
--- the change which it remembers, if any, is the one that it made
+-- every operation that has a name is in the table
+abbrev pub AreHeld : Names → Table → Type 0
+AreHeld names table = (o n : ℕ) → names o ≡ Some (Some n) → IsSome (op_at table n)
+
+-- a map from ids has the name of each operation that has one
+abbrev pub AreById : BTreeMap ℕ ℕ → Names → Type 0
+AreById ids names = (o n : ℕ) → names o ≡ Some (Some n) → get nat_cmp ids n ≡ Some o
+
+-- what a run's story tells of an open operation by its name: its command, its first and its last step, or that it has made none, that it is not
+-- finished, and that the change which it remembers, if any, is the one that it made
 pub record IsTold (story : Story) (v : StateView) (o : ℕ) (op : Operation) : Type 0 where
   pub asked_so : story.asked o ≡ Some (record { tenant = op.tenant; command = ask op })
-  pub first : 0 < op.first → owner story op.first ≡ Some o
-  pub last : 0 < op.last → owner story op.last ≡ Some o
+  pub first : 0 < op.first → IsFirst story o op.first
+  pub last : 0 < op.last → IsLast story o op.last
+  pub still : op.first ≡ 0 → (m : ℕ) → owner story m ≢ Some o
   pub unfinished : (a : Answer) → Finished story o a → ⊥
   pub changes : (m : ℕ) → changed_at v m ≡ true → owner story m ≡ Some o → change_in op.progress ≡ Some m
   pub own : (m : ℕ) → change_in op.progress ≡ Some m → owner story m ≡ Some o

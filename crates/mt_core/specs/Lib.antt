@@ -1,6 +1,7 @@
 pub mod Names
 pub mod Operations
 pub mod Views
+pub mod Tables
 pub mod Kept
 pub mod Reads
 pub mod Invariant

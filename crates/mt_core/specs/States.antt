@@ -4,4 +4,4 @@ use Rattle.mt_core.specs.Views.{Core}
 
 -- what is inside
 abbrev pub core_of : Inside → Core
-core_of s = record { steps = s.steps; logs = s.logs; accounts = s.tenants; node = s.root; holder = s.holder; tape = s.tape; table = s.operations.slots }
+core_of s = record { steps = s.steps; logs = s.logs; accounts = s.tenants; node = s.root; holder = s.holder; tape = s.tape; table = s.operations }

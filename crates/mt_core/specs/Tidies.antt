@@ -1,5 +1,5 @@
 -- What a tidying leaves.
-use Rattle.std.specs.Prelude.{◌≡◌, ℕ, ◌-◌, ◌<◌, ◌≤◌, ◌==◌, min, if◌then◌else◌, Some}
+use Rattle.std.specs.Prelude.{◌≡◌, ℕ, ◌<◌, ◌≤◌, Some}
 use Rattle.mt_tape.specs.Tapes.{later_entries}
 use Rattle.mt_core.specs.declared.operation.Operation.{Operation}
 use Rattle.mt_core.specs.Views.{StateView, Table, op_at, map_of, changed_at}
@@ -7,10 +7,6 @@ use Rattle.mt_core.specs.Views.{StateView, Table, op_at, map_of, changed_at}
 -- every operation of the table that has made a step made its first one after this number
 abbrev pub IsBeforeFirsts : Table → ℕ → Type 0
 IsBeforeFirsts table floor = (o : ℕ) (op : Operation) → op_at table o ≡ Some op → 0 < op.first → floor < op.first
-
--- a floor that is before a first step too, where one was made
-abbrev pub lowered : ℕ → ℕ → ℕ
-lowered floor first = if first == 0 then floor else min floor (first - 1)
 
 -- the floor that a tape needs after so many steps: the greatest number of steps that is before the first step of each operation of the table
 pub record IsFloorNeeded (table : Table) (steps floor : ℕ) : Type 0 where

@@ -3,7 +3,9 @@
 //! Events name operations by numbers of the caller's choice; the run keeps their tickets. Errors: the
 //! memory of the run's own lists; the state that it was run on is dropped then.
 
-ghost use Rattle.std.specs.Prelude.{◌≡◌, ◌≤◌, ◌↔◌, ℕ, IsTrue, Some, None, IfOk, OnOk, length};
+ghost use Rattle.std.specs.Prelude.{◌≡◌, ◌≤◌, ◌↔◌, ℕ, IsTrue, IsSome, Some, None, IfOk, OnOk, length};
+ghost use Rattle.std.specs.Ordering.{nat_cmp};
+ghost use Rattle.std.specs.BTreeMap.{get};
 ghost use Rattle.std.specs.List.{All, zip};
 ghost use Rattle.mt_rows.specs.Accounts.{account_of};
 ghost use Rattle.mt_runs.specs.declared.event.Event.TheVariants.{Begin, Step};
@@ -11,7 +13,7 @@ ghost use Rattle.mt_runs.specs.Runs.{story_of};
 ghost use Rattle.mt_runs.specs.Placings.{no_pairs, HasOneOrder};
 ghost use Rattle.mt_core.specs.Views.{quota_in};
 ghost use Rattle.mt_core.specs.Begins.{new_state, HaveNoPairs, IsWorker, MayBegin, IsEnded, Takes};
-ghost use Rattle.mt_core.specs.Histories.{named, Renames, AreNamed, IsServed, TellsEvent, BringsTo, no_names, Names as AnyNames};
+ghost use Rattle.mt_core.specs.Histories.{named, Renames, AreNamed, AreHeld, AreById, IsServed, TellsEvent, BringsTo, no_names, Names as AnyNames};
 
 use crate::answers::{Move, Ticket};
 use crate::state::State;
@@ -45,6 +47,14 @@ impl ToldList {
     }
 }
 
+// The names of a run: the ticket that each stands for, till its answer is taken; and by the id of each
+// operation that is open, its name.
+#[derive(Drop)]
+struct Roster {
+    tickets: BTreeMap<u64, Option<Ticket>>,
+    names: BTreeMap<u64, u64>,
+}
+
 /// Lets events happen to a new state, and gives it back with what each answered.
 ///
 /// A begin by a name by which one was begun before, and a step by a name whose operation is not open,
@@ -65,25 +75,27 @@ pub fn run_events(
     ensures run { IfOk result (λ r. (names : AnyNames) × BringsTo no_names (new_state logs tenants) (zip events.now r.1) names r.0) }
 {
     let mut state = State::new(alloc, logs, tenants);
-    let mut names = BTreeMap::new(alloc);
+    let mut roster = Roster {
+        tickets: BTreeMap::new(alloc),
+        names: BTreeMap::new(alloc),
+    };
     let mut told = Vec::new(alloc);
     for event in events {
-        let answer = tell(&mut state, &mut names, event)?;
+        let answer = tell(&mut state, &mut roster, event)?;
         told.push(answer)?;
     }
     Ok((state, ToldList { told }))
 }
 
 // Lets one event happen.
-fn tell(
-    state: &mut State,
-    names: &mut BTreeMap<u64, Option<Ticket>>,
-    event: &Event,
-) -> Result<Told, AllocError>
+fn tell(state: &mut State, roster: &mut Roster, event: &Event) -> Result<Told, AllocError>
     requires worker { IsServed state.old.logs event.now }
-    requires named { AreNamed (named names.old) state.old.table }
+    requires named { AreNamed (named roster.old.tickets) state.old.table }
+    requires held { AreHeld (named roster.old.tickets) state.old.table }
+    requires by_id { AreById roster.old.names (named roster.old.tickets) }
     ensures logs { OnOk result (state.new.logs ≡ state.old.logs) }
-    ensures tells { IfOk result (λ told. TellsEvent (named names.old) state.old (named names.new) state.new event.now told) }
+    ensures by_id { OnOk result (AreById roster.new.names (named roster.new.tickets)) }
+    ensures tells { IfOk result (λ told. TellsEvent (named roster.old.tickets) state.old (named roster.new.tickets) state.new event.now told) }
 {
     match event {
         Event::Begin {
@@ -91,30 +103,34 @@ fn tell(
             worker,
             tenant,
             command,
-        } => begin_by(state, names, *op, *worker, *tenant, command),
-        Event::Step { op } => Ok(step_by(state, names, *op)),
+        } => begin_by(state, roster, *op, *worker, *tenant, command),
+        Event::Step { op } => Ok(step_by(state, roster, *op)),
     }
 }
 
 // Begins an operation by a name.
 fn begin_by(
     state: &mut State,
-    names: &mut BTreeMap<u64, Option<Ticket>>,
+    roster: &mut Roster,
     op: u64,
     worker: u8,
     tenant: u32,
     command: &Command,
 ) -> Result<Told, AllocError>
     requires worker { IsWorker state.old.logs worker }
+    requires held { AreHeld (named roster.old.tickets) state.old.table }
+    requires by_id { AreById roster.old.names (named roster.old.tickets) }
     ensures logs { OnOk result (state.new.logs ≡ state.old.logs) }
-    ensures tells { IfOk result (λ told. TellsEvent (named names.old) state.old (named names.new) state.new (Begin op worker tenant command.now) told) }
+    ensures by_id { OnOk result (AreById roster.new.names (named roster.new.tickets)) }
+    ensures tells { IfOk result (λ told. TellsEvent (named roster.old.tickets) state.old (named roster.new.tickets) state.new (Begin op worker tenant command.now) told) }
 {
-    if names.contains_key(&op) || !may_begin(state, command) {
+    if roster.tickets.contains_key(&op) || !may_begin(state, command) {
         return Ok(Told::NoSuch);
     }
     match state.begin(worker, tenant, command.copied()?) {
         Ok(ticket) => {
-            names.insert(op, Some(ticket))?;
+            roster.names.insert(ticket.id(), op)?;
+            roster.tickets.insert(op, Some(ticket))?;
             Ok(Told::Begun)
         }
         Err(refusal) => Ok(Told::Refused(refusal)),
@@ -133,46 +149,44 @@ fn may_begin(state: &State, command: &Command) -> bool
 }
 
 // Makes one step of the operation of a name, and takes its answer with its last one.
-fn step_by(state: &mut State, names: &mut BTreeMap<u64, Option<Ticket>>, op: u64) -> Told
-    requires named { AreNamed (named names.old) state.old.table }
+fn step_by(state: &mut State, roster: &mut Roster, op: u64) -> Told
+    requires named { AreNamed (named roster.old.tickets) state.old.table }
+    requires by_id { AreById roster.old.names (named roster.old.tickets) }
     ensures logs { state.new.logs ≡ state.old.logs }
-    ensures tells { TellsEvent (named names.old) state.old (named names.new) state.new (Step op) result }
+    ensures by_id { AreById roster.new.names (named roster.new.tickets) }
+    ensures tells { TellsEvent (named roster.old.tickets) state.old (named roster.new.tickets) state.new (Step op) result }
 {
-    let Some(Some(ticket)) = names.get(&op) else {
+    let Some(Some(ticket)) = roster.tickets.get(&op) else {
         return Told::NoSuch;
     };
     match state.step(ticket) {
         Move::Moved => Told::Moved,
-        Move::Again { holder } => Told::Again(name_of(names, holder)),
+        Move::Again { holder } => Told::Again(name_of(&roster.names, holder)),
         Move::NoMemory => Told::NoMemory,
-        Move::Done => Told::Done(take_by(state, names, op)),
+        Move::Done => Told::Done(take_by(state, &mut roster.tickets, op)),
         Move::Spent => Told::Spent,
         Move::NoSuch => Told::NoSuch,
     }
 }
 
-// The name of the operation that has this id.
-fn name_of(names: &BTreeMap<u64, Option<Ticket>>, id: u64) -> u64
-    requires there { (o : ℕ) × (named names.now o ≡ Some (Some id)) }
-    ensures { named names.now result ≡ Some (Some id) }
+// The name of the operation of an id.
+fn name_of(names: &BTreeMap<u64, u64>, id: u64) -> u64
+    requires { IsSome (get nat_cmp names.now id) }
+    ensures { get nat_cmp names.now id ≡ Some result }
 {
-    for name in names.keys() {
-        if let Some(Some(ticket)) = names.get(name) {
-            if ticket.id() == id {
-                return *name;
-            }
-        }
+    match names.get(&id) {
+        Some(name) => *name,
+        None => unreachable!(),
     }
-    unreachable!()
 }
 
 // Takes the answer of the operation of a name, which has no step left.
-fn take_by(state: &mut State, names: &mut BTreeMap<u64, Option<Ticket>>, op: u64) -> Answer
-    requires ended { (n : ℕ) × (named names.old op ≡ Some (Some n)) × IsEnded state.old.table n }
-    ensures takes { (n : ℕ) → named names.old op ≡ Some (Some n) → Takes state.old state.new n result }
-    ensures renames { Renames (named names.old) (named names.new) op None }
+fn take_by(state: &mut State, tickets: &mut BTreeMap<u64, Option<Ticket>>, op: u64) -> Answer
+    requires ended { (n : ℕ) × (named tickets.old op ≡ Some (Some n)) × IsEnded state.old.table n }
+    ensures takes { (n : ℕ) → named tickets.old op ≡ Some (Some n) → Takes state.old state.new n result }
+    ensures renames { Renames (named tickets.old) (named tickets.new) op None }
 {
-    let Some(kept) = names.get_mut(&op) else {
+    let Some(kept) = tickets.get_mut(&op) else {
         unreachable!()
     };
     let Some(ticket) = kept.take() else {

@@ -11,9 +11,10 @@ mod openings;
 pub mod operation;
 pub mod phase;
 mod reads;
+mod row;
 pub mod shape;
 pub mod state;
-mod tidy;
+mod table;
 
 pub use answers::{Move, Ticket};
 pub use events::{ToldList, run_events};

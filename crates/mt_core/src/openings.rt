@@ -1,22 +1,22 @@
-//! How operations come into the table and leave it.
+//! How operations are made of commands, and answered.
 
 ghost use Rattle.std.specs.Prelude.{◌≡◌, ◌≢◌, ◌≤◌, ◌↔◌, ℕ, false, IsTrue, IfSome, IfNone, IfOk, IfErr, OnErr, length, slice_set, Some, None};
 ghost use Rattle.std.specs.Result.{result_err};
-ghost use Rattle.slab.specs.Slab.{get, Updates};
+ghost use Rattle.mt_core.specs.Views.{op_at};
 ghost use Rattle.mt_core.specs.Operations.{command_of};
 ghost use Rattle.mt_core.specs.declared.operation.Operation.{Operation as AnyOperation};
 ghost use Rattle.mt_core.specs.Invariant.{is_unfinished};
-ghost use Rattle.mt_core.specs.Begins.{HasOpenPut, IsAnswerOf, IsEnded};
+ghost use Rattle.mt_core.specs.Begins.{IsAnswerOf, IsEnded};
 ghost use Rattle.mt_core.specs.Admitted.{IsPoint, IsRequest, IsAdmitted, HasRoomFor};
 ghost use Rattle.mt_core.specs.Refused.{asks_first, names_first, fault_of, Refuses, LacksRoom};
 
 use crate::operation::{Operation, Progress, Request};
 use crate::reads::slot_of;
+use crate::table::Operations;
 use mt_border::Border;
 use mt_rows::{Change, ColumnIndexes, Command, Key, NamedColumns, Refusal};
 use mt_runs::Answer;
 use mt_slices::{KeyRefusal, StoredKey};
-use slab::Slab;
 use std::alloc::Global;
 
 /// The longest key that one border node takes, in bytes.
@@ -117,34 +117,23 @@ pub(crate) fn has_room(root: &Border, operation: &Operation) -> bool
     operation.request.is_get() || !root.is_full() || slot_of(root, &operation.key).is_some()
 }
 
-/// Keeps an operation, at an id that was free.
-pub(crate) fn keep(operations: &mut Slab<Operation>, operation: Operation) -> Result<usize, Refusal>
-    ensures memory { IfErr result (λ refusal. refusal ≡ Refusal.Memory) }
-    ensures vacant { IfOk result (λ id. get operations.old id ≡ None) }
-    ensures kept { IfOk result (λ id. Updates operations.old operations.new id (Some operation)) }
-    ensures unchanged_on_err { OnErr result (operations.new.slots ≡ operations.old.slots) }
-{
-    let id = operations.insert(operation)?;
-    Ok(id)
-}
-
 /// Takes an operation that is finished out of the table, and tells its answer.
-pub(crate) fn give_up(operations: &mut Slab<Operation>, id: usize) -> Option<Answer>
-    ensures taken { IfSome result (λ answer. (op : AnyOperation) × (get operations.old id ≡ Some op) × IsAnswerOf op answer × (operations.new.slots ≡ slice_set operations.old.slots id None)) }
-    ensures open { IfNone result ((operations.new.slots ≡ operations.old.slots) × ¬ IsEnded operations.old.slots id) }
+pub(crate) fn give_up(operations: &mut Operations, id: usize) -> Option<Answer>
+    ensures taken { IfSome result (λ answer. (op : AnyOperation) × (op_at operations.old id ≡ Some op) × IsAnswerOf op answer × (operations.new ≡ slice_set operations.old id None)) }
+    ensures open { IfNone result ((operations.new ≡ operations.old) × ¬ IsEnded operations.old id) }
 {
     if !is_ended(operations, id) {
         return None;
     }
-    match operations.try_remove(id) {
+    match operations.remove(id) {
         Some(operation) => Some(answer_of(operation)),
         None => unreachable!(),
     }
 }
 
 // Whether the operation is there, and no step of it is left.
-fn is_ended(operations: &Slab<Operation>, id: usize) -> bool
-    ensures { IsTrue result ↔ IsEnded operations.now.slots id }
+fn is_ended(operations: &Operations, id: usize) -> bool
+    ensures { IsTrue result ↔ IsEnded operations.now id }
 {
     match operations.get(id) {
         Some(operation) => matches!(&operation.progress, Progress::Finished { .. }),
@@ -174,16 +163,4 @@ fn answer_of(operation: Operation) -> Answer
         },
         _ => unreachable!(),
     }
-}
-
-/// Whether a put has a step left.
-pub(crate) fn has_open_put_in(operations: &Slab<Operation>) -> bool
-    ensures { IsTrue result ↔ HasOpenPut operations.now.slots }
-{
-    for (_, operation) in operations.iter() {
-        if operation.is_open_put() {
-            return true;
-        }
-    }
-    false
 }

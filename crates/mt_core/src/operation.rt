@@ -2,9 +2,7 @@
 //!
 //! Invariant of an operation in a state: what `specs/Kept.antt` says of its next phase.
 
-ghost use Rattle.std.specs.Prelude.{◌≡◌, ℕ, slice_set, Some};
-ghost use Rattle.std.specs.Option.{option_map};
-ghost use Rattle.slab.specs.Slab.{get};
+ghost use Rattle.std.specs.Prelude.{◌≡◌, ℕ, Some};
 ghost use Rattle.mt_rows.specs.Maps.{is_get};
 ghost use Rattle.mt_rows.specs.Commands.{key_of};
 ghost use Rattle.mt_rows.specs.declared.reply.Reply.{Reply as AnyReply};
@@ -17,7 +15,6 @@ use mt_rows::{Change, ColumnIndexes, Command, Key, Reply, Row};
 use mt_slices::StoredKey;
 use mt_tape::Entry;
 use mt_version::Version;
-use slab::Slab;
 use std::mem;
 
 /// A command that was taken.
@@ -151,7 +148,7 @@ impl Operation {
     }
 
     // Makes the step of this number, and gives back what was remembered.
-    fn advance(&mut self, step: u64, progress: Progress) -> Progress
+    pub(crate) fn advance(&mut self, step: u64, progress: Progress) -> Progress
         ensures moved { self.new ≡ moved self.old step progress }
         ensures remembered { result ≡ self.old.progress }
     {
@@ -163,8 +160,9 @@ impl Operation {
     }
 
     // Makes the step of this number, its last one, with the reply that it remembers.
-    fn finish(&mut self, step: u64)
-        ensures { (reply : AnyReply) (at : ℕ) → ending self.old.progress ≡ Some (reply, at) → self.new ≡ moved self.old step (Progress.Finished reply at) }
+    pub(crate) fn finish(&mut self, step: u64)
+        ensures moves { self.new ≡ moved self.old step self.new.progress }
+        ensures ends { (reply : AnyReply) (at : ℕ) → ending self.old.progress ≡ Some (reply, at) → self.new ≡ moved self.old step (Progress.Finished reply at) }
     {
         match self.advance(step, Progress::Judge) {
             Progress::Confirm { reply, at, .. } | Progress::Unlock { reply, at } => {
@@ -172,41 +170,5 @@ impl Operation {
             }
             _ => {}
         }
-    }
-}
-
-/// An operation makes the step of this number; gives back what it remembered.
-pub(crate) fn advance(
-    operations: &mut Slab<Operation>,
-    id: usize,
-    step: u64,
-    progress: Progress,
-) -> Option<Progress>
-    ensures remembered { result ≡ option_map (λ op. op.progress) (get operations.old id) }
-    ensures moved { (before : AnyOperation) → get operations.old id ≡ Some before →
-        operations.new.slots ≡ slice_set operations.old.slots id (Some (moved before step progress)) }
-{
-    match operations.get_mut(id) {
-        Some(operation) => Some(operation.advance(step, progress)),
-        None => None,
-    }
-}
-
-/// An operation makes the step of this number, and drops what it remembered.
-pub(crate) fn go_on(operations: &mut Slab<Operation>, id: usize, step: u64, progress: Progress)
-    ensures { (before : AnyOperation) → get operations.old id ≡ Some before →
-        operations.new.slots ≡ slice_set operations.old.slots id (Some (moved before step progress)) }
-{
-    let _ = advance(operations, id, step, progress);
-}
-
-/// An operation makes the step of this number, its last one, with the reply that it remembers.
-pub(crate) fn finish(operations: &mut Slab<Operation>, id: usize, step: u64)
-    ensures { (before : AnyOperation) (reply : AnyReply) (at : ℕ) → get operations.old id ≡ Some before →
-        ending before.progress ≡ Some (reply, at) →
-        operations.new.slots ≡ slice_set operations.old.slots id (Some (moved before step (Progress.Finished reply at))) }
-{
-    if let Some(operation) = operations.get_mut(id) {
-        operation.finish(step);
     }
 }

@@ -1,6 +1,6 @@
 //! What steps read of the node, and the growths that they make of it.
 
-ghost use Rattle.std.specs.Prelude.{◌≡◌, ◌≤◌, ◌+◌, ◌-◌, ◌<◌, ℕ, false, [], ◌∷◌, ◌++◌, IfSome, IfNone, IfOk, length, Some, None};
+ghost use Rattle.std.specs.Prelude.{◌≡◌, ◌≤◌, ◌+◌, ◌-◌, ◌<◌, ℕ, false, [], ◌∷◌, ◌++◌, IfSome, IfNone, IfOk, length, Some, None, IsSome};
 ghost use Rattle.std.specs.Option.{option_map};
 ghost use Rattle.mt_rows.specs.Rows.{AreIndexes, shown, columns_of};
 ghost use Rattle.mt_rows.specs.Commands.{HasColumns, key_of};
@@ -14,15 +14,15 @@ ghost use Rattle.mt_core.specs.Operations.{command_of};
 ghost use Rattle.mt_core.specs.Reads.{columns_asked, TellsPrepared, TellsSlot, TellsTaken, CountsNew, searched, left, turned, new_entry, marked};
 ghost use Rattle.mt_core.specs.declared.operation.Operation.{Operation as AnyOperation};
 ghost use Rattle.mt_tape.specs.Tapes.{last_write};
-ghost use Rattle.slab.specs.Slab.{get, ContainsKey};
+ghost use Rattle.mt_core.specs.Views.{op_at};
 
 use crate::operation::{Operation, Progress, Request};
+use crate::table::Operations;
 use mt_border::{Border, Find, FoundKind, Held, Pair, Suffix};
 use mt_rows::{Reply, Row, Tenants, merge};
 use mt_slices::StoredKey;
 use mt_tape::{Entry, Tape};
 use mt_version::Version;
-use slab::Slab;
 use std::alloc::{AllocError, Global};
 
 /// The slot of a short key.
@@ -106,8 +106,8 @@ pub(crate) fn out_of_memory(step: u64) -> Progress
 }
 
 /// Where an operation goes on from a version: a get looks, a put locks.
-pub(crate) fn turn(operations: &Slab<Operation>, id: usize, seen: Version) -> Progress
-    ensures { (op : AnyOperation) → get operations.now id ≡ Some op → result ≡ turned op seen }
+pub(crate) fn turn(operations: &Operations, id: usize, seen: Version) -> Progress
+    ensures { (op : AnyOperation) → op_at operations.now id ≡ Some op → result ≡ turned op seen }
 {
     match operations.get(id) {
         Some(operation) if operation.request.is_get() => Progress::Search { seen },
@@ -116,9 +116,9 @@ pub(crate) fn turn(operations: &Slab<Operation>, id: usize, seen: Version) -> Pr
 }
 
 /// The slot of an operation's key.
-pub(crate) fn slot_at(root: &Border, operations: &Slab<Operation>, id: usize) -> Option<usize>
-    requires { (op : AnyOperation) → get operations.now id ≡ Some op → length op.key ≤ 8 }
-    ensures { (op : AnyOperation) → get operations.now id ≡ Some op → TellsSlot root.now op.key result }
+pub(crate) fn slot_at(root: &Border, operations: &Operations, id: usize) -> Option<usize>
+    requires { (op : AnyOperation) → op_at operations.now id ≡ Some op → length op.key ≤ 8 }
+    ensures { (op : AnyOperation) → op_at operations.now id ≡ Some op → TellsSlot root.now op.key result }
 {
     let operation = operations.get(id)?;
     slot_of(root, &operation.key)
@@ -130,11 +130,11 @@ pub(crate) fn taken_at(
     alloc: Global,
     root: &Border,
     slot: usize,
-    operations: &Slab<Operation>,
+    operations: &Operations,
     id: usize,
 ) -> Option<(Reply, Option<u64>)>
-    requires { (op : AnyOperation) → get operations.now id ≡ Some op → HasColumns (command_of op.request) }
-    ensures { (op : AnyOperation) → get operations.now id ≡ Some op → IfSome result (TellsTaken root.now slot op) }
+    requires { (op : AnyOperation) → op_at operations.now id ≡ Some op → HasColumns (command_of op.request) }
+    ensures { (op : AnyOperation) → op_at operations.now id ≡ Some op → IfSome result (TellsTaken root.now slot op) }
 {
     let operation = operations.get(id)?;
     match shown_at(alloc, root, slot, &operation.request) {
@@ -150,11 +150,11 @@ pub(crate) fn ready_at(
     alloc: Global,
     root: &Border,
     tape: &mut Tape,
-    operations: &Slab<Operation>,
+    operations: &Operations,
     id: usize,
 ) -> Option<Progress>
-    requires { (op : AnyOperation) → get operations.now id ≡ Some op → length op.key ≤ 8 }
-    ensures prepared { (op : AnyOperation) → get operations.now id ≡ Some op → IfSome result (λ next. TellsPrepared root.now op (Some next)) }
+    requires { (op : AnyOperation) → op_at operations.now id ≡ Some op → length op.key ≤ 8 }
+    ensures prepared { (op : AnyOperation) → op_at operations.now id ≡ Some op → IfSome result (λ next. TellsPrepared root.now op (Some next)) }
     ensures reserved { IfSome result (λ next. tape.new ≡ record tape.old { reserved = tape.old.reserved + 1 }) }
     ensures unchanged_on_none { IfNone result (tape.new ≡ tape.old) }
 {
@@ -179,16 +179,19 @@ fn prepared(alloc: Global, root: &Border, operation: &Operation) -> Option<Progr
 
 /// The entry of an operation's key with this row, placed by this step.
 pub(crate) fn entry_of(
-    operations: &Slab<Operation>,
+    operations: &Operations,
     id: usize,
     suffix: Suffix,
     row: Row,
     step: u64,
 ) -> mt_border::Entry
-    requires { ContainsKey operations.now id }
-    ensures { (op : AnyOperation) → get operations.now id ≡ Some op → result ≡ new_entry op suffix row step }
+    requires { IsSome (op_at operations.now id) }
+    ensures { (op : AnyOperation) → op_at operations.now id ≡ Some op → result ≡ new_entry op suffix row step }
 {
-    let key = &operations[id].key;
+    let Some(operation) = operations.get(id) else {
+        unreachable!()
+    };
+    let key = &operation.key;
     mt_border::Entry {
         slice: key.slice(0),
         mark: key.mark(0),
@@ -201,8 +204,8 @@ pub(crate) fn entry_of(
 }
 
 /// Counts one pair more of an operation's tenant, where its quota has room.
-pub(crate) fn count_at(tenants: &mut Tenants, operations: &Slab<Operation>, id: usize) -> bool
-    ensures counts { (op : AnyOperation) → get operations.now id ≡ Some op → CountsNew tenants.old tenants.new op.tenant result }
+pub(crate) fn count_at(tenants: &mut Tenants, operations: &Operations, id: usize) -> bool
+    ensures counts { (op : AnyOperation) → op_at operations.now id ≡ Some op → CountsNew tenants.old tenants.new op.tenant result }
     ensures same { result ≡ false → tenants.new ≡ tenants.old }
 {
     match operations.get(id) {

@@ -19,21 +19,20 @@ ghost use Rattle.mt_core.specs.Alone.{Runs, IsAlone, EndsAlone};
 ghost use Rattle.mt_core.specs.Tidies.{Tidies};
 
 use crate::answers::{Move, Ticket};
-use crate::openings::{admitted, give_up, has_open_put_in, has_room, keep};
-use crate::operation::{Operation, Progress, advance, finish, go_on};
+use crate::openings::{admitted, give_up, has_room};
+use crate::operation::Progress;
 use crate::phase::Phase;
 use crate::reads::{
     add_entry, count_at, entry_of, left, marker, out_of_memory, push_write, ready_at, searched,
     slot_at, taken_at, turn, write_row,
 };
 use crate::shape::{ShapeLine, line_of};
-use crate::tidy::floor_needed;
+use crate::table::Operations;
 use mt_border::Border;
 use mt_rows::{Command, Refusal, Reply, Tenants};
 use mt_runs::Answer;
 use mt_tape::Tape;
 use mt_version::Version;
-use slab::Slab;
 use std::alloc::{AllocError, Global};
 use std::marker::Model;
 
@@ -54,7 +53,7 @@ pub struct State {
     root: Border,
     holder: Option<usize>,
     tape: Tape,
-    operations: Slab<Operation>,
+    operations: Operations,
 }
 
 impl Model for State {
@@ -89,7 +88,7 @@ impl State {
             root: Border::new(alloc, 0, None, Version::root_border()),
             holder: None,
             tape: Tape::new(alloc, 0),
-            operations: Slab::new(alloc),
+            operations: Operations::new(alloc),
         }
     }
 
@@ -114,7 +113,7 @@ impl State {
         if self.steps >= MAX_STEPS {
             return Err(Refusal::Spent);
         }
-        let id = keep(&mut self.operations, operation)?;
+        let id = self.operations.keep(operation)?;
         Ok(Ticket { id })
     }
 
@@ -132,7 +131,7 @@ impl State {
     pub fn has_open_put(&self) -> bool
         ensures { IsTrue result ↔ HasOpenPut self.now.table }
     {
-        has_open_put_in(&self.operations)
+        self.operations.has_open_put()
     }
 
     /// What the operation's next step does; nothing, where no step of it is left.
@@ -181,7 +180,7 @@ impl State {
     pub fn tidy(&mut self)
         ensures { Tidies self.old self.new }
     {
-        let floor = floor_needed(&self.operations, self.steps);
+        let floor = self.operations.floor_needed(self.steps);
         self.tape.trim(floor);
     }
 
@@ -262,7 +261,7 @@ impl State {
         }
         self.steps += 1;
         let progress = turn(&self.operations, id, seen);
-        go_on(&mut self.operations, id, self.steps, progress);
+        self.operations.go_on(id, self.steps, progress);
         Move::Moved
     }
 
@@ -275,7 +274,7 @@ impl State {
         let found = slot_at(&self.root, &self.operations, id);
         self.steps += 1;
         let progress = searched(seen, found, self.steps);
-        go_on(&mut self.operations, id, self.steps, progress);
+        self.operations.go_on(id, self.steps, progress);
         Move::Moved
     }
 
@@ -291,12 +290,12 @@ impl State {
             Some((reply, at)) => {
                 let at = at.unwrap_or(searched);
                 let progress = Progress::Confirm { seen, reply, at };
-                go_on(&mut self.operations, id, self.steps, progress);
+                self.operations.go_on(id, self.steps, progress);
                 Move::Moved
             }
             None => {
                 let progress = out_of_memory(self.steps);
-                go_on(&mut self.operations, id, self.steps, progress);
+                self.operations.go_on(id, self.steps, progress);
                 Move::Done
             }
         }
@@ -316,11 +315,11 @@ impl State {
         }
         self.steps += 1;
         if version.same_but_lock(seen) {
-            finish(&mut self.operations, id, self.steps);
+            self.operations.finish(id, self.steps);
             return Move::Done;
         }
         let progress = left(version);
-        go_on(&mut self.operations, id, self.steps, progress);
+        self.operations.go_on(id, self.steps, progress);
         Move::Moved
     }
 
@@ -332,7 +331,7 @@ impl State {
     {
         self.steps += 1;
         let progress = turn(&self.operations, id, seen);
-        go_on(&mut self.operations, id, self.steps, progress);
+        self.operations.go_on(id, self.steps, progress);
         Move::Moved
     }
 
@@ -351,12 +350,12 @@ impl State {
         let version = self.root.version();
         if version.is_deleted() || version.splits() != seen.splits() {
             let progress = left(version);
-            go_on(&mut self.operations, id, self.steps, progress);
+            self.operations.go_on(id, self.steps, progress);
             return Move::Moved;
         }
         self.root.set_version(version.locked());
         self.holder = Some(id);
-        go_on(&mut self.operations, id, self.steps, Progress::Judge);
+        self.operations.go_on(id, self.steps, Progress::Judge);
         Move::Moved
     }
 
@@ -370,14 +369,14 @@ impl State {
         let ready = ready_at(self.alloc, &self.root, &mut self.tape, &self.operations, id);
         match ready {
             Some(progress) => {
-                go_on(&mut self.operations, id, self.steps, progress);
+                self.operations.go_on(id, self.steps, progress);
                 Move::Moved
             }
             None => {
                 self.root.set_version(self.root.version().unlocked());
                 self.holder = None;
                 let progress = out_of_memory(self.steps);
-                go_on(&mut self.operations, id, self.steps, progress);
+                self.operations.go_on(id, self.steps, progress);
                 Move::Done
             }
         }
@@ -394,7 +393,7 @@ impl State {
             reply: Reply::Replaced,
             at: self.steps,
         };
-        let ready = advance(&mut self.operations, id, self.steps, placed);
+        let ready = self.operations.advance(id, self.steps, placed);
         let Some(Progress::Store { slot, row, entry }) = ready else {
             unreachable!()
         };
@@ -415,7 +414,7 @@ impl State {
                 reply: Reply::Full,
                 at: self.steps,
             };
-            go_on(&mut self.operations, id, self.steps, placed);
+            self.operations.go_on(id, self.steps, placed);
             self.tape.release();
             return Move::Moved;
         }
@@ -423,7 +422,7 @@ impl State {
             reply: Reply::New,
             at: self.steps,
         };
-        let ready = advance(&mut self.operations, id, self.steps, placed);
+        let ready = self.operations.advance(id, self.steps, placed);
         let Some(Progress::Publish { suffix, row, entry }) = ready else {
             unreachable!()
         };
@@ -442,7 +441,7 @@ impl State {
         self.steps += 1;
         self.root.set_version(self.root.version().unlocked());
         self.holder = None;
-        finish(&mut self.operations, id, self.steps);
+        self.operations.finish(id, self.steps);
         Move::Done
     }
 }

@@ -1,4 +1,4 @@
--- How a story is right: at its start, as an operation begins, and by one numbered step.
+-- How a story is right (at its start, as an operation begins, and by one numbered step): for the three laws by which a core keeps its run right.
 use Rattle.std.proofs.Common.{◌≡◌, ℕ, suc, ◌≤◌, ◌⊎◌, Bool, true, false, cond, eqb, [], Option, Some, None, sym, ap, subst, ◌∙◌, inl, inr, arith}
 use mathlib.Core.Path.{fun_ext}
 use Rattle.std.proofs.lemmas.Option.{same_Some}
@@ -26,7 +26,6 @@ right_start quotas first base map_at changed begun =
       stays = λ m t from le e. absurd (omega arith);
       changes = λ m from le e. absurd (omega arith);
       once = λ m n o e f own owns. absurd (unowned m o own);
-      one_end = λ m n o a b e f. absurd (unfinished o a (m, e));
       last_end = λ m k o a e own. absurd (unfinished o a (m, e));
       answers = λ o answer done. absurd (unfinished o answer done);
       scans = λ o answer a done asked_a. absurd (unfinished o answer done);
@@ -53,12 +52,13 @@ right_asked quotas first story map_at changed o what r = record {
     told = c.told;
   };
   once = r.once;
-  one_end = r.one_end;
   last_end = r.last_end;
   answers = λ q a done. let h = r.answers q a done in record {
     what = h.what;
     asked_so = asked_stays story o what q h.what h.asked_so;
     command = h.command;
+    first = h.first;
+    last = h.last;
     since = h.since;
     upto = h.upto;
     looked = h.looked;
@@ -105,14 +105,17 @@ module _ (quotas : Quotas) (first : Maps) (story : Story) (map_at now_at : ℕ �
       }
 
   -- and so is an old answer
-  answer_stays : (q : ℕ) (a : Answer) → IsAnswered quotas story map_at changed q a → IsAnswered quotas (with_step story o answer) now_at now_changed q a
-  answer_stays q a h =
+  answer_stays : (q : ℕ) (a : Answer) → Finished story q a → IsAnswered quotas story map_at changed q a → IsAnswered quotas (with_step story o answer) now_at now_changed q a
+  answer_stays q a done h =
+      let other : (q ≡ o) → ⊥ = λ is. g.open_still a (subst (λ n. Finished story n a) is done) in
       let since : is_placed a ≡ true → story.base ≤ a.at = λ placed. let s = h.since placed in omega (arith, (owner_in story s.0 q s.2).0) in
       let upto : is_placed a ≡ true → a.at ≤ last_step story = λ placed. let u = h.upto placed in omega (arith, (owner_in story u.0 q u.2).1) in
       record {
         what = h.what;
         asked_so = h.asked_so;
         command = h.command;
+        first = (owner_stays story o answer a.first q h.first.0, λ m own. elim (owner_cases story o answer m q own) [ inl (le, was) ↦ h.first.1 m was | inr (last, is) ↦ absurd (other is) ]);
+        last = (owner_stays story o answer a.last q h.last.0, λ m own. elim (owner_cases story o answer m q own) [ inl (le, was) ↦ h.last.1 m was | inr (last, is) ↦ absurd (other is) ]);
         since = λ placed. let s = h.since placed in (s.0, s.1, owner_stays story o answer s.0 q s.2);
         upto = λ placed. let u = h.upto placed in (u.0, u.1, owner_stays story o answer u.0 q u.2);
         looked = λ placed look. h.looked placed look ∙ ap (reply_in quotas h.what) (sym (same_maps a.at (since placed) (upto placed)));
@@ -134,19 +137,6 @@ module _ (quotas : Quotas) (first : Maps) (story : Story) (map_at now_at : ℕ �
       by (inr (last, is)) (inr (end, so)) = last ∙ sym end
       by (inl (le, at)) (inr (last, is)) = absurd (never m n e f le at last is)
       by (inr (last, is)) (inl (le, at)) = absurd (never n m f e le at last is)
-
-  -- two steps that ended one operation are one
-  both_ends : (m n q : ℕ) (a b : Answer) → step_of (with_step story o answer) m ≡ Some (record { op = q; answer = Some a }) → step_of (with_step story o answer) n ≡ Some (record { op = q; answer = Some b }) → m ≡ n
-  both_ends m n q a b e f = by (step_cases story o answer m _ e) (step_cases story o answer n _ f)
-    where
-      never : (k : ℕ) (w v : Answer) → step_of story k ≡ Some (record { op = q; answer = Some w }) → ◌≡◌ {A = Made} (record { op = q; answer = Some v }) (record { op = o; answer = answer }) → ⊥
-      never k w v at same = let is : q ≡ o = ap (λ (s : Made). s.op) same in g.open_still w (subst (λ n. Finished story n w) is (k, at))
-
-      by : EndsAt story o answer q m a → EndsAt story o answer q n b → m ≡ n
-      by (inl (le, at)) (inl (lo, too)) = r.one_end m n q a b at too
-      by (inr (last, is)) (inr (end, so)) = last ∙ sym end
-      by (inl (le, at)) (inr (last, is)) = absurd (never m a b at is)
-      by (inr (last, is)) (inl (le, at)) = absurd (never n b a at is)
 
   -- an operation's end is its last step
   last_ends : (m k q : ℕ) (a : Answer) → step_of (with_step story o answer) m ≡ Some (record { op = q; answer = Some a }) → owner (with_step story o answer) k ≡ Some q → k ≤ m
@@ -186,10 +176,9 @@ module _ (quotas : Quotas) (first : Maps) (story : Story) (map_at now_at : ℕ �
           subst (IsChangeAfter quotas (with_step story o answer) now_at) last (g.change (subst (λ n. now_changed (suc n) ≡ true) (sym last) e))
     ];
     once = both_changes;
-    one_end = both_ends;
     last_end = last_ends;
     answers = λ q a done. elim (finished_cases story o answer q a done) [
-      | inl before ↦ answer_stays q a (r.answers q a before)
+      | inl before ↦ answer_stays q a before (r.answers q a before)
       | inr (is, now) ↦ subst (λ n. IsAnswered quotas (with_step story o answer) now_at now_changed n a) (sym is) (g.answered a now)
     ];
     scans = λ q a w done asked_w. elim (finished_cases story o answer q a done) [

@@ -8,3 +8,7 @@ pub mod Order
 pub mod Growth
 pub mod Replies
 pub mod Events
+pub mod Precedence
+pub mod OwnWrites
+pub mod Refused
+pub mod RefusedScans

@@ -1,4 +1,4 @@
--- The one order of a run that is right: number by number, the change of that step and then what was looked at there.
+-- The one order of a run that is right (by number, a step's change and then what was looked at there): for the law that there is one order.
 use Rattle.std.proofs.Common.{◌≡◌, ℕ, zero, suc, ◌<◌, ◌≤◌, Bool, true, false, cond, not, eqb, List, [], ◌∷◌, ◌++◌, Some, sym, refl, ap, subst, ◌∙◌, inl, inr, arith}
 use mathlib.Core.Path.{fun_ext}
 use Rattle.std.specs.List.{AllByRecursion}
@@ -31,7 +31,8 @@ none_of : {X : Type 0} (xs : List X) → AllByRecursion (λ x. ⊥) xs → xs �
 none_of [] h = refl
 none_of (x ∷ xs) h = absurd h.0
 
-change_remembered : (r : Reply) → is_change r ≡ true → is_no_memory r ≡ false
+-- a reply that tells of a change is not the one of a refused growth
+pub change_remembered : (r : Reply) → is_change r ≡ true → is_no_memory r ≡ false
 change_remembered New e = refl
 change_remembered NoMemory e = absurd (cc)
 change_remembered _ e = refl
@@ -155,7 +156,7 @@ module _ (quotas : Quotas) (first : Maps) (story : Story) (map_at : ℕ → ℕ 
         let told = c.told answer done in
         let no_scan : is_scan answer.command ≡ false = ap is_scan told.0 ∙ c.not_scan in
         let remembered : is_no_memory answer.reply ≡ false = change_remembered answer.reply (ap is_change told.1 ∙ c.changes) in
-        (and_from _ _ (not_from_false _ no_scan) (not_from_false _ remembered), (suc n, omega arith, c.own));
+        (and_from _ _ (not_from_false _ no_scan) (not_from_false _ remembered), sym told.2, (suc n, omega arith, c.own));
   }
 
   change_has_reply : (n b : ℕ) → suc n ≤ last_step story → b ≤ n → (c : IsChangeAfter quotas story map_at n) → changed (suc n) ≡ true → HasReply quotas story (maps_at map_at n) b c.op (suc n)
@@ -178,7 +179,7 @@ module _ (quotas : Quotas) (first : Maps) (story : Story) (map_at : ℕ → ℕ 
         made = le;
         finished = λ other ended.
             let one : answer ≡ other = one_answer quotas first story map_at changed r o answer other done ended in
-            (ap is_placed (sym one) ∙ parts.0, subst (IsUpToLast story o) parts.2 (a.upto parts.0));
+            (ap is_placed (sym one) ∙ parts.0, sym parts.2 ∙ ap (λ (x : Answer). x.at) one, subst (IsUpToLast story o) parts.2 (a.upto parts.0));
       }
 
   look_has_reply : (m b o : ℕ) (answer : Answer) → m ≤ last_step story → b ≤ m → Finished story o answer → is_look m answer ≡ true → HasReply quotas story (maps_at map_at m) b o m
@@ -208,6 +209,7 @@ one_order quotas first story map_at changed r =
     let from : story.base ≤ n = omega arith in
     let fits : Fits quotas first story placing = record {
       commands = λ o answer done. let a = r.answers o answer done in (a.what, a.asked_so, a.command);
+      numbers = λ o answer done. let a = r.answers o answer done in (a.first, a.last);
       stands = (upto_along quotas first story map_at changed r (MayStand quotas story) (change_may_stand quotas first story map_at changed r) (look_may_stand quotas first story map_at changed r) n from (omega arith)).0;
       finished = λ o answer done placed.
           let inside = answer_in_run quotas first story map_at changed r o answer done placed in

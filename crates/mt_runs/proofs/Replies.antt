@@ -1,4 +1,4 @@
--- What a tenant is told in an order depends on its own commands alone.
+-- What a tenant is told in an order depends on its own commands alone: for the law that the same commands get the same replies.
 use Rattle.std.proofs.Common.{◌≡◌, ℕ, Bool, true, false, cond, eqb, List, [], ◌∷◌, Option, Some, None, sym, refl, ap, ◌∙◌}
 use Rattle.std.specs.List.{cons_option}
 use Rattle.std.specs.Option.{option_map}

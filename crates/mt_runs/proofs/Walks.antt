@@ -1,4 +1,4 @@
--- What holds along a placing that is put together from two, or whose commands leave the maps as they are.
+-- What holds along a placing that is put together from two, or whose commands leave the maps as they are: for the order of a right run.
 use Rattle.std.proofs.Common.{◌≡◌, ℕ, ◌≤◌, [], ◌∷◌, ◌++◌, sym, refl, ap, subst, ◌∙◌, arith}
 use Rattle.std.specs.List.{AllByRecursion}
 use Rattle.mt_runs.specs.Runs.{Story}

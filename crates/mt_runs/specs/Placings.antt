@@ -8,7 +8,7 @@ use Rattle.mt_rows.specs.declared.reply.Reply.{Reply}
 use Rattle.mt_runs.specs.Scans.{IsLawfulScan}
 use Rattle.mt_rows.specs.Maps.{Map, reply_of, map_after, is_change, is_scan, is_no_memory}
 use Rattle.mt_runs.specs.declared.event.Answer.{Answer}
-use Rattle.mt_runs.specs.Runs.{Story, Asked, last_step, step_of, owner, Finished, IsSinceFirst, IsUpToLast, IsBetween}
+use Rattle.mt_runs.specs.Runs.{Story, Asked, last_step, step_of, owner, Finished, IsSinceFirst, IsUpToLast, IsFirst, IsLast, IsBetween}
 
 -- operations with their numbers, in order
 abbrev pub Placing : Type 0
@@ -49,27 +49,28 @@ abbrev pub Along : (Maps → ℕ → ℕ → ℕ → Type 0) → Quotas → Stor
 Along P quotas story maps before [] = Unit {0}
 Along P quotas story maps before (p ∷ placing) = P maps before p.0 p.1 × Along P quotas story (maps_after_one quotas (story.asked p.0) maps) p.1 placing
 
--- an operation may stand at a number: numbers don't fall, and it is a get, put or remove that memory did not stop, between its own first and last step;
--- where it changes its map it stands at a step of its own, before all others of that number
+-- an operation may stand at a number: numbers don't fall, and it is a get, put or remove that memory did not stop, between its own first and last step,
+-- at the number that its answer names; where it changes its map it stands at a step of its own, before all others of that number
 pub record MayStand (quotas : Quotas) (story : Story) (maps : Maps) (before o m : ℕ) : Type 0 where
   pub rises : before ≤ m
   pub command : (a : Asked) × (story.asked o ≡ Some a) × (is_scan a.command ≡ false) × (is_change (reply_in quotas a maps) ≡ true → (before < m) × (owner story m ≡ Some o))
   pub since : IsSinceFirst story o m
   pub made : m ≤ last_step story
-  pub finished : (answer : Answer) → Finished story o answer → (is_placed answer ≡ true) × IsUpToLast story o m
+  pub finished : (answer : Answer) → Finished story o answer → (is_placed answer ≡ true) × (m ≡ answer.at) × IsUpToLast story o m
 
 -- how often an operation stands in a placing
 abbrev pub count_of : ℕ → Placing → ℕ
 count_of o placing = length (filter (λ p. p.0 == o) placing)
 
--- a placing fits a run that began with these maps: each answer is to the command that was begun, each finished operation stands once
--- and each other at most once, each where it may stand
+-- a placing fits a run that began with these maps: each answer is to the command that was begun and tells its operation's first and last step, after
+-- which that operation makes none; each finished get, put or remove that memory did not stop stands once and each other at most once, each where it may
+-- stand
 pub record Fits (quotas : Quotas) (first : Maps) (story : Story) (placing : Placing) : Type 0 where
   pub commands : (o : ℕ) (answer : Answer) → Finished story o answer → (a : Asked) × (story.asked o ≡ Some a) × (answer.command ≡ a.command)
+  pub numbers : (o : ℕ) (answer : Answer) → Finished story o answer → IsFirst story o answer.first × IsLast story o answer.last
   pub stands : Along (MayStand quotas story) quotas story first story.base placing
   pub finished : (o : ℕ) (answer : Answer) → Finished story o answer → is_placed answer ≡ true → count_of o placing ≡ 1
   pub others : (o : ℕ) → count_of o placing ≤ 1
-  -- an operation that is finished makes no step after that
   pub ends : (m k o : ℕ) (a : Answer) → step_of story m ≡ Some (record { op = o; answer = Some a }) → owner story k ≡ Some o → k ≤ m
 
 -- a finished operation has the reply to its own command on its tenant's map

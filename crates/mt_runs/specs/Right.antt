@@ -2,7 +2,7 @@
 use Rattle.std.specs.Prelude.{◌≡◌, ℕ, suc, ◌≤◌, Bool, true, false, Option, Some}
 use Rattle.mt_rows.specs.Maps.{Map, is_change, is_scan}
 use Rattle.mt_runs.specs.declared.event.Answer.{Answer}
-use Rattle.mt_runs.specs.Runs.{Story, Asked, last_step, step_of, owner, Finished, IsSinceFirst, IsUpToLast, IsBetween, with_step}
+use Rattle.mt_runs.specs.Runs.{Story, Asked, last_step, step_of, owner, Finished, IsSinceFirst, IsUpToLast, IsFirst, IsLast, IsBetween, with_step}
 use Rattle.mt_runs.specs.Scans.{IsLawfulScan}
 use Rattle.mt_runs.specs.Placings.{Quotas, Maps, is_placed, reply_in, maps_after_one}
 
@@ -21,12 +21,14 @@ pub record IsChangeAfter (quotas : Quotas) (story : Story) (map_at : ℕ → ℕ
   pub makes : (t : ℕ) → map_at t (suc m) ≡ maps_after_one quotas (Some what) (maps_at map_at m) t
   pub told : (answer : Answer) → Finished story op answer → (answer.command ≡ what.command) × (answer.reply ≡ reply_in quotas what (maps_at map_at m)) × (answer.at ≡ suc m)
 
--- a finished operation was told of its own command; unless it is a scan or memory stopped it, it stands between its first and last step,
--- at the step that changed its map, or else where its map gives its reply
+-- a finished operation was told of its own command, with the numbers of its first and last step; unless it is a scan or memory stopped it, it stands
+-- between these, at the step that changed its map, or else where its map gives its reply
 pub record IsAnswered (quotas : Quotas) (story : Story) (map_at : ℕ → ℕ → Map) (changed : ℕ → Bool) (o : ℕ) (answer : Answer) : Type 0 where
   pub what : Asked
   pub asked_so : story.asked o ≡ Some what
   pub command : answer.command ≡ what.command
+  pub first : IsFirst story o answer.first
+  pub last : IsLast story o answer.last
   pub since : is_placed answer ≡ true → IsSinceFirst story o answer.at
   pub upto : is_placed answer ≡ true → IsUpToLast story o answer.at
   pub looked : is_placed answer ≡ true → is_change answer.reply ≡ false → answer.reply ≡ reply_in quotas what (maps_at map_at answer.at)
@@ -38,7 +40,6 @@ pub record Right (quotas : Quotas) (first : Maps) (story : Story) (map_at : ℕ 
   pub stays : (m t : ℕ) → story.base ≤ m → suc m ≤ last_step story → changed (suc m) ≡ false → map_at t (suc m) ≡ map_at t m
   pub changes : (m : ℕ) → story.base ≤ m → suc m ≤ last_step story → changed (suc m) ≡ true → IsChangeAfter quotas story map_at m
   pub once : (m n o : ℕ) → changed m ≡ true → changed n ≡ true → owner story m ≡ Some o → owner story n ≡ Some o → m ≡ n
-  pub one_end : (m n o : ℕ) (a b : Answer) → step_of story m ≡ Some (record { op = o; answer = Some a }) → step_of story n ≡ Some (record { op = o; answer = Some b }) → m ≡ n
   pub last_end : (m k o : ℕ) (a : Answer) → step_of story m ≡ Some (record { op = o; answer = Some a }) → owner story k ≡ Some o → k ≤ m
   pub answers : (o : ℕ) (answer : Answer) → Finished story o answer → IsAnswered quotas story map_at changed o answer
   pub scans : (o : ℕ) (answer : Answer) (a : Asked) → Finished story o answer → story.asked o ≡ Some a → IsLawfulScan (map_at a.tenant) (IsBetween story o) a.command answer.reply

@@ -1,16 +1,24 @@
 //! The laws of runs, each the contract of a function that does nothing.
 
-ghost use Rattle.std.specs.Prelude.{◌≡◌, ◌≢◌, ◌≤◌, ◌↔◌, ℕ, Bool, [], ◌∷◌, ◌++◌, Option, Some, None};
-ghost use Rattle.mt_rows.specs.Maps.{Map};
+ghost use Rattle.std.specs.Prelude.{◌≡◌, ◌≢◌, ◌≤◌, ◌↔◌, ℕ, Bool, true, false, List, [], ◌∷◌, ◌++◌, Option, Some, None};
+ghost use Rattle.std.specs.List.{Contains};
+ghost use Rattle.mt_rows.specs.Rows.{Bytes, Columns, shown};
+ghost use Rattle.mt_rows.specs.Changes.{Named, changed};
+ghost use Rattle.mt_rows.specs.Maps.{Map, is_change, is_no_memory};
 ghost use Rattle.mt_rows.specs.declared.command.Command.{Command};
+ghost use Rattle.mt_rows.specs.declared.command.Command.TheVariants.{Get, Put, Remove};
+ghost use Rattle.mt_rows.specs.declared.reply.Reply.{Reply};
+ghost use Rattle.mt_rows.specs.declared.reply.Reply.TheVariants.{Absent, Found};
 ghost use Rattle.mt_runs.specs.declared.event.Answer.{Answer};
 ghost use Rattle.mt_runs.specs.declared.event.Event.{Event};
 ghost use Rattle.mt_runs.specs.declared.event.Event.TheVariants.{Begin, Step};
 ghost use Rattle.mt_runs.specs.declared.event.Told.{Told};
 ghost use Rattle.mt_runs.specs.declared.event.Told.TheVariants.{Begun, Moved, Done};
-ghost use Rattle.mt_runs.specs.Runs.{Run, Story, Asked, numbered, asked_by, story_of, IsFirst, IsLast, IsBetween, with_begin, with_step};
-ghost use Rattle.mt_runs.specs.Placings.{Quotas, Maps, Placing, HasOneOrder, maps_after_one, replies_of, commands_of};
+ghost use Rattle.mt_runs.specs.Runs.{Run, Story, Asked, numbered, asked_by, story_of, owner, Finished, IsFirst, IsLast, IsBetween, with_begin, with_step};
+ghost use Rattle.mt_runs.specs.Placings.{Quotas, Maps, Placing, no_pairs, is_placed, Fits, HasOneOrder, maps_after_one, replies_of, commands_of};
+ghost use Rattle.mt_runs.specs.Orders.{Precedes, StandsIn, StandsBefore, WasTold, NoWriteBetween};
 ghost use Rattle.mt_runs.specs.Right.{Right, IsGrowth};
+ghost use Rattle.mt_runs.specs.WrongRuns.{row_from_nowhere, missed_write, step_after_the_end, row_from_the_future, pair_from_nowhere, missed_pair};
 
 /// One order explains each run that is right: it places every finished get, put and remove that
 /// memory did not stop between that operation's first and last step, it is legal, and every finished
@@ -59,4 +67,71 @@ pub fn a_story_grows_by_its_events()
     ensures moved { (base : ℕ) (run : Run) (o : ℕ) → story_of base (run ++ (Step o, Moved) ∷ []) ≡ with_step (story_of base run) o None }
     ensures done { (base : ℕ) (run : Run) (o : ℕ) (answer : Answer) → story_of base (run ++ (Step o, Done answer) ∷ []) ≡ with_step (story_of base run) o (Some answer) }
     ensures quiet { (base : ℕ) (run : Run) (x : Event × Told) → numbered x ≡ None → ((q : ℕ) → asked_by q x ≡ None) → story_of base (run ++ x ∷ []) ≡ story_of base run }
+{}
+
+/// Real-time order: a finished get, put or remove that memory did not stop stands before each
+/// operation that it precedes, if that one stands at all.
+pub fn finished_before_first_stands_before()
+    ensures { (quotas : Quotas) (first : Maps) (story : Story) (placing : Placing) (o p : ℕ) (answer : Answer)
+        → Fits quotas first story placing
+        → Finished story o answer → is_placed answer ≡ true
+        → Precedes story o p → StandsIn placing p
+        → StandsBefore placing o p }
+{}
+
+/// An operation that was answered in a run's first part precedes each one that made no numbered step
+/// in that part.
+pub fn answered_before_another_moved_precedes()
+    ensures { (quotas : Quotas) (first : Maps) (base : ℕ) (front back : Run) (o p : ℕ) (answer : Answer)
+        → HasOneOrder quotas first (story_of base (front ++ back))
+        → Finished (story_of base front) o answer
+        → ((m : ℕ) → owner (story_of base front) m ≢ Some p)
+        → Precedes (story_of base (front ++ back)) o p }
+{}
+
+/// A finished get, put or remove that memory did not stop stands at the number that its answer names,
+/// which is between those of its first and last step.
+pub fn an_answer_names_its_place()
+    ensures { (quotas : Quotas) (first : Maps) (story : Story) (placing : Placing) (o : ℕ) (answer : Answer)
+        → Fits quotas first story placing
+        → Finished story o answer → is_placed answer ≡ true
+        → Contains placing (o, answer.at) × (answer.first ≤ answer.at) × (answer.at ≤ answer.last) }
+{}
+
+/// Read your writes: a get that memory did not stop, and that a put of its key precedes, with no other
+/// put or remove of the key between them, is told of a row that the put made, if the put was told
+/// that it changed the map.
+pub fn a_get_reads_the_put_before_it()
+    ensures { (quotas : Quotas) (first : Maps) (story : Story) (o g tenant : ℕ) (key : Bytes)
+        (change : Named) (columns : List ℕ) (told reply : Reply)
+        → HasOneOrder quotas first story
+        → WasTold story o tenant (Put key change) told → is_change told ≡ true
+        → WasTold story g tenant (Get key columns) reply → is_no_memory reply ≡ false
+        → Precedes story o g → NoWriteBetween story o g tenant key
+        → (row : Columns) × (reply ≡ Found (shown columns (changed change row))) }
+{}
+
+/// And a get that a remove of its key precedes, with no other put or remove of the key between them,
+/// is told Absent, if the remove was told that it changed the map.
+pub fn a_get_misses_the_row_removed_before_it()
+    ensures { (quotas : Quotas) (first : Maps) (story : Story) (o g tenant : ℕ) (key : Bytes)
+        (columns : List ℕ) (told reply : Reply)
+        → HasOneOrder quotas first story
+        → WasTold story o tenant (Remove key) told → is_change told ≡ true
+        → WasTold story g tenant (Get key columns) reply → is_no_memory reply ≡ false
+        → Precedes story o g → NoWriteBetween story o g tenant key
+        → reply ≡ Absent }
+{}
+
+/// Runs that no order explains, whatever the tenants' limits are: a get told of a row that was never
+/// put, a get that misses an answered put, the same with a step of the put behind its end, a get told
+/// of a row that is put only after it, a scan that shows a pair that was never put, and a scan that
+/// misses an answered put.
+pub fn wrong_runs_have_no_order()
+    ensures row_from_nowhere { (quotas : Quotas) → ¬ HasOneOrder quotas no_pairs (story_of 0 row_from_nowhere) }
+    ensures missed_write { (quotas : Quotas) → ¬ HasOneOrder quotas no_pairs (story_of 0 missed_write) }
+    ensures step_after_the_end { (quotas : Quotas) → ¬ HasOneOrder quotas no_pairs (story_of 0 step_after_the_end) }
+    ensures row_from_the_future { (quotas : Quotas) → ¬ HasOneOrder quotas no_pairs (story_of 0 row_from_the_future) }
+    ensures pair_from_nowhere { (quotas : Quotas) → ¬ HasOneOrder quotas no_pairs (story_of 0 pair_from_nowhere) }
+    ensures missed_pair { (quotas : Quotas) → ¬ HasOneOrder quotas no_pairs (story_of 0 missed_pair) }
 {}

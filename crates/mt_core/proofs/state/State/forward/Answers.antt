@@ -1,5 +1,7 @@
+use Rattle.std.proofs.Common.{refl}
 use Rattle.mt_core.proofs.Looks.{forward_done}
 use Rattle.mt_core.specs.States.{core_of}
+use Rattle.mt_core.proofs.TableLaws.{may_move}
 use Rattle.mt_core.proofs.state.State.forward.Goals as goal
 
 pub invariant_of-self : goal.invariant_of-self
@@ -7,3 +9,6 @@ invariant_of-self c = (forward_done (core_of c.self.inside) _ c.args.id _ c.self
 
 pub returns : goal.returns
 returns c = (forward_done (core_of c.self.inside) _ c.args.id _ c.self.view_is c.self.invariant c.requires.few c.args.seen _ c.requires.next c.turn-progress.ensures c.go_on.ensures).1
+
+pub go_on-requires : goal.go_on-requires
+go_on-requires c = may_move (core_of c.self.inside) _ c.args.id _ c.self.view_is c.self.invariant c.requires.next refl

@@ -4,6 +4,7 @@ use Rattle.mt_core.specs.Reads.{left}
 use Rattle.mt_core.proofs.Looks.{passed_done, by_progress, left_behind}
 use Rattle.mt_core.proofs.HoldsKey.{lock_done, written_done, with_lock}
 use Rattle.mt_core.specs.States.{core_of}
+use Rattle.mt_core.proofs.TableLaws.{may_move}
 use Rattle.mt_core.proofs.state.State.lock.Goals as goal
 
 -- the version that is remembered is not the node's
@@ -24,3 +25,9 @@ invariant_of-self-2 c = (written_done (core_of c.self.inside) _ c.args.id _ _ _ 
 
 pub returns : goal.returns
 returns c = (written_done (core_of c.self.inside) _ c.args.id _ _ _ _ false _ _ _ (lock_done (core_of c.self.inside) _ c.args.id _ c.self.view_is c.self.invariant c.requires.few c.args.seen c.requires.next c.in_default.not-Some c.go_on-2.ensures) c.set_version.ensures (c.locked.ensures.value ∙ ap with_lock c.version-version.ensures) refl).1
+
+pub go_on-requires : goal.go_on-requires
+go_on-requires c = may_move (core_of c.self.inside) _ c.args.id _ c.self.view_is c.self.invariant c.requires.next refl
+
+pub go_on-requires-2 : goal.go_on-requires-2
+go_on-requires-2 c = may_move (core_of c.self.inside) _ c.args.id _ c.self.view_is c.self.invariant c.requires.next refl

@@ -1,7 +1,8 @@
-use Rattle.std.proofs.Common.{[], false, Some, ap, ◌∙◌}
+use Rattle.std.proofs.Common.{refl, [], false, Some, ap, ◌∙◌}
 use Rattle.mt_core.specs.States.{core_of}
 use Rattle.mt_core.proofs.HoldsKey.{full_done, counted_done, not_counted}
 use Rattle.mt_core.proofs.Puts.{remembered, publish_reserved, publish_room, publish_entry, publish_missing, publish_done, publish_there}
+use Rattle.mt_core.proofs.TableLaws.{may_move}
 use Rattle.mt_core.proofs.state.State.publish.Goals as goal
 
 pub release-requires : goal.release-requires
@@ -33,3 +34,9 @@ invariant_of-self-2 c = (publish_done (core_of c.self.inside) _ c.args.id _ c.se
 
 pub returns : goal.returns
 returns c = (publish_done (core_of c.self.inside) _ c.args.id _ c.self.view_is c.self.invariant c.requires.few c.in-Some-Publish.suffix c.in-Some-Publish.row c.in-Some-Publish.entry _ _ _ _ _ (remembered (core_of c.self.inside) _ c.args.id [] c.self.view_is c.self.invariant c.requires.few _ _ _ c.requires.next.3 c.advance-ready.ensures.remembered (c.in-Some-Publish.is ∙ ap (λ p. Some p) c.in-Some-Publish.field-0-is)) c.advance-ready.ensures.moved c.entry_of-added.ensures c.count_at.ensures.counts c.if-not-count_at.false c.add_entry.ensures.entries c.add_entry.ensures.others c.push_write.ensures).1
+
+pub go_on-requires : goal.go_on-requires
+go_on-requires c = may_move (core_of c.self.inside) _ c.args.id _ c.self.view_is c.self.invariant c.requires.next.3 refl
+
+pub advance-ready-requires : goal.advance-ready-requires
+advance-ready-requires c = may_move (core_of c.self.inside) _ c.args.id _ c.self.view_is c.self.invariant c.requires.next.3 refl

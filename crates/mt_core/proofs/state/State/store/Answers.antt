@@ -1,6 +1,7 @@
-use Rattle.std.proofs.Common.{[], Some, ap, ◌∙◌}
+use Rattle.std.proofs.Common.{refl, [], Some, ap, ◌∙◌}
 use Rattle.mt_core.specs.States.{core_of}
 use Rattle.mt_core.proofs.Puts.{remembered, store_live, store_stable, store_reserved, store_done}
+use Rattle.mt_core.proofs.TableLaws.{may_move}
 use Rattle.mt_core.proofs.state.State.store.Goals as goal
 
 pub write_row-requires-clause-live : goal.write_row-requires-clause-live
@@ -17,3 +18,6 @@ invariant_of-self c = (store_done (core_of c.self.inside) _ c.args.id _ c.self.v
 
 pub returns : goal.returns
 returns c = (store_done (core_of c.self.inside) _ c.args.id _ c.self.view_is c.self.invariant c.requires.few c.in-Some-Store.slot c.in-Some-Store.row c.in-Some-Store.entry _ _ (remembered (core_of c.self.inside) _ c.args.id [] c.self.view_is c.self.invariant c.requires.few _ _ _ c.requires.next.3 c.advance-ready.ensures.remembered (c.in-Some-Store.is ∙ ap (λ p. Some p) c.in-Some-Store.field-0-is)) c.write_row.ensures c.push_write.ensures c.advance-ready.ensures.moved).1
+
+pub advance-ready-requires : goal.advance-ready-requires
+advance-ready-requires c = may_move (core_of c.self.inside) _ c.args.id _ c.self.view_is c.self.invariant c.requires.next.3 refl

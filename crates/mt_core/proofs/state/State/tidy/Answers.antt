@@ -1,5 +1,6 @@
 use Rattle.mt_core.specs.States.{core_of}
 use Rattle.mt_core.proofs.Tidies.{tidied, floor_rises}
+use Rattle.mt_core.proofs.TableLaws.{firsts_made}
 use Rattle.mt_core.proofs.state.State.tidy.Goals as goal
 
 pub trim-requires : goal.trim-requires
@@ -10,3 +11,6 @@ invariant_of-self c = (tidied (core_of c.self.inside) _ c.floor_needed-floor.res
 
 pub returns : goal.returns
 returns c = (tidied (core_of c.self.inside) _ c.floor_needed-floor.result _ c.self.view_is c.self.invariant c.floor_needed-floor.ensures c.trim.ensures).1
+
+pub floor_needed-floor-requires : goal.floor_needed-floor-requires
+floor_needed-floor-requires c = firsts_made (core_of c.self.inside) c.self.invariant

@@ -1,0 +1,25 @@
+use Rattle.std.proofs.Common.{◌∙◌}
+use Rattle.mt_core.proofs.TableMoves.{last_place, last_new, moved_sound, moved_table, linked_table, remembered_table}
+use Rattle.mt_core.proofs.table.Operations.advance.Goals as goal
+
+pub link_still-requires-clause-last : goal.link_still-requires-clause-last
+link_still-requires-clause-last c = last_place c.self.inside.places.slots c.self.inside.ends c.self.inside.put c.self.invariant
+
+pub link_still-requires-clause-new : goal.link_still-requires-clause-new
+link_still-requires-clause-new c = last_new c.self.inside.places.slots c.self.inside.ends c.self.inside.put c.args.id c.self.invariant
+
+pub invariant_of-self : goal.invariant_of-self
+invariant_of-self c =
+    moved_sound c.self.inside.places.slots c.link_still.new.places.slots c.move_at.new.places.slots c.self.inside.ends c.link_still.new.ends c.self.inside.put _ c.args.id c.args.step c.args.progress
+    c.self.view_is c.self.invariant c.requires c.link_still.ensures.links c.link_still.ensures.same c.move_at.ensures.moves c.move_at.ensures.none
+
+pub returns-clause-moved : goal.returns-clause-moved
+returns-clause-moved c = λ before there.
+    moved_table c.self.inside.places.slots c.link_still.new.places.slots c.move_at.new.places.slots _ c.args.id c.args.step c.args.progress before
+    c.self.view_is (linked_table c.self.inside.places.slots c.link_still.new.places.slots c.self.inside.ends c.link_still.new.ends c.args.id c.link_still.ensures.links c.link_still.ensures.same) c.move_at.ensures.moves there
+
+pub returns-clause-remembered : goal.returns-clause-remembered
+returns-clause-remembered c =
+    c.move_at.ensures.remembered
+    ∙ remembered_table c.self.inside.places.slots c.link_still.new.places.slots _ c.args.id c.self.view_is
+    (linked_table c.self.inside.places.slots c.link_still.new.places.slots c.self.inside.ends c.link_still.new.ends c.args.id c.link_still.ensures.links c.link_still.ensures.same)

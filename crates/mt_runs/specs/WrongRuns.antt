@@ -1,0 +1,66 @@
+-- Six runs of a new state that have no one order, each for a reason of its own; all else in them is as it should be.
+use Rattle.std.specs.Prelude.{ℕ, false, [], ◌∷◌}
+use Rattle.mt_rows.specs.declared.command.Command.{Command}
+use Rattle.mt_rows.specs.declared.command.Command.TheVariants.{Get, Put, Scan}
+use Rattle.mt_rows.specs.declared.reply.Reply.{Reply}
+use Rattle.mt_rows.specs.declared.reply.Reply.TheVariants.{Absent, Found, New, Pairs}
+use Rattle.mt_rows.specs.Rows.{Bytes, Columns}
+use Rattle.mt_rows.specs.Changes.{Named}
+use Rattle.mt_runs.specs.declared.event.Event.{Event}
+use Rattle.mt_runs.specs.declared.event.Event.TheVariants.{Begin, Step}
+use Rattle.mt_runs.specs.declared.event.Told.{Told}
+use Rattle.mt_runs.specs.declared.event.Told.TheVariants.{Begun, Moved, Done}
+use Rattle.mt_runs.specs.Runs.{Run}
+
+-- the key k, and a row of one column v
+abbrev pub key_k : Bytes
+key_k = 107 ∷ []
+
+abbrev pub row_v : Columns
+row_v = (118 ∷ []) ∷ []
+
+-- a get of the key's whole row, and a put that makes that row
+abbrev pub get_k : Command
+get_k = Get key_k []
+
+abbrev pub change_v : Named
+change_v = (0, 118 ∷ []) ∷ []
+
+abbrev pub put_k : Command
+put_k = Put key_k change_v
+
+-- a scan of up to two pairs from the least key on
+abbrev pub scan_two : Command
+scan_two = Scan [] false 2 []
+
+-- worker 0 begins an operation of tenant 7
+abbrev pub begins : ℕ → Command → Event × Told
+begins o command = (Begin o 0 7 command, Begun)
+
+-- an operation makes its last step, and is told a reply by a step's number between its first and last one
+abbrev pub ends_told : ℕ → Command → Reply → ℕ → ℕ → ℕ → Event × Told
+ends_told o command reply first at last = (Step o, Done (record { command = command; reply = reply; first = first; at = at; last = last }))
+
+-- a get of an empty store is told of a row
+abbrev pub row_from_nowhere : Run
+row_from_nowhere = begins 1 get_k ∷ ends_told 1 get_k (Found row_v) 1 1 1 ∷ []
+
+-- a get that is begun after a put was told New is told Absent
+abbrev pub missed_write : Run
+missed_write = begins 1 put_k ∷ ends_told 1 put_k New 1 1 1 ∷ begins 2 get_k ∷ ends_told 2 get_k Absent 2 2 2 ∷ []
+
+-- the same, but the finished put moves once more, as if it could stand there, behind the get
+abbrev pub step_after_the_end : Run
+step_after_the_end = begins 1 put_k ∷ ends_told 1 put_k New 1 3 3 ∷ begins 2 get_k ∷ ends_told 2 get_k Absent 2 2 2 ∷ (Step 1, Moved) ∷ []
+
+-- a get is told of a row at step 2, where a put makes it, but the get's own last step was step 1
+abbrev pub row_from_the_future : Run
+row_from_the_future = begins 1 get_k ∷ begins 2 put_k ∷ ends_told 1 get_k (Found row_v) 1 2 1 ∷ ends_told 2 put_k New 2 2 2 ∷ []
+
+-- a scan of an empty store shows a pair
+abbrev pub pair_from_nowhere : Run
+pair_from_nowhere = begins 1 scan_two ∷ ends_told 1 scan_two (Pairs ((key_k, row_v) ∷ [])) 1 1 1 ∷ []
+
+-- a scan that is begun after a put was told New shows nothing
+abbrev pub missed_pair : Run
+missed_pair = begins 1 put_k ∷ ends_told 1 put_k New 1 1 1 ∷ begins 2 scan_two ∷ ends_told 2 scan_two (Pairs []) 2 2 2 ∷ []
