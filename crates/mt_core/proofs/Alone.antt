@@ -1,4 +1,4 @@
--- What a run of steps of one operation leaves, whatever the state.
+-- What a run of steps of one operation leaves, whatever the state: for `State::run_alone`, clause `runs`.
 use Rattle.std.proofs.Common.{◌≡◌, ◌≢◌, ℕ, ◌+◌, ◌<◌, ◌⊎◌, inl, inr, true, false, Some, sym, refl, ap, subst, ◌∙◌, arith}
 use Rattle.std.proofs.lemmas.Bool.{not-true, not-false}
 use Rattle.std.proofs.lemmas.Option.{same_Some}
@@ -83,6 +83,7 @@ pub record IsGoing (old v : StateView) (o made : ℕ) : Type 0 where
 pub going_first : (v : StateView) (o : ℕ) → IsGoing v v o 0
 going_first v o = record { leads = leads_none v o; left = inl refl }
 
+-- one step more is part of the run
 pub going_on : (old v w : StateView) (o made : ℕ) → IsGoing old v o made → IsStep v w o false → IsGoing old w o (made + 1)
 going_on old v w o made g s = record { leads = leads_on old v w o made g.leads s; left = inr (still_going v w o s) }
 

@@ -1,4 +1,4 @@
--- A run of steps of an operation that is alone: it goes straight on, and ends with the reply to its command on the maps of before.
+-- A run of steps of an operation that is alone goes straight on, and ends with the reply to its command on the maps of before: for `State::run_alone`, clause `alone`.
 use Rattle.std.proofs.Common.{◌≡◌, ◌≢◌, ℕ, ◌+◌, ◌<◌, ◌≤◌, ◌⊎◌, inl, inr, Bool, true, false, cond, eqb, ltb, [], Option, Some, None, sym, refl, ap, subst, ◌∙◌, arith}
 use Rattle.std.specs.FinMap.{get, len, insert}
 use Rattle.std.proofs.lemmas.Bool.{both_ways, not-true, not-false, cases_lt, eqb-true}
@@ -104,6 +104,7 @@ pub record IsRunning (old v : StateView) (o : ℕ) (op : Operation) (made : ℕ)
   pub first : ((made ≡ 0) × (after.first ≡ 0) × (after.progress ≡ Enter)) ⊎ ((after.first ≡ old.steps + 1) × IsStraight v.steps after)
   pub so_far : HasLeft old v after.progress ⊎ HasPlaced old v op after.progress
 
+-- before its first step an operation that is alone has changed nothing
 pub running_first : (old : StateView) (o : ℕ) (op : Operation) → IsAlone old o op → IsRunning old old o op 0
 running_first old o op alone = record {
   leads = leads_none old o;
@@ -184,6 +185,7 @@ module _ (old v w : StateView) (o : ℕ) (op : Operation) (made : ℕ) (done : B
         ∙ same_maps v old s.before op asked r.leads.grows.quotas old.contents t;
   }
 
+  -- a step that leaves the operation open goes on with the run
   pub running_on : is_unfinished s.progress ≡ true → IsRunning old w o op (made + 1)
   running_on left = record {
     leads = on;
@@ -235,6 +237,7 @@ module _ (old v w : StateView) (o : ℕ) (op : Operation) (made : ℕ) (done : B
         by u true e = inl (memory_is reply e, quiet.contents ∙ u.contents)
         by u false e = inr (looked u e)
 
+    -- a step that ends it ends the run, with the reply of its command
     pub running_ends : made < most_steps → EndsAlone old w o op Done
     running_ends lt = record {
       done = refl;

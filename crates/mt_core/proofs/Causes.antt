@@ -1,4 +1,4 @@
--- Which cause for a refusal a begin meets first.
+-- Which cause for a refusal a begin meets first: for `State::begin`, clause `refused`, and `put_of`.
 use Rattle.std.proofs.Common.{◌≡◌, ℕ, ◌<◌, ◌≤◌, ◌^◌, ◌⊎◌, ◌↔◌, inl, inr, Bool, true, false, not, ◌||◌, eqb, List, [], ◌∷◌, length, get_or, Option, Some, None, Result, Ok, Err, sym, refl, ap, subst, ◌∙◌, arith}
 use Rattle.std.specs.Prelude.{is_some, IsOk, IfErr, IsErrAnd, if◌then◌else◌, nat_lt, nat_le}
 use Rattle.std.specs.Option.{is_none, option_or}
@@ -149,11 +149,14 @@ module _ (c : Core) (now : StateView) (op : Operation) (worker tenant : ℕ) (co
     steps_now : now.steps ≡ c.steps
     steps_now = ap (λ (v : StateView). v.steps) (sym is)
 
+    -- a put that finds no room meets NoRoom first
     pub told_no_room : LacksRoom c.node op → cause_of now tenant command ≡ Some NoRoom
     told_no_room lacks = cause_is false (eqb now.steps (2 ^ 59)) (room_false lacks) refl
 
+    -- one that finds room meets Spent where no number is left
     pub told_spent : HasRoomFor c.node op → 2 ^ 59 ≤ c.steps → cause_of now tenant command ≡ Some Spent
     told_spent has all = cause_is true true (room_true has) (eq-eqb now.steps (2 ^ 59) (omega (arith, steps_now, h.few)))
 
+    -- and no cause where there is one
     pub told_none : HasRoomFor c.node op → c.steps < 2 ^ 59 → cause_of now tenant command ≡ None
     told_none has some = cause_is true false (room_true has) (ne_eqb now.steps (2 ^ 59) (λ e. omega (arith, steps_now)))

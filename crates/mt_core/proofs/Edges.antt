@@ -1,4 +1,4 @@
--- The entries of a border node are the pairs of its contents, in their order; so the first and the last are those of the tree.
+-- The entries of a border node are the pairs of its contents, in their order, so the first and the last are those of the tree: for `State::shape`.
 use Rattle.std.proofs.Common.{◌≡◌, ℕ, suc, ◌-◌, ◌<◌, ◌≤◌, inl, inr, false, leb, List, [], ◌∷◌, map, length, Option, Some, sym, refl, ap, ◌∙◌, arith}
 use Rattle.std.specs.Prelude.{filter_map, slice_get}
 use Rattle.std.specs.List.{All, cons_option}

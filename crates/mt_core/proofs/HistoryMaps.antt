@@ -1,4 +1,4 @@
--- What a numbered step does to the maps of the steps, and to which of them changed one.
+-- What a numbered step does to the maps of the steps, and to which of them changed one: for HistorySteps.
 use Rattle.std.proofs.Common.{◌≡◌, ℕ, ◌+◌, ◌<◌, ◌≤◌, true, false, List, get_or, sym, ap, subst, ◌∙◌, arith, eqb}
 use Rattle.std.specs.List.{All}
 use Rattle.std.proofs.lemmas.Bool.{ne_eqb}
@@ -17,6 +17,7 @@ use Rattle.mt_core.specs.Promises.{IsQuiet, IsPlacing}
 abbrev pub AreMade : List Entry → ℕ → Type 0
 AreMade entries m = All (λ e. e.step ≤ m) entries
 
+-- entries of steps that were made were made after more steps too
 pub made_later : (entries : List Entry) (m n : ℕ) → m ≤ n → AreMade entries m → AreMade entries n
 made_later entries m n le h = λ k d in_. let up = h k d in_ in omega arith
 
@@ -33,10 +34,12 @@ module _ (old new : StateView) (op : Operation) (progress : Progress) (number : 
   pub made-quiet : IsQuiet old new op progress → AreMade new.tape.entries new.steps
   made-quiet q = subst (λ es. AreMade es new.steps) (sym q.entries) (made_later old.tape.entries old.steps new.steps (omega (arith, number)) made)
 
+  -- after a quiet step the maps are those of before
   pub map-quiet : (t : ℕ) → IsQuiet old new op progress → map_of new t (old.steps + 1) ≡ tenant_map t old.contents
   map-quiet t q =
       map_of-now new t (old.steps + 1) (subst (AreMade new.tape.entries) number (made-quiet q)) ∙ ap (tenant_map t) q.contents
 
+  -- and the step changed none
   pub changed-quiet : IsQuiet old new op progress → changed_at new (old.steps + 1) ≡ false
   changed-quiet q = ap (λ es. is_changed es (old.steps + 1)) q.entries ∙ unchanged-after old.tape.entries old.steps (old.steps + 1) (omega arith) made
 
@@ -46,8 +49,10 @@ module _ (old new : StateView) (op : Operation) (progress : Progress) (number : 
       subst (λ es. AreMade es new.steps) (sym p.pushes)
       (All-push (λ e. e.step ≤ new.steps) old.tape.entries p.entry (made_later old.tape.entries old.steps new.steps (omega (arith, number)) made) (omega (arith, number, p.step)))
 
+  -- after a placing step the maps are those that it made
   pub map-placing : (t : ℕ) → IsPlacing old new op progress → map_of new t (old.steps + 1) ≡ tenant_map t new.contents
   map-placing t p = map_of-now new t (old.steps + 1) (subst (AreMade new.tape.entries) number (made-placing p))
 
+  -- and the step changed one
   pub changed-placing : IsPlacing old new op progress → changed_at new (old.steps + 1) ≡ true
   changed-placing p = ap (is_changed new.tape.entries) (sym p.step) ∙ ap (λ es. is_changed es p.entry.step) p.pushes ∙ is_changed-push old.tape.entries p.entry

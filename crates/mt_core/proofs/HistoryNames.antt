@@ -1,5 +1,5 @@
--- The names of a run by the map of their tickets.
-use Rattle.std.proofs.Common.{◌≡◌, ◌≢◌, ◌∙◌, ℕ, ◌⊎◌, inl, inr, IsSome, true, false, Option, Some, None, is_some, sym, refl, ap}
+-- The names of a run, by the map of their tickets and by the map of their ids: for `begin_by` and `step_by`.
+use Rattle.std.proofs.Common.{◌≡◌, ◌≢◌, ◌∙◌, ℕ, inl, inr, IsSome, true, false, Option, Some, None, is_some, sym, refl, ap}
 use Rattle.std.specs.declared.cmp.Ordering.{Ordering}
 use Rattle.std.specs.declared.cmp.Ordering.TheVariants.{Less, Equal, Greater}
 use Rattle.std.specs.Option.{option_map}
@@ -16,6 +16,7 @@ use Rattle.mt_core.specs.Histories.{Names, named, Renames, AreHeld, AreById}
 abbrev pub id_in : Option (Option Ticket) → Option (Option ℕ)
 id_in w = option_map (option_map (λ (t : Ticket). t.id)) w
 
+-- a name stands for the id of its ticket
 pub named_by : (names : BTreeMap ℕ (Option Ticket)) (o : ℕ) (t : Ticket) → get nat_cmp names o ≡ Some (Some t) → named names o ≡ Some (Some t.id)
 named_by names o t e = ap id_in e
 
@@ -23,6 +24,7 @@ named_by names o t e = ap id_in e
 pub one_id : (names : BTreeMap ℕ (Option Ticket)) (o n m : ℕ) → named names o ≡ Some (Some n) → named names o ≡ Some (Some m) → n ≡ m
 one_id names o n m e f = same_Some n m (same_Some _ _ (sym e ∙ f))
 
+-- a name that the map does not have stands for nothing
 pub named_none : (names : BTreeMap ℕ (Option Ticket)) (o : ℕ) → is_some (get nat_cmp names o) ≡ false → named names o ≡ None
 named_none names o e = by (get nat_cmp names o) e
   where

@@ -1,4 +1,4 @@
--- Before any event.
+-- Before any event nothing was begun, and the history of no event is right: for `run_events`.
 use Rattle.std.proofs.Common.{◌≡◌, ℕ, ◌≤◌, [], Option, Some, None, sym, refl, ap, subst, ◌∙◌, arith}
 use mathlib.Core.Path.{fun_ext}
 use Rattle.std.specs.FinMap as pairs
@@ -54,12 +54,14 @@ history_new logs accounts = history_start (new_state logs accounts) no_pairs (λ
 unnamed : (names : BTreeMap ℕ (Option Ticket)) → names.entries ≡ [] → named names ≡ no_names
 unnamed names none = fun_ext (λ o. ap (λ es. id_in (lookup (λ q. is_eq (nat_cmp o q)) es)) none)
 
+-- the history of no event
 pub history_first : (logs : ℕ) (accounts : Accounts) (v : StateView) (names : BTreeMap ℕ (Option Ticket)) → v ≡ new_state logs accounts → names.entries ≡ []
     → History (λ t. quota_in (account_of accounts t)) no_pairs (story_of 0 []) (named names) v
 history_first logs accounts v names is none =
     subst (λ w. History (λ t. quota_in (account_of accounts t)) no_pairs (story_of 0 []) w v) (sym (unnamed names none))
     (subst (History (λ t. quota_in (account_of accounts t)) no_pairs (story_of 0 []) no_names) (sym is) (history_new logs accounts))
 
+-- and no event leads to the new state itself
 pub leads_first : (logs : ℕ) (accounts : Accounts) (v : StateView) (names : BTreeMap ℕ (Option Ticket)) → v ≡ new_state logs accounts → names.entries ≡ []
     → BringsTo no_names (new_state logs accounts) [] (named names) v
 leads_first logs accounts v names is none = (unnamed names none, is)

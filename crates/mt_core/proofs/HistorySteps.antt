@@ -1,4 +1,4 @@
--- A numbered step of an operation keeps the story right, and what it tells of every operation.
+-- A numbered step of an operation keeps the story right, and what it tells of every operation: for HistoryRuns.
 use Rattle.std.proofs.Common.{◌≡◌, ◌≢◌, ℕ, suc, ◌+◌, ◌-◌, ◌≤◌, ◌⊎◌, inl, inr, Bool, true, false, not, ◌&&◌, cond, eqb, Option, Some, None, sym, refl, ap, subst, ◌∙◌, arith}
 use mathlib.Core.Path.{fun_ext}
 use Rattle.std.proofs.lemmas.Bool.{both_ways, eqb-false, eqb-true}
@@ -233,6 +233,7 @@ module _ (quotas : Quotas) (first : Maps) (story : Story) (old new : StateView) 
         subst (λ (x : Asked). IsLawfulScan (map_of new x.tenant) (IsBetween (with_step story o answer) o) x.command a.reply) one (scan_free _ _ s.before.request a.reply);
   }
 
+  -- the story with this step is right
   pub right_after : Right quotas first (with_step story o answer) (map_of new) (changed_at new)
   right_after = right_step quotas first story (map_of old) (map_of new) (changed_at old) (changed_at new) o answer right growth
 

@@ -1,4 +1,4 @@
--- The phases of an operation that takes, holds or gives back the lock and changes no pair.
+-- The phases of a put that takes, holds or gives back the lock and changes no pair: for `State::lock`, `judge`, `publish` and `unlock`.
 use Rattle.std.proofs.Common.{◌≡◌, ℕ, ◌+◌, ◌-◌, ◌*◌, ◌<◌, ◌≤◌, inl, inr, Bool, true, false, [], length, set, get_or, Option, Some, None, is_some, sym, refl, ap, subst, ◌∙◌, arith}
 use Rattle.std.specs.Prelude.{◌^◌, if◌then◌else◌}
 use Rattle.std.specs.FinMap.{get, len}
@@ -135,6 +135,7 @@ module _ (c : Core) (now : StateView) (o : ℕ) (table : Table) (is : shown c �
   kept_is : (next : Progress) (n : IsNext now o next) → IsKept c o n.0 next
   kept_is next n = subst (IsKept c o n.0) n.2 (h.ops o n.0 (there_is next n)).1
 
+  -- the lock is taken
   pub lock_done : (seen : Parts) → IsNext now o (Lock seen) → ((q : ℕ) → c.holder ≡ Some q → ⊥) → Written c o table Judge → Gives now (quiet c (record c.node.version { locked = true }) (Some o) c.tape.reserved table) o false
   lock_done seen n free w =
       let op = n.0 in
@@ -207,6 +208,7 @@ module _ (c : Core) (now : StateView) (o : ℕ) (table : Table) (is : shown c �
       }) false refl)
   judge_gives op _ there at k p w = absurd p
 
+  -- the change is made ready
   pub judge_done : (next : Progress) → IsNext now o Judge → ((op : Operation) → op_at c.table o ≡ Some op → TellsPrepared c.node op (Some next)) → Written c o table next
       → Gives now (quiet c c.node.version c.holder (c.tape.reserved + 1) table) o false
   judge_done next n tells w = let there = there_is Judge n in judge_gives n.0 next there n.2 (kept_is Judge n) (tells n.0 there) (w n.0 there)
@@ -223,6 +225,7 @@ module _ (c : Core) (now : StateView) (o : ℕ) (table : Table) (is : shown c �
       (ap is_unfinished n.2) (λ e. absurd (cc)) (subst (λ p. MayFollow p next) (sym n.2) refl) (no_notes (shown c) op op.progress next refl) (sym (ap change_in n.2)) (λ left is. absurd (cc))
       (record { begun = first_begun c o op h there few next; since = first_upto c o op h there few next; upto = omega arith; placed = λ real. absurd (cc) }) true refl)
 
+  -- the lock is given back, and the put is done
   pub unlock_done : (reply : Reply) (at : ℕ) → IsNext now o (Unlock reply at) → ((op : Operation) → op_at c.table o ≡ Some op → op.progress ≡ Unlock reply at → table ≡ set c.table o (Some (moved op (c.steps + 1) (Finished reply at))))
       → Gives now (quiet c (unlocked_parts c.node.version) None c.tape.reserved table) o true
   unlock_done reply at n w =

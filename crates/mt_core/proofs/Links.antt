@@ -1,4 +1,4 @@
--- What one place that is written over makes of the links and of the table, for the functions of row.rt.
+-- What one place that is written over makes of the links and of the table: for the functions of row.rt, and TableMoves.
 use Rattle.std.proofs.Common.{◌≡◌, ◌≢◌, ℕ, zero, suc, inl, inr, [], ◌∷◌, set, Option, Some, None, is_some, refl, sym, ap, subst, ◌∙◌}
 use Rattle.std.proofs.lemmas.Bool.{cases_eq}
 use Rattle.std.proofs.lemmas.Option.{same_Some}
@@ -17,6 +17,7 @@ op_place [] o = refl
 op_place (x ∷ places) zero = refl
 op_place (x ∷ places) (suc o) = op_place places o
 
+-- the table with one place written over
 pub table_set : (places : Places) (o : ℕ) (x : Option Place) → table_of (set places o x) ≡ set (table_of places) o (operation_in x)
 table_set [] o x = refl
 table_set (y ∷ places) zero x = refl
@@ -104,6 +105,7 @@ moves_by places o place step progress op at is x there =
     ap (λ w. set places o (Some (record { operation = w; before = place.before; after = place.after }))) is
     ∙ ap (λ (w : Place). set places o (Some (record { operation = moved w.operation step progress; before = w.before; after = w.after }))) same
 
+-- what is not there does not move
 pub no_move : (places : Places) (o step : ℕ) (progress : Progress) → place_at places o ≡ None → Moves places places o step progress
 no_move places o step progress none place at = absurd (none_some (sym none ∙ at))
   where

@@ -1,4 +1,4 @@
--- The phases of an operation that does not hold the lock: the state stays sound, and the step is one that may be told.
+-- The phases of an operation that does not hold the lock keep the invariant, and make a step that may be told: for `State::enter`, `search`, `load`, `confirm`, `forward` and `lock`.
 use Rattle.std.proofs.Common.{◌≡◌, ◌≢◌, ℕ, ◌+◌, ◌<◌, ◌≤◌, ◌⊎◌, inl, inr, Bool, true, false, not, cond, [], length, set, get_or, max, Option, Some, None, sym, refl, ap, subst, ◌∙◌, arith}
 use Rattle.std.specs.Prelude.{◌^◌}
 use Rattle.std.specs.FinMap.{get}
@@ -38,6 +38,7 @@ use Rattle.mt_core.proofs.Quiet.{quiet, first_begun, first_upto, first_same, fir
 pub short_key : (c : Core) (o : ℕ) → StateInvariant c → (op : Operation) → op_at c.table o ≡ Some op → length op.key ≤ 8
 short_key c o h op there = (h.ops o op there).0.short
 
+-- the columns of a get are such as may be named
 pub has_columns : (c : Core) (o : ℕ) → StateInvariant c → (op : Operation) → op_at c.table o ≡ Some op → HasColumns (ask op)
 has_columns c o h op there = (h.ops o op there).0.columns
 
@@ -73,6 +74,7 @@ not_absent row e = cc
 pub differs : (now version seen : Parts) → version ≡ now → ¬ SameButLock version seen → seen ≡ now → ⊥
 differs now version seen is other same = other (ap (λ (v : Parts). record v { locked = true }) (is ∙ sym same))
 
+-- a version that was met again and left is another one than was seen
 pub left_behind : (now version seen : Parts) → version ≡ now → now.deleted ≡ false → (version.deleted ≡ true) ⊎ (version.splits ≢ seen.splits) → seen ≡ now → ⊥
 left_behind now version seen is whole (inl deleted) same = both_ways _ (ap (λ (v : Parts). v.deleted) is ∙ whole) deleted
 left_behind now version seen is whole (inr splits) same = splits (ap (λ (v : Parts). v.splits) (is ∙ sym same))
@@ -140,6 +142,7 @@ module _ (c : Core) (now : StateView) (o : ℕ) (table : Table) (is : shown c �
   there_is : (next : Progress) (n : IsNext now o next) → op_at c.table o ≡ Some n.0
   there_is next n = ap (λ (v : StateView). op_at v.table o) is ∙ n.1
 
+  -- the root's version is remembered
   pub enter_done : (next : Progress) → IsNext now o Enter → ((op : Operation) → op_at c.table o ≡ Some op → next ≡ turned op c.node.version) → Written c o table next → Gives now (still c table) o false
   enter_done next n turns w =
       let op = n.0 in
@@ -149,6 +152,7 @@ module _ (c : Core) (now : StateView) (o : ℕ) (table : Table) (is : shown c �
       (subst (λ p. MayFollow p (Search c.node.version)) at tt) (subst (λ p. MayFollow p (Lock c.node.version)) at tt) (ap steps_to n.2) (λ _. refl) (omega arith)
       (w op there ∙ ap (λ p. set c.table o (Some (moved op (c.steps + 1) p))) (turns op there))
 
+  -- a get or a put goes back, as there is no next node
   pub forward_done : (seen : Parts) (next : Progress) → IsNext now o (Forward seen) → ((op : Operation) → op_at c.table o ≡ Some op → next ≡ turned op seen) → Written c o table next → Gives now (still c table) o false
   forward_done seen next n turns w =
       let op = n.0 in
@@ -167,6 +171,7 @@ module _ (c : Core) (now : StateView) (o : ℕ) (table : Table) (is : shown c �
   left_gives op false there free waits open_before to_enter to_forward back w =
       still_gives op (Forward c.node.version) there free waits open_before to_forward (no_notes (shown c) op op.progress (Forward c.node.version) refl) (no_change op.progress waits) (λ _ is. absurd (back is)) (seen_now op (Forward c.node.version) there _) w false refl
 
+  -- a get that met another version looks anew
   pub away_done : (seen : Parts) (reply : Reply) (at : ℕ) → IsNext now o (Confirm seen reply at) → (seen ≡ c.node.version → ⊥) → Written c o table (left c.node.version) → Gives now (still c table) o false
   away_done seen reply at n other w =
       let op = n.0 in
@@ -181,6 +186,7 @@ module _ (c : Core) (now : StateView) (o : ℕ) (table : Table) (is : shown c �
       ])
       (w op there)
 
+  -- a put that met another version goes on or begins anew
   pub passed_done : (seen : Parts) → IsNext now o (Lock seen) → (seen ≡ c.node.version → ⊥) → Written c o table (left c.node.version) → Gives now (still c table) o false
   passed_done seen n other w =
       let op = n.0 in
@@ -261,6 +267,7 @@ module _ (c : Core) (now : StateView) (o : ℕ) (table : Table) (is : shown c �
         fresh = fresh_on op next seen 1 there k.has_seen.begun k.fresh _;
       }) w false refl
 
+  -- a get has found its key, or that it is missing
   pub search_done : (seen : Parts) (found : Option ℕ) → IsNext now o (Search seen) → ((op : Operation) → op_at c.table o ≡ Some op → TellsSlot c.node op.key found)
       → Written c o table (searched seen found (c.steps + 1)) → Gives now (still c table) o false
   search_done seen found n tells w = let there = there_is (Search seen) n in search_gives seen n.0 found there n.2 (tells n.0 there) (w n.0 there)
@@ -317,6 +324,7 @@ module _ (c : Core) (now : StateView) (o : ℕ) (table : Table) (is : shown c �
         fresh = fresh_confirm op next seen reply at there k.has_seen.begun k.fresh _;
       }) w false refl
 
+  -- a get has its reply
   pub load_done : (seen : Parts) (slot looked at : ℕ) (reply : Reply) (stamp : Option ℕ) → IsNext now o (Load seen slot looked) → ((op : Operation) → op_at c.table o ≡ Some op → TellsTaken c.node slot op (reply, stamp))
       → at ≡ unwrap_or stamp looked → Written c o table (Confirm seen reply at) → Gives now (still c table) o false
   load_done seen slot looked at reply stamp n tells is_at w =

@@ -1,4 +1,4 @@
--- What a get notes: the row of its slot, by the pairs of the state, and nothing where it does not look.
+-- What a get notes of the row of its slot, by the pairs of the state, and that it notes nothing where it does not look: for the phases.
 use Rattle.std.proofs.Common.{◌≡◌, ℕ, ◌+◌, inl, inr, Bool, true, false, [], length, get_or, max, Option, Some, sym, refl, ap, ◌∙◌, arith}
 use Rattle.std.specs.FinMap.{get}
 use Rattle.std.specs.Option.{unwrap_or}

@@ -1,4 +1,4 @@
--- A step that places a put's change: what it leaves to others, and that the invariant stays.
+-- A step that places a put's change: what it leaves to others, and that the invariant stays: for Puts.
 use Rattle.std.proofs.Common.{◌≡◌, ℕ, ◌+◌, ◌-◌, ◌<◌, ◌≤◌, inr, Bool, true, false, cond, eqb, [], ◌∷◌, ◌++◌, set, Some, IsSome, is_some, sym, refl, ap, subst, ◌∙◌, arith}
 use Rattle.std.specs.Prelude.{◌^◌}
 use Rattle.std.specs.List.{All}
@@ -183,6 +183,7 @@ module _ (c : Core) (o : ℕ) (op : Operation) (h : StateInvariant c) (there : o
       };
     }
 
+    -- what the placing step promises
     pub placed_gives : steps_to op.progress ≡ 3 → Gives (shown c) new o false
     placed_gives third =
         let ahead : IsAhead c op next = λ left straight. omega (arith, third) in

@@ -1,4 +1,4 @@
--- What the node has now, and the map after the last step.
+-- What the node has now, and the map after the last step: for the phases, and for a begin.
 use Rattle.std.proofs.Common.{◌≡◌, ℕ, ◌≤◌, Some, refl, ap, ◌∙◌, arith}
 use Rattle.std.specs.FinMap.{get}
 use Rattle.mt_slices.specs.declared.mark.Mark.TheVariants.{Long}
@@ -27,6 +27,7 @@ held_pair (Link tree) s = absurd s
 pub stable_held : (e : Entry) → IsStablePair e.held → (pair : Pair) × (e.held ≡ Stable pair)
 stable_held e s = held_pair e.held s
 
+-- a stable entry has a pair
 pub stable_pair : (e : Entry) → IsStablePair e.held → (pair : Pair) × (pair_of e.held ≡ Some pair)
 stable_pair e s = let w = held_pair e.held s in (w.0, ap pair_of w.1)
 

@@ -1,4 +1,4 @@
--- The phases that place a put: over a row, and as a new pair.
+-- The phases that place a put, over a row and as a new pair: for `State::store` and `publish`.
 use Rattle.std.proofs.Common.{◌≡◌, ◌≢◌, ℕ, ◌+◌, ◌<◌, ◌≤◌, inl, inr, Bool, true, false, List, [], ◌∷◌, ◌++◌, length, Option, Some, None, IsSome, is_some, sym, refl, ap, subst, ◌∙◌, arith}
 use Rattle.std.specs.Prelude.{◌^◌}
 use Rattle.std.specs.Option.{option_map}
@@ -116,15 +116,19 @@ module _ (c : Core) (now : StateView) (o : ℕ) (table : Table) (is : shown c �
   pub remembered : (first next : Progress) (was : Option Progress) → IsNext now o first → was ≡ option_map (λ (op : Operation). op.progress) (op_at c.table o) → was ≡ Some next → IsNext now o next
   remembered first next was n told e = (n.0, n.1, same_Some _ _ (sym (ap (option_map (λ (op : Operation). op.progress)) (there_is first n)) ∙ sym told ∙ e))
 
+  -- the slot that is written over is live
   pub store_live : (slot : ℕ) (row : Columns) (entry : TapeEntry) → IsNext now o (Store slot row entry) → IsLive c.node slot
   store_live slot row entry n = let k : IsAtStore c o n.0 slot row entry = kept_is (Store slot row entry) n in k.holds.live
 
+  -- and has a pair
   pub store_stable : (slot : ℕ) (row : Columns) (entry : TapeEntry) → IsNext now o (Store slot row entry) → IsStablePair (entry_at c.node slot).held
   store_stable slot row entry n = h.node.stable slot any_entry (store_live slot row entry n)
 
+  -- the tape has room for the write
   pub store_reserved : (slot : ℕ) (row : Columns) (entry : TapeEntry) → IsNext now o (Store slot row entry) → 0 < c.tape.reserved
   store_reserved slot row entry n = let k : IsAtStore c o n.0 slot row entry = kept_is (Store slot row entry) n in k.ready.room
 
+  -- the row is written over, and its write is on the tape
   pub store_done : (slot : ℕ) (row : Columns) (entry : TapeEntry) (node : Node) (tape : Kept) → IsNext now o (Store slot row entry)
       → ((pair : Pair) → (entry_at c.node slot).held ≡ Stable pair → Rewrites (marked c.node) node slot (Stable (record pair { row = row; stamp = c.steps + 1 })))
       → tape ≡ pushed c entry → Written c o table (Unlock Replaced (c.steps + 1)) → Gives now (placed c c.accounts node tape table) o false
@@ -180,9 +184,11 @@ module _ (c : Core) (now : StateView) (o : ℕ) (table : Table) (is : shown c �
   pub still_there : (op : Operation) (next : Progress) → op_at c.table o ≡ Some op → Written c o table next → op_at table o ≡ Some (moved op (c.steps + 1) next)
   still_there op next there w = ap (λ t. op_at t o) (w op there) ∙ set_is c.table o (moved op (c.steps + 1) next) op there
 
+  -- the put's operation is there still
   pub publish_there : (next : Progress) (suffix : Bytes) (row : Columns) (entry : TapeEntry) → IsNext now o (Publish suffix row entry) → Written c o table next → IsSome (op_at table o)
   publish_there next suffix row entry n w = ap is_some (still_there n.0 next (there_is (Publish suffix row entry) n) w)
 
+  -- the tape has room for the write
   pub publish_reserved : (suffix : Bytes) (row : Columns) (entry : TapeEntry) → IsNext now o (Publish suffix row entry) → 0 < c.tape.reserved
   publish_reserved suffix row entry n = let k : IsAtPublish c o n.0 suffix row entry = kept_is (Publish suffix row entry) n in k.ready.room
 
@@ -194,18 +200,23 @@ module _ (c : Core) (now : StateView) (o : ℕ) (table : Table) (is : shown c �
     op_there : op_at c.table o ≡ Some n.0
     op_there = there_is (Publish suffix row entry) n
 
+    -- the entry that is added is that of the put's key
     pub added_is : added ≡ new_entry n.0 suffix row (c.steps + 1)
     added_is = adds (moved n.0 (c.steps + 1) next) (still_there n.0 next op_there w)
 
+    -- the node has room for it
     pub publish_room : length (entries_of c.node) < 15
     publish_room = at_publish.few
 
+    -- it is an entry as a node has them
     pub publish_entry : IsEntry added
     publish_entry = subst IsEntry (sym added_is) (entry_fits n.0 suffix row (c.steps + 1) op_there at_publish.suffix_is)
 
+    -- and its key was missing
     pub publish_missing : IsMissing (entries_of c.node) added.slice added.mark
     publish_missing = subst (λ (e : Entry). IsMissing (entries_of c.node) e.slice e.mark) (sym added_is) at_publish.missing
 
+  -- the pair is live, and its write is on the tape
   pub publish_done : (suffix : Bytes) (row : Columns) (entry : TapeEntry) (added : Entry) (accounts : Accounts) (counted : Bool) (node : Node) (tape : Kept) → IsNext now o (Publish suffix row entry)
       → Written c o table (Unlock New (c.steps + 1)) → ((op : Operation) → op_at table o ≡ Some op → added ≡ new_entry op suffix row (c.steps + 1))
       → ((op : Operation) → op_at c.table o ≡ Some op → CountsNew c.accounts accounts op.tenant counted) → counted ≡ true

@@ -1,4 +1,4 @@
--- A step that changes no pair: what it leaves to others, and that the invariant stays.
+-- A step that changes no pair: what it leaves to others, and that the invariant stays: for Looks and HoldsKey.
 use Rattle.std.proofs.Common.{◌≡◌, ◌≢◌, ℕ, zero, suc, ◌+◌, ◌<◌, ◌≤◌, ◌⊎◌, inl, inr, Bool, true, false, not, cond, eqb, [], set, Option, Some, IsSome, is_some, sym, refl, ap, subst, ◌∙◌, arith}
 use Rattle.std.specs.Prelude.{◌^◌}
 use Rattle.std.proofs.lemmas.Bool.{both_ways, ne_eqb}
@@ -62,6 +62,7 @@ first_straight c o op next ahead enters none left = let e = ap steps_to enters i
   | inr (some, _) ↦ absurd (omega arith)
 ]
 
+-- a step of an operation that went straight so far goes on so
 pub next_straight : (c : Core) (o : ℕ) (op : Operation) (next : Progress) → IsAhead c op next → 0 < op.first → IsStraight c.steps op → is_unfinished next ≡ true → IsStraight (c.steps + 1) (moved op (c.steps + 1) next)
 next_straight c o op next ahead begun straight left = let on = ahead left (inr straight) in elim (first_is op.first (c.steps + 1)) [
   | inl (none, _) ↦ absurd (omega arith)
@@ -77,18 +78,21 @@ module _ (c : Core) (o : ℕ) (op : Operation) (h : StateInvariant c) (there : o
   abbrev pub after : Operation
   after = moved op (c.steps + 1) next
 
+  -- an operation that made this step has a first one
   pub first_begun : 0 < after.first
   first_begun = elim (first_is op.first (c.steps + 1)) [
     | inl (none, is) ↦ omega (arith, is)
     | inr (some, is) ↦ omega (arith, is)
   ]
 
+  -- which is this one or an earlier one
   pub first_upto : after.first ≤ c.steps + 1
   first_upto = let k = (h.ops o op there).0 in elim (first_is op.first (c.steps + 1)) [
     | inl (none, is) ↦ omega (arith, is)
     | inr (some, is) ↦ omega (arith, is, k.order, k.made)
   ]
 
+  -- and the one of before, if there was one
   pub first_same : 0 < op.first → after.first ≡ op.first
   first_same begun = elim (first_is op.first (c.steps + 1)) [
     | inl (none, is) ↦ absurd (omega arith)
@@ -131,6 +135,7 @@ module _ (c : Core) (o : ℕ) (op : Operation) (h : StateInvariant c) (there : o
     abbrev with_reserved : ℕ → Kept
     with_reserved r = record c.tape { reserved = r }
 
+    -- the past stays
     pub quiet_grows : KeepsPast (shown c) (shown new)
     quiet_grows = record { steps = omega arith; quotas = λ t. refl; maps = λ t m le. refl; changes = λ m le. refl }
 
@@ -175,6 +180,7 @@ module _ (c : Core) (o : ℕ) (op : Operation) (h : StateInvariant c) (there : o
       ];
     }
 
+    -- what a quiet step promises
     pub quiet_gives : is_unfinished op.progress ≡ true → (is_unplaced next ≡ true → is_unplaced op.progress ≡ true) → MayFollow op.progress next → Notes (shown c) op next → change_in next ≡ change_in op.progress → IsAhead c op next → IsKept new o after next
         → (done : Bool) → done ≡ not (is_unfinished next) → Gives (shown c) new o done
     quiet_gives open_before waits follows notes same_change ahead own done ends =

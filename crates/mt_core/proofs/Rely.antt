@@ -1,4 +1,4 @@
--- Rely and guarantee: what is kept of an operation stays under each step of another one.
+-- Rely and guarantee: what is kept of an operation stays under each step of another one: for the phases, a begin and a take.
 use Rattle.std.proofs.Common.{◌≡◌, ◌≢◌, ℕ, ◌-◌, ◌<◌, ◌≤◌, ◌⊎◌, inl, inr, true, false, List, [], length, set, get_or, Some, IsSome, sym, refl, ap, subst, ◌∙◌, arith}
 use Rattle.std.specs.Prelude.{◌^◌}
 use Rattle.std.specs.FinMap.{get}
@@ -139,6 +139,7 @@ module _ (old new : Core) (o q : ℕ) (g : StateGuarantee old new o) (other : q 
   kept_stays (Unlock reply at) k h = record { lock = lock_stays h.lock; real = h.real; answered = answered_stays reply at k h.answered }
   kept_stays (Finished reply at) k h = answered_stays reply at k h
 
+  -- what is kept of every operation stays under a step of another one
   pub open_stays : IsOpenOperation old op → IsOpenOperation new op
   open_stays h = record {
     stored = h.stored;

@@ -1,4 +1,4 @@
--- What gets and puts are told, and what they leave, by the row of their key.
+-- What gets and puts are told, and what they leave, by the row of their key: for the phases.
 use Rattle.std.proofs.Common.{◌≡◌, ℕ, ◌<◌, ◌≤◌, true, false, cond, List, [], Option, Some, None, refl, sym, ap, ◌∙◌}
 use Rattle.std.proofs.lemmas.Option.{same_Some}
 use Rattle.std.specs.FinMap.{get, len, insert}

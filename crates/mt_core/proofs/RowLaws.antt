@@ -1,4 +1,4 @@
--- The row of operations in the order of their first steps: it stays a row where one is put behind all others, and where one is cut out.
+-- The row of operations in the order of their first steps stays one where one is put behind all others, and where one is cut out: for TableMoves.
 use Rattle.std.proofs.Common.{◌≡◌, ◌≢◌, ℕ, ◌<◌, ◌≤◌, ◌⊎◌, inl, inr, Option, Some, None, refl, sym, ap, subst, ◌∙◌, arith}
 use Rattle.std.proofs.lemmas.Bool.{cases_eq}
 use Rattle.std.proofs.lemmas.Option.{same_Some}
@@ -23,6 +23,7 @@ follows_in : (firsts : ℕ → ℕ) (s t : Option ℕ) → Follows firsts s t �
 follows_in firsts s None f = f.0
 follows_in firsts s (Some q) f = f.0
 
+-- what comes after another is in the row
 pub in_follows : (firsts : ℕ → ℕ) (s t : Option ℕ) → Follows firsts s t → IsInRow firsts t
 in_follows firsts s None f = tt
 in_follows firsts s (Some q) f = omega (arith, f.1)
@@ -173,6 +174,7 @@ module _ (firsts now : ℕ → ℕ) (after after_now before before_now : Option 
   not_gone : (p : ℕ) → 0 < now p → p ≢ o
   not_gone p here is = absurd (omega (arith, here, none, ap now is))
 
+  -- the row without the one that is cut out
   pub cut_row : IsRow now after_now before_now
   cut_row = record {
     apart = λ p q here is.
@@ -269,6 +271,7 @@ module _ (firsts now : ℕ → ℕ) (after after_now before before_now : Option 
   follows_old s None ne f = absurd (ne refl)
   follows_old s (Some q) ne f = stays s q f
 
+  -- the row with the new one behind all others
   pub behind_row : IsRow now after_now before_now
   behind_row = record {
     apart = λ p q here is. elim (cases_eq p o) [

@@ -1,4 +1,4 @@
--- A state in which nothing has happened is sound.
+-- A state in which nothing has happened keeps the invariant: for `State::new`.
 use Rattle.std.proofs.Common.{◌≡◌, ℕ, ◌<◌, [], None, true, sym, refl, ap, subst, ◌∙◌, arith}
 use Rattle.std.specs.FinMap.{len, len-empty, get-empty}
 use Rattle.std.specs.FinMap as pairs
@@ -31,6 +31,7 @@ no_len t c is = ap (λ x. len (tenant_map t x)) is ∙ ap len (no_map t) ∙ len
 never : {P : Type 0} (k : ℕ) → k < 0 → P
 never k lt = absurd (omega (arith, lt))
 
+-- the invariant of a new state
 pub start_sound : (logs : ℕ) (accounts : Accounts) → HaveNoPairs accounts → StateInvariant (start logs accounts)
 start_sound logs accounts none = record {
   tape = record { rises = tt; made = omega arith; legal = λ k d lt. never k lt };

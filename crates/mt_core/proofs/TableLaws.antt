@@ -1,4 +1,4 @@
--- A table in which one id has another operation, or none, and a new state.
+-- A table in which one id has another operation, or none, keeps the invariant: for `State::begin` and `take`; and that a phase may move its operation.
 use Rattle.std.proofs.Common.{◌≡◌, ◌≢◌, ℕ, ◌+◌, ◌<◌, ◌≤◌, ◌⊎◌, inl, inr, true, false, [], length, set, get_or, Option, Some, None, IsSome, is_some, sym, refl, ap, subst, ◌∙◌, arith}
 use Rattle.std.specs.Prelude.{IfSome, IfNone}
 use Rattle.mt_runs.specs.declared.event.Answer.{Answer}
@@ -76,6 +76,7 @@ module _ (c : Core) (o : ℕ) (op : Operation) (table : Table) (h : StateInvaria
       none_some : (w : Operation) → ◌≡◌ {A = Option Operation} None (Some w) → ⊥
       none_some w e = cc
 
+  -- the invariant with an operation more
   pub begun_sound : op.progress ≡ Enter → IsOpenOperation c op → (is_get (ask op) ≡ false → ¬ HasOpenPut c.table)
       → (is_get (ask op) ≡ false → (length (entries_of c.node) < 15) ⊎ IsSome (get (pairs_of c) (owned op.key))) → StateInvariant (with_table c table)
   begun_sound enters k alone room = table_sound c o table h others no_holder
@@ -147,6 +148,7 @@ only_open table now (Put key change) is may put = λ other. may (subst HasOpenPu
 only_open table now (Remove key) is may put = absurd may
 only_open table now (Scan from after count columns) is may put = absurd may
 
+-- a put that is begun is the only open one
 pub begun_alone : (c : Core) (now : StateView) (op : Operation) (worker tenant : ℕ) (command : Command) → shown c ≡ now → IsAdmitted op worker tenant command → MayBegin now.table command → is_get (ask op) ≡ false → ¬ HasOpenPut c.table
 begun_alone c now op worker tenant command is a may put =
     only_open c.table now.table command (ap (λ (v : StateView). v.table) is) may (ap is_get (sym a.begun.command_is) ∙ put)

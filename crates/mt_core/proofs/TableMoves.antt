@@ -46,6 +46,7 @@ still_first : (x : Option Place) → is_still x ≡ true → first_in (operation
 still_first None e = absurd (cc)
 still_first (Some place) e = eqb-true place.operation.first 0 e
 
+-- an operation that has made no step is not the row's last
 pub last_new : (places : Places) (ends : Ends) (put : Option ℕ) (o : ℕ) → IsTable places ends put → is_still (place_at places o) ≡ true → ends.last ≢ Some o
 last_new places ends put o h still is =
     let here = subst (IsInRow (first_at (table_of places))) is ((h.row.befores None tt).0) in
@@ -169,6 +170,7 @@ module _ (p0 p1 p2 : Places) (e0 e1 : Ends) (put : Option ℕ) (now : Table) (o 
       subst (λ e. IsTable p2 e put) (sym s.1) (subst (λ p. IsTable p e0 put) (sym p) h)
   moved_by (Some place) at = moved_at place (is_still (Some place)) at refl
 
+  -- the table with the operation moved
   pub moved_sound : IsTable p2 e1 put
   moved_sound = moved_by (place_at p0 o) refl
 
@@ -200,6 +202,7 @@ module _ (old new : Slab Place) (ends : Ends) (put : Option ℕ) (o : ℕ) (op :
   pub kept_there : op_at (table_of new.slots) o ≡ Some op
   kept_there = op_place new.slots o ∙ ap operation_in updates.changed
 
+  -- every other id has what it had
   pub kept_others : (now : Table) → table_of old.slots ≡ now → (q : ℕ) → q ≢ o → op_at (table_of new.slots) q ≡ op_at now q
   kept_others now is q ne = op_place new.slots q ∙ ap operation_in (updates.others q ne) ∙ sym (op_place old.slots q) ∙ ap (λ t. op_at t q) is
 
@@ -233,6 +236,7 @@ module _ (p0 p1 : Places) (e0 : Ends) (put : Option ℕ) (o : ℕ) (place : Plac
   table_gone : table_of p1 ≡ set (table_of p0) o None
   table_gone = ap table_of gone ∙ table_set p0 o None
 
+  -- what the table shows without it
   pub gone_shows : (now : Table) (p2 : Places) → table_of p0 ≡ now → table_of p2 ≡ table_of p1 → table_of p2 ≡ set now o None
   gone_shows now p2 is same = same ∙ table_gone ∙ ap (λ t. set t o None) is
 
@@ -247,6 +251,7 @@ module _ (p0 p1 : Places) (e0 : Ends) (put : Option ℕ) (o : ℕ) (place : Plac
   behind : 0 < place.operation.first → Follows (first_at (table_of p0)) (Some o) place.after
   behind begun = subst (λ x. Follows (first_at (table_of p0)) (Some o) (after_in x)) at (h.row.afters (Some o) (omega (arith, begun, ap first_in there)))
 
+  -- the operation before it in the row is there
   pub before_there : 0 < place.operation.first → IsPlace p1 place.before
   before_there begun = still_there place.before (ahead begun).0 (λ is. absurd (omega (arith, ap (number_of (first_at (table_of p0))) is, (ahead begun).1)))
 
@@ -254,6 +259,7 @@ module _ (p0 p1 : Places) (e0 : Ends) (put : Option ℕ) (o : ℕ) (place : Plac
   not_behind None f is = some_none (sym is)
   not_behind (Some q) f is = absurd (omega (arith, f.1, ap (first_at (table_of p0)) (same_Some q o is)))
 
+  -- and so is the one after it
   pub after_there : 0 < place.operation.first → IsPlace p1 place.after
   after_there begun = still_there place.after (in_follows (first_at (table_of p0)) (Some o) place.after (behind begun)) (not_behind place.after (behind begun))
 
@@ -316,6 +322,7 @@ module _ (p0 p1 : Places) (e0 : Ends) (put : Option ℕ) (o : ℕ) (place : Plac
     | inr still ↦ let s = same still in subst (λ e. IsTable p2 e put) (sym s.1) (subst (λ p. IsTable p e0 put) (sym s.0) (left_by still))
   ]
 
+  -- cutting it out of the row changes no operation
   pub gone_table : (p2 : Places) (e2 : Ends) → (0 < place.operation.first → Unlinks p1 e0 p2 e2 place.before place.after) → (place.operation.first ≡ 0 → (p2 ≡ p1) × (e2 ≡ e0)) → table_of p2 ≡ table_of p1
   gone_table p2 e2 unlinks same = elim (cases_first place.operation.first) [
     | inl begun ↦ (unlinks begun).table
@@ -337,12 +344,15 @@ module _ (places : Places) (ends : Ends) (put : Option ℕ) (o : ℕ) (h : IsTab
   first_follows : Follows (first_at (table_of places)) None (Some o)
   first_follows = subst (Follows (first_at (table_of places)) None) first (h.row.afters None tt)
 
+  -- the row's first operation is there
   pub first_there : place_at places o ≡ None → ⊥
   first_there none = absurd (omega (arith, first_follows.1, ap first_in (op_place places o ∙ ap operation_in none)))
 
+  -- it has made a step
   pub first_begun : (place : Place) → place_at places o ≡ Some place → 1 ≤ place.operation.first
   first_begun place at = omega (arith, first_follows.1, ap first_in (op_place places o ∙ ap operation_in at))
 
+  -- and the number before that one is the floor
   pub floor_first : (place : Place) (now : Table) (steps : ℕ) → table_of places ≡ now → ((q : ℕ) (op : Operation) → op_at now q ≡ Some op → op.first ≤ steps) → place_at places o ≡ Some place → IsFloorNeeded now steps (place.operation.first - 1)
   floor_first place now steps is made at =
       let there : op_at now o ≡ Some place.operation = ap (λ t. op_at t o) (sym is) ∙ op_place places o ∙ ap operation_in at in
@@ -360,15 +370,18 @@ module _ (places : Places) (ends : Ends) (put : Option ℕ) (o : ℕ) (h : IsTab
 pub open_none : (places : Places) (ends : Ends) (put : Option ℕ) (now : Table) → table_of places ≡ now → IsTable places ends put → put ≡ None → ¬ HasOpenPut now
 open_none places ends put now is h none (o, op, at, is_put, left) = some_none (sym (h.last_put o op (ap (λ t. op_at t o) is ∙ at) (open_joins op is_put left)) ∙ none)
 
+-- no put is open where the one in mind is gone
 pub open_gone : (places : Places) (ends : Ends) (put : Option ℕ) (now : Table) (o : ℕ) → table_of places ≡ now → IsTable places ends put → put ≡ Some o → place_at places o ≡ None → ¬ HasOpenPut now
 open_gone places ends put now o is h mind none (q, op, at, is_put, left) =
     let same : q ≡ o = same_Some q o (sym (h.last_put q op (ap (λ t. op_at t q) is ∙ at) (open_joins op is_put left)) ∙ mind) in
     none_op (sym (op_place places o ∙ ap operation_in none) ∙ ap (op_at (table_of places)) (sym same) ∙ ap (λ t. op_at t q) is ∙ at)
 
+-- one is open where it is there and open
 pub open_there : (places : Places) (ends : Ends) (put : Option ℕ) (now : Table) (o : ℕ) (place : Place) → table_of places ≡ now → IsTable places ends put → put ≡ Some o → place_at places o ≡ Some place → is_open_put place.operation ≡ true → HasOpenPut now
 open_there places ends put now o place is h mind there is_open =
     let w = open_parts place.operation is_open in (o, place.operation, ap (λ t. op_at t o) (sym is) ∙ op_place places o ∙ ap operation_in there, w.0, w.1)
 
+-- and no other can be
 pub there_open : (places : Places) (ends : Ends) (put : Option ℕ) (now : Table) (o : ℕ) (place : Place) → table_of places ≡ now → IsTable places ends put → put ≡ Some o → place_at places o ≡ Some place → HasOpenPut now → is_open_put place.operation ≡ true
 there_open places ends put now o place is h mind there (q, op, at, is_put, left) =
     let is_open = open_joins op is_put left in

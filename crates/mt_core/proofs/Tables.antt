@@ -1,4 +1,4 @@
--- A list of options in which one is written over, for tables of operations and for their places.
+-- A list of options in which one is written over: for tables of operations, and for their places.
 use Rattle.std.proofs.Common.{◌≡◌, ◌≢◌, ℕ, zero, suc, List, [], ◌∷◌, get_or, set, Option, Some, None, refl, sym, ap}
 use Rattle.std.proofs.lemmas.Option.{same_Some}
 

@@ -1,4 +1,4 @@
--- What a get takes of a slot.
+-- What a get takes of a slot: for `taken_at`.
 use Rattle.std.proofs.Common.{◌≡◌, ℕ, max, List, Option, Some, None, refl, sym, ap, ◌∙◌}
 use Rattle.std.specs.Option.{option_map}
 use Rattle.std.proofs.lemmas.Option.{same_Some}
@@ -16,6 +16,7 @@ use Rattle.mt_core.specs.Reads.{columns_asked, TellsTaken}
 abbrev pub Shows : Node → ℕ → Request → Option (Reply × ℕ) → Type 0
 Shows node slot r taken = (pair : Pair) → IsLive node slot → pair_of (entry_at node slot).held ≡ Some pair → taken ≡ option_map (λ columns. (Found (shown columns pair.row), pair.stamp)) (columns_asked r)
 
+-- a get takes the row that its slot has
 pub taken_row : (node : Node) (slot : ℕ) (op : Operation) (taken : Option (Reply × ℕ)) (reply : Reply) (stamp at : ℕ) → taken ≡ Some (reply, stamp) → at ≡ max op.first stamp
     → (¬ IsLive node slot → taken ≡ None) → Shows node slot op.request taken → TellsTaken node slot op (reply, Some at)
 taken_row node slot op taken reply stamp at is number nothing row = record {
@@ -30,6 +31,7 @@ taken_row node slot op taken reply stamp at is number nothing row = record {
     none_some : ◌≡◌ {A = Option (Reply × ℕ)} None (Some (reply, stamp)) → ⊥
     none_some e = cc
 
+-- and nothing of a slot that has none
 pub taken_none : (node : Node) (slot : ℕ) (op : Operation) (taken : Option (Reply × ℕ)) → taken ≡ None → Shows node slot op.request taken → TellsTaken node slot op (Absent, None)
 taken_none node slot op taken is row = record {
   nothing = λ out. refl;

@@ -1,4 +1,4 @@
--- Tenants without pairs, of which a new state is made; and a state in which no put is open.
+-- Tenants without pairs, of which a new state is made, and a state in which no put is open: for callers.
 use Rattle.std.proofs.Common.{◌≡◌, ℕ, [], Some, Result, Ok, Err, sym, ap, ◌∙◌, inl, inr}
 use Rattle.std.specs.Prelude.{OnOk, OnErr}
 use Rattle.std.proofs.lemmas.Bool.{cases_eq}

@@ -1,4 +1,4 @@
--- How an edge is printed.
+-- How an edge is printed: for the `Display` of an edge.
 use Rattle.std.proofs.Common.{◌≡◌, ℕ, ◌-◌, ◌^◌, true, false, List, [], ◌++◌, length, replicate, Option, Some, sym, ap, ◌∙◌, arith}
 use Rattle.std.specs.Prelude.{codes}
 use Rattle.std.specs.Fmt.{digits, decimal, padded_integral, format_spec, char_count, ◌++?◌}
@@ -20,15 +20,18 @@ sixteen_written n = ap Some (filled (digits 16 false n))
 
 -- an edge is its slice's digits, and then what its mark writes
 module _ (e : Edge) (slice : Option (List ℕ)) (written : slice ≡ Some (sixteen_digits e.slice)) where
+  -- the mark of a short key
   pub short_written : (bytes : ℕ) → e.mark ≡ Short bytes → (slice ++? Some (codes ":" ++ decimal bytes)) ≡ Some (edge_text e)
   short_written bytes is = ap (λ o. o ++? Some (codes ":" ++ decimal bytes)) written ∙ ap (λ m. Some (sixteen_digits e.slice ++ (codes ":" ++ mark_text m e.is_link))) (sym is)
 
+  -- the mark of a link
   pub link_written : e.mark ≡ Long → e.is_link ≡ true → (slice ++? Some (codes ":T")) ≡ Some (edge_text e)
   link_written is link =
       ap (λ o. o ++? Some (codes ":T")) written
       ∙ ap (λ b. Some (sixteen_digits e.slice ++ (codes ":" ++ mark_text Long b))) (sym link)
       ∙ ap (λ m. Some (sixteen_digits e.slice ++ (codes ":" ++ mark_text m e.is_link))) (sym is)
 
+  -- the mark of a longer key
   pub long_written : e.mark ≡ Long → e.is_link ≡ false → (slice ++? Some (codes ":L")) ≡ Some (edge_text e)
   long_written is link =
       ap (λ o. o ++? Some (codes ":L")) written

@@ -1,4 +1,4 @@
--- The floor that a tape needs, and that a trim to it leaves the invariant.
+-- A trim to the floor that a tape needs keeps the invariant, and all that a tidying promises: for `State::tidy`.
 use Rattle.std.proofs.Common.{◌≡◌, ℕ, ◌-◌, ◌<◌, ◌≤◌, [], Some, sym, refl, ap, subst, ◌∙◌, arith}
 use Rattle.mt_rows.specs.declared.reply.Reply.{Reply}
 use Rattle.mt_rows.specs.declared.command.Command.{Command}

@@ -1,4 +1,4 @@
--- The writes that a tape still has: those after a floor, and that of a row which stands.
+-- The writes that a tape still has, those after a floor and that of a row which stands: for Notes and Tidies.
 use Rattle.std.proofs.Common.{◌≡◌, ℕ, ◌<◌, inl, inr, List, [], ◌∷◌, Some, sym, ap, subst, ◌∙◌, arith}
 use Rattle.std.specs.List.{Contains}
 use Rattle.std.specs.FinMap.{get}
