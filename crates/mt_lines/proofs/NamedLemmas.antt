@@ -1,7 +1,8 @@
 -- The names in use are exactly those of the open operations: what keeps it, for `NamedStore`.
-use Rattle.std.proofs.Common.{◌≡◌, ◌≢◌, ◌⊎◌, ℕ, zero, suc, ◌+◌, set, Bool, true, false, Option, Some, None, refl, sym, ◌∙◌, ap, subst, inl, inr}
+use Rattle.std.proofs.Common.{◌≡◌, ◌≢◌, ◌⊎◌, ℕ, zero, suc, ◌+◌, set, Bool, true, false, [], ◌∷◌, Option, Some, None, refl, sym, ◌∙◌, ap, subst, inl, inr}
 use Rattle.std.specs.Prelude.{is_some}
 use Rattle.std.proofs.lemmas.Bool.{cases_eq}
+use Rattle.std.proofs.lemmas.List.{get_or-set_other}
 use Rattle.std.proofs.lemmas.Option.{same_Some, none-some}
 use Rattle.mt_rows.specs.declared.command.Command.{Command}
 use Rattle.mt_runs.specs.declared.event.Answer.{Answer}
@@ -14,10 +15,20 @@ use Rattle.mt_core.specs.Views.{StateView, Table, op_at}
 use Rattle.mt_core.specs.Promises.{IsStep, Tells}
 use Rattle.mt_core.specs.Begins.{Begins, Takes}
 use Rattle.mt_core.specs.Tidies.{Tidies}
-use Rattle.mt_core.proofs.Tables.{set_is, set_there}
-use Rattle.mt_core.proofs.TableLaws.{gone_is, gone_others}
 use Rattle.mt_lines.specs.Names.{Tickets, operation_of, TakesName, FreesName}
 use Rattle.mt_lines.specs.Stores.{HaveOneName, IsInTable, TellsMove, Walks, EndsWalk, IsWalk, GivesUp, StoreView}
+
+-- an operation that is written over is there
+pub written_is : (table : Table) (o : ℕ) (before after : Operation) → op_at table o ≡ Some before → op_at (set table o (Some after)) o ≡ Some after
+written_is [] o before after e = absurd (none-some before e)
+written_is (x ∷ table) zero before after e = refl
+written_is (x ∷ table) (suc o) before after e = written_is table o before after e
+
+-- one that is taken away is not
+gone_is : (table : Table) (o : ℕ) → op_at (set table o None) o ≡ None
+gone_is [] o = refl
+gone_is (x ∷ table) zero = refl
+gone_is (x ∷ table) (suc o) = gone_is table o
 
 -- the same operations are open
 abbrev pub SameOpen : Table → Table → Type 0
@@ -31,8 +42,8 @@ named_same old new named same a = record {
 }
 
 step_case : (table : Table) (o q : ℕ) (before after : Operation) → op_at table o ≡ Some before → ((q ≡ o) ⊎ (q ≢ o)) → is_some (op_at (set table o (Some after)) q) ≡ is_some (op_at table q)
-step_case table o q before after there (inl here) = ap (λ k. is_some (op_at (set table o (Some after)) k)) here ∙ ap is_some (set_is table o after before there) ∙ sym (ap (λ k. is_some (op_at table k)) here ∙ ap is_some there)
-step_case table o q before after there (inr apart) = ap is_some (set_there table o q (Some after) apart)
+step_case table o q before after there (inl here) = ap (λ k. is_some (op_at (set table o (Some after)) k)) here ∙ ap is_some (written_is table o before after there) ∙ sym (ap (λ k. is_some (op_at table k)) here ∙ ap is_some there)
+step_case table o q before after there (inr apart) = ap is_some (get_or-set_other table o q (Some after) None apart)
 
 step_same : (old new : StateView) (o : ℕ) (done : Bool) → IsStep old new o done → SameOpen old.table new.table
 step_same old new o done s q = ap (λ t. is_some (op_at t q)) s.table ∙ step_case old.table o q s.before (moved s.before (old.steps + 1) s.progress) s.there (cases_eq q o)
@@ -77,7 +88,7 @@ pub taken_named : (old mid new : StateView) (before after : Tickets) (name o : �
 taken_named old mid new before after name o answer t d f held a = record {
   each = λ q there. each_case q there (cases_eq q o);
   one = λ m n q e g. a.one m n q (before_is m q e) (before_is n q g);
-  open_ones = λ n q e. ap (λ k. is_some (op_at k q)) table ∙ ap is_some (gone_others old.table o q (not_it n q e)) ∙ a.open_ones n q (before_is n q e);
+  open_ones = λ n q e. ap (λ k. is_some (op_at k q)) table ∙ ap is_some (get_or-set_other old.table o q None None (not_it n q e)) ∙ a.open_ones n q (before_is n q e);
 }
   where
     table : new.table ≡ set old.table o None
@@ -98,5 +109,5 @@ taken_named old mid new before after name o answer t d f held a = record {
     each_case : (q : ℕ) → IsInTable new.table q → ((q ≡ o) ⊎ (q ≢ o)) → (n : ℕ) × (operation_of after n ≡ Some q)
     each_case q there (inl same) = absurd (no_both (sym (gone q same) ∙ there))
     each_case q there (inr apart) =
-        let (n, e) = a.each q (sym (ap (λ k. is_some (op_at k q)) table ∙ ap is_some (gone_others old.table o q apart)) ∙ there) in
+        let (n, e) = a.each q (sym (ap (λ k. is_some (op_at k q)) table ∙ ap is_some (get_or-set_other old.table o q None None apart)) ∙ there) in
         (n, f.others n (λ same. apart (same_Some q o (sym e ∙ ap (operation_of before) same ∙ held))) ∙ e)

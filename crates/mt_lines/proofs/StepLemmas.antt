@@ -9,11 +9,11 @@ use Rattle.mt_core.specs.Views.{StateView, op_at}
 use Rattle.mt_core.specs.Invariant.{is_unfinished}
 use Rattle.mt_core.specs.Promises.{IsStep, Tells}
 use Rattle.mt_core.specs.Begins.{IsEnded}
-use Rattle.mt_core.proofs.Tables.{set_is}
 use Rattle.mt_lines.specs.declared.response.Response.{Response}
 use Rattle.mt_lines.specs.declared.response.Response.TheVariants as responses
 use Rattle.mt_lines.specs.Names.{Tickets, operation_of, FreesName}
 use Rattle.mt_lines.specs.Stores.{StoreView, HaveOneName, IsInTable, TellsMove, TellsStep, EndsWalk, SaysEnd, IsWalk, TellsWalk, SaysMove, CanSay, TellsNamed}
+use Rattle.mt_lines.proofs.NamedLemmas.{written_is}
 
 not_unfinished : (b : Bool) → true ≡ not b → b ≡ false
 not_unfinished true e = e
@@ -21,7 +21,7 @@ not_unfinished false e = refl
 
 -- after its last step an operation is there, and no step of it is left
 pub ended : (old new : StateView) (o : ℕ) → IsStep old new o true → IsEnded new.table o
-ended old new o s = (moved s.before (old.steps + 1) s.progress, ap (λ t. op_at t o) s.table ∙ set_is old.table o (moved s.before (old.steps + 1) s.progress) s.before s.there, not_unfinished (is_unfinished s.progress) s.ends)
+ended old new o s = (moved s.before (old.steps + 1) s.progress, ap (λ t. op_at t o) s.table ∙ written_is old.table o s.before (moved s.before (old.steps + 1) s.progress) s.there, not_unfinished (is_unfinished s.progress) s.ends)
 
 -- what a step tells
 pub tells_move : (old new : StateView) (o : ℕ) (move : Move) → Tells old new o move → TellsMove old new o move

@@ -1,4 +1,4 @@
--- The first word of a line, and what follows it.
+-- The first word of a line, and what follows it: for `next_word`, `number` and the loops over words.
 use Rattle.std.proofs.Common.{◌≡◌, ℕ, suc, ◌+◌, ◌-◌, ◌*◌, ◌<◌, ◌≤◌, Bool, true, false, cond, ◌&&◌, nat_le, List, [], ◌∷◌, length, take, drop, Some, None, refl, ap, sym, ◌∙◌, arith}
 use Rattle.std.proofs.lemmas.List.Sums.{prefix_len-drop_no, prefix_len-drop_yes, prefix_len-le-length}
 use Rattle.std.proofs.lemmas.Bool.{lt-leb}
