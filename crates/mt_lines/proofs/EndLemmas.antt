@@ -1,6 +1,5 @@
 -- The ways in which a script ends: for `run_script`.
-use Rattle.std.proofs.Common.{◌≡◌, ℕ, ◌+◌, ◌-◌, ◌^◌, ◌≤◌, ◌⊎◌, ◌==◌, Bool, true, false, cond, List, [], ◌∷◌, ◌++◌, length, Option, Some, None, Result, Ok, Err, refl, sym, ap, ◌∙◌, subst, append_assoc, append-nil, inl, inr, ⊎_elim, arith}
-use Rattle.std.specs.Prelude.{OnOk, IfErr}
+use Rattle.std.proofs.Common.{◌≡◌, ℕ, ◌-◌, ◌^◌, ◌≤◌, ◌⊎◌, ◌==◌, Bool, true, false, List, [], ◌∷◌, ◌++◌, Option, Result, Ok, Err, refl, sym, ap, ◌∙◌, subst, append_assoc, append-nil, inl, inr, ⊎_elim, arith}
 use Rattle.std.specs.Io.BufRead.{strip_last}
 use Rattle.std.specs.Io.KnownBytes.{Consumes, Appends, Keeps, IsAtEnd}
 use Rattle.mt_lines.specs.declared.script.ScriptFault.{ScriptFault}
@@ -8,10 +7,10 @@ use Rattle.mt_lines.specs.declared.script.ScriptFault.TheVariants.{Read, Write, 
 use Rattle.mt_lines.specs.declared.session.Session.{Session}
 use Rattle.mt_lines.specs.Lines.{Front, front_of, without_return}
 use Rattle.mt_rows.specs.Rows.{Bytes}
-use Rattle.mt_lines.specs.Scripts.{Cut, cut_of, lines_of, AreLinesAnswered, IsLineAnswered, IsFront, IsUnread, IsCause, StopsAtLine, RunsScript}
+use Rattle.mt_lines.specs.Scripts.{Cut, cut_of, lines_of, AreLinesAnswered, IsLineAnswered, IsUnread, RunsScript}
 use Rattle.mt_lines.specs.Sessions.{fresh}
 use Rattle.mt_lines.specs.Turns.{AnswersFront, Writes, TakesByte}
-use Rattle.mt_lines.proofs.CutLemmas.{cut_of-more, last_tells}
+use Rattle.mt_lines.proofs.CutLemmas.{last_tells}
 use Rattle.mt_lines.proofs.ScriptLemmas.{Progress, AreLinesAnswered-more, front_answered, feed_cut, feed_answered, other_cut}
 use Rattle.mt_lines.proofs.StreamLemmas.{Appends-trans, Consumes-trans, Consumes-kept}
 

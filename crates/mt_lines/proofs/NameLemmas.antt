@@ -10,7 +10,7 @@ use Rattle.std.proofs.lemmas.List.{get_or-set_other}
 use Rattle.std.proofs.lemmas.Grind.{get_or-set_at}
 use Rattle.std.proofs.lemmas.Option.{same_Some, none-some}
 use Rattle.mt_core.specs.declared.answers.Ticket.{Ticket}
-use Rattle.mt_lines.specs.Names.{Tickets, ticket_of, operation_of, OtherNamesStay, TakesName, FreesName, IsNameRow}
+use Rattle.mt_lines.specs.Names.{Tickets, operation_of, TakesName, FreesName, IsNameRow}
 
 -- a name that stands for an operation before and one that is free there are two
 two_names : (old : Tickets) (n name o : ℕ) → operation_of old n ≡ Some o → operation_of old name ≡ None → n ≢ name

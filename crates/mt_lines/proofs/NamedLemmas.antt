@@ -1,10 +1,9 @@
 -- The names in use are exactly those of the open operations: what keeps it, for `NamedStore`.
-use Rattle.std.proofs.Common.{◌≡◌, ◌≢◌, ◌⊎◌, ℕ, zero, suc, ◌+◌, set, Bool, true, false, [], ◌∷◌, Option, Some, None, refl, sym, ◌∙◌, ap, subst, inl, inr}
+use Rattle.std.proofs.Common.{◌≡◌, ◌≢◌, ◌⊎◌, ℕ, zero, suc, ◌+◌, set, Bool, true, false, [], ◌∷◌, Option, Some, None, refl, sym, ◌∙◌, ap, inl, inr}
 use Rattle.std.specs.Prelude.{is_some}
 use Rattle.std.proofs.lemmas.Bool.{cases_eq}
 use Rattle.std.proofs.lemmas.List.{get_or-set_other}
 use Rattle.std.proofs.lemmas.Option.{same_Some, none-some}
-use Rattle.mt_rows.specs.declared.command.Command.{Command}
 use Rattle.mt_runs.specs.declared.event.Answer.{Answer}
 use Rattle.mt_core.specs.declared.answers.Move.{Move}
 use Rattle.mt_core.specs.declared.answers.Move.TheVariants.{Moved, Again, NoMemory, Done, Spent, NoSuch}
@@ -12,11 +11,11 @@ use Rattle.mt_core.specs.declared.phase.Phase.{Phase}
 use Rattle.mt_core.specs.declared.operation.Operation.{Operation}
 use Rattle.mt_core.specs.Operations.{moved}
 use Rattle.mt_core.specs.Views.{StateView, Table, op_at}
-use Rattle.mt_core.specs.Promises.{IsStep, Tells}
-use Rattle.mt_core.specs.Begins.{Begins, Takes}
+use Rattle.mt_core.specs.Promises.{IsStep}
+use Rattle.mt_core.specs.Begins.{Takes}
 use Rattle.mt_core.specs.Tidies.{Tidies}
-use Rattle.mt_lines.specs.Names.{Tickets, operation_of, TakesName, FreesName}
-use Rattle.mt_lines.specs.Stores.{HaveOneName, IsInTable, TellsMove, Walks, EndsWalk, IsWalk, GivesUp, StoreView}
+use Rattle.mt_lines.specs.Names.{Tickets, operation_of, FreesName}
+use Rattle.mt_lines.specs.Stores.{HaveOneName, IsInTable, TellsMove, Walks, EndsWalk, IsWalk}
 
 -- an operation that is written over is there
 pub written_is : (table : Table) (o : ℕ) (before after : Operation) → op_at table o ≡ Some before → op_at (set table o (Some after)) o ≡ Some after

@@ -1,18 +1,16 @@
 -- A script on its way: for `run_script`.
-use Rattle.std.proofs.Common.{◌≡◌, ℕ, ◌+◌, ◌-◌, ◌^◌, ◌≤◌, ◌==◌, Bool, true, false, cond, List, [], ◌∷◌, ◌++◌, length, Option, Some, None, Result, Ok, Err, refl, sym, ap, ◌∙◌, subst, append_assoc, append-nil, arith}
+use Rattle.std.proofs.Common.{◌≡◌, ℕ, ◌+◌, ◌≤◌, ◌==◌, Bool, true, false, cond, List, [], ◌∷◌, ◌++◌, length, Option, Ok, refl, sym, ap, ◌∙◌, subst, append_assoc, append-nil, arith}
 use Rattle.std.specs.Io.BufRead.{strip_last}
-use Rattle.std.specs.Io.KnownBytes.{Consumes, Appends, Keeps, IsAtEnd}
+use Rattle.std.specs.Io.KnownBytes.{Consumes, Appends}
 use Rattle.std.proofs.lemmas.List.{length-append}
-use Rattle.mt_lines.specs.declared.script.ScriptFault.{ScriptFault}
-use Rattle.mt_lines.specs.declared.script.ScriptFault.TheVariants.{Read, Write, Memory}
 use Rattle.mt_lines.specs.declared.session.Session.{Session}
-use Rattle.mt_lines.specs.Lines.{Front, front_of, with_byte, without_return, whole_line}
+use Rattle.mt_lines.specs.Lines.{Front, front_of, with_byte, without_return}
 use Rattle.mt_rows.specs.Rows.{Bytes}
-use Rattle.mt_lines.specs.Scripts.{Cut, cut_of, cut_at, lines_of, is_silent, meaning_of, Answers, IsLineAnswered, AreLinesAnswered}
+use Rattle.mt_lines.specs.Scripts.{Cut, cut_of, IsLineAnswered, AreLinesAnswered}
 use Rattle.mt_lines.specs.Sessions.{fresh}
-use Rattle.mt_lines.specs.Turns.{meaning_in, AnswersFront, Writes, TakesByte}
-use Rattle.mt_lines.proofs.CutLemmas.{cut_of-more, with_byte-front, FrontTells, last_tells, ended_tells}
-use Rattle.mt_lines.proofs.StreamLemmas.{Consumes-nil, Appends-nil, Appends-trans, Consumes-trans, Consumes-kept}
+use Rattle.mt_lines.specs.Turns.{AnswersFront, TakesByte}
+use Rattle.mt_lines.proofs.CutLemmas.{cut_of-more, with_byte-front, FrontTells, ended_tells}
+use Rattle.mt_lines.proofs.StreamLemmas.{Consumes-nil, Appends-nil, Appends-trans, Consumes-trans}
 
 -- one line more is answered
 pub AreLinesAnswered-more : (old mid new : Session) (lines : List Bytes) (line text answer : Bytes) → AreLinesAnswered old lines mid text → IsLineAnswered mid line new answer → AreLinesAnswered old (lines ++ line ∷ []) new (text ++ answer)

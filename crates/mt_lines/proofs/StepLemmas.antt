@@ -12,7 +12,7 @@ use Rattle.mt_core.specs.Begins.{IsEnded}
 use Rattle.mt_lines.specs.declared.response.Response.{Response}
 use Rattle.mt_lines.specs.declared.response.Response.TheVariants as responses
 use Rattle.mt_lines.specs.Names.{Tickets, operation_of, FreesName}
-use Rattle.mt_lines.specs.Stores.{StoreView, HaveOneName, IsInTable, TellsMove, TellsStep, EndsWalk, SaysEnd, IsWalk, TellsWalk, SaysMove, CanSay, TellsNamed}
+use Rattle.mt_lines.specs.Stores.{StoreView, TellsMove, TellsStep, EndsWalk, SaysEnd, IsWalk, TellsWalk, SaysMove, CanSay, TellsNamed}
 use Rattle.mt_lines.proofs.NamedLemmas.{written_is}
 
 not_unfinished : (b : Bool) → true ≡ not b → b ≡ false

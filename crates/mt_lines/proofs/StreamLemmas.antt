@@ -1,5 +1,5 @@
 -- What reads and writes do to known bytes: for `next_byte`, `write_text` and `run_script`.
-use Rattle.std.proofs.Common.{◌≡◌, ℕ, ◌+◌, ◌≤◌, List, [], ◌++◌, Option, None, Some, refl, sym, ap, ◌∙◌, append_assoc, append-nil, take, drop, take-append-drop}
+use Rattle.std.proofs.Common.{◌≡◌, ℕ, List, [], ◌++◌, Option, None, Some, refl, sym, ap, ◌∙◌, append_assoc, append-nil, take, drop, take-append-drop}
 use Rattle.std.specs.Io.KnownBytes.{Keeps, Appends, Consumes}
 
 pub Consumes-nil : (a : Option (List ℕ)) → Consumes a a []

@@ -1,5 +1,5 @@
 -- What a session does for a line, and what it says of it.
-use Rattle.std.specs.Prelude.{◌≡◌, ◌≢◌, ℕ, ◌⊎◌, true, false, [], Option, Some, None, Ok, Err}
+use Rattle.std.specs.Prelude.{◌≡◌, ℕ, true, false, [], Option, Some, None, Ok, Err}
 use Rattle.mt_rows.specs.declared.command.Command.{Command}
 use Rattle.mt_rows.specs.declared.refusal.Refusal.{Refusal}
 use Rattle.mt_rows.specs.declared.refusal.Refusal.TheVariants.{Quota, Memory}
@@ -11,7 +11,7 @@ use Rattle.mt_core.specs.Shapes.{shape_of}
 use Rattle.mt_lines.specs.declared.line.Line.{Line}
 use Rattle.mt_lines.specs.declared.line.Line.TheVariants as lines
 use Rattle.mt_lines.specs.declared.response.Response.{Response}
-use Rattle.mt_lines.specs.declared.response.Response.TheVariants.{Taken, Refused, Begun, NoSuch, Shape, BadLine}
+use Rattle.mt_lines.specs.declared.response.Response.TheVariants.{Taken, Refused, Begun, Shape, BadLine}
 use Rattle.mt_lines.specs.declared.session.Session.{Session}
 use Rattle.mt_lines.specs.Names.{operation_of, TakesName}
 use Rattle.mt_lines.specs.Stores.{StoreView, fresh_store, TellsStep, TellsWalk, TellsNamed, MayBeginAs}

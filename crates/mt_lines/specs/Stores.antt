@@ -1,5 +1,5 @@
 -- What a store with named operations does by the steps of one of them, and what is said of it.
-use Rattle.std.specs.Prelude.{◌≡◌, ◌≢◌, ℕ, zero, suc, ◌≤◌, ◌^◌, true, false, [], Option, Some, None, is_some}
+use Rattle.std.specs.Prelude.{◌≡◌, ℕ, zero, suc, ◌≤◌, ◌^◌, true, false, [], Option, Some, None, is_some}
 use Rattle.mt_rows.specs.declared.command.Command.{Command}
 use Rattle.mt_runs.specs.declared.event.Answer.{Answer}
 use Rattle.mt_core.specs.declared.answers.Move.{Move}
@@ -11,7 +11,7 @@ use Rattle.mt_core.specs.Promises.{IsStep, Tells}
 use Rattle.mt_core.specs.Begins.{new_state, MayBegin, Takes, IsEnded}
 use Rattle.mt_core.specs.Tidies.{Tidies}
 use Rattle.mt_lines.specs.declared.response.Response.{Response}
-use Rattle.mt_lines.specs.declared.response.Response.TheVariants.{Taken, Refused, Begun, At, Moved, Again, NoMemory, Spent, NoSuch, Done, Shape, BadLine}
+use Rattle.mt_lines.specs.declared.response.Response.TheVariants.{At, Moved, Again, NoMemory, Spent, NoSuch, Done}
 use Rattle.mt_lines.specs.Names.{Tickets, operation_of, FreesName}
 
 -- a store, and the names of its operations

@@ -1,5 +1,5 @@
 -- What the front of a line is answered, and what a byte of a script does.
-use Rattle.std.specs.Prelude.{◌≡◌, ℕ, Bool, true, false, List, [], ◌++◌, Option, Some, None, Result, Ok, Err, OnOk, IfErr}
+use Rattle.std.specs.Prelude.{◌≡◌, ℕ, Bool, true, false, [], ◌++◌, Option, Some, None, Result, Ok, Err, OnOk, IfErr}
 use Rattle.std.specs.Io.KnownBytes.{Appends}
 use Rattle.mt_lines.specs.declared.line.Line.{Line}
 use Rattle.mt_lines.specs.declared.script.ScriptFault.{ScriptFault}

@@ -1,8 +1,6 @@
-use Rattle.std.proofs.Common.{◌≡◌, ◌∷◌, ◌==◌, [], Bool, refl, sym, subst, inl, inr, arith}
-use Rattle.std.specs.Io.KnownBytes.{Consumes, IsAtEnd, Keeps}
+use Rattle.std.proofs.Common.{◌==◌, [], refl, sym, subst, inl, inr, arith}
 use Rattle.std.proofs.lemmas.Result.{err_from_is_err_and}
 use Rattle.mt_lines.specs.Lines.{Front, front_of}
-use Rattle.mt_lines.specs.Sessions.{fresh}
 use Rattle.mt_lines.specs.declared.session.Session.{Session}
 use Rattle.mt_lines.proofs.EndLemmas.{read_fails, take_fails, ends}
 use Rattle.mt_lines.proofs.Failing.{NoFewer-refl, NoFewer-trans, then-Failed}

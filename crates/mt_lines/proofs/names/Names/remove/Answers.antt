@@ -1,4 +1,4 @@
-use Rattle.std.proofs.Common.{rules, ◌≡◌, ◌<◌, Some, sym, ◌∙◌, ap, subst, ℕ, length}
+use Rattle.std.proofs.Common.{rules, ◌≡◌, ◌<◌, Some, sym, ◌∙◌, ap, subst, length}
 use Rattle.std.specs.Option.{option_map}
 use Rattle.mt_core.specs.declared.answers.Ticket.{Ticket}
 use Rattle.mt_lines.specs.Names.{Tickets, operation_of, FreesName}

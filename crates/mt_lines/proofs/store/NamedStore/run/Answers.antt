@@ -1,4 +1,4 @@
-use Rattle.std.proofs.Common.{◌≡◌, ◌≢◌, ℕ, None, Some, refl, sym, ap, subst}
+use Rattle.std.proofs.Common.{◌≡◌, ◌≢◌, None, Some, refl, sym, ap, subst}
 use Rattle.std.specs.Option.{option_map}
 use Rattle.mt_core.specs.declared.answers.Ticket.{Ticket}
 use Rattle.mt_lines.specs.Names.{operation_of}
