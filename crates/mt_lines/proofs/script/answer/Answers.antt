@@ -1,0 +1,14 @@
+use Rattle.std.proofs.Common.{◌≡◌, false, Bool, sym, subst, ◌∙◌, string_bytes}
+use Rattle.mt_lines.specs.Lines.{whole_line}
+use Rattle.mt_rows.specs.Rows.{Bytes}
+use Rattle.mt_lines.specs.Scripts.{is_silent, Answers}
+use Rattle.mt_lines.specs.Turns.{meaning_in, AnswersFront}
+use Rattle.mt_lines.proofs.script.answer.Goals as goal
+
+pub returns-clause-answered : goal.returns-clause-answered
+returns-clause-answered g c =
+    let (front, lost, parts, appended) = c.in-Err.ensures.err in
+    let silent : is_silent c.args.line.now.bytes ≡ false = sym c.is_silent.ensures ∙ c.if-is_silent.false in
+    let says : AnswersFront c.args.session.now c.args.line.now c.answer_text.new.session (string_bytes c.in_ok-text.text) =
+    subst (λ (b : Bool). Answers b (meaning_in (whole_line c.args.line.now)) c.args.session.now c.answer_text.new.session (string_bytes c.in_ok-text.text)) (sym silent) c.in_ok-text.ensures in
+    (front, lost, subst (λ (text : Bytes). AnswersFront c.args.session.now c.args.line.now c.answer_text.new.session text) (sym c.as_bytes.ensures.value ∙ parts) says, appended, c.in-Err.ensures.cause)

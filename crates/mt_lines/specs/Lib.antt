@@ -1,0 +1,11 @@
+pub mod Line
+pub mod Lines
+pub mod Names
+pub mod Programs
+pub mod Scripts
+pub mod Sessions
+pub mod Stores
+pub mod Streams
+pub mod Text
+pub mod Turns
+pub mod Words

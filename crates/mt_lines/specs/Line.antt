@@ -1,0 +1,137 @@
+-- The lines of the language: which line, if any, some bytes are.
+use Rattle.std.specs.Prelude.{ℕ, if◌then◌else◌, List, codes, Option, Some, None}
+use Rattle.mt_rows.specs.declared.command.Command.{Command}
+use Rattle.mt_rows.specs.declared.command.Command.TheVariants.{Get, Put}
+use Rattle.mt_core.specs.declared.phase.Phase.{Phase}
+use Rattle.mt_core.specs.declared.phase.Phase.TheVariants.{Enter, Search, Load, Confirm, Forward, Lock, Judge, Store, Publish, Unlock}
+use Rattle.mt_core.specs.Names as phases
+use Rattle.mt_lines.specs.declared.line.Line.{Line}
+use Rattle.mt_lines.specs.declared.line.Line.TheVariants.{Tenant, Begin, Step, Until, Run, Shape}
+use Rattle.mt_lines.specs.Words.{◌>>=◌, words_of, next, no_more, each, number_up_to, name_word, is_text, key_word, column_word}
+
+-- a number of 32 bits, and a column's index
+abbrev pub number_word : List ℕ → Option ℕ
+number_word word = number_up_to 4294967295 word
+
+abbrev pub index_word : List ℕ → Option ℕ
+index_word word = number_up_to 255 word
+
+-- the phase of this name
+unfoldable pub phase_word : List ℕ → Option Phase
+phase_word word =
+    if is_text word (phases.name_of Enter) then Some Enter
+    else if is_text word (phases.name_of Search) then Some Search
+    else if is_text word (phases.name_of Load) then Some Load
+    else if is_text word (phases.name_of Confirm) then Some Confirm
+    else if is_text word (phases.name_of Forward) then Some Forward
+    else if is_text word (phases.name_of Lock) then Some Lock
+    else if is_text word (phases.name_of Judge) then Some Judge
+    else if is_text word (phases.name_of Store) then Some Store
+    else if is_text word (phases.name_of Publish) then Some Publish
+    else if is_text word (phases.name_of Unlock) then Some Unlock
+    else None
+
+-- tenant T Q
+unfoldable pub tenant_line : List (List ℕ) → Option Line
+tenant_line words = do
+  first ← next words
+  second ← next first.1
+  end ← no_more second.1
+  tenant ← number_word first.0
+  quota ← number_word second.0
+  Some (Tenant tenant quota)
+
+-- get K [index ..], behind its first word
+unfoldable pub get_words : List (List ℕ) → Option Command
+get_words words = do
+  first ← next words
+  key ← key_word first.0
+  indexes ← each index_word first.1
+  Some (Get key indexes)
+
+-- put K index=value .., behind its first word: at least one column
+unfoldable pub put_words : List (List ℕ) → Option Command
+put_words words = do
+  first ← next words
+  second ← next first.1
+  key ← key_word first.0
+  columns ← each column_word first.1
+  Some (Put key columns)
+
+-- the command of a verb
+abbrev pub command_by : List ℕ → List (List ℕ) → Option Command
+command_by verb words =
+    if is_text verb (codes "get") then get_words words
+    else if is_text verb (codes "put") then put_words words
+    else None
+
+-- a command
+unfoldable pub command_words : List (List ℕ) → Option Command
+command_words words = do
+  first ← next words
+  command_by first.0 first.1
+
+-- begin N T, and a command
+unfoldable pub begin_line : List (List ℕ) → Option Line
+begin_line words = do
+  first ← next words
+  second ← next first.1
+  name ← name_word first.0
+  tenant ← number_word second.0
+  command ← command_words second.1
+  Some (Begin name tenant command)
+
+-- step N, run N: a name alone
+unfoldable pub name_alone : List (List ℕ) → Option ℕ
+name_alone words = do
+  first ← next words
+  end ← no_more first.1
+  name_word first.0
+
+-- until N phase
+unfoldable pub until_line : List (List ℕ) → Option Line
+until_line words = do
+  first ← next words
+  second ← next first.1
+  end ← no_more second.1
+  name ← name_word first.0
+  phase ← phase_word second.0
+  Some (Until name phase)
+
+-- shape
+unfoldable pub shape_line : List (List ℕ) → Option Line
+shape_line words = do
+  end ← no_more words
+  Some Shape
+
+-- step N and run N
+unfoldable pub step_line : List (List ℕ) → Option Line
+step_line words = do
+  name ← name_alone words
+  Some (Step name)
+
+unfoldable pub run_line : List (List ℕ) → Option Line
+run_line words = do
+  name ← name_alone words
+  Some (Run name)
+
+-- the line of a verb
+abbrev pub line_by : List ℕ → List (List ℕ) → Option Line
+line_by verb words =
+    if is_text verb (codes "tenant") then tenant_line words
+    else if is_text verb (codes "begin") then begin_line words
+    else if is_text verb (codes "step") then step_line words
+    else if is_text verb (codes "until") then until_line words
+    else if is_text verb (codes "run") then run_line words
+    else if is_text verb (codes "shape") then shape_line words
+    else None
+
+-- which line these words are, by the first of them
+unfoldable pub line_of_words : List (List ℕ) → Option Line
+line_of_words words = do
+  first ← next words
+  line_by first.0 first.1
+
+-- which line these bytes are
+abbrev pub line_of : List ℕ → Option Line
+line_of bytes = line_of_words (words_of bytes)

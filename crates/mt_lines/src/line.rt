@@ -1,0 +1,240 @@
+//! The lines of the language, and how one is read.
+//!
+//! `specs/Line.antt` says which line some bytes are; `parse` answers exactly that.
+
+ghost use Rattle.std.specs.Prelude.{◌≡◌, IfOk, codes};
+ghost use Rattle.mt_lines.specs.Words.{Means, words_of, each, column_word};
+ghost use Rattle.mt_lines.specs.Line.{index_word, phase_word, tenant_line, get_words, put_words, command_words, begin_line, name_alone, step_line, run_line, until_line, shape_line, line_of_words, line_of};
+
+use crate::fault::LineFault;
+use crate::words;
+use mt_core::Phase;
+use mt_rows::{Column, ColumnIndexes, Command, NamedColumns};
+use std::alloc::{AllocError, Global};
+
+/// What a line asks for. Operations are named by numbers of 1 to 999,999.
+#[derive(Debug, Drop)]
+pub enum Line {
+    /// Adds a tenant with a quota of pairs.
+    Tenant {
+        tenant: u32,
+        quota: u32,
+    },
+    /// Begins an operation of this name.
+    Begin {
+        name: u32,
+        tenant: u32,
+        command: Command,
+    },
+    /// One step of the operation.
+    Step {
+        name: u32,
+    },
+    /// Steps up to the one whose next phase is this.
+    Until {
+        name: u32,
+        phase: Phase,
+    },
+    /// Steps to the end, or up to where it can't go on.
+    Run {
+        name: u32,
+    },
+    /// The tree, as text.
+    Shape,
+}
+
+/// The line that these bytes are, or none. It needs memory for a command's lists alone.
+pub fn parse(alloc: Global, bytes: &[u8]) -> Result<Option<Line>, AllocError>
+    ensures { IfOk result (λ line. line ≡ line_of bytes.now) }
+{
+    match any_line(alloc, bytes) {
+        Ok(line) => Ok(Some(line)),
+        Err(LineFault::BadLine) => Ok(None),
+        Err(LineFault::Memory) => Err(AllocError),
+    }
+}
+
+#[tactic(auto, unfolding(crate::specs::Line::line_of_words))]
+fn any_line(alloc: Global, bytes: &[u8]) -> Result<Line, LineFault>
+    ensures { Means (λ line. line) result (line_of_words (words_of bytes.now)) }
+{
+    let (verb, rest) = words::next_word(bytes)?;
+    if words::is_text(verb, "tenant") {
+        tenant(rest)
+    } else if words::is_text(verb, "begin") {
+        begin(alloc, rest)
+    } else if words::is_text(verb, "step") {
+        step(rest)
+    } else if words::is_text(verb, "until") {
+        until(rest)
+    } else if words::is_text(verb, "run") {
+        run(rest)
+    } else if words::is_text(verb, "shape") {
+        shape(rest)
+    } else {
+        Err(LineFault::BadLine)
+    }
+}
+
+#[tactic(auto, unfolding(crate::specs::Line::tenant_line))]
+fn tenant(rest: &[u8]) -> Result<Line, LineFault>
+    ensures { Means (λ line. line) result (tenant_line (words_of rest.now)) }
+{
+    let (first, rest) = words::next_word(rest)?;
+    let (second, rest) = words::next_word(rest)?;
+    words::end_of_words(rest)?;
+    let tenant = words::number(first, u32::MAX)?;
+    let quota = words::number(second, u32::MAX)?;
+    Ok(Line::Tenant { tenant, quota })
+}
+
+#[tactic(auto, unfolding(crate::specs::Line::begin_line))]
+fn begin(alloc: Global, rest: &[u8]) -> Result<Line, LineFault>
+    ensures { Means (λ line. line) result (begin_line (words_of rest.now)) }
+{
+    let (first, rest) = words::next_word(rest)?;
+    let (second, rest) = words::next_word(rest)?;
+    let name = words::name(first)?;
+    let tenant = words::number(second, u32::MAX)?;
+    let command = command(alloc, rest)?;
+    Ok(Line::Begin {
+        name,
+        tenant,
+        command,
+    })
+}
+
+#[tactic(auto, unfolding(crate::specs::Line::command_words))]
+fn command(alloc: Global, rest: &[u8]) -> Result<Command, LineFault>
+    ensures { Means (λ command. command) result (command_words (words_of rest.now)) }
+{
+    let (verb, rest) = words::next_word(rest)?;
+    if words::is_text(verb, "get") {
+        get(alloc, rest)
+    } else if words::is_text(verb, "put") {
+        put(alloc, rest)
+    } else {
+        Err(LineFault::BadLine)
+    }
+}
+
+#[tactic(auto, unfolding(crate::specs::Line::get_words))]
+fn get(alloc: Global, rest: &[u8]) -> Result<Command, LineFault>
+    ensures { Means (λ command. command) result (get_words (words_of rest.now)) }
+{
+    let (first, rest) = words::next_word(rest)?;
+    let key = words::key(alloc, first)?;
+    let columns = ColumnIndexes::new(indexes(alloc, rest)?);
+    Ok(Command::Get { key, columns })
+}
+
+#[tactic(auto, unfolding(crate::specs::Line::put_words))]
+fn put(alloc: Global, rest: &[u8]) -> Result<Command, LineFault>
+    ensures { Means (λ command. command) result (put_words (words_of rest.now)) }
+{
+    let (first, rest) = words::next_word(rest)?;
+    words::next_word(rest)?;
+    let key = words::key(alloc, first)?;
+    let change = NamedColumns::new(columns(alloc, rest)?);
+    Ok(Command::Put { key, change })
+}
+
+// Columns' indexes, up to the end.
+fn indexes(alloc: Global, rest: &[u8]) -> Result<Vec<u8>, LineFault>
+    ensures { Means (λ indexes. indexes.items) result (each index_word (words_of rest.now)) }
+{
+    let mut indexes = Vec::new(alloc);
+    let mut left = rest;
+    while let Ok((word, behind)) = words::next_word(left) {
+        indexes.push(words::number(word, 255)? as u8)?;
+        left = behind;
+    }
+    Ok(indexes)
+}
+
+// Columns with their indexes, up to the end.
+fn columns(alloc: Global, rest: &[u8]) -> Result<Vec<(u8, Column)>, LineFault>
+    ensures { Means (λ columns. columns.items) result (each column_word (words_of rest.now)) }
+{
+    let mut columns = Vec::new(alloc);
+    let mut left = rest;
+    while let Ok((word, behind)) = words::next_word(left) {
+        columns.push(words::column(alloc, word)?)?;
+        left = behind;
+    }
+    Ok(columns)
+}
+
+#[tactic(auto, unfolding(crate::specs::Line::step_line))]
+fn step(rest: &[u8]) -> Result<Line, LineFault>
+    ensures { Means (λ line. line) result (step_line (words_of rest.now)) }
+{
+    let name = name_alone(rest)?;
+    Ok(Line::Step { name })
+}
+
+#[tactic(auto, unfolding(crate::specs::Line::run_line))]
+fn run(rest: &[u8]) -> Result<Line, LineFault>
+    ensures { Means (λ line. line) result (run_line (words_of rest.now)) }
+{
+    let name = name_alone(rest)?;
+    Ok(Line::Run { name })
+}
+
+#[tactic(auto, unfolding(crate::specs::Line::name_alone))]
+fn name_alone(rest: &[u8]) -> Result<u32, LineFault>
+    ensures { Means (λ name. name) result (name_alone (words_of rest.now)) }
+{
+    let (first, rest) = words::next_word(rest)?;
+    words::end_of_words(rest)?;
+    words::name(first)
+}
+
+#[tactic(auto, unfolding(crate::specs::Line::until_line))]
+fn until(rest: &[u8]) -> Result<Line, LineFault>
+    ensures { Means (λ line. line) result (until_line (words_of rest.now)) }
+{
+    let (first, rest) = words::next_word(rest)?;
+    let (second, rest) = words::next_word(rest)?;
+    words::end_of_words(rest)?;
+    let name = words::name(first)?;
+    let phase = phase(second)?;
+    Ok(Line::Until { name, phase })
+}
+
+#[tactic(auto, unfolding(crate::specs::Line::shape_line))]
+fn shape(rest: &[u8]) -> Result<Line, LineFault>
+    ensures { Means (λ line. line) result (shape_line (words_of rest.now)) }
+{
+    words::end_of_words(rest)?;
+    Ok(Line::Shape)
+}
+
+#[tactic(auto, unfolding(crate::specs::Line::phase_word))]
+fn phase(word: &[u8]) -> Result<Phase, LineFault>
+    ensures { Means (λ phase. phase) result (phase_word word.now) }
+{
+    if words::is_text(word, "enter") {
+        Ok(Phase::Enter)
+    } else if words::is_text(word, "search") {
+        Ok(Phase::Search)
+    } else if words::is_text(word, "load") {
+        Ok(Phase::Load)
+    } else if words::is_text(word, "confirm") {
+        Ok(Phase::Confirm)
+    } else if words::is_text(word, "forward") {
+        Ok(Phase::Forward)
+    } else if words::is_text(word, "lock") {
+        Ok(Phase::Lock)
+    } else if words::is_text(word, "judge") {
+        Ok(Phase::Judge)
+    } else if words::is_text(word, "store") {
+        Ok(Phase::Store)
+    } else if words::is_text(word, "publish") {
+        Ok(Phase::Publish)
+    } else if words::is_text(word, "unlock") {
+        Ok(Phase::Unlock)
+    } else {
+        Err(LineFault::BadLine)
+    }
+}

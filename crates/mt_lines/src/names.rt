@@ -1,0 +1,102 @@
+//! The names of the open operations, and their tickets.
+//!
+//! Invariant: the row has at each ticket's id the ticket's name, and no other name. So a name is
+//! found by a ticket's id in one look-up. Its memory is that of the names in use, and of the greatest
+//! id that one of them had.
+
+ghost use Rattle.std.specs.Prelude.{◌≡◌, ◌≢◌, ◌<◌, ◌↔◌, ℕ, [], length, slice_index_or, OnOk, OnErr, Some, None};
+ghost use Rattle.std.specs.Option.{option_map};
+ghost use Rattle.mt_lines.specs.Names.{ticket_of, operation_of, TakesName, FreesName};
+
+use mt_core::Ticket;
+use std::alloc::{AllocError, Global};
+use std::collections::BTreeMap;
+use std::marker::Model;
+
+/// The tickets by their names, and the names by their tickets' ids.
+#[derive(Drop)]
+pub struct Names {
+    tickets: BTreeMap<u32, Ticket>,
+    row: Vec<Option<u32>>,
+}
+
+impl Model for Names {
+    ghost use Rattle.mt_lines.specs.Names.{Tickets, IsNameRow};
+
+    ghost Value = { Tickets };
+
+    ghost view = { λ n. n.tickets.entries };
+
+    ghost invariant = { λ n. IsNameRow n.tickets.entries n.row.items };
+}
+
+impl Names {
+    /// No names.
+    pub fn new(alloc: Global) -> Names
+        ensures { result ≡ [] }
+    {
+        Names {
+            tickets: BTreeMap::new(alloc),
+            row: Vec::new(alloc),
+        }
+    }
+
+    /// The ticket that a name stands for.
+    pub fn ticket(&self, name: u32) -> Option<&Ticket>
+        ensures { option_map (λ t. t.now) result ≡ ticket_of self.now name }
+    {
+        self.tickets.get(&name)
+    }
+
+    /// The name that stands for the operation of an id.
+    pub fn name_of(&self, id: u64) -> Option<u32>
+        ensures { (name : ℕ) → (result ≡ Some name) ↔ (operation_of self.now name ≡ Some id) }
+    {
+        name_at(&self.row, id as usize)
+    }
+
+    /// Lets a free name stand for an operation that has none.
+    pub fn insert(&mut self, name: u32, ticket: Ticket) -> Result<(), AllocError>
+        requires free { operation_of self.old name ≡ None }
+        requires unnamed { (other : ℕ) → operation_of self.old other ≢ Some ticket.id }
+        ensures taken { OnOk result (TakesName self.old self.new name ticket.id) }
+    {
+        let id = ticket.id() as usize;
+        make_room(&mut self.row, id)?;
+        self.tickets.insert(name, ticket)?;
+        self.row[id] = Some(name);
+        Ok(())
+    }
+
+    /// Frees a name, and gives its ticket back.
+    pub fn remove(&mut self, name: u32) -> Option<Ticket>
+        ensures ticket { result ≡ ticket_of self.old name }
+        ensures freed { FreesName self.old self.new name }
+    {
+        let ticket = self.tickets.remove(&name)?;
+        let id = ticket.id() as usize;
+        self.row[id] = None;
+        Some(ticket)
+    }
+}
+
+// The name at a place of the row.
+fn name_at(row: &[Option<u32>], place: usize) -> Option<u32>
+    ensures { result ≡ slice_index_or row.now place None }
+{
+    match row.get(place) {
+        Some(name) => *name,
+        None => None,
+    }
+}
+
+// Makes the row long enough for an id. The places that it adds have no name.
+fn make_room(row: &mut Vec<Option<u32>>, id: usize) -> Result<(), AllocError>
+    ensures room { OnOk result (id < length row.new.items) }
+    ensures same { (o : ℕ) → slice_index_or row.new.items o None ≡ slice_index_or row.old.items o None }
+{
+    while row.len() <= id {
+        row.push(None)?;
+    }
+    Ok(())
+}

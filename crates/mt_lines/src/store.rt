@@ -1,0 +1,215 @@
+//! The store with the names of its open operations.
+//!
+//! Invariant: the names in use are exactly those of the open operations. A name is in use from its
+//! `begin` until the answer of its operation was given; then the operation is taken, and the store
+//! keeps no more of it.
+
+ghost use Rattle.std.specs.Prelude.{◌≡◌, ◌↔◌, ℕ, [], IfOk, OnErr, IsTrue, Some, None, Ok, Err, true};
+ghost use Rattle.mt_core.specs.Views.{StateView};
+ghost use Rattle.mt_core.specs.Shows.{phase_at};
+ghost use Rattle.mt_core.specs.Begins.{new_state, HaveNoPairs, MayBegin, IsEnded};
+ghost use Rattle.mt_core.specs.Shapes.{shape_of};
+ghost use Rattle.mt_runs.specs.declared.event.Answer.{Answer as AnyAnswer};
+ghost use Rattle.mt_lines.specs.Names.{operation_of};
+ghost use Rattle.mt_lines.specs.Sessions.{TellsBegun};
+ghost use Rattle.mt_lines.specs.Stores.{fresh_store, HaveOneName, StopsAt, IsWalk, TellsStep, TellsWalk, TellsNamed, MayBeginAs, CanSay, GivesUp, SaysMove};
+
+use crate::names::Names;
+use crate::response::Response;
+use mt_core::state::MAX_STEPS;
+use mt_core::{Move, Phase, ShapeLine, State, Ticket};
+use mt_rows::{Command, Tenants};
+use mt_runs::Answer;
+use std::alloc::{AllocError, Global};
+use std::marker::Model;
+
+/// A store, and the names of its open operations.
+#[derive(Drop)]
+pub struct NamedStore {
+    state: State,
+    names: Names,
+}
+
+impl Model for NamedStore {
+    ghost use Rattle.std.specs.Coded.{codes};
+    ghost use Rattle.mt_core.specs.Views.{contents_code};
+    ghost use Rattle.mt_lines.specs.Stores.{StoreView, HaveOneName};
+
+    ghost Value = { StoreView };
+
+    ghost coded = { Prim.hlevel (codes, contents_code) };
+
+    ghost view = { λ s. record { state = s.state; named = s.names } };
+
+    ghost invariant = { λ s. HaveOneName s.state.table s.names };
+}
+
+impl NamedStore {
+    /// A store of these tenants in which nothing has happened.
+    pub fn new(alloc: Global, tenants: Tenants) -> NamedStore
+        requires { HaveNoPairs tenants }
+        ensures { result ≡ record { state = new_state 0 tenants; named = [] } }
+    {
+        NamedStore {
+            state: State::new(alloc, 0, tenants),
+            names: Names::new(alloc),
+        }
+    }
+
+    /// Whether a begin may stand here: its name is free, and the store takes its command now: a get
+    /// at any time, a put where no other put is open.
+    pub fn may_begin(&self, name: u32, command: &Command) -> bool
+        ensures { IsTrue result ↔ MayBeginAs self.now name command.now }
+    {
+        if let Some(_) = self.names.ticket(name) {
+            return false;
+        }
+        match command {
+            Command::Get { .. } => true,
+            Command::Put { .. } => !self.state.has_open_put(),
+            Command::Remove { .. } | Command::Scan { .. } => false,
+        }
+    }
+
+    /// Begins an operation by a free name, for worker 0.
+    ///
+    /// Where a growth is refused behind the store's own begin, no operation is left without a name:
+    /// the store begins anew.
+    pub fn begin(
+        &mut self,
+        alloc: Global,
+        name: u32,
+        tenant: u32,
+        command: Command,
+    ) -> Result<Response, AllocError>
+        requires { MayBeginAs self.old name command }
+        ensures told { IfOk result (TellsBegun self.old self.new name tenant command) }
+        ensures given_up { OnErr result (self.new ≡ fresh_store) }
+    {
+        match self.state.begin(0, tenant, command) {
+            Ok(ticket) => {
+                if self.names.insert(name, ticket).is_err() {
+                    self.state = State::new(alloc, 0, Tenants::new(alloc));
+                    self.names = Names::new(alloc);
+                    return Err(AllocError);
+                }
+                Ok(Response::Begun(name))
+            }
+            Err(refusal) => Ok(Response::Refused(refusal)),
+        }
+    }
+
+    /// One step of the operation of a name.
+    pub fn step(&mut self, name: u32) -> Response
+        ensures { TellsNamed (operation_of self.old.named name) self.old self.new result (λ o. TellsStep self.old self.new name o result) }
+    {
+        let Some(ticket) = self.names.ticket(name) else {
+            return Response::NoSuch;
+        };
+        let answer = self.state.step(ticket);
+        respond(&mut self.state, &mut self.names, name, answer)
+    }
+
+    /// Steps of the operation of a name, up to the one whose next phase is this.
+    pub fn until(&mut self, name: u32, phase: Phase) -> Response
+        ensures { TellsNamed (operation_of self.old.named name) self.old self.new result (λ o. TellsWalk (Some phase) self.old self.new name o result) }
+    {
+        let Some(ticket) = self.names.ticket(name) else {
+            return Response::NoSuch;
+        };
+        match walk(&mut self.state, ticket, Some(phase)) {
+            Move::Moved => Response::At(phase),
+            answer => respond(&mut self.state, &mut self.names, name, answer),
+        }
+    }
+
+    /// Steps of the operation of a name, up to one that doesn't move it on.
+    pub fn run(&mut self, name: u32) -> Response
+        ensures { TellsNamed (operation_of self.old.named name) self.old self.new result (λ o. TellsWalk None self.old self.new name o result) }
+    {
+        let Some(ticket) = self.names.ticket(name) else {
+            return Response::NoSuch;
+        };
+        let answer = walk(&mut self.state, ticket, None);
+        respond(&mut self.state, &mut self.names, name, answer)
+    }
+
+    /// The tree, as it is printed.
+    pub fn shape(&self, alloc: Global) -> Result<Vec<ShapeLine>, AllocError>
+        ensures { IfOk result (λ lines. lines.items ≡ shape_of self.now.state.contents) }
+    {
+        self.state.shape(alloc)
+    }
+}
+
+// What is said of a step's answer. After the last step the operation is taken with its answer.
+fn respond(state: &mut State, names: &mut Names, name: u32, answer: Move) -> Response
+    requires named { HaveOneName state.old.table names.old }
+    requires said { (o : ℕ) × (operation_of names.old name ≡ Some o) × CanSay state.old o answer }
+    ensures said { (o : ℕ) → operation_of names.old name ≡ Some o → SaysMove (record { state = state.old; named = names.old }) (record { state = state.new; named = names.new }) name o answer result }
+    ensures named { HaveOneName state.new.table names.new }
+{
+    match answer {
+        Move::Moved => Response::Moved,
+        Move::Again { holder } => Response::Again(holder_name(names, holder)),
+        Move::NoMemory => Response::NoMemory,
+        Move::Done => Response::Done(give_up(state, names, name)),
+        Move::Spent => Response::Spent,
+        Move::NoSuch => Response::NoSuch,
+    }
+}
+
+// The name of an operation that has one.
+fn holder_name(names: &Names, holder: u64) -> u32
+    requires { (name : ℕ) × (operation_of names.now name ≡ Some holder) }
+    ensures { operation_of names.now result ≡ Some holder }
+{
+    match names.name_of(holder) {
+        Some(name) => name,
+        None => unreachable!(),
+    }
+}
+
+// Takes the operation of a name, which has ended, with its answer, and frees the name.
+fn give_up(state: &mut State, names: &mut Names, name: u32) -> Answer
+    requires named { HaveOneName state.old.table names.old }
+    requires ended { (o : ℕ) × (operation_of names.old name ≡ Some o) × IsEnded state.old.table o }
+    ensures given { (o : ℕ) → operation_of names.old name ≡ Some o → GivesUp (record { state = state.old; named = names.old }) (record { state = state.new; named = names.new }) name o result }
+    ensures named { HaveOneName state.new.table names.new }
+{
+    let Some(ticket) = names.remove(name) else {
+        unreachable!()
+    };
+    let Ok(answer) = state.take(ticket) else {
+        unreachable!()
+    };
+    state.tidy();
+    answer
+}
+
+// Steps while the operation moves, up to the phase where it is to stop, if there is one. `Moved`
+// says that it stands there.
+fn walk(state: &mut State, ticket: &Ticket, stop: Option<Phase>) -> Move
+    ensures { IsWalk stop state.old state.new ticket.now.id result }
+{
+    while !stands_at(state, ticket, stop) {
+        if state.steps() >= MAX_STEPS {
+            return Move::Spent;
+        }
+        let answer = state.step(ticket);
+        if answer != Move::Moved {
+            return answer;
+        }
+    }
+    Move::Moved
+}
+
+// Whether the operation is to stop where it stands.
+fn stands_at(state: &State, ticket: &Ticket, stop: Option<Phase>) -> bool
+    ensures { IsTrue result ↔ StopsAt stop (phase_at state.now.table ticket.now.id) }
+{
+    match stop {
+        Some(phase) => state.phase(ticket) == Some(phase),
+        None => false,
+    }
+}

@@ -1,0 +1,223 @@
+//! Scripts with what each must be answered.
+
+use mt_lines::run_script;
+use std::test::Fail;
+
+// What a script is answered, in a session of its own.
+fn answers(rt: &HostRuntime, script: &[u8]) -> Result<Vec<u8>, Fail> {
+    let mut reader = script;
+    let mut written = Vec::new(rt.alloc());
+    run_script(rt.alloc(), &mut reader, &mut written)?;
+    Ok(written)
+}
+
+#[test]
+fn whole_scripts(rt: HostRuntime) -> Result<(), Fail> {
+    // (what it shows, the script, its answers)
+    let cases: [(&str, &str, &str); 11] = [
+        (
+            "an empty store",
+            "tenant 7 100\nbegin 1 7 get 6b\nstep 1\nstep 1\nstep 1\n",
+            "ok\nbegun 1\nmoved\nmoved\ndone absent\n",
+        ),
+        (
+            "the empty key",
+            "tenant 7 100\nbegin 1 7 put - 0=76\nrun 1\nbegin 1 7 get -\nrun 1\nshape\n",
+            "ok\nbegun 1\ndone new\nbegun 1\ndone found 0=76\ntree - layer 0\n  border 1 0000000700000000:4 0000000700000000:4\n",
+        ),
+        (
+            "a put and a get",
+            "tenant 7 100\nbegin 1 7 put 6b 0=76\nrun 1\nbegin 2 7 get 6b\nrun 2\n",
+            "ok\nbegun 1\ndone new\nbegun 2\ndone found 0=76\n",
+        ),
+        (
+            "a get that meets a change looks again",
+            "tenant 7 100\nbegin 2 7 put 6b 0=76\nrun 2\nbegin 1 7 get 6b\nuntil 1 confirm\nbegin 2 7 put 6b 0=77\nrun 2\nrun 1\n",
+            "ok\nbegun 2\ndone new\nbegun 1\nat confirm\nbegun 2\ndone replaced\ndone found 0=77\n",
+        ),
+        (
+            "a put that was not placed is not seen",
+            "tenant 7 100\nbegin 1 7 put 6b 0=76\nuntil 1 publish\nbegin 2 7 get 6b\nrun 2\nrun 1\n",
+            "ok\nbegun 1\nat publish\nbegun 2\ndone absent\ndone new\n",
+        ),
+        (
+            "a get that meets a mark",
+            "tenant 7 100\nbegin 1 7 put 6b 0=76\nuntil 1 unlock\nbegin 2 7 get 6b\nrun 2\nrun 1\nrun 2\n",
+            "ok\nbegun 1\nat unlock\nbegun 2\nagain 1\ndone new\ndone found 0=76\n",
+        ),
+        (
+            "a quota of one pair",
+            "tenant 7 1\nbegin 1 7 put 6b 0=76\nrun 1\nbegin 1 7 put 6c 0=76\nrun 1\nbegin 1 7 put 6b 0=\nrun 1\n",
+            "ok\nbegun 1\ndone new\nbegun 1\ndone full\nbegun 1\ndone replaced\n",
+        ),
+        (
+            "again says the holder's own name",
+            "tenant 7 100\nbegin 5 7 put 6b 0=76\nuntil 5 unlock\nbegin 9 7 get 6b\nbegin 2 7 get 6b\nstep 9\nstep 2\nrun 5\nbegin 5 7 get 6b\nrun 9\nrun 2\nrun 5\n",
+            "ok\nbegun 5\nat unlock\nbegun 9\nbegun 2\nagain 5\nagain 5\ndone new\nbegun 5\ndone found 0=76\ndone found 0=76\ndone found 0=76\n",
+        ),
+        (
+            "no tenant is taken behind a begin",
+            "tenant 7 0\nbegin 1 7 get 61\ntenant 7 5\nbegin 1 7 get 61\n",
+            "refused E7\nrefused E4\nbad line\nrefused E4\n",
+        ),
+        (
+            "a second tenant changes nothing",
+            "tenant 7 1\nbegin 1 7 put 61 0=76\nrun 1\ntenant 7 5\nbegin 1 7 get 61\nrun 1\n",
+            "ok\nbegun 1\ndone new\nbad line\nbegun 1\ndone found 0=76\n",
+        ),
+        ("fifteen pairs and no more", FIFTEEN_PAIRS, FIFTEEN_ANSWERS),
+    ];
+    for (what, script, wanted) in cases {
+        let written = answers(&rt, script.as_bytes())?;
+        assert!(rt; written.as_slice() == wanted.as_bytes(), "{what}");
+    }
+    Ok(())
+}
+
+const FIFTEEN_PAIRS: &str =
+    "tenant 7 100\nbegin 1 7 put 61 0=76\nrun 1\nbegin 1 7 put 62 0=76\nrun 1\nbegin 1 7 put 63 0=76\nrun 1\nbegin 1 7 put 64 0=76\nrun 1\nbegin 1 7 put 65 0=76\nrun 1\nbegin 1 7 put 66 0=76\nrun 1\nbegin 1 7 put 67 0=76\nrun 1\nbegin 1 7 put 68 0=76\nrun 1\nbegin 1 7 put 69 0=76\nrun 1\nbegin 1 7 put 6a 0=76\nrun 1\nbegin 1 7 put 6b 0=76\nrun 1\nbegin 1 7 put 6c 0=76\nrun 1\nbegin 1 7 put 6d 0=76\nrun 1\nbegin 1 7 put 6e 0=76\nrun 1\nbegin 1 7 put 6f 0=76\nrun 1\nbegin 16 7 put 70 0=76\nbegin 1 7 put 61 0=77\nrun 1\n";
+
+const FIFTEEN_ANSWERS: &str =
+    "ok\nbegun 1\ndone new\nbegun 1\ndone new\nbegun 1\ndone new\nbegun 1\ndone new\nbegun 1\ndone new\nbegun 1\ndone new\nbegun 1\ndone new\nbegun 1\ndone new\nbegun 1\ndone new\nbegun 1\ndone new\nbegun 1\ndone new\nbegun 1\ndone new\nbegun 1\ndone new\nbegun 1\ndone new\nbegun 1\ndone new\nrefused E19\nbegun 1\ndone replaced\n";
+
+#[test]
+fn single_lines(rt: HostRuntime) -> Result<(), Fail> {
+    // (the script, its answers)
+    let cases: [(&str, &str); 49] = [
+        ("", ""),
+        ("\n\r\n# a comment\n", ""),
+        (" ", "bad line\n"),
+        (" # no comment\n", "bad line\n"),
+        ("\r", "bad line\n"),
+        ("shape\r\n", "tree - layer 0\n  border 0\n"),
+        ("  shape  ", "tree - layer 0\n  border 0\n"),
+        ("shape\r", "bad line\n"),
+        ("shape 1\n", "bad line\n"),
+        ("shape\t\n", "bad line\n"),
+        ("Shape\n", "bad line\n"),
+        ("tenant  7   100\n", "ok\n"),
+        ("tenant 007 0100\n", "ok\n"),
+        ("tenant 4294967295 1\n", "ok\n"),
+        ("tenant 4294967296 1\n", "bad line\n"),
+        ("tenant +7 100\n", "bad line\n"),
+        ("tenant -7 100\n", "bad line\n"),
+        ("tenant 7\n", "bad line\n"),
+        ("tenant 7 1 1\n", "bad line\n"),
+        (
+            "tenant 7 0\ntenant 7 1048577\ntenant 7 1048576\ntenant 8 1\n",
+            "refused E7\nrefused E7\nok\nbad line\n",
+        ),
+        ("begin 1 8 get 61\ntenant 8 5\n", "refused E4\nbad line\n"),
+        ("begin 1 8 get\ntenant 8 5\n", "bad line\nok\n"),
+        ("step 1\nrun 1\nuntil 1 enter\n", "none\nnone\nnone\n"),
+        (
+            "step 0\nstep 1000000\nstep 999999\n",
+            "bad line\nbad line\nnone\n",
+        ),
+        (
+            "step\nstep 1 1\nrun\nrun x\nuntil 1\n",
+            "bad line\nbad line\nbad line\nbad line\nbad line\n",
+        ),
+        (
+            "until 1 Enter\nuntil 1 fill\nuntil 1 snap\nuntil 1 unlock\n",
+            "bad line\nbad line\nbad line\nnone\n",
+        ),
+        ("tenant 7 5\nbegin 1 7 put 61\n", "ok\nbad line\n"),
+        ("tenant 7 5\nbegin 1 7 put 61 0\n", "ok\nbad line\n"),
+        ("tenant 7 5\nbegin 1 7 put 61 =76\n", "ok\nbad line\n"),
+        ("tenant 7 5\nbegin 1 7 put 61 256=76\n", "ok\nbad line\n"),
+        ("tenant 7 5\nbegin 1 7 put 61 0=7\n", "ok\nbad line\n"),
+        ("tenant 7 5\nbegin 1 7 put 61 0=7g\n", "ok\nbad line\n"),
+        ("tenant 7 5\nbegin 1 7 put 61 0=76=77\n", "ok\nbad line\n"),
+        ("tenant 7 5\nbegin 1 7 put 6 0=76\n", "ok\nbad line\n"),
+        ("tenant 7 5\nbegin 1 7 put -- 0=76\n", "ok\nbad line\n"),
+        ("tenant 7 5\nbegin 1 7 put 61 1=76\n", "ok\nrefused E5\n"),
+        (
+            "tenant 7 5\nbegin 1 7 put 61 0=76 0=76\n",
+            "ok\nrefused E5\n",
+        ),
+        ("tenant 7 5\nbegin 1 7 get 61 1\n", "ok\nrefused E5\n"),
+        ("tenant 7 5\nbegin 1 7 get 61 256\n", "ok\nbad line\n"),
+        ("tenant 7 5\nbegin 1 7 get 6162636465\n", "ok\nrefused E1\n"),
+        (
+            "tenant 7 5\nbegin 1 7 get aB 00\nrun 1\n",
+            "ok\nbegun 1\ndone absent\n",
+        ),
+        (
+            "tenant 7 5\nbegin 1 7 put Fe 0=aBcD\nrun 1\nbegin 1 7 get fE 0\nrun 1\n",
+            "ok\nbegun 1\ndone new\nbegun 1\ndone found 0=abcd\n",
+        ),
+        (
+            "tenant 7 5\nbegin 1 7 remove 61\nbegin 1 7 scan - 1\nbegin 1 7 gets 61\n",
+            "ok\nbad line\nbad line\nbad line\n",
+        ),
+        (
+            "tenant 7 5\nbegin 1 7 get 61\nbegin 1 7 get 61\nrun 1\nrun 1\n",
+            "ok\nbegun 1\nbad line\ndone absent\nnone\n",
+        ),
+        (
+            "tenant 7 5\nbegin 1 7 put 61 0=\nbegin 2 7 put 62 0=\nbegin 2 9 put 62 0=\nrun 1\nbegin 2 7 put 62 0=\nrun 2\n",
+            "ok\nbegun 1\nbad line\nbad line\ndone new\nbegun 2\ndone new\n",
+        ),
+        (
+            "tenant 7 5\nbegin 1 9 put 61 0=\nbegin 1 7 put 61 0=\nrun 1\n",
+            "ok\nrefused E4\nbegun 1\ndone new\n",
+        ),
+        ("\u{0}\n\u{ff}\n", "bad line\nbad line\n"),
+        ("step 1 # no comment\nrun 1", "bad line\nnone\n"),
+        (
+            "begin 2 8 get 61\nbegin 2 8 remove 61\n",
+            "refused E4\nbad line\n",
+        ),
+    ];
+    for (script, wanted) in cases {
+        let written = answers(&rt, script.as_bytes())?;
+        assert!(rt; written.as_slice() == wanted.as_bytes(), "{script:?}");
+    }
+    Ok(())
+}
+
+#[test]
+fn long_lines(rt: HostRuntime) -> Result<(), Fail> {
+    // (bytes of the line, its first byte, its end, what is answered)
+    let cases: [(usize, u8, &str, &str); 6] = [
+        (65_536, b' ', "\n", "bad line\n"),
+        (65_537, b' ', "\r\n", "bad line\n"),
+        (
+            200_000,
+            b' ',
+            "\nshape\n",
+            "bad line\ntree - layer 0\n  border 0\n",
+        ),
+        (65_537, b'#', "\n", ""),
+        (200_000, b'#', "\r\nshape\n", "tree - layer 0\n  border 0\n"),
+        (200_000, b'#', "", ""),
+    ];
+    for (count, first, end, wanted) in cases {
+        let mut script = Vec::new(rt.alloc());
+        script.push(first)?;
+        for _ in 1..count {
+            script.push(b'x')?;
+        }
+        script.extend_from_slice(end.as_bytes())?;
+        let written = answers(&rt, &script)?;
+        assert!(rt; written.as_slice() == wanted.as_bytes(), "{count} bytes");
+    }
+    // The longest line that is one: spaces count, the line's end doesn't.
+    for (spaces, end, wanted) in [
+        (65_531, "\r\n", "tree - layer 0\n  border 0\n"),
+        (65_532, "\r\n", "bad line\n"),
+        (65_531, "", "tree - layer 0\n  border 0\n"),
+        (65_532, "", "bad line\n"),
+    ] {
+        let mut script = Vec::new(rt.alloc());
+        for _ in 0..spaces {
+            script.push(b' ')?;
+        }
+        script.extend_from_slice(b"shape")?;
+        script.extend_from_slice(end.as_bytes())?;
+        let written = answers(&rt, &script)?;
+        assert!(rt; written.as_slice() == wanted.as_bytes(), "{spaces} spaces");
+    }
+    Ok(())
+}

@@ -1,3 +1,0 @@
-pub mod SessionLemmas
-pub mod StreamLemmas
-pub mod WordLemmas

@@ -1,6 +1,0 @@
-use Rattle.mt_script.specs.Streams.{OnlyAppends}
-use Rattle.mt_script.proofs.script.run_script.Given as goal
-
--- what was written stands
-abbrev pub invariant-loop : goal.invariant-loop
-invariant-loop g l = OnlyAppends (g.W.Write.contents l.initial.writer) (g.W.Write.contents l.writer)
