@@ -1,6 +1,6 @@
 //! A real file. Of it nothing is claimed but the count of its failures.
 
-ghost use Rattle.std.specs.Prelude.{[], false};
+ghost use Rattle.std.specs.Prelude.{◌≡◌, [], false};
 ghost use Rattle.mt_disk.specs.Disk.{CountsFailure, found_with};
 
 use crate::disk::{DeviceFailed, Disk, count_failure};
@@ -17,7 +17,9 @@ pub struct FileDisk {
 }
 
 impl FileDisk {
-    pub fn new(file: File) -> Self {
+    pub fn new(file: File) -> Self
+        ensures { result.failures ≡ 0 }
+    {
         FileDisk { file, failures: 0 }
     }
 
