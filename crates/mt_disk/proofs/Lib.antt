@@ -1,0 +1,2 @@
+pub mod CrashLaws
+mod Images

@@ -1,0 +1,31 @@
+-- What a `MemDisk` shows: the state of an honest disk, and which of its calls it fails.
+use Rattle.std.specs.Prelude.{◌≡◌, ◌⊎◌, ℕ, ◌≤◌, List, [], ◌∷◌, ◌++◌, map, Vec, Option, Some}
+use Rattle.std.specs.declared.alloc.Global.{Global}
+use Rattle.mt_disk.specs.Disk.{Range, Moment, DiskState}
+use Rattle.mt_disk.specs.declared.mem.MemDisk.{MemDisk}
+
+-- what it keeps of a moment
+abbrev pub moment_of : Vec ℕ Global × Vec Range Global → Moment
+moment_of kept = record { durable = kept.0.items; dirty = kept.1.items }
+
+-- the moments that it kept, and one more behind them
+abbrev pub moments_and : List (Vec ℕ Global × Vec Range Global) → List ℕ → List Range → List Moment
+moments_and past durable dirty = map moment_of past ++ record { durable = durable; dirty = dirty } ∷ []
+
+-- what a read of it gives, what a crash may leave, and what it might have left before
+abbrev pub mem_state : MemDisk → DiskState
+mem_state m = record { image = m.image.items; now = record { durable = m.durable.items; dirty = m.dirty.items }; past = map moment_of m.past.items }
+
+-- the number of its last call, and which calls it is told to fail
+pub record Plan : Type 0 where
+  pub calls : ℕ
+  pub fail : Option ℕ
+  pub stop : Option ℕ
+
+-- the plan of a `MemDisk`
+abbrev pub plan_of : MemDisk → Plan
+plan_of m = record { calls = m.calls; fail = m.fail; stop = m.stop }
+
+-- whether a call is told to fail: it is the one numbered `fail`, or the one numbered `stop` or a later one
+abbrev pub IsToldToFail : Option ℕ → Option ℕ → ℕ → Type 0
+IsToldToFail fail stop call = (fail ≡ Some call) ⊎ ((first : ℕ) × (stop ≡ Some first) × (first ≤ call))
