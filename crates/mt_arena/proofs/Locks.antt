@@ -1,4 +1,4 @@
--- The whole invariant and the guarantee where a lock is taken or given back, or a mark is set: for `lock`, `unlock` and `mark_splitting`.
+-- The whole invariant and the guarantee where a lock is taken or given back, for `lock` and `unlock`; and where a node is marked for readers of its range, for the calls that split one.
 use Rattle.std.proofs.Common.{◌≡◌, ◌≢◌, ℕ, ◌<◌, List, length, set, false, Option, Some, None, refl, sym, ap, ◌∙◌, arith}
 use Rattle.mt_interior.specs.Fences.{end_of}
 use Rattle.mt_arena.specs.Nodes.{HasRange}
@@ -106,10 +106,6 @@ changes_splitting op x mine = record {
   held = λ q other e. absurd (not_others op q x mine other e);
   taken = λ q other e. e;
 }
-
-pub step_splitting : (v : ArenaView) (i op : ℕ) → i < length v.nodes → (at v i).holder ≡ Some op → IsOpen v i op → Guarantee op v (with_node v i (splitting (at v i)))
-step_splitting v i op within held mine =
-    step_set op v i (splitting (at v i)) within (changes_splitting op (at v i) held) mine record { previous = λ j e not_mine. e; parent = λ j e not_mine. e }
 
 -- who holds a node holds it
 pub is_held : (op : ℕ) (x : NodeView) → x.holder ≡ Some op → x.holder ≢ None

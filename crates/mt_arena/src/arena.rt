@@ -25,7 +25,7 @@ ghost use Rattle.mt_arena.specs.Layers.{slot_at};
 ghost use Rattle.mt_arena.specs.Settled.{IsSettled};
 ghost use Rattle.mt_arena.specs.Nodes.{HasRange};
 ghost use Rattle.mt_arena.specs.Ranges.{Waits};
-ghost use Rattle.mt_arena.specs.Edits.{locked, unlocked, splitting, with_slots, pointed, fresh_root, Points};
+ghost use Rattle.mt_arena.specs.Edits.{locked, unlocked, with_slots, pointed, fresh_root, Points};
 ghost use Rattle.mt_arena.specs.Arena.{IsArena, AreRetired, content_of, Guarantee};
 ghost use Rattle.mt_slices.specs.Marks.{IsMark};
 ghost use Rattle.mt_border.specs.Split.{IsParted, IsSeparator, slices_with};
@@ -158,17 +158,6 @@ impl Arena {
         ensures contents { content_of self.new ≡ content_of self.old }
     {
         self.nodes[node].unlock();
-    }
-
-    /// Sets the mark that readers of a node's range wait for.
-    pub fn mark_splitting(&mut self, node: usize, operation: usize)
-        requires held { IsHeld self.old node operation }
-        requires mine { IsOpen self.old node operation }
-        ensures is { self.new ≡ with_node self.old node (splitting (at self.old node)) }
-        ensures step { Guarantee operation self.old self.new }
-        ensures contents { content_of self.new ≡ content_of self.old }
-    {
-        self.nodes[node].mark_splitting();
     }
 
     /// Writes the neighbour before a border node: one that the operation holds. A right half that waits

@@ -1,8 +1,8 @@
 -- The arenas of which the stories of an arena tell: the top tree, whose root operation 5 holds, and what is beside it.
-use Rattle.std.specs.Prelude.{List, [], ◌∷◌, Some, None}
+use Rattle.std.specs.Prelude.{List, [], ◌∷◌}
 use Rattle.mt_border.specs.declared.entry.Entry.{Entry}
 use Rattle.mt_arena.specs.NodeView.{NodeView}
-use Rattle.mt_arena.specs.Edits.{locked, splitting, pointed, with_slots, fresh_root, fresh_half}
+use Rattle.mt_arena.specs.Edits.{locked, with_slots, fresh_root}
 use Rattle.mt_arena.specs.Arena.{ArenaView}
 use Rattle.mt_arena.specs.Accesses.{top_tree}
 
@@ -17,10 +17,3 @@ of_nodes nodes = record { nodes = nodes; trees = top_tree ∷ []; retired = [] }
 -- the held root with some entries, marked for readers of its keys
 abbrev pub holding : List Entry → ArenaView
 holding entries = of_nodes (with_slots held_root entries ∷ [])
-
--- the root, marked for readers of its range, and a right half without range, before which it stands
-abbrev pub half : NodeView
-half = fresh_half held_root 0 9 5
-
-abbrev pub split_begun : ArenaView
-split_begun = of_nodes (splitting held_root ∷ pointed half (Some 0) None ∷ [])

@@ -1,13 +1,13 @@
-//! The arena: the calls that change one node, in three stories of an arena whose root one operation
+//! The arena: the calls that change one node, in two stories of an arena whose root one operation
 //! holds. `tree.rt` has the others.
 
 ghost use Rattle.std.specs.Prelude.{◌≡◌, ◌<◌, [], ◌∷◌, length, IfOk, OnOk};
 ghost use Rattle.mt_border.specs.declared.entry.Entry.{Entry as Slot};
 ghost use Rattle.mt_border.specs.Entry.{IsEntry, IsStablePair};
 ghost use Rattle.mt_border.specs.Contents.{HasKey};
-ghost use Rattle.mt_arena.specs.Edits.{unlocked, retired};
+ghost use Rattle.mt_arena.specs.Edits.{unlocked};
 ghost use Rattle.mt_arena.specs.Accesses.{at, with_node, with_tree};
-ghost use Rattle.mt_arena_tests.specs.ArenaStory.{held_root, of_nodes, holding, split_begun};
+ghost use Rattle.mt_arena_tests.specs.ArenaStory.{held_root, of_nodes, holding};
 
 use mt_arena::{Arena, Prefix, Standing};
 use mt_border::laws::suffix_fits_mark;
@@ -126,66 +126,6 @@ fn a_key_is_put_in_changed_and_taken_out(rt: HostRuntime) -> Result<(), Fail> {
     assert!(rt; arena.node(0).version().is_inserting());
     give_back(&mut arena);
     assert_eq!(rt; arena.node(0).version().inserts(), 1);
-    Ok(())
-}
-
-// Begins a split of the root: its right half is node 1.
-fn begin_split(arena: &mut Arena) -> Result<usize, AllocError>
-    requires { arena.old ≡ of_nodes (held_root ∷ []) }
-    ensures number { IfOk result (λ node. node ≡ 1) }
-    ensures is { OnOk result (arena.new ≡ split_begun) }
-{
-    arena.mark_splitting(0, 5);
-    let node = arena.alloc_node(0, 9, 5)?;
-    arena.set_previous(node, 0, 5);
-    Ok(node)
-}
-
-// Takes the right half out again.
-fn take_out(arena: &mut Arena)
-    requires { arena.old ≡ split_begun }
-    ensures nodes { arena.new.nodes ≡ (with_node split_begun 1 (retired (at split_begun 1))).nodes }
-    ensures trees { arena.new.trees ≡ split_begun.trees }
-{
-    arena.retire(1, 9, 5);
-}
-
-// Gives the lock of the root back.
-fn end_split(arena: &mut Arena)
-    requires nodes { arena.old.nodes ≡ (with_node split_begun 1 (retired (at split_begun 1))).nodes }
-    requires trees { arena.old.trees ≡ split_begun.trees }
-{
-    arena.unlock(0, 5);
-}
-
-// The number of splits that a node counts.
-fn splits_of(arena: &Arena, node: usize) -> u64
-    requires { node < length arena.now.nodes }
-{
-    arena.node(node).version().splits()
-}
-
-#[test]
-fn a_right_half_is_made_and_taken_out(rt: HostRuntime) -> Result<(), Fail> {
-    let mut arena = held_arena(rt.alloc())?;
-    assert!(rt; arena.node(0).holder() == Some(5));
-    let node = begin_split(&mut arena)?;
-    assert_eq!(rt; node, 1);
-    assert_eq!(rt; (arena.node(1).low(), arena.node(1).high()), (9, Some(9)));
-    assert_eq!(rt;
-        (arena.node(1).previous(), arena.node(1).parent()),
-        (Some(0), None)
-    );
-    assert_eq!(rt;
-        (arena.node(1).tree(), arena.node(1).holder()),
-        (0, Some(5))
-    );
-    take_out(&mut arena);
-    assert!(rt; arena.node(1).version().is_deleted());
-    assert_eq!(rt; splits_of(&arena, 0), 0);
-    end_split(&mut arena);
-    assert_eq!(rt; splits_of(&arena, 0), 1);
-    assert!(rt; arena.node(0).holder().is_none());
     Ok(())
 }
 
