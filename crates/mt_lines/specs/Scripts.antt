@@ -21,10 +21,12 @@ pub record Cut : Type 0 where
 abbrev pub cut_at : Cut → ℕ → Cut
 cut_at cut byte = if byte == 10 then record { ended = cut.ended ++ strip_last 13 cut.last ∷ []; last = [] } else record { ended = cut.ended; last = cut.last ++ byte ∷ [] }
 
+-- more bytes behind those that were cut
 abbrev pub cut_behind : Cut → Bytes → Cut
 cut_behind cut [] = cut
 cut_behind cut (byte ∷ bytes) = cut_behind (cut_at cut byte) bytes
 
+-- all bytes of a script, cut
 abbrev pub cut_of : Bytes → Cut
 cut_of bytes = cut_behind (record { ended = []; last = [] }) bytes
 
