@@ -7,3 +7,6 @@ pub mod TreeTops
 pub mod TreeSplits
 pub mod TreeWays
 pub mod TreeTold
+pub mod TreeEmptied
+pub mod TreeTakenOut
+pub mod TreeCollapsed

@@ -1,2 +1,3 @@
 pub mod ArenaStory
 pub mod TreeStory
+pub mod RemovalStory

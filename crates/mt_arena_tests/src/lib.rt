@@ -6,4 +6,6 @@
 #[cfg(test)]
 mod arena;
 #[cfg(test)]
+mod removal;
+#[cfg(test)]
 mod tree;

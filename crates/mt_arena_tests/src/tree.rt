@@ -26,7 +26,7 @@ use std::test::Fail;
 const LAST_COUNT: u64 = (1 << 60) - 2;
 
 // The border node in which a key belongs.
-fn border_of(arena: &Arena, key: &StoredKey) -> usize
+pub fn border_of(arena: &Arena, key: &StoredKey) -> usize
     requires { IsAtRest arena.now }
     ensures { BelongsIn arena.now.nodes arena.now.trees key.now 0 result }
 {
@@ -56,7 +56,7 @@ fn misses(arena: &Arena, node: usize, key: &StoredKey) -> bool
 }
 
 // Whether a node's version may count one more insert or split.
-fn may_count(arena: &Arena, node: usize) -> bool
+pub fn may_count(arena: &Arena, node: usize) -> bool
     requires { node < length arena.now.nodes }
     ensures { IsTrue result → MayCount (at arena.now node).version }
 {
@@ -65,7 +65,7 @@ fn may_count(arena: &Arena, node: usize) -> bool
 }
 
 // Gives the lock of a node back.
-fn release(arena: &mut Arena, node: usize)
+pub fn release(arena: &mut Arena, node: usize)
     requires { MayRelease arena.old node }
     ensures is { arena.new ≡ with_node arena.old node (unlocked (at arena.old node)) }
     ensures others { (k : ℕ) → k ≢ node → MayRelease arena.old k → MayRelease arena.new k }
@@ -74,7 +74,7 @@ fn release(arena: &mut Arena, node: usize)
 }
 
 // Gives the three locks back that the operation has.
-fn release_all(arena: &mut Arena, parent: usize, left: usize, right: usize)
+pub fn release_all(arena: &mut Arena, parent: usize, left: usize, right: usize)
     requires { IsReady arena.old parent left right }
     ensures { IsAtRest arena.new }
 {
@@ -304,7 +304,7 @@ fn put_all(
 }
 
 // Whether the keys below this one stand where they belong, and this one does not.
-fn has_all(alloc: Global, arena: &Arena, until: u8) -> Result<bool, Fail>
+pub fn has_all(alloc: Global, arena: &Arena, until: u8) -> Result<bool, Fail>
     requires { IsAtRest arena.now }
 {
     for name in 0..=until {
@@ -317,7 +317,7 @@ fn has_all(alloc: Global, arena: &Arena, until: u8) -> Result<bool, Fail>
 }
 
 // Keys come until this one, which is left out where the last border node is split without it.
-fn put_until(
+pub fn put_until(
     rt: &impl Abort,
     alloc: Global,
     arena: &mut Arena,
