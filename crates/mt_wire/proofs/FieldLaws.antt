@@ -10,7 +10,8 @@ use Rattle.std.proofs.lemmas.Nat.{be_bytes_2, be_bytes_4, be_bytes_8, from_be_by
 use Rattle.mt_rows.specs.Rows.{Bytes}
 use Rattle.mt_rows.specs.Changes.{Named}
 use Rattle.mt_wire.specs.Requests.{string, asked_columns, named_column, named_columns, start_flag}
-use Rattle.mt_wire.specs.Reading.{◌>>=◌, byte_at, number_at, taken_at, start_at, string_at, asked_at, named_column_at, each_at, named_columns_at}
+use Rattle.mt_wire.specs.Reading.{◌>>=◌, byte_at, number_at, taken_at, start_at, string_at, each_at}
+use Rattle.mt_wire.specs.RequestReading.{asked_at, named_column_at, named_columns_at}
 
 abbrev pub IsBytes : Bytes → Type 0
 IsBytes bytes = (i : ℕ) → get_or bytes i 0 < 256

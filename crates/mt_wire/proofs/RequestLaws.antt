@@ -8,7 +8,8 @@ use Rattle.mt_rows.specs.declared.command.Command.TheVariants.{Get, Put, Remove,
 use Rattle.mt_wire.specs.declared.message.Request.{Request}
 use Rattle.mt_wire.specs.declared.message.Request.TheVariants.{Open, Call, Settle}
 use Rattle.mt_wire.specs.Requests.{string, asked_columns, named_columns, start_flag, request_body, RequestFits, IsSpellable}
-use Rattle.mt_wire.specs.Reading.{◌>>=◌, byte_at, number_at, start_at, string_at, asked_at, named_columns_at, open_at, get_at, put_at, remove_at, scan_at, kind_at, request_in}
+use Rattle.mt_wire.specs.Reading.{◌>>=◌, byte_at, number_at, start_at, string_at}
+use Rattle.mt_wire.specs.RequestReading.{asked_at, named_columns_at, open_at, get_at, put_at, remove_at, scan_at, kind_at, request_in}
 use Rattle.mt_wire.proofs.FrameLaws.{AreMessages}
 use Rattle.mt_wire.proofs.FieldLaws.{IsBytes, bind_some, guard_ended, choose, some_is, Takes, Takes-then, Takes-more, byte_takes, wide32, number_takes, string_takes, string_again, asked_takes, asked_again, named_columns_takes, named_columns_again, start_takes, start_again}
 

@@ -3,4 +3,5 @@ pub mod Requests
 pub mod Replies
 pub mod Fronts
 pub mod Reading
+pub mod RequestReading
 pub mod ReplyReading

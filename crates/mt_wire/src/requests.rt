@@ -3,7 +3,8 @@
 ghost use Rattle.std.specs.Prelude.{◌≡◌, ◌↔◌, ◌≤◌, ◌<◌, ◌*◌, ◌^◌, ◌++◌, length, take, IsTrue, IfOk, IsOk, OnOk, OnErr};
 ghost use Rattle.std.specs.List.{All};
 ghost use Rattle.mt_wire.specs.Requests.{asked_columns, named_column, named_columns, command_body, request_body, spelling, CommandFits, RequestFits, IsSpellable};
-ghost use Rattle.mt_wire.specs.Reading.{Gives, asked_at, named_column_at, each_at, named_columns_at, open_at, get_at, put_at, remove_at, scan_at, kind_at, request_in};
+ghost use Rattle.mt_wire.specs.Reading.{Gives, each_at};
+ghost use Rattle.mt_wire.specs.RequestReading.{asked_at, named_column_at, named_columns_at, open_at, get_at, put_at, remove_at, scan_at, kind_at, request_in};
 ghost use Rattle.mt_wire.specs.Fronts.{IsFront};
 
 use crate::fault::{DecodeFault, EncodeFault};
@@ -66,7 +67,7 @@ impl Request {
     }
 }
 
-#[tactic(auto, unfolding(crate::specs::Reading::asked_at))]
+#[tactic(auto, unfolding(crate::specs::RequestReading::asked_at))]
 fn asked_of(alloc: Global, bytes: &[u8]) -> Result<(ColumnIndexes, &[u8]), DecodeFault>
     ensures { Gives (λ x. (x.0, x.1.now)) result (asked_at bytes.now) }
 {
@@ -76,7 +77,7 @@ fn asked_of(alloc: Global, bytes: &[u8]) -> Result<(ColumnIndexes, &[u8]), Decod
     Ok((ColumnIndexes::new(indexes), rest))
 }
 
-#[tactic(auto, unfolding(crate::specs::Reading::named_column_at))]
+#[tactic(auto, unfolding(crate::specs::RequestReading::named_column_at))]
 fn named_column_of(alloc: Global, bytes: &[u8]) -> Result<((u8, Column), &[u8]), DecodeFault>
     ensures { Gives (λ x. (x.0, x.1.now)) result (named_column_at bytes.now) }
 {
@@ -102,7 +103,7 @@ fn columns_of(
     Ok((columns, rest))
 }
 
-#[tactic(auto, unfolding(crate::specs::Reading::named_columns_at))]
+#[tactic(auto, unfolding(crate::specs::RequestReading::named_columns_at))]
 fn named_columns_of(alloc: Global, bytes: &[u8]) -> Result<(NamedColumns, &[u8]), DecodeFault>
     ensures { Gives (λ x. (x.0, x.1.now)) result (named_columns_at bytes.now) }
 {
@@ -111,7 +112,7 @@ fn named_columns_of(alloc: Global, bytes: &[u8]) -> Result<(NamedColumns, &[u8])
     Ok((NamedColumns::new(columns), rest))
 }
 
-#[tactic(auto, unfolding(crate::specs::Reading::open_at))]
+#[tactic(auto, unfolding(crate::specs::RequestReading::open_at))]
 fn open_of(bytes: &[u8]) -> Result<(Request, &[u8]), DecodeFault>
     ensures { Gives (λ x. (x.0, x.1.now)) result (open_at bytes.now) }
 {
@@ -119,7 +120,7 @@ fn open_of(bytes: &[u8]) -> Result<(Request, &[u8]), DecodeFault>
     Ok((Request::Open(tenant), rest))
 }
 
-#[tactic(auto, unfolding(crate::specs::Reading::get_at))]
+#[tactic(auto, unfolding(crate::specs::RequestReading::get_at))]
 fn get_of(alloc: Global, bytes: &[u8]) -> Result<(Request, &[u8]), DecodeFault>
     ensures { Gives (λ x. (x.0, x.1.now)) result (get_at bytes.now) }
 {
@@ -129,7 +130,7 @@ fn get_of(alloc: Global, bytes: &[u8]) -> Result<(Request, &[u8]), DecodeFault>
     Ok((Request::Call(Command::Get { key, columns }), rest))
 }
 
-#[tactic(auto, unfolding(crate::specs::Reading::put_at))]
+#[tactic(auto, unfolding(crate::specs::RequestReading::put_at))]
 fn put_of(alloc: Global, bytes: &[u8]) -> Result<(Request, &[u8]), DecodeFault>
     ensures { Gives (λ x. (x.0, x.1.now)) result (put_at bytes.now) }
 {
@@ -139,7 +140,7 @@ fn put_of(alloc: Global, bytes: &[u8]) -> Result<(Request, &[u8]), DecodeFault>
     Ok((Request::Call(Command::Put { key, change }), rest))
 }
 
-#[tactic(auto, unfolding(crate::specs::Reading::remove_at))]
+#[tactic(auto, unfolding(crate::specs::RequestReading::remove_at))]
 fn remove_of(alloc: Global, bytes: &[u8]) -> Result<(Request, &[u8]), DecodeFault>
     ensures { Gives (λ x. (x.0, x.1.now)) result (remove_at bytes.now) }
 {
@@ -148,7 +149,7 @@ fn remove_of(alloc: Global, bytes: &[u8]) -> Result<(Request, &[u8]), DecodeFaul
     Ok((Request::Call(Command::Remove { key }), rest))
 }
 
-#[tactic(auto, unfolding(crate::specs::Reading::scan_at))]
+#[tactic(auto, unfolding(crate::specs::RequestReading::scan_at))]
 fn scan_of(alloc: Global, bytes: &[u8]) -> Result<(Request, &[u8]), DecodeFault>
     ensures { Gives (λ x. (x.0, x.1.now)) result (scan_at bytes.now) }
 {
@@ -166,7 +167,7 @@ fn scan_of(alloc: Global, bytes: &[u8]) -> Result<(Request, &[u8]), DecodeFault>
     Ok((Request::Call(command), rest))
 }
 
-#[tactic(auto, unfolding(crate::specs::Reading::kind_at))]
+#[tactic(auto, unfolding(crate::specs::RequestReading::kind_at))]
 fn kind_of(alloc: Global, kind: u8, rest: &[u8]) -> Result<(Request, &[u8]), DecodeFault>
     ensures { Gives (λ x. (x.0, x.1.now)) result (kind_at kind rest.now) }
 {
@@ -181,7 +182,7 @@ fn kind_of(alloc: Global, kind: u8, rest: &[u8]) -> Result<(Request, &[u8]), Dec
     }
 }
 
-#[tactic(auto, unfolding(crate::specs::Reading::request_in))]
+#[tactic(auto, unfolding(crate::specs::RequestReading::request_in))]
 fn request_of(alloc: Global, bytes: &[u8]) -> Result<Request, DecodeFault>
     ensures { Gives (λ r. r) result (request_in bytes.now) }
 {

@@ -1,3 +1,4 @@
+-- each turn reads a column, or none is read
 use Rattle.std.proofs.lemmas.Result.{err_from_is_err_and}
 use Rattle.mt_wire.specs.Reading.{string_at, each_at}
 use Rattle.mt_wire.proofs.Loop.{goes_on, ends, is_done}

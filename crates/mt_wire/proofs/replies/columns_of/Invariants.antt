@@ -1,3 +1,4 @@
+-- the columns that were read and those that are left are all that are announced
 use Rattle.std.proofs.Common.{◌≡◌, ◌-◌}
 use Rattle.mt_wire.specs.Reading.{string_at, each_at}
 use Rattle.mt_wire.proofs.Loop.{with_front}

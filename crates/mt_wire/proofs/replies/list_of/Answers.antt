@@ -1,3 +1,4 @@
+-- each turn reads a pair, or none is read
 use Rattle.std.proofs.lemmas.Result.{err_from_is_err_and}
 use Rattle.mt_wire.specs.Reading.{each_at}
 use Rattle.mt_wire.specs.ReplyReading.{pair_at}

@@ -1,3 +1,4 @@
+-- the pairs that were read and those that are left are all that are announced
 use Rattle.std.proofs.Common.{◌≡◌, ◌-◌}
 use Rattle.mt_wire.specs.Reading.{each_at}
 use Rattle.mt_wire.specs.ReplyReading.{pair_at}

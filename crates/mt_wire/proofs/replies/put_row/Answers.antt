@@ -1,3 +1,4 @@
+-- where a column can't be written, what was there before stands at the front
 use Rattle.mt_wire.proofs.Lists.{front_then}
 use Rattle.mt_wire.proofs.replies.put_row.Goals as goal
 

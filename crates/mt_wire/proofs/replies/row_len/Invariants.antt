@@ -1,3 +1,4 @@
+-- the columns so far have so many bytes
 use Rattle.std.proofs.Common.{◌≡◌, ◌+◌, ◌*◌, ◌≤◌, length, take}
 use Rattle.std.specs.List.{flat_map}
 use Rattle.mt_wire.specs.Requests.{string}

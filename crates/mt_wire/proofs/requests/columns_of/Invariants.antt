@@ -1,5 +1,7 @@
+-- the columns that were read and those that are left are all that are announced
 use Rattle.std.proofs.Common.{◌≡◌, ◌-◌}
-use Rattle.mt_wire.specs.Reading.{named_column_at, each_at}
+use Rattle.mt_wire.specs.Reading.{each_at}
+use Rattle.mt_wire.specs.RequestReading.{named_column_at}
 use Rattle.mt_wire.proofs.Loop.{with_front}
 use Rattle.mt_wire.proofs.requests.columns_of.Given as goal
 
