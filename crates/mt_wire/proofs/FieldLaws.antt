@@ -1,15 +1,16 @@
 -- A field that is read is the field that was written, and what was written is read again.
-use Rattle.std.proofs.Common.{◌≡◌, ℕ, zero, suc, ◌+◌, ◌^◌, ◌<◌, ◌≤◌, Bool, true, false, cond, ltb, [], ◌∷◌, ◌++◌, length, get_or, take, drop, Option, Some, None, refl, sym, ap, subst, ◌∙◌, append_assoc, arith, inl, inr}
-use Rattle.std.specs.Int.{Width, w16, w32, byte_len, from_be_bytes, to_be_bytes}
-use Rattle.std.specs.List.{flat_map, AllByRecursion}
+use Rattle.std.proofs.Common.{◌≡◌, ℕ, zero, suc, ◌+◌, ◌^◌, ◌<◌, ◌≤◌, Bool, true, false, cond, ltb, List, [], ◌∷◌, ◌++◌, length, get_or, take, drop, Option, Some, None, refl, sym, ap, subst, ◌∙◌, append_assoc, arith, inl, inr}
+use Rattle.std.specs.Int.{Width, w16, w32, w64, byte_len, from_be_bytes, to_be_bytes}
+use Rattle.std.specs.List.{flat_map, All, AllByRecursion}
 use Rattle.std.proofs.lemmas.Bool.{cases_lt, ltb-false, le-ltb}
 use Rattle.std.proofs.lemmas.List.{take_at, drop_at, take-append-drop, length-append, length-take, get_or-drop, get_or-take, get_or_past}
+use Rattle.std.proofs.lemmas.List.Elements.{All-from_recursion, recursion_from_All}
 use Rattle.std.proofs.lemmas.List.Concat.{flat_map-cons}
-use Rattle.std.proofs.lemmas.Nat.{be_bytes_2, be_bytes_4, from_be_bytes-to_be_bytes_2, from_be_bytes-to_be_bytes_4}
+use Rattle.std.proofs.lemmas.Nat.{be_bytes_2, be_bytes_4, be_bytes_8, from_be_bytes-to_be_bytes_2, from_be_bytes-to_be_bytes_4, from_be_bytes-to_be_bytes_8}
 use Rattle.mt_rows.specs.Rows.{Bytes}
 use Rattle.mt_rows.specs.Changes.{Named}
 use Rattle.mt_wire.specs.Requests.{string, asked_columns, named_column, named_columns, start_flag}
-use Rattle.mt_wire.specs.Reading.{◌>>=◌, byte_at, number_at, taken_at, start_at, string_at, asked_at, named_column_at, columns_at, named_columns_at}
+use Rattle.mt_wire.specs.Reading.{◌>>=◌, byte_at, number_at, taken_at, start_at, string_at, asked_at, named_column_at, each_at, named_columns_at}
 
 abbrev pub IsBytes : Bytes → Type 0
 IsBytes bytes = (i : ℕ) → get_or bytes i 0 < 256
@@ -36,6 +37,16 @@ bind_some None f y e = absurd cc
 pub guard_some : {A : Type 0} (b : Bool) (x y : A) → cond b None (Some x) ≡ Some y → (b ≡ false) × (x ≡ y)
 guard_some true x y e = absurd cc
 guard_some false x y e = (refl, cc)
+
+-- a test that was passed
+pub guard_ended : {A : Type 0} (b : Bool) (x y : A) → cond b (Some x) None ≡ Some y → (b ≡ true) × (x ≡ y)
+guard_ended true x y e = (refl, cc)
+guard_ended false x y e = absurd cc
+
+-- by which way a test went
+pub choose : {A : Type 0} {P : Type 0} (b : Bool) (x y z : A) → cond b x y ≡ z → (b ≡ true → x ≡ z → P) → (b ≡ false → y ≡ z → P) → P
+choose true x y z e p q = p refl e
+choose false x y z e p q = q refl e
 
 abbrev done : {A : Type 0} → A → Option A
 done x = Some x
@@ -83,6 +94,14 @@ wide32 = record {
   back = λ bytes len fits. be_bytes_4 bytes _ len fits refl;
   again = λ n lt. from_be_bytes-to_be_bytes_4 n lt;
   below = λ bytes fits. omega (arith, fits 0, fits 1, fits 2, fits 3);
+}
+
+pub wide64 : IsWide w64 (2 ^ 64)
+wide64 = record {
+  len = λ n. refl;
+  back = λ bytes len fits. be_bytes_8 bytes _ len fits refl;
+  again = λ n lt. from_be_bytes-to_be_bytes_8 n lt;
+  below = λ bytes fits. omega (arith, fits 0, fits 1, fits 2, fits 3, fits 4, fits 5, fits 6, fits 7);
 }
 
 pub number_takes : (w : Width) (limit : ℕ) (wide : IsWide w limit) (bytes : Bytes) (n : ℕ) (rest : Bytes) → IsBytes bytes → number_at w bytes ≡ Some (n, rest) → Takes bytes (to_be_bytes w n) rest × (n < limit)
@@ -160,41 +179,45 @@ named_column_again : (c : ℕ × Bytes) (rest : Bytes) → length c.1 < 2 ^ 16 �
 unfolding named_column_at
 named_column_again c rest lt = rw (string_again c.1 rest lt) refl
 
+-- so many items, one after the other
+module _ {A : Type 0} (item : Bytes → Option (A × Bytes)) (spell : A → Bytes) (Fits : A → Type 0) where
+  pub each_takes : ((bytes : Bytes) (x : A × Bytes) → IsBytes bytes → item bytes ≡ Some x → Takes bytes (spell x.0) x.1 × Fits x.0)
+      → (n : ℕ) (bytes : Bytes) (x : List A × Bytes) → IsBytes bytes → each_at item n bytes ≡ Some x → Takes bytes (flat_map spell x.0) x.1 × (length x.0 ≡ n) × AllByRecursion Fits x.0
+  unfolding each_at
+  each_takes takes zero bytes x fits e =
+      subst (λ (y : List A × Bytes). Takes bytes (flat_map spell y.0) y.1 × (length y.0 ≡ 0) × AllByRecursion Fits y.0) (some_is ([], bytes) x e) (record { parts = refl; rest_fits = fits }, refl, tt)
+  each_takes takes (suc n) bytes x fits e =
+      let a = bind_some (item bytes) (λ first. each_at item n first.1 >>= λ others. Some (first.0 ∷ others.0, others.1)) x e in
+      let b = bind_some (each_at item n a.0.1) (λ others. Some (a.0.0 ∷ others.0, others.1)) x a.2 in
+      let first = takes bytes a.0 fits a.1 in
+      let second = each_takes takes n a.0.1 b.0 first.0.rest_fits b.1 in
+      let both = Takes-then bytes (spell a.0.0) a.0.1 (flat_map spell b.0.0) b.0.1 first.0 second.0 in
+      let made : List A × Bytes = (a.0.0 ∷ b.0.0, b.0.1) in
+      subst (λ (y : List A × Bytes). Takes bytes (flat_map spell y.0) y.1 × (length y.0 ≡ suc n) × AllByRecursion Fits y.0) (some_is made x b.2) (rw flat_map-cons both, ap suc second.1, (first.1, second.2))
+
+  pub each_again : ((x : A) (rest : Bytes) → Fits x → item (spell x ++ rest) ≡ Some (x, rest))
+      → (xs : List A) (rest : Bytes) → AllByRecursion Fits xs → each_at item (length xs) (flat_map spell xs ++ rest) ≡ Some (xs, rest)
+  unfolding each_at
+  each_again again [] rest fits = refl
+  each_again again (c ∷ cs) rest fits =
+      let regrouped : flat_map spell (c ∷ cs) ++ rest ≡ spell c ++ (flat_map spell cs ++ rest) = ap (λ (x : Bytes). x ++ rest) (flat_map-cons spell c cs) ∙ append_assoc (spell c) (flat_map spell cs) rest in
+      ap (each_at item (suc (length cs))) regrouped ∙ rw (again c (flat_map spell cs ++ rest) fits.0, each_again again cs rest fits.1) refl
+
 abbrev FitColumns : Named → Type 0
-FitColumns cs = AllByRecursion (λ c. length c.1 < 2 ^ 16) cs
-
-columns_take : (n : ℕ) (bytes : Bytes) (x : Named × Bytes) → IsBytes bytes → columns_at n bytes ≡ Some x → Takes bytes (flat_map named_column x.0) x.1 × (length x.0 ≡ n) × FitColumns x.0
-unfolding columns_at
-columns_take zero bytes x fits e =
-    subst (λ (y : Named × Bytes). Takes bytes (flat_map named_column y.0) y.1 × (length y.0 ≡ 0) × FitColumns y.0) (some_is ([], bytes) x e) (record { parts = refl; rest_fits = fits }, refl, tt)
-columns_take (suc n) bytes x fits e =
-    let a = bind_some (named_column_at bytes) (λ first. columns_at n first.1 >>= λ others. Some (first.0 ∷ others.0, others.1)) x e in
-    let b = bind_some (columns_at n a.0.1) (λ others. Some (a.0.0 ∷ others.0, others.1)) x a.2 in
-    let first = named_column_takes bytes a.0 fits a.1 in
-    let second = columns_take n a.0.1 b.0 first.0.rest_fits b.1 in
-    let both = Takes-then bytes (named_column a.0.0) a.0.1 (flat_map named_column b.0.0) b.0.1 first.0 second.0 in
-    let made : Named × Bytes = (a.0.0 ∷ b.0.0, b.0.1) in
-    subst (λ (y : Named × Bytes). Takes bytes (flat_map named_column y.0) y.1 × (length y.0 ≡ suc n) × FitColumns y.0) (some_is made x b.2) (rw flat_map-cons both, ap suc second.1, (first.1, second.2))
-
-columns_again : (cs : Named) (rest : Bytes) → FitColumns cs → columns_at (length cs) (flat_map named_column cs ++ rest) ≡ Some (cs, rest)
-unfolding columns_at
-columns_again [] rest fits = refl
-columns_again (c ∷ cs) rest fits =
-    let regrouped : flat_map named_column (c ∷ cs) ++ rest ≡ named_column c ++ (flat_map named_column cs ++ rest) = ap (λ (x : Bytes). x ++ rest) (flat_map-cons named_column c cs) ∙ append_assoc (named_column c) (flat_map named_column cs) rest in
-    ap (columns_at (suc (length cs))) regrouped ∙ rw (named_column_again c (flat_map named_column cs ++ rest) fits.0, columns_again cs rest fits.1) refl
+FitColumns cs = All (λ c. length c.1 < 2 ^ 16) cs
 
 pub named_columns_takes : (bytes : Bytes) (cs : Named) (rest : Bytes) → IsBytes bytes → named_columns_at bytes ≡ Some (cs, rest) → Takes bytes (named_columns cs) rest × (length cs < 2 ^ 8) × FitColumns cs
 unfolding named_columns_at
 named_columns_takes bytes cs rest fits e =
-    let b = bind_some (byte_at bytes) (λ n. columns_at n.0 n.1) (cs, rest) e in
+    let b = bind_some (byte_at bytes) (λ n. each_at named_column_at n.0 n.1) (cs, rest) e in
     let t = byte_takes bytes b.0.0 b.0.1 fits b.1 in
-    let s = columns_take b.0.0 b.0.1 (cs, rest) t.0.rest_fits b.2 in
+    let s = each_takes named_column_at named_column (λ c. length c.1 < 2 ^ 16) named_column_takes b.0.0 b.0.1 (cs, rest) t.0.rest_fits b.2 in
     let both = Takes-then bytes (b.0.0 ∷ []) b.0.1 (flat_map named_column cs) rest t.0 s.0 in
-    (subst (λ (k : ℕ). Takes bytes (k ∷ flat_map named_column cs) rest) (sym s.1) both, omega (arith, t.1, s.1), s.2)
+    (subst (λ (k : ℕ). Takes bytes (k ∷ flat_map named_column cs) rest) (sym s.1) both, omega (arith, t.1, s.1), All-from_recursion (λ (c : ℕ × Bytes). length c.1 < 2 ^ 16) cs s.2)
 
 pub named_columns_again : (cs : Named) (rest : Bytes) → FitColumns cs → named_columns_at (named_columns cs ++ rest) ≡ Some (cs, rest)
 unfolding named_columns_at
-named_columns_again cs rest fits = columns_again cs rest fits
+named_columns_again cs rest fits = each_again named_column_at named_column (λ c. length c.1 < 2 ^ 16) named_column_again cs rest (recursion_from_All (λ (c : ℕ × Bytes). length c.1 < 2 ^ 16) cs fits)
 
 -- ---- a start_flag
 

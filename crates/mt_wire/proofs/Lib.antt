@@ -3,4 +3,6 @@ pub mod Loop
 pub mod FieldLaws
 pub mod FrameLaws
 pub mod RequestLaws
+pub mod ReplyLaws
+pub mod Tests
 pub mod Lists

@@ -1,5 +1,5 @@
 -- A request that is read is spelled so, and a spelled request is read again.
-use Rattle.std.proofs.Common.{◌≡◌, ℕ, ◌^◌, ◌≤◌, arith, Bool, true, false, cond, eqb, [], ◌∷◌, ◌++◌, length, Some, None, refl, sym, ap, subst, ◌∙◌}
+use Rattle.std.proofs.Common.{◌≡◌, ℕ, ◌^◌, ◌≤◌, arith, true, cond, eqb, [], ◌∷◌, ◌++◌, length, Some, None, refl, sym, ap, subst, ◌∙◌}
 use Rattle.std.specs.Int.{w32, to_be_bytes}
 use Rattle.std.proofs.lemmas.Bool.{eqb-true}
 use Rattle.std.proofs.lemmas.List.{append-nil, nil_from_length}
@@ -10,7 +10,7 @@ use Rattle.mt_wire.specs.declared.message.Request.TheVariants.{Open, Call, Settl
 use Rattle.mt_wire.specs.Requests.{string, asked_columns, named_columns, start_flag, request_body, RequestFits, IsSpellable}
 use Rattle.mt_wire.specs.Reading.{◌>>=◌, byte_at, number_at, start_at, string_at, asked_at, named_columns_at, open_at, get_at, put_at, remove_at, scan_at, kind_at, request_in}
 use Rattle.mt_wire.proofs.FrameLaws.{AreMessages}
-use Rattle.mt_wire.proofs.FieldLaws.{IsBytes, bind_some, some_is, Takes, Takes-then, Takes-more, byte_takes, wide32, number_takes, string_takes, string_again, asked_takes, asked_again, named_columns_takes, named_columns_again, start_takes, start_again}
+use Rattle.mt_wire.proofs.FieldLaws.{IsBytes, bind_some, guard_ended, choose, some_is, Takes, Takes-then, Takes-more, byte_takes, wide32, number_takes, string_takes, string_again, asked_takes, asked_again, named_columns_takes, named_columns_again, start_takes, start_again}
 
 -- what was read behind the first byte
 abbrev Reads : ℕ → Bytes → Request × Bytes → Type 0
@@ -71,11 +71,6 @@ scan_takes bytes x fits e =
     let made : Request × Bytes = (Call (Scan b.0.0 a.0.0 d.0.0 f.0.0), f.0.1) in
     subst (Reads 5 bytes) (some_is made x f.2) (Takes-more 5 bytes (start_flag a.0.0 ∷ (string b.0.0 ++ (d.0.0 ∷ asked_columns f.0.0))) f.0.1 whole, (s.1, v.1))
 
--- by which way a test went
-choose : {A : Type 0} {P : Type 0} (b : Bool) (x y z : A) → cond b x y ≡ z → (b ≡ true → x ≡ z → P) → (b ≡ false → y ≡ z → P) → P
-choose true x y z e p q = p refl e
-choose false x y z e p q = q refl e
-
 kind_takes : (kind : ℕ) (bytes : Bytes) (x : Request × Bytes) → IsBytes bytes → kind_at kind bytes ≡ Some x → Reads kind bytes x
 unfolding kind_at
 kind_takes kind bytes x fits e =
@@ -86,10 +81,6 @@ kind_takes kind bytes x fits e =
     choose (eqb kind 4) _ _ _ e4 (λ t h. at 4 t (remove_takes bytes x fits h)) (λ _ e5.
     choose (eqb kind 5) _ _ _ e5 (λ t h. at 5 t (scan_takes bytes x fits h)) (λ _ e6.
     choose (eqb kind 6) _ _ _ e6 (λ t h. at 6 t (subst (Reads 6 bytes) (some_is (Settle, bytes) x h) (record { parts = refl; rest_fits = fits }, tt))) (λ _ h. absurd cc))))))
-
-guard_ended : {A : Type 0} (b : Bool) (x y : A) → cond b (Some x) None ≡ Some y → (b ≡ true) × (x ≡ y)
-guard_ended true x y e = (refl, cc)
-guard_ended false x y e = absurd cc
 
 -- what is read is spelled so
 pub request_takes : (bytes : Bytes) (r : Request) → IsBytes bytes → request_in bytes ≡ Some r → (bytes ≡ request_body r) × RequestFits r

@@ -3,3 +3,4 @@ pub mod Requests
 pub mod Replies
 pub mod Fronts
 pub mod Reading
+pub mod ReplyReading

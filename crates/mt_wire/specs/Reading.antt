@@ -64,19 +64,19 @@ named_column_at bytes = do
   text ← string_at i.1
   Some ((i.0, text.0), text.1)
 
--- so many columns by index
-unfoldable pub columns_at : ℕ → Bytes → Option (Named × Bytes)
-columns_at zero bytes = Some ([], bytes)
-columns_at (suc n) bytes = do
-  first ← named_column_at bytes
-  others ← columns_at n first.1
+-- so many items, one after the other
+unfoldable pub each_at : {A : Type 0} → (Bytes → Option (A × Bytes)) → ℕ → Bytes → Option (List A × Bytes)
+each_at item zero bytes = Some ([], bytes)
+each_at item (suc n) bytes = do
+  first ← item bytes
+  others ← each_at item n first.1
   Some (first.0 ∷ others.0, others.1)
 
 -- columns by index
 unfoldable pub named_columns_at : Bytes → Option (Named × Bytes)
 named_columns_at bytes = do
   n ← byte_at bytes
-  columns_at n.0 n.1
+  each_at named_column_at n.0 n.1
 
 -- the fields of each request
 unfoldable pub open_at : Bytes → Option (Request × Bytes)

@@ -1,6 +1,6 @@
 -- The one spelling of each request. All numbers have their highest byte first.
 use Rattle.std.specs.Prelude.{◌≡◌, ℕ, ◌<◌, ◌≤◌, ◌^◌, Bool, if◌then◌else◌, List, [], ◌∷◌, ◌++◌, length}
-use Rattle.std.specs.List.{flat_map, AllByRecursion}
+use Rattle.std.specs.List.{flat_map, All}
 use Rattle.std.specs.Int.{w16, w32, to_be_bytes}
 use Rattle.mt_rows.specs.Rows.{Bytes}
 use Rattle.mt_rows.specs.Changes.{Named}
@@ -50,7 +50,7 @@ spelling request = frame (request_body request)
 -- the lengths of a command's fields fit their bytes
 abbrev pub CommandFits : Command → Type 0
 CommandFits (Get key columns) = (length key < 2 ^ 16) × (length columns < 2 ^ 8)
-CommandFits (Put key cs) = (length key < 2 ^ 16) × (length cs < 2 ^ 8) × AllByRecursion (λ c. length c.1 < 2 ^ 16) cs
+CommandFits (Put key cs) = (length key < 2 ^ 16) × (length cs < 2 ^ 8) × All (λ c. length c.1 < 2 ^ 16) cs
 CommandFits (Remove key) = length key < 2 ^ 16
 CommandFits (Scan from after count columns) = (length from < 2 ^ 16) × (length columns < 2 ^ 8)
 

@@ -4,7 +4,7 @@
 //! where it fails.
 
 ghost use Rattle.std.specs.Prelude.{◌≡◌, ◌<◌, ◌^◌, ◌++◌, length, take, OnOk};
-ghost use Rattle.std.specs.Int.{w16, w32, to_be_bytes};
+ghost use Rattle.std.specs.Int.{w16, w32, w64, to_be_bytes};
 ghost use Rattle.mt_wire.specs.Requests.{string};
 ghost use Rattle.mt_wire.specs.Reading.{Gives, byte_at, number_at, taken_at, start_at, string_at};
 
@@ -44,6 +44,18 @@ pub fn u32_at(bytes: &[u8]) -> Result<(u32, &[u8]), DecodeFault>
     }
     let (front, rest) = bytes.split_at(4);
     Ok((BigEndian::read_u32(front), rest))
+}
+
+/// A number of eight bytes.
+#[tactic(auto, using(crate::proofs::Numbers::numbers))]
+pub fn u64_at(bytes: &[u8]) -> Result<(u64, &[u8]), DecodeFault>
+    ensures { Gives (λ x. (x.0, x.1.now)) result (number_at w64 bytes.now) }
+{
+    if bytes.len() < 8 {
+        return Err(DecodeFault::Bad);
+    }
+    let (front, rest) = bytes.split_at(8);
+    Ok((BigEndian::read_u64(front), rest))
 }
 
 /// So many bytes.

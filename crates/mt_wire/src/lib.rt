@@ -12,6 +12,7 @@ pub mod message;
 pub mod replies;
 pub mod requests;
 
-pub use message::{Front, RefusalNumber, Request, WireReply};
-pub use replies::encode;
-pub use requests::decode;
+pub use fault::EncodeFault;
+pub use message::{Front, RefusalNumber, ReplyFront, Request, WireReply};
+pub use replies::{decode_reply, encode};
+pub use requests::{decode, encode_request};

@@ -94,3 +94,14 @@ pub enum Front {
     /// What is no frame of a request.
     Bad,
 }
+
+/// What stands at the front of bytes that tell.
+#[derive(Debug, Drop)]
+pub enum ReplyFront {
+    /// A reply, in a frame of this many bytes.
+    Whole(WireReply, usize),
+    /// Less than a frame.
+    Partial,
+    /// What is no frame of a reply.
+    Bad,
+}

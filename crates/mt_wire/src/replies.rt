@@ -1,16 +1,25 @@
 //! Replies as bytes.
 
-ghost use Rattle.std.specs.Prelude.{◌≡◌, ◌≤◌, ◌*◌, ◌++◌, ◌∷◌, [], length, take, OnOk, OnErr};
+ghost use Rattle.std.specs.Prelude.{◌≡◌, ◌≤◌, ◌*◌, ◌++◌, ◌∷◌, [], length, take, IfOk, OnOk, OnErr};
 ghost use Rattle.std.specs.List.{flat_map};
 ghost use Rattle.std.specs.Int.{w32, w64, to_be_bytes};
 ghost use Rattle.mt_rows.specs.Rows.{IsRow};
 ghost use Rattle.mt_rows.specs.Limits.{ArePairs};
 ghost use Rattle.mt_wire.specs.Replies.{shown_row, shown_pair, reply_spelling};
+ghost use Rattle.mt_wire.specs.Fronts.{IsReplyFront};
+ghost use Rattle.mt_wire.specs.Reading.{Gives, string_at, each_at};
+ghost use Rattle.mt_wire.specs.ReplyReading.{row_at, pair_at, pairs_at, found_at, scanned_at, settled_at, reply_kind_at, reply_in};
 
-use crate::fields::{put_length, put_string};
-use crate::message::WireReply;
-use mt_rows::{Column, Key, Reply, Row};
-use std::alloc::AllocError;
+use crate::fault::DecodeFault;
+use crate::fields::{put_length, put_string, string_of, u8_at, u64_at};
+use crate::frame::{Announced, LENGTH_BYTES, read_length};
+use crate::message::{RefusalNumber, ReplyFront, WireReply};
+use mt_rows::{Column, Key, PairList, Reply, Row};
+use std::alloc::{AllocError, Global};
+
+/// The longest body of a reply's frame: 64 pairs, each of a key of 251 bytes and a row of 16 columns
+/// of 1,024 bytes.
+pub const REPLY_BYTES: usize = 1_066_882;
 
 /// Writes a reply's frame at the end. An error leaves what was written before.
 pub fn encode(reply: &WireReply, out: &mut Vec<u8>) -> Result<(), AllocError>
@@ -23,6 +32,25 @@ pub fn encode(reply: &WireReply, out: &mut Vec<u8>) -> Result<(), AllocError>
         out.truncate(len);
     }
     written
+}
+
+/// What stands at the front of these bytes. Only a refused growth is an error.
+pub fn decode_reply(alloc: Global, bytes: &[u8]) -> Result<ReplyFront, AllocError>
+    ensures { IfOk result (IsReplyFront bytes.now) }
+{
+    match read_length(bytes, REPLY_BYTES) {
+        Announced::Partial => Ok(ReplyFront::Partial),
+        Announced::Bad => Ok(ReplyFront::Bad),
+        Announced::Body(len) => {
+            let (_, rest) = bytes.split_at(LENGTH_BYTES);
+            let (body, _) = rest.split_at(len);
+            match reply_of(alloc, body) {
+                Ok(reply) => Ok(ReplyFront::Whole(reply, LENGTH_BYTES + len)),
+                Err(DecodeFault::Bad) => Ok(ReplyFront::Bad),
+                Err(DecodeFault::Memory) => Err(AllocError),
+            }
+        }
+    }
 }
 
 // How many bytes a row is spelled with.
@@ -144,4 +172,127 @@ fn put_reply(out: &mut Vec<u8>, reply: &WireReply) -> Result<(), AllocError>
         WireReply::Settled(number) => put_settled(out, *number),
         WireReply::Refused(number) => put_code(out, 128 + number.get()),
     }
+}
+
+fn column_of(alloc: Global, bytes: &[u8]) -> Result<(Column, &[u8]), DecodeFault>
+    ensures { Gives (λ x. (x.0, x.1.now)) result (string_at bytes.now) }
+{
+    let (text, rest) = string_of(alloc, bytes)?;
+    Ok((Column::new(text), rest))
+}
+
+fn columns_of(alloc: Global, count: u8, bytes: &[u8]) -> Result<(Vec<Column>, &[u8]), DecodeFault>
+    ensures { Gives (λ x. (x.0.items, x.1.now)) result (each_at string_at count bytes.now) }
+{
+    let mut columns = Vec::with_capacity(alloc, usize::from(count))?;
+    let mut rest = bytes;
+    for _ in 0..count {
+        let (column, after) = column_of(alloc, rest)?;
+        columns.push(column)?;
+        rest = after;
+    }
+    Ok((columns, rest))
+}
+
+#[tactic(auto, using(crate::proofs::Tests::row_tests), unfolding(crate::specs::ReplyReading::row_at))]
+fn row_of(alloc: Global, bytes: &[u8]) -> Result<(Row, &[u8]), DecodeFault>
+    ensures { Gives (λ x. (x.0, x.1.now)) result (row_at bytes.now) }
+{
+    let (count, rest) = u8_at(bytes)?;
+    let (columns, rest) = columns_of(alloc, count, rest)?;
+    if !Row::fits(&columns) {
+        return Err(DecodeFault::Bad);
+    }
+    Ok((Row::new(alloc, columns)?, rest))
+}
+
+#[tactic(auto, unfolding(crate::specs::ReplyReading::pair_at))]
+fn pair_of(alloc: Global, bytes: &[u8]) -> Result<((Key, Row), &[u8]), DecodeFault>
+    ensures { Gives (λ x. (x.0, x.1.now)) result (pair_at bytes.now) }
+{
+    let (key, rest) = string_of(alloc, bytes)?;
+    let key = Key::new(key);
+    let (row, rest) = row_of(alloc, rest)?;
+    Ok(((key, row), rest))
+}
+
+fn list_of(alloc: Global, count: u8, bytes: &[u8]) -> Result<(Vec<(Key, Row)>, &[u8]), DecodeFault>
+    ensures { Gives (λ x. (x.0.items, x.1.now)) result (each_at pair_at count bytes.now) }
+{
+    let mut pairs = Vec::with_capacity(alloc, usize::from(count))?;
+    let mut rest = bytes;
+    for _ in 0..count {
+        let (pair, after) = pair_of(alloc, rest)?;
+        pairs.push(pair)?;
+        rest = after;
+    }
+    Ok((pairs, rest))
+}
+
+#[tactic(auto, using(crate::proofs::Tests::pairs_tests), unfolding(crate::specs::ReplyReading::pairs_at))]
+fn pairs_of(alloc: Global, bytes: &[u8]) -> Result<(PairList, &[u8]), DecodeFault>
+    ensures { Gives (λ x. (x.0, x.1.now)) result (pairs_at bytes.now) }
+{
+    let (count, rest) = u8_at(bytes)?;
+    let (pairs, rest) = list_of(alloc, count, rest)?;
+    if !PairList::fits(&pairs) {
+        return Err(DecodeFault::Bad);
+    }
+    Ok((PairList::new(pairs), rest))
+}
+
+#[tactic(auto, unfolding(crate::specs::ReplyReading::found_at))]
+fn found_of(alloc: Global, bytes: &[u8]) -> Result<(WireReply, &[u8]), DecodeFault>
+    ensures { Gives (λ x. (x.0, x.1.now)) result (found_at bytes.now) }
+{
+    let (row, rest) = row_of(alloc, bytes)?;
+    Ok((WireReply::Told(Reply::Found(row)), rest))
+}
+
+#[tactic(auto, unfolding(crate::specs::ReplyReading::scanned_at))]
+fn scanned_of(alloc: Global, bytes: &[u8]) -> Result<(WireReply, &[u8]), DecodeFault>
+    ensures { Gives (λ x. (x.0, x.1.now)) result (scanned_at bytes.now) }
+{
+    let (pairs, rest) = pairs_of(alloc, bytes)?;
+    Ok((WireReply::Told(Reply::Pairs(pairs)), rest))
+}
+
+#[tactic(auto, unfolding(crate::specs::ReplyReading::settled_at))]
+fn settled_of(bytes: &[u8]) -> Result<(WireReply, &[u8]), DecodeFault>
+    ensures { Gives (λ x. (x.0, x.1.now)) result (settled_at bytes.now) }
+{
+    let (number, rest) = u64_at(bytes)?;
+    Ok((WireReply::Settled(number), rest))
+}
+
+#[tactic(auto, unfolding(crate::specs::ReplyReading::reply_kind_at))]
+fn kind_of(alloc: Global, kind: u8, rest: &[u8]) -> Result<(WireReply, &[u8]), DecodeFault>
+    ensures { Gives (λ x. (x.0, x.1.now)) result (reply_kind_at kind rest.now) }
+{
+    match kind {
+        0 => Ok((WireReply::Opened, rest)),
+        1 => Ok((WireReply::Told(Reply::Absent), rest)),
+        2 => found_of(alloc, rest),
+        3 => Ok((WireReply::Told(Reply::New), rest)),
+        4 => Ok((WireReply::Told(Reply::Replaced), rest)),
+        5 => Ok((WireReply::Told(Reply::Removed), rest)),
+        6 => scanned_of(alloc, rest),
+        7 => settled_of(rest),
+        8 => Ok((WireReply::Told(Reply::Full), rest)),
+        9 => Ok((WireReply::Told(Reply::NoMemory), rest)),
+        10..=128 => Err(DecodeFault::Bad),
+        129..=255 => Ok((WireReply::Refused(RefusalNumber::new(kind - 128)), rest)),
+    }
+}
+
+#[tactic(auto, unfolding(crate::specs::ReplyReading::reply_in))]
+fn reply_of(alloc: Global, bytes: &[u8]) -> Result<WireReply, DecodeFault>
+    ensures { Gives (λ r. r) result (reply_in bytes.now) }
+{
+    let (kind, rest) = u8_at(bytes)?;
+    let (reply, rest) = kind_of(alloc, kind, rest)?;
+    if !rest.is_empty() {
+        return Err(DecodeFault::Bad);
+    }
+    Ok(reply)
 }

@@ -1,11 +1,13 @@
 //! Requests as bytes.
 
-ghost use Rattle.std.specs.Prelude.{◌≡◌, IfOk};
-ghost use Rattle.mt_wire.specs.Reading.{Gives, asked_at, named_column_at, columns_at, named_columns_at, open_at, get_at, put_at, remove_at, scan_at, kind_at, request_in};
+ghost use Rattle.std.specs.Prelude.{◌≡◌, ◌↔◌, ◌≤◌, ◌<◌, ◌*◌, ◌^◌, ◌++◌, length, take, IsTrue, IfOk, IsOk, OnOk, OnErr};
+ghost use Rattle.std.specs.List.{All};
+ghost use Rattle.mt_wire.specs.Requests.{asked_columns, named_column, named_columns, command_body, request_body, spelling, CommandFits, RequestFits, IsSpellable};
+ghost use Rattle.mt_wire.specs.Reading.{Gives, asked_at, named_column_at, each_at, named_columns_at, open_at, get_at, put_at, remove_at, scan_at, kind_at, request_in};
 ghost use Rattle.mt_wire.specs.Fronts.{IsFront};
 
-use crate::fault::DecodeFault;
-use crate::fields::{slice_of, start_of, string_of, u8_at, u32_at};
+use crate::fault::{DecodeFault, EncodeFault};
+use crate::fields::{put_length, put_string, slice_of, start_of, string_of, u8_at, u32_at};
 use crate::frame::{Announced, LENGTH_BYTES, read_length};
 use crate::message::{Front, Request};
 use mt_rows::{Column, ColumnIndexes, Command, Key, NamedColumns};
@@ -33,6 +35,37 @@ pub fn decode(alloc: Global, bytes: &[u8]) -> Result<Front, AllocError>
     }
 }
 
+/// Writes a request's frame at the end. An error leaves what was written before; `Long` comes
+/// exactly where the request has no spelling.
+pub fn encode_request(request: &Request, out: &mut Vec<u8>) -> Result<(), EncodeFault>
+    ensures ok { OnOk result (out.new.items ≡ out.old.items ++ spelling request.now) }
+    ensures spellable { IsOk result → IsSpellable request.now }
+    ensures err { OnErr result (out.new.items ≡ out.old.items) }
+    ensures long { (result ≡ Err EncodeFault.Long) ↔ (¬ IsSpellable request.now) }
+{
+    if !request.is_spellable() {
+        return Err(EncodeFault::Long);
+    }
+    let len = out.len();
+    match put_request(out, request) {
+        Ok(()) => Ok(()),
+        Err(_) => {
+            out.truncate(len);
+            Err(EncodeFault::Memory)
+        }
+    }
+}
+
+impl Request {
+    /// Whether it has a spelling: the lengths of its fields fit their bytes, and its body has at most
+    /// 32,768 bytes.
+    pub fn is_spellable(&self) -> bool
+        ensures { IsTrue result ↔ IsSpellable self.now }
+    {
+        fields_fit(self) && body_len(self) <= REQUEST_BYTES
+    }
+}
+
 #[tactic(auto, unfolding(crate::specs::Reading::asked_at))]
 fn asked_of(alloc: Global, bytes: &[u8]) -> Result<(ColumnIndexes, &[u8]), DecodeFault>
     ensures { Gives (λ x. (x.0, x.1.now)) result (asked_at bytes.now) }
@@ -57,7 +90,7 @@ fn columns_of(
     count: u8,
     bytes: &[u8],
 ) -> Result<(Vec<(u8, Column)>, &[u8]), DecodeFault>
-    ensures { Gives (λ x. (x.0.items, x.1.now)) result (columns_at count bytes.now) }
+    ensures { Gives (λ x. (x.0.items, x.1.now)) result (each_at named_column_at count bytes.now) }
 {
     let mut columns = Vec::with_capacity(alloc, usize::from(count))?;
     let mut rest = bytes;
@@ -158,4 +191,167 @@ fn request_of(alloc: Global, bytes: &[u8]) -> Result<Request, DecodeFault>
         return Err(DecodeFault::Bad);
     }
     Ok(request)
+}
+
+// Whether the lengths of a request's fields fit their bytes.
+fn fields_fit(request: &Request) -> bool
+    ensures { IsTrue result ↔ RequestFits request.now }
+{
+    match request {
+        Request::Open(tenant) => {
+            // Read, so that the proof knows its range.
+            let _tenant = *tenant;
+            true
+        }
+        Request::Call(Command::Get { key, columns }) => {
+            string_fits(key.as_bytes()) && columns.as_slice().len() < 256
+        }
+        Request::Call(Command::Put { key, change }) => {
+            string_fits(key.as_bytes()) && columns_fit(change.as_slice())
+        }
+        Request::Call(Command::Remove { key }) => string_fits(key.as_bytes()),
+        Request::Call(Command::Scan { from, columns, .. }) => {
+            string_fits(from.as_bytes()) && columns.as_slice().len() < 256
+        }
+        Request::Settle => true,
+    }
+}
+
+fn string_fits(text: &[u8]) -> bool
+    ensures { IsTrue result ↔ length text.now < 2 ^ 16 }
+{
+    text.len() < 65_536
+}
+
+fn columns_fit(columns: &[(u8, Column)]) -> bool
+    ensures { IsTrue result ↔ ((length columns.now < 2 ^ 8) × All (λ c. length c.1 < 2 ^ 16) columns.now) }
+{
+    columns.len() < 256
+        && columns
+            .iter()
+            .all(|named| named.1.as_bytes().len() < 65_536)
+}
+
+// How many bytes a request's body has.
+fn body_len(request: &Request) -> usize
+    requires { RequestFits request.now }
+    ensures { result ≡ length (request_body request.now) }
+{
+    match request {
+        Request::Open(_) => 5,
+        Request::Call(Command::Get { key, columns }) => {
+            4 + key.as_bytes().len() + columns.as_slice().len()
+        }
+        Request::Call(Command::Put { key, change }) => {
+            3 + key.as_bytes().len() + named_len(change.as_slice())
+        }
+        Request::Call(Command::Remove { key }) => 3 + key.as_bytes().len(),
+        Request::Call(Command::Scan { from, columns, .. }) => {
+            6 + from.as_bytes().len() + columns.as_slice().len()
+        }
+        Request::Settle => 1,
+    }
+}
+
+// How many bytes columns by index are spelled with.
+fn named_len(columns: &[(u8, Column)]) -> usize
+    requires few { length columns.now < 2 ^ 8 }
+    requires short { All (λ c. length c.1 < 2 ^ 16) columns.now }
+    ensures exact { result ≡ length (named_columns columns.now) }
+    ensures small { result ≤ 2 ^ 25 }
+{
+    let mut len = 1;
+    for named in columns {
+        len += 3 + named.1.as_bytes().len();
+    }
+    len
+}
+
+// A request's frame, or a beginning of it.
+fn put_request(out: &mut Vec<u8>, request: &Request) -> Result<(), AllocError>
+    requires { IsSpellable request.now }
+    ensures ok { OnOk result (out.new.items ≡ out.old.items ++ spelling request.now) }
+    ensures front { take (length out.old.items) out.new.items ≡ out.old.items }
+{
+    put_length(out, body_len(request))?;
+    match request {
+        Request::Open(tenant) => {
+            out.push(1)?;
+            out.extend_from_slice(&tenant.to_be_bytes())
+        }
+        Request::Call(command) => put_command(out, command),
+        Request::Settle => {
+            out.push(6)?;
+            Ok(())
+        }
+    }
+}
+
+// The body of a command's frame.
+fn put_command(out: &mut Vec<u8>, command: &Command) -> Result<(), AllocError>
+    requires { CommandFits command.now }
+    ensures ok { OnOk result (out.new.items ≡ out.old.items ++ command_body command.now) }
+    ensures front { take (length out.old.items) out.new.items ≡ out.old.items }
+{
+    match command {
+        Command::Get { key, columns } => {
+            out.push(2)?;
+            put_string(out, key.as_bytes())?;
+            put_indexes(out, columns.as_slice())
+        }
+        Command::Put { key, change } => {
+            out.push(3)?;
+            put_string(out, key.as_bytes())?;
+            put_named_columns(out, change.as_slice())
+        }
+        Command::Remove { key } => {
+            out.push(4)?;
+            put_string(out, key.as_bytes())
+        }
+        Command::Scan {
+            from,
+            after,
+            count,
+            columns,
+        } => {
+            out.extend_from_slice(&[5, u8::from(*after)])?;
+            put_string(out, from.as_bytes())?;
+            out.push(*count)?;
+            put_indexes(out, columns.as_slice())
+        }
+    }
+}
+
+// The indexes of columns that are asked for.
+fn put_indexes(out: &mut Vec<u8>, indexes: &[u8]) -> Result<(), AllocError>
+    requires { length indexes.now < 2 ^ 8 }
+    ensures ok { OnOk result (out.new.items ≡ out.old.items ++ asked_columns indexes.now) }
+    ensures front { take (length out.old.items) out.new.items ≡ out.old.items }
+{
+    out.push(indexes.len() as u8)?;
+    out.extend_from_slice(indexes)
+}
+
+// Columns by index.
+fn put_named_columns(out: &mut Vec<u8>, columns: &[(u8, Column)]) -> Result<(), AllocError>
+    requires few { length columns.now < 2 ^ 8 }
+    requires short { All (λ c. length c.1 < 2 ^ 16) columns.now }
+    ensures ok { OnOk result (out.new.items ≡ out.old.items ++ named_columns columns.now) }
+    ensures front { take (length out.old.items) out.new.items ≡ out.old.items }
+{
+    out.push(columns.len() as u8)?;
+    for named in columns {
+        put_named_column(out, named.0, named.1.as_bytes())?;
+    }
+    Ok(())
+}
+
+// A column by its index.
+fn put_named_column(out: &mut Vec<u8>, index: u8, text: &[u8]) -> Result<(), AllocError>
+    requires { length text.now < 2 ^ 16 }
+    ensures ok { OnOk result (out.new.items ≡ out.old.items ++ named_column (index, text.now)) }
+    ensures front { take (length out.old.items) out.new.items ≡ out.old.items }
+{
+    out.push(index)?;
+    put_string(out, text)
 }

@@ -1,7 +1,7 @@
 use Rattle.std.proofs.Common.{◌≡◌, ◌-◌}
-use Rattle.mt_wire.specs.Reading.{columns_at}
+use Rattle.mt_wire.specs.Reading.{named_column_at, each_at}
 use Rattle.mt_wire.proofs.Loop.{with_front}
 use Rattle.mt_wire.proofs.requests.columns_of.Given as goal
 
 abbrev pub invariant-loop : goal.invariant-loop
-invariant-loop l = with_front l.columns.items (columns_at (l.count - l.counter) l.rest) ≡ columns_at l.count l.bytes
+invariant-loop l = with_front l.columns.items (each_at named_column_at (l.count - l.counter) l.rest) ≡ each_at named_column_at l.count l.bytes

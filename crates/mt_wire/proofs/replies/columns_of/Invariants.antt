@@ -1,0 +1,7 @@
+use Rattle.std.proofs.Common.{◌≡◌, ◌-◌}
+use Rattle.mt_wire.specs.Reading.{string_at, each_at}
+use Rattle.mt_wire.proofs.Loop.{with_front}
+use Rattle.mt_wire.proofs.replies.columns_of.Given as goal
+
+abbrev pub invariant-loop : goal.invariant-loop
+invariant-loop l = with_front l.columns.items (each_at string_at (l.count - l.counter) l.rest) ≡ each_at string_at l.count l.bytes

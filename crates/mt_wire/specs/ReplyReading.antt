@@ -1,0 +1,79 @@
+-- Reading a reply's body from left to right: for the functions that do it, whose callers see the spellings alone.
+use Rattle.std.specs.Prelude.{ℕ, ◌-◌, Bool, ◌&&◌, List, length, Option, Some, None, nat_lt, ◌==◌, if◌then◌else◌}
+use Rattle.std.specs.List.{list_all}
+use Rattle.std.specs.Int.{w64}
+use Rattle.std.specs.Ordering.{nat_cmp}
+use Rattle.std.specs.Cmp.Lexicographic.{slice_cmp}
+use Rattle.std.specs.FinMap.{is_sorted}
+use Rattle.mt_rows.specs.Rows.{Bytes, Columns}
+use Rattle.mt_rows.specs.declared.reply.Reply.TheVariants.{Absent, Found, New, Replaced, Full, Removed, Pairs, NoMemory}
+use Rattle.mt_wire.specs.declared.message.WireReply.{WireReply}
+use Rattle.mt_wire.specs.declared.message.WireReply.TheVariants.{Opened, Told, Settled, Refused}
+use Rattle.mt_wire.specs.Reading.{◌>>=◌, byte_at, number_at, string_at, each_at}
+
+-- whether columns make a row
+abbrev pub is_row : Columns → Bool
+is_row columns = nat_lt 0 (length columns) && nat_lt (length columns) 17 && list_all (λ c. nat_lt (length c) 1025) columns
+
+-- whether a scan may show these pairs
+abbrev pub are_pairs : List (Bytes × Columns) → Bool
+are_pairs pairs = nat_lt (length pairs) 65 && list_all (λ p. nat_lt (length p.0) 252) pairs && is_sorted (slice_cmp nat_cmp) pairs
+
+-- a shown row
+unfoldable pub row_at : Bytes → Option (Columns × Bytes)
+row_at bytes = do
+  n ← byte_at bytes
+  columns ← each_at string_at n.0 n.1
+  if is_row columns.0 then Some columns else None
+
+-- a shown pair
+unfoldable pub pair_at : Bytes → Option ((Bytes × Columns) × Bytes)
+pair_at bytes = do
+  key ← string_at bytes
+  row ← row_at key.1
+  Some ((key.0, row.0), row.1)
+
+-- the pairs that a scan shows
+unfoldable pub pairs_at : Bytes → Option (List (Bytes × Columns) × Bytes)
+pairs_at bytes = do
+  n ← byte_at bytes
+  pairs ← each_at pair_at n.0 n.1
+  if are_pairs pairs.0 then Some pairs else None
+
+-- the fields of a row found, of a scan's pairs and of a number
+unfoldable pub found_at : Bytes → Option (WireReply × Bytes)
+found_at bytes = do
+  row ← row_at bytes
+  Some (Told (Found row.0), row.1)
+
+unfoldable pub scanned_at : Bytes → Option (WireReply × Bytes)
+scanned_at bytes = do
+  pairs ← pairs_at bytes
+  Some (Told (Pairs pairs.0), pairs.1)
+
+unfoldable pub settled_at : Bytes → Option (WireReply × Bytes)
+settled_at bytes = do
+  number ← number_at w64 bytes
+  Some (Settled number.0, number.1)
+
+-- by its first byte
+unfoldable pub reply_kind_at : ℕ → Bytes → Option (WireReply × Bytes)
+reply_kind_at kind rest =
+    if kind == 0 then Some (Opened, rest) else
+    if kind == 1 then Some (Told Absent, rest) else
+    if kind == 2 then found_at rest else
+    if kind == 3 then Some (Told New, rest) else
+    if kind == 4 then Some (Told Replaced, rest) else
+    if kind == 5 then Some (Told Removed, rest) else
+    if kind == 6 then scanned_at rest else
+    if kind == 7 then settled_at rest else
+    if kind == 8 then Some (Told Full, rest) else
+    if kind == 9 then Some (Told NoMemory, rest) else
+    if nat_lt 128 kind then Some (Refused (kind - 128), rest) else None
+
+-- a reply that takes all of the bytes
+unfoldable pub reply_in : Bytes → Option WireReply
+reply_in bytes = do
+  kind ← byte_at bytes
+  r ← reply_kind_at kind.0 kind.1
+  if length r.1 == 0 then Some r.0 else None
