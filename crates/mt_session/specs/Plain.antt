@@ -1,0 +1,59 @@
+-- What a caller answers that keeps a plain map for each of its tenants.
+use Rattle.std.specs.Prelude.{◌≡◌, ◌≢◌, ◌<◌, ℕ, ◌==◌, ◌⊎◌, List, length, position, slice_get, slice_set, Option, Some, None, Result, Ok, Err}
+use Rattle.mt_rows.specs.declared.command.Command.{Command}
+use Rattle.mt_rows.specs.declared.reply.Reply.{Reply}
+use Rattle.mt_rows.specs.declared.reply.Reply.TheVariants.{NoMemory}
+use Rattle.mt_rows.specs.declared.refusal.Refusal.{Refusal}
+use Rattle.mt_rows.specs.declared.refusal.Refusal.TheVariants.{NoTenant, NotOpen, NoStore}
+use Rattle.mt_rows.specs.Commands.{IsTaken, IsFirstFault}
+use Rattle.mt_rows.specs.Maps.{reply_of, map_after}
+use Rattle.mt_wire.specs.declared.message.WireReply.{WireReply}
+use Rattle.mt_wire.specs.declared.message.WireReply.TheVariants.{Told}
+use Rattle.mt_session.specs.declared.caller.CallerFault.{CallerFault}
+use Rattle.mt_session.specs.declared.caller.CallerFault.TheVariants.{Refused, Stuck}
+use Rattle.mt_session.specs.declared.plain.PlainTenant.{PlainTenant}
+use Rattle.mt_session.specs.Exchanges.{Exchange, Opens, Calls, Settles}
+
+-- tenants with their maps, and the place of the one that is opened
+pub record PlainTenants : Type 0 where
+  pub list : List PlainTenant
+  pub opened : Option ℕ
+
+abbrev pub plain_tenants : List PlainTenant → Option ℕ → PlainTenants
+plain_tenants list opened = record { list = list; opened = opened }
+
+-- the opened tenant is in the list
+abbrev pub IsInList : List PlainTenant → Option ℕ → Type 0
+IsInList list None = Unit {0}
+IsInList list (Some place) = place < length list
+
+-- the place of a tenant in the list, the first if there are several
+abbrev pub place_of : List PlainTenant → ℕ → Option ℕ
+place_of list tenant = position (λ t. t.tenant == tenant) list
+
+-- A tenant of the list is opened; of another NoTenant is told.
+abbrev pub PlainOpens : Option ℕ → PlainTenants → Option Refusal → PlainTenants → Type 0
+PlainOpens (Some place) old refusal new = (refusal ≡ None) × (new ≡ record old { opened = Some place })
+PlainOpens None old refusal new = (refusal ≡ Some NoTenant) × (new ≡ old)
+
+-- A tenant's command is refused for its first fault, or it is answered by the tenant's map, or, where a
+-- growth was refused, with NoMemory, and nothing changes. No command is stuck.
+abbrev pub TenantCalls : PlainTenant → Command → Result Reply CallerFault → PlainTenant → Type 0
+TenantCalls old command (Ok reply) new = IsTaken command × (((reply ≡ reply_of old.quota command old.map) × (new ≡ record old { map = map_after old.quota command old.map })) ⊎ ((reply ≡ NoMemory) × (new ≡ old)))
+TenantCalls old command (Err (Refused refusal)) new = IsFirstFault command refusal × (new ≡ old)
+TenantCalls old command (Err Stuck) new = ⊥
+
+-- A command is one of the opened tenant, and leaves the others; where none is opened, it is refused.
+abbrev pub PlainCalls : Option ℕ → PlainTenants → Command → Result Reply CallerFault → PlainTenants → Type 0
+PlainCalls (Some place) old command answer new = (t u : PlainTenant) × (slice_get old.list place ≡ Some t) × TenantCalls t command answer u × (new ≡ record old { list = slice_set old.list place u })
+PlainCalls None old command answer new = (answer ≡ Err (Refused NotOpen)) × (new ≡ old)
+
+-- what the caller answers: a Settle is refused, since it keeps nothing
+abbrev pub PlainExchanges : PlainTenants → Exchange → PlainTenants → Type 0
+PlainExchanges old (Opens tenant refusal) new = PlainOpens (place_of old.list tenant) old refusal new
+PlainExchanges old (Calls command answer) new = PlainCalls old.opened old command answer new
+PlainExchanges old (Settles answer) new = (answer ≡ Err NoStore) × (new ≡ old)
+
+-- a reply that tells of no want of memory
+abbrev pub IsAmple : WireReply → Type 0
+IsAmple reply = reply ≢ Told NoMemory

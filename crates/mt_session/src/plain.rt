@@ -1,0 +1,101 @@
+//! A caller that keeps a plain map for each of its tenants: slow, and obviously right.
+
+ghost use Rattle.std.specs.Prelude.{◌≡◌, None};
+ghost use Rattle.mt_session.specs.Plain.{plain_tenants, place_of, TenantCalls};
+
+use crate::caller::{Caller, CallerFault};
+use mt_rows::{Command, PlainMap, Refusal, Reply};
+use std::alloc::Global;
+use std::marker::Model;
+
+/// A tenant's pairs, and how many it may have.
+#[derive(Drop)]
+pub struct PlainTenant {
+    pub tenant: u32,
+    pub quota: u32,
+    pub map: PlainMap,
+}
+
+/// A list of tenants, of which one may be opened.
+#[derive(Drop)]
+pub struct PlainCaller {
+    tenants: Vec<PlainTenant>,
+    opened: Option<usize>,
+}
+
+impl Model for PlainCaller {
+    ghost use Rattle.mt_session.specs.Plain.{PlainTenants, IsInList, plain_tenants};
+    ghost use Rattle.std.specs.Coded.{codes};
+    ghost use Rattle.mt_rows.specs.contracts.plain.PlainMap as maps;
+
+    ghost Value = { PlainTenants };
+
+    ghost coded = { Prim.hlevel (codes, maps.the_row.coded) };
+
+    ghost view = { λ c. plain_tenants c.tenants.items c.opened };
+
+    ghost invariant = { λ c. IsInList c.tenants.items c.opened };
+}
+
+impl PlainCaller {
+    /// A caller with these tenants, of which none is opened.
+    pub fn new(tenants: Vec<PlainTenant>) -> Self
+        ensures { result ≡ plain_tenants tenants.items None }
+    {
+        PlainCaller {
+            tenants,
+            opened: None,
+        }
+    }
+}
+
+impl Caller for PlainCaller {
+    ghost use Rattle.mt_session.specs.Plain.{PlainExchanges};
+
+    ghost exchanges = { PlainExchanges };
+
+    fn open(&mut self, tenant: u32) -> Result<(), Refusal> {
+        match find_tenant(&self.tenants, tenant) {
+            Some(place) => {
+                self.opened = Some(place);
+                Ok(())
+            }
+            None => Err(Refusal::NoTenant),
+        }
+    }
+
+    fn call(&mut self, alloc: Global, command: Command) -> Result<Reply, CallerFault> {
+        match self.opened {
+            Some(place) => call_tenant(alloc, &mut self.tenants[place], command),
+            None => Err(CallerFault::Refused(Refusal::NotOpen)),
+        }
+    }
+
+    fn settle(&mut self) -> Result<u64, Refusal> {
+        Err(Refusal::NoStore)
+    }
+}
+
+// The place of a tenant in the list.
+fn find_tenant(tenants: &[PlainTenant], tenant: u32) -> Option<usize>
+    ensures { result ≡ place_of tenants.now tenant }
+{
+    tenants.iter().position(|t| t.tenant == tenant)
+}
+
+// The reply to a command of this tenant.
+fn call_tenant(
+    alloc: Global,
+    tenant: &mut PlainTenant,
+    command: Command,
+) -> Result<Reply, CallerFault>
+    ensures { TenantCalls tenant.old command result tenant.new }
+{
+    if let Err(refusal) = command.check() {
+        return Err(CallerFault::Refused(refusal));
+    }
+    match tenant.map.apply(alloc, tenant.quota, command) {
+        Ok(reply) => Ok(reply),
+        Err(_) => Ok(Reply::NoMemory),
+    }
+}
