@@ -7,7 +7,7 @@ ghost use Rattle.mt_border.specs.Entry.{IsEntry, IsRest, IsStablePair};
 ghost use Rattle.mt_border.specs.Node.{entries_of, held_at, IsLive};
 
 use mt_border::laws::suffix_fits_mark;
-use mt_border::{Border, Entry, Find, Held, FoundKind, Pair, SLOTS, Suffix};
+use mt_border::{Border, Entry, Find, FoundKind, Held, Pair, SLOTS, Suffix};
 use mt_rows::{Column, Row};
 use mt_slices::{Mark, StoredKey};
 use mt_version::Version;
@@ -199,10 +199,31 @@ fn keys_of_one_slice_are_told_apart(rt: HostRuntime) -> Result<(), Fail> {
     put(&rt, alloc, &mut border, 9, Mark::Long, b"xyz")?;
     assert!(rt; finds(&border, Mark::Short(8), &[], Find::Missing));
     put(&rt, alloc, &mut border, 9, Mark::Short(8), &[])?;
-    assert!(rt; finds(&border, Mark::Short(8), &[], Find::Slot(0, FoundKind::ThisKey)));
+    assert!(rt;
+        finds(
+            &border,
+            Mark::Short(8),
+            &[],
+            Find::Slot(0, FoundKind::ThisKey)
+        )
+    );
     assert!(rt; finds(&border, Mark::Short(7), &[], Find::Missing));
-    assert!(rt; finds(&border, Mark::Long, b"xyz", Find::Slot(1, FoundKind::ThisKey)));
-    assert!(rt; finds(&border, Mark::Long, b"xy", Find::Slot(1, FoundKind::OtherLong)));
+    assert!(rt;
+        finds(
+            &border,
+            Mark::Long,
+            b"xyz",
+            Find::Slot(1, FoundKind::ThisKey)
+        )
+    );
+    assert!(rt;
+        finds(
+            &border,
+            Mark::Long,
+            b"xy",
+            Find::Slot(1, FoundKind::OtherLong)
+        )
+    );
     Ok(())
 }
 
@@ -270,7 +291,14 @@ fn a_longer_key_gives_way_to_a_link(rt: HostRuntime) -> Result<(), Fail> {
     put(&rt, alloc, &mut border, 9, Mark::Long, b"xyz")?;
     make_unstable(&mut border, 5);
     assert_eq!(rt; stamp_at(&border, 0), None);
-    assert!(rt; finds(&border, Mark::Long, b"xyz", Find::Slot(0, FoundKind::ThisKey)));
+    assert!(rt;
+        finds(
+            &border,
+            Mark::Long,
+            b"xyz",
+            Find::Slot(0, FoundKind::ThisKey)
+        )
+    );
     assert_eq!(rt; make_link(&mut border), Some((5, 1)));
     assert!(rt; finds(&border, Mark::Long, b"xyz", Find::Slot(0, FoundKind::Link)));
     Ok(())
