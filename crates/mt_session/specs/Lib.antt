@@ -1,5 +1,6 @@
 pub mod Exchanges
 pub mod Sessions
+pub mod Endings
 pub mod Turns
 pub mod Plain
 pub mod Failures
