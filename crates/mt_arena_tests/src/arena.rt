@@ -33,9 +33,9 @@ pub fn entry_of(rt: &impl Abort, alloc: Global, key: &StoredKey) -> Result<Entry
     ensures stable { IfOk result (λ entry. IsStablePair entry.held) }
 {
     suffix_fits_mark();
+    assert!(rt; key.as_bytes().len() > 0);
     let row = row_of(rt, alloc, b"v")?;
     let suffix = Suffix::new(Vec::from_slice(alloc, key.suffix(0))?);
-    assert!(rt; key.as_bytes().len() > 0);
     Ok(Entry {
         slice: key.slice(0),
         mark: key.mark(0),
@@ -138,16 +138,22 @@ fn change_a_key(
     Ok(come_and_go(arena, key, entry, row))
 }
 
+// A key comes, changes and goes, and the lock of the root is given back.
+fn keep_no_key(rt: &impl Abort, alloc: Global, arena: &mut Arena) -> Result<(), Fail>
+    requires { arena.old ≡ of_nodes (held_root ∷ []) }
+{
+    let key = StoredKey::new(alloc, 7, b"k")?;
+    let stamps = change_a_key(rt, alloc, arena, &key)?;
+    give_back(arena);
+    assert!(rt; stamps == [Some(6), Some(8), None] && arena.node(0).version().inserts() == 1);
+    Ok(())
+}
+
 #[test]
 fn a_key_is_put_in_changed_and_taken_out(rt: HostRuntime) -> Result<(), Fail> {
     let alloc = rt.alloc();
-    let key = StoredKey::new(alloc, 7, b"k")?;
     let mut arena = held_arena(alloc)?;
-    let stamps = change_a_key(&rt, alloc, &mut arena, &key)?;
-    assert_eq!(rt; stamps, [Some(6), Some(8), None]);
-    give_back(&mut arena);
-    assert_eq!(rt; arena.node(0).version().inserts(), 1);
-    Ok(())
+    keep_no_key(&rt, alloc, &mut arena)
 }
 
 // A tree of the second layer, which operation 5 begins to make.
@@ -158,17 +164,6 @@ fn second_tree(arena: &mut Arena, prefix: Prefix) -> Result<usize, AllocError>
     ensures is { OnOk result (arena.new ≡ with_tree (of_nodes (held_root ∷ [])) prefix 5) }
 {
     arena.new_tree(prefix, 5)
-}
-
-// Begins to make it, below a prefix of eight bytes.
-fn begin_tree(rt: &impl Abort, alloc: Global, arena: &mut Arena) -> Result<usize, AllocError>
-    requires { arena.old ≡ of_nodes (held_root ∷ []) }
-    ensures trees { OnOk result (length arena.new.trees ≡ 2) }
-    ensures nodes { OnOk result (length arena.new.nodes ≡ 2) }
-{
-    let prefix = Vec::from_slice(alloc, b"pppppppp")?;
-    assert!(rt; prefix.len() == 8);
-    second_tree(arena, Prefix::new(prefix))
 }
 
 // Whether operation 5 is making the second of two trees, whose root is the second of two nodes.
@@ -184,11 +179,21 @@ fn is_being_made(arena: &Arena) -> bool
         && arena.node(1).version().is_root()
 }
 
+// Begins to make a tree below a prefix of eight bytes.
+fn begin_tree(rt: &impl Abort, alloc: Global, arena: &mut Arena) -> Result<(), AllocError>
+    requires { arena.old ≡ of_nodes (held_root ∷ []) }
+{
+    let prefix = Vec::from_slice(alloc, b"pppppppp")?;
+    assert!(rt; prefix.len() == 8);
+    let tree = second_tree(arena, Prefix::new(prefix))?;
+    assert!(rt; tree == 1 && is_being_made(arena));
+    Ok(())
+}
+
 #[test]
 fn a_new_tree_is_being_made(rt: HostRuntime) -> Result<(), Fail> {
     let alloc = rt.alloc();
     let mut arena = held_arena(alloc)?;
-    let tree = begin_tree(&rt, alloc, &mut arena)?;
-    assert!(rt; tree == 1 && is_being_made(&arena));
+    begin_tree(&rt, alloc, &mut arena)?;
     Ok(())
 }

@@ -168,19 +168,6 @@ fn take_all_out(rt: &impl Abort, alloc: Global, arena: &mut Arena, names: &[u8])
     Ok(())
 }
 
-// A tree of three border nodes loses the second one and the last one, and then the root above.
-fn shrink_tree(rt: &impl Abort, alloc: Global, arena: &mut Arena) -> Result<(), Fail>
-    requires { IsAtRest arena.old }
-    ensures { OnOk result (IsAtRest arena.new) }
-{
-    put_until(rt, alloc, arena, 0, 15)?;
-    put_until(rt, alloc, arena, 15, 23)?;
-    take_all_out(rt, alloc, arena, &[10, 20])?;
-    shrink(rt, arena);
-    assert!(rt; has_all(alloc, arena, 8)?);
-    Ok(())
-}
-
 // Whether the tree has one node, the first one.
 fn is_one_node(arena: &Arena) -> bool
     requires { IsAtRest arena.now }
@@ -191,11 +178,21 @@ fn is_one_node(arena: &Arena) -> bool
     top == 0 && node.level() == 0 && node.high().is_none() && node.next().is_none()
 }
 
+// A tree of three border nodes loses the second one and the last one, and then the root above.
+fn shrink_tree(rt: &impl Abort, alloc: Global, arena: &mut Arena) -> Result<(), Fail>
+    requires { IsAtRest arena.old }
+{
+    put_until(rt, alloc, arena, 0, 15)?;
+    put_until(rt, alloc, arena, 15, 23)?;
+    take_all_out(rt, alloc, arena, &[10, 20])?;
+    shrink(rt, arena);
+    assert!(rt; has_all(alloc, arena, 8)? && is_one_node(arena));
+    Ok(())
+}
+
 #[test]
 fn a_tree_shrinks_to_its_first_node(rt: HostRuntime) -> Result<(), Fail> {
     let alloc = rt.alloc();
     let mut arena = Arena::new(alloc)?;
-    shrink_tree(&rt, alloc, &mut arena)?;
-    assert!(rt; is_one_node(&arena));
-    Ok(())
+    shrink_tree(&rt, alloc, &mut arena)
 }
