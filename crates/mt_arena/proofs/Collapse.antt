@@ -50,6 +50,7 @@ crowned_to k n j m h none = record {
   apart = h.apart;
 }
 
+-- a node that no live node has as a child may become a root
 pub nodes_crowned : (xs : List NodeView) (i : ℕ) → i < length xs → AreNodes xs
     → ((k a : ℕ) → k < length xs → a < length (node_at xs k).children → get_or (node_at xs k).children a 0 ≡ i → (node_at xs k).version.deleted ≡ true)
     → AreNodes (set xs i (crowned (node_at xs i)))
@@ -97,6 +98,7 @@ nodes_collapsed xs i q nodes ranged f =
           other (one_parent xs q k i f.child.place a nodes f.root_there (omega (arith, lk, size)) f.child_there f.child.live live f.child.in_range f.child.is la e)))
     ]))
 
+-- who has a range stays so where a root gives way to its child
 pub ranged_collapsed : (xs : List NodeView) (i q : ℕ) → AreNodes xs → AreRanged xs → Collapses xs i q → AreRanged (set (set xs q (retired (node_at xs q))) i (crowned (node_at xs i)))
 ranged_collapsed xs i q nodes ranged f =
     let p = node_at xs q in

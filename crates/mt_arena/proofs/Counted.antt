@@ -36,6 +36,7 @@ pub content-is : (trees : List Tree) (nodes : List NodeView) → content trees n
 unfolding content
 content-is trees nodes = refl
 
+-- the map of a border node's entries is that of their pairs
 pub contents_of-is : (prefix : Bytes) (entries : List Entry) → contents_of prefix entries ≡ map_of (filter_map (pair_in prefix) entries)
 unfolding contents_of
 contents_of-is prefix entries = refl
@@ -97,6 +98,7 @@ remove_again c q row none = same_contents _ _ (λ r. sym (
     by true x none = sym (none refl)
     by false x none = refl
 
+-- without an entry whose key no other entry has, the map loses that key
 pub contents-remove : (prefix : Bytes) (q : ℕ × Bytes) (es : List Entry) (at : ℕ) (pair : Pair) → at < length es → pair_of (get_or es at any_entry).held ≡ Some pair → owned (key_at prefix (get_or es at any_entry) pair) ≡ q
     → All (IsApart prefix q) (take at es) → All (IsApart prefix q) (drop (suc at) es) → contents_of prefix (remove_at_place es at) ≡ remove (contents_of prefix es) q
 contents-remove prefix q es at pair within is here before behind =

@@ -25,6 +25,7 @@ interior_chain above = record { last = λ level. absurd (omega (arith, level, ab
 pub there_none : {count : ℕ} → AreThere count None None None []
 there_none = record { next = λ j e. absurd (cc); previous = λ j e. absurd (cc); parent = λ j e. absurd (cc); children = λ i lt. absurd (omega arith) }
 
+-- a node that names nobody before it and no parent is named rightly by all
 pub names_none : {k j : ℕ} {deleted : Bool} {after : Option ℕ} {children : List ℕ} → IsNamed k None None j deleted after children
 names_none = record { back = λ e. absurd (cc); live = λ e. absurd (cc); knows = λ e. absurd (cc) }
 

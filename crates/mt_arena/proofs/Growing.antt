@@ -44,6 +44,7 @@ has_link_push xs y u h =
       is = ap (λ (n : NodeView). (slot_at n h.slot).held) at ∙ h.is;
     }
 
+-- one more node without slots leaves links and layers
 pub layers_push : (xs : List NodeView) (trees : List Tree) (y : NodeView) → y.slots ≡ [] → AreLayered xs trees → AreLayered (xs ++ y ∷ []) trees
 layers_push xs trees y none layers = record {
   links = λ k lt. elim (cases_eq k (length xs)) [
@@ -108,6 +109,7 @@ module _ (xs : List NodeView) (i low op : ℕ) (within : i < length xs) (held : 
   pub content_half : (trees : List Tree) → content trees (ys ++ half ∷ []) ≡ content trees xs
   content_half trees = stands_pushed trees ys half refl ∙ content-set trees xs i m refl
 
+-- what the start of a border split leaves to others
 pub step_half : (v : ArenaView) (room i low op : ℕ) → i < length v.nodes → (at v i).holder ≡ Some op → (at v i).version.deleted ≡ false → (at v i).level ≡ 0 → ArenaInvariant v.nodes v.trees v.retired room → IsOpen v i op → Guarantee op v (with_half v i low op)
 step_half v room i low op within held live level sound mine = record {
   nodes = guarantee_half v.nodes i low op within held live level v.trees sound.arena.forest mine;
@@ -157,11 +159,13 @@ sound_tree xs trees gone room more op prefix sound enough whole =
       enough = omega (arith, length-append xs (y ∷ []), enough);
     }
 
+-- what a new tree leaves to others
 pub step_tree : (v : ArenaView) (prefix : Bytes) (op : ℕ) → Guarantee op v (with_tree v prefix op)
 step_tree v prefix op = record {
   nodes = guarantee_tree op v.nodes v.trees (fresh_root (length v.trees)) (made prefix (length v.nodes) op) (omega arith) (λ q other e. absurd (cc));
   points = points_push op v.nodes (fresh_root (length v.trees)) (λ j lt e. absurd (cc)) refl;
 }
 
+-- one more tree with an empty root leaves the contents
 pub content_tree : (xs : List NodeView) (trees : List Tree) (y : NodeView) (u : Tree) → IsArena xs trees → y.slots ≡ [] → content (trees ++ u ∷ []) (xs ++ y ∷ []) ≡ content trees xs
 content_tree xs trees y u arena none = stands_pushed (trees ++ u ∷ []) xs y none ∙ stands_tree_pushed trees xs u arena

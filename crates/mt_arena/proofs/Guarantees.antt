@@ -43,6 +43,7 @@ was_live : (a b : Bool) → (a ≡ true → b ≡ true) → b ≡ false → a �
 was_live true b stays live = absurd (let dead = stays refl in cc)
 was_live false b stays live = refl
 
+-- a node that stays as it is keeps to what a step may change
 pub changes_none : (op : ℕ) (n : NodeView) → Changes op n n
 changes_none op n = record {
   tree = refl;
@@ -83,9 +84,11 @@ changes_on op n m p a b = record {
   taken = λ q other e. a.taken q other (b.taken q other e);
 }
 
+-- and so does a tree
 pub tree_changes_none : (op : ℕ) (tree : Tree) → TreeChanges op tree tree
 tree_changes_none op tree = record { prefix = refl; dead = λ e. refl; made = λ q other e. refl; live = λ e q f. absurd (let both = sym e ∙ f in cc) }
 
+-- a step that does nothing leaves all to others
 pub guarantee_none : (op : ℕ) (nodes : List NodeView) (trees : List Tree) → NodesGuarantee op nodes nodes trees trees
 guarantee_none op nodes trees = record {
   count = omega arith;
@@ -173,6 +176,7 @@ guarantee_push op xs trees y mine holder = record {
   taken_new = λ k q from lt other e. holder q other (ap (λ (n : NodeView). n.holder) (sym (last xs y)) ∙ ap (λ k. (node_at (xs ++ y ∷ []) k).holder) {x = length xs} {y = k} (omega (arith, from, lt, length-append xs (y ∷ []))) ∙ e);
 }
 
+-- one more node in one more tree leaves all that was there
 pub guarantee_tree : (op : ℕ) (xs : List NodeView) (trees : List Tree) (y : NodeView) (u : Tree) → length trees ≤ y.tree → ((q : ℕ) → q ≢ op → y.holder ≢ Some q) → NodesGuarantee op xs (xs ++ y ∷ []) trees (trees ++ u ∷ [])
 guarantee_tree op xs trees y u new_tree holder = record {
   count = omega (arith, length-append xs (y ∷ []));
@@ -189,6 +193,7 @@ pub record PointsSo (op : ℕ) (nodes : List NodeView) (x y : NodeView) : Type 0
   pub previous : (j : ℕ) → y.previous ≡ Some j → (node_at nodes j).holder ≢ Some op → x.previous ≡ Some j
   pub parent : (j : ℕ) → y.parent ≡ Some j → (node_at nodes j).holder ≢ Some op → x.parent ≡ Some j
 
+-- one changed node names its neighbour and its parent as a step may, where that one does
 pub points_set : (op : ℕ) (xs : List NodeView) (i : ℕ) (y : NodeView) → i < length xs → PointsSo op (set xs i y) (node_at xs i) y → PointsOnly op xs (set xs i y)
 points_set op xs i y within so = record {
   previous = λ k j lt _ e not_mine. elim (cases_eq k i) [

@@ -96,6 +96,7 @@ gathers_same xs trees gone room i within sound =
       back = same_links x.slots;
     }
 
+-- the slots of a node with one more entry are what both halves hold together
 pub gathers_with : (v : ArenaView) (room left right op : ℕ) (key : Bytes) (e : Entry) → ArenaInvariant v.nodes v.trees v.retired room → MaySplit v left right op e.slice e.mark → MayPlace v left op key e → Gathers v.trees (at v left) (with_entry (at v left).slots e)
 gathers_with v room left right op key e sound may place =
     let x = at v left in
@@ -218,6 +219,7 @@ module _ (v : ArenaView) (room left right op : ℕ) (all kept moved : List Entry
 unfilled : (v : ArenaView) (left right op : ℕ) → IsHalf v left right op → IsUnfilled v.nodes left right
 unfilled v left right op half = record { other = half.differ; there = half.right_held.there; live = half.right_live; tree = half.right_tree; empty = half.empty }
 
+-- a split with a new key inserts its pair
 pub content_halved : (v : ArenaView) (room left right op : ℕ) (key : Bytes) (e : Entry) (pair : Pair) (kept moved : List Entry) → ArenaInvariant v.nodes v.trees v.retired room → MaySplit v left right op e.slice e.mark → MayPlace v left op key e → e.held ≡ Stable pair
     → IsParted (with_entry (at v left).slots e) kept moved (at v right).low
     → content v.trees (set (set v.nodes left (left_half (at v left) kept (at v right).low right)) right (right_half (at v left) (at v right) moved left)) ≡ finite.insert (content v.trees v.nodes) (owned key) pair.row
@@ -226,6 +228,7 @@ content_halved v room left right op key e pair kept moved sound may place is par
     (left_half (at v left) kept (at v right).low right) (right_half (at v left) (at v right) moved left) kept moved (at v right).low e pair place.has may.missing (ap pair_of is) parted
     (record { slots = refl; deleted = refl; tree = refl }) (record { slots = refl; deleted = refl; tree = refl })
 
+-- a split without a new key leaves the contents
 pub content_parted : (v : ArenaView) (room left right op slice : ℕ) (mark : Mark) (kept moved : List Entry) → ArenaInvariant v.nodes v.trees v.retired room → MaySplit v left right op slice mark → (tree_of v left).standing ≡ Live
     → IsParted (at v left).slots kept moved (at v right).low
     → content v.trees (set (set v.nodes left (left_half (at v left) kept (at v right).low right)) right (right_half (at v left) (at v right) moved left)) ≡ content v.trees v.nodes

@@ -54,6 +54,7 @@ changes_split op n m before after tree level low ages peopled marked =
 pub changes_left_half : (op : ℕ) (x : NodeView) (kept : List Entry) (low right : ℕ) → x.holder ≡ Some op → x.version.splitting ≡ true → Changes op x (left_half x kept low right)
 changes_left_half op x kept low right held marked = changes_split op x (left_half x kept low right) held held refl refl refl (versions.ages_refl x.version) (λ some. some) marked
 
+-- a held right half may be filled
 pub changes_right_half : (op : ℕ) (x r : NodeView) (moved : List Entry) (left : ℕ) → r.holder ≡ Some op → r.version.splitting ≡ true → Changes op r (right_half x r moved left)
 changes_right_half op x r moved left held marked = changes_split op r (right_half x r moved left) held held refl refl refl (versions.ages_refl r.version) (λ some. some) marked
 
@@ -73,6 +74,7 @@ changes_left_below op n top held marked = changes_split op n (left_below n top) 
   root = λ same whole. absurd (marks n.version.splitting marked whole);
 }) (λ some. some) marked
 
+-- and may come below a new root
 pub changes_right_below : (op : ℕ) (n : NodeView) (top : ℕ) → n.holder ≡ Some op → n.version.splitting ≡ true → Changes op n (right_below n top)
 changes_right_below op n top held marked = changes_split op n (right_below n top) held held refl refl refl (versions.ages_refl n.version) (λ some. some) marked
 

@@ -36,6 +36,7 @@ home_kept k x y t tree keeps keys h = record {
 tree_more : (count more : ℕ) (tree : Tree) → count ≤ more → IsTree count tree → IsTree more tree
 tree_more count more tree le h = record { root_there = omega (arith, h.root_there); whole = h.whole }
 
+-- the forest stands where one node changes and keeps its place and its keys
 pub forest_set : (xs : List NodeView) (trees : List Tree) (i : ℕ) (y : NodeView) → i < length xs → IsForest xs trees → KeepsHome (node_at xs i) y → HasKeysOf trees y → IsForest (set xs i y) trees
 forest_set xs trees i y within forest keeps keys =
     let x = node_at xs i in

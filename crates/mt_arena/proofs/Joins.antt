@@ -70,6 +70,7 @@ insert_behind : (b : Bool) (row : Columns) (x y : Option Columns) → (b ≡ tru
 insert_behind true row x y none = or_none x (Some row) (none refl)
 insert_behind false row x y none = refl
 
+-- in two lists of pairs of which the first lacks the key, a pair may be put into the second
 pub insert-second : (ps qs new : Pairs) (q : ℕ × Bytes) (row : Columns) → get (map_of ps) q ≡ None → map_of new ≡ insert (map_of qs) q row → map_of (ps ++ new) ≡ insert (map_of (ps ++ qs)) q row
 insert-second ps qs new q row none is = same_contents _ _ (λ r.
     get-append ps new r
@@ -87,6 +88,7 @@ remove_behind : (b : Bool) (x y : Option Columns) → (b ≡ true → x ≡ None
 remove_behind true x y none = or_none x None (none refl)
 remove_behind false x y none = refl
 
+-- a key that the second list lacks may be taken out of the first
 pub remove-first : (ps new qs : Pairs) (q : ℕ × Bytes) → get (map_of qs) q ≡ None → map_of new ≡ remove (map_of ps) q → map_of (new ++ qs) ≡ remove (map_of (ps ++ qs)) q
 remove-first ps new qs q none is = same_contents _ _ (λ r.
     get-append new qs r
@@ -95,6 +97,7 @@ remove-first ps new qs q none is = same_contents _ _ (λ r.
     ∙ remove_before (eq_by_cmp owned_cmp r q) (get (map_of ps) r) (get (map_of qs) r) (λ tied. ap (get (map_of qs)) (tied_owner r q tied) ∙ none)
     ∙ sym (get-remove owned_total (map_of (ps ++ qs)) q r ∙ ap (cond (eq_by_cmp owned_cmp r q) None) (get-append ps qs r)))
 
+-- and one that the first lacks out of the second
 pub remove-second : (ps qs new : Pairs) (q : ℕ × Bytes) → get (map_of ps) q ≡ None → map_of new ≡ remove (map_of qs) q → map_of (ps ++ new) ≡ remove (map_of (ps ++ qs)) q
 remove-second ps qs new q none is = same_contents _ _ (λ r.
     get-append ps new r
@@ -107,9 +110,11 @@ remove-second ps qs new q none is = same_contents _ _ (λ r.
 pub none-append : (ps qs : Pairs) (q : ℕ × Bytes) → get (map_of ps) q ≡ None → get (map_of qs) q ≡ None → get (map_of (ps ++ qs)) q ≡ None
 none-append ps qs q none also = get-append ps qs q ∙ or_none (get (map_of ps) q) (get (map_of qs) q) none ∙ also
 
+-- a key's row in the first list is its row in both
 pub some-first : (ps qs : Pairs) (q : ℕ × Bytes) (row : Columns) → get (map_of ps) q ≡ Some row → get (map_of (ps ++ qs)) q ≡ Some row
 some-first ps qs q row some = get-append ps qs q ∙ ap (λ o. option_or o (get (map_of qs) q)) some
 
+-- a row in the second list is the key's in both, where the first lacks it
 pub some-second : (ps qs : Pairs) (q : ℕ × Bytes) (row : Columns) → get (map_of ps) q ≡ None → get (map_of qs) q ≡ Some row → get (map_of (ps ++ qs)) q ≡ Some row
 some-second ps qs q row none some = get-append ps qs q ∙ or_none (get (map_of ps) q) (get (map_of qs) q) none ∙ some
 
@@ -118,9 +123,11 @@ pub or_none_right : (x : Option Columns) → option_or x None ≡ x
 or_none_right None = refl
 or_none_right (Some row) = refl
 
+-- a key that the second list lacks is looked up in the first
 pub get-first : (ps qs : Pairs) (q : ℕ × Bytes) → get (map_of qs) q ≡ None → get (map_of (ps ++ qs)) q ≡ get (map_of ps) q
 get-first ps qs q none = get-append ps qs q ∙ ap (option_or (get (map_of ps) q)) none ∙ or_none_right (get (map_of ps) q)
 
+-- and one that the first lacks in the second
 pub get-second : (ps qs : Pairs) (q : ℕ × Bytes) → get (map_of ps) q ≡ None → get (map_of (ps ++ qs)) q ≡ get (map_of qs) q
 get-second ps qs q none = get-append ps qs q ∙ or_none (get (map_of ps) q) (get (map_of qs) q) none
 

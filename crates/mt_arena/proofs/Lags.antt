@@ -33,6 +33,7 @@ follows_before op q old new were are i k guarantee points other within holder is
   | inr new_one ↦ absurd (not_theirs op q old new were are i guarantee other within holder (points.new_previous k i (omega (arith, new_one)) is.0 within is.1))
 ]
 
+-- a node that names a held one as its parent after another's step did so before
 pub under_before : (op q : ℕ) (old new : List NodeView) (were are : List Tree) (i k : ℕ) → NodesGuarantee op old new were are → PointsOnly op old new → q ≢ op → i < length old → (node_at old i).holder ≡ Some q
     → IsUnder new i k → IsUnder old i k
 under_before op q old new were are i k guarantee points other within holder is = elim (cases_lt k (length old)) [
@@ -49,6 +50,7 @@ follows_in xs i k b y within is = elim (cases_eq k b) [
       inr (other, (omega (arith, is.0, length-set xs b y), sym (ap (λ (n : NodeView). n.previous) old) ∙ is.1, sym (ap (λ (n : NodeView). n.version.deleted) old) ∙ is.2))
 ]
 
+-- who names a parent in changed nodes: the changed one, or one that did so before
 pub under_in : (xs : List NodeView) (i k b : ℕ) (y : NodeView) → b < length xs → IsUnder (set xs b y) i k → ((k ≡ b) × (y.parent ≡ Some i) × (y.version.deleted ≡ false)) ⊎ ((k ≢ b) × IsUnder xs i k)
 under_in xs i k b y within is = elim (cases_eq k b) [
   | inl same ↦
@@ -151,6 +153,7 @@ children_again xs i j q nodes f children k is =
 pub followers_of : (xs : List NodeView) (i : ℕ) (x : NodeView) → IsSettled xs i x → AreFollowers xs i x.next
 followers_of xs i x settled k is = settled.previous k is.0 is.1 is.2
 
+-- what is settled has no lagging children
 pub children_of : (xs : List NodeView) (i : ℕ) (x : NodeView) → IsSettled xs i x → AreChildren xs i x
 children_of xs i x settled k is = settled.parent k is.0 is.1 is.2
 
@@ -196,6 +199,7 @@ begun_left xs i low op next within followers =
       | inr other ↦ followers k other.1
     ]))
 
+-- nobody names a right half that was just made as the one before
 pub begun_right : (xs : List NodeView) (i low op : ℕ) → i < length xs → AreNodes (set xs i (splitting (node_at xs i))) → AreFollowers (set xs i (splitting (node_at xs i)) ++ fresh_half (node_at xs i) i low op ∷ []) (length xs) None
 begun_right xs i low op within nodes =
     let x = node_at xs i in
@@ -203,6 +207,7 @@ begun_right xs i low op within nodes =
     let size = length-set xs i (splitting x) in
     subst (λ c. AreFollowers (ys ++ fresh_half x i low op ∷ []) c None) size (fresh_followers ys x i low op nodes (omega (arith, within, size)))
 
+-- nobody names a node that was just added as its parent
 pub fresh_children : (xs : List NodeView) (y n : NodeView) → AreNodes xs → y.parent ≡ None → AreChildren (xs ++ y ∷ []) (length xs) n
 fresh_children xs y n nodes none k is =
     let size : length (xs ++ y ∷ []) ≡ length xs + 1 = length-append xs (y ∷ []) in

@@ -64,6 +64,7 @@ links_set es at e none j u lt is = elim (cases_eq j at) [
       record { slot = j; in_range = omega (arith, lt, length-set es at e); is = ap (λ (x : Entry). x.held) same ∙ is; slice_is = ap (λ (x : Entry). x.slice) same }
 ]
 
+-- an entry without a link put in the place of another leaves no new link
 pub links_set_back : (es : List Entry) (at : ℕ) (e : Entry) → at < length es → ((u : ℕ) → e.held ≢ Link u) → HasLinksOf es (set es at e)
 links_set_back es at e within none j u lt is = elim (cases_eq j at) [
   | inl here_is ↦ absurd (none u (ap (λ (x : Entry). x.held) (sym (get_or-set_same es at e any_entry within) ∙ ap (λ k. get_or (set es at e) k any_entry) (sym here_is)) ∙ is))
@@ -86,6 +87,7 @@ links_remove es at within none j u lt is =
       ]
     ]
 
+-- a slot taken out leaves no new link
 pub links_remove_back : (es : List Entry) (at : ℕ) → at < length es → HasLinksOf es (remove es at)
 links_remove_back es at within j u lt is =
     let size = length-remove es at within in
@@ -141,6 +143,7 @@ has_link_set xs i y u within keeps h =
           }
     ]
 
+-- links and layers stand where one node changes and keeps its links
 pub layers_set : (xs : List NodeView) (trees : List Tree) (i : ℕ) (y : NodeView) → i < length xs → AreLayered xs trees → KeepsLinks (node_at xs i) y → AreLayered (set xs i y) trees
 layers_set xs trees i y within layers keeps = record {
   links = λ k lt. elim (cases_eq k i) [
@@ -159,6 +162,7 @@ pub record HasNoSlots (x y : NodeView) : Type 0 where
 pub no_links : (trees : List Tree) (y : NodeView) → y.slots ≡ [] → AreLinks trees y
 no_links trees y none live i u lt is = absurd (omega (arith, subst (λ (es : List Entry). i < length es) none lt))
 
+-- and where the node has no slots before and after
 pub layers_empty : (xs : List NodeView) (trees : List Tree) (i : ℕ) (y : NodeView) → i < length xs → AreLayered xs trees → HasNoSlots (node_at xs i) y → AreLayered (set xs i y) trees
 layers_empty xs trees i y within layers empty = record {
   links = λ k lt. elim (cases_eq k i) [

@@ -40,6 +40,7 @@ one_tree nodes trees t u forest live also same = elim (cases_eq t u) [
 slice_lt : (xs : Bytes) → AreBytes xs → slice_at xs < 2 ^ 64
 slice_lt xs bytes = rw (slice_at-number xs) (number_lt 8 xs bytes)
 
+-- a slice is a number of 64 bits
 pub slice_of_lt : (key : Bytes) (layer : ℕ) → AreBytes key → slice_of key layer < 2 ^ 64
 slice_of_lt key layer bytes = slice_lt (rest_of key layer) (bytes-drop (8 * layer) key bytes)
 

@@ -18,6 +18,7 @@ use Rattle.mt_arena.proofs.Unlock.{nodes_unlocked}
 use Rattle.mt_arena.proofs.LinkEdits.{same_links}
 use Rattle.mt_arena.proofs.Steps.{sound_set, keys_of, step_set}
 
+-- the whole invariant stands as a lock is taken
 pub sound_locked : (xs : List NodeView) (trees : List Tree) (gone : List Retired) (room i op : ℕ) → i < length xs → ArenaInvariant xs trees gone room → (node_at xs i).holder ≡ None → ArenaInvariant (set xs i (locked (node_at xs i) op)) trees gone room
 sound_locked xs trees gone room i op within sound free =
     let x = node_at xs i in
@@ -39,6 +40,7 @@ changes_locked op x free = record {
   taken = λ q other e. absurd (other (sym (let is = e in cc)));
 }
 
+-- what a lock that is taken leaves to others
 pub step_locked : (v : ArenaView) (i op : ℕ) → i < length v.nodes → (at v i).holder ≡ None → IsOpen v i op → Guarantee op v (with_node v i (locked (at v i) op))
 step_locked v i op within free mine =
     step_set op v i (locked (at v i) op) within (changes_locked op (at v i) free) mine record { previous = λ j e not_mine. e; parent = λ j e not_mine. e }
@@ -81,6 +83,7 @@ changes_unlocked op x mine = record {
   taken = λ q other e. absurd (cc);
 }
 
+-- and one that is given back
 pub step_unlocked : (v : ArenaView) (i op : ℕ) → i < length v.nodes → (at v i).holder ≡ Some op → IsOpen v i op → Guarantee op v (with_node v i (unlocked (at v i)))
 step_unlocked v i op within held mine =
     step_set op v i (unlocked (at v i)) within (changes_unlocked op (at v i) held) mine record { previous = λ j e not_mine. e; parent = λ j e not_mine. e }

@@ -50,6 +50,7 @@ each_set2 P xs i j y z li lj differ one two others k lk = elim (cases_eq k j) [
   ]
 ]
 
+-- what holds of each node holds where three of them change, if it holds of the three
 pub each_set3 : (P : ℕ → NodeView → Type 0) (xs : List NodeView) (i j q : ℕ) (y z w : NodeView) → i < length xs → j < length xs → q < length xs → i ≢ j → i ≢ q → j ≢ q → P i y → P j z → P q w → ((k : ℕ) → k < length xs → k ≢ i → k ≢ j → k ≢ q → P k (node_at xs k))
     → (k : ℕ) → k < length xs → P k (node_at (set (set (set xs i y) j z) q w) k)
 each_set3 P xs i j q y z w li lj lq ij iq jq one two three others k lk =

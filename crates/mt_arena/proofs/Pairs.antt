@@ -10,6 +10,7 @@ use Rattle.mt_arena.proofs.Groups.{node_more}
 pub here : (xs : List NodeView) (i : ℕ) (y : NodeView) → i < length xs → node_at (set xs i y) i ≡ y
 here xs i y within = get_or-set_same xs i y no_node within
 
+-- another node is read as it was
 pub there : (xs : List NodeView) (i k : ℕ) (y : NodeView) → k ≢ i → node_at (set xs i y) k ≡ node_at xs k
 there xs i k y other = get_or-set_other xs i k y no_node other
 
@@ -22,6 +23,7 @@ pub last : (xs : List NodeView) (y : NodeView) → node_at (xs ++ y ∷ []) (len
 last [] y = refl
 last (x ∷ xs) y = last xs y
 
+-- a node that was there is read as it was behind a push
 pub before : (xs : List NodeView) (y : NodeView) (k : ℕ) → k < length xs → node_at (xs ++ y ∷ []) k ≡ node_at xs k
 before [] y k lt = absurd (omega arith)
 before (x ∷ xs) y zero lt = refl

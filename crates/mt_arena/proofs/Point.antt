@@ -40,6 +40,7 @@ pointed_from k n j m previous parent h back up = record {
   apart = h.apart;
 }
 
+-- the facts of nodes stand where a node gets another neighbour before it or another parent, as `Points` allows
 pub nodes_pointed : (xs : List NodeView) (i : ℕ) (previous parent : Option ℕ) → i < length xs → AreNodes xs → Points xs (node_at xs i) previous parent
     → AreNodes (set xs i (pointed (node_at xs i) previous parent))
 nodes_pointed xs i previous parent within nodes points =

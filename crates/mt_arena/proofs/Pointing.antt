@@ -59,6 +59,7 @@ own_or_old op nodes was is j own e not_mine = elim (own.names j e) [
   | inr mine ↦ absurd (not_mine mine)
 ]
 
+-- what another neighbour and another parent of a node leave to others
 pub step_pointed : (v : ArenaView) (i op : ℕ) (previous parent : Option ℕ) → i < length v.nodes → IsOpen v i op → NamesOwn op v.nodes (at v i).previous previous → NamesOwn op v.nodes (at v i).parent parent
     → (parent ≡ None → (at v i).parent ≡ None) → ((q : ℕ) → q ≢ op → (at v i).holder ≡ Some q → (at v i).parent ≡ None → parent ≡ None) → Guarantee op v (with_node v i (pointed (at v i) previous parent))
 step_pointed v i op previous parent within mine before above stays first =
@@ -72,6 +73,7 @@ step_pointed v i op previous parent within mine before above stays first =
 pub names_same : (op : ℕ) (nodes : List NodeView) (was : Option ℕ) → NamesOwn op nodes was was
 names_same op nodes was = record { names = λ j e. inl e }
 
+-- to name a node that the operation holds is its own to do
 pub names_own : (op : ℕ) (nodes : List NodeView) (was : Option ℕ) (k : ℕ) → (node_at nodes k).holder ≡ Some op → NamesOwn op nodes was (Some k)
 names_own op nodes was k held = record { names = λ j e. inr (ap (λ k. (node_at nodes k).holder) (sym (same_Some k j e)) ∙ held) }
 
@@ -89,6 +91,7 @@ sound_previous xs trees gone room i k op within inside held sound tied =
       parent_stays = λ none. none;
     } (λ root. refl) (sound.arena.ranged.each i within).parent (λ waits. sym (tied waits))
 
+-- another neighbour before a node
 pub step_previous : (v : ArenaView) (i k op : ℕ) → i < length v.nodes → (at v k).holder ≡ Some op → IsOpen v i op → Guarantee op v (with_node v i (pointed (at v i) (Some k) (at v i).parent))
 step_previous v i k op within held mine =
     step_pointed v i op (Some k) (at v i).parent within mine (names_own op v.nodes (at v i).previous k held) (names_same op v.nodes (at v i).parent) (λ none. none) (λ q other e none. none)
@@ -107,6 +110,7 @@ sound_parent xs trees gone room i k op within inside held sound no_root range =
       parent_stays = λ none. absurd (cc);
     } (λ root. absurd (cc)) (λ some. range) (λ waits. refl)
 
+-- and another parent
 pub step_parent : (v : ArenaView) (i k op : ℕ) → i < length v.nodes → (at v k).holder ≡ Some op → IsOpen v i op → ((q : ℕ) → (at v i).holder ≡ Some q → q ≢ op → (at v i).parent ≢ None) → Guarantee op v (with_node v i (pointed (at v i) (at v i).previous (Some k)))
 step_parent v i k op within held mine theirs =
     step_pointed v i op (at v i).previous (Some k) within mine (names_same op v.nodes (at v i).previous) (names_own op v.nodes (at v i).parent k held) (λ none. absurd (cc)) (λ q other e none. absurd (theirs q e other none))

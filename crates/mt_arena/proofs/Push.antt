@@ -17,6 +17,7 @@ use Rattle.mt_arena.proofs.Point.{nodes_pointed}
 pub no_slots : IsBorder []
 no_slots = record { within = omega arith; each = λ i d lt. absurd (omega arith); rising = λ i j lt within. absurd (omega arith) }
 
+-- a node without separators and children is an interior node's row
 pub no_children : IsInterior [] []
 no_children = record { room = omega arith; between = refl; rising = λ i j lt within. absurd (omega arith) }
 
@@ -59,6 +60,7 @@ bare_to count k m border tree level low op h = record {
   apart = λ differ tree level live also s _ holds. absurd (omega (arith, holds.0, holds.1));
 }
 
+-- one more held node without range leaves the facts of nodes
 pub nodes_bare : (xs : List NodeView) (border : Bool) (tree level low op : ℕ) → TellsKind border level → AreNodes xs → AreNodes (xs ++ bare border tree level low op ∷ [])
 nodes_bare xs border tree level low op kind nodes =
     let y = bare border tree level low op in
@@ -128,6 +130,7 @@ root_to count k m tree h new = record {
   apart = λ differ same. absurd (new same);
 }
 
+-- and so does the root of a new tree
 pub nodes_root : (xs : List NodeView) (tree : ℕ) → AreNodes xs → ((k : ℕ) → k < length xs → (node_at xs k).tree ≢ tree) → AreNodes (xs ++ fresh_root tree ∷ [])
 nodes_root xs tree nodes new =
     nodes_pushed xs (fresh_root tree) nodes (root_node (length xs + 1) tree)

@@ -43,6 +43,7 @@ left_stays x y n s l = record { live = s.live l.live; range = s.range l.range; m
 pub tied_to : (k : ℕ) (n : NodeView) (j : ℕ) (x y : NodeView) → Stays x y → AreTied k n j x → AreTied k n j y
 tied_to k n j x y s h = record { next = λ e. s.range (h.next e); left = λ e waits. left_stays x y n s (h.left e waits) }
 
+-- what ties a node to those that it names stays where the node changes little
 pub tied_from : (k : ℕ) (x y : NodeView) (j : ℕ) (m : NodeView) → Stays x y → y.next ≡ x.next → (Waits y → Waits x × (y.previous ≡ x.previous)) → AreTied k x j m → AreTied k y j m
 tied_from k x y j m s next was h = record {
   next = λ e. h.next (sym next ∙ e);

@@ -28,6 +28,7 @@ retired_to nodes k i x within held left h = record {
   apart = λ differ tree level live also. absurd (cc);
 }
 
+-- a held node to which nothing live leads may be taken out
 pub nodes_retired : (xs : List NodeView) (i : ℕ) → i < length xs → AreNodes xs → (node_at xs i).holder ≢ None → IsLeft xs i → AreNodes (set xs i (retired (node_at xs i)))
 nodes_retired xs i within nodes held left =
     let x = node_at xs i in

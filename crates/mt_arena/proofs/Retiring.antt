@@ -17,6 +17,7 @@ live-set [] i y within = absurd (omega arith)
 live-set (x ∷ xs) zero y within = omega arith
 live-set (x ∷ xs) (suc i) y within = omega (arith, live-set xs i y (omega arith))
 
+-- how one more node is counted among the live ones
 pub live-push : (xs : List NodeView) (y : NodeView) → live_count (xs ++ y ∷ []) ≡ live_count xs + one_if_live y
 live-push [] y = omega arith
 live-push (x ∷ xs) y = omega (arith, live-push xs y)
@@ -34,6 +35,7 @@ was_set xs i y r within stays was = (
   ],
 )
 
+-- the list of the retired stands where a node stays live, or stays taken out
 pub retired_set : (xs : List NodeView) (gone : List Retired) (i : ℕ) (y : NodeView) → i < length xs → AreRetired xs gone → y.version.deleted ≡ (node_at xs i).version.deleted → AreRetired (set xs i y) gone
 retired_set xs gone i y within are same = record {
   each = λ k d lt. was_set xs i y (get_or gone k d) within (λ e. same ∙ e) (are.each k d lt);

@@ -26,6 +26,7 @@ pub record NamesNoMore (x y : NodeView) : Type 0 where
   pub parent : (j : ℕ) → y.parent ≡ Some j → x.parent ≡ Some j
   pub live : y.version.deleted ≡ false → x.version.deleted ≡ false
 
+-- a node that stays as it is names nobody anew
 pub names_none_more : (x : NodeView) → NamesNoMore x x
 names_none_more x = record { previous = refl; parent = λ j e. e; live = λ live. live }
 

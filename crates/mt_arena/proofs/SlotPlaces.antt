@@ -13,6 +13,7 @@ pub record WasAt (es : List Entry) (i j : ℕ) : Type 0 where
   pub in_range : place < length es
   pub same : get_or (remove es i) j any_entry ≡ get_or es place any_entry
 
+-- each slot that is left stood at one place before
 pub was_at : (es : List Entry) (i j : ℕ) → i < length es → j < length (remove es i) → WasAt es i j
 was_at es i j within lt = elim (cases_lt j i) [
   | inl below ↦ record { place = j; other = λ e. omega (arith, e, below); in_range = omega (arith, below, within); same = get_or-remove_below es i any_entry j below within }
@@ -30,6 +31,7 @@ pub record IsAtStill (es : List Entry) (i s : ℕ) : Type 0 where
   pub in_range : place < length (remove es i)
   pub same : get_or (remove es i) place any_entry ≡ get_or es s any_entry
 
+-- each other slot stands at one place still
 pub at_still : (es : List Entry) (i s : ℕ) → i < length es → s < length es → s ≢ i → IsAtStill es i s
 at_still es i s within lt other = elim (cases_lt s i) [
   | inl below ↦ record { place = s; in_range = omega (arith, below, within, length-remove es i within); same = get_or-remove_below es i any_entry s below within }

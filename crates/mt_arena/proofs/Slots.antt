@@ -56,6 +56,7 @@ pub record MayHold (trees : List Tree) (x : NodeView) (slots : List Entry) : Typ
   pub forth : HasLinksOf slots x.slots
   pub back : HasLinksOf x.slots slots
 
+-- the whole invariant stands where a held border node gets slots that it may hold
 pub sound_slots : (xs : List NodeView) (trees : List Tree) (gone : List Retired) (room i : ℕ) (slots : List Entry) → i < length xs → ArenaInvariant xs trees gone room → (node_at xs i).holder ≢ None → (node_at xs i).level ≡ 0
     → MayHold trees (node_at xs i) slots → ArenaInvariant (set xs i (with_slots (node_at xs i) slots)) trees gone room
 sound_slots xs trees gone room i slots within sound held level may =
@@ -79,6 +80,7 @@ changes_slots op x slots mine = record {
   taken = λ q other e. e;
 }
 
+-- what other slots of a held node leave to others
 pub step_slots : (v : ArenaView) (i op : ℕ) (slots : List Entry) → i < length v.nodes → (at v i).holder ≡ Some op → IsOpen v i op → Guarantee op v (with_node v i (with_slots (at v i) slots))
 step_slots v i op slots within held mine =
     step_set op v i (with_slots (at v i) slots) within (changes_slots op (at v i) slots held) mine record { previous = λ j e not_mine. e; parent = λ j e not_mine. e }

@@ -45,6 +45,7 @@ first_forest = record {
     at zero lt = record { root_there = omega arith; whole = refl }
     at (suc t) lt = absurd (omega arith)
 
+-- a new arena has the whole invariant
 pub sound_first : (room : ℕ) → 1 ≤ room → ArenaInvariant first_nodes first_trees [] room
 sound_first room enough = record {
   arena = record {

@@ -54,6 +54,7 @@ new_home k t op prefix = record {
   keys = λ e. record { keys = λ k d inside. absurd (omega arith); begun = λ k d inside. absurd (omega arith) };
 }
 
+-- one more tree with its root leaves the forest
 pub forest_tree : (xs : List NodeView) (trees : List Tree) (prefix : Bytes) (op : ℕ) → IsForest xs trees → 8 * layer_of prefix ≡ length prefix
     → IsForest (xs ++ fresh_root (length trees) ∷ []) (trees ++ made prefix (length xs) op ∷ [])
 forest_tree xs trees prefix op forest whole =

@@ -47,6 +47,7 @@ both_back xs i j y z differ le within = both_set xs j i z y (omega (arith, diffe
 pub in_front : (xs front : List NodeView) (i j : ℕ) (d : NodeView) → front ≡ take j xs → i < j → j < length xs → get_or front i d ≡ node_at xs i
 in_front xs front i j d is lt within = ap (λ ys. get_or ys i d) is ∙ get_or-take j xs i d lt ∙ get_or_default xs i d no_node (omega (arith, lt, within))
 
+-- the first node behind a cut is the one of that number
 pub in_back : (xs back : List NodeView) (j : ℕ) (d : NodeView) → back ≡ drop j xs → j < length xs → get_or back 0 d ≡ node_at xs j
 in_back xs back j d is within = ap (λ ys. get_or ys 0 d) is ∙ get_or-drop j xs 0 d ∙ ap (λ k. get_or xs k d) {x = j + 0} {y = j} (omega arith) ∙ get_or_default xs j d no_node within
 

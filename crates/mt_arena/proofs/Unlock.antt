@@ -29,6 +29,7 @@ unlocked_to nodes k i x within settled h = record {
   apart = h.apart;
 }
 
+-- the facts of nodes stand where the lock of a settled node is given back
 pub nodes_unlocked : (xs : List NodeView) (i : ℕ) → i < length xs → AreNodes xs → IsSettled xs i (node_at xs i) → AreNodes (set xs i (unlocked (node_at xs i)))
 nodes_unlocked xs i within nodes settled =
     let x = node_at xs i in
