@@ -33,7 +33,6 @@ may_change_pair key e pair has is = record {
   stable = is;
 }
 
--- the one pair of the root may be changed
 pub may_change : (v : ArenaView) (key : Bytes) (e : Entry) → v ≡ holding (e ∷ []) → HasKey [] 0 e key → IsStablePair e.held → (x : Bytes) × (pair : Pair) × MayChange v 0 5 x 0 pair
 may_change v key e is has stable =
     let found = held_pair e.held stable in

@@ -1,9 +1,9 @@
 -- A root with one child is taken out: what the call needs, and that nothing lags behind the two nodes when they are unlocked.
-use Rattle.std.proofs.Common.{◌≡◌, ◌≢◌, ℕ, ◌<◌, List, [], ◌∷◌, length, get_or, set, None, refl, sym, ap, subst, ◌∙◌, arith, inl, inr}
+use Rattle.std.proofs.Common.{◌≡◌, ◌≢◌, ℕ, ◌+◌, ◌<◌, List, [], ◌∷◌, length, get_or, set, Some, None, true, false, refl, sym, ap, subst, ◌∙◌, arith, inl, inr}
 use Rattle.std.proofs.lemmas.Bool.{cases_eq}
 use Rattle.std.proofs.lemmas.List.{length-set}
 use Rattle.mt_version.specs.Changes.{CanUnlock}
-use Rattle.mt_arena.specs.NodeView.{NodeView}
+use Rattle.mt_arena.specs.NodeView.{NodeView, node_at}
 use Rattle.mt_arena.specs.Nodes.{HasChild, IsChild}
 use Rattle.mt_arena.specs.Forests.{IsRoot, tree_at}
 use Rattle.mt_arena.specs.Settled.{IsSettled}

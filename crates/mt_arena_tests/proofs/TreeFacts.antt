@@ -19,11 +19,9 @@ use Rattle.mt_arena.specs.Accesses.{at, tree_of}
 pub of_top : (v : ArenaView) (k : ℕ) → IsArena v.nodes v.trees → length v.trees ≡ 1 → k < length v.nodes → (at v k).tree ≡ 0
 of_top v k arena one lt = omega (arith, arena.forest.tree_there k lt, one)
 
--- the only tree of an arena is live
 pub tree_live : (v : ArenaView) (k : ℕ) → IsArena v.nodes v.trees → length v.trees ≡ 1 → k < length v.nodes → (tree_of v k).standing ≡ Live
 tree_live v k arena one lt = ap (λ t. (tree_at v.trees t).standing) (of_top v k arena one lt) ∙ arena.forest.top.live
 
--- a live tree is being made by nobody
 pub open_of : (trees : List Tree) (t op : ℕ) → (tree_at trees t).standing ≡ Live → (q : ℕ) → (tree_at trees t).standing ≡ Made q → q ≡ op
 open_of trees t op live q made = absurd (cc)
 
@@ -42,7 +40,6 @@ child_more p separator q k size c =
       | inr above ↦ record { live = c.live; place = c.place + 1; in_range = omega (arith, more, c.in_range); is = get_or-insert_above p.children a q 0 c.place above within ∙ c.is }
     ]
 
--- a child that was put in stands among the children
 pub new_child : (p : NodeView) (separator q : ℕ) → length p.children ≡ length p.separators + 1 → p.version.deleted ≡ false → HasChild (with_child p separator q) q
 new_child p separator q size live =
     let a : ℕ = place_of p.separators separator + 1 in
@@ -55,7 +52,6 @@ end_at : (xs : List ℕ) (e : ℕ) → get_or (xs ++ e ∷ []) (length xs) 0 ≡
 end_at [] e = refl
 end_at (x ∷ xs) e = end_at xs e
 
--- a node with a child has a range
 pub has_range : (level low : ℕ) (high : Option ℕ) (separators children : List ℕ) → FitsChildren level low high separators children → 0 < length children → low < end_of high
 has_range level low high separators children facts some =
     let e : ℕ = end_of high in

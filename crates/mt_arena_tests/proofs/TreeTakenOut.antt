@@ -1,11 +1,12 @@
 -- An empty border node is taken out of its parent: what the call needs, who is told, and that nothing lags behind the three nodes then.
-use Rattle.std.proofs.Common.{◌≡◌, ◌≢◌, ℕ, ◌<◌, List, [], length, set, Option, Some, None, false, refl, sym, ap, subst, ◌∙◌, arith, inl, inr}
+use Rattle.std.proofs.Common.{◌≡◌, ◌≢◌, ℕ, ◌+◌, ◌<◌, List, [], length, set, Option, Some, None, true, false, refl, sym, ap, subst, ◌∙◌, arith, inl, inr}
 use Rattle.std.proofs.lemmas.Bool.{cases_eq}
+use Rattle.std.proofs.lemmas.Option.{same_Some}
 use Rattle.std.proofs.lemmas.List.{length-set}
 use Rattle.mt_interior.specs.Places.{place_of}
 use Rattle.mt_interior.specs.Fences.{end_of}
-use Rattle.mt_arena.specs.NodeView.{NodeView}
-use Rattle.mt_arena.specs.Nodes.{HasChild, HasRange, IsChild, IsNeighbour, seat_of}
+use Rattle.mt_arena.specs.NodeView.{NodeView, node_at}
+use Rattle.mt_arena.specs.Nodes.{HasChild, HasRange, IsChild, IsNamed, IsNeighbour, seat_of}
 use Rattle.mt_arena.specs.Ranges.{Waits}
 use Rattle.mt_arena.specs.Settled.{IsSettled}
 use Rattle.mt_arena.specs.Lags.{IsFollowedBy}

@@ -1,5 +1,5 @@
 -- A tree of which an operation takes a border node out.
-use Rattle.std.specs.Prelude.{◌≡◌, ◌≢◌, ℕ, ◌<◌, false, length, None}
+use Rattle.std.specs.Prelude.{◌≡◌, ◌≢◌, ℕ, ◌<◌, false, length, Some, None}
 use Rattle.mt_version.specs.Changes.{CanUnlock}
 use Rattle.mt_arena.specs.Lags.{IsFollowedBy}
 use Rattle.mt_arena.specs.Arena.{ArenaView}

@@ -33,9 +33,9 @@ pub fn entry_of(rt: &impl Abort, alloc: Global, key: &StoredKey) -> Result<Entry
     ensures stable { IfOk result (λ entry. IsStablePair entry.held) }
 {
     suffix_fits_mark();
-    assert!(rt; key.as_bytes().len() > 0);
     let row = row_of(rt, alloc, b"v")?;
     let suffix = Suffix::new(Vec::from_slice(alloc, key.suffix(0))?);
+    assert!(rt; key.as_bytes().len() > 0);
     Ok(Entry {
         slice: key.slice(0),
         mark: key.mark(0),
@@ -107,53 +107,26 @@ fn stamp_of(arena: &Arena, key: &StoredKey) -> Option<u64>
     }
 }
 
-// Puts the pair of a key in, gives it another row, and takes it out; tells the stamps that were seen.
-fn come_and_go(arena: &mut Arena, key: &StoredKey, entry: Entry, row: Row) -> [Option<u64>; 3]
-    requires arena { arena.old ≡ of_nodes (held_root ∷ []) }
-    requires entry { IsEntry entry }
-    requires has { HasKey [] 0 entry key.now }
-    requires stable { IsStablePair entry.held }
-    ensures { arena.new ≡ holding [] }
-{
-    put(arena, key, entry);
-    let first = stamp_of(arena, key);
-    let _ = replace(arena, key, row);
-    let second = stamp_of(arena, key);
-    let _ = drop_out(arena, key);
-    [first, second, stamp_of(arena, key)]
-}
-
-// A key comes, changes and goes.
-fn change_a_key(
-    rt: &impl Abort,
-    alloc: Global,
-    arena: &mut Arena,
-    key: &StoredKey,
-) -> Result<[Option<u64>; 3], AllocError>
-    requires { arena.old ≡ of_nodes (held_root ∷ []) }
-    ensures { OnOk result (arena.new ≡ holding []) }
-{
-    let entry = entry_of(rt, alloc, key)?;
-    let row = row_of(rt, alloc, b"w")?;
-    Ok(come_and_go(arena, key, entry, row))
-}
-
-// A key comes, changes and goes, and the lock of the root is given back.
-fn keep_no_key(rt: &impl Abort, alloc: Global, arena: &mut Arena) -> Result<(), Fail>
-    requires { arena.old ≡ of_nodes (held_root ∷ []) }
-{
-    let key = StoredKey::new(alloc, 7, b"k")?;
-    let stamps = change_a_key(rt, alloc, arena, &key)?;
-    give_back(arena);
-    assert!(rt; stamps == [Some(6), Some(8), None] && arena.node(0).version().inserts() == 1);
-    Ok(())
-}
-
 #[test]
 fn a_key_is_put_in_changed_and_taken_out(rt: HostRuntime) -> Result<(), Fail> {
     let alloc = rt.alloc();
+    let key = StoredKey::new(alloc, 7, b"k")?;
+    let entry = entry_of(&rt, alloc, &key)?;
+    let row = row_of(&rt, alloc, b"w")?;
     let mut arena = held_arena(alloc)?;
-    keep_no_key(&rt, alloc, &mut arena)
+    assert_eq!(rt; stamp_of(&arena, &key), None);
+    put(&mut arena, &key, entry);
+    assert_eq!(rt; stamp_of(&arena, &key), Some(6));
+    let old = replace(&mut arena, &key, row);
+    assert_eq!(rt; old.columns().len(), 1);
+    assert_eq!(rt; stamp_of(&arena, &key), Some(8));
+    let entry = drop_out(&mut arena, &key);
+    assert_eq!(rt; entry.slice, 0x0000_0007_6b00_0000);
+    assert_eq!(rt; stamp_of(&arena, &key), None);
+    assert!(rt; arena.node(0).version().is_inserting());
+    give_back(&mut arena);
+    assert_eq!(rt; arena.node(0).version().inserts(), 1);
+    Ok(())
 }
 
 // A tree of the second layer, which operation 5 begins to make.
@@ -166,34 +139,18 @@ fn second_tree(arena: &mut Arena, prefix: Prefix) -> Result<usize, AllocError>
     arena.new_tree(prefix, 5)
 }
 
-// Whether operation 5 is making the second of two trees, whose root is the second of two nodes.
-fn is_being_made(arena: &Arena) -> bool
-    requires trees { length arena.now.trees ≡ 2 }
-    requires nodes { length arena.now.nodes ≡ 2 }
-{
-    let (top, tree) = (arena.tree(0), arena.tree(1));
-    top.standing == Standing::Live
-        && tree.standing == Standing::Made { by: 5 }
-        && tree.root == 1
-        && tree.prefix.as_bytes().len() == 8
-        && arena.node(1).version().is_root()
-}
-
-// Begins to make a tree below a prefix of eight bytes.
-fn begin_tree(rt: &impl Abort, alloc: Global, arena: &mut Arena) -> Result<(), AllocError>
-    requires { arena.old ≡ of_nodes (held_root ∷ []) }
-{
-    let prefix = Vec::from_slice(alloc, b"pppppppp")?;
-    assert!(rt; prefix.len() == 8);
-    let tree = second_tree(arena, Prefix::new(prefix))?;
-    assert!(rt; tree == 1 && is_being_made(arena));
-    Ok(())
-}
-
 #[test]
 fn a_new_tree_is_being_made(rt: HostRuntime) -> Result<(), Fail> {
     let alloc = rt.alloc();
     let mut arena = held_arena(alloc)?;
-    begin_tree(&rt, alloc, &mut arena)?;
+    assert!(rt; arena.tree(0).standing == Standing::Live);
+    let prefix = Vec::from_slice(alloc, b"pppppppp")?;
+    assert_eq!(rt; prefix.len(), 8);
+    let tree = second_tree(&mut arena, Prefix::new(prefix))?;
+    assert_eq!(rt; tree, 1);
+    assert_eq!(rt; arena.tree(1).root, 1);
+    assert!(rt; arena.tree(1).standing == Standing::Made { by: 5 });
+    assert_eq!(rt; arena.tree(1).prefix.as_bytes().len(), 8);
+    assert!(rt; arena.node(1).version().is_root());
     Ok(())
 }

@@ -1,4 +1,4 @@
-//! Tests of `mt_arena`: its calls, put together to whole operations whose conditions are proved.
+//! Tests of `mt_arena`: its calls once on their happy path.
 //!
 //! They stand in a crate of their own, since a crate with tests is proved twice.
 #![tactic(auto)]

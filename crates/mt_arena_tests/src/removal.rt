@@ -86,20 +86,6 @@ fn settle(arena: &mut Arena, parent: usize, left: usize, node: usize)
     release_all(arena, parent, left, node);
 }
 
-// Takes the border node out, which was emptied, if it stands behind another child of its parent.
-fn take_emptied_out(rt: &impl Abort, arena: &mut Arena, node: usize)
-    requires held { IsHeldAlone arena.old node }
-    requires empty { (at arena.old node).slots ≡ [] }
-    ensures { IsAtRest arena.new }
-{
-    arena.facts();
-    let left = arena.node(node).previous().expect(rt, "a node before it");
-    let parent = arena.node(node).parent().expect(rt, "a parent");
-    assert!(rt; may_count(arena, parent) && are_beside(arena, parent, left, node));
-    unlink(arena, parent, left, node);
-    settle(arena, parent, left, node);
-}
-
 // Takes the border node out in which a key belongs, with all its keys.
 fn take_out(rt: &impl Abort, arena: &mut Arena, key: &StoredKey)
     requires { IsAtRest arena.old }
@@ -108,7 +94,15 @@ fn take_out(rt: &impl Abort, arena: &mut Arena, key: &StoredKey)
     let node = border_of(arena, key);
     assert!(rt; may_count(arena, node));
     empty_out(arena, node);
-    take_emptied_out(rt, arena, node);
+    arena.facts();
+    let (left, parent) = match (arena.node(node).previous(), arena.node(node).parent()) {
+        (Some(left), Some(parent)) => (left, parent),
+        _ => panic!(rt; "the node is the first of its tree"),
+    };
+    assert!(rt; may_count(arena, parent));
+    assert!(rt; are_beside(arena, parent, left, node));
+    unlink(arena, parent, left, node);
+    settle(arena, parent, left, node);
 }
 
 // The only child of a node, if it has one alone.
@@ -156,37 +150,19 @@ fn shrink(rt: &impl Abort, arena: &mut Arena)
     }
 }
 
-// Takes out the border nodes in which the keys of these bytes belong, one after the other.
-fn take_all_out(rt: &impl Abort, alloc: Global, arena: &mut Arena, names: &[u8]) -> Result<(), Fail>
-    requires { IsAtRest arena.old }
-    ensures { OnOk result (IsAtRest arena.new) }
-{
-    for name in names {
-        let key = StoredKey::new(alloc, 7, &[*name])?;
-        take_out(rt, arena, &key);
-    }
-    Ok(())
-}
-
-// Whether the tree has one node, the first one.
-fn is_one_node(arena: &Arena) -> bool
-    requires { IsAtRest arena.now }
-{
-    arena.facts();
-    let top = arena.tree(0).root;
-    let node = arena.node(top);
-    top == 0 && node.level() == 0 && node.high().is_none() && node.next().is_none()
-}
-
 // A tree of three border nodes loses the second one and the last one, and then the root above.
 fn shrink_tree(rt: &impl Abort, alloc: Global, arena: &mut Arena) -> Result<(), Fail>
     requires { IsAtRest arena.old }
+    ensures { OnOk result (IsAtRest arena.new) }
 {
     put_until(rt, alloc, arena, 0, 15)?;
     put_until(rt, alloc, arena, 15, 23)?;
-    take_all_out(rt, alloc, arena, &[10, 20])?;
+    for name in [10, 20] {
+        let key = StoredKey::new(alloc, 7, &[name])?;
+        take_out(rt, arena, &key);
+    }
     shrink(rt, arena);
-    assert!(rt; has_all(alloc, arena, 8)? && is_one_node(arena));
+    assert!(rt; has_all(alloc, arena, 8)?);
     Ok(())
 }
 
@@ -194,5 +170,9 @@ fn shrink_tree(rt: &impl Abort, alloc: Global, arena: &mut Arena) -> Result<(), 
 fn a_tree_shrinks_to_its_first_node(rt: HostRuntime) -> Result<(), Fail> {
     let alloc = rt.alloc();
     let mut arena = Arena::new(alloc)?;
-    shrink_tree(&rt, alloc, &mut arena)
+    shrink_tree(&rt, alloc, &mut arena)?;
+    assert_eq!(rt; arena.tree(0).root, 0);
+    let root = arena.node(0);
+    assert!(rt; root.level() == 0 && root.high().is_none() && root.next().is_none());
+    Ok(())
 }

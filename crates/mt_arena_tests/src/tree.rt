@@ -237,18 +237,6 @@ fn join(
     panic!(rt; "the tree is too high")
 }
 
-// The border node in which a missing key belongs, which may count.
-fn place_for(rt: &impl Abort, arena: &Arena, key: &StoredKey) -> usize
-    requires { IsAtRest arena.now }
-    ensures belongs { BelongsIn arena.now.nodes arena.now.trees key.now 0 result }
-    ensures missing { IsMissing (at arena.now result).slots (slice_of key.now 0) (mark_of key.now 0) }
-    ensures count { MayCount (at arena.now result).version }
-{
-    let node = border_of(arena, key);
-    assert!(rt; misses(arena, node, key) && may_count(arena, node));
-    node
-}
-
 // Puts in the pair of a missing key, and splits what is full.
 fn put(rt: &impl Abort, arena: &mut Arena, key: &StoredKey, entry: Entry) -> Result<(), AllocError>
     requires rest { IsAtRest arena.old }
@@ -257,7 +245,9 @@ fn put(rt: &impl Abort, arena: &mut Arena, key: &StoredKey, entry: Entry) -> Res
     requires stable { IsStablePair entry.held }
     ensures { OnOk result (IsAtRest arena.new) }
 {
-    let node = place_for(rt, arena, key);
+    let node = border_of(arena, key);
+    assert!(rt; misses(arena, node, key));
+    assert!(rt; may_count(arena, node));
     if !arena.border(node).is_full() {
         publish(arena, node, key, entry);
         return Ok(());
@@ -272,9 +262,11 @@ fn put_aside(rt: &impl Abort, arena: &mut Arena, key: &StoredKey) -> Result<(), 
     requires rest { IsAtRest arena.old }
     ensures { OnOk result (IsAtRest arena.new) }
 {
-    let node = place_for(rt, arena, key);
-    let border = arena.border(node);
-    assert!(rt; border.is_full() && border.next().is_none());
+    let node = border_of(arena, key);
+    assert!(rt; misses(arena, node, key));
+    assert!(rt; may_count(arena, node));
+    assert!(rt; arena.border(node).is_full());
+    assert!(rt; arena.border(node).next().is_none());
     let half = split_without(arena, node, key)?;
     join(rt, arena, node, half)
 }
@@ -349,15 +341,15 @@ fn grow_tree(rt: &impl Abort, alloc: Global, arena: &mut Arena) -> Result<(), Fa
 {
     put_until(rt, alloc, arena, 0, 15)?;
     put_until(rt, alloc, arena, 15, 23)?;
-    put_until(rt, alloc, arena, 23, 151)?;
-    arena.facts();
-    assert!(rt; arena.node(arena.tree(0).root).level() == 2);
-    Ok(())
+    put_until(rt, alloc, arena, 23, 151)
 }
 
 #[test]
 fn a_tree_grows_to_three_levels(rt: HostRuntime) -> Result<(), Fail> {
     let alloc = rt.alloc();
     let mut arena = Arena::new(alloc)?;
-    grow_tree(&rt, alloc, &mut arena)
+    grow_tree(&rt, alloc, &mut arena)?;
+    let top = arena.tree(0).root;
+    assert_eq!(rt; arena.node(top).level(), 2);
+    Ok(())
 }

@@ -10,8 +10,7 @@ use Rattle.mt_session.specs.declared.ended.Ended.TheVariants as ends
 use Rattle.mt_session.specs.declared.ended.ServeFault.{ServeFault}
 use Rattle.mt_session.specs.declared.ended.ServeFault.TheVariants as faults
 use Rattle.mt_session.specs.Exchanges.{Exchange}
-use Rattle.mt_session.specs.Sessions.{CallerRelation, IsReply, IsStuck, AreReplies, Transcript}
-use Rattle.mt_session.specs.Endings.{AtMostOne, EndsAs, Serves}
+use Rattle.mt_session.specs.Sessions.{CallerRelation, IsReply, IsStuck, AreReplies, Transcript, AtMostOne, EndsAs, Serves}
 
 -- each exchange of one caller, from state to state, is one of the other between their views
 module _ {S T : Type 0} (exchanges : CallerRelation S) (other : CallerRelation T) (view : S → T) (along : (s : S) (e : Exchange) (t : S) → exchanges s e t → other (view s) e (view t)) where

@@ -6,8 +6,7 @@ use Rattle.mt_wire.specs.Replies.{reply_spelling}
 use Rattle.mt_session.specs.declared.ended.ServeFault.TheVariants as faults
 use Rattle.mt_session.specs.declared.turns.Turn.{Turn}
 use Rattle.mt_session.specs.declared.turns.Turn.TheVariants.{Answered, Pauses, Waits, Bad, Memory}
-use Rattle.mt_session.specs.Sessions.{CallerRelation, Transcript}
-use Rattle.mt_session.specs.Endings.{IsBeginning, bad_frame_reply}
+use Rattle.mt_session.specs.Sessions.{CallerRelation, Transcript, IsBeginning, bad_frame_reply}
 use Rattle.mt_session.specs.Turns.{AnswersFront, IsRound, IsWritten}
 use Rattle.mt_session.proofs.KnownBytes.{Appends-trans}
 use Rattle.mt_session.proofs.Transcripts.{transcript_none, transcript_one, transcript_then}

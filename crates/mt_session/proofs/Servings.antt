@@ -7,8 +7,7 @@ use Rattle.mt_wire.specs.Fronts.{IsPartial, IsBad}
 use Rattle.mt_session.specs.declared.ended.Ended.TheVariants as ends
 use Rattle.mt_session.specs.declared.ended.ServeFault.{ServeFault}
 use Rattle.mt_session.specs.declared.ended.ServeFault.TheVariants as faults
-use Rattle.mt_session.specs.Sessions.{CallerRelation, Transcript}
-use Rattle.mt_session.specs.Endings.{AtMostOne, IsBeginning, bad_frame_reply, Serves}
+use Rattle.mt_session.specs.Sessions.{CallerRelation, Transcript, AtMostOne, IsBeginning, bad_frame_reply, Serves}
 use Rattle.mt_session.specs.Turns.{IsPart}
 use Rattle.mt_session.proofs.KnownBytes.{Consumes-nil, Consumes-trans, Consumes-kept, Appends-nil, Appends-trans}
 use Rattle.mt_session.proofs.Transcripts.{transcript_none, transcript_more, transcript_then}

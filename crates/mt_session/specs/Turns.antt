@@ -11,8 +11,7 @@ use Rattle.mt_session.specs.declared.ended.ServeFault.{ServeFault}
 use Rattle.mt_session.specs.declared.ended.ServeFault.TheVariants as faults
 use Rattle.mt_session.specs.declared.turns.Turn.{Turn}
 use Rattle.mt_session.specs.declared.turns.Turn.TheVariants.{Answered, Pauses, Waits, Bad, Memory}
-use Rattle.mt_session.specs.Sessions.{CallerRelation, IsReply, Transcript}
-use Rattle.mt_session.specs.Endings.{AtMostOne, IsBeginning, bad_frame_reply}
+use Rattle.mt_session.specs.Sessions.{CallerRelation, IsReply, Transcript, AtMostOne, IsBeginning, bad_frame_reply}
 
 -- the request at the front of the input was answered, and its reply put behind the output
 pub record AnswersFront {S : Type 0} (exchanges : CallerRelation S) (input : Bytes) (opened : Bool) (s : S) (out : Bytes) (rest : Bytes) (o : Bool) (t : S) (new : Bytes) : Type 0 where

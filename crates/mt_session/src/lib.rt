@@ -1,7 +1,7 @@
 //! Sessions: what a connection is told for what it asks.
 //!
-//! `specs/Sessions.antt` and `specs/Endings.antt` say what a session writes for the bytes that it reads,
-//! however they come, over any caller; `serve` does it.
+//! `specs/Sessions.antt` says what a session writes for the bytes that it reads, however they come,
+//! over any caller; `serve` does it.
 #![tactic(auto)]
 
 pub mod buffers;

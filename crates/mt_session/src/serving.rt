@@ -1,7 +1,7 @@
 //! A whole session.
 
 ghost use Rattle.mt_session.specs.Failures.{Failed};
-ghost use Rattle.mt_session.specs.Endings.{Serves};
+ghost use Rattle.mt_session.specs.Sessions.{Serves};
 
 use crate::buffers::{INPUT_BYTES, read_more};
 use crate::caller::Caller;

@@ -1,4 +1,4 @@
-use Rattle.std.proofs.Common.{sym, ap, ◌∙◌}
+use Rattle.std.proofs.Common.{◌≡◌, Some, None, sym, ap, ◌∙◌}
 use Rattle.mt_arena.specs.NodeView.{NodeView}
 use Rattle.mt_arena_tests.proofs.TreeTakenOut.{ready_last, ready_told, behind_border}
 use Rattle.mt_arena_tests.proofs.removal.settle.Goals.{in-Some, in_default}
