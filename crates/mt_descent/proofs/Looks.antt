@@ -28,9 +28,9 @@ use Rattle.mt_arena.specs.Ways.{BelongsIn, StandsFor}
 use Rattle.mt_arena.proofs.Homes.{begun}
 use Rattle.mt_arena.proofs.Owners.{none_elsewhere, none_beside}
 use Rattle.mt_arena.proofs.Down.{goes_on}
-use Rattle.mt_descent.specs.declared.walk.Walk.{Walk}
-use Rattle.mt_descent.specs.declared.walk.Taken.{Taken}
-use Rattle.mt_descent.specs.declared.walk.Taken.TheVariants as takens
+use Rattle.mt_operation.specs.declared.walk.Walk.{Walk}
+use Rattle.mt_operation.specs.declared.walk.Taken.{Taken}
+use Rattle.mt_operation.specs.declared.walk.Taken.TheVariants as takens
 use Rattle.mt_descent.specs.Seen.{RangeStands, Stands}
 use Rattle.mt_descent.specs.Pasts.{Past, IsNow, AreStamped}
 use Rattle.mt_descent.specs.Kept.{GoesThrough, IsAtBorder, IsInSlot, IsAtLoad, Had, IsKept}

@@ -20,11 +20,11 @@ use Rattle.mt_arena.specs.Layers.{slot_at}
 use Rattle.mt_arena.specs.Arena.{ArenaView}
 use Rattle.mt_arena.specs.Accesses.{at}
 use Rattle.mt_arena.specs.Guarantee.{NodesGuarantee, Changes, TreeChanges, HasSameKeys}
-use Rattle.mt_descent.specs.declared.walk.Phase.{Phase}
-use Rattle.mt_descent.specs.declared.walk.Phase.TheVariants.{Enter, Pick, Child, Verify, Search, Load, Confirm, Forward, Lock, Judge, Done}
-use Rattle.mt_descent.specs.declared.walk.Taken.{Taken}
-use Rattle.mt_descent.specs.declared.walk.Taken.TheVariants.{Missing, Row, Link, Nothing}
-use Rattle.mt_descent.specs.declared.walk.Walk.{Walk}
+use Rattle.mt_operation.specs.declared.walk.Phase.{Phase}
+use Rattle.mt_operation.specs.declared.walk.Phase.TheVariants.{Enter, Pick, Child, Verify, Search, Load, Confirm, Forward, Lock, Judge, Store, Publish, Unlock, Done}
+use Rattle.mt_operation.specs.declared.walk.Taken.{Taken}
+use Rattle.mt_operation.specs.declared.walk.Taken.TheVariants.{Missing, Row, Link, Nothing}
+use Rattle.mt_operation.specs.declared.walk.Walk.{Walk}
 use Rattle.mt_descent.specs.Seen.{RangeStands, Stands, WasSeen, IsRemembered, Covers, child_for, IsPicked, HasNext}
 use Rattle.mt_descent.specs.Pasts.{Past, ExtendsPast}
 use Rattle.mt_descent.specs.Kept.{GoesThrough, slice_in, IsAtPick, IsAtBorder, IsInSlot, HasSlot, Had, TakenHolds, TakenWasRight, IsAtJudge, KeptAt}
@@ -211,6 +211,9 @@ module _ (op : ℕ) (old new : ArenaView) (e : NodesGuarantee op old.nodes new.n
   }
   kept_stays before after key row w Lock g h = border_stays key w h
   kept_stays before after key row w Judge g h = tt
+  kept_stays before after key row w Store g h = tt
+  kept_stays before after key row w Publish g h = tt
+  kept_stays before after key row w Unlock g h = tt
   kept_stays before after key row w Done g h = answered_stays before after key row w w.taken g h
 
   -- what the holder of a border node keeps, no other operation changes

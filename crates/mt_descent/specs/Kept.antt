@@ -15,11 +15,11 @@ use Rattle.mt_arena.specs.Forests.{tree_at}
 use Rattle.mt_arena.specs.Layers.{slot_at}
 use Rattle.mt_arena.specs.Arena.{ArenaView}
 use Rattle.mt_arena.specs.Accesses.{at, IsHeld}
-use Rattle.mt_descent.specs.declared.walk.Phase.{Phase}
-use Rattle.mt_descent.specs.declared.walk.Phase.TheVariants.{Enter, Pick, Child, Verify, Search, Load, Confirm, Forward, Lock, Judge, Done}
-use Rattle.mt_descent.specs.declared.walk.Taken.{Taken}
-use Rattle.mt_descent.specs.declared.walk.Taken.TheVariants.{Missing, Row, Link, Nothing}
-use Rattle.mt_descent.specs.declared.walk.Walk.{Walk}
+use Rattle.mt_operation.specs.declared.walk.Phase.{Phase}
+use Rattle.mt_operation.specs.declared.walk.Phase.TheVariants.{Enter, Pick, Child, Verify, Search, Load, Confirm, Forward, Lock, Judge, Store, Publish, Unlock, Done}
+use Rattle.mt_operation.specs.declared.walk.Taken.{Taken}
+use Rattle.mt_operation.specs.declared.walk.Taken.TheVariants.{Missing, Row, Link, Nothing}
+use Rattle.mt_operation.specs.declared.walk.Walk.{Walk}
 use Rattle.mt_descent.specs.Seen.{RangeStands, Stands, WasSeen, IsRemembered, Covers, IsPicked, HasNext}
 use Rattle.mt_descent.specs.Pasts.{Past}
 
@@ -122,7 +122,8 @@ pub record IsAtJudge (v : ArenaView) (op : ℕ) (key : Bytes) (w : Walk) : Type 
   pub still : IsStable (at v w.place.node).version
   pub stands : RangeStands (at v w.place.node) w.place.seen
 
--- what is kept at a phase; `IsAtJudge` stands for itself, since it names the operation
+-- What is kept at a phase of an operation that holds nothing. What is kept at the others stands elsewhere, since it names the operation: at Judge
+-- it is `IsAtJudge`.
 abbrev pub KeptAt : Phase → ArenaView → Past → Bytes → Option Columns → Walk → Type 0
 KeptAt Enter v past key row w = IsAtEnter v key w
 KeptAt Pick v past key row w = IsAtPick v key w
@@ -134,6 +135,9 @@ KeptAt Confirm v past key row w = IsAtConfirm v past key row w
 KeptAt Forward v past key row w = IsAtForward v key w
 KeptAt Lock v past key row w = IsAtBorder v key w
 KeptAt Judge v past key row w = Unit {0}
+KeptAt Store v past key row w = Unit {0}
+KeptAt Publish v past key row w = Unit {0}
+KeptAt Unlock v past key row w = Unit {0}
 KeptAt Done v past key row w = TakenWasRight past key row w w.taken
 
 -- what is kept of a walk by its next phase

@@ -1,6 +1,6 @@
 -- Where each phase leads: who is in its way, and what a walk is after it.
-use Rattle.std.specs.Prelude.{◌≡◌, ◌+◌, ◌<◌, ℕ, max, Bool, true, false, length, if◌then◌else◌, nat_le, Option, Some, None}
-use Rattle.mt_version.specs.Parts.{Parts, fresh_parts}
+use Rattle.std.specs.Prelude.{◌≡◌, ◌+◌, ◌<◌, ℕ, max, Bool, length, if◌then◌else◌, nat_le, Option, Some, None}
+use Rattle.mt_version.specs.Parts.{Parts}
 use Rattle.mt_version.specs.Changes.{IsMarked, IsStable, SameButLock}
 use Rattle.mt_slices.specs.Slices.{slice_of, mark_of}
 use Rattle.mt_rows.specs.Rows.{Bytes, Columns}
@@ -18,11 +18,11 @@ use Rattle.mt_arena.specs.Layers.{slot_at}
 use Rattle.mt_arena.specs.Edits.{locked}
 use Rattle.mt_arena.specs.Arena.{ArenaView}
 use Rattle.mt_arena.specs.Accesses.{at, with_node}
-use Rattle.mt_descent.specs.declared.walk.Phase.{Phase}
-use Rattle.mt_descent.specs.declared.walk.Phase.TheVariants.{Enter, Pick, Child, Verify, Search, Load, Confirm, Forward, Lock, Judge, Done}
-use Rattle.mt_descent.specs.declared.walk.Taken.{Taken}
-use Rattle.mt_descent.specs.declared.walk.Taken.TheVariants.{Missing, Row, Link, Nothing}
-use Rattle.mt_descent.specs.declared.walk.Walk.{Walk}
+use Rattle.mt_operation.specs.declared.walk.Phase.{Phase}
+use Rattle.mt_operation.specs.declared.walk.Phase.TheVariants.{Enter, Pick, Child, Verify, Search, Load, Confirm, Forward, Lock, Judge, Done}
+use Rattle.mt_operation.specs.declared.walk.Taken.{Taken}
+use Rattle.mt_operation.specs.declared.walk.Taken.TheVariants.{Missing, Row, Link, Nothing}
+use Rattle.mt_operation.specs.declared.walk.Walk.{Walk}
 use Rattle.mt_descent.specs.Seen.{IsOutdated}
 use Rattle.mt_descent.specs.Kept.{IsInSlot}
 
@@ -46,22 +46,6 @@ pub record IsBlockedAt (n : NodeView) (slot holder : ℕ) : Type 0 where
 pub record Continues (before after : Walk) : Type 0 where
   pub writes : after.writes ≡ before.writes
   pub first : after.first ≡ before.first
-
--- a walk that begins: at the top tree, with nothing seen
-abbrev pub walk_from_top : Bool → ℕ → Walk
-walk_from_top writes first = record {
-  phase = Enter;
-  writes = writes;
-  first = first;
-  layer = 0;
-  place = record { tree = 0; node = 0; seen = fresh_parts false true };
-  child = 0;
-  child_seen = fresh_parts false true;
-  next = None;
-  slot = 0;
-  taken = Missing;
-  right_at = 0;
-}
 
 -- what comes next at a border node: a get looks, others lock
 abbrev pub arrival : Bool → Phase

@@ -7,10 +7,10 @@ ghost use Rattle.mt_arena.specs.Arena.{ArenaView, IsArena};
 ghost use Rattle.mt_arena.specs.Ways.{BelongsIn};
 ghost use Rattle.mt_arena.specs.Accesses.{at, IsOpen};
 ghost use Rattle.mt_arena.specs.Guarantee.{NodesGuarantee};
-ghost use Rattle.mt_descent.specs.declared.walk.Walk.{Walk};
+ghost use Rattle.mt_operation.specs.declared.walk.Walk.{Walk};
 ghost use Rattle.mt_descent.specs.Pasts.{Past, ExtendsPast};
 ghost use Rattle.mt_descent.specs.Kept.{HoldsNothing, IsAtJudge, IsKept};
-ghost use Rattle.mt_descent.specs.Moves.{walk_from_top};
+ghost use Rattle.mt_operation.specs.Walks.{walk_from_top};
 
 /// A stored key may be looked for from the top tree on.
 pub fn walks_begin()

@@ -19,10 +19,10 @@ ghost use Rattle.mt_descent.specs.Pasts.{Past, IsNow, AreStamped};
 ghost use Rattle.mt_descent.specs.Kept.{slice_in, HoldsNothing, IsKept, IsAtEnter, IsAtPick, IsAtChild, IsAtVerify, IsAtBorder, IsAtLoad, IsAtConfirm, IsAtForward, IsAtJudge};
 ghost use Rattle.mt_descent.specs.Moves.{IsBlocked, AnswersAgain, IsBlockedAt, Continues, arrival, walk_onto, walk_into, walk_here, after_enter, after_pick, after_child, after_search, after_load, after_confirm, after_change, after_forward, FindsIn, Loads, Verifies, Confirms, Locks};
 
-use crate::walk::{Phase, Taken, Walk};
 use mt_arena::{Arena, Node, Standing};
 use mt_border::laws::suffix_fits_mark;
 use mt_border::{Find, FoundKind, Held};
+use mt_operation::{Phase, Taken, Walk};
 use mt_rows::Row;
 use mt_slices::StoredKey;
 use mt_version::Version;

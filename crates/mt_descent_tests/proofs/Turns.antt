@@ -3,9 +3,9 @@ use Rattle.std.proofs.Common.{◌≡◌, ℕ, false, Option, Some, None, sym, su
 use Rattle.std.specs.Prelude.{is_some, IfNone}
 use Rattle.mt_rows.specs.Rows.{Bytes, Columns}
 use Rattle.mt_arena.specs.Arena.{ArenaView}
-use Rattle.mt_descent.specs.declared.walk.Phase.{Phase}
-use Rattle.mt_descent.specs.declared.walk.Phase.TheVariants.{Confirm, Forward}
-use Rattle.mt_descent.specs.declared.walk.Walk.{Walk}
+use Rattle.mt_operation.specs.declared.walk.Phase.{Phase}
+use Rattle.mt_operation.specs.declared.walk.Phase.TheVariants.{Confirm, Forward}
+use Rattle.mt_operation.specs.declared.walk.Walk.{Walk}
 use Rattle.mt_descent.specs.Pasts.{Past}
 use Rattle.mt_descent.specs.Kept.{KeptAt, IsKept, IsAtConfirm}
 

@@ -11,7 +11,8 @@ ghost use Rattle.mt_descent_tests.specs.Still.{still};
 
 use mt_arena::Arena;
 use mt_descent::laws::walks_begin;
-use mt_descent::{Phase, Taken, Walk, child, confirm, enter, forward, load, pick, search, verify};
+use mt_descent::{child, confirm, enter, forward, load, pick, search, verify};
+use mt_operation::{Phase, Taken, Walk};
 use mt_rows::Row;
 use mt_slices::StoredKey;
 

@@ -1,0 +1,4 @@
+pub mod Names
+pub mod Walks
+pub mod Tasks
+pub mod Operations

@@ -1,0 +1,55 @@
+-- An operation between its steps: what is shown of it, and what each change makes of it.
+use Rattle.std.specs.Prelude.{ℕ, Bool, true, false, not, ◌&&◌, ◌==◌, if◌then◌else◌, Option, None}
+use Rattle.mt_rows.specs.declared.command.Command.{Command}
+use Rattle.mt_rows.specs.Maps.{is_get}
+use Rattle.mt_operation.specs.declared.walk.Phase.{Phase}
+use Rattle.mt_operation.specs.declared.walk.Phase.TheVariants.{Done}
+use Rattle.mt_operation.specs.declared.walk.Walk.{Walk}
+use Rattle.mt_operation.specs.declared.task.Task.{Task}
+use Rattle.mt_operation.specs.declared.outcome.Outcome.{Outcome}
+use Rattle.mt_operation.specs.declared.operation.Operation.{Operation}
+use Rattle.mt_operation.specs.Tasks.{ask}
+use Rattle.mt_operation.specs.Walks.{walk_from_top}
+
+-- what is shown of an operation: whose command it is, the numbers of its first and last step so far, 0 where it has made none, what its next step
+-- does, and what it answers, once that is known
+pub record OperationView : Type 0 where
+  pub worker : ℕ
+  pub tenant : ℕ
+  pub command : Command
+  pub first : ℕ
+  pub last : ℕ
+  pub phase : Phase
+  pub outcome : Option Outcome
+
+abbrev pub view_of : Operation → OperationView
+view_of op = record {
+  worker = op.task.worker;
+  tenant = op.task.tenant;
+  command = ask op.task;
+  first = op.walk.first;
+  last = op.last;
+  phase = op.walk.phase;
+  outcome = op.outcome;
+}
+
+-- no step is left at this phase
+abbrev pub is_done : Phase → Bool
+is_done Done = true
+is_done _ = false
+
+-- an operation with a step left
+abbrev pub is_unfinished : Operation → Bool
+is_unfinished op = not (is_done op.walk.phase)
+
+-- a put with a step left
+abbrev pub is_open_put : Operation → Bool
+is_open_put op = not (is_get (ask op.task)) && is_unfinished op
+
+-- an operation before its first step
+abbrev pub begun : Task → Operation
+begun task = record { task = task; walk = walk_from_top (not (is_get (ask task))) 0; last = 0; outcome = None; prepared = None }
+
+-- an operation that has made the step of this number, which is its first where it had made none, and walks on so
+abbrev pub moved : Operation → ℕ → Walk → Operation
+moved op step walk = record op { walk = record walk { first = if op.walk.first == 0 then step else op.walk.first }; last = step }
