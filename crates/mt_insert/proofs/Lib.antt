@@ -1,0 +1,4 @@
+pub mod Rely
+pub mod Looks
+pub mod Places
+pub mod Puts

@@ -1,0 +1,102 @@
+-- What a put finds in the border node that it holds, and what it makes ready of that: for `judge`.
+use Rattle.std.proofs.Common.{◌≡◌, ℕ, ◌+◌, ◌*◌, ◌<◌, ◌≤◌, Bool, true, false, List, length, Option, Some, None, refl, sym, ap, subst, ◌∙◌, arith}
+use Rattle.std.specs.Prelude.{IsSomeAnd, IfSome, IfNone, if◌then◌else◌}
+use Rattle.std.specs.Option.{option_map}
+use Rattle.mt_slices.specs.Slices.{slice_of, mark_of, suffix_of}
+use Rattle.mt_rows.specs.Rows.{Bytes}
+use Rattle.mt_border.specs.declared.entry.Entry.{Entry}
+use Rattle.mt_border.specs.declared.entry.Pair.{Pair}
+use Rattle.mt_border.specs.declared.entry.Held.{Held}
+use Rattle.mt_border.specs.declared.entry.Held.TheVariants.{Stable, Unstable, Link}
+use Rattle.mt_border.specs.declared.entry.Find.TheVariants as finds
+use Rattle.mt_border.specs.declared.entry.FoundKind.TheVariants.{ThisKey}
+use Rattle.mt_border.specs.Entry.{pair_of}
+use Rattle.mt_border.specs.Entries.{IsMissing}
+use Rattle.mt_border.proofs.Edits.{any_entry}
+use Rattle.mt_border.specs.Node.{Node as BorderNode, IsFound, entries_of, entry_at}
+use Rattle.mt_arena.specs.NodeView.{NodeView}
+use Rattle.mt_arena.specs.NodeFacts.{IsUnstable}
+use Rattle.mt_arena.specs.Layers.{slot_at}
+use Rattle.mt_arena.specs.Arena.{ArenaView}
+use Rattle.mt_arena.specs.Accesses.{at}
+use Rattle.mt_operation.specs.declared.walk.Walk.{Walk}
+use Rattle.mt_operation.specs.declared.task.Task.{Task}
+use Rattle.mt_operation.specs.declared.prepared.Prepared.{Prepared}
+use Rattle.mt_operation.specs.declared.walk.Phase.TheVariants.{Forward, Judge}
+use Rattle.mt_version.specs.Parts.{Parts}
+use Rattle.mt_arena.specs.Settled.{IsSettled}
+use Rattle.mt_descent.specs.Seen.{IsOutdated}
+use Rattle.mt_descent.specs.Kept.{IsAtJudge}
+use Rattle.mt_descent.specs.Moves.{Locks, after_change, walk_anew}
+use Rattle.mt_descent.proofs.Looks.{finds_in}
+use Rattle.mt_insert.specs.Puts.{IsReady}
+use Rattle.mt_insert.specs.Kept.{HoldsBorder, IsAtStore, IsAtPublish, KeptReady}
+use Rattle.mt_insert.specs.Moves.{FitsIn, StandsIn, ReadyFor, after_judge}
+
+-- what a border node tells of the key, its view tells
+pub stands_in : (n : NodeView) (b : BorderNode) (key : Bytes) (layer : ℕ) (slot : Option ℕ) → n.slots ≡ b.slots
+    → IfSome slot (λ i. IsFound b (slice_of key layer) (mark_of key layer) (suffix_of key layer) i ThisKey) → IfNone slot (IsMissing (entries_of b) (slice_of key layer) (mark_of key layer)) → StandsIn n key layer slot
+stands_in n b key layer (Some i) same found missing = finds_in n b key layer (finds.Slot i ThisKey) same found
+stands_in n b key layer None same found missing = finds_in n b key layer finds.Missing same missing
+
+-- what is made ready over the row of a border node's slot is so over that of its view
+pub ready_over : (n : NodeView) (b : BorderNode) (task : Task) (layer slot : ℕ) (prepared : Prepared) → n.slots ≡ b.slots
+    → IsReady task (option_map (λ (p : Pair). p.row) (pair_of (entry_at b slot).held)) prepared → ReadyFor n task layer (Some slot) prepared
+ready_over n b task layer slot prepared same h pair is =
+    subst (λ (o : Option Pair). IsReady task (option_map (λ (p : Pair). p.row) o) prepared) (ap (λ (s : List Entry). pair_of (slot_at (record n { slots = s }) slot).held) (sym same) ∙ is) h
+
+-- a pair that is not unstable is stable
+stable_pair : (held : Held) (P : Pair → Type 0) → ¬ IsUnstable held → IsSomeAnd (pair_of held) P → (pair : Pair) × (held ≡ Stable pair)
+stable_pair (Stable pair) P stable some = (pair, refl)
+stable_pair (Unstable pair tree) P stable some = absurd (stable tt)
+stable_pair (Link tree) P stable some = absurd some
+
+-- what is kept where the put goes on to place its row
+pub kept_ready : (v : ArenaView) (op : ℕ) (task : Task) (prepared : Prepared) (w : Walk) (slot : Option ℕ) → HoldsBorder v op task.key w → FitsIn (at v w.place.node) task.key w.layer
+    → StandsIn (at v w.place.node) task.key w.layer slot → ReadyFor (at v w.place.node) task w.layer slot prepared → KeptReady (after_judge slot w).phase v op task prepared (after_judge slot w)
+kept_ready v op task prepared w (Some slot) h fits stands ready =
+    let n = at v w.place.node in
+    let j = h.judged in
+    let found = stable_pair (slot_at n slot).held (λ pair. pair.suffix ≡ suffix_of task.key w.layer) (h.settled.stable slot any_entry stands.in_range) stands.kind_is in
+    record {
+      holds = record {
+        judged = record { at_border = record { through = j.at_border.through; covers = j.at_border.covers; border = j.at_border.border }; held = j.held; still = j.still; stands = j.stands };
+        settled = h.settled;
+      };
+      in_slot = stands;
+      pair = found.0;
+      stable = found.1;
+      ready = ready found.0 (ap pair_of found.1);
+    }
+kept_ready v op task prepared w None h fits stands ready =
+    let j = h.judged in
+    record {
+      holds = record {
+        judged = record { at_border = record { through = j.at_border.through; covers = j.at_border.covers; border = j.at_border.border }; held = j.held; still = j.still; stands = j.stands };
+        settled = h.settled;
+      };
+      missing = stands;
+      room = fits.room stands;
+      suffix = ready.1;
+      ready = ready.0;
+    }
+
+-- a node that was deleted or split since it was remembered was not locked
+not_judging : (w : Walk) (now : Parts) (next : Option ℕ) → (after_change w now next).phase ≡ Judge → ⊥
+not_judging w now next judging = by now.deleted judging
+  where
+    by : (b : Bool) → (if b then walk_anew w else record w { place = record w.place { seen = now }; next = next; phase = Forward }).phase ≡ Judge → ⊥
+    by true e = absurd (cc)
+    by false e = absurd (cc)
+
+-- a border node that was locked is held
+pub held_here : (op : ℕ) (old new : ArenaView) (key : Bytes) (before after : Walk) → Locks op old new before after → after.phase ≡ Judge → IsAtJudge new op key after → IsSettled new.nodes before.place.node (at new before.place.node)
+    → HoldsBorder new op key after
+held_here op old new key before after l judging judged settled =
+    let n = at old before.place.node in
+    let seen = before.place.seen in
+    let judges : ¬ IsOutdated n seen → HoldsBorder new op key after = λ fresh. record {
+      judged = judged;
+      settled = subst (λ (x : Walk). IsSettled new.nodes x.place.node (at new x.place.node)) (sym (l.judges fresh)) settled;
+    } in
+    judges (λ outdated. not_judging before n.version n.next (ap (λ (x : Walk). x.phase) (sym (l.goes_on outdated)) ∙ judging))

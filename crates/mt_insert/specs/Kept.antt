@@ -1,0 +1,53 @@
+-- What is kept of a put that holds its border node, by its next phase. Each fact speaks of the node and of what was made ready.
+use Rattle.std.specs.Prelude.{◌≡◌, ℕ, ◌<◌, length, Some, None}
+use Rattle.mt_slices.specs.Slices.{slice_of, mark_of, suffix_of}
+use Rattle.mt_rows.specs.Rows.{Bytes}
+use Rattle.mt_border.specs.declared.entry.Pair.{Pair}
+use Rattle.mt_border.specs.declared.entry.Held.TheVariants.{Stable}
+use Rattle.mt_border.specs.declared.entry.FoundKind.TheVariants.{ThisKey}
+use Rattle.mt_border.specs.Entries.{IsMissing}
+use Rattle.mt_arena.specs.Layers.{slot_at}
+use Rattle.mt_arena.specs.Settled.{IsSettled}
+use Rattle.mt_arena.specs.Arena.{ArenaView}
+use Rattle.mt_arena.specs.Accesses.{at, IsHeld, IsOpen}
+use Rattle.mt_operation.specs.declared.walk.Phase.{Phase}
+use Rattle.mt_operation.specs.declared.walk.Phase.TheVariants.{Store, Publish}
+use Rattle.mt_operation.specs.declared.walk.Walk.{Walk}
+use Rattle.mt_operation.specs.declared.task.Task.{Task}
+use Rattle.mt_operation.specs.declared.prepared.Prepared.{Prepared}
+use Rattle.mt_descent.specs.Kept.{IsInSlot, IsAtJudge}
+use Rattle.mt_insert.specs.Puts.{IsReady}
+
+-- at Judge: the operation holds the border node as its lock was taken: unmarked, with the range that was seen, and nothing lags behind it
+pub record HoldsBorder (v : ArenaView) (op : ℕ) (key : Bytes) (w : Walk) : Type 0 where
+  pub judged : IsAtJudge v op key w
+  pub settled : IsSettled v.nodes w.place.node (at v w.place.node)
+
+-- at Store: the walk's slot has the key's pair, and what was made ready is the put over its row
+pub record IsAtStore (v : ArenaView) (op : ℕ) (task : Task) (prepared : Prepared) (w : Walk) : Type 0 where
+  pub holds : HoldsBorder v op task.key w
+  pub in_slot : IsInSlot (at v w.place.node) w.slot task.key w.layer ThisKey
+  pub pair : Pair
+  pub stable : (slot_at (at v w.place.node) w.slot).held ≡ Stable pair
+  pub ready : IsReady task (Some pair.row) prepared
+
+-- at Publish: the node misses the key and has room for it, and what was made ready is the put over no row
+pub record IsAtPublish (v : ArenaView) (op : ℕ) (task : Task) (prepared : Prepared) (w : Walk) : Type 0 where
+  pub holds : HoldsBorder v op task.key w
+  pub missing : IsMissing (at v w.place.node).slots (slice_of task.key w.layer) (mark_of task.key w.layer)
+  pub room : length (at v w.place.node).slots < 15
+  pub suffix : prepared.suffix ≡ suffix_of task.key w.layer
+  pub ready : IsReady task None prepared
+
+-- at the phase that places the put
+abbrev pub KeptReady : Phase → ArenaView → ℕ → Task → Prepared → Walk → Type 0
+KeptReady Store v op task prepared w = IsAtStore v op task prepared w
+KeptReady Publish v op task prepared w = IsAtPublish v op task prepared w
+KeptReady _ v op task prepared w = ⊥
+
+-- at Unlock: the operation holds the node, nobody else is making its tree, and nothing lags behind it
+pub record IsAtUnlock (v : ArenaView) (op : ℕ) (w : Walk) : Type 0 where
+  pub held : IsHeld v w.place.node op
+  pub tree_there : (at v w.place.node).tree < length v.trees
+  pub mine : IsOpen v w.place.node op
+  pub settled : IsSettled v.nodes w.place.node (at v w.place.node)

@@ -1,0 +1,72 @@
+-- Where each phase of a put that holds its border node leads, and what it leaves of contents and tape.
+use Rattle.std.specs.Prelude.{◌≡◌, ℕ, ◌+◌, ◌*◌, ◌-◌, ◌<◌, ◌≤◌, [], ◌∷◌, ◌++◌, length, Option, Some, None}
+use Rattle.mt_slices.specs.Slices.{slice_of, mark_of, suffix_of}
+use Rattle.mt_rows.specs.Rows.{Bytes, Columns}
+use Rattle.mt_border.specs.declared.entry.Entry.{Entry}
+use Rattle.mt_border.specs.declared.entry.Pair.{Pair}
+use Rattle.mt_border.specs.declared.entry.Held.TheVariants.{Stable}
+use Rattle.mt_border.specs.declared.entry.FoundKind.TheVariants.{ThisKey}
+use Rattle.mt_border.specs.Entry.{pair_of}
+use Rattle.mt_border.specs.Entries.{IsMissing}
+use Rattle.mt_tape.specs.declared.entry.Entry.{Entry as Write}
+use Rattle.mt_tape.specs.Tapes.{Kept}
+use Rattle.mt_tape.specs.Histories.{with_write}
+use Rattle.mt_arena.specs.NodeView.{NodeView}
+use Rattle.mt_arena.specs.Layers.{slot_at}
+use Rattle.mt_arena.specs.Arena.{ArenaView, content_of}
+use Rattle.mt_operation.specs.declared.walk.Phase.TheVariants.{Store, Publish, Unlock, Done}
+use Rattle.mt_operation.specs.declared.walk.Walk.{Walk}
+use Rattle.mt_operation.specs.declared.task.Task.{Task}
+use Rattle.mt_operation.specs.declared.prepared.Prepared.{Prepared}
+use Rattle.mt_descent.specs.Kept.{IsInSlot}
+use Rattle.mt_insert.specs.Puts.{IsReady, write_of}
+
+-- the key ends in this layer, and the node has it or has room for it
+pub record FitsIn (n : NodeView) (key : Bytes) (layer : ℕ) : Type 0 where
+  pub ends : length key ≤ 8 * (layer + 1)
+  pub room : IsMissing n.slots (slice_of key layer) (mark_of key layer) → length n.slots < 15
+
+-- the slot that has the key; none where the node misses it
+abbrev pub StandsIn : NodeView → Bytes → ℕ → Option ℕ → Type 0
+StandsIn n key layer (Some slot) = IsInSlot n slot key layer ThisKey
+StandsIn n key layer None = IsMissing n.slots (slice_of key layer) (mark_of key layer)
+
+-- what is made ready: the put over the row of the slot that has its key, or over no row, with what follows the key's slice
+abbrev pub ReadyFor : NodeView → Task → ℕ → Option ℕ → Prepared → Type 0
+ReadyFor n task layer (Some slot) prepared = (pair : Pair) → pair_of (slot_at n slot).held ≡ Some pair → IsReady task (Some pair.row) prepared
+ReadyFor n task layer None prepared = IsReady task None prepared × (prepared.suffix ≡ suffix_of task.key layer)
+
+-- after Judge: to store in the slot that has the key, or to publish where it is missing
+abbrev pub after_judge : Option ℕ → Walk → Walk
+after_judge (Some slot) w = record w { slot = slot; phase = Store }
+after_judge None w = record w { phase = Publish }
+
+-- after Store and Publish, and after Unlock
+abbrev pub walk_placed : Walk → Walk
+walk_placed w = record w { phase = Unlock }
+
+abbrev pub walk_done : Walk → Walk
+walk_done w = record w { phase = Done }
+
+-- the entry of a key with this row, placed by the step of this number
+abbrev pub entry_of : Bytes → ℕ → Columns → ℕ → Entry
+entry_of key layer row step = record {
+  slice = slice_of key layer;
+  mark = mark_of key layer;
+  held = Stable (record { suffix = suffix_of key layer; row = row; stamp = step });
+}
+
+-- a tape with room for one more write, one that gives a room back, and one with a write that took its room
+abbrev pub reserving : Kept → Kept
+reserving tape = record tape { reserved = tape.reserved + 1 }
+
+abbrev pub released : Kept → Kept
+released tape = record tape { reserved = tape.reserved - 1 }
+
+abbrev pub pushed : Kept → Write → Kept
+pushed tape e = record tape { entries = tape.entries ++ e ∷ []; reserved = tape.reserved - 1 }
+
+-- the step of this number places the put: its write is the one change of the contents, and the last one on the tape
+pub record Places (task : Task) (step : ℕ) (old new : ArenaView) (was is : Kept) : Type 0 where
+  pub contents : content_of new ≡ with_write (content_of old) (write_of task (content_of old) step)
+  pub tape : is ≡ pushed was (write_of task (content_of old) step)

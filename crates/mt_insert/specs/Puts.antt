@@ -1,0 +1,49 @@
+-- What a put writes: the row that it makes of the one that is there, and the write of it for the tape.
+use Rattle.std.specs.Prelude.{◌≡◌, ℕ, false, [], Option, Some}
+use Rattle.std.specs.FinMap.{get}
+use Rattle.mt_rows.specs.declared.command.Command.{Command}
+use Rattle.mt_rows.specs.declared.command.Command.TheVariants.{Put}
+use Rattle.mt_rows.specs.Rows.{Columns, columns_of}
+use Rattle.mt_rows.specs.Changes.{Named, changed}
+use Rattle.mt_rows.specs.Commands.{key_of}
+use Rattle.mt_rows.specs.Maps.{is_get}
+use Rattle.mt_rows.specs.Tenants.{Contents}
+use Rattle.mt_border.specs.Contents.{owned}
+use Rattle.mt_tape.specs.declared.entry.Entry.{Entry as Write}
+use Rattle.mt_operation.specs.declared.task.Task.{Task}
+use Rattle.mt_operation.specs.declared.prepared.Prepared.{Prepared}
+use Rattle.mt_operation.specs.Tasks.{ask}
+
+-- what a put writes; other commands write nothing
+abbrev pub change_of : Command → Named
+change_of (Put key change) = change
+change_of _ = []
+
+-- a put, whose stored key is that of its tenant and its user's key
+pub record IsPut (task : Task) : Type 0 where
+  pub put_is : is_get (ask task) ≡ false
+  pub owner : owned task.key ≡ (task.tenant, key_of (ask task))
+
+-- the row that a put makes of this one, or of none
+abbrev pub row_over : Task → Option Columns → Columns
+row_over task before = changed (change_of (ask task)) (columns_of before)
+
+-- its write over this row, or over none, by the step of this number
+abbrev pub write_over : Task → Option Columns → ℕ → Write
+write_over task before step = record {
+  step = step;
+  worker = task.worker;
+  tenant = task.tenant;
+  key = key_of (ask task);
+  before = before;
+  after = Some (row_over task before);
+}
+
+-- its write over what the contents have at its key
+abbrev pub write_of : Task → Contents → ℕ → Write
+write_of task contents step = write_over task (get contents (owned task.key)) step
+
+-- what is made ready for the step that places a put: the row that it makes of this one, or of none, and the write of it, still without its number
+pub record IsReady (task : Task) (before : Option Columns) (prepared : Prepared) : Type 0 where
+  pub row : prepared.row ≡ row_over task before
+  pub write : prepared.write ≡ write_over task before 0

@@ -1,0 +1,76 @@
+//! What is kept of a put that holds its border node stays under the steps of all others, and what it
+//! places is its command's change. Contracts alone: no code runs.
+
+ghost use Rattle.std.specs.Prelude.{◌≡◌, ◌≢◌, ◌<◌, ℕ, List, Some, None};
+ghost use Rattle.std.specs.FinMap.{get};
+ghost use Rattle.mt_rows.specs.Rows.{Bytes};
+ghost use Rattle.mt_rows.specs.Tenants.{Contents};
+ghost use Rattle.mt_border.specs.Contents.{owned};
+ghost use Rattle.mt_tape.specs.declared.entry.Entry.{Entry};
+ghost use Rattle.mt_tape.specs.Tapes.{last_step_over};
+ghost use Rattle.mt_tape.specs.Histories.{IsNextWrite};
+ghost use Rattle.mt_arena.specs.Arena.{ArenaView, IsArena, content_of, Guarantee};
+ghost use Rattle.mt_arena.specs.Settled.{IsSettled};
+ghost use Rattle.mt_arena.specs.Accesses.{at};
+ghost use Rattle.mt_operation.specs.declared.walk.Phase.{Phase};
+ghost use Rattle.mt_operation.specs.declared.walk.Phase.TheVariants.{Judge};
+ghost use Rattle.mt_operation.specs.declared.walk.Walk.{Walk};
+ghost use Rattle.mt_operation.specs.declared.task.Task.{Task};
+ghost use Rattle.mt_operation.specs.declared.prepared.Prepared.{Prepared};
+ghost use Rattle.mt_descent.specs.Kept.{IsAtJudge};
+ghost use Rattle.mt_descent.specs.Moves.{Locks};
+ghost use Rattle.mt_insert.specs.Puts.{IsPut, write_of};
+ghost use Rattle.mt_insert.specs.Kept.{HoldsBorder, IsAtStore, IsAtPublish, KeptReady, IsAtUnlock};
+
+/// An operation that has locked its border node holds it as `judge` asks.
+pub fn holds_once_locked()
+    ensures { (op : ℕ) (old new : ArenaView) (key : Bytes) (before after : Walk) → Locks op old new before after → after.phase ≡ Judge →
+        IsAtJudge new op key after → IsSettled new.nodes before.place.node (at new before.place.node) → HoldsBorder new op key after }
+{}
+
+/// What an operation keeps at Judge, each step of another one leaves.
+pub fn judge_stays()
+    ensures { (op o : ℕ) (old new : ArenaView) (key : Bytes) (w : Walk) → Guarantee op old new → o ≢ op →
+        HoldsBorder old o key w → HoldsBorder new o key w }
+{}
+
+/// What a put keeps at Store, each step of another operation leaves.
+pub fn store_stays()
+    ensures { (op o : ℕ) (old new : ArenaView) (task : Task) (prepared : Prepared) (w : Walk) → Guarantee op old new → o ≢ op →
+        IsAtStore old o task prepared w → IsAtStore new o task prepared w }
+{}
+
+/// What a put keeps at Publish, each step of another operation leaves.
+pub fn publish_stays()
+    ensures { (op o : ℕ) (old new : ArenaView) (task : Task) (prepared : Prepared) (w : Walk) → Guarantee op old new → o ≢ op →
+        IsAtPublish old o task prepared w → IsAtPublish new o task prepared w }
+{}
+
+/// So does what a put keeps that has made its row ready, by its phase.
+pub fn ready_stays()
+    ensures { (op o : ℕ) (old new : ArenaView) (task : Task) (prepared : Prepared) (w : Walk) (phase : Phase) → Guarantee op old new → o ≢ op →
+        KeptReady phase old o task prepared w → KeptReady phase new o task prepared w }
+{}
+
+/// What an operation keeps at Unlock, each step of another one leaves.
+pub fn unlock_stays()
+    ensures { (op o : ℕ) (old new : ArenaView) (w : Walk) → Guarantee op old new → o ≢ op →
+        IsAtUnlock old o w → IsAtUnlock new o w }
+{}
+
+/// The contents have, at the key of a put that is about to place its row, the row of its slot at Store,
+/// and none at Publish: the row before of the write that it made ready.
+pub fn the_row_before_stands()
+    ensures store { (v : ArenaView) (op : ℕ) (task : Task) (prepared : Prepared) (w : Walk) → IsArena v.nodes v.trees → (kept : IsAtStore v op task prepared w) →
+        get (content_of v) (owned task.key) ≡ Some kept.pair.row }
+    ensures publish { (v : ArenaView) (op : ℕ) (task : Task) (prepared : Prepared) (w : Walk) → IsArena v.nodes v.trees → IsAtPublish v op task prepared w →
+        get (content_of v) (owned task.key) ≡ None }
+    ensures write { (v : ArenaView) (op : ℕ) (task : Task) (prepared : Prepared) (w : Walk) (phase : Phase) → IsArena v.nodes v.trees → KeptReady phase v op task prepared w →
+        get (content_of v) (owned task.key) ≡ prepared.write.before }
+{}
+
+/// The write that a put places may come next on a tape whose writes are all of earlier steps.
+pub fn a_placed_write_is_next()
+    ensures { (floor step : ℕ) (entries : List Entry) (contents : Contents) (task : Task) → IsPut task → last_step_over floor entries < step →
+        IsNextWrite floor entries contents (write_of task contents step) }
+{}

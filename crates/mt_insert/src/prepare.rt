@@ -1,0 +1,162 @@
+//! What a put makes ready under its lock, so that the step which places it takes no memory.
+//!
+//! Errors: `AllocError`, which changes nothing.
+
+ghost use Rattle.std.specs.Prelude.{◌≡◌, ◌<◌, ◌≤◌, ◌*◌, ◌+◌, ℕ, false, IfOk, IfSome, IfNone, OnOk, OnErr, length, Some, None};
+ghost use Rattle.std.specs.Option.{option_map};
+ghost use Rattle.mt_slices.specs.Slices.{slice_of, mark_of, suffix_of, HasLayer};
+ghost use Rattle.mt_rows.specs.Maps.{is_get};
+ghost use Rattle.mt_rows.specs.Rows.{columns_of};
+ghost use Rattle.mt_border.specs.Entry.{pair_of};
+ghost use Rattle.mt_border.specs.Entries.{IsMissing};
+ghost use Rattle.mt_border.specs.Node.{IsFound, IsLive, entries_of, entry_at};
+ghost use Rattle.mt_arena.specs.Accesses.{at};
+ghost use Rattle.mt_operation.specs.Tasks.{command_of, ask};
+ghost use Rattle.mt_descent.specs.Kept.{IsAtBorder};
+ghost use Rattle.mt_insert.specs.Puts.{change_of, row_over, IsReady};
+ghost use Rattle.mt_insert.specs.Moves.{StandsIn, ReadyFor, reserving};
+
+use mt_arena::Arena;
+use mt_border::laws::suffix_fits_mark;
+use mt_border::{Border, Find, FoundKind, Held, Suffix};
+use mt_operation::{Prepared, Request, Task, Walk};
+use mt_rows::{Change, Row, merge};
+use mt_slices::StoredKey;
+use mt_tape::{Entry, Tape};
+use std::alloc::{AllocError, Global};
+
+// The slot of a key that ends in its layer.
+fn slot_of(border: &Border, key: &StoredKey, layer: usize) -> Option<usize>
+    requires reaches { HasLayer key.now layer }
+    requires ends { length key.now ≤ 8 * (layer + 1) }
+    ensures found { IfSome result (λ slot. IsFound border.now (slice_of key.now layer) (mark_of key.now layer) (suffix_of key.now layer) slot FoundKind.ThisKey) }
+    ensures missing { IfNone result (IsMissing (entries_of border.now) (slice_of key.now layer) (mark_of key.now layer)) }
+{
+    suffix_fits_mark();
+    match border.find(key.slice(layer), key.mark(layer), key.suffix(layer)) {
+        Find::Slot(slot, FoundKind::ThisKey) => Some(slot),
+        Find::Slot(_, FoundKind::OtherLong | FoundKind::Link) => unreachable!(),
+        Find::Missing => None,
+    }
+}
+
+/// The slot of the walk's border node that has the key, which ends in the walk's layer.
+pub(crate) fn slot_here(arena: &Arena, key: &StoredKey, walk: &Walk) -> Option<usize>
+    requires kept { IsAtBorder arena.now key.now walk.now }
+    requires ends { length key.now ≤ 8 * (walk.now.layer + 1) }
+    ensures { StandsIn (at arena.now walk.now.place.node) key.now walk.now.layer result }
+{
+    slot_of(arena.border(walk.place.node), key, walk.layer)
+}
+
+// What a put writes.
+fn change_of(request: &Request) -> &Change
+    requires { is_get (command_of request.now) ≡ false }
+    ensures { result.now ≡ change_of (command_of request.now) }
+{
+    match request {
+        Request::Put { change, .. } => change,
+        Request::Get { .. } => unreachable!(),
+    }
+}
+
+// The row that a put makes of this one, or of none, and the write of it, still without its number.
+fn prepared(
+    alloc: Global,
+    task: &Task,
+    before: Option<Row>,
+    suffix: Suffix,
+) -> Result<Prepared, AllocError>
+    requires put { is_get (ask task.now) ≡ false }
+    ensures suffix { IfOk result (λ prepared. prepared.suffix ≡ suffix) }
+    ensures ready { IfOk result (λ prepared. IsReady task.now before prepared) }
+{
+    let row = merge(alloc, before.as_ref(), change_of(&task.request))?;
+    let write = Entry {
+        step: 0,
+        worker: task.worker,
+        tenant: task.tenant,
+        key: task.request.key().clone()?,
+        before,
+        after: Some(row.share()?),
+    };
+    Ok(Prepared { suffix, row, write })
+}
+
+// The row of a slot, shared.
+fn row_at(border: &Border, slot: usize) -> Result<Option<Row>, AllocError>
+    requires { IsLive border.now slot }
+    ensures { IfOk result (λ row. row ≡ option_map (λ pair. pair.row) (pair_of (entry_at border.now slot).held)) }
+{
+    match border.load(slot) {
+        Some(Held::Stable(pair) | Held::Unstable(pair, _)) => Ok(Some(pair.row.share()?)),
+        _ => Ok(None),
+    }
+}
+
+// What is made ready over the row of a slot.
+fn prepared_over(
+    alloc: Global,
+    border: &Border,
+    task: &Task,
+    slot: usize,
+) -> Result<Prepared, AllocError>
+    requires put { is_get (ask task.now) ≡ false }
+    requires live { IsLive border.now slot }
+    ensures { IfOk result (λ prepared. IsReady task.now (option_map (λ pair. pair.row) (pair_of (entry_at border.now slot).held)) prepared) }
+{
+    let before = row_at(border, slot)?;
+    prepared(alloc, task, before, Suffix::new(Vec::new(alloc)))
+}
+
+// What is made ready where the key is missing.
+fn prepared_new(alloc: Global, task: &Task, layer: usize) -> Result<Prepared, AllocError>
+    requires put { is_get (ask task.now) ≡ false }
+    requires reaches { HasLayer task.now.key layer }
+    ensures suffix { IfOk result (λ prepared. prepared.suffix ≡ suffix_of task.now.key layer) }
+    ensures ready { IfOk result (λ prepared. IsReady task.now None prepared) }
+{
+    let suffix = Suffix::new(Vec::from_slice(alloc, task.key.suffix(layer))?);
+    prepared(alloc, task, None, suffix)
+}
+
+// All growths of the step that places the put, but for the tape's.
+fn prepared_for(
+    alloc: Global,
+    arena: &Arena,
+    task: &Task,
+    walk: &Walk,
+    slot: Option<usize>,
+) -> Result<Prepared, AllocError>
+    requires put { is_get (ask task.now) ≡ false }
+    requires kept { IsAtBorder arena.now task.now.key walk.now }
+    requires slot { StandsIn (at arena.now walk.now.place.node) task.now.key walk.now.layer slot }
+    ensures { IfOk result (λ prepared. ReadyFor (at arena.now walk.now.place.node) task.now walk.now.layer slot prepared) }
+{
+    match slot {
+        Some(slot) => prepared_over(alloc, arena.border(walk.place.node), task, slot),
+        None => prepared_new(alloc, task, walk.layer),
+    }
+}
+
+/// All growths of the step that places the put, by the slot that has its key, and room for its write
+/// on the tape. An error leaves the tape as it was.
+pub(crate) fn prepare(
+    alloc: Global,
+    arena: &Arena,
+    tape: &mut Tape,
+    task: &Task,
+    walk: &Walk,
+    slot: Option<usize>,
+) -> Result<Prepared, AllocError>
+    requires put { is_get (ask task.now) ≡ false }
+    requires kept { IsAtBorder arena.now task.now.key walk.now }
+    requires slot { StandsIn (at arena.now walk.now.place.node) task.now.key walk.now.layer slot }
+    ensures ready { IfOk result (λ prepared. ReadyFor (at arena.now walk.now.place.node) task.now walk.now.layer slot prepared) }
+    ensures reserved { OnOk result (tape.new ≡ reserving tape.old) }
+    ensures unchanged_on_err { OnErr result (tape.new ≡ tape.old) }
+{
+    let prepared = prepared_for(alloc, arena, task, walk, slot)?;
+    tape.reserve()?;
+    Ok(prepared)
+}
