@@ -1,0 +1,10 @@
+pub mod Shown
+pub mod Rely
+pub mod Moving
+pub mod Telling
+pub mod Quiet
+pub mod Placing
+pub mod Moved
+pub mod Decides
+pub mod Replies
+pub mod Still

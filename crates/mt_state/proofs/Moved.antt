@@ -1,0 +1,75 @@
+-- An operation that has made a step: its numbers, and what is kept of every operation: for all phases.
+use Rattle.std.proofs.Common.{◌≡◌, ◌≢◌, ℕ, zero, suc, ◌+◌, ◌<◌, ◌≤◌, ◌⊎◌, inl, inr, cond, eqb, Option, Some, None, IsSome, refl, sym, ap, subst, ◌∙◌, arith}
+use Rattle.std.specs.Prelude.{◌^◌}
+use Rattle.std.proofs.lemmas.Bool.{ne_eqb}
+use Rattle.mt_rows.specs.Accounts.{account_of}
+use Rattle.mt_operation.specs.declared.walk.Phase.{Phase}
+use Rattle.mt_operation.specs.declared.walk.Phase.TheVariants.{Enter}
+use Rattle.mt_operation.specs.declared.walk.Walk.{Walk}
+use Rattle.mt_operation.specs.declared.outcome.Outcome.{Outcome}
+use Rattle.mt_operation.specs.declared.prepared.Prepared.{Prepared}
+use Rattle.mt_operation.specs.declared.operation.Operation.{Operation}
+use Rattle.mt_operation.specs.Operations.{view_of, moved}
+use Rattle.mt_state.specs.Views.{Core}
+use Rattle.mt_state.specs.Steps.{MayFollow, HasMoved}
+use Rattle.mt_state.specs.Kept.{IsOfKind, IsOpenOperation}
+
+-- the number of an operation's first step, once it has made one
+pub first_is : (n step : ℕ) → ((n ≡ 0) × (cond (eqb n 0) step n ≡ step)) ⊎ ((0 < n) × (cond (eqb n 0) step n ≡ n))
+first_is zero step = inl (refl, refl)
+first_is (suc n) step = inr (omega arith, ap (λ b. cond b step (suc n)) (ne_eqb (suc n) 0 (λ e. absurd (cc))))
+
+-- an operation that has walked on by the step of this number, with an outcome or none, and with or without what it has made ready
+abbrev pub went : Operation → ℕ → Walk → Option Outcome → Option Prepared → Operation
+went op step w told prepared = record (moved op step w) { outcome = told; prepared = prepared }
+
+module _ (c : Core) (op : Operation) (k : IsOpenOperation c op) (w : Walk) where
+  -- an operation that made this step has a first one
+  pub first_begun : 0 < (moved op (c.steps + 1) w).walk.first
+  first_begun = elim (first_is op.walk.first (c.steps + 1)) [
+    | inl (none, is) ↦ omega (arith, is)
+    | inr (some, is) ↦ omega (arith, is)
+  ]
+
+  -- which is this one or an earlier one
+  pub first_upto : (moved op (c.steps + 1) w).walk.first ≤ c.steps + 1
+  first_upto = elim (first_is op.walk.first (c.steps + 1)) [
+    | inl (none, is) ↦ omega (arith, is)
+    | inr (some, is) ↦ omega (arith, is, k.order, k.made)
+  ]
+
+  -- and stays the one that it was
+  pub first_same : 0 < op.walk.first → (moved op (c.steps + 1) w).walk.first ≡ op.walk.first
+  first_same begun = elim (first_is op.walk.first (c.steps + 1)) [
+    | inl (none, is) ↦ absurd (omega (arith, none, begun))
+    | inr (some, is) ↦ is
+  ]
+
+  -- what is kept of every operation
+  pub open_moved : (new : Core) (told : Option Outcome) (prepared : Option Prepared) → new.steps ≡ c.steps + 1 → new.tape.floor ≡ c.tape.floor → ((t : ℕ) → IsSome (account_of c.accounts t) → IsSome (account_of new.accounts t)) → c.tape.floor ≤ c.steps
+      → w.writes ≡ op.walk.writes → IsOfKind w.phase w.writes → IsOpenOperation new (went op (c.steps + 1) w told prepared)
+  open_moved new told prepared steps floor accounts upto writes kind = record {
+    stored = k.stored;
+    owner = k.owner;
+    short = k.short;
+    columns = k.columns;
+    tenant = accounts op.task.tenant k.tenant;
+    writes = writes ∙ k.writes;
+    kind = kind;
+    order = first_upto;
+    made = omega (arith, steps);
+    floor = λ begun. elim (first_is op.walk.first (c.steps + 1)) [
+      | inl (none, is) ↦ omega (arith, is, floor, upto)
+      | inr (some, is) ↦ omega (arith, is, floor, k.floor some)
+    ];
+    begun = λ other. first_begun;
+  }
+
+  -- what is shown of it
+  pub has_moved : (told : Option Outcome) (prepared : Option Prepared) → MayFollow op.walk.phase w.phase → HasMoved (view_of op) (view_of (went op (c.steps + 1) w told prepared)) (c.steps + 1)
+  has_moved told prepared follows = record {
+    asked = record { worker = refl; tenant = refl; command = refl };
+    first = refl;
+    last = refl;
+    follows = follows;
+  }

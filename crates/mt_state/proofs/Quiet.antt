@@ -1,0 +1,116 @@
+-- A step that changes no pair: what it leaves to others, and that the invariant stays: for all phases but Store and Publish.
+use Rattle.std.proofs.Common.{◌≡◌, ◌≢◌, ℕ, ◌+◌, ◌<◌, ◌≤◌, ◌⊎◌, inl, inr, Bool, true, false, List, length, set, Option, Some, refl, sym, ap, subst, ◌∙◌, arith}
+use Rattle.std.specs.Prelude.{◌^◌}
+use Rattle.std.specs.FinMap.{len}
+use Rattle.mt_rows.specs.Rows.{Bytes}
+use Rattle.mt_rows.specs.Tenants.{Contents, tenant_map}
+use Rattle.mt_border.specs.Contents.{AllStamped}
+use Rattle.mt_border.specs.declared.entry.Entry.{Entry}
+use Rattle.mt_border.proofs.ContentsStamps.{stamped_weaker}
+use Rattle.mt_tape.specs.Histories.{contents_at, IsLegalTape}
+use Rattle.mt_arena.specs.Arena.{ArenaView, content_of, Guarantee}
+use Rattle.mt_arena.specs.Contents.{counts}
+use Rattle.mt_arena.specs.Accesses.{at, tree_of}
+use Rattle.mt_operation.specs.declared.operation.Operation.{Operation}
+use Rattle.mt_operation.specs.Operations.{view_of, is_done}
+use Rattle.mt_operation.specs.Tables.{op_at as operation_at}
+use Rattle.mt_state.specs.Views.{Core, shown, KeepsPast}
+use Rattle.mt_state.specs.Steps.{change_in}
+use Rattle.mt_state.specs.Promises.{IsQuiet}
+use Rattle.mt_state.specs.Kept.{IsKeptOf}
+use Rattle.mt_state.specs.Invariant.{IsTape, AreStamps, IsStampOf, IsCountedUpTo, AreVersions, HoldsAt, IsOneBorder, StateInvariant, StateGuarantee, one_if_prepared, is_unplaced}
+use Rattle.mt_state.specs.Moves.{IsMove}
+
+-- what a step leaves that changes no pair
+abbrev pub quiet : Core → ArenaView → ℕ → ℕ → Operation → Core
+quiet c arena reserved o after = record {
+  steps = c.steps + 1;
+  logs = c.logs;
+  accounts = c.accounts;
+  arena = arena;
+  tape = record c.tape { reserved = reserved };
+  table = set c.table o (Some after);
+}
+
+-- a node whose pairs count had the same slots, and they counted
+pub record StoodSo (old new : ArenaView) (k : ℕ) : Type 0 where
+  pub there : k < length old.nodes
+  pub counted : counts old.trees (at old k) ≡ true
+  pub prefix : (tree_of new k).prefix ≡ (tree_of old k).prefix
+  pub slots : (at new k).slots ≡ (at old k).slots
+
+-- what it makes of the arena: the pairs stand as they did, each where it stood
+pub record LeavesPairs (c : Core) (o : ℕ) (arena : ArenaView) : Type 0 where
+  pub guarantee : Guarantee o c.arena arena
+  pub contents : content_of arena ≡ content_of c.arena
+  pub stood : (k : ℕ) → k < length arena.nodes → counts arena.trees (at arena k) ≡ true → StoodSo c.arena arena k
+  pub versions : (k : ℕ) → k < length arena.nodes → IsCountedUpTo (c.steps + 1) (at arena k)
+  pub one_border : IsOneBorder arena
+  pub slots : (at arena 0).slots ≡ (at c.arena 0).slots
+
+-- what it brings of its own operation
+pub record IsOwn (c new : Core) (o : ℕ) (before after : Operation) : Type 0 where
+  pub there : operation_at c.table o ≡ Some before
+  pub unfinished : is_done before.walk.phase ≡ false
+  pub task : after.task ≡ before.task
+  pub waits : is_unplaced after.walk.phase ≡ true → is_unplaced before.walk.phase ≡ true
+  pub held : (k : ℕ) → k < length new.arena.nodes → (at new.arena k).holder ≡ Some o → HoldsAt after.walk.phase after.walk.place.node k
+  pub kept : IsKeptOf new o after
+  pub reserved : new.tape.reserved + one_if_prepared (Some before) ≡ c.tape.reserved + one_if_prepared (Some after)
+
+module _ (c : Core) (o : ℕ) (before after : Operation) (arena : ArenaView) (reserved : ℕ) (h : StateInvariant c) (leaves : LeavesPairs c o arena) where
+  grows : KeepsPast (shown c) (shown (quiet c arena reserved o after))
+  grows = record {
+    steps = omega arith;
+    quotas = λ t. refl;
+    maps = λ t m le. ap (λ (all : Contents). tenant_map t (contents_at c.tape.entries all m)) leaves.contents;
+    changes = λ m le. refl;
+  }
+
+  guarantee : StateGuarantee c (quiet c arena reserved o after) o
+  guarantee = record {
+    arena = leaves.guarantee;
+    grows = grows;
+    past = record { steps = omega arith; same = λ n from upto. ap (λ (all : Contents). contents_at c.tape.entries all n) leaves.contents };
+    writes = λ e there. there;
+    accounts = λ t there. there;
+    floor = refl;
+  }
+
+  tape : IsTape (quiet c arena reserved o after)
+  tape = record {
+    rises = h.tape.rises;
+    made = omega (arith, h.tape.made);
+    legal = subst (λ (all : Contents). IsLegalTape c.tape.entries all) (sym leaves.contents) h.tape.legal;
+  }
+
+  stamps : AreStamps (quiet c arena reserved o after)
+  stamps k within counted =
+      let was = leaves.stood k within counted in
+      subst (λ (prefix : Bytes). AllStamped (IsStampOf (c.steps + 1) (record c.tape { reserved = reserved })) prefix (at arena k).slots) (sym was.prefix)
+      (subst (λ (slots : List Entry). AllStamped (IsStampOf (c.steps + 1) (record c.tape { reserved = reserved })) (tree_of c.arena k).prefix slots) (sym was.slots)
+      (stamped_weaker (IsStampOf c.steps c.tape) (IsStampOf (c.steps + 1) (record c.tape { reserved = reserved })) (tree_of c.arena k).prefix (at c.arena k).slots
+      (λ q s w. (omega (arith, w.0), w.1, w.2)) (h.stamps k was.there was.counted)))
+
+  pub quiet_move : IsOwn c (quiet c arena reserved o after) o before after → IsMove c (quiet c arena reserved o after) o before after
+  quiet_move own = record {
+    there = own.there;
+    unfinished = own.unfinished;
+    task = own.task;
+    table = refl;
+    number = refl;
+    leaves = guarantee;
+    tape = tape;
+    stamps = stamps;
+    versions = leaves.versions;
+    held = own.held;
+    counts = λ t a is. subst (λ (all : Contents). (a.count ≡ len (tenant_map t all)) × (a.count ≤ a.quota)) (sym leaves.contents) (h.counts t a is);
+    kept = own.kept;
+    reserved = own.reserved;
+    one_border = leaves.one_border;
+    waits = own.waits;
+    room = inl (leaves.slots, leaves.contents);
+  }
+
+  pub is_quiet : change_in (view_of after) ≡ change_in (view_of before) → IsQuiet (shown c) (shown (quiet c arena reserved o after)) (view_of before) (view_of after)
+  is_quiet same = record { contents = leaves.contents; entries = refl; change = same }

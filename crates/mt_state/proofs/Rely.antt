@@ -1,0 +1,125 @@
+-- Rely and guarantee: what is kept of an operation stays under each step of another one, by what that step leaves to others alone.
+use Rattle.std.proofs.Common.{◌≡◌, ◌≢◌, ℕ, ◌-◌, ◌<◌, ◌≤◌, ◌⊎◌, inl, inr, length, Option, None, Some, sym, ap, subst, ◌∙◌, arith}
+use Rattle.std.proofs.lemmas.Bool.{cases_lt}
+use Rattle.mt_rows.specs.declared.command.Command.{Command}
+use Rattle.mt_rows.specs.declared.reply.Reply.{Reply}
+use Rattle.mt_rows.specs.Rows.{Columns}
+use Rattle.mt_rows.specs.Maps.{reply_of}
+use Rattle.mt_arena.specs.Arena.{ArenaView, Guarantee}
+use Rattle.mt_arena.specs.Accesses.{at}
+use Rattle.mt_operation.specs.declared.outcome.Outcome.{Outcome}
+use Rattle.mt_operation.specs.declared.operation.Operation.{Operation}
+use Rattle.mt_operation.specs.declared.walk.Phase.{Phase}
+use Rattle.mt_operation.specs.declared.walk.Phase.TheVariants.{Enter, Pick, Child, Verify, Search, Load, Confirm, Forward, Lock, Judge, Store, Publish, Unlock, Done}
+use Rattle.mt_operation.specs.Operations.{OperationView, view_of}
+use Rattle.mt_descent.specs.Pasts.{ExtendsPast}
+use Rattle.mt_descent.specs.Kept.{IsKept}
+use Rattle.mt_descent.proofs.Rely as descent
+use Rattle.mt_insert.proofs.Rely as insert
+use Rattle.mt_state.specs.Views.{StateView, Core, shown, past_of, map_of, quota_of, KeepsPast, IsPlaced}
+use Rattle.mt_state.specs.Promises.{IsAnswer}
+use Rattle.mt_state.specs.Kept.{IsOpenOperation, IsOnItsWay, IsAtConfirm, HasAnswer, IsKeptAt, IsPlacedOnce, IsKeptOf}
+use Rattle.mt_state.specs.Invariant.{StateGuarantee}
+
+-- what is placed stays so
+pub placed_stays : (old new : StateView) → KeepsPast old new → (t : ℕ) (c : Command) (at : ℕ) (reply : Reply) → at ≤ old.steps → IsPlaced old t c at reply → IsPlaced new t c at reply
+placed_stays old new g t c at reply le h = record {
+  changes = λ e. let w = h.changes e in (
+    g.changes at le ∙ w.0,
+    w.1 ∙ ap (λ q. reply_of q c (map_of old t (at - 1))) (sym (g.quotas t)) ∙ ap (reply_of (quota_of new t) c) (sym (g.maps t (at - 1) (omega arith))),
+  );
+  looks = λ e. h.looks e ∙ ap (λ q. reply_of q c (map_of old t at)) (sym (g.quotas t)) ∙ ap (reply_of (quota_of new t) c) (sym (g.maps t at le));
+}
+
+-- so is an answer
+pub answer_stays : (old new : StateView) → KeepsPast old new → (op : OperationView) (told : Outcome) → op.last ≤ old.steps → IsAnswer old op told → IsAnswer new op told
+answer_stays old new g op told made h = record {
+  begun = h.begun;
+  since = h.since;
+  upto = h.upto;
+  placed = λ real. placed_stays old new g op.tenant op.command told.at told.reply (omega (arith, h.upto, made)) (h.placed real);
+}
+
+-- who holds a node after a step of another one held it before
+pub holder_was : (op q k : ℕ) (old new : ArenaView) → Guarantee op old new → k < length new.nodes → (at new k).holder ≡ Some q → q ≢ op → (k < length old.nodes) × ((at old k).holder ≡ Some q)
+holder_was op q k old new g within holds other = elim (cases_lt k (length old.nodes)) [
+  | inl was ↦ (was, (g.nodes.nodes k was).taken q other holds)
+  | inr new_one ↦ absurd (g.nodes.taken_new k q new_one within other holds)
+]
+
+-- one operation, and a step of another one
+module _ (old new : Core) (o q : ℕ) (g : StateGuarantee old new o) (other : q ≢ o) (later : old.steps < new.steps) (op : Operation) where
+  past_stays : ExtendsPast op.walk.first (past_of old) (past_of new)
+  past_stays = record { steps = g.past.steps; same = λ n from upto. g.past.same n (omega arith) upto }
+
+  walk_stays : (row : Option Columns) → IsKept old.arena (past_of old) op.task.key row op.walk → IsKept new.arena (past_of new) op.task.key row op.walk
+  walk_stays row h = descent.kept_stays o old.arena new.arena g.arena.nodes (past_of old) (past_of new) op.task.key row op.walk op.walk.phase past_stays h
+
+  way_stays : IsOnItsWay old op → IsOnItsWay new op
+  way_stays h = record { kept = walk_stays None h.kept; untold = h.untold; unprepared = h.unprepared }
+
+  told_stays : IsOpenOperation old op → HasAnswer old op → HasAnswer new op
+  told_stays k h = record {
+    outcome = h.outcome;
+    told = h.told;
+    right = answer_stays (shown old) (shown new) g.grows (view_of op) h.outcome k.made h.right;
+    unprepared = h.unprepared;
+  }
+
+  -- by its phase
+  pub kept_stays : (p : Phase) → IsOpenOperation old op → IsKeptAt p old q op → IsKeptAt p new q op
+  kept_stays Enter k h = way_stays h
+  kept_stays Pick k h = way_stays h
+  kept_stays Child k h = way_stays h
+  kept_stays Verify k h = way_stays h
+  kept_stays Search k h = way_stays h
+  kept_stays Load k h = record { way = way_stays h.way; found = λ now. absurd (omega (arith, k.made, later, now)) }
+  kept_stays Confirm k h = record { row = h.row; kept = walk_stays h.row h.kept; tells = h.tells; unprepared = h.unprepared }
+  kept_stays Forward k h = way_stays h
+  kept_stays Lock k h = way_stays h
+  kept_stays Judge k h = record { judges = insert.held o q old.arena new.arena g.arena other op.task.key op.walk h.judges; untold = h.untold; unprepared = h.unprepared }
+  kept_stays Store k h = record {
+    prepared = h.prepared;
+    has = h.has;
+    stores = insert.store o q old.arena new.arena g.arena other op.task h.prepared op.walk h.stores;
+    untold = h.untold;
+  }
+  kept_stays Publish k h = record {
+    prepared = h.prepared;
+    has = h.has;
+    publishes = insert.publish o q old.arena new.arena g.arena other op.task h.prepared op.walk h.publishes;
+    untold = h.untold;
+  }
+  kept_stays Unlock k h = record { unlocks = insert.unlock o q old.arena new.arena g.arena other op.walk h.unlocks; answer = told_stays k h.answer }
+  kept_stays Done k h = told_stays k h
+
+  -- what is kept of every operation
+  pub open_stays : IsOpenOperation old op → IsOpenOperation new op
+  open_stays h = record {
+    stored = h.stored;
+    owner = h.owner;
+    short = h.short;
+    columns = h.columns;
+    tenant = g.accounts op.task.tenant h.tenant;
+    writes = h.writes;
+    kind = h.kind;
+    order = h.order;
+    made = omega (arith, h.made, later);
+    floor = λ begun. subst (λ n. n < op.walk.first) (sym g.floor) (h.floor begun);
+    begun = h.begun;
+  }
+
+  placed_once_stays : (m : ℕ) → IsPlacedOnce old op m → IsPlacedOnce new op m
+  placed_once_stays m h = record {
+    entry = h.entry;
+    there = g.writes h.entry h.there;
+    step_is = h.step_is;
+    worker = h.worker;
+    tenant = h.tenant;
+    key_is = h.key_is;
+    makes = h.makes;
+  }
+
+  -- the rely: all that is kept of an operation is stable under any step of another
+  pub stays : IsKeptOf old q op → IsKeptOf new q op
+  stays h = record { always = open_stays h.always; kept = kept_stays op.walk.phase h.always h.kept; placed = λ m is. placed_once_stays m (h.placed m is) }

@@ -1,0 +1,148 @@
+-- A step of an operation that holds nothing, which leaves all nodes as they were: for `State::descend`, `search`, `load` and `confirm`.
+use Rattle.std.proofs.Common.{◌≡◌, ◌≢◌, ℕ, ◌+◌, ◌<◌, ◌≤◌, ◌⊎◌, inl, inr, Bool, true, false, length, set, Option, Some, None, refl, sym, ap, subst, ◌∙◌, arith}
+use Rattle.std.specs.Prelude.{◌^◌}
+use Rattle.std.proofs.lemmas.Option.{same_Some}
+use Rattle.mt_tape.proofs.EntryLaws.{floor_upto_last}
+use Rattle.mt_arena.specs.Arena.{ArenaView, Guarantee}
+use Rattle.mt_arena.specs.Accesses.{at}
+use Rattle.mt_arena.proofs.Guarantees.{guarantee_none}
+use Rattle.mt_operation.specs.declared.walk.Phase.{Phase}
+use Rattle.mt_operation.specs.declared.walk.Phase.TheVariants.{Enter, Pick, Child, Verify, Search, Load, Confirm, Forward, Lock, Judge, Store, Publish, Unlock, Done}
+use Rattle.mt_operation.specs.declared.walk.Walk.{Walk}
+use Rattle.mt_operation.specs.declared.outcome.Outcome.{Outcome}
+use Rattle.mt_operation.specs.declared.operation.Operation.{Operation}
+use Rattle.mt_operation.specs.Operations.{view_of, is_done}
+use Rattle.mt_operation.specs.Tables.{Table, op_at as operation_at}
+use Rattle.mt_state.specs.Views.{StateView, Core, shown}
+use Rattle.mt_state.specs.Steps.{MayFollow, change_in}
+use Rattle.mt_state.specs.Notes.{Notes}
+use Rattle.mt_state.specs.Kept.{IsOfKind, IsKeptAt, IsKeptOf}
+use Rattle.mt_state.specs.Invariant.{IsTape, HoldsAt, StateInvariant, one_if_prepared, is_unplaced}
+use Rattle.mt_state.proofs.Quiet.{quiet, LeavesPairs, quiet_move, is_quiet}
+use Rattle.mt_state.proofs.Telling.{Gives, gives}
+use Rattle.mt_state.proofs.Moved.{went, open_moved, has_moved}
+
+-- the tape's floor is a step that was made
+pub floor_made : (c : Core) → IsTape c → c.tape.floor ≤ c.steps
+floor_made c tape = omega (arith, tape.made, floor_upto_last c.tape.floor c.tape.entries tape.rises)
+
+-- nothing of an arena changes
+pub nothing_changes : (o : ℕ) (v : ArenaView) → Guarantee o v v
+nothing_changes o v = record {
+  nodes = guarantee_none o v.nodes v.trees;
+  points = record {
+    previous = λ k j within there is free. is;
+    parent = λ k j within there is free. is;
+    new_previous = λ k j out within there is. absurd (omega arith);
+    new_parent = λ k j out within there is. absurd (omega arith);
+  };
+}
+
+pub leaves_all : (c : Core) (o : ℕ) → StateInvariant c → LeavesPairs c o c.arena
+leaves_all c o h = record {
+  guarantee = nothing_changes o c.arena;
+  contents = refl;
+  stood = λ k within counted. record { there = within; counted = counted; prefix = refl; slots = refl };
+  versions = λ k within. let was = h.versions k within in record { inserts = omega (arith, was.inserts); splits = omega (arith, was.splits) };
+  one_border = h.one_border;
+  slots = refl;
+}
+
+-- an operation at this phase holds nothing, and has nothing made ready
+abbrev pub IsFree : Phase → Type 0
+IsFree Judge = ⊥
+IsFree Store = ⊥
+IsFree Publish = ⊥
+IsFree Unlock = ⊥
+IsFree Done = ⊥
+IsFree _ = Unit {0}
+
+free_open : (p : Phase) → IsFree p → is_done p ≡ false
+free_open Judge f = absurd f
+free_open Store f = absurd f
+free_open Publish f = absurd f
+free_open Unlock f = absurd f
+free_open Done f = absurd f
+free_open _ f = refl
+
+free_holds : (p : Phase) (node k : ℕ) → IsFree p → HoldsAt p node k → ⊥
+free_holds Judge node k f holds = absurd f
+free_holds Store node k f holds = absurd f
+free_holds Publish node k f holds = absurd f
+free_holds Unlock node k f holds = absurd f
+free_holds Done node k f holds = absurd f
+free_holds _ node k f holds = holds
+
+free_unplaced : (p : Phase) → IsFree p → is_unplaced p ≡ true
+free_unplaced Judge f = absurd f
+free_unplaced Store f = absurd f
+free_unplaced Publish f = absurd f
+free_unplaced Unlock f = absurd f
+free_unplaced Done f = absurd f
+free_unplaced _ f = refl
+
+-- who is free, or done, or is to judge, has nothing made ready
+abbrev pub IsUnready : Phase → Type 0
+IsUnready Store = ⊥
+IsUnready Publish = ⊥
+IsUnready _ = Unit {0}
+
+pub unready_none : (op : Operation) (p : Phase) → op.walk.phase ≡ p → IsUnready p → one_if_prepared (Some op) ≡ 0
+unready_none op Store is u = absurd u
+unready_none op Publish is u = absurd u
+unready_none op _ is u = ap (λ p. one_if_prepared (Some (record op { walk = record op.walk { phase = p } }))) is
+
+pub free_unready : (p : Phase) → IsFree p → IsUnready p
+free_unready Judge f = absurd f
+free_unready Store f = absurd f
+free_unready Publish f = absurd f
+free_unready Unlock f = absurd f
+free_unready Done f = absurd f
+free_unready _ f = tt
+
+module _ (c : Core) (now : StateView) (o : ℕ) (is : shown c ≡ now) (h : StateInvariant c) (room : now.steps < 2 ^ 59) (op : Operation) (there : operation_at c.table o ≡ Some op) (free : IsFree op.walk.phase) where
+  few : c.steps < 2 ^ 59
+  few = subst (λ (v : StateView). v.steps < 2 ^ 59) (sym is) room
+
+  -- it holds nothing
+  pub holds_nothing : (k : ℕ) → k < length c.arena.nodes → (at c.arena k).holder ≡ Some o → ⊥
+  holds_nothing k within held =
+      let f = h.holders k o within held in
+      let same = same_Some f.0 op (sym f.1 ∙ there) in
+      free_holds op.walk.phase op.walk.place.node k free (subst (λ (w : Operation). HoldsAt w.walk.phase w.walk.place.node k) same f.2)
+
+  -- what it leaves
+  abbrev pub still : Walk → Option Outcome → Core
+  still w told = quiet c c.arena c.tape.reserved o (went op (c.steps + 1) w told op.prepared)
+
+  -- a step that leads it on so
+  pub still_gives : (w : Walk) (told : Option Outcome) → MayFollow op.walk.phase w.phase → IsUnready w.phase → w.writes ≡ op.walk.writes → IsOfKind w.phase w.writes → change_in (view_of (went op (c.steps + 1) w told op.prepared)) ≡ change_in (view_of op)
+      → Notes (shown c) (view_of op) op.walk.phase w.phase told → change_in (view_of op) ≡ None → IsKeptAt w.phase (still w told) o (went op (c.steps + 1) w told op.prepared)
+      → (done : Bool) → done ≡ is_done w.phase → Gives now (still w told) o done
+  still_gives w told follows unready writes kind same notes unchanged kept done ends =
+      let after = went op (c.steps + 1) w told op.prepared in
+      let k = h.ops o op there in
+      let leaves = leaves_all c o h in
+      let own : IsKeptOf (still w told) o after = record {
+        always = open_moved c op k.always w (still w told) told op.prepared refl refl (λ t some. some) (floor_made c h.tape) writes kind;
+        kept = kept;
+        placed = λ m placed. absurd (let no = sym placed ∙ same ∙ unchanged in cc);
+      } in
+      gives now c (still w told) o op after is h few
+      (quiet_move c o op after c.arena c.tape.reserved h leaves (record {
+        there = there;
+        unfinished = free_open op.walk.phase free;
+        task = refl;
+        waits = λ _. free_unplaced op.walk.phase free;
+        held = λ k within held. absurd (holds_nothing k within held);
+        kept = own;
+        reserved = let none = unready_none op op.walk.phase refl (free_unready op.walk.phase free) in let no = unready_none after w.phase refl unready in omega (arith, none, no);
+      }))
+      (record {
+        logs = refl;
+        moves = has_moved c op k.always w told op.prepared follows;
+        notes = notes;
+        touches = λ k within. inl refl;
+        effect = inl (is_quiet c o op after c.arena c.tape.reserved h leaves same);
+      })
+      done ends

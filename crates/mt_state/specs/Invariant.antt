@@ -1,0 +1,126 @@
+-- The invariant of a state, and what a step of one operation leaves of it to all others.
+use Rattle.std.specs.Prelude.{◌≡◌, ◌≢◌, ℕ, ◌+◌, ◌≤◌, ◌<◌, ◌^◌, ◌⊎◌, Bool, true, false, if◌then◌else◌, List, [], ◌∷◌, length, Option, Some, None, IsSome}
+use Rattle.std.specs.List.{Contains}
+use Rattle.std.specs.FinMap.{get, len}
+use Rattle.mt_rows.specs.declared.tenants.Account.{Account}
+use Rattle.mt_rows.specs.Rows.{Bytes}
+use Rattle.mt_rows.specs.Accounts.{account_of}
+use Rattle.mt_rows.specs.Maps.{is_get}
+use Rattle.mt_rows.specs.Tenants.{tenant_map}
+use Rattle.mt_border.specs.Contents.{owned, AllStamped}
+use Rattle.mt_tape.specs.declared.entry.Entry.{Entry as TapeEntry}
+use Rattle.mt_tape.specs.Tapes.{Kept, RisesOver, last_write}
+use Rattle.mt_tape.specs.Histories.{IsLegalTape, IsUnwrittenSince, written_key}
+use Rattle.mt_arena.specs.NodeView.{NodeView}
+use Rattle.mt_arena.specs.Arena.{ArenaView, content_of, Guarantee}
+use Rattle.mt_arena.specs.Contents.{counts}
+use Rattle.mt_arena.specs.Accesses.{at, tree_of, top_tree}
+use Rattle.mt_operation.specs.declared.walk.Phase.{Phase}
+use Rattle.mt_operation.specs.declared.walk.Phase.TheVariants.{Judge, Store, Publish, Unlock, Done}
+use Rattle.mt_operation.specs.declared.operation.Operation.{Operation}
+use Rattle.mt_operation.specs.Tasks.{ask}
+use Rattle.mt_operation.specs.Tables.{Table, op_at as operation_at}
+use Rattle.mt_descent.specs.Pasts.{ExtendsPast}
+use Rattle.mt_state.specs.Views.{Core, shown, past_of, KeepsPast}
+use Rattle.mt_operation.specs.Operations.{is_done}
+use Rattle.mt_state.specs.Kept.{IsKeptOf}
+
+-- the tape: its steps rise and were made, and each entry tells what its step did
+pub record IsTape (c : Core) : Type 0 where
+  pub rises : RisesOver c.tape.floor c.tape.entries
+  pub made : last_write c.tape ≤ c.steps
+  pub legal : IsLegalTape c.tape.entries (content_of c.arena)
+
+-- a step is the one that placed a key's row: it was made, the key was not written after it, and the tape has its write where it goes back so far
+abbrev pub IsStampOf : ℕ → Kept → ℕ × Bytes → ℕ → Type 0
+IsStampOf steps tape q s = (s ≤ steps) × IsUnwrittenSince tape.entries q s × (tape.floor < s → (e : TapeEntry) × Contains tape.entries e × (e.step ≡ s) × (written_key e ≡ q))
+
+-- each pair that counts has the stamp of the step that placed it
+abbrev pub AreStamps : Core → Type 0
+AreStamps c = (k : ℕ) → k < length c.arena.nodes → counts c.arena.trees (at c.arena k) ≡ true → AllStamped (IsStampOf c.steps c.tape) (tree_of c.arena k).prefix (at c.arena k).slots
+
+-- no node's version counts more changes than steps were made
+pub record IsCountedUpTo (steps : ℕ) (n : NodeView) : Type 0 where
+  pub inserts : n.version.inserts ≤ steps
+  pub splits : n.version.splits ≤ steps
+
+abbrev pub AreVersions : Core → Type 0
+AreVersions c = (k : ℕ) → k < length c.arena.nodes → IsCountedUpTo c.steps (at c.arena k)
+
+-- the node that an operation holds, by its phase
+abbrev pub HoldsAt : Phase → ℕ → ℕ → Type 0
+HoldsAt Judge node k = k ≡ node
+HoldsAt Store node k = k ≡ node
+HoldsAt Publish node k = k ≡ node
+HoldsAt Unlock node k = k ≡ node
+HoldsAt _ node k = ⊥
+
+-- who holds a node is an operation that is there, at a phase in which it holds that node
+abbrev pub AreHolders : Core → Type 0
+AreHolders c = (k o : ℕ) → k < length c.arena.nodes → (at c.arena k).holder ≡ Some o →
+    (op : Operation) × (operation_at c.table o ≡ Some op) × HoldsAt op.walk.phase op.walk.place.node k
+
+-- whether an operation has all ready for its write
+abbrev pub is_prepared : Phase → Bool
+is_prepared Store = true
+is_prepared Publish = true
+is_prepared _ = false
+
+-- how many operations have
+abbrev pub one_if_prepared : Option Operation → ℕ
+one_if_prepared None = 0
+one_if_prepared (Some op) = if is_prepared op.walk.phase then 1 else 0
+
+abbrev pub prepared_count : Table → ℕ
+prepared_count [] = 0
+prepared_count (op ∷ table) = one_if_prepared op + prepared_count table
+
+-- each tenant's count is the number of its pairs, at most its quota
+abbrev pub AreCounted : Core → Type 0
+AreCounted c = (t : ℕ) (a : Account) → account_of c.accounts t ≡ Some a → (a.count ≡ len (tenant_map t (content_of c.arena))) × (a.count ≤ a.quota)
+
+-- what is kept of all operations
+abbrev pub AreKept : Core → Type 0
+AreKept c = (o : ℕ) (op : Operation) → operation_at c.table o ≡ Some op → IsKeptOf c o op
+
+-- an operation at this phase may still place its change
+abbrev pub is_unplaced : Phase → Bool
+is_unplaced Unlock = false
+is_unplaced Done = false
+is_unplaced _ = true
+
+-- as long as there is one node alone: it is a border node
+pub record IsOneBorder (v : ArenaView) : Type 0 where
+  pub node : NodeView
+  pub nodes : v.nodes ≡ node ∷ []
+  pub trees : v.trees ≡ top_tree ∷ []
+  pub border : node.level ≡ 0
+
+-- as long as there is one node alone: two unfinished puts are one, and each that may still place its change finds its key or room
+pub record IsOnePut (c : Core) : Type 0 where
+  pub one : (o q : ℕ) (a b : Operation) → operation_at c.table o ≡ Some a → operation_at c.table q ≡ Some b → is_get (ask a.task) ≡ false → is_get (ask b.task) ≡ false
+      → is_done a.walk.phase ≡ false → is_done b.walk.phase ≡ false → o ≡ q
+  pub room : (o : ℕ) (op : Operation) → operation_at c.table o ≡ Some op → is_get (ask op.task) ≡ false → is_unplaced op.walk.phase ≡ true
+      → (length (at c.arena 0).slots < 15) ⊎ IsSome (get (content_of c.arena) (owned op.task.key))
+
+-- the invariant; `IsArena` is the arena's own
+pub record StateInvariant (c : Core) : Type 0 where
+  pub tape : IsTape c
+  pub stamps : AreStamps c
+  pub versions : AreVersions c
+  pub holders : AreHolders c
+  pub counts : AreCounted c
+  pub ops : AreKept c
+  pub reserved : c.tape.reserved ≡ prepared_count c.table
+  pub one_border : IsOneBorder c.arena
+  pub one_put : IsOnePut c
+  pub few : c.steps ≤ 2 ^ 59
+
+-- What a step of operation o leaves to all others: what the arena leaves them, and the past; no account is lost, and the tape goes as far back.
+pub record StateGuarantee (old new : Core) (o : ℕ) : Type 0 where
+  pub arena : Guarantee o old.arena new.arena
+  pub grows : KeepsPast (shown old) (shown new)
+  pub past : ExtendsPast 0 (past_of old) (past_of new)
+  pub writes : (e : TapeEntry) → Contains old.tape.entries e → Contains new.tape.entries e
+  pub accounts : (t : ℕ) → IsSome (account_of old.accounts t) → IsSome (account_of new.accounts t)
+  pub floor : new.tape.floor ≡ old.tape.floor

@@ -1,0 +1,142 @@
+-- What a state keeps of each operation, by its phase.
+use Rattle.std.specs.Prelude.{◌≡◌, ◌≢◌, ℕ, ◌≤◌, ◌<◌, Bool, not, true, false, List, length, max, Option, Some, None, IsSome}
+use Rattle.std.specs.List.{Contains}
+use Rattle.mt_slices.specs.Keys.{IsStoredKey}
+use Rattle.mt_rows.specs.declared.command.Command.{Command}
+use Rattle.mt_rows.specs.declared.reply.Reply.{Reply}
+use Rattle.mt_rows.specs.declared.reply.Reply.TheVariants as replies
+use Rattle.mt_rows.specs.Rows.{Bytes, Columns, columns_of, shown as columns_shown}
+use Rattle.mt_rows.specs.Changes.{changed}
+use Rattle.mt_rows.specs.Commands.{key_of, HasColumns}
+use Rattle.mt_rows.specs.Accounts.{account_of}
+use Rattle.mt_rows.specs.Maps.{is_get, is_no_memory}
+use Rattle.mt_border.specs.Contents.{owned}
+use Rattle.mt_tape.specs.declared.entry.Entry.{Entry as TapeEntry}
+use Rattle.mt_arena.specs.Accesses.{at}
+use Rattle.mt_operation.specs.declared.walk.Phase.{Phase}
+use Rattle.mt_operation.specs.declared.walk.Phase.TheVariants.{Enter, Search, Load, Confirm, Lock, Judge, Store, Publish, Unlock, Done}
+use Rattle.mt_operation.specs.declared.walk.Taken.{Taken}
+use Rattle.mt_operation.specs.declared.walk.Taken.TheVariants.{Missing, Row, Link, Nothing}
+use Rattle.mt_operation.specs.declared.outcome.Outcome.{Outcome}
+use Rattle.mt_operation.specs.declared.prepared.Prepared.{Prepared}
+use Rattle.mt_operation.specs.declared.operation.Operation.{Operation}
+use Rattle.mt_operation.specs.Tasks.{ask}
+use Rattle.mt_operation.specs.Operations.{view_of}
+use Rattle.mt_insert.specs.Puts.{change_of}
+use Rattle.mt_descent.specs.Kept.{HasSlot, IsKept}
+use Rattle.mt_insert.specs.Kept.{HoldsBorder, IsAtStore, IsAtPublish, IsAtUnlock}
+use Rattle.mt_state.specs.Views.{Core, shown, past_of}
+use Rattle.mt_state.specs.Notes.{Says, columns_asked}
+use Rattle.mt_state.specs.Steps.{change_in}
+use Rattle.mt_state.specs.Promises.{IsAnswer}
+
+-- a phase of gets alone, of writes alone, or of both
+abbrev pub IsOfKind : Phase → Bool → Type 0
+IsOfKind Search writes = writes ≡ false
+IsOfKind Load writes = writes ≡ false
+IsOfKind Confirm writes = writes ≡ false
+IsOfKind Lock writes = writes ≡ true
+IsOfKind Judge writes = writes ≡ true
+IsOfKind Store writes = writes ≡ true
+IsOfKind Publish writes = writes ≡ true
+IsOfKind Unlock writes = writes ≡ true
+IsOfKind _ writes = Unit {0}
+
+-- what is kept of every operation: its key is its command's, of a tenant that is there and short enough for one slice; its numbers are those of
+-- steps made; and it has made one where it isn't at its beginning
+pub record IsOpenOperation (c : Core) (op : Operation) : Type 0 where
+  pub stored : IsStoredKey op.task.key
+  pub owner : owned op.task.key ≡ (op.task.tenant, key_of (ask op.task))
+  pub short : length op.task.key ≤ 8
+  pub columns : HasColumns (ask op.task)
+  pub tenant : IsSome (account_of c.accounts op.task.tenant)
+  pub writes : op.walk.writes ≡ not (is_get (ask op.task))
+  pub kind : IsOfKind op.walk.phase op.walk.writes
+  pub order : op.walk.first ≤ op.last
+  pub made : op.last ≤ c.steps
+  pub floor : 0 < op.walk.first → c.tape.floor < op.walk.first
+  pub begun : op.walk.phase ≢ Enter → 0 < op.walk.first
+
+-- the outcome of a get, by what it took: that the key is missing, or the columns that it asks of the row
+abbrev pub TellsTaken : Operation → Option Columns → Taken → Type 0
+TellsTaken op row Missing = Says op.outcome replies.Absent op.walk.right_at
+TellsTaken op row Row = (columns : Columns) × (asked : List ℕ) × (row ≡ Some columns) × (columns_asked (ask op.task) ≡ Some asked) × Says op.outcome (replies.Found (columns_shown asked columns)) op.walk.right_at
+TellsTaken op row (Link tree) = op.outcome ≡ None
+TellsTaken op row Nothing = op.outcome ≡ None
+
+-- an operation that holds nothing, and has no outcome yet
+pub record IsOnItsWay (c : Core) (op : Operation) : Type 0 where
+  pub kept : IsKept c.arena (past_of c) op.task.key None op.walk
+  pub untold : op.outcome ≡ None
+  pub unprepared : op.prepared ≡ None
+
+-- a get that goes to load: where nobody made a step since, its slot has its key, or a link for it
+pub record IsAtLoad (c : Core) (op : Operation) : Type 0 where
+  pub way : IsOnItsWay c op
+  pub found : op.last ≡ c.steps → HasSlot (at c.arena op.walk.place.node) op.walk.slot op.task.key op.walk.layer
+
+-- a get that goes to confirm what it took
+pub record IsAtConfirm (c : Core) (op : Operation) : Type 0 where
+  pub row : Option Columns
+  pub kept : IsKept c.arena (past_of c) op.task.key row op.walk
+  pub tells : TellsTaken op row op.walk.taken
+  pub unprepared : op.prepared ≡ None
+
+-- an operation that holds its border node, to judge it
+pub record IsJudging (c : Core) (o : ℕ) (op : Operation) : Type 0 where
+  pub judges : HoldsBorder c.arena o op.task.key op.walk
+  pub untold : op.outcome ≡ None
+  pub unprepared : op.prepared ≡ None
+
+-- one that has all ready to write over its key's row, and one that has all ready to make a pair
+pub record IsStoring (c : Core) (o : ℕ) (op : Operation) : Type 0 where
+  pub prepared : Prepared
+  pub has : op.prepared ≡ Some prepared
+  pub stores : IsAtStore c.arena o op.task prepared op.walk
+  pub untold : op.outcome ≡ None
+
+pub record IsPublishing (c : Core) (o : ℕ) (op : Operation) : Type 0 where
+  pub prepared : Prepared
+  pub has : op.prepared ≡ Some prepared
+  pub publishes : IsAtPublish c.arena o op.task prepared op.walk
+  pub untold : op.outcome ≡ None
+
+-- the outcome is there, and right
+pub record HasAnswer (c : Core) (op : Operation) : Type 0 where
+  pub outcome : Outcome
+  pub told : op.outcome ≡ Some outcome
+  pub right : IsAnswer (shown c) (view_of op) outcome
+  pub unprepared : op.prepared ≡ None
+
+-- one that was placed, and holds its border node
+pub record IsUnlocking (c : Core) (o : ℕ) (op : Operation) : Type 0 where
+  pub unlocks : IsAtUnlock c.arena o op.walk
+  pub answer : HasAnswer c op
+
+-- what is kept of an operation by its phase
+abbrev pub IsKeptAt : Phase → Core → ℕ → Operation → Type 0
+IsKeptAt Load c o op = IsAtLoad c op
+IsKeptAt Confirm c o op = IsAtConfirm c op
+IsKeptAt Judge c o op = IsJudging c o op
+IsKeptAt Store c o op = IsStoring c o op
+IsKeptAt Publish c o op = IsPublishing c o op
+IsKeptAt Unlock c o op = IsUnlocking c o op
+IsKeptAt Done c o op = HasAnswer c op
+IsKeptAt phase c o op = IsOnItsWay c op
+
+-- a change that an operation has made has its entry in the tape, of its step, worker, tenant and key, with the row that the command makes of the one
+-- before
+pub record IsPlacedOnce (c : Core) (op : Operation) (step : ℕ) : Type 0 where
+  pub entry : TapeEntry
+  pub there : Contains c.tape.entries entry
+  pub step_is : entry.step ≡ step
+  pub worker : entry.worker ≡ op.task.worker
+  pub tenant : entry.tenant ≡ op.task.tenant
+  pub key_is : entry.key ≡ key_of (ask op.task)
+  pub makes : entry.after ≡ Some (changed (change_of (ask op.task)) (columns_of entry.before))
+
+-- all that is kept of the operation of an id
+pub record IsKeptOf (c : Core) (o : ℕ) (op : Operation) : Type 0 where
+  pub always : IsOpenOperation c op
+  pub kept : IsKeptAt op.walk.phase c o op
+  pub placed : (m : ℕ) → change_in (view_of op) ≡ Some m → IsPlacedOnce c op m

@@ -1,0 +1,100 @@
+-- The outcome of an operation: who sets it, and what it tells of the state that it was set in.
+use Rattle.std.specs.Prelude.{◌≡◌, ◌≢◌, ℕ, ◌+◌, ◌<◌, ◌≤◌, ◌⊎◌, List, Option, Some, None, length}
+use Rattle.std.specs.List.{Contains}
+use Rattle.std.specs.FinMap as pairs
+use Rattle.mt_rows.specs.declared.command.Command.{Command}
+use Rattle.mt_rows.specs.declared.command.Command.TheVariants.{Get}
+use Rattle.mt_rows.specs.declared.reply.Reply.{Reply}
+use Rattle.mt_rows.specs.declared.reply.Reply.TheVariants as replies
+use Rattle.mt_rows.specs.Rows.{Bytes, Columns, shown}
+use Rattle.mt_rows.specs.Commands.{key_of}
+use Rattle.mt_slices.specs.Keys.{stored_key}
+use Rattle.mt_slices.specs.Slices.{slice_of}
+use Rattle.mt_border.specs.declared.entry.FoundKind.TheVariants.{Link}
+use Rattle.mt_tape.specs.declared.entry.Entry.{Entry as TapeEntry}
+use Rattle.mt_tape.specs.Histories.{written_key}
+use Rattle.mt_arena.specs.Accesses.{at}
+use Rattle.mt_descent.specs.Kept.{IsInSlot, HasSlot}
+use Rattle.mt_operation.specs.declared.walk.Phase.{Phase}
+use Rattle.mt_operation.specs.declared.walk.Phase.TheVariants.{Search, Load, Confirm, Judge, Store, Publish, Unlock, Done}
+use Rattle.mt_operation.specs.declared.outcome.Outcome.{Outcome}
+use Rattle.mt_operation.specs.Operations.{OperationView}
+use Rattle.mt_state.specs.Views.{StateView, contents_of, map_of}
+
+-- the key that an operation is about, with its tenant
+abbrev pub key_asked : OperationView → ℕ × Bytes
+key_asked op = (op.tenant, key_of op.command)
+
+-- the columns that a get asks
+abbrev pub columns_asked : Command → Option (List ℕ)
+columns_asked (Get key columns) = Some columns
+columns_asked _ = None
+
+-- an outcome of this reply, placed at this number
+abbrev pub Says : Option Outcome → Reply → ℕ → Type 0
+Says told reply m = told ≡ Some (record { reply = reply; at = m })
+
+-- a border node whose range begins at the key or before it has in no slot the key, nor a link for it
+pub record LacksKey (v : StateView) (key : Bytes) : Type 0 where
+  pub layer : ℕ
+  pub node : ℕ
+  pub there : node < length v.arena.nodes
+  pub border : (at v.arena node).level ≡ 0
+  pub from : (at v.arena node).low ≤ slice_of key layer
+  pub missing : (slot : ℕ) → HasSlot (at v.arena node) slot key layer → ⊥
+
+-- a border node has a link for the key
+pub record HasLink (v : StateView) (key : Bytes) : Type 0 where
+  pub layer : ℕ
+  pub node : ℕ
+  pub slot : ℕ
+  pub there : node < length v.arena.nodes
+  pub in_slot : IsInSlot (at v.arena node) slot key layer Link
+
+-- a get that goes to confirm from its search: its key stood not where it looked, and Absent has this step's number
+pub record NotesAbsent (old : StateView) (op : OperationView) (told : Option Outcome) : Type 0 where
+  pub says : Says told replies.Absent (old.steps + 1)
+  pub lacks : LacksKey old (stored_key op.tenant (key_of op.command))
+
+-- What a load shows is what the get asks of one pair's row, which that pair had at this step, and after each step from the reply's number on.
+-- That number is the get's first step, or a later one by which the row was written, as the tape tells. The pair is that of the get's own key
+-- wherever nobody made a step since its search.
+pub record ShowsRow (old : StateView) (op : OperationView) (told : Option Outcome) : Type 0 where
+  pub columns : List ℕ
+  pub asked : columns_asked op.command ≡ Some columns
+  pub key : ℕ × Bytes
+  pub row : Columns
+  pub number : ℕ
+  pub says : Says told (replies.Found (shown columns row)) number
+  pub there : pairs.get (contents_of old) key ≡ Some row
+  pub since : op.first ≤ number
+  pub made : number ≤ old.steps
+  pub stood : (m : ℕ) → number ≤ m → pairs.get (map_of old key.0 m) key.1 ≡ Some row
+  pub wrote : op.first < number → (entry : TapeEntry) × Contains old.tape.entries entry × (entry.step ≡ number) × (written_key entry ≡ key) × (entry.after ≡ Some row)
+  pub own : op.last ≡ old.steps → key ≡ key_asked op
+
+-- or it shows none, since it took a link, or somebody made a step since its search
+pub record ShowsNone (old : StateView) (op : OperationView) (told : Option Outcome) : Type 0 where
+  pub none : told ≡ None
+  pub why : HasLink old (stored_key op.tenant (key_of op.command)) ⊎ (op.last ≢ old.steps)
+
+-- memory stopped the operation at this step
+abbrev pub IsStopped : StateView → Option Outcome → Type 0
+IsStopped old told = Says told replies.NoMemory (old.steps + 1)
+
+-- a pair was made, or the quota had no room
+abbrev pub IsJudged : StateView → Option Outcome → Type 0
+IsJudged old told = Says told replies.New (old.steps + 1) ⊎ Says told replies.Full (old.steps + 1)
+
+-- the outcome after a step, by the phases before and after it: it is set by the step that looks or places, and an operation ends with the one that
+-- it has; every other step leaves it without one
+abbrev pub Notes : StateView → OperationView → Phase → Phase → Option Outcome → Type 0
+Notes old op Search Confirm told = NotesAbsent old op told
+Notes old op Load Confirm told = ShowsRow old op told ⊎ ShowsNone old op told
+Notes old op Load Done told = IsStopped old told
+Notes old op Judge Done told = IsStopped old told
+Notes old op Store Unlock told = Says told replies.Replaced (old.steps + 1)
+Notes old op Publish Unlock told = IsJudged old told
+Notes old op Confirm Done told = told ≡ op.outcome
+Notes old op Unlock Done told = told ≡ op.outcome
+Notes old op _ _ told = told ≡ None

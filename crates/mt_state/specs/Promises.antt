@@ -1,0 +1,114 @@
+-- What a step may do, and what it answers.
+use Rattle.std.specs.Prelude.{◌≡◌, ◌≢◌, ℕ, ◌+◌, ◌^◌, ◌<◌, ◌≤◌, ◌⊎◌, Bool, true, false, [], ◌∷◌, ◌++◌, Option, Some, None, length, slice_set}
+use Rattle.std.specs.FinMap as pairs
+use Rattle.mt_version.specs.Changes.{IsMarked}
+use Rattle.mt_rows.specs.declared.reply.Reply.{Reply}
+use Rattle.mt_rows.specs.Rows.{columns_of}
+use Rattle.mt_rows.specs.Changes.{changed}
+use Rattle.mt_rows.specs.Commands.{key_of}
+use Rattle.mt_insert.specs.Puts.{change_of}
+use Rattle.mt_rows.specs.Maps.{reply_of, is_change, is_no_memory}
+use Rattle.mt_rows.specs.Tenants.{tenant_map}
+use Rattle.mt_tape.specs.declared.entry.Entry.{Entry as TapeEntry}
+use Rattle.mt_runs.specs.Placings.{maps_after_one}
+use Rattle.mt_arena.specs.NodeView.{NodeView}
+use Rattle.mt_arena.specs.Edits.{pointed}
+use Rattle.mt_arena.specs.Arena.{ArenaView, Guarantee}
+use Rattle.mt_arena.specs.Accesses.{at}
+use Rattle.mt_operation.specs.declared.walk.Phase.{Phase}
+use Rattle.mt_operation.specs.declared.walk.Phase.TheVariants.{Load, Lock, Unlock}
+use Rattle.mt_operation.specs.declared.outcome.Outcome.{Outcome}
+use Rattle.mt_operation.specs.Operations.{OperationView}
+use Rattle.mt_descent.specs.Moves.{IsBlocked, IsBlockedAt}
+use Rattle.mt_state.specs.declared.moves.Move.{Move}
+use Rattle.mt_state.specs.declared.moves.Move.TheVariants.{Moved, Again, NoMemory as NoMemoryMove, Done as DoneMove, Spent, NoSuch}
+use Rattle.mt_state.specs.Views.{StateView, contents_of, op_at, map_of, quota_of, KeepsPast, IsPlaced}
+use Rattle.mt_operation.specs.Operations.{is_done}
+use Rattle.mt_state.specs.Steps.{HasMoved, change_in}
+use Rattle.mt_state.specs.Notes.{key_asked, Notes}
+
+-- nothing of contents and tape changes, and the operation has made no other change
+pub record IsQuiet (old new : StateView) (before after : OperationView) : Type 0 where
+  pub contents : contents_of new ≡ contents_of old
+  pub entries : new.tape.entries ≡ old.tape.entries
+  pub change : change_in after ≡ change_in before
+
+-- The step makes exactly its command's change: on its tenant's map, where its key has the row that the command makes of the one before, with one
+-- entry of the tape, of this step's number.
+pub record IsPlacing (old new : StateView) (before after : OperationView) : Type 0 where
+  pub reply : Reply
+  pub told : reply ≡ reply_of (quota_of old before.tenant) before.command (tenant_map before.tenant (contents_of old))
+  pub changes : is_change reply ≡ true
+  pub outcome : after.outcome ≡ Some (record { reply = reply; at = old.steps + 1 })
+  pub makes : (t : ℕ) → tenant_map t (contents_of new) ≡ maps_after_one (quota_of old) (Some (record { tenant = before.tenant; command = before.command })) (λ u. tenant_map u (contents_of old)) t
+  pub writes : pairs.get (contents_of new) (key_asked before) ≡ Some (changed (change_of before.command) (columns_of (pairs.get (contents_of old) (key_asked before))))
+  pub entry : TapeEntry
+  pub pushes : new.tape.entries ≡ old.tape.entries ++ entry ∷ []
+  pub step : entry.step ≡ old.steps + 1
+  pub worker : entry.worker ≡ before.worker
+  pub tenant : entry.tenant ≡ before.tenant
+  pub key_is : entry.key ≡ key_of before.command
+
+-- a finished operation's reply is right at a number from the operation's first step to its last, unless memory stopped the operation
+pub record IsAnswer (v : StateView) (op : OperationView) (told : Outcome) : Type 0 where
+  pub begun : 0 < op.first
+  pub since : op.first ≤ told.at
+  pub upto : told.at ≤ op.last
+  pub placed : is_no_memory told.reply ≡ false → IsPlaced v op.tenant op.command told.at told.reply
+
+-- an operation held the node before its step, or holds it after
+abbrev pub HoldsEither : ℕ → NodeView → NodeView → Type 0
+HoldsEither o n m = (n.holder ≡ Some o) ⊎ (m.holder ≡ Some o)
+
+-- Of the nodes that were there, a step of operation o changes at most those that it held or takes, and in another one whom it names as the one
+-- before it and as its parent.
+abbrev pub Touches : ℕ → ArenaView → ArenaView → Type 0
+Touches o old new = (k : ℕ) → k < length old.nodes →
+    (at new k ≡ at old k) ⊎ HoldsEither o (at old k) (at new k) ⊎ (at new k ≡ pointed (at old k) (at new k).previous (at new k).parent)
+
+-- a numbered step of operation o: it moves on by one phase, and all other operations stand; the maps just after it are those of now
+pub record IsStep (old new : StateView) (o : ℕ) (done : Bool) : Type 0 where
+  pub before : OperationView
+  pub after : OperationView
+  pub there : op_at old.table o ≡ Some before
+  pub unfinished : is_done before.phase ≡ false
+  pub moves : HasMoved before after (old.steps + 1)
+  pub notes : Notes old before before.phase after.phase after.outcome
+  pub table : new.table ≡ slice_set old.table o (Some after)
+  pub number : new.steps ≡ old.steps + 1
+  pub logs : new.logs ≡ old.logs
+  pub grows : KeepsPast old new
+  pub arena : Guarantee o old.arena new.arena
+  pub touches : Touches o old.arena new.arena
+  pub effect : IsQuiet old new before after ⊎ IsPlacing old new before after
+  pub ends : done ≡ is_done after.phase
+  pub answer : done ≡ true → (told : Outcome) × (after.outcome ≡ Some told) × IsAnswer new after told
+  pub present : (t : ℕ) → map_of new t new.steps ≡ tenant_map t (contents_of new)
+
+-- the operation is there, and a step of it is left
+abbrev pub HasStep : StateView → ℕ → Type 0
+HasStep v o = (op : OperationView) × (op_at v.table o ≡ Some op) × (is_done op.phase ≡ false)
+
+-- what is in the way of the next step of an operation at this phase: a lock, where it is to lock; an unstable slot, where it is to load; else a mark;
+-- and the node's holder
+abbrev pub IsInTheWay : ArenaView → Phase → ℕ → Type 0
+IsInTheWay v Lock holder = (k : ℕ) × (k < length v.nodes) × ((at v k).holder ≡ Some holder)
+IsInTheWay v Load holder = (k slot : ℕ) × (k < length v.nodes) × IsBlockedAt (at v k) slot holder
+IsInTheWay v phase holder = (k : ℕ) × (k < length v.nodes) × IsBlocked (at v k) holder
+
+-- another operation, which has a step left, is in the way
+pub record IsHeldByOther (v : StateView) (o holder : ℕ) : Type 0 where
+  pub other : holder ≢ o
+  pub unfinished : HasStep v holder
+  pub op : OperationView
+  pub there : op_at v.table o ≡ Some op
+  pub holds : IsInTheWay v.arena op.phase holder
+
+-- what a step may answer
+abbrev pub Tells : StateView → StateView → ℕ → Move → Type 0
+Tells old new o Moved = IsStep old new o false
+Tells old new o DoneMove = IsStep old new o true
+Tells old new o (Again holder) = (new ≡ old) × HasStep old o × IsHeldByOther old o holder
+Tells old new o Spent = (new ≡ old) × HasStep old o × (old.steps ≡ 2 ^ 59)
+Tells old new o NoSuch = (new ≡ old) × ¬ HasStep old o
+Tells old new o NoMemoryMove = ⊥

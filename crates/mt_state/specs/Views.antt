@@ -1,0 +1,83 @@
+-- What a state shows, and the maps that it had.
+use Rattle.std.specs.Prelude.{◌≡◌, ℕ, ◌-◌, ◌<◌, ◌≤◌, Bool, true, false, List, map, Option, Some, None, slice_index_or}
+use Rattle.std.specs.Option.{option_map}
+use Rattle.mt_rows.specs.declared.tenants.Account.{Account}
+use Rattle.mt_rows.specs.declared.command.Command.{Command}
+use Rattle.mt_rows.specs.declared.reply.Reply.{Reply}
+use Rattle.mt_rows.specs.Accounts.{Accounts, account_of}
+use Rattle.mt_rows.specs.Maps.{Map, reply_of, is_change}
+use Rattle.mt_rows.specs.Tenants.{Contents}
+use Rattle.mt_tape.specs.Tapes.{Kept}
+use Rattle.mt_tape.specs.Histories.{contents_at, map_at, is_changed}
+use Rattle.mt_arena.specs.Arena.{ArenaView, content_of}
+use Rattle.mt_operation.specs.Operations.{OperationView, view_of}
+use Rattle.mt_operation.specs.Tables.{Table}
+use Rattle.mt_descent.specs.Pasts.{Past}
+
+-- the operations by their ids, as they are shown: those that were begun and whose answer was not taken
+abbrev pub Shown : Type 0
+Shown = List (Option OperationView)
+
+-- what a state shows: how many steps it has made, how many logs it serves, the tenants' accounts, all nodes and trees, the changes since a floor,
+-- and the operations
+pub record StateView : Type 0 where
+  pub steps : ℕ
+  pub logs : ℕ
+  pub accounts : Accounts
+  pub arena : ArenaView
+  pub tape : Kept
+  pub table : Shown
+
+-- what is inside: all of each operation
+pub record Core : Type 0 where
+  pub steps : ℕ
+  pub logs : ℕ
+  pub accounts : Accounts
+  pub arena : ArenaView
+  pub tape : Kept
+  pub table : Table
+
+-- what is shown of what is inside
+abbrev pub shown : Core → StateView
+shown c = record { steps = c.steps; logs = c.logs; accounts = c.accounts; arena = c.arena; tape = c.tape; table = map (option_map view_of) c.table }
+
+-- the operation of an id, as it is shown
+abbrev pub op_at : Shown → ℕ → Option OperationView
+op_at table o = slice_index_or table o None
+
+-- all pairs
+abbrev pub contents_of : StateView → Contents
+contents_of v = content_of v.arena
+
+-- a tenant's map after step m
+abbrev pub map_of : StateView → ℕ → ℕ → Map
+map_of v t m = map_at v.tape.entries (contents_of v) t m
+
+-- whether step m changed a map
+abbrev pub changed_at : StateView → ℕ → Bool
+changed_at v m = is_changed v.tape.entries m
+
+-- the steps that were made, with the contents after each
+abbrev pub past_of : Core → Past
+past_of c = record { steps = c.steps; contents = contents_at c.tape.entries (content_of c.arena) }
+
+-- how many pairs an account may have, none where there is no account
+abbrev pub quota_in : Option Account → ℕ
+quota_in None = 0
+quota_in (Some account) = account.quota
+
+-- how many pairs a tenant may have
+abbrev pub quota_of : StateView → ℕ → ℕ
+quota_of v t = quota_in (account_of v.accounts t)
+
+-- the reply to a command is right at a number: that of a change on the map just before it, any other on the map then
+pub record IsPlaced (v : StateView) (tenant : ℕ) (command : Command) (at : ℕ) (reply : Reply) : Type 0 where
+  pub changes : is_change reply ≡ true → (changed_at v at ≡ true) × (reply ≡ reply_of (quota_of v tenant) command (map_of v tenant (at - 1)))
+  pub looks : is_change reply ≡ false → reply ≡ reply_of (quota_of v tenant) command (map_of v tenant at)
+
+-- what stays of what was: no number falls, and the maps, the changes and the quotas of all steps made stay
+pub record KeepsPast (old new : StateView) : Type 0 where
+  pub steps : old.steps ≤ new.steps
+  pub quotas : (t : ℕ) → quota_of new t ≡ quota_of old t
+  pub maps : (t m : ℕ) → m ≤ old.steps → map_of new t m ≡ map_of old t m
+  pub changes : (m : ℕ) → m ≤ old.steps → changed_at new m ≡ changed_at old m

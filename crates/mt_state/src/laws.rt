@@ -1,0 +1,46 @@
+//! What the steps of others leave of an operation, and what a step leaves of the invariant. Each is a
+//! contract alone: no code runs.
+
+ghost use Rattle.std.specs.Prelude.{◌≡◌, ◌≢◌, ◌<◌, ◌≤◌, ◌^◌, ℕ, Bool, false, Some, None, length};
+ghost use Rattle.mt_version.specs.Changes.{IsStable};
+ghost use Rattle.mt_arena.specs.Arena.{ArenaView};
+ghost use Rattle.mt_arena.specs.Layers.{slot_at};
+ghost use Rattle.mt_arena.specs.NodeFacts.{IsUnstable};
+ghost use Rattle.mt_arena.specs.Accesses.{at};
+ghost use Rattle.mt_operation.specs.declared.walk.Phase.{Phase};
+ghost use Rattle.mt_operation.specs.declared.walk.Phase.TheVariants.{Load, Lock};
+ghost use Rattle.mt_operation.specs.declared.outcome.Outcome.{Outcome};
+ghost use Rattle.mt_operation.specs.declared.operation.Operation.{Operation};
+ghost use Rattle.mt_operation.specs.Operations.{OperationView, is_done};
+ghost use Rattle.mt_state.specs.Views.{StateView, Core, shown, KeepsPast};
+ghost use Rattle.mt_state.specs.Promises.{IsAnswer, IsInTheWay, Touches, IsStep};
+ghost use Rattle.mt_state.specs.Kept.{IsKeptOf};
+ghost use Rattle.mt_state.specs.Invariant.{StateInvariant, StateGuarantee};
+ghost use Rattle.mt_state.specs.Moves.{IsMove, IsTold};
+
+/// All that is kept of an operation, at whatever phase it is, each step of another one keeps: what
+/// counts is what that step leaves to others. An answer that was right stays right.
+pub fn others_keep_theirs()
+    ensures kept { (old new : Core) (o q : ℕ) (op : Operation) → StateGuarantee old new o → q ≢ o → old.steps < new.steps →
+        IsKeptOf old q op → IsKeptOf new q op }
+    ensures answers { (old new : StateView) (op : OperationView) (told : Outcome) → KeepsPast old new → op.last ≤ old.steps →
+        IsAnswer old op told → IsAnswer new op told }
+{}
+
+/// A step that brings of its own operation what it has to keeps the invariant over all operations,
+/// and may be told.
+pub fn a_step_keeps_the_invariant()
+    ensures invariant { (old new : Core) (o : ℕ) (before after : Operation) → StateInvariant old → IsMove old new o before after →
+        old.steps < 2 ^ 59 → StateInvariant new }
+    ensures told { (old new : Core) (o : ℕ) (before after : Operation) → StateInvariant old → IsMove old new o before after →
+        IsTold old new o before after → old.steps < 2 ^ 59 → IsStep (shown old) (shown new) o (is_done after.walk.phase) }
+{}
+
+/// What is refused: an operation told to wait for a lock where it is only to read, and a step that
+/// changes the keys of a node which another operation holds.
+pub fn wrong_steps_are_refused()
+    ensures lock_alone { (v : ArenaView) (phase : Phase) (holder : ℕ) → phase ≢ Lock → phase ≢ Load →
+        ((k : ℕ) → k < length v.nodes → IsStable (at v k).version) → ¬ IsInTheWay v phase holder }
+    ensures of_another { (o q k : ℕ) (old new : ArenaView) → Touches o old new → k < length old.nodes → q ≢ o →
+        (at old k).holder ≡ Some q → (at new k).holder ≢ Some o → (at new k).slots ≡ (at old k).slots }
+{}

@@ -1,0 +1,11 @@
+//! What a store over the arena is, step by step: what its state shows, what a step of an operation
+//! promises, what the state keeps of each operation, and what a step leaves to all others.
+//!
+//! Definitions and laws; the state itself, with its calls, stands above. `specs/Promises.antt` says
+//! what each step may do, `specs/Invariant.antt` what a state keeps.
+#![tactic(auto)]
+
+pub mod laws;
+pub mod moves;
+
+pub use moves::Move;
