@@ -55,9 +55,9 @@ begun task = record { task = task; walk = walk_from_top (not (is_get (ask task))
 abbrev pub moved : Operation → ℕ → Walk → Operation
 moved op step walk = record op { walk = record walk { first = if op.walk.first == 0 then step else op.walk.first }; last = step }
 
--- the same with this outcome
-abbrev pub noted : Operation → Outcome → Operation
-noted op outcome = record op { outcome = Some outcome }
+-- the same with this outcome, or with none
+abbrev pub noted : Operation → Option Outcome → Operation
+noted op outcome = record op { outcome = outcome }
 
 -- with this made ready
 abbrev pub made_ready : Operation → Prepared → Operation

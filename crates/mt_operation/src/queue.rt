@@ -50,13 +50,13 @@ pub(crate) fn move_at(seats: &mut Slab<Seat>, id: usize, step: u64, walk: Walk)
     }
 }
 
-/// An operation has its outcome.
-pub(crate) fn note_at(seats: &mut Slab<Seat>, id: usize, outcome: Outcome)
+/// An operation has this outcome, or none.
+pub(crate) fn note_at(seats: &mut Slab<Seat>, id: usize, outcome: Option<Outcome>)
     ensures becomes { Becomes seats.old.slots seats.new.slots id (λ op. noted op outcome) }
     ensures none { seat_at seats.old.slots id ≡ None → seats.new.slots ≡ seats.old.slots }
 {
     if let Some(seat) = seats.get_mut(id) {
-        seat.operation.outcome = Some(outcome);
+        seat.operation.outcome = outcome;
     }
 }
 

@@ -116,9 +116,9 @@ impl Operations {
         move_at(&mut self.seats, id, step, walk);
     }
 
-    /// An operation has this outcome, in the place of any other that it had. Nothing happens where no
+    /// An operation has this outcome or none, in the place of any that it had. Nothing happens where no
     /// operation has the id.
-    pub fn note(&mut self, id: usize, outcome: Outcome)
+    pub fn note(&mut self, id: usize, outcome: Option<Outcome>)
         ensures notes { (op : AnyOperation) → op_at self.old id ≡ Some op → self.new ≡ slice_set self.old id (Some (noted op outcome)) }
         ensures absent { op_at self.old id ≡ None → self.new ≡ self.old }
     {

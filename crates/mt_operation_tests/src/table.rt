@@ -111,7 +111,7 @@ fn a_get_walks_and_is_answered(rt: HostRuntime) -> Result<(), Fail> {
     go_to(&mut table, id, 6, Phase::Confirm);
     assert_eq!(rt; floor_of(&table, id, 6), 4);
     let reply = Reply::Absent;
-    table.note(id, Outcome { reply, at: 6 });
+    table.note(id, Some(Outcome { reply, at: 6 }));
     assert!(rt;
         table
             .get(id)
