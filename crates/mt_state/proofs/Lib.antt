@@ -8,3 +8,5 @@ pub mod Moved
 pub mod Decides
 pub mod Replies
 pub mod Still
+pub mod Descents
+pub mod Reading

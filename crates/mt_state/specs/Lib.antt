@@ -5,3 +5,4 @@ pub mod Promises
 pub mod Kept
 pub mod Invariant
 pub mod Moves
+pub mod Ways

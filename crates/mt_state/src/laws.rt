@@ -16,7 +16,12 @@ ghost use Rattle.mt_state.specs.Views.{StateView, Core, shown, KeepsPast};
 ghost use Rattle.mt_state.specs.Promises.{IsAnswer, IsInTheWay, Touches, IsStep};
 ghost use Rattle.mt_state.specs.Kept.{IsKeptOf};
 ghost use Rattle.mt_state.specs.Invariant.{StateInvariant, StateGuarantee};
+ghost use Rattle.mt_operation.specs.declared.walk.Walk.{Walk};
+ghost use Rattle.mt_operation.specs.Tables.{op_at as operation_at};
+ghost use Rattle.mt_descent.specs.Pasts.{Past};
+ghost use Rattle.mt_descent.specs.Kept.{IsKept};
 ghost use Rattle.mt_state.specs.Moves.{IsMove, IsTold};
+ghost use Rattle.mt_state.specs.Ways.{IsDescent, Descends, descended};
 
 /// All that is kept of an operation, at whatever phase it is, each step of another one keeps: what
 /// counts is what that step leaves to others. An answer that was right stays right.
@@ -43,4 +48,13 @@ pub fn wrong_steps_are_refused()
         ((k : ℕ) → k < length v.nodes → IsStable (at v k).version) → ¬ IsInTheWay v phase holder }
     ensures of_another { (o q k : ℕ) (old new : ArenaView) → Touches o old new → k < length old.nodes → q ≢ o →
         (at old k).holder ≡ Some q → (at new k).holder ≢ Some o → (at new k).slots ≡ (at old k).slots }
+{}
+
+/// An operation that looks for the node of its key, and goes on its way by the step of a phase, makes
+/// a lawful step, and the invariant stays.
+pub fn a_descent_is_a_step()
+    ensures { (c : Core) (o : ℕ) (op : Operation) (w : Walk) → StateInvariant c → c.steps < 2 ^ 59 → operation_at c.table o ≡ Some op →
+        IsDescent op.walk.phase → Descends op.walk w → ((past : Past) → IsKept c.arena past op.task.key None w) →
+        let new = descended c o op w in
+        StateInvariant new × IsStep (shown c) (shown new) o false }
 {}
