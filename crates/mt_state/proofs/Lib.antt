@@ -10,3 +10,4 @@ pub mod Replies
 pub mod Still
 pub mod Descents
 pub mod Reading
+pub mod Confirming

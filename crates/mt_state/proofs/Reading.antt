@@ -5,7 +5,8 @@ use Rattle.std.specs.Option.{option_map}
 use Rattle.std.specs.FinMap.{get}
 use Rattle.std.proofs.lemmas.Bool.{both_ways}
 use Rattle.std.proofs.lemmas.Option.{same_Some}
-use Rattle.mt_slices.specs.Keys.{stored_key}
+use Rattle.mt_slices.specs.Keys.{IsStoredKey, stored_key}
+use Rattle.mt_slices.proofs.Tenants.{stored_key-again}
 use Rattle.mt_slices.specs.Slices.{slice_of, mark_of, suffix_of}
 use Rattle.mt_rows.specs.declared.command.Command.{Command}
 use Rattle.mt_rows.specs.declared.reply.Reply.{Reply}
@@ -22,7 +23,11 @@ use Rattle.mt_border.specs.declared.entry.Find.TheVariants as finds
 use Rattle.mt_border.specs.Entry.{IsKind, IsLink, pair_of}
 use Rattle.mt_border.specs.declared.entry.Held.{Held}
 use Rattle.mt_border.specs.declared.entry.Held.TheVariants as helds
+use Rattle.mt_slices.specs.declared.mark.Mark.{Mark}
+use Rattle.mt_border.specs.Entries.{IsMissing}
 use Rattle.mt_border.specs.Contents.{owned}
+use Rattle.mt_border.proofs.Edits.{any_entry}
+use Rattle.mt_tape.specs.Histories.{contents_at}
 use Rattle.mt_tape.proofs.TapeLaws.{contents_at-now}
 use Rattle.mt_arena.specs.NodeView.{NodeView}
 use Rattle.mt_arena.specs.Layers.{slot_at}
@@ -40,13 +45,13 @@ use Rattle.mt_operation.specs.Tasks.{ask}
 use Rattle.mt_operation.specs.Operations.{OperationView, view_of, is_done, moved}
 use Rattle.mt_operation.specs.Tables.{Table, op_at as operation_at}
 use Rattle.mt_descent.specs.Pasts.{Past, IsNow, AreStamped}
-use Rattle.mt_descent.specs.Kept.{IsInSlot, HasSlot, IsKept, Had, TakenWasRight}
+use Rattle.mt_descent.specs.Kept.{IsInSlot, HasSlot, IsAtBorder, KeptAt, IsKept, Had, TakenWasRight}
 use Rattle.mt_descent.specs.Moves.{Continues, FindsIn, after_search, Confirms, after_confirm, after_change}
 use Rattle.mt_state.specs.Views.{StateView, Core, shown, past_of, map_of, quota_of, op_at, IsPlaced}
 use Rattle.mt_state.specs.Steps.{MayFollow, told_change, change_in}
 use Rattle.mt_state.specs.Notes.{Notes, LacksKey, Says, columns_asked}
 use Rattle.mt_state.specs.Ways.{IsDescent, IsOnWay, Descends}
-use Rattle.mt_state.specs.Kept.{IsOpenOperation, TellsTaken, IsOnItsWay, IsAtConfirm, HasAnswer, IsKeptAt}
+use Rattle.mt_state.specs.Kept.{IsOfKind, IsOpenOperation, TellsTaken, IsOnItsWay, IsAtLoad, IsAtConfirm, HasAnswer, IsKeptAt}
 use Rattle.mt_state.specs.Invariant.{StateInvariant}
 use Rattle.mt_state.proofs.Replies.{get_looks, get_absent, get_found}
 use Rattle.mt_state.proofs.Decides.{same_or_not}
@@ -64,7 +69,7 @@ way_of Verify d c o op k = k
 way_of Forward d c o op k = k
 way_of _ d c o op k = absurd d
 
-kept_on_way : (p : Phase) → IsOnWay p → (c : Core) (o : ℕ) (op : Operation) → IsOnItsWay c op → IsKeptAt p c o op
+pub kept_on_way : (p : Phase) → IsOnWay p → (c : Core) (o : ℕ) (op : Operation) → IsOnItsWay c op → IsKeptAt p c o op
 kept_on_way Enter d c o op k = k
 kept_on_way Pick d c o op k = k
 kept_on_way Child d c o op k = k
@@ -82,7 +87,7 @@ descent_free Verify d = tt
 descent_free Forward d = tt
 descent_free _ d = absurd d
 
-on_way_unready : (p : Phase) → IsOnWay p → IsUnready p
+pub on_way_unready : (p : Phase) → IsOnWay p → IsUnready p
 on_way_unready Enter d = tt
 on_way_unready Pick d = tt
 on_way_unready Child d = tt
@@ -92,7 +97,7 @@ on_way_unready Forward d = tt
 on_way_unready Lock d = tt
 on_way_unready _ d = absurd d
 
-on_way_open : (p : Phase) → IsOnWay p → is_done p ≡ false
+pub on_way_open : (p : Phase) → IsOnWay p → is_done p ≡ false
 on_way_open Enter d = refl
 on_way_open Pick d = refl
 on_way_open Child d = refl
@@ -132,3 +137,173 @@ module _ (c : Core) (now : StateView) (o : ℕ) (is : shown c ≡ now) (h : Stat
       still_gives c now o is h room op there (descent_free op.walk.phase descends) w op.outcome goes.follows (on_way_unready w.phase goes.on_way) goes.same.writes goes.kind refl
       (descent_notes op.walk.phase descends (shown c) (view_of op) w.phase op.outcome way.untold) (ap told_change way.untold)
       (kept_on_way w.phase goes.on_way (still c now o is h room op there (descent_free op.walk.phase descends) w op.outcome) o after on) false (sym (on_way_open w.phase goes.on_way))
+
+-- a stored key is that of its tenant and its user's key
+pub key_of_owner : (key : Bytes) (tenant : ℕ) (user : Bytes) → IsStoredKey key → owned key ≡ (tenant, user) → key ≡ stored_key tenant user
+key_of_owner key tenant user stored owner = sym (stored_key-again key stored.has_tenant stored.are_bytes) ∙ ap (λ (q : ℕ × Bytes). stored_key q.0 q.1) owner
+
+-- an operation that has begun: its walk is the one that the step leads to
+pub walk_same : (c : Core) (op : Operation) → IsOpenOperation c op → (w : Walk) → 0 < op.walk.first → w.first ≡ op.walk.first → (moved op (c.steps + 1) w).walk ≡ w
+walk_same c op k w begun same = let first = first_same c op k w begun ∙ sym same in (λ a. record w { first = first a })
+
+-- the contents after the step are those of the arena
+pub now_is : (c : Core) → StateInvariant c → (new : Core) → new.steps ≡ c.steps + 1 → new.arena ≡ c.arena → new.tape.entries ≡ c.tape.entries → IsNow (past_of new) (c.steps + 1) c.arena
+now_is c h new steps arena entries = record {
+  made = omega (arith, steps);
+  contents = (λ a. contents_at (entries a) (content_of (arena a)) (c.steps + 1)) ∙ contents_at-now c.tape.floor (c.steps + 1) c.tape.entries (content_of c.arena) h.tape.rises (omega (arith, h.tape.made));
+}
+
+-- what a search that leads on to confirm has not found
+module _ (c : Core) (h : StateInvariant c) (arena : IsArena c.arena.nodes c.arena.trees) (key : Bytes) (w : Walk) (within : w.place.node < length c.arena.nodes) (border : (at c.arena w.place.node).level ≡ 0) (from : (at c.arena w.place.node).low ≤ slice_of key w.layer) where
+  abbrev searched_node : NodeView
+  searched_node = at c.arena w.place.node
+
+  not_another : (held : Held) (mark : Mark) (suffix : List ℕ) (kind : FoundKind) → kind ≢ OtherLong → IsKind (record { slice = 0; mark = mark; held = held }) suffix OtherLong → IsKind (record { slice = 0; mark = mark; held = held }) suffix kind → ⊥
+  not_another (helds.Stable pair) mark suffix ThisKey leads other this = other.1 this
+  not_another (helds.Unstable pair tree) mark suffix ThisKey leads other this = other.1 this
+  not_another (helds.Link tree) mark suffix ThisKey leads other this = absurd this
+  not_another (helds.Stable pair) mark suffix ToTree leads other this = absurd this.1
+  not_another (helds.Unstable pair tree) mark suffix ToTree leads other this = absurd this.1
+  not_another (helds.Link tree) mark suffix ToTree leads other this = absurd other.1
+  not_another held mark suffix OtherLong leads other this = leads refl
+
+  -- a slot of the key is the one that was found
+  one_slot : (slot i : ℕ) (kind other : FoundKind) → IsInSlot searched_node slot key w.layer other → IsInSlot searched_node i key w.layer kind → i ≡ slot
+  one_slot slot i kind other f g =
+      same_slot c.arena.nodes w.place.node i slot arena.nodes within g.in_range f.in_range (g.slice_is ∙ sym f.slice_is) (g.mark_is ∙ sym f.mark_is)
+
+  lacks_missing : IsMissing searched_node.slots (slice_of key w.layer) (mark_of key w.layer) → (slot : ℕ) → HasSlot searched_node slot key w.layer → ⊥
+  lacks_missing missing slot has = missing slot any_entry has.in_slot.in_range has.in_slot.slice_is has.in_slot.mark_is
+
+  lacks_other : (slot : ℕ) → IsInSlot searched_node slot key w.layer OtherLong → (i : ℕ) → HasSlot searched_node i key w.layer → ⊥
+  lacks_other slot f i has =
+      let same = one_slot slot i has.kind OtherLong f has.in_slot in
+      let here = subst (λ j. IsInSlot searched_node j key w.layer has.kind) same has.in_slot in
+      not_another (slot_at searched_node slot).held (slot_at searched_node slot).mark (suffix_of key w.layer) has.kind has.leads f.kind_is here.kind_is
+
+  pub lacks : (slot : ℕ) (found : Find) → FindsIn searched_node key w.layer found → (after_search found w 0).phase ≡ Confirm → (i : ℕ) → HasSlot searched_node i key w.layer → ⊥
+  lacks slot finds.Missing f e i has = lacks_missing f i has
+  lacks slot (finds.Slot at_slot OtherLong) f e i has = lacks_other at_slot f i has
+  lacks slot (finds.Slot at_slot ThisKey) f e i has = absurd (cc)
+  lacks slot (finds.Slot at_slot ToTree) f e i has = absurd (cc)
+
+module _ (c : Core) (now : StateView) (o : ℕ) (is : shown c ≡ now) (h : StateInvariant c) (room : now.steps < 2 ^ 59) (arena : IsArena c.arena.nodes c.arena.trees) (op : Operation) (there : operation_at c.table o ≡ Some op) (at_search : op.walk.phase ≡ Search) where
+  searching : IsOnItsWay c op
+  searching = subst (λ (p : Phase). IsKeptAt p c o op) at_search (h.ops o op there).kept
+
+  abbrev pub search_free : IsFree op.walk.phase
+  search_free = subst IsFree (sym at_search) tt
+
+  begun : 0 < op.walk.first
+  begun = (h.ops o op there).always.begun (λ enters. absurd (let no : Search ≡ Enter = sym at_search ∙ enters in cc))
+
+  -- what is kept of the operation at its border node
+  at_border : IsAtBorder c.arena op.task.key op.walk
+  at_border = subst (λ (p : Phase). KeptAt p c.arena (past_of c) op.task.key None op.walk) at_search searching.kept
+
+  -- its stored key is the one that it is asked for
+  key_asked_is : op.task.key ≡ stored_key op.task.tenant (key_of (ask op.task))
+  key_asked_is = let k = (h.ops o op there).always in key_of_owner op.task.key op.task.tenant (key_of (ask op.task)) k.stored k.owner
+
+  module _ (w : Walk) (found : Find) (has_found : FindsIn (at c.arena op.walk.place.node) op.task.key op.walk.layer found) (is_after : w ≡ after_search found op.walk (c.steps + 1))
+      (kept : (past : Past) (row : Option Columns) → IsNow past (c.steps + 1) c.arena → op.walk.first ≤ c.steps + 1 → IsKept c.arena past op.task.key row w) where
+    first_upto_now : op.walk.first ≤ c.steps + 1
+    first_upto_now = let k = (h.ops o op there).always in omega (arith, k.order, k.made)
+
+    writes_same : w.writes ≡ op.walk.writes
+    writes_same = ap (λ (x : Walk). x.writes) is_after ∙ by found
+      where
+        by : (f : Find) → (after_search f op.walk (c.steps + 1)).writes ≡ op.walk.writes
+        by finds.Missing = refl
+        by (finds.Slot slot OtherLong) = refl
+        by (finds.Slot slot ThisKey) = refl
+        by (finds.Slot slot ToTree) = refl
+
+    first_stays_same : w.first ≡ op.walk.first
+    first_stays_same = ap (λ (x : Walk). x.first) is_after ∙ by found
+      where
+        by : (f : Find) → (after_search f op.walk (c.steps + 1)).first ≡ op.walk.first
+        by finds.Missing = refl
+        by (finds.Slot slot OtherLong) = refl
+        by (finds.Slot slot ThisKey) = refl
+        by (finds.Slot slot ToTree) = refl
+
+    looks_on : op.walk.writes ≡ false
+    looks_on = subst (λ (p : Phase). IsOfKind p op.walk.writes) at_search (h.ops o op there).always.kind
+
+    -- a search that found nothing: the key is missing, as of this step
+    taken_missing : (f : Find) → (after_search f op.walk (c.steps + 1)).phase ≡ Confirm → ((after_search f op.walk (c.steps + 1)).taken ≡ takens.Missing) × ((after_search f op.walk (c.steps + 1)).right_at ≡ c.steps + 1) × ((after_search f op.walk 0).phase ≡ Confirm)
+    taken_missing finds.Missing e = (refl, refl, refl)
+    taken_missing (finds.Slot slot OtherLong) e = (refl, refl, refl)
+    taken_missing (finds.Slot slot ThisKey) e = absurd (cc)
+    taken_missing (finds.Slot slot ToTree) e = absurd (cc)
+
+    pub search_missing : w.phase ≡ Confirm → Gives now (still c now o is h room op there search_free w (Some (record { reply = Absent; at = c.steps + 1 }))) o false
+    search_missing confirms =
+        let told : Option Outcome = Some (record { reply = Absent; at = c.steps + 1 }) in
+        let new = still c now o is h room op there search_free w told in
+        let after = went op (c.steps + 1) w told op.prepared in
+        let k = (h.ops o op there).always in
+        let same = walk_same c op k w begun first_stays_same in
+        let t = taken_missing found (ap (λ (x : Walk). x.phase) (sym is_after) ∙ confirms) in
+        let own : IsAtConfirm new after = record {
+          row = None;
+          kept = subst (λ (x : Walk). IsKept c.arena (past_of new) op.task.key None x) (sym same) (kept (past_of new) None (now_is c h new refl refl refl) first_upto_now);
+          tells = subst (λ (t : Taken). TellsTaken after None t) (sym (ap (λ (x : Walk). x.taken) (same ∙ is_after) ∙ t.0)) (ap (λ n. Some (record { reply = Absent; at = n })) (sym (ap (λ (x : Walk). x.right_at) (same ∙ is_after) ∙ t.1)));
+          unprepared = searching.unprepared;
+        } in
+        still_gives c now o is h room op there search_free w told
+        (subst (λ (p : Phase). MayFollow p w.phase) (sym at_search) (subst (MayFollow Search) (sym confirms) tt))
+        (subst IsUnready (sym confirms) tt) writes_same (subst (λ (p : Phase). IsOfKind p w.writes) (sym confirms) (writes_same ∙ looks_on))
+        (sym (ap told_change searching.untold))
+        (subst (λ (p : Phase). Notes (shown c) (view_of op) p w.phase told) (sym at_search) (subst (λ (p : Phase). Notes (shown c) (view_of op) Search p told) (sym confirms) (record {
+          says = refl;
+          lacks = record {
+            layer = op.walk.layer;
+            node = op.walk.place.node;
+            there = at_border.covers.remembered.there;
+            border = at_border.border;
+            from = subst (λ (key : Bytes). (at c.arena op.walk.place.node).low ≤ slice_of key op.walk.layer) key_asked_is at_border.covers.remembered.from;
+            missing = subst (λ (key : Bytes). (slot : ℕ) → HasSlot (at c.arena op.walk.place.node) slot key op.walk.layer → ⊥) key_asked_is
+                (λ slot has. lacks c h arena op.task.key op.walk at_border.covers.remembered.there at_border.border at_border.covers.remembered.from slot found has_found t.2 slot has);
+          };
+        })))
+        (ap told_change searching.untold)
+        (subst (λ (p : Phase). IsKeptAt p new o after) (sym confirms) own) false (sym (ap is_done confirms))
+
+    -- a search that found a slot of the key, or of its link
+    slot_found : (f : Find) → FindsIn (at c.arena op.walk.place.node) op.task.key op.walk.layer f → (after_search f op.walk (c.steps + 1)).phase ≡ Load → HasSlot (at c.arena op.walk.place.node) (after_search f op.walk (c.steps + 1)).slot op.task.key op.walk.layer
+    slot_found finds.Missing g e = absurd (cc)
+    slot_found (finds.Slot slot OtherLong) g e = absurd (cc)
+    slot_found (finds.Slot slot ThisKey) g e = record { kind = ThisKey; in_slot = g; leads = λ no. cc }
+    slot_found (finds.Slot slot ToTree) g e = record { kind = ToTree; in_slot = g; leads = λ no. cc }
+
+    pub search_found : w.phase ≡ Load → Gives now (still c now o is h room op there search_free w op.outcome) o false
+    search_found loads =
+        let new = still c now o is h room op there search_free w op.outcome in
+        let after = went op (c.steps + 1) w op.outcome op.prepared in
+        let k = (h.ops o op there).always in
+        let same = walk_same c op k w begun first_stays_same in
+        let own : IsAtLoad new after = record {
+          way = record {
+            kept = subst (λ (x : Walk). IsKept c.arena (past_of new) op.task.key None x) (sym same) (kept (past_of new) None (now_is c h new refl refl refl) first_upto_now);
+            untold = searching.untold;
+            unprepared = searching.unprepared;
+          };
+          found = λ last. subst (λ (x : Walk). HasSlot (at c.arena x.place.node) x.slot op.task.key x.layer) (sym (same ∙ is_after))
+              (in_place found (slot_found found has_found (ap (λ (x : Walk). x.phase) (sym is_after) ∙ loads)));
+        } in
+        still_gives c now o is h room op there search_free w op.outcome
+        (subst (λ (p : Phase). MayFollow p w.phase) (sym at_search) (subst (MayFollow Search) (sym loads) tt))
+        (subst IsUnready (sym loads) tt) writes_same (subst (λ (p : Phase). IsOfKind p w.writes) (sym loads) (writes_same ∙ looks_on))
+        refl
+        (subst (λ (p : Phase). Notes (shown c) (view_of op) p w.phase op.outcome) (sym at_search) (subst (λ (p : Phase). Notes (shown c) (view_of op) Search p op.outcome) (sym loads) searching.untold))
+        (ap told_change searching.untold)
+        (subst (λ (p : Phase). IsKeptAt p new o after) (sym loads) own) false (sym (ap is_done loads))
+      where
+        in_place : (f : Find) → HasSlot (at c.arena op.walk.place.node) (after_search f op.walk (c.steps + 1)).slot op.task.key op.walk.layer
+            → HasSlot (at c.arena (after_search f op.walk (c.steps + 1)).place.node) (after_search f op.walk (c.steps + 1)).slot op.task.key (after_search f op.walk (c.steps + 1)).layer
+        in_place finds.Missing g = g
+        in_place (finds.Slot slot OtherLong) g = g
+        in_place (finds.Slot slot ThisKey) g = g
+        in_place (finds.Slot slot ToTree) g = g

@@ -1,0 +1,213 @@
+-- A get that compares the version with the one that it remembered: it is done with what it took, or goes on its way.
+use Rattle.std.proofs.Common.{◌≡◌, ◌≢◌, ℕ, ◌+◌, ◌<◌, ◌≤◌, ◌⊎◌, inl, inr, Bool, true, false, not, cond, List, Option, Some, None, refl, sym, ap, subst, ◌∙◌, arith}
+use Rattle.std.specs.Prelude.{◌^◌}
+use Rattle.std.specs.FinMap.{get}
+use Rattle.mt_rows.specs.declared.reply.Reply.{Reply}
+use Rattle.mt_rows.specs.declared.reply.Reply.TheVariants.{Absent, Found}
+use Rattle.mt_rows.specs.Rows.{Bytes, Columns, shown as columns_shown}
+use Rattle.mt_rows.specs.Commands.{key_of}
+use Rattle.mt_rows.specs.Maps.{is_get, is_change, is_no_memory, reply_of}
+use Rattle.mt_rows.proofs.ContentLaws.{get-tenant_map}
+use Rattle.mt_border.specs.Contents.{owned}
+use Rattle.mt_tape.specs.Histories.{contents_at}
+use Rattle.mt_arena.specs.Arena.{ArenaView, content_of}
+use Rattle.mt_arena.specs.Accesses.{at}
+use Rattle.mt_operation.specs.declared.walk.Phase.{Phase}
+use Rattle.mt_operation.specs.declared.walk.Phase.TheVariants.{Enter, Pick, Child, Verify, Search, Load, Confirm, Forward, Lock, Judge, Store, Publish, Unlock, Done}
+use Rattle.mt_operation.specs.declared.walk.Taken.{Taken}
+use Rattle.mt_operation.specs.declared.walk.Taken.TheVariants.{Missing, Row, Link, Nothing}
+use Rattle.mt_operation.specs.declared.walk.Walk.{Walk}
+use Rattle.mt_operation.specs.declared.outcome.Outcome.{Outcome}
+use Rattle.mt_operation.specs.declared.operation.Operation.{Operation}
+use Rattle.mt_operation.specs.Tasks.{ask}
+use Rattle.mt_operation.specs.Operations.{view_of, is_done, moved}
+use Rattle.mt_operation.specs.Tables.{op_at as operation_at}
+use Rattle.mt_descent.specs.Pasts.{Past}
+use Rattle.mt_descent.specs.Kept.{IsAtConfirm as WalksConfirm, KeptAt, IsKept, Had, TakenWasRight}
+use Rattle.mt_descent.specs.Moves.{Continues, Confirms, after_confirm, after_change}
+use Rattle.mt_state.specs.Views.{StateView, Core, shown, past_of, map_of, quota_of, IsPlaced}
+use Rattle.mt_state.specs.Steps.{MayFollow, told_change}
+use Rattle.mt_state.specs.Notes.{Notes, Says, columns_asked}
+use Rattle.mt_state.specs.Promises.{IsAnswer}
+use Rattle.mt_state.specs.Ways.{IsOnWay}
+use Rattle.mt_state.specs.Kept.{IsOfKind, IsOpenOperation, TellsTaken, IsOnItsWay, IsAtConfirm, HasAnswer, IsKeptAt}
+use Rattle.mt_state.specs.Invariant.{StateInvariant}
+use Rattle.mt_state.proofs.Replies.{get_looks, get_absent, get_found}
+use Rattle.mt_state.proofs.Decides.{same_or_not}
+use Rattle.mt_state.proofs.Descents.{Leads, first_aside, changed_leads}
+use Rattle.mt_state.proofs.Telling.{Gives}
+use Rattle.mt_state.proofs.Moved.{went, first_same, first_begun}
+use Rattle.mt_state.proofs.Still.{IsFree, IsUnready, still, still_gives}
+use Rattle.mt_state.proofs.Reading.{kept_on_way, on_way_unready, on_way_open}
+
+-- what is kept of a walk on its way does not speak of a row
+row_aside : (p : Phase) → IsOnWay p → (v : ArenaView) (past : Past) (key : Bytes) (row : Option Columns) (w : Walk) → KeptAt p v past key row w → KeptAt p v past key None w
+row_aside Enter on v past key row w k = k
+row_aside Pick on v past key row w k = k
+row_aside Child on v past key row w k = k
+row_aside Verify on v past key row w k = k
+row_aside Search on v past key row w k = k
+row_aside Forward on v past key row w k = k
+row_aside Lock on v past key row w k = k
+row_aside _ on v past key row w k = absurd on
+
+-- nor of the past
+past_aside : (p : Phase) → IsOnWay p → (v : ArenaView) (past other : Past) (key : Bytes) (row : Option Columns) (w : Walk) → KeptAt p v past key row w → KeptAt p v other key row w
+past_aside Enter on v past other key row w k = k
+past_aside Pick on v past other key row w k = k
+past_aside Child on v past other key row w k = k
+past_aside Verify on v past other key row w k = k
+past_aside Search on v past other key row w k = k
+past_aside Forward on v past other key row w k = k
+past_aside Lock on v past other key row w k = k
+past_aside _ on v past other key row w k = absurd on
+
+-- a get is one that does not write
+get_of : (b writes : Bool) → writes ≡ not b → writes ≡ false → b ≡ true
+get_of true writes e f = refl
+get_of false writes e f = absurd (let no = sym e ∙ f in cc)
+
+module _ (c : Core) (now : StateView) (o : ℕ) (is : shown c ≡ now) (h : StateInvariant c) (room : now.steps < 2 ^ 59) (op : Operation) (there : operation_at c.table o ≡ Some op) (at_confirm : op.walk.phase ≡ Confirm) where
+  confirming : IsAtConfirm c op
+  confirming = subst (λ (p : Phase). IsKeptAt p c o op) at_confirm (h.ops o op there).kept
+
+  abbrev pub confirm_free : IsFree op.walk.phase
+  confirm_free = subst IsFree (sym at_confirm) tt
+
+  always : IsOpenOperation c op
+  always = (h.ops o op there).always
+
+  begun : 0 < op.walk.first
+  begun = always.begun (λ enters. absurd (let no : Confirm ≡ Enter = sym at_confirm ∙ enters in cc))
+
+  looks_on : op.walk.writes ≡ false
+  looks_on = subst (λ (p : Phase). IsOfKind p op.walk.writes) at_confirm always.kind
+
+  gets : is_get (ask op.task) ≡ true
+  gets = get_of (is_get (ask op.task)) op.walk.writes always.writes looks_on
+
+  -- what it took tells of no change
+  no_change : (taken : Taken) → TellsTaken op confirming.row taken → told_change op.outcome ≡ None
+  no_change Missing t = ap told_change t
+  no_change Row t = ap told_change t.4
+  no_change (Link u) t = ap told_change t
+  no_change Nothing t = ap told_change t
+
+  module _ (w : Walk) (same : Continues op.walk w) (confirms : Confirms (at c.arena op.walk.place.node) op.walk w)
+      (kept : (past : Past) (row : Option Columns) → WalksConfirm c.arena past op.task.key row op.walk → IsKept c.arena past op.task.key row w) where
+    walks_confirm : (past : Past) → KeptAt Confirm c.arena past op.task.key confirming.row op.walk → WalksConfirm c.arena past op.task.key confirming.row op.walk
+    walks_confirm past k = k
+
+    -- what is kept of the walk now
+    kept_now : IsKept c.arena (past_of c) op.task.key confirming.row w
+    kept_now = kept (past_of c) confirming.row (subst (λ (p : Phase). KeptAt p c.arena (past_of c) op.task.key confirming.row op.walk) at_confirm confirming.kept)
+
+    -- the walk ends as it is, or goes on its way
+    after_taken : (taken : Taken) → w ≡ after_confirm taken op.walk → (w ≡ record op.walk { phase = Done }) ⊎ Leads Confirm w.phase w.writes
+    after_taken Missing e = inl e
+    after_taken Row e = inl e
+    after_taken (Link u) e = inr (subst (λ (x : Walk). Leads Confirm x.phase x.writes) (sym e) (tt, tt, tt))
+    after_taken Nothing e = inl e
+
+    ends_or_leads : (w ≡ record op.walk { phase = Done }) ⊎ Leads Confirm w.phase w.writes
+    ends_or_leads = elim (same_or_not (at c.arena op.walk.place.node).version op.walk.place.seen) [
+      | inl stands ↦ after_taken op.walk.taken (confirms.same stands)
+      | inr changed ↦ inr (subst (λ (x : Walk). Leads Confirm x.phase x.writes) (sym (confirms.changed changed))
+          (changed_leads Confirm tt tt op.walk (at c.arena op.walk.place.node).version (at c.arena op.walk.place.node).next))
+    ]
+
+    not_on_way : (p : Phase) → p ≡ Done → IsOnWay p → ⊥
+    not_on_way Done e on = on
+    not_on_way _ e on = absurd (cc)
+
+    -- where it is done, nothing of it has changed
+    ends : w.phase ≡ Done → w ≡ record op.walk { phase = Done }
+    ends e = elim ends_or_leads [
+      | inl is ↦ is
+      | inr leads ↦ absurd (not_on_way w.phase e leads.0)
+    ]
+
+    -- the get's command on the map at a number, by what its key had then
+    map_has : (m : ℕ) (row : Option Columns) → get (contents_at c.tape.entries (content_of c.arena) m) (owned op.task.key) ≡ row → get (map_of (shown c) op.task.tenant m) (key_of (ask op.task)) ≡ row
+    map_has m row e = get-tenant_map op.task.tenant (contents_at c.tape.entries (content_of c.arena) m) (key_of (ask op.task)) ∙ ap (get (contents_at c.tape.entries (content_of c.arena) m)) (sym always.owner) ∙ e
+
+    abbrev pub the_new : Core
+    the_new = still c now o is h room op there confirm_free w op.outcome
+
+    abbrev pub the_after : Operation
+    the_after = went op (c.steps + 1) w op.outcome op.prepared
+
+    pub confirm_done : w.phase ≡ Done → Gives now (still c now o is h room op there confirm_free w op.outcome) o true
+    confirm_done done =
+        let new = still c now o is h room op there confirm_free w op.outcome in
+        let after = went op (c.steps + 1) w op.outcome op.prepared in
+        let was : TakenWasRight (past_of c) op.task.key confirming.row w w.taken = subst (λ (p : Phase). KeptAt p c.arena (past_of c) op.task.key confirming.row w) done kept_now in
+        let right : TakenWasRight (past_of c) op.task.key confirming.row (record op.walk { phase = Done }) op.walk.taken =
+        subst (λ (x : Walk). TakenWasRight (past_of c) op.task.key confirming.row x x.taken) (ends done) was in
+        let own = by op.walk.taken right confirming.tells in
+        still_gives c now o is h room op there confirm_free w op.outcome
+        (subst (λ (p : Phase). MayFollow p w.phase) (sym at_confirm) (subst (MayFollow Confirm) (sym done) tt))
+        (subst IsUnready (sym done) tt) same.writes (subst (λ (p : Phase). IsOfKind p w.writes) (sym done) tt)
+        refl
+        (subst (λ (p : Phase). Notes (shown c) (view_of op) p w.phase op.outcome) (sym at_confirm) (subst (λ (p : Phase). Notes (shown c) (view_of op) Confirm p op.outcome) (sym done) refl))
+        (no_change op.walk.taken confirming.tells)
+        (subst (λ (p : Phase). IsKeptAt p new o after) (sym done) own) true (sym (ap is_done done))
+      where
+        first_is_same : the_after.walk.first ≡ op.walk.first
+        first_is_same = first_same c op always w begun
+
+        answered : (reply : Reply) (m : ℕ) → op.walk.first ≤ m → m ≤ c.steps → op.outcome ≡ Some (record { reply = reply; at = m }) → is_change reply ≡ false
+            → reply ≡ reply_of (quota_of (shown c) op.task.tenant) (ask op.task) (map_of (shown c) op.task.tenant m) → HasAnswer the_new the_after
+        answered reply m since made told looks is_reply = record {
+          outcome = record { reply = reply; at = m };
+          told = told;
+          right = record {
+            begun = first_begun c op always w;
+            since = omega (arith, first_is_same, since);
+            upto = omega (arith, made);
+            placed = λ real. record {
+              changes = λ e. absurd (let no = sym looks ∙ e in cc);
+              looks = λ e. is_reply;
+            };
+          };
+          unprepared = confirming.unprepared;
+        }
+
+        by : (taken : Taken) → TakenWasRight (past_of c) op.task.key confirming.row (record op.walk { phase = Done }) taken → TellsTaken op confirming.row taken → HasAnswer the_new the_after
+        by Missing had told = answered Absent op.walk.right_at had.since had.made told refl
+            (get_absent (quota_of (shown c) op.task.tenant) (ask op.task) (map_of (shown c) op.task.tenant op.walk.right_at) gets (map_has op.walk.right_at None had.had))
+        by Row had told = answered (Found (columns_shown told.1 told.0)) op.walk.right_at had.2.since had.2.made told.4 refl
+            (get_found (quota_of (shown c) op.task.tenant) (ask op.task) (map_of (shown c) op.task.tenant op.walk.right_at) told.1 told.0 told.3 (map_has op.walk.right_at (Some told.0) (had.2.had ∙ told.2)))
+        by (Link u) had told = absurd had
+        by Nothing had told = absurd had
+
+    pub confirm_back : w.phase ≢ Done → Gives now (still c now o is h room op there confirm_free w None) o false
+    confirm_back goes_on = elim ends_or_leads [
+      | inl e ↦ absurd (goes_on (ap (λ (x : Walk). x.phase) e))
+      | inr leads ↦ back leads
+    ]
+      where
+        back : Leads Confirm w.phase w.writes → Gives now (still c now o is h room op there confirm_free w None) o false
+        back leads =
+            let new = still c now o is h room op there confirm_free w None in
+            let after = went op (c.steps + 1) w None op.prepared in
+            let on : IsOnItsWay new after = record {
+              kept = first_aside w.phase leads.0 c.arena (past_of new) op.task.key None w after.walk.first
+                  (row_aside w.phase leads.0 c.arena (past_of new) op.task.key confirming.row w (past_aside w.phase leads.0 c.arena (past_of c) (past_of new) op.task.key confirming.row w kept_now));
+              untold = refl;
+              unprepared = confirming.unprepared;
+            } in
+            still_gives c now o is h room op there confirm_free w None
+            (subst (λ (p : Phase). MayFollow p w.phase) (sym at_confirm) leads.1)
+            (on_way_unready w.phase leads.0) same.writes leads.2
+            (sym (no_change op.walk.taken confirming.tells))
+            (notes w.phase leads.0)
+            (no_change op.walk.taken confirming.tells)
+            (kept_on_way w.phase leads.0 new o after on) false (sym (on_way_open w.phase leads.0))
+          where
+            notes : (p : Phase) → IsOnWay p → Notes (shown c) (view_of op) op.walk.phase p None
+            notes p on = subst (λ (q : Phase). Notes (shown c) (view_of op) q p None) (sym at_confirm) (by_phase p on)
+              where
+                by_phase : (q : Phase) → IsOnWay q → Notes (shown c) (view_of op) Confirm q None
+                by_phase Done on = absurd on
+                by_phase _ on = refl
