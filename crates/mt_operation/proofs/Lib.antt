@@ -1,0 +1,5 @@
+pub mod Tables
+pub mod Links
+pub mod QueueLaws
+pub mod OpenPuts
+pub mod TableMoves

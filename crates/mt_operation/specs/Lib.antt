@@ -2,3 +2,6 @@ pub mod Names
 pub mod Walks
 pub mod Tasks
 pub mod Operations
+pub mod Tables
+pub mod Seats
+pub mod Queues

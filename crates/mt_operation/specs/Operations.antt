@@ -1,5 +1,5 @@
 -- An operation between its steps: what is shown of it, and what each change makes of it.
-use Rattle.std.specs.Prelude.{ℕ, Bool, true, false, not, ◌&&◌, ◌==◌, if◌then◌else◌, Option, None}
+use Rattle.std.specs.Prelude.{ℕ, Bool, true, false, not, ◌&&◌, ◌==◌, if◌then◌else◌, Option, Some, None}
 use Rattle.mt_rows.specs.declared.command.Command.{Command}
 use Rattle.mt_rows.specs.Maps.{is_get}
 use Rattle.mt_operation.specs.declared.walk.Phase.{Phase}
@@ -7,6 +7,7 @@ use Rattle.mt_operation.specs.declared.walk.Phase.TheVariants.{Done}
 use Rattle.mt_operation.specs.declared.walk.Walk.{Walk}
 use Rattle.mt_operation.specs.declared.task.Task.{Task}
 use Rattle.mt_operation.specs.declared.outcome.Outcome.{Outcome}
+use Rattle.mt_operation.specs.declared.prepared.Prepared.{Prepared}
 use Rattle.mt_operation.specs.declared.operation.Operation.{Operation}
 use Rattle.mt_operation.specs.Tasks.{ask}
 use Rattle.mt_operation.specs.Walks.{walk_from_top}
@@ -53,3 +54,15 @@ begun task = record { task = task; walk = walk_from_top (not (is_get (ask task))
 -- an operation that has made the step of this number, which is its first where it had made none, and walks on so
 abbrev pub moved : Operation → ℕ → Walk → Operation
 moved op step walk = record op { walk = record walk { first = if op.walk.first == 0 then step else op.walk.first }; last = step }
+
+-- the same with this outcome
+abbrev pub noted : Operation → Outcome → Operation
+noted op outcome = record op { outcome = Some outcome }
+
+-- with this made ready
+abbrev pub made_ready : Operation → Prepared → Operation
+made_ready op prepared = record op { prepared = Some prepared }
+
+-- and with nothing ready
+abbrev pub with_nothing_ready : Operation → Operation
+with_nothing_ready op = record op { prepared = None }

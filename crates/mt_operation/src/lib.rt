@@ -1,18 +1,22 @@
-//! What all phases of an operation share: its task, its walk down the index, its outcome, and what it
-//! has made ready to write.
+//! What all phases of an operation share: its task, its walk down the index, its outcome, what it has
+//! made ready to write, and the table of all operations that are open.
 //!
 //! Each step of an operation is one phase. The crates above have the phases; here stands what an
-//! operation remembers from one to the next. Start with `operation`.
+//! operation remembers from one to the next, and in which order the open ones made their first
+//! steps. Start with `operation`, then `table`.
 #![tactic(auto)]
 
 pub mod operation;
 pub mod outcome;
 pub mod prepared;
+mod queue;
+pub mod table;
 pub mod task;
 pub mod walk;
 
 pub use operation::Operation;
 pub use outcome::Outcome;
 pub use prepared::Prepared;
+pub use table::Operations;
 pub use task::{Request, Task};
 pub use walk::{Phase, Place, Taken, Walk};

@@ -1,0 +1,425 @@
+-- A table stays one, and shows what it is to show: for the calls of table.rt.
+use Rattle.std.proofs.Common.{◌≡◌, ◌≢◌, ℕ, zero, suc, ◌-◌, ◌<◌, ◌≤◌, ◌⊎◌, inl, inr, Bool, true, false, not, ◌&&◌, ◌==◌, set, Option, Some, None, is_some, refl, sym, ap, subst, ◌∙◌, arith}
+use Rattle.slab.specs.Slab.{Slab, Updates}
+use Rattle.std.proofs.lemmas.Bool.{both_ways, cases_eq, eqb-true}
+use Rattle.std.proofs.lemmas.Option.{same_Some}
+use Rattle.mt_rows.specs.Maps.{is_get}
+use Rattle.mt_operation.specs.declared.task.Task.{Task}
+use Rattle.mt_operation.specs.declared.walk.Walk.{Walk}
+use Rattle.mt_operation.specs.declared.operation.Operation.{Operation}
+use Rattle.mt_operation.specs.declared.queue.Seat.{Seat}
+use Rattle.mt_operation.specs.declared.queue.Ends.{Ends}
+use Rattle.mt_operation.specs.Tasks.{ask}
+use Rattle.mt_operation.specs.Operations.{moved, is_done, is_unfinished, is_open_put}
+use Rattle.mt_operation.specs.Tables.{Table, op_at, prepared_in, HasOpenPut, MayMove, IsFloorNeeded}
+use Rattle.mt_operation.specs.Seats.{Seats, seat_at, operation_in, table_of, first_in, first_at, is_still, after_in, before_in, after_of, before_of, IsEndOrSeat}
+use Rattle.mt_operation.specs.Queues.{IsInQueue, queue_number, ComesNext, IsQueue, IsLastPut, IsTable, CutsOut, LinksLast, Becomes}
+use Rattle.mt_operation.proofs.Tables.{set_is, set_there, set_none}
+use Rattle.mt_operation.proofs.Links.{op_seat, table_set, seat_there, written_in}
+use Rattle.mt_operation.proofs.QueueLaws.{some_none, in_follows, same_queue, cut_queue, behind_queue}
+use Rattle.mt_operation.proofs.OpenPuts.{open_parts, open_joins}
+
+none_op : {op : Operation} → ◌≡◌ {A = Option Operation} None (Some op) → ⊥
+none_op e = cc
+
+none_seat : {seat : Seat} → ◌≡◌ {A = Option Seat} None (Some seat) → ⊥
+none_seat e = cc
+
+-- an operation with a first step is there
+first_some : (x : Option Operation) → 0 < first_in x → is_some x ≡ true
+first_some None lt = absurd (omega (arith, lt))
+first_some (Some op) lt = refl
+
+queue_seat : (seats : Seats) (s : Option ℕ) → IsInQueue (first_at (table_of seats)) s → IsEndOrSeat seats s
+queue_seat seats None here = tt
+queue_seat seats (Some o) here = sym (seat_there seats o) ∙ first_some (op_at (table_of seats) o) here
+
+-- the queue's last operation is there, and is none that has made no step
+pub last_seat : (seats : Seats) (ends : Ends) (put : Option ℕ) → IsTable seats ends put → IsEndOrSeat seats ends.last
+last_seat seats ends put h = queue_seat seats ends.last ((h.queue.befores None tt).0)
+
+still_first : (x : Option Seat) → is_still x ≡ true → first_in (operation_in x) ≡ 0
+still_first None e = absurd (cc)
+still_first (Some seat) e = eqb-true seat.operation.walk.first 0 e
+
+-- an operation that has made no step is not the queue's last
+pub last_new : (seats : Seats) (ends : Ends) (put : Option ℕ) (o : ℕ) → IsTable seats ends put → is_still (seat_at seats o) ≡ true → ends.last ≢ Some o
+last_new seats ends put o h still is =
+    let here = subst (IsInQueue (first_at (table_of seats))) is ((h.queue.befores None tt).0) in
+    absurd (omega (arith, here, ap first_in (op_seat seats o), still_first (seat_at seats o) still))
+
+-- the seat of an operation that is there
+opened : (x : Option Seat) (op : Operation) → operation_in x ≡ Some op → (seat : Seat) × (x ≡ Some seat) × (seat.operation ≡ op)
+opened None op e = absurd (none_op e)
+opened (Some seat) op e = (seat, refl, same_Some seat.operation op e)
+
+closed : (x : Option Seat) → operation_in x ≡ None → x ≡ None
+closed None e = refl
+closed (Some seat) e = absurd (none_op (sym e))
+
+-- a new link is no new operation
+pub linked_table : (p0 p1 : Seats) (e0 e1 : Ends) (o : ℕ) → (is_still (seat_at p0 o) ≡ true → LinksLast p0 e0 p1 e1 o) → (is_still (seat_at p0 o) ≡ false → (p1 ≡ p0) × (e1 ≡ e0)) → table_of p1 ≡ table_of p0
+linked_table p0 p1 e0 e1 o links same = by (is_still (seat_at p0 o)) refl
+  where
+    by : (b : Bool) → is_still (seat_at p0 o) ≡ b → table_of p1 ≡ table_of p0
+    by true e = (links e).table
+    by false e = ap table_of (same e).0
+
+-- one operation becomes what f makes of it
+module _ (mid new : Seats) (o : ℕ) (f : Operation → Operation) (becomes : Becomes mid new o f) where
+  -- what the table shows then
+  pub became_table : (old : Seats) (now : Table) (op : Operation) → table_of old ≡ now → table_of mid ≡ table_of old → op_at now o ≡ Some op → table_of new ≡ set now o (Some (f op))
+  became_table old now op is same there =
+      let w = opened (seat_at mid o) op (sym (op_seat mid o) ∙ ap (λ t. op_at t o) (same ∙ is) ∙ there) in
+      ap table_of (becomes w.0 w.1)
+      ∙ table_set mid o (Some (record w.0 { operation = f w.0.operation }))
+      ∙ ap (λ t. set t o (Some (f w.0.operation))) (same ∙ is)
+      ∙ ap (λ (x : Operation). set now o (Some (f x))) w.2
+
+  -- and nothing else, where nobody has the id
+  pub none_table : (old : Seats) (now : Table) → table_of old ≡ now → table_of mid ≡ table_of old → (seat_at mid o ≡ None → new ≡ mid) → op_at now o ≡ None → table_of new ≡ now
+  none_table old now is same none vacant = ap table_of (none (closed (seat_at mid o) (sym (op_seat mid o) ∙ ap (λ t. op_at t o) (same ∙ is) ∙ vacant))) ∙ same ∙ is
+
+  -- the links stay
+  afters_became : (ends : Ends) (seat : Seat) → seat_at mid o ≡ Some seat → (s : Option ℕ) → after_of new ends s ≡ after_of mid ends s
+  afters_became ends seat at None = refl
+  afters_became ends seat at (Some q) = ap (λ p. after_in (seat_at p q)) (becomes seat at) ∙ written_in after_in mid o q seat (record seat { operation = f seat.operation }) at refl
+
+  befores_became : (ends : Ends) (seat : Seat) → seat_at mid o ≡ Some seat → (s : Option ℕ) → before_of new ends s ≡ before_of mid ends s
+  befores_became ends seat at None = refl
+  befores_became ends seat at (Some q) = ap (λ p. before_in (seat_at p q)) (becomes seat at) ∙ written_in before_in mid o q seat (record seat { operation = f seat.operation }) at refl
+
+-- a table in which one operation is another, which is an open put only if it was one
+put_became : (table : Table) (o : ℕ) (op now : Operation) (put : Option ℕ) → op_at table o ≡ Some op → (is_open_put now ≡ true → is_open_put op ≡ true) → IsLastPut table put → IsLastPut (set table o (Some now)) put
+put_became table o op now put there was last q x at is_open = elim (cases_eq q o) [
+  | inl is ↦
+      let same : now ≡ x = same_Some now x (sym (set_is table o now op there) ∙ ap (op_at (set table o (Some now))) (sym is) ∙ at) in
+      last o op there (was (ap is_open_put same ∙ is_open)) ∙ ap (λ n. Some n) (sym is)
+  | inr other ↦ last q x (sym (set_there table o q (Some now) other) ∙ at) is_open
+]
+
+-- the first steps of all others stay
+other_first : (table new : Table) (o : ℕ) (op : Operation) → new ≡ set table o (Some op) → (q : ℕ) → q ≢ o → first_at new q ≡ first_at table q
+other_first table new o op e q ne = ap (λ u. first_at u q) e ∙ ap first_in (set_there table o q (Some op) ne)
+
+-- and its own where the walk begins when it did
+first_kept : (table new : Table) (o : ℕ) (op now : Operation) → op_at table o ≡ Some op → now.walk.first ≡ op.walk.first → new ≡ set table o (Some now) → (q : ℕ) → first_at new q ≡ first_at table q
+first_kept table new o op now there same e q = elim (cases_eq q o) [
+  | inl here ↦ ap (λ n. first_at new n) here ∙ ap (λ t. first_at t o) e ∙ ap first_in (set_is table o now op there) ∙ same ∙ sym (ap first_in there) ∙ ap (λ n. first_at table n) (sym here)
+  | inr other ↦ other_first table new o now e q other
+]
+
+-- a change that leaves an operation its task and its walk keeps the table one
+module _ (p0 p1 : Seats) (ends : Ends) (put : Option ℕ) (o : ℕ) (f : Operation → Operation) (h : IsTable p0 ends put) (same_task : (op : Operation) → (f op).task ≡ op.task) (same_walk : (op : Operation) → (f op).walk ≡ op.walk)
+    (becomes : Becomes p0 p1 o f) (none : seat_at p0 o ≡ None → p1 ≡ p0) where
+  same_open : (op : Operation) → is_open_put (f op) ≡ is_open_put op
+  same_open op = ap (λ (t : Task). not (is_get (ask t)) && not (is_done (f op).walk.phase)) (same_task op) ∙ ap (λ (w : Walk). not (is_get (ask op.task)) && not (is_done w.phase)) (same_walk op)
+
+  changed_by : (x : Option Seat) → seat_at p0 o ≡ x → IsTable p1 ends put
+  changed_by None at = subst (λ p. IsTable p ends put) (sym (none at)) h
+  changed_by (Some seat) at =
+      let there : op_at (table_of p0) o ≡ Some seat.operation = op_seat p0 o ∙ ap operation_in at in
+      let table = became_table p0 p1 o f becomes p0 (table_of p0) seat.operation refl refl there in
+      record {
+        queue = same_queue (first_at (table_of p0)) (first_at (table_of p1)) (after_of p0 ends) (after_of p1 ends) (before_of p0 ends) (before_of p1 ends)
+            (first_kept (table_of p0) (table_of p1) o seat.operation (f seat.operation) there (ap (λ (w : Walk). w.first) (same_walk seat.operation)) table)
+            (λ t here. afters_became p0 p1 o f becomes ends seat at t)
+            (λ t here. befores_became p0 p1 o f becomes ends seat at t)
+            h.queue;
+        last_put = subst (λ t. IsLastPut t put) (sym table) (put_became (table_of p0) o seat.operation (f seat.operation) put there (λ e. sym (same_open seat.operation) ∙ e) h.last_put);
+      }
+
+  -- the table with the operation changed
+  pub changed_sound : IsTable p1 ends put
+  changed_sound = changed_by (seat_at p0 o) refl
+
+-- what an operation of a seat has made ready, by the table
+pub ready_table : (seats : Seats) (now : Table) (o : ℕ) → table_of seats ≡ now → prepared_in (operation_in (seat_at seats o)) ≡ prepared_in (op_at now o)
+ready_table seats now o is = ap prepared_in (sym (op_seat seats o) ∙ ap (λ t. op_at t o) is)
+
+-- a put that has moved was open before, since it had a step left
+was_open : (op : Operation) (step : ℕ) (walk : Walk) → is_unfinished op ≡ true → is_open_put (moved op step walk) ≡ true → is_open_put op ≡ true
+was_open op step walk left e = open_joins op (open_parts (moved op step walk) e).0 left
+
+-- the operation of an id moves, and is behind all others if this is its first step
+module _ (p0 p1 p2 : Seats) (e0 e1 : Ends) (put : Option ℕ) (now : Table) (o step : ℕ) (walk : Walk) (is : table_of p0 ≡ now) (h : IsTable p0 e0 put) (may : MayMove now o step)
+    (links : is_still (seat_at p0 o) ≡ true → LinksLast p0 e0 p1 e1 o) (same : is_still (seat_at p0 o) ≡ false → (p1 ≡ p0) × (e1 ≡ e0))
+    (becomes : Becomes p1 p2 o (λ op. moved op step walk)) (none : seat_at p1 o ≡ None → p2 ≡ p1) where
+  left_one : (op : Operation) → op_at (table_of p0) o ≡ Some op → is_unfinished op ≡ true
+  left_one op there = may.unfinished op (ap (λ t. op_at t o) (sym is) ∙ there)
+
+  moved_at : (seat : Seat) (b : Bool) → seat_at p0 o ≡ Some seat → is_still (Some seat) ≡ b → IsTable p2 e1 put
+  moved_at seat true at still =
+      let there : op_at (table_of p0) o ≡ Some seat.operation = op_seat p0 o ∙ ap operation_in at in
+      let l = links (ap is_still at ∙ still) in
+      let table = became_table p1 p2 o (λ op. moved op step walk) becomes p0 (table_of p0) seat.operation refl l.table there in
+      let first : first_at (table_of p2) o ≡ step =
+      ap (λ t. first_at t o) table ∙ ap first_in (set_is (table_of p0) o (moved seat.operation step walk) seat.operation there) ∙ first_step seat.operation still in
+      record {
+        queue = behind_queue (first_at (table_of p0)) (first_at (table_of p2)) (after_of p0 e0) (after_of p2 e1) (before_of p0 e0) (before_of p2 e1) o h.queue
+            (ap first_in there ∙ still_first (Some seat) still)
+            (omega (arith, first, may.later o seat.operation (ap (λ t. op_at t o) (sym is) ∙ there)))
+            (λ q. omega (arith, first, below q (op_at (table_of p0) q) refl))
+            (λ q ne. other_first (table_of p0) (table_of p2) o (moved seat.operation step walk) table q ne)
+            (goes e0.last ∙ l.after) (goes (Some o) ∙ l.ends) (comes (Some o) ∙ l.before) (comes None ∙ l.last)
+            (λ s ne other. goes s ∙ l.afters s ne other) (λ s ne other. comes s ∙ l.befores s ne other);
+        last_put = subst (λ t. IsLastPut t put) (sym table) (put_became (table_of p0) o seat.operation (moved seat.operation step walk) put there (was_open seat.operation step walk (left_one seat.operation there)) h.last_put);
+      }
+    where
+      at_p1 : (x : Seat) × (seat_at p1 o ≡ Some x) × (x.operation ≡ seat.operation)
+      at_p1 = opened (seat_at p1 o) seat.operation (sym (op_seat p1 o) ∙ ap (λ t. op_at t o) (links (ap is_still at ∙ still)).table ∙ op_seat p0 o ∙ ap operation_in at)
+
+      goes : (s : Option ℕ) → after_of p2 e1 s ≡ after_of p1 e1 s
+      goes s = afters_became p1 p2 o (λ op. moved op step walk) becomes e1 at_p1.0 at_p1.1 s
+
+      comes : (s : Option ℕ) → before_of p2 e1 s ≡ before_of p1 e1 s
+      comes s = befores_became p1 p2 o (λ op. moved op step walk) becomes e1 at_p1.0 at_p1.1 s
+
+      first_step : (op : Operation) → (op.walk.first == 0) ≡ true → (moved op step walk).walk.first ≡ step
+      first_step op e = rw e refl
+
+      -- every first step of before is earlier
+      below : (q : ℕ) (x : Option Operation) → op_at (table_of p0) q ≡ x → first_in (op_at (table_of p0) q) < step
+      below q None e = let early = may.later o seat.operation (ap (λ t. op_at t o) (sym is) ∙ op_seat p0 o ∙ ap operation_in at) in omega (arith, ap first_in e, early)
+      below q (Some op) e = omega (arith, ap first_in e, may.later q op (ap (λ t. op_at t q) (sym is) ∙ e))
+  moved_at seat false at still =
+      let there : op_at (table_of p0) o ≡ Some seat.operation = op_seat p0 o ∙ ap operation_in at in
+      let s = same (ap is_still at ∙ still) in
+      let at_1 : seat_at p1 o ≡ Some seat = ap (λ p. seat_at p o) s.0 ∙ at in
+      let table = became_table p1 p2 o (λ op. moved op step walk) becomes p0 (table_of p0) seat.operation refl (ap table_of s.0) there in
+      record {
+        queue = same_queue (first_at (table_of p0)) (first_at (table_of p2)) (after_of p0 e0) (after_of p2 e1) (before_of p0 e0) (before_of p2 e1)
+            (first_kept (table_of p0) (table_of p2) o seat.operation (moved seat.operation step walk) there (first_stays seat.operation still) table)
+            (λ t here. afters_became p1 p2 o (λ op. moved op step walk) becomes e1 seat at_1 t ∙ ap (λ p. after_of p e1 t) s.0 ∙ ap (λ e. after_of p0 e t) s.1)
+            (λ t here. befores_became p1 p2 o (λ op. moved op step walk) becomes e1 seat at_1 t ∙ ap (λ p. before_of p e1 t) s.0 ∙ ap (λ e. before_of p0 e t) s.1)
+            h.queue;
+        last_put = subst (λ t. IsLastPut t put) (sym table) (put_became (table_of p0) o seat.operation (moved seat.operation step walk) put there (was_open seat.operation step walk (left_one seat.operation there)) h.last_put);
+      }
+    where
+      first_stays : (op : Operation) → (op.walk.first == 0) ≡ false → (moved op step walk).walk.first ≡ op.walk.first
+      first_stays op e = rw e refl
+
+  moved_by : (x : Option Seat) → seat_at p0 o ≡ x → IsTable p2 e1 put
+  moved_by None at =
+      let s = same (ap is_still at) in
+      let p = none (ap (λ p. seat_at p o) s.0 ∙ at) ∙ s.0 in
+      subst (λ e. IsTable p2 e put) (sym s.1) (subst (λ p. IsTable p e0 put) (sym p) h)
+  moved_by (Some seat) at = moved_at seat (is_still (Some seat)) at refl
+
+  -- the table with the operation moved
+  pub moved_sound : IsTable p2 e1 put
+  moved_sound = moved_by (seat_at p0 o) refl
+
+-- an operation more, which has made no step
+module _ (old new : Slab Seat) (ends : Ends) (put : Option ℕ) (o : ℕ) (op : Operation) (h : IsTable old.slots ends put) (vacant : seat_at old.slots o ≡ None)
+    (updates : Updates old new o (Some (record { operation = op; before = None; after = None }))) (still : op.walk.first ≡ 0) where
+  kept_queue : IsQueue (first_at (table_of new.slots)) (after_of new.slots ends) (before_of new.slots ends)
+  kept_queue = same_queue (first_at (table_of old.slots)) (first_at (table_of new.slots)) (after_of old.slots ends) (after_of new.slots ends) (before_of old.slots ends) (before_of new.slots ends)
+      (λ q. elim (cases_eq q o) [
+        | inl is ↦ ap (λ n. first_at (table_of new.slots) n) is ∙ ap first_in (op_seat new.slots o ∙ ap operation_in updates.changed) ∙ still ∙ sym (ap first_in (op_seat old.slots o ∙ ap operation_in vacant)) ∙ ap (λ n. first_at (table_of old.slots) n) (sym is)
+        | inr other ↦ ap first_in (op_seat new.slots q ∙ ap operation_in (updates.others q other) ∙ sym (op_seat old.slots q))
+      ])
+      afters
+      befores
+      h.queue
+    where
+      new_here : (q : ℕ) → IsInQueue (first_at (table_of old.slots)) (Some q) → q ≢ o
+      new_here q here is = absurd (omega (arith, here, ap (first_at (table_of old.slots)) is, ap first_in (op_seat old.slots o ∙ ap operation_in vacant)))
+
+      afters : (s : Option ℕ) → IsInQueue (first_at (table_of old.slots)) s → after_of new.slots ends s ≡ after_of old.slots ends s
+      afters None here = refl
+      afters (Some q) here = ap after_in (updates.others q (new_here q here))
+
+      befores : (s : Option ℕ) → IsInQueue (first_at (table_of old.slots)) s → before_of new.slots ends s ≡ before_of old.slots ends s
+      befores None here = refl
+      befores (Some q) here = ap before_in (updates.others q (new_here q here))
+
+  -- what the table shows then
+  pub kept_there : op_at (table_of new.slots) o ≡ Some op
+  kept_there = op_seat new.slots o ∙ ap operation_in updates.changed
+
+  -- every other id has what it had
+  pub kept_others : (now : Table) → table_of old.slots ≡ now → (q : ℕ) → q ≢ o → op_at (table_of new.slots) q ≡ op_at now q
+  kept_others now is q ne = op_seat new.slots q ∙ ap operation_in (updates.others q ne) ∙ sym (op_seat old.slots q) ∙ ap (λ t. op_at t q) is
+
+  -- a put is the only open one
+  pub kept_put : (now : Table) → table_of old.slots ≡ now → ¬ HasOpenPut now → IsTable new.slots ends (Some o)
+  kept_put now is alone = record {
+    queue = kept_queue;
+    last_put = λ q x at is_open. elim (cases_eq q o) [
+      | inl here ↦ ap (λ n. Some n) (sym here)
+      | inr other ↦ let w = open_parts x is_open in absurd (alone (q, x, sym (kept_others now is q other) ∙ at, w.0, w.1))
+    ];
+  }
+
+  -- and a get is no put
+  pub kept_get : is_get (ask op.task) ≡ true → IsTable new.slots ends put
+  kept_get get = record {
+    queue = kept_queue;
+    last_put = λ q x at is_open. elim (cases_eq q o) [
+      | inl here ↦
+          let same : op ≡ x = same_Some op x (sym kept_there ∙ ap (op_at (table_of new.slots)) (sym here) ∙ at) in
+          absurd (both_ways _ (ap (λ (w : Operation). is_get (ask w.task)) same ∙ (open_parts x is_open).0) get)
+      | inr other ↦ h.last_put q x (sym (kept_others (table_of old.slots) refl q other) ∙ at) is_open
+    ];
+  }
+
+-- an operation less
+module _ (p0 p1 : Seats) (e0 : Ends) (put : Option ℕ) (o : ℕ) (seat : Seat) (h : IsTable p0 e0 put) (at : seat_at p0 o ≡ Some seat) (gone : p1 ≡ set p0 o None) where
+  there : op_at (table_of p0) o ≡ Some seat.operation
+  there = op_seat p0 o ∙ ap operation_in at
+
+  table_gone : table_of p1 ≡ set (table_of p0) o None
+  table_gone = ap table_of gone ∙ table_set p0 o None
+
+  -- what the table shows without it
+  pub gone_shows : (now : Table) (p2 : Seats) → table_of p0 ≡ now → table_of p2 ≡ table_of p1 → table_of p2 ≡ set now o None
+  gone_shows now p2 is same = same ∙ table_gone ∙ ap (λ t. set t o None) is
+
+  -- its neighbours are there still
+  still_there : (s : Option ℕ) → IsInQueue (first_at (table_of p0)) s → s ≢ Some o → IsEndOrSeat p1 s
+  still_there None here ne = tt
+  still_there (Some q) here ne = ap (λ p. is_some (seat_at p q)) gone ∙ ap is_some (set_there p0 o q None (λ is. ne (ap (λ n. Some n) is))) ∙ queue_seat p0 (Some q) here
+
+  ahead : 0 < seat.operation.walk.first → ComesNext (first_at (table_of p0)) seat.before (Some o)
+  ahead begun = subst (λ x. ComesNext (first_at (table_of p0)) (before_in x) (Some o)) at (h.queue.befores (Some o) (omega (arith, begun, ap first_in there)))
+
+  behind : 0 < seat.operation.walk.first → ComesNext (first_at (table_of p0)) (Some o) seat.after
+  behind begun = subst (λ x. ComesNext (first_at (table_of p0)) (Some o) (after_in x)) at (h.queue.afters (Some o) (omega (arith, begun, ap first_in there)))
+
+  -- the operation before it in the queue is there
+  pub before_there : 0 < seat.operation.walk.first → IsEndOrSeat p1 seat.before
+  before_there begun = still_there seat.before (ahead begun).0 (λ is. absurd (omega (arith, ap (queue_number (first_at (table_of p0))) is, (ahead begun).1)))
+
+  not_behind : (t : Option ℕ) → ComesNext (first_at (table_of p0)) (Some o) t → t ≢ Some o
+  not_behind None f is = some_none (sym is)
+  not_behind (Some q) f is = absurd (omega (arith, f.1, ap (first_at (table_of p0)) (same_Some q o is)))
+
+  -- and so is the one after it
+  pub after_there : 0 < seat.operation.walk.first → IsEndOrSeat p1 seat.after
+  after_there begun = still_there seat.after (in_follows (first_at (table_of p0)) (Some o) seat.after (behind begun)) (not_behind seat.after (behind begun))
+
+  -- the put that is kept in mind may be gone
+  put_gone : IsLastPut (set (table_of p0) o None) put
+  put_gone q x at_q is_open = elim (cases_eq q o) [
+    | inl is ↦ absurd (none_op (sym (set_none (table_of p0) o) ∙ ap (op_at (set (table_of p0) o None)) (sym is) ∙ at_q))
+    | inr other ↦ h.last_put q x (sym (set_there (table_of p0) o q None other) ∙ at_q) is_open
+  ]
+
+  none_first : (p2 : Seats) → table_of p2 ≡ table_of p1 → first_at (table_of p2) o ≡ 0
+  none_first p2 same = ap (λ t. first_at t o) (same ∙ table_gone) ∙ ap first_in (set_none (table_of p0) o)
+
+  others_first : (p2 : Seats) → table_of p2 ≡ table_of p1 → (q : ℕ) → q ≢ o → first_at (table_of p2) q ≡ first_at (table_of p0) q
+  others_first p2 same q ne = ap (λ t. first_at t q) (same ∙ table_gone) ∙ ap first_in (set_there (table_of p0) o q None ne)
+
+  afters_gone : (s : Option ℕ) → s ≢ Some o → after_of p1 e0 s ≡ after_of p0 e0 s
+  afters_gone None ne = refl
+  afters_gone (Some q) ne = ap (λ p. after_in (seat_at p q)) gone ∙ ap after_in (set_there p0 o q None (λ is. ne (ap (λ n. Some n) is)))
+
+  befores_gone : (s : Option ℕ) → s ≢ Some o → before_of p1 e0 s ≡ before_of p0 e0 s
+  befores_gone None ne = refl
+  befores_gone (Some q) ne = ap (λ p. before_in (seat_at p q)) gone ∙ ap before_in (set_there p0 o q None (λ is. ne (ap (λ n. Some n) is)))
+
+  cut_by : (p2 : Seats) (e2 : Ends) → 0 < seat.operation.walk.first → CutsOut p1 e0 p2 e2 seat.before seat.after → IsTable p2 e2 put
+  cut_by p2 e2 begun u =
+      let before_is : before_of p0 e0 (Some o) ≡ seat.before = ap before_in at in
+      let after_is : after_of p0 e0 (Some o) ≡ seat.after = ap after_in at in
+      record {
+        queue = cut_queue (first_at (table_of p0)) (first_at (table_of p2)) (after_of p0 e0) (after_of p2 e2) (before_of p0 e0) (before_of p2 e2) o h.queue
+            (omega (arith, begun, ap first_in there)) (none_first p2 u.table) (others_first p2 u.table)
+            (ap (after_of p2 e2) before_is ∙ u.after ∙ sym after_is) (ap (before_of p2 e2) after_is ∙ u.before ∙ sym before_is)
+            (λ s ne other. u.afters s (λ is. ne (is ∙ sym before_is)) ∙ afters_gone s other) (λ s ne other. u.befores s (λ is. ne (is ∙ sym after_is)) ∙ befores_gone s other);
+        last_put = subst (λ t. IsLastPut t put) (sym (u.table ∙ table_gone)) put_gone;
+      }
+
+  left_by : seat.operation.walk.first ≡ 0 → IsTable p1 e0 put
+  left_by still = record {
+    queue = same_queue (first_at (table_of p0)) (first_at (table_of p1)) (after_of p0 e0) (after_of p1 e0) (before_of p0 e0) (before_of p1 e0)
+        (λ q. elim (cases_eq q o) [
+          | inl is ↦ ap (first_at (table_of p1)) is ∙ none_first p1 refl ∙ sym still ∙ sym (ap first_in there) ∙ ap (first_at (table_of p0)) (sym is)
+          | inr other ↦ others_first p1 refl q other
+        ])
+        (λ s here. afters_gone s (not_here s here)) (λ s here. befores_gone s (not_here s here)) h.queue;
+    last_put = subst (λ t. IsLastPut t put) (sym table_gone) put_gone;
+  }
+    where
+      not_here : (s : Option ℕ) → IsInQueue (first_at (table_of p0)) s → s ≢ Some o
+      not_here None here is = some_none (sym is)
+      not_here (Some q) here is = absurd (omega (arith, here, still, ap first_in there, ap (first_at (table_of p0)) (same_Some q o is)))
+
+  cases_first : (n : ℕ) → (0 < n) ⊎ (n ≡ 0)
+  cases_first zero = inr refl
+  cases_first (suc n) = inl (omega arith)
+
+  -- what is left is a table
+  pub gone_sound : (p2 : Seats) (e2 : Ends) → (0 < seat.operation.walk.first → CutsOut p1 e0 p2 e2 seat.before seat.after) → (seat.operation.walk.first ≡ 0 → (p2 ≡ p1) × (e2 ≡ e0)) → IsTable p2 e2 put
+  gone_sound p2 e2 unlinks same = elim (cases_first seat.operation.walk.first) [
+    | inl begun ↦ cut_by p2 e2 begun (unlinks begun)
+    | inr still ↦ let s = same still in subst (λ e. IsTable p2 e put) (sym s.1) (subst (λ p. IsTable p e0 put) (sym s.0) (left_by still))
+  ]
+
+  -- cutting it out of the queue changes no operation
+  pub gone_table : (p2 : Seats) (e2 : Ends) → (0 < seat.operation.walk.first → CutsOut p1 e0 p2 e2 seat.before seat.after) → (seat.operation.walk.first ≡ 0 → (p2 ≡ p1) × (e2 ≡ e0)) → table_of p2 ≡ table_of p1
+  gone_table p2 e2 unlinks same = elim (cases_first seat.operation.walk.first) [
+    | inl begun ↦ (unlinks begun).table
+    | inr still ↦ ap table_of (same still).0
+  ]
+
+-- the floor that is needed where no operation has made a step
+pub floor_none : (seats : Seats) (ends : Ends) (put : Option ℕ) (now : Table) (steps : ℕ) → table_of seats ≡ now → IsTable seats ends put → ends.first ≡ None → IsFloorNeeded now steps steps
+floor_none seats ends put now steps is h none =
+    let f = subst (ComesNext (first_at (table_of seats)) None) none (h.queue.afters None tt) in
+    record {
+      made = omega arith;
+      before = λ o op at begun. absurd (omega (arith, f.1 o, ap first_in (ap (λ t. op_at t o) is ∙ at), begun));
+      greatest = λ n le before. le;
+    }
+
+-- and where one did so first
+module _ (seats : Seats) (ends : Ends) (put : Option ℕ) (o : ℕ) (h : IsTable seats ends put) (first : ends.first ≡ Some o) where
+  first_follows : ComesNext (first_at (table_of seats)) None (Some o)
+  first_follows = subst (ComesNext (first_at (table_of seats)) None) first (h.queue.afters None tt)
+
+  -- the queue's first operation is there
+  pub first_there : seat_at seats o ≡ None → ⊥
+  first_there none = absurd (omega (arith, first_follows.1, ap first_in (op_seat seats o ∙ ap operation_in none)))
+
+  -- it has made a step
+  pub first_begun : (seat : Seat) → seat_at seats o ≡ Some seat → 1 ≤ seat.operation.walk.first
+  first_begun seat at = omega (arith, first_follows.1, ap first_in (op_seat seats o ∙ ap operation_in at))
+
+  -- and the number before that one is the floor
+  pub floor_first : (seat : Seat) (now : Table) (steps : ℕ) → table_of seats ≡ now → ((q : ℕ) (op : Operation) → op_at now q ≡ Some op → op.walk.first ≤ steps) → seat_at seats o ≡ Some seat → IsFloorNeeded now steps (seat.operation.walk.first - 1)
+  floor_first seat now steps is made at =
+      let there : op_at now o ≡ Some seat.operation = ap (λ t. op_at t o) (sym is) ∙ op_seat seats o ∙ ap operation_in at in
+      let first_is : first_at (table_of seats) o ≡ seat.operation.walk.first = ap first_in (op_seat seats o ∙ ap operation_in at) in
+      record {
+        made = omega (arith, made o seat.operation there);
+        before = λ q op at_q begun. elim (first_follows.2 q) [
+          | inl le ↦ absurd (omega (arith, le, begun, ap first_in (ap (λ t. op_at t q) is ∙ at_q)))
+          | inr over ↦ omega (arith, over, first_is, first_begun seat at, ap first_in (ap (λ t. op_at t q) is ∙ at_q))
+        ];
+        greatest = λ n le before. omega (arith, before o seat.operation there (first_begun seat at));
+      }
+
+-- an open put is the one that is kept in mind
+pub open_none : (seats : Seats) (ends : Ends) (put : Option ℕ) (now : Table) → table_of seats ≡ now → IsTable seats ends put → put ≡ None → ¬ HasOpenPut now
+open_none seats ends put now is h none (o, op, at, is_put, left) = some_none (sym (h.last_put o op (ap (λ t. op_at t o) is ∙ at) (open_joins op is_put left)) ∙ none)
+
+-- no put is open where the one in mind is gone
+pub open_gone : (seats : Seats) (ends : Ends) (put : Option ℕ) (now : Table) (o : ℕ) → table_of seats ≡ now → IsTable seats ends put → put ≡ Some o → seat_at seats o ≡ None → ¬ HasOpenPut now
+open_gone seats ends put now o is h mind none (q, op, at, is_put, left) =
+    let same : q ≡ o = same_Some q o (sym (h.last_put q op (ap (λ t. op_at t q) is ∙ at) (open_joins op is_put left)) ∙ mind) in
+    none_op (sym (op_seat seats o ∙ ap operation_in none) ∙ ap (op_at (table_of seats)) (sym same) ∙ ap (λ t. op_at t q) is ∙ at)
+
+-- one is open where it is there and open
+pub open_there : (seats : Seats) (ends : Ends) (put : Option ℕ) (now : Table) (o : ℕ) (seat : Seat) → table_of seats ≡ now → IsTable seats ends put → put ≡ Some o → seat_at seats o ≡ Some seat → is_open_put seat.operation ≡ true → HasOpenPut now
+open_there seats ends put now o seat is h mind there is_open =
+    let w = open_parts seat.operation is_open in (o, seat.operation, ap (λ t. op_at t o) (sym is) ∙ op_seat seats o ∙ ap operation_in there, w.0, w.1)
+
+-- and no other can be
+pub there_open : (seats : Seats) (ends : Ends) (put : Option ℕ) (now : Table) (o : ℕ) (seat : Seat) → table_of seats ≡ now → IsTable seats ends put → put ≡ Some o → seat_at seats o ≡ Some seat → HasOpenPut now → is_open_put seat.operation ≡ true
+there_open seats ends put now o seat is h mind there (q, op, at, is_put, left) =
+    let is_open = open_joins op is_put left in
+    let same : q ≡ o = same_Some q o (sym (h.last_put q op (ap (λ t. op_at t q) is ∙ at) is_open) ∙ mind) in
+    ap is_open_put (same_Some seat.operation op (sym (op_seat seats o ∙ ap operation_in there) ∙ ap (op_at (table_of seats)) (sym same) ∙ ap (λ t. op_at t q) is ∙ at)) ∙ is_open

@@ -1,0 +1,40 @@
+-- The table of operations, as it is shown.
+use Rattle.std.specs.Prelude.{◌≡◌, ℕ, ◌<◌, ◌≤◌, true, false, List, Option, Some, None, slice_index_or}
+use Rattle.mt_rows.specs.Maps.{is_get}
+use Rattle.mt_operation.specs.declared.prepared.Prepared.{Prepared}
+use Rattle.mt_operation.specs.declared.operation.Operation.{Operation}
+use Rattle.mt_operation.specs.Tasks.{ask}
+use Rattle.mt_operation.specs.Operations.{is_unfinished}
+
+-- the operations by their ids: those that were begun and whose answer was not taken
+abbrev pub Table : Type 0
+Table = List (Option Operation)
+
+-- the operation of an id
+abbrev pub op_at : Table → ℕ → Option Operation
+op_at table o = slice_index_or table o None
+
+-- what an operation that is there has made ready
+abbrev pub prepared_in : Option Operation → Option Prepared
+prepared_in None = None
+prepared_in (Some op) = op.prepared
+
+-- a put has a step left
+abbrev pub HasOpenPut : Table → Type 0
+HasOpenPut table = (o : ℕ) × (op : Operation) × (op_at table o ≡ Some op) × (is_get (ask op.task) ≡ false) × (is_unfinished op ≡ true)
+
+-- the step may be made by the operation of an id: no first step of the table's operations has its number or a later one, and the operation has a
+-- step left
+pub record MayMove (table : Table) (o step : ℕ) : Type 0 where
+  pub later : (q : ℕ) (op : Operation) → op_at table q ≡ Some op → op.walk.first < step
+  pub unfinished : (op : Operation) → op_at table o ≡ Some op → is_unfinished op ≡ true
+
+-- every operation of the table that has made a step made its first one after this number
+abbrev pub IsBeforeFirsts : Table → ℕ → Type 0
+IsBeforeFirsts table floor = (o : ℕ) (op : Operation) → op_at table o ≡ Some op → 0 < op.walk.first → floor < op.walk.first
+
+-- the floor that a tape needs after so many steps: the greatest number of steps that is before the first step of each operation of the table
+pub record IsFloorNeeded (table : Table) (steps floor : ℕ) : Type 0 where
+  pub made : floor ≤ steps
+  pub before : IsBeforeFirsts table floor
+  pub greatest : (n : ℕ) → n ≤ steps → IsBeforeFirsts table n → n ≤ floor

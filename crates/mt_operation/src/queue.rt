@@ -1,0 +1,161 @@
+//! Operations in their seats, and the queue of those that have made a step.
+//!
+//! Each seat names its neighbours in the order of first steps. What these functions do to the links
+//! and to one operation is said seat by seat; `table.rt` keeps what holds of all of them.
+
+ghost use Rattle.std.specs.Prelude.{◌≡◌, ◌≢◌, ◌<◌, true, false, Some, None};
+ghost use Rattle.mt_operation.specs.Operations.{moved, noted, made_ready, with_nothing_ready};
+ghost use Rattle.mt_operation.specs.Tables.{prepared_in};
+ghost use Rattle.mt_operation.specs.Seats.{seat_at, operation_in, is_still, IsEndOrSeat};
+ghost use Rattle.mt_operation.specs.Queues.{SetsAfter, SetsBefore, CutsOut, LinksLast, Becomes};
+
+use crate::operation::Operation;
+use crate::outcome::Outcome;
+use crate::prepared::Prepared;
+use crate::walk::Walk;
+use slab::Slab;
+
+/// An operation, and its neighbours in the queue.
+#[derive(Drop)]
+pub(crate) struct Seat {
+    pub operation: Operation,
+    pub before: Option<usize>,
+    pub after: Option<usize>,
+}
+
+/// The operations at the ends of the queue.
+#[derive(Clone, Copy)]
+pub(crate) struct Ends {
+    pub first: Option<usize>,
+    pub last: Option<usize>,
+}
+
+// Whether the operation of an id has made no step.
+fn is_still(seats: &Slab<Seat>, id: usize) -> bool
+    ensures { result ≡ is_still (seat_at seats.now.slots id) }
+{
+    match seats.get(id) {
+        Some(seat) => seat.operation.walk.first == 0,
+        None => false,
+    }
+}
+
+/// An operation makes the step of this number, and walks on so.
+pub(crate) fn move_at(seats: &mut Slab<Seat>, id: usize, step: u64, walk: Walk)
+    ensures becomes { Becomes seats.old.slots seats.new.slots id (λ op. moved op step walk) }
+    ensures none { seat_at seats.old.slots id ≡ None → seats.new.slots ≡ seats.old.slots }
+{
+    if let Some(seat) = seats.get_mut(id) {
+        seat.operation.go_on(step, walk);
+    }
+}
+
+/// An operation has its outcome.
+pub(crate) fn note_at(seats: &mut Slab<Seat>, id: usize, outcome: Outcome)
+    ensures becomes { Becomes seats.old.slots seats.new.slots id (λ op. noted op outcome) }
+    ensures none { seat_at seats.old.slots id ≡ None → seats.new.slots ≡ seats.old.slots }
+{
+    if let Some(seat) = seats.get_mut(id) {
+        seat.operation.outcome = Some(outcome);
+    }
+}
+
+/// An operation has made ready what it is about to place.
+pub(crate) fn make_ready_at(seats: &mut Slab<Seat>, id: usize, prepared: Prepared)
+    ensures becomes { Becomes seats.old.slots seats.new.slots id (λ op. made_ready op prepared) }
+    ensures none { seat_at seats.old.slots id ≡ None → seats.new.slots ≡ seats.old.slots }
+{
+    if let Some(seat) = seats.get_mut(id) {
+        seat.operation.prepared = Some(prepared);
+    }
+}
+
+/// Takes out what an operation has made ready.
+pub(crate) fn take_prepared_at(seats: &mut Slab<Seat>, id: usize) -> Option<Prepared>
+    ensures value { result ≡ prepared_in (operation_in (seat_at seats.old.slots id)) }
+    ensures becomes { Becomes seats.old.slots seats.new.slots id with_nothing_ready }
+    ensures none { seat_at seats.old.slots id ≡ None → seats.new.slots ≡ seats.old.slots }
+{
+    match seats.get_mut(id) {
+        Some(seat) => seat.operation.prepared.take(),
+        None => None,
+    }
+}
+
+/// Puts an operation behind all others of the queue, where it has made no step.
+pub(crate) fn link_still(seats: &mut Slab<Seat>, ends: &mut Ends, id: usize)
+    requires last { IsEndOrSeat seats.old.slots ends.old.last }
+    requires new { is_still (seat_at seats.old.slots id) ≡ true → ends.old.last ≢ Some id }
+    ensures links { is_still (seat_at seats.old.slots id) ≡ true → LinksLast seats.old.slots ends.old seats.new.slots ends.new id }
+    ensures same { is_still (seat_at seats.old.slots id) ≡ false → (seats.new.slots ≡ seats.old.slots) × (ends.new ≡ ends.old) }
+{
+    if is_still(seats, id) {
+        link_last(seats, ends, id);
+    }
+}
+
+/// Makes neighbours of the two between which a seat was, where its operation has made a step.
+pub(crate) fn cut(seats: &mut Slab<Seat>, ends: &mut Ends, seat: &Seat)
+    requires before { 0 < seat.now.operation.walk.first → IsEndOrSeat seats.old.slots seat.now.before }
+    requires after { 0 < seat.now.operation.walk.first → IsEndOrSeat seats.old.slots seat.now.after }
+    ensures unlinks { 0 < seat.now.operation.walk.first → CutsOut seats.old.slots ends.old seats.new.slots ends.new seat.now.before seat.now.after }
+    ensures same { seat.now.operation.walk.first ≡ 0 → (seats.new.slots ≡ seats.old.slots) × (ends.new ≡ ends.old) }
+{
+    if seat.operation.walk.first > 0 {
+        unlink(seats, ends, seat.before, seat.after);
+    }
+}
+
+// Puts an operation behind all others of the queue.
+fn link_last(seats: &mut Slab<Seat>, ends: &mut Ends, id: usize)
+    requires there { IsEndOrSeat seats.old.slots (Some id) }
+    requires last { IsEndOrSeat seats.old.slots ends.old.last }
+    requires new { ends.old.last ≢ Some id }
+    ensures { LinksLast seats.old.slots ends.old seats.new.slots ends.new id }
+{
+    let before = ends.last;
+    set_after(seats, ends, before, Some(id));
+    set_after(seats, ends, Some(id), None);
+    set_before(seats, ends, Some(id), before);
+    set_before(seats, ends, None, Some(id));
+}
+
+// Makes neighbours of two that had one between them.
+fn unlink(seats: &mut Slab<Seat>, ends: &mut Ends, before: Option<usize>, after: Option<usize>)
+    requires before { IsEndOrSeat seats.old.slots before }
+    requires after { IsEndOrSeat seats.old.slots after }
+    ensures { CutsOut seats.old.slots ends.old seats.new.slots ends.new before after }
+{
+    set_after(seats, ends, before, after);
+    set_before(seats, ends, after, before);
+}
+
+// Names another neighbour after a seat, or the queue's first where there is none.
+fn set_after(seats: &mut Slab<Seat>, ends: &mut Ends, of: Option<usize>, to: Option<usize>)
+    requires { IsEndOrSeat seats.old.slots of }
+    ensures { SetsAfter seats.old.slots ends.old seats.new.slots ends.new of to }
+{
+    match of {
+        None => ends.first = to,
+        Some(id) => {
+            if let Some(seat) = seats.get_mut(id) {
+                seat.after = to;
+            }
+        }
+    }
+}
+
+// Names another neighbour before a seat, or the queue's last where there is none.
+fn set_before(seats: &mut Slab<Seat>, ends: &mut Ends, of: Option<usize>, to: Option<usize>)
+    requires { IsEndOrSeat seats.old.slots of }
+    ensures { SetsBefore seats.old.slots ends.old seats.new.slots ends.new of to }
+{
+    match of {
+        None => ends.last = to,
+        Some(id) => {
+            if let Some(seat) = seats.get_mut(id) {
+                seat.before = to;
+            }
+        }
+    }
+}

@@ -1,0 +1,174 @@
+//! The table of operations, in which no call walks from one to the next.
+//!
+//! Each operation has an id, its key in a slab, which is given again once it is free. Those that have
+//! made a step stand in a queue, in the order of their first steps, in which each names its
+//! neighbours; so the earliest first step is read at its head, and an operation that leaves is cut
+//! out of it. Invariant: `IsTable` of `specs/Queues.antt`. Memory: one seat for each operation, as
+//! many as stood open at once.
+
+ghost use Rattle.std.specs.Prelude.{◌≡◌, ◌≢◌, ◌↔◌, ◌≤◌, ℕ, false, [], IsTrue, IfOk, IfErr, OnErr, OnSome, IfNone, Some, None, slice_set, option_copied};
+ghost use Rattle.mt_rows.specs.Maps.{is_get};
+ghost use Rattle.mt_operation.specs.declared.operation.Operation.{Operation as AnyOperation};
+
+use crate::operation::Operation;
+use crate::outcome::Outcome;
+use crate::prepared::Prepared;
+use crate::queue::{
+    Ends, Seat, cut, link_still, make_ready_at, move_at, note_at, take_prepared_at,
+};
+use crate::walk::Walk;
+use mt_rows::Refusal;
+use slab::Slab;
+use std::alloc::Global;
+use std::marker::Model;
+
+/// The operations by their ids: those that were begun and whose answer was not taken.
+#[derive(Drop)]
+pub struct Operations {
+    seats: Slab<Seat>,
+    ends: Ends,
+    // The put that was begun last.
+    put: Option<usize>,
+}
+
+impl Model for Operations {
+    ghost use Rattle.mt_operation.specs.Tables.{Table};
+    ghost use Rattle.mt_operation.specs.Seats.{table_of};
+    ghost use Rattle.mt_operation.specs.Queues.{IsTable};
+
+    ghost Value = { Table };
+
+    ghost view = { λ t. table_of t.seats.slots };
+
+    ghost invariant = { λ t. IsTable t.seats.slots t.ends t.put };
+}
+
+impl Operations {
+    ghost use Rattle.mt_operation.specs.Tasks.{ask};
+    ghost use Rattle.mt_operation.specs.Operations.{moved, noted, made_ready, with_nothing_ready};
+    ghost use Rattle.mt_operation.specs.Tables.{op_at, prepared_in, HasOpenPut, MayMove, IsFloorNeeded};
+
+    /// A table of no operation.
+    pub fn new(alloc: Global) -> Self
+        ensures { result ≡ [] }
+    {
+        Operations {
+            seats: Slab::new(alloc),
+            ends: Ends {
+                first: None,
+                last: None,
+            },
+            put: None,
+        }
+    }
+
+    /// The operation of an id.
+    pub fn get(&self, id: usize) -> Option<&Operation>
+        ensures { option_copied result ≡ op_at self.now id }
+    {
+        match self.seats.get(id) {
+            Some(seat) => Some(&seat.operation),
+            None => None,
+        }
+    }
+
+    /// Keeps an operation that has made no step, at an id that was free.
+    pub fn keep(&mut self, operation: Operation) -> Result<usize, Refusal>
+        requires new { operation.walk.first ≡ 0 }
+        requires one_put { is_get (ask operation.task) ≡ false → ¬ HasOpenPut self.old }
+        ensures memory { IfErr result (λ refusal. refusal ≡ Refusal.Memory) }
+        ensures vacant { IfOk result (λ id. op_at self.old id ≡ None) }
+        ensures there { IfOk result (λ id. op_at self.new id ≡ Some operation) }
+        ensures others { IfOk result (λ id. (q : ℕ) → q ≢ id → op_at self.new q ≡ op_at self.old q) }
+        ensures unchanged_on_err { OnErr result (self.new ≡ self.old) }
+    {
+        let is_put = !operation.task.request.is_get();
+        let id = self.seats.insert(Seat {
+            operation,
+            before: None,
+            after: None,
+        })?;
+        if is_put {
+            self.put = Some(id);
+        }
+        Ok(id)
+    }
+
+    /// Takes an operation out.
+    pub fn remove(&mut self, id: usize) -> Option<Operation>
+        ensures value { result ≡ op_at self.old id }
+        ensures gone { OnSome result (self.new ≡ slice_set self.old id None) }
+        ensures absent { IfNone result (self.new ≡ self.old) }
+    {
+        let seat = self.seats.try_remove(id)?;
+        cut(&mut self.seats, &mut self.ends, &seat);
+        Some(seat.operation)
+    }
+
+    /// An operation makes the step of this number, and walks on so; its first step stays the one that
+    /// it was. Nothing happens where no operation has the id.
+    pub fn go_on(&mut self, id: usize, step: u64, walk: Walk)
+        requires { MayMove self.old id step }
+        ensures moves { (op : AnyOperation) → op_at self.old id ≡ Some op → self.new ≡ slice_set self.old id (Some (moved op step walk)) }
+        ensures absent { op_at self.old id ≡ None → self.new ≡ self.old }
+    {
+        link_still(&mut self.seats, &mut self.ends, id);
+        move_at(&mut self.seats, id, step, walk);
+    }
+
+    /// An operation has this outcome, in the place of any other that it had. Nothing happens where no
+    /// operation has the id.
+    pub fn note(&mut self, id: usize, outcome: Outcome)
+        ensures notes { (op : AnyOperation) → op_at self.old id ≡ Some op → self.new ≡ slice_set self.old id (Some (noted op outcome)) }
+        ensures absent { op_at self.old id ≡ None → self.new ≡ self.old }
+    {
+        note_at(&mut self.seats, id, outcome);
+    }
+
+    /// An operation has made this ready. Nothing happens where no operation has the id.
+    pub fn make_ready(&mut self, id: usize, prepared: Prepared)
+        ensures readies { (op : AnyOperation) → op_at self.old id ≡ Some op → self.new ≡ slice_set self.old id (Some (made_ready op prepared)) }
+        ensures absent { op_at self.old id ≡ None → self.new ≡ self.old }
+    {
+        make_ready_at(&mut self.seats, id, prepared);
+    }
+
+    /// Takes out what an operation has made ready, if it has.
+    pub fn take_prepared(&mut self, id: usize) -> Option<Prepared>
+        ensures value { result ≡ prepared_in (op_at self.old id) }
+        ensures takes { (op : AnyOperation) → op_at self.old id ≡ Some op → self.new ≡ slice_set self.old id (Some (with_nothing_ready op)) }
+        ensures absent { op_at self.old id ≡ None → self.new ≡ self.old }
+    {
+        take_prepared_at(&mut self.seats, id)
+    }
+
+    /// Whether a put has a step left.
+    pub fn has_open_put(&self) -> bool
+        ensures { IsTrue result ↔ HasOpenPut self.now }
+    {
+        match self.put {
+            Some(id) => match self.seats.get(id) {
+                Some(seat) => seat.operation.is_open_put(),
+                None => false,
+            },
+            None => false,
+        }
+    }
+
+    /// The floor that the tape needs after so many steps.
+    ///
+    /// An operation that has made a step may be answered by the map just before its first step, or
+    /// by any later one. So the tape keeps the writes from the earliest first step on.
+    pub fn floor_needed(&self, steps: u64) -> u64
+        requires { (o : ℕ) (op : AnyOperation) → op_at self.now o ≡ Some op → op.walk.first ≤ steps }
+        ensures { IsFloorNeeded self.now steps result }
+    {
+        match self.ends.first {
+            Some(id) => match self.seats.get(id) {
+                Some(seat) => seat.operation.walk.first - 1,
+                None => unreachable!(),
+            },
+            None => steps,
+        }
+    }
+}
