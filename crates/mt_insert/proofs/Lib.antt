@@ -2,3 +2,4 @@ pub mod Rely
 pub mod Looks
 pub mod Places
 pub mod Puts
+pub mod Commands

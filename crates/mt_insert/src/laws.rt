@@ -1,14 +1,16 @@
 //! What is kept of a put that holds its border node stays under the steps of all others, and what it
 //! places is its command's change. Contracts alone: no code runs.
 
-ghost use Rattle.std.specs.Prelude.{◌≡◌, ◌≢◌, ◌<◌, ℕ, List, Some, None};
-ghost use Rattle.std.specs.FinMap.{get};
-ghost use Rattle.mt_rows.specs.Rows.{Bytes};
-ghost use Rattle.mt_rows.specs.Tenants.{Contents};
+ghost use Rattle.std.specs.Prelude.{◌≡◌, ◌≢◌, ◌<◌, ◌≤◌, ℕ, List, Some, None};
+ghost use Rattle.std.specs.FinMap.{get, len};
+ghost use Rattle.mt_rows.specs.declared.reply.Reply.TheVariants.{New, Replaced, Full};
+ghost use Rattle.mt_rows.specs.Rows.{Bytes, Columns};
+ghost use Rattle.mt_rows.specs.Maps.{reply_of, map_after};
+ghost use Rattle.mt_rows.specs.Tenants.{Contents, tenant_map};
 ghost use Rattle.mt_border.specs.Contents.{owned};
 ghost use Rattle.mt_tape.specs.declared.entry.Entry.{Entry};
 ghost use Rattle.mt_tape.specs.Tapes.{last_step_over};
-ghost use Rattle.mt_tape.specs.Histories.{IsNextWrite};
+ghost use Rattle.mt_tape.specs.Histories.{IsNextWrite, with_write};
 ghost use Rattle.mt_arena.specs.Arena.{ArenaView, IsArena, content_of, Guarantee};
 ghost use Rattle.mt_arena.specs.Settled.{IsSettled};
 ghost use Rattle.mt_arena.specs.Accesses.{at};
@@ -17,6 +19,7 @@ ghost use Rattle.mt_operation.specs.declared.walk.Phase.TheVariants.{Judge};
 ghost use Rattle.mt_operation.specs.declared.walk.Walk.{Walk};
 ghost use Rattle.mt_operation.specs.declared.task.Task.{Task};
 ghost use Rattle.mt_operation.specs.declared.prepared.Prepared.{Prepared};
+ghost use Rattle.mt_operation.specs.Tasks.{ask};
 ghost use Rattle.mt_descent.specs.Kept.{IsAtJudge};
 ghost use Rattle.mt_descent.specs.Moves.{Locks};
 ghost use Rattle.mt_insert.specs.Puts.{IsPut, write_of};
@@ -73,4 +76,21 @@ pub fn the_row_before_stands()
 pub fn a_placed_write_is_next()
     ensures { (floor step : ℕ) (entries : List Entry) (contents : Contents) (task : Task) → IsPut task → last_step_over floor entries < step →
         IsNextWrite floor entries contents (write_of task contents step) }
+{}
+
+/// The write that a put places is its command's change, and the reply is the command's, by its tenant's
+/// map: `Replaced` over a row; `New` where the key is missing and the tenant has fewer pairs than its
+/// quota, else `Full`, which changes nothing. It leaves every other tenant's map equal.
+pub fn a_placed_put_is_its_command()
+    ensures replaced { (quota step : ℕ) (contents : Contents) (task : Task) (row : Columns) → IsPut task → get contents (owned task.key) ≡ Some row →
+        (reply_of quota (ask task) (tenant_map task.tenant contents) ≡ Replaced)
+        × (map_after quota (ask task) (tenant_map task.tenant contents) ≡ tenant_map task.tenant (with_write contents (write_of task contents step))) }
+    ensures new { (quota step : ℕ) (contents : Contents) (task : Task) → IsPut task → get contents (owned task.key) ≡ None → len (tenant_map task.tenant contents) < quota →
+        (reply_of quota (ask task) (tenant_map task.tenant contents) ≡ New)
+        × (map_after quota (ask task) (tenant_map task.tenant contents) ≡ tenant_map task.tenant (with_write contents (write_of task contents step))) }
+    ensures full { (quota : ℕ) (contents : Contents) (task : Task) → IsPut task → get contents (owned task.key) ≡ None → quota ≤ len (tenant_map task.tenant contents) →
+        (reply_of quota (ask task) (tenant_map task.tenant contents) ≡ Full)
+        × (map_after quota (ask task) (tenant_map task.tenant contents) ≡ tenant_map task.tenant contents) }
+    ensures others { (step : ℕ) (contents : Contents) (task : Task) (t : ℕ) → IsPut task → t ≢ task.tenant →
+        tenant_map t (with_write contents (write_of task contents step)) ≡ tenant_map t contents }
 {}
