@@ -3,3 +3,4 @@ pub mod Looks
 pub mod Places
 pub mod Puts
 pub mod Commands
+pub mod Holders
