@@ -2,3 +2,5 @@ pub mod Rely
 pub mod Looks
 pub mod Places
 pub mod Puts
+pub mod Commands
+pub mod Holders

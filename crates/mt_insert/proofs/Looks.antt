@@ -1,5 +1,5 @@
 -- What a put finds in the border node that it holds, and what it makes ready of that: for `judge`.
-use Rattle.std.proofs.Common.{◌≡◌, ℕ, ◌+◌, ◌*◌, ◌<◌, ◌≤◌, Bool, true, false, List, length, Option, Some, None, refl, sym, ap, subst, ◌∙◌, arith}
+use Rattle.std.proofs.Common.{◌≡◌, ℕ, Bool, true, false, List, Option, Some, None, refl, sym, ap, subst, ◌∙◌}
 use Rattle.std.specs.Prelude.{IsSomeAnd, IfSome, IfNone, if◌then◌else◌}
 use Rattle.std.specs.Option.{option_map}
 use Rattle.mt_slices.specs.Slices.{slice_of, mark_of, suffix_of}
@@ -30,7 +30,7 @@ use Rattle.mt_descent.specs.Kept.{IsAtJudge}
 use Rattle.mt_descent.specs.Moves.{Locks, after_change, walk_anew}
 use Rattle.mt_descent.proofs.Looks.{finds_in}
 use Rattle.mt_insert.specs.Puts.{IsReady}
-use Rattle.mt_insert.specs.Kept.{HoldsBorder, IsAtStore, IsAtPublish, KeptReady}
+use Rattle.mt_insert.specs.Kept.{HoldsBorder, KeptReady}
 use Rattle.mt_insert.specs.Moves.{FitsIn, StandsIn, ReadyFor, after_judge}
 
 -- what a border node tells of the key, its view tells

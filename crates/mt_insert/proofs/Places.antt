@@ -1,5 +1,5 @@
 -- A put that holds its border node may change it as it does, and then give its lock back: for `store`, `publish` and `unlock`.
-use Rattle.std.proofs.Common.{◌≡◌, ℕ, ◌<◌, List, length, get_or, set, Some, None, refl, sym, ap, subst, ◌∙◌, arith}
+use Rattle.std.proofs.Common.{◌≡◌, ℕ, ◌<◌, List, length, Some, None, refl, sym, ap, subst, ◌∙◌, arith}
 use Rattle.std.specs.List.{All}
 use Rattle.std.specs.FinMap.{get}
 use Rattle.std.proofs.lemmas.List.{length-set}
@@ -16,8 +16,7 @@ use Rattle.mt_border.specs.Entry.{order_of}
 use Rattle.mt_border.specs.Contents.{owned, HasKey}
 use Rattle.mt_border.proofs.ContentsKeys.{by_equation, new_has_key, new_is_entry}
 use Rattle.mt_border.proofs.ContentsEdits.{each-publish}
-use Rattle.mt_border.proofs.Edits.{any_entry, replaced_at}
-use Rattle.mt_arena.specs.NodeView.{NodeView, node_at}
+use Rattle.mt_arena.specs.NodeView.{NodeView}
 use Rattle.mt_arena.specs.NodeFacts.{IsUnstable}
 use Rattle.mt_arena.specs.Forests.{tree_at, layer_of}
 use Rattle.mt_arena.specs.Layers.{slot_at}

@@ -51,3 +51,7 @@ pub record IsAtUnlock (v : ArenaView) (op : ℕ) (w : Walk) : Type 0 where
   pub tree_there : (at v w.place.node).tree < length v.trees
   pub mine : IsOpen v w.place.node op
   pub settled : IsSettled v.nodes w.place.node (at v w.place.node)
+
+-- the operation holds no other node than this one
+abbrev pub HoldsOnly : ArenaView → ℕ → ℕ → Type 0
+HoldsOnly v op k = (j : ℕ) → j < length v.nodes → (at v j).holder ≡ Some op → j ≡ k

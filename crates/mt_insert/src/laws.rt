@@ -1,26 +1,31 @@
 //! What is kept of a put that holds its border node stays under the steps of all others, and what it
 //! places is its command's change. Contracts alone: no code runs.
 
-ghost use Rattle.std.specs.Prelude.{◌≡◌, ◌≢◌, ◌<◌, ℕ, List, Some, None};
-ghost use Rattle.std.specs.FinMap.{get};
-ghost use Rattle.mt_rows.specs.Rows.{Bytes};
-ghost use Rattle.mt_rows.specs.Tenants.{Contents};
+ghost use Rattle.std.specs.Prelude.{◌≡◌, ◌≢◌, ◌<◌, ◌≤◌, ℕ, List, Some, None, length};
+ghost use Rattle.std.specs.FinMap.{get, len};
+ghost use Rattle.mt_rows.specs.declared.reply.Reply.TheVariants.{New, Replaced, Full};
+ghost use Rattle.mt_rows.specs.Rows.{Bytes, Columns};
+ghost use Rattle.mt_rows.specs.Maps.{reply_of, map_after};
+ghost use Rattle.mt_rows.specs.Tenants.{Contents, tenant_map};
 ghost use Rattle.mt_border.specs.Contents.{owned};
 ghost use Rattle.mt_tape.specs.declared.entry.Entry.{Entry};
 ghost use Rattle.mt_tape.specs.Tapes.{last_step_over};
-ghost use Rattle.mt_tape.specs.Histories.{IsNextWrite};
+ghost use Rattle.mt_tape.specs.Histories.{IsNextWrite, with_write};
 ghost use Rattle.mt_arena.specs.Arena.{ArenaView, IsArena, content_of, Guarantee};
 ghost use Rattle.mt_arena.specs.Settled.{IsSettled};
-ghost use Rattle.mt_arena.specs.Accesses.{at};
+ghost use Rattle.mt_arena.specs.NodeView.{NodeView};
+ghost use Rattle.mt_arena.specs.Edits.{unlocked};
+ghost use Rattle.mt_arena.specs.Accesses.{at, with_node};
 ghost use Rattle.mt_operation.specs.declared.walk.Phase.{Phase};
 ghost use Rattle.mt_operation.specs.declared.walk.Phase.TheVariants.{Judge};
 ghost use Rattle.mt_operation.specs.declared.walk.Walk.{Walk};
 ghost use Rattle.mt_operation.specs.declared.task.Task.{Task};
 ghost use Rattle.mt_operation.specs.declared.prepared.Prepared.{Prepared};
-ghost use Rattle.mt_descent.specs.Kept.{IsAtJudge};
+ghost use Rattle.mt_operation.specs.Tasks.{ask};
+ghost use Rattle.mt_descent.specs.Kept.{HoldsNothing, IsAtJudge};
 ghost use Rattle.mt_descent.specs.Moves.{Locks};
 ghost use Rattle.mt_insert.specs.Puts.{IsPut, write_of};
-ghost use Rattle.mt_insert.specs.Kept.{HoldsBorder, IsAtStore, IsAtPublish, KeptReady, IsAtUnlock};
+ghost use Rattle.mt_insert.specs.Kept.{HoldsBorder, IsAtStore, IsAtPublish, KeptReady, IsAtUnlock, HoldsOnly};
 
 /// An operation that has locked its border node holds it as `judge` asks.
 pub fn holds_once_locked()
@@ -73,4 +78,32 @@ pub fn the_row_before_stands()
 pub fn a_placed_write_is_next()
     ensures { (floor step : ℕ) (entries : List Entry) (contents : Contents) (task : Task) → IsPut task → last_step_over floor entries < step →
         IsNextWrite floor entries contents (write_of task contents step) }
+{}
+
+/// The write that a put places is its command's change, and the reply is the command's, by its tenant's
+/// map: `Replaced` over a row; `New` where the key is missing and the tenant has fewer pairs than its
+/// quota, else `Full`, which changes nothing. It leaves every other tenant's map equal.
+pub fn a_placed_put_is_its_command()
+    ensures replaced { (quota step : ℕ) (contents : Contents) (task : Task) (row : Columns) → IsPut task → get contents (owned task.key) ≡ Some row →
+        (reply_of quota (ask task) (tenant_map task.tenant contents) ≡ Replaced)
+        × (map_after quota (ask task) (tenant_map task.tenant contents) ≡ tenant_map task.tenant (with_write contents (write_of task contents step))) }
+    ensures new { (quota step : ℕ) (contents : Contents) (task : Task) → IsPut task → get contents (owned task.key) ≡ None → len (tenant_map task.tenant contents) < quota →
+        (reply_of quota (ask task) (tenant_map task.tenant contents) ≡ New)
+        × (map_after quota (ask task) (tenant_map task.tenant contents) ≡ tenant_map task.tenant (with_write contents (write_of task contents step))) }
+    ensures full { (quota : ℕ) (contents : Contents) (task : Task) → IsPut task → get contents (owned task.key) ≡ None → quota ≤ len (tenant_map task.tenant contents) →
+        (reply_of quota (ask task) (tenant_map task.tenant contents) ≡ Full)
+        × (map_after quota (ask task) (tenant_map task.tenant contents) ≡ tenant_map task.tenant contents) }
+    ensures others { (step : ℕ) (contents : Contents) (task : Task) (t : ℕ) → IsPut task → t ≢ task.tenant →
+        tenant_map t (with_write contents (write_of task contents step)) ≡ tenant_map t contents }
+{}
+
+/// An operation that held nothing holds its border node alone once it has locked it, also while that node
+/// changes, and nothing once it has given the lock back. Each step of another operation leaves it so.
+pub fn one_node_is_held()
+    ensures locked { (op : ℕ) (old new : ArenaView) (before after : Walk) → HoldsNothing old op → Locks op old new before after →
+        HoldsOnly new op before.place.node }
+    ensures changed { (v : ArenaView) (op k : ℕ) (n : NodeView) → HoldsOnly v op k → HoldsOnly (with_node v k n) op k }
+    ensures unlocked { (v : ArenaView) (op k : ℕ) → k < length v.nodes → HoldsOnly v op k →
+        HoldsNothing (with_node v k (unlocked (at v k))) op }
+    ensures stays { (op o k : ℕ) (old new : ArenaView) → Guarantee op old new → o ≢ op → HoldsOnly old o k → HoldsOnly new o k }
 {}

@@ -1,5 +1,4 @@
 -- What is kept of a put that has made its row ready, and that its lock may be given back where there is no memory.
-use Rattle.mt_arena.specs.Accesses.{at}
 use Rattle.mt_insert.proofs.Looks.{kept_ready}
 use Rattle.mt_insert.proofs.Places.{unlock_here}
 use Rattle.mt_insert.proofs.phases.judge.Goals as goal

@@ -1,6 +1,5 @@
 -- That the holder may store its row, what that is for contents and tape, and that its lock may be given back then.
 use Rattle.std.proofs.Common.{Some, ap, sym, ◌∙◌}
-use Rattle.mt_arena.specs.Accesses.{at}
 use Rattle.mt_insert.proofs.Places.{row_here, may_store, unlock_stored}
 use Rattle.mt_insert.proofs.Puts.{places}
 use Rattle.mt_insert.proofs.phases.store.Goals as goal
