@@ -15,6 +15,7 @@ pub cut_behind-more : (cut : Cut) (bytes : Bytes) (byte : ℕ) → cut_behind cu
 cut_behind-more cut [] byte = refl
 cut_behind-more cut (x ∷ bytes) byte = cut_behind-more (cut_at cut x) bytes byte
 
+-- the cut of all bytes that were read, at one byte more
 pub cut_of-more : (bytes : Bytes) (byte : ℕ) → cut_of (bytes ++ byte ∷ []) ≡ cut_at (cut_of bytes) byte
 cut_of-more bytes byte = cut_behind-more (record { ended = []; last = [] }) bytes byte
 

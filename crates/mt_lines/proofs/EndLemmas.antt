@@ -12,7 +12,7 @@ use Rattle.mt_lines.specs.Sessions.{fresh}
 use Rattle.mt_lines.specs.Turns.{AnswersFront, Writes, TakesByte}
 use Rattle.mt_lines.proofs.CutLemmas.{last_tells}
 use Rattle.mt_lines.proofs.ScriptLemmas.{Progress, AreLinesAnswered-more, front_answered, feed_cut, feed_answered, other_cut}
-use Rattle.mt_lines.proofs.StreamLemmas.{Appends-trans, Consumes-trans, Consumes-kept}
+use Rattle.mt_streams.proofs.StreamLemmas.{Appends-trans, Consumes-trans, Consumes-kept}
 
 -- the reader failed, or gave as many bytes as can be counted
 pub read_fails : (before a b held h : Option Bytes) (session : Session) (front : Front) (count : ℕ) (reader_failed writer_failed : Type 0) (error : _) → Progress before a held h session front count → Keeps a b

@@ -1,9 +1,7 @@
 pub mod CutLemmas
 pub mod EndLemmas
-pub mod Failing
 pub mod NameLemmas
 pub mod NamedLemmas
 pub mod ScriptLemmas
 pub mod StepLemmas
-pub mod StreamLemmas
 pub mod WordLemmas

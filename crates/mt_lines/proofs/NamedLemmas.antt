@@ -33,6 +33,7 @@ gone_is (x ∷ table) (suc o) = gone_is table o
 abbrev pub SameOpen : Table → Table → Type 0
 SameOpen old new = (q : ℕ) → is_some (op_at new q) ≡ is_some (op_at old q)
 
+-- where the same operations are open, the names are still theirs, one each
 pub named_same : (old new : Table) (named : Tickets) → SameOpen old new → HaveOneName old named → HaveOneName new named
 named_same old new named same a = record {
   each = λ o there. a.each o (sym (same o) ∙ there);

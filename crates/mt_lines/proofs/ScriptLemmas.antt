@@ -10,7 +10,7 @@ use Rattle.mt_lines.specs.Scripts.{Cut, cut_of, IsLineAnswered, AreLinesAnswered
 use Rattle.mt_lines.specs.Sessions.{fresh}
 use Rattle.mt_lines.specs.Turns.{AnswersFront, TakesByte}
 use Rattle.mt_lines.proofs.CutLemmas.{cut_of-more, with_byte-front, FrontTells, ended_tells}
-use Rattle.mt_lines.proofs.StreamLemmas.{Consumes-nil, Appends-nil, Appends-trans, Consumes-trans}
+use Rattle.mt_streams.proofs.StreamLemmas.{Consumes-nil, Appends-nil, Appends-trans, Consumes-trans}
 
 -- one line more is answered
 pub AreLinesAnswered-more : (old mid new : Session) (lines : List Bytes) (line text answer : Bytes) → AreLinesAnswered old lines mid text → IsLineAnswered mid line new answer → AreLinesAnswered old (lines ++ line ∷ []) new (text ++ answer)

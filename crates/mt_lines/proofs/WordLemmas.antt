@@ -105,10 +105,13 @@ some_case : (x : ℕ) (xs : List ℕ) (s : Bool) → is_space x ≡ s → (prefi
 some_case x xs true e ih h = rw (trimmed-space x xs e) (ih (omega (arith, spaces-space x xs e)))
 some_case x xs false e ih h = rw (trimmed-plain x xs e) (word_at_front x xs e)
 
+-- the first word of a line that has one has a byte at least
 pub word_has_bytes : (xs : List ℕ) → prefix_len is_space xs < length xs → 0 < prefix_len is_of_word (trimmed xs)
 word_has_bytes [] h = absurd (omega arith)
 word_has_bytes (x ∷ xs) h = some_case x xs (is_space x) refl (word_has_bytes xs) h
 
+-- how the first word of a line is found, for `next_word`
 pub ruleset word_rules = (no_words, first_of_words, word_has_bytes)
 
+-- how far a loop over bytes came, for the searches for a space and for a sign
 pub ruleset space_rules = (prefix_len-drop_no, prefix_len-drop_yes)

@@ -5,7 +5,6 @@ pub mod Programs
 pub mod Scripts
 pub mod Sessions
 pub mod Stores
-pub mod Streams
 pub mod Text
 pub mod Turns
 pub mod Words

@@ -13,9 +13,7 @@ pub mod response;
 pub mod script;
 pub mod session;
 pub mod store;
-pub mod streams;
 mod words;
 
 pub use program::{Ending, Purpose, run_program};
 pub use script::{ScriptFault, run_script};
-pub use streams::{Sink, Source};

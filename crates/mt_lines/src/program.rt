@@ -6,10 +6,10 @@
 
 ghost use Rattle.std.specs.Prelude.{◌≡◌, map, string_bytes};
 ghost use Rattle.mt_lines.specs.Programs.{purpose_of, status_of, failed_of, stands_of, RunsProgram};
-ghost use Rattle.mt_lines.specs.Streams.{Failed};
+ghost use Rattle.mt_streams.specs.Failures.{Failed};
 
-use crate::script::{ScriptFault, run_script, write_text};
-use crate::streams::{Sink, Source};
+use crate::script::{ScriptFault, run_script};
+use mt_streams::{Sink, Source, write_whole};
 use std::alloc::Global;
 use std::fmt;
 
@@ -124,7 +124,7 @@ pub fn run_program<R: Source, W: Sink>(
             Ok(()) => Ending::Answered,
             Err(fault) => Ending::GivenUp(fault),
         },
-        Purpose::Help => match write_text(writer, USE.as_bytes()) {
+        Purpose::Help => match write_whole(writer, USE.as_bytes()) {
             Ok(()) => Ending::Helped,
             Err(error) => Ending::GivenUp(ScriptFault::Write(error)),
         },

@@ -12,7 +12,7 @@ ghost use Rattle.mt_lines.specs.Lines.{front_of, whole_line};
 ghost use Rattle.mt_rows.specs.Rows.{Bytes};
 ghost use Rattle.mt_lines.specs.Scripts.{Answers, RunsScript};
 ghost use Rattle.mt_lines.specs.Sessions.{fresh, TellsReply};
-ghost use Rattle.mt_lines.specs.Streams.{Failed, NoFewer};
+ghost use Rattle.mt_streams.specs.Failures.{Failed, NoFewer};
 ghost use Rattle.mt_lines.specs.Text.{IsText};
 ghost use Rattle.mt_lines.specs.Turns.{meaning_in, AnswersFront, Writes, TakesByte};
 ghost use Rattle.mt_lines.specs.declared.script.ScriptFault.TheVariants.{Memory};
@@ -21,7 +21,7 @@ use crate::buffer::LineBuffer;
 use crate::line::parse;
 use crate::response::{Response, push_response};
 use crate::session::Session;
-use crate::streams::{Sink, Source};
+use mt_streams::{Sink, Source, write_whole};
 use std::alloc::{AllocError, Global};
 use std::error::Error;
 use std::fmt;
@@ -156,7 +156,7 @@ fn answer<W: Sink>(
         return Ok(());
     }
     let text = answer_text(alloc, session, line)?;
-    match write_text(writer, text.as_bytes()) {
+    match write_whole(writer, text.as_bytes()) {
         Ok(()) => Ok(()),
         Err(error) => Err(ScriptFault::Write(error)),
     }
@@ -174,34 +174,6 @@ fn answer_text(
     let mut text = String::new(alloc);
     push_response(alloc, &mut text, &response)?;
     Ok(text)
-}
-
-// Writes a text whole; an error leaves a front of it. (`write_all` says nothing of what an error
-// leaves.)
-pub(crate) fn write_text<W: Sink>(writer: &mut W, text: &[u8]) -> io::Result<()>
-    ensures ok { OnOk result (Appends (W.contents writer.old) (W.contents writer.new) text.now) }
-    ensures err { OnErr result ((front : Bytes) × (lost : Bytes) × (text.now ≡ front ++ lost) × Appends (W.contents writer.old) (W.contents writer.new) front) }
-    ensures failures { NoFewer (W.failures writer.old) (W.failures writer.new) }
-    ensures cause { OnErr result (Failed (W.failures writer.old) (W.failures writer.new)) }
-{
-    let mut rest = text;
-    for _ in 0..u64::MAX {
-        if rest.is_empty() {
-            return Ok(());
-        }
-        match writer.send(rest) {
-            Ok(count) => rest = &rest[count..],
-            Err(error) => {
-                if error.kind() != ErrorKind::Interrupted {
-                    return Err(error);
-                }
-            }
-        }
-    }
-    if rest.is_empty() {
-        return Ok(());
-    }
-    Err(io::Error::from(ErrorKind::Interrupted))
 }
 
 // What a line is answered, where it is not too long.

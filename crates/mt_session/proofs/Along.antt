@@ -10,7 +10,8 @@ use Rattle.mt_session.specs.declared.ended.Ended.TheVariants as ends
 use Rattle.mt_session.specs.declared.ended.ServeFault.{ServeFault}
 use Rattle.mt_session.specs.declared.ended.ServeFault.TheVariants as faults
 use Rattle.mt_session.specs.Exchanges.{Exchange}
-use Rattle.mt_session.specs.Sessions.{CallerRelation, IsReply, IsStuck, AreReplies, Transcript, AtMostOne, EndsAs, Serves}
+use Rattle.mt_session.specs.Sessions.{CallerRelation, IsReply, IsStuck, AreReplies, Transcript}
+use Rattle.mt_session.specs.Endings.{AsksAtMostOne, EndsAs, Serves}
 
 -- each exchange of one caller, from state to state, is one of the other between their views
 module _ {S T : Type 0} (exchanges : CallerRelation S) (other : CallerRelation T) (view : S → T) (along : (s : S) (e : Exchange) (t : S) → exchanges s e t → other (view s) e (view t)) where
@@ -49,7 +50,7 @@ module _ {S T : Type 0} (exchanges : CallerRelation S) (other : CallerRelation T
   stuck_along false s t request p = absurd p
 
   -- and the one request without a written reply
-  one_along : (opened : Bool) (rest : Bytes) (s t : S) → AtMostOne exchanges opened s rest t → AtMostOne other opened (view s) rest (view t)
+  one_along : (opened : Bool) (rest : Bytes) (s t : S) → AsksAtMostOne exchanges opened s rest t → AsksAtMostOne other opened (view s) rest (view t)
   one_along opened rest s t (inl same) = inl (ap view same)
   one_along opened rest s t (inr p) = inr (record {
     request = p.request;
@@ -76,11 +77,11 @@ module _ {S T : Type 0} (exchanges : CallerRelation S) (other : CallerRelation T
     written = p.written;
     rest = p.rest;
     text = p.text;
-    opened = p.opened;
+    is_open = p.is_open;
     mid = view p.mid;
     consumed = p.consumed;
     appended = p.appended;
-    transcript = transcript_along p.read p.rest p.text false p.opened old p.mid p.transcript;
-    ends = ending_along result left p.rest p.text p.written p.opened p.mid new p.ends;
+    transcript = transcript_along p.read p.rest p.text false p.is_open old p.mid p.transcript;
+    ends = ending_along result left p.rest p.text p.written p.is_open p.mid new p.ends;
     cause = p.cause;
   }

@@ -22,7 +22,7 @@ use Rattle.mt_wire.proofs.RequestLaws.{requests}
 use Rattle.mt_session.specs.declared.caller.CallerFault.{CallerFault}
 use Rattle.mt_session.specs.declared.caller.CallerFault.TheVariants.{Refused, Stuck}
 use Rattle.mt_session.specs.declared.plain.PlainTenant.{PlainTenant}
-use Rattle.mt_session.specs.Sessions.{IsReply, AreReplies, Transcript, call_told, open_told, is_open, settle_told}
+use Rattle.mt_session.specs.Sessions.{IsReply, AreReplies, Transcript, call_told, open_told, open_after, settle_told}
 use Rattle.mt_session.specs.Plain.{PlainTenants, place_of, PlainOpens, TenantCalls, PlainCalls, PlainExchanges, IsAmple}
 
 -- a command that is taken has no fault
@@ -93,7 +93,7 @@ call_same (Some place) command d a b e f w v (x, u, at, p, is) (y, z, here, q, b
 reply_same : (r : Request) (o : Bool) (d : PlainTenants) (w v : WireReply) (p q : Bool) (e f : PlainTenants) → IsReply PlainExchanges o d r w p e → IsReply PlainExchanges o d r v q f → IsAmple w → IsAmple v → (w ≡ v) × (p ≡ q) × (e ≡ f)
 reply_same (Open tenant) false d w v p q e f (a, given, told, stands) (b, gave, said, opened) ample enough =
     let same = open_same (place_of d.list tenant) d a b e f given gave in
-    (told ∙ ap open_told same.0 ∙ sym said, stands ∙ ap is_open same.0 ∙ sym opened, same.1)
+    (told ∙ ap open_told same.0 ∙ sym said, stands ∙ ap open_after same.0 ∙ sym opened, same.1)
 reply_same (Open tenant) true d w v p q e f (told, stands, stays) (said, opened, stayed) ample enough = (told ∙ sym said, stands ∙ sym opened, stays ∙ sym stayed)
 reply_same (Call command) false d w v p q e f (told, stands, stays) (said, opened, stayed) ample enough = (told ∙ sym said, stands ∙ sym opened, stays ∙ sym stayed)
 reply_same (Call command) true d w v p q e f (a, given, told, stands) (b, gave, said, opened) ample enough =

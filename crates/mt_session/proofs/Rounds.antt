@@ -1,4 +1,4 @@
--- Rounds: how a request more, and a round more, go on. For the answers of a whole input.
+-- Rounds: how a request more, and a round more, go on. For `answer_some` and `answer_all`.
 use Rattle.std.proofs.Common.{◌≡◌, Bool, [], ◌++◌, Option, Ok, Err, sym, ap, subst, ◌∙◌, append-nil, append_assoc, inl, inr, refl}
 use Rattle.std.specs.Io.KnownBytes.{Appends}
 use Rattle.mt_rows.specs.Rows.{Bytes}
@@ -6,9 +6,10 @@ use Rattle.mt_wire.specs.Replies.{reply_spelling}
 use Rattle.mt_session.specs.declared.ended.ServeFault.TheVariants as faults
 use Rattle.mt_session.specs.declared.turns.Turn.{Turn}
 use Rattle.mt_session.specs.declared.turns.Turn.TheVariants.{Answered, Pauses, Waits, Bad, Memory}
-use Rattle.mt_session.specs.Sessions.{CallerRelation, Transcript, IsBeginning, bad_frame_reply}
+use Rattle.mt_session.specs.Sessions.{CallerRelation, Transcript}
+use Rattle.mt_session.specs.Endings.{IsBeginning, bad_frame_reply}
 use Rattle.mt_session.specs.Turns.{AnswersFront, IsRound, IsWritten}
-use Rattle.mt_session.proofs.KnownBytes.{Appends-trans}
+use Rattle.mt_streams.proofs.StreamLemmas.{Appends-trans}
 use Rattle.mt_session.proofs.Transcripts.{transcript_none, transcript_one, transcript_then}
 
 -- a transcript, and one answer more
@@ -45,6 +46,7 @@ round_written exchanges input rest next out opened n o s m t held mid last Bad w
 round_written exchanges input rest next out opened n o s m t held mid last Memory w (text, bytes, b, k, transcript, told, one) p other =
     (w.text ++ text, bytes, b, k, transcript_then exchanges input rest bytes w.text text opened n b s m k w.transcript transcript, Appends-trans held mid last w.text text w.appended (subst (Appends mid last) told p), one)
 
+-- a round that paused at the mark, all of it written
 pub pauses_on : {S : Type 0} (exchanges : CallerRelation S) (input rest next out : Bytes) (opened n o : Bool) (s m t : S) (held mid last : Option Bytes) → Written exchanges input opened s rest n m held mid → IsRound exchanges rest n m [] Pauses next o t out → Appends mid last out → Written exchanges input opened s next o t held last
 pauses_on exchanges input rest next out opened n o s m t held mid last w (text, transcript, told, fewer) p = record {
   text = w.text ++ text;

@@ -36,6 +36,7 @@ transcript_one exchanges bytes mid rest text opened n o s m t request reply fits
   run = (n, m, step, transcript.run);
 }
 
+-- replies to requests, and then replies to more requests
 pub replies_then : {S : Type 0} (exchanges : CallerRelation S) (rs qs : List Request) (ws vs : List WireReply) (opened n o : Bool) (s m t : S) → AreReplies exchanges opened s rs ws n m → AreReplies exchanges n m qs vs o t → AreReplies exchanges opened s (rs ++ qs) (ws ++ vs) o t
 replies_then exchanges [] qs [] vs opened n o s m t (ne, me) q = subst (λ (b : Bool). AreReplies exchanges b s qs vs o t) ne (subst (λ x. AreReplies exchanges n x qs vs o t) me q)
 replies_then exchanges (r ∷ rs) qs (w ∷ ws) vs opened n o s m t (b, x, step, run) q = (b, x, step, replies_then exchanges rs qs ws vs b n o x m t run q)

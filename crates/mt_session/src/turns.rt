@@ -1,18 +1,18 @@
 //! Answering what has been read.
 
-ghost use Rattle.std.specs.Prelude.{◌≡◌, ◌<◌, ◌++◌, length, List, ℕ, Bool, OnOk, OnErr, IfSome, IfNone};
+ghost use Rattle.std.specs.Prelude.{◌≡◌, ◌≤◌, ◌++◌, length, List, ℕ, Bool, OnOk, OnErr, IfSome, IfNone};
 ghost use Rattle.mt_rows.specs.Rows.{Bytes};
 ghost use Rattle.mt_wire.specs.declared.message.WireReply.{WireReply};
 ghost use Rattle.mt_session.specs.Sessions.{IsReply, IsStuck};
-ghost use Rattle.mt_session.specs.Failures.{Failed, NoFewer};
+ghost use Rattle.mt_streams.specs.Failures.{Failed, NoFewer};
 ghost use Rattle.mt_session.specs.Turns.{IsTurn, IsRound, IsWritten, IsWithinMark};
 
-use crate::buffers::write_whole;
+use crate::buffers::write_out;
 use crate::caller::{Caller, CallerFault};
 use crate::ended::ServeFault;
-use crate::streams::Sink;
 use bytes::BytesMut;
 use mt_rows::Refusal;
+use mt_streams::Sink;
 use mt_wire::{Front, Request, WireReply, decode, encode};
 use std::alloc::Global;
 
@@ -21,13 +21,13 @@ use std::alloc::Global;
 pub enum Turn {
     /// A request was answered.
     Answered,
-    /// So much was answered that it is to be written first.
+    /// Requests were answered, and the answers are past the mark: they are to be written first.
     Pauses,
     /// It is less than a frame.
     Waits,
     /// It is no frame, and that was answered.
     Bad,
-    /// A growth was refused.
+    /// A growth was refused, or a command is stuck.
     Memory,
 }
 
@@ -106,12 +106,11 @@ fn answer_front<C: Caller>(
     }
 }
 
-/// The length of the answers from which on they are written before more requests are answered, in
-/// bytes.
-pub const OUTPUT_BYTES: usize = 262_144;
+/// The mark of the output, in bytes: what grows past it is written before more is answered.
+pub const OUTPUT_BYTES: usize = 65_536;
 
-/// Answers the whole requests of the input, one after the other, until none is left or there is much
-/// to write. It doesn't end with `Answered`.
+/// Answers the whole requests of the input, one after the other, until none is left or the output is
+/// past its mark. It doesn't end with `Answered`.
 pub(crate) fn answer_some<C: Caller>(
     alloc: Global,
     input: &mut BytesMut,
@@ -119,14 +118,14 @@ pub(crate) fn answer_some<C: Caller>(
     opened: &mut bool,
     caller: &mut C,
 ) -> Turn
-    requires { length out.old.items < 262144 }
+    requires { length out.old.items ≤ 65536 }
     ensures round { IsRound C.exchanges input.old.items opened.old caller.old out.old.items result input.new.items opened.new caller.new out.new.items }
     ensures held { IsWithinMark out.new.items }
 {
     loop {
         match answer_front(alloc, input, out, opened, caller) {
             Turn::Answered => {
-                if out.len() >= OUTPUT_BYTES {
+                if out.len() > OUTPUT_BYTES {
                     return Turn::Pauses;
                 }
             }
@@ -155,7 +154,7 @@ pub(crate) fn answer_all<W: Sink, C: Caller>(
     loop {
         out.clear();
         let turn = answer_some(alloc, input, out, opened, caller);
-        write_whole(writer, out)?;
+        write_out(writer, out)?;
         match turn {
             Turn::Pauses => {}
             Turn::Answered => return Ok(Turn::Answered),

@@ -1,7 +1,7 @@
 //! Readers that cut and fail, writers that take little and fail, and sessions over them.
 
 use mt_rows::PlainMap;
-use mt_session::{Ended, PlainCaller, PlainTenant, ServeFault, Sink, Source, serve};
+use mt_session::{Ended, PlainCaller, PlainTenant, ServeFault, serve};
 use std::alloc::{AllocError, Global};
 use std::io;
 use std::io::{ErrorKind, Read, Write};
@@ -34,16 +34,6 @@ impl Read for Pieces<'_> {
         room[..count].copy_from_slice(front);
         self.rest = rest;
         Ok(count)
-    }
-}
-
-impl Source for Pieces<'_> {
-    ghost use Rattle.std.specs.Prelude.{None};
-
-    ghost failures = { λ _. None };
-
-    fn receive(&mut self, room: &mut [u8]) -> io::Result<usize> {
-        self.read(room)
     }
 }
 
@@ -88,20 +78,6 @@ impl Write for Written {
 
     fn flush(&mut self) -> io::Result<()> {
         Ok(())
-    }
-}
-
-impl Sink for Written {
-    ghost use Rattle.std.specs.Prelude.{None};
-
-    ghost failures = { λ _. None };
-
-    fn send(&mut self, text: &[u8]) -> io::Result<usize> {
-        match self.write(text) {
-            Ok(0) if !text.is_empty() => Err(io::Error::from(ErrorKind::WriteZero)),
-            Ok(count) => Ok(count),
-            Err(error) => Err(error),
-        }
     }
 }
 

@@ -1,4 +1,4 @@
--- A field that is read is the field that was written, and what was written is read again.
+-- A field that is read is the field that was written, and what was written is read again: for requests and for replies.
 use Rattle.std.proofs.Common.{◌≡◌, ℕ, zero, suc, ◌+◌, ◌^◌, ◌<◌, ◌≤◌, Bool, true, false, cond, ltb, List, [], ◌∷◌, ◌++◌, length, get_or, take, drop, Option, Some, None, refl, sym, ap, subst, ◌∙◌, append_assoc, arith, inl, inr}
 use Rattle.std.specs.Int.{Width, w16, w32, w64, byte_len, from_be_bytes, to_be_bytes}
 use Rattle.std.specs.List.{flat_map, All, AllByRecursion}
@@ -13,12 +13,15 @@ use Rattle.mt_wire.specs.Requests.{string, asked_columns, named_column, named_co
 use Rattle.mt_wire.specs.Reading.{◌>>=◌, byte_at, number_at, taken_at, start_at, string_at, each_at}
 use Rattle.mt_wire.specs.RequestReading.{asked_at, named_column_at, named_columns_at}
 
+-- each number is a byte
 abbrev pub IsBytes : Bytes → Type 0
 IsBytes bytes = (i : ℕ) → get_or bytes i 0 < 256
 
+-- what is behind some bytes is bytes
 pub IsBytes-drop : (n : ℕ) (bytes : Bytes) → IsBytes bytes → IsBytes (drop n bytes)
 IsBytes-drop n bytes h i = rw get_or-drop (h (n + i))
 
+-- the first of some bytes are bytes
 pub IsBytes-take : (n : ℕ) (bytes : Bytes) → IsBytes bytes → IsBytes (take n bytes)
 IsBytes-take n bytes h i =
     elim (cases_lt i n) [
@@ -49,9 +52,11 @@ pub choose : {A : Type 0} {P : Type 0} (b : Bool) (x y z : A) → cond b x y ≡
 choose true x y z e p q = p refl e
 choose false x y z e p q = q refl e
 
+-- a step that didn't fail, at a type that is known
 abbrev done : {A : Type 0} → A → Option A
 done x = Some x
 
+-- two steps that gave the same didn't fail with other values
 pub some_is : {A : Type 0} (x y : A) → done x ≡ done y → x ≡ y
 some_is x y e = cc
 
@@ -60,14 +65,17 @@ pub record Takes (bytes text rest : Bytes) : Type 0 where
   pub parts : bytes ≡ text ++ rest
   pub rest_fits : IsBytes rest
 
+-- two readers one behind the other took both texts
 pub Takes-then : (a x b y c : Bytes) → Takes a x b → Takes b y c → Takes a (x ++ y) c
 Takes-then a x b y c p q = record { parts = p.parts ∙ ap (λ (t : Bytes). x ++ t) q.parts ∙ sym (append_assoc x y c); rest_fits = q.rest_fits }
 
+-- a byte before what a reader took is taken with it
 pub Takes-more : (h : ℕ) (a x b : Bytes) → Takes a x b → Takes (h ∷ a) (h ∷ x) b
 Takes-more h a x b p = record { parts = ap (λ (t : Bytes). h ∷ t) p.parts; rest_fits = p.rest_fits }
 
 -- ---- a byte
 
+-- a byte that is read stood at the front, and is below 256
 pub byte_takes : (bytes : Bytes) (n : ℕ) (rest : Bytes) → IsBytes bytes → byte_at bytes ≡ Some (n, rest) → Takes bytes (n ∷ []) rest × (n < 256)
 byte_takes [] n rest fits e = absurd cc
 byte_takes (b ∷ bytes) n rest fits e =
@@ -75,12 +83,14 @@ byte_takes (b ∷ bytes) n rest fits e =
 
 -- ---- numbers
 
+-- numbers of this width: below the limit they are written and read again, and any bytes of it are such a number's
 pub record IsWide (w : Width) (limit : ℕ) : Type 0 where
   pub len : (n : ℕ) → length (to_be_bytes w n) ≡ byte_len w
   pub back : (bytes : Bytes) → length bytes ≡ byte_len w → IsBytes bytes → to_be_bytes w (from_be_bytes w bytes) ≡ bytes
   pub again : (n : ℕ) → n < limit → from_be_bytes w (to_be_bytes w n) ≡ n
   pub below : (bytes : Bytes) → IsBytes bytes → from_be_bytes w bytes < limit
 
+-- numbers of two bytes are those below 2^16
 pub wide16 : IsWide w16 (2 ^ 16)
 wide16 = record {
   len = λ n. refl;
@@ -89,6 +99,7 @@ wide16 = record {
   below = λ bytes fits. omega (arith, fits 0, fits 1);
 }
 
+-- numbers of four bytes are those below 2^32
 pub wide32 : IsWide w32 (2 ^ 32)
 wide32 = record {
   len = λ n. refl;
@@ -97,6 +108,7 @@ wide32 = record {
   below = λ bytes fits. omega (arith, fits 0, fits 1, fits 2, fits 3);
 }
 
+-- numbers of eight bytes are those below 2^64
 pub wide64 : IsWide w64 (2 ^ 64)
 wide64 = record {
   len = λ n. refl;
@@ -105,6 +117,7 @@ wide64 = record {
   below = λ bytes fits. omega (arith, fits 0, fits 1, fits 2, fits 3, fits 4, fits 5, fits 6, fits 7);
 }
 
+-- a number that is read stood at the front as its bytes, and is below the limit
 pub number_takes : (w : Width) (limit : ℕ) (wide : IsWide w limit) (bytes : Bytes) (n : ℕ) (rest : Bytes) → IsBytes bytes → number_at w bytes ≡ Some (n, rest) → Takes bytes (to_be_bytes w n) rest × (n < limit)
 number_takes w limit wide bytes n rest fits e =
     let g = guard_some (ltb (length bytes) (byte_len w)) (from_be_bytes w (take (byte_len w) bytes), drop (byte_len w) bytes) (n, rest) e in
@@ -114,6 +127,7 @@ number_takes w limit wide bytes n rest fits e =
     let front : to_be_bytes w n ≡ take (byte_len w) bytes = rw (← n-is) (wide.back (take (byte_len w) bytes) (omega (arith, length-take (byte_len w) bytes)) (IsBytes-take (byte_len w) bytes fits)) in
     (record { parts = rw (front, ← rest-is) (sym (take-append-drop (byte_len w) bytes)); rest_fits = rw (← rest-is) (IsBytes-drop (byte_len w) bytes fits) }, rw (← n-is) (wide.below (take (byte_len w) bytes) (IsBytes-take (byte_len w) bytes fits)))
 
+-- a number below the limit is read again from its bytes
 pub number_again : (w : Width) (limit : ℕ) (wide : IsWide w limit) (n : ℕ) (rest : Bytes) → n < limit → number_at w (to_be_bytes w n ++ rest) ≡ Some (n, rest)
 number_again w limit wide n rest lt =
     let len = wide.len n in
@@ -135,6 +149,7 @@ taken_again text rest =
 
 -- ---- strings
 
+-- a string that is read stood at the front with its length, which fits two bytes
 pub string_takes : (bytes text rest : Bytes) → IsBytes bytes → string_at bytes ≡ Some (text, rest) → Takes bytes (string text) rest × (length text < 2 ^ 16)
 unfolding string_at
 string_takes bytes text rest fits e =
@@ -144,12 +159,14 @@ string_takes bytes text rest fits e =
     let both = Takes-then bytes (to_be_bytes w16 b.0.0) b.0.1 text rest t.0 s.0 in
     (subst (λ (k : ℕ). Takes bytes (to_be_bytes w16 k ++ text) rest) (sym s.1) both, omega (arith, t.1, s.1))
 
+-- a string whose length fits two bytes is read again
 pub string_again : (text rest : Bytes) → length text < 2 ^ 16 → string_at (string text ++ rest) ≡ Some (text, rest)
 unfolding string_at
 string_again text rest lt = rw (number_again w16 (2 ^ 16) wide16 (length text) (text ++ rest) lt) (taken_again text rest)
 
--- ---- indexes asked_columns for
+-- ---- indexes of columns
 
+-- indexes of columns that are read stood at the front with their count, which fits a byte
 pub asked_takes : (bytes indexes rest : Bytes) → IsBytes bytes → asked_at bytes ≡ Some (indexes, rest) → Takes bytes (asked_columns indexes) rest × (length indexes < 2 ^ 8)
 unfolding asked_at
 asked_takes bytes indexes rest fits e =
@@ -159,6 +176,7 @@ asked_takes bytes indexes rest fits e =
     let both = Takes-then bytes (b.0.0 ∷ []) b.0.1 indexes rest t.0 s.0 in
     (subst (λ (k : ℕ). Takes bytes (k ∷ indexes) rest) (sym s.1) both, omega (arith, t.1, s.1))
 
+-- indexes of columns are read again
 pub asked_again : (indexes rest : Bytes) → asked_at (asked_columns indexes ++ rest) ≡ Some (indexes, rest)
 unfolding asked_at
 asked_again indexes rest = taken_again indexes rest
@@ -182,6 +200,7 @@ named_column_again c rest lt = rw (string_again c.1 rest lt) refl
 
 -- so many items, one after the other
 module _ {A : Type 0} (item : Bytes → Option (A × Bytes)) (spell : A → Bytes) (Fits : A → Type 0) where
+  -- where each item that is read stood at the front, so did many
   pub each_takes : ((bytes : Bytes) (x : A × Bytes) → IsBytes bytes → item bytes ≡ Some x → Takes bytes (spell x.0) x.1 × Fits x.0)
       → (n : ℕ) (bytes : Bytes) (x : List A × Bytes) → IsBytes bytes → each_at item n bytes ≡ Some x → Takes bytes (flat_map spell x.0) x.1 × (length x.0 ≡ n) × AllByRecursion Fits x.0
   unfolding each_at
@@ -196,6 +215,7 @@ module _ {A : Type 0} (item : Bytes → Option (A × Bytes)) (spell : A → Byte
       let made : List A × Bytes = (a.0.0 ∷ b.0.0, b.0.1) in
       subst (λ (y : List A × Bytes). Takes bytes (flat_map spell y.0) y.1 × (length y.0 ≡ suc n) × AllByRecursion Fits y.0) (some_is made x b.2) (rw flat_map-cons both, ap suc second.1, (first.1, second.2))
 
+  -- where each item is read again, so are many
   pub each_again : ((x : A) (rest : Bytes) → Fits x → item (spell x ++ rest) ≡ Some (x, rest))
       → (xs : List A) (rest : Bytes) → AllByRecursion Fits xs → each_at item (length xs) (flat_map spell xs ++ rest) ≡ Some (xs, rest)
   unfolding each_at
@@ -207,6 +227,7 @@ module _ {A : Type 0} (item : Bytes → Option (A × Bytes)) (spell : A → Byte
 abbrev FitColumns : Named → Type 0
 FitColumns cs = All (λ c. length c.1 < 2 ^ 16) cs
 
+-- columns with their indexes that are read stood at the front with their count, and each column's length fits two bytes
 pub named_columns_takes : (bytes : Bytes) (cs : Named) (rest : Bytes) → IsBytes bytes → named_columns_at bytes ≡ Some (cs, rest) → Takes bytes (named_columns cs) rest × (length cs < 2 ^ 8) × FitColumns cs
 unfolding named_columns_at
 named_columns_takes bytes cs rest fits e =
@@ -216,18 +237,21 @@ named_columns_takes bytes cs rest fits e =
     let both = Takes-then bytes (b.0.0 ∷ []) b.0.1 (flat_map named_column cs) rest t.0 s.0 in
     (subst (λ (k : ℕ). Takes bytes (k ∷ flat_map named_column cs) rest) (sym s.1) both, omega (arith, t.1, s.1), All-from_recursion (λ (c : ℕ × Bytes). length c.1 < 2 ^ 16) cs s.2)
 
+-- columns with their indexes, whose lengths fit, are read again
 pub named_columns_again : (cs : Named) (rest : Bytes) → FitColumns cs → named_columns_at (named_columns cs ++ rest) ≡ Some (cs, rest)
 unfolding named_columns_at
 named_columns_again cs rest fits = each_again named_column_at named_column (λ c. length c.1 < 2 ^ 16) named_column_again cs rest (recursion_from_All (λ (c : ℕ × Bytes). length c.1 < 2 ^ 16) cs fits)
 
--- ---- a start_flag
+-- ---- where a scan starts
 
+-- where a scan starts, as it is read, stood at the front as one byte
 pub start_takes : (bytes : Bytes) (b : Bool) (rest : Bytes) → IsBytes bytes → start_at bytes ≡ Some (b, rest) → Takes bytes (start_flag b ∷ []) rest
 start_takes [] b rest fits e = absurd cc
 start_takes (zero ∷ bytes) b rest fits e = subst (λ (x : Bool × Bytes). Takes (0 ∷ bytes) (start_flag x.0 ∷ []) x.1) (some_is (false, bytes) (b, rest) e) (record { parts = refl; rest_fits = IsBytes-rest 0 bytes fits })
 start_takes (suc zero ∷ bytes) b rest fits e = subst (λ (x : Bool × Bytes). Takes (1 ∷ bytes) (start_flag x.0 ∷ []) x.1) (some_is (true, bytes) (b, rest) e) (record { parts = refl; rest_fits = IsBytes-rest 1 bytes fits })
 start_takes (suc (suc n) ∷ bytes) b rest fits e = absurd cc
 
+-- where a scan starts is read again from its byte
 pub start_again : (b : Bool) (rest : Bytes) → start_at (start_flag b ∷ rest) ≡ Some (b, rest)
 start_again true rest = refl
 start_again false rest = refl

@@ -1,4 +1,4 @@
--- The tests of a row and of a scan's pairs, as a reader of replies makes them.
+-- The tests of a row and of a scan's pairs, as a reader of replies makes them: for `row_of` and `pairs_of`.
 use Rattle.std.proofs.Common.{◌≡◌, ℕ, ◌<◌, ◌≤◌, Bool, true, false, ◌&&◌, T, List, length, IsTrue, ◌↔◌, refl, sym, subst, arith}
 use Rattle.std.specs.Prelude.{nat_lt}
 use Rattle.std.specs.List.{All, list_all}
@@ -82,6 +82,8 @@ row_test columns b h = same b (is_row columns) (λ e. test_from_row columns (h.0
 pub pairs_test : (pairs : List (Bytes × Columns)) (b : Bool) → (IsTrue b ↔ ArePairs pairs) → are_pairs pairs ≡ b
 pairs_test pairs b h = same b (are_pairs pairs) (λ e. test_from_pairs pairs (h.0 e)) (λ e. h.1 (pairs_from_test pairs e))
 
+-- what a reader of a row tests, for `row_of`
 pub ruleset row_tests = (row_test, row_from_test)
 
+-- what a reader of a scan's pairs tests, for `pairs_of`
 pub ruleset pairs_tests = (pairs_test, pairs_from_test)

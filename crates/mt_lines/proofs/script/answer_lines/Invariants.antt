@@ -1,4 +1,4 @@
-use Rattle.mt_lines.specs.Streams.{NoFewer}
+use Rattle.mt_streams.specs.Failures.{NoFewer}
 use Rattle.mt_lines.proofs.ScriptLemmas.{Progress}
 use Rattle.mt_lines.proofs.script.answer_lines.Given as goal
 

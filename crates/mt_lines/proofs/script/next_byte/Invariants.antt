@@ -1,6 +1,6 @@
 use Rattle.std.proofs.Common.{◌≡◌, ◌⊎◌, length}
 use Rattle.std.specs.Io.KnownBytes.{Keeps}
-use Rattle.mt_lines.specs.Streams.{Failed, NoFewer}
+use Rattle.mt_streams.specs.Failures.{Failed, NoFewer}
 use Rattle.mt_lines.proofs.script.next_byte.Given as goal
 
 -- nothing was read so far, and a turn that was made failed

@@ -5,7 +5,7 @@ use Rattle.std.proofs.lemmas.Result.{err_from_is_err_and}
 use Rattle.mt_rows.specs.Rows.{Bytes}
 use Rattle.mt_wire.specs.Fronts.{IsPartial}
 use Rattle.mt_session.specs.declared.ended.ServeFault.TheVariants as faults
-use Rattle.mt_session.proofs.Failing.{NoFewer-refl, NoFewer-trans, then-Failed}
+use Rattle.mt_streams.proofs.FailureLemmas.{NoFewer-refl, NoFewer-trans, then-Failed}
 use Rattle.mt_session.proofs.Servings.{Serving, begins, partial_is_short, read_on, kept_on, round_on, is_closed, is_refused, fails, is_short_of_memory, write_fails}
 use Rattle.mt_session.proofs.serving.serve.Goals as goal
 
@@ -17,14 +17,14 @@ read_more-requires g c = partial_is_short _ c.loop.invariant.partial
 
 pub returns-in_default : goal.returns-in_default
 returns-in_default g c =
-    let before = g.R.Read.remaining c.args.reader.now in
-    let held = g.W.Write.contents c.args.writer.now in
+    let before = g.R.Source.remaining c.args.reader.now in
+    let held = g.W.Sink.contents c.args.writer.now in
     fails g.C.Caller.exchanges 0 _ _ before before held held c.args.caller.now c.args.caller.now [] _ faults.Memory (begins g.C.Caller.exchanges before held c.args.caller.now) no_bytes (λ e. absurd cc) (λ e. absurd cc)
 
 pub loop-init : goal.loop-init
 loop-init g c =
-    let before = g.R.Read.remaining c.args.reader.now in
-    let held = g.W.Write.contents c.args.writer.now in
+    let before = g.R.Source.remaining c.args.reader.now in
+    let held = g.W.Sink.contents c.args.writer.now in
     let empty : c.in-Ok.input.items ≡ [] = c.in-Ok.ensures.items in
     record {
       serving = subst (λ (x : Bytes). Serving g.C.Caller.exchanges before before held held c.args.caller.now c.args.caller.now x _ 0) (sym empty) (begins g.C.Caller.exchanges before held c.args.caller.now);

@@ -8,8 +8,8 @@ use Rattle.mt_session.proofs.turns.answer_some.Goals as goal
 pub loop-out-init : goal.loop-out-init
 loop-out-init g c = ([], transcript_none g.C.Caller.exchanges c.args.input.now.items c.args.opened.now c.args.caller.now, sym (append-nil c.args.out.now.items), omega arith, c.requires)
 
-pub returns-then-len-ge-OUTPUT_BYTES-clause-round : goal.returns-then-len-ge-OUTPUT_BYTES-clause-round
-returns-then-len-ge-OUTPUT_BYTES-clause-round g c =
+pub returns-then-len-gt-OUTPUT_BYTES-clause-round : goal.returns-then-len-gt-OUTPUT_BYTES-clause-round
+returns-then-len-gt-OUTPUT_BYTES-clause-round g c =
     let (text, transcript, told, most, small) = c.loop-out.invariant in
     let a = c.in-Answered.ensures in
     let fewer = a.fewer in

@@ -1,13 +1,16 @@
 //! Readers and writers, which may tell which bytes they gave and took, and how often they failed.
+//!
+//! Any `Read` is a `Source` and any `Write` a `Sink`, which doesn't tell its failures. A type that is to
+//! tell them is a `Source` or a `Sink` itself, and no `Read` or `Write`.
 
 ghost use Rattle.std.specs.Prelude.{ℕ, ◌<◌, List, Option, length, IfOk, OnErr};
 ghost use Rattle.std.specs.Io.{ReadsAtMost, WritesAtMost};
 ghost use Rattle.std.specs.Io.KnownBytes.{ReadConsumes, WriteAppends};
-ghost use Rattle.mt_lines.specs.Streams.{Failed, NoFewer};
+ghost use Rattle.mt_streams.specs.Failures.{Failed, NoFewer};
 
 use std::io::{self, ErrorKind, Read, Write};
 
-/// What a script is read from.
+/// What is read from.
 pub trait Source {
     /// The bytes that are left, where it tells.
     ghost remaining: { Self → Option (List ℕ) };
@@ -23,7 +26,7 @@ pub trait Source {
         ensures cause { OnErr result (Failed (failures self.old) (failures self.new)) };
 }
 
-/// What the answers are written to.
+/// What is written to.
 pub trait Sink {
     /// The bytes that it holds, where it tells.
     ghost contents: { Self → Option (List ℕ) };

@@ -1,0 +1,2 @@
+pub mod FailureLemmas
+pub mod StreamLemmas

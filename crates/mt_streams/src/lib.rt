@@ -1,0 +1,9 @@
+//! Readers and writers as sessions and scripts see them: they may tell which bytes they gave and took,
+//! and how often they failed.
+#![tactic(auto)]
+
+pub mod streams;
+pub mod writing;
+
+pub use streams::{Sink, Source};
+pub use writing::write_whole;
