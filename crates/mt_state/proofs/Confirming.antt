@@ -63,7 +63,7 @@ past_aside Lock on v past other key row w k = k
 past_aside _ on v past other key row w k = absurd on
 
 -- a get is one that does not write
-get_of : (b writes : Bool) → writes ≡ not b → writes ≡ false → b ≡ true
+pub get_of : (b writes : Bool) → writes ≡ not b → writes ≡ false → b ≡ true
 get_of true writes e f = refl
 get_of false writes e f = absurd (let no = sym e ∙ f in cc)
 

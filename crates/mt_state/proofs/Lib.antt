@@ -11,3 +11,5 @@ pub mod Still
 pub mod Descents
 pub mod Reading
 pub mod Confirming
+pub mod OneBorder
+pub mod Loading

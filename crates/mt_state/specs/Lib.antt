@@ -6,3 +6,4 @@ pub mod Kept
 pub mod Invariant
 pub mod Moves
 pub mod Ways
+pub mod Calls

@@ -1,11 +1,16 @@
 -- The way of an operation to its node: the phases in which it looks for it, and where they lead.
-use Rattle.std.specs.Prelude.{ℕ, ◌+◌, Some, slice_set}
+use Rattle.std.specs.Prelude.{◌≡◌, ℕ, ◌+◌, List, Option, Some, None, slice_set}
+use Rattle.mt_rows.specs.declared.reply.Reply.TheVariants.{Found}
+use Rattle.mt_rows.specs.Rows.{Columns, shown}
 use Rattle.mt_operation.specs.declared.walk.Phase.{Phase}
 use Rattle.mt_operation.specs.declared.walk.Phase.TheVariants.{Enter, Pick, Child, Verify, Search, Forward, Lock}
 use Rattle.mt_operation.specs.declared.walk.Walk.{Walk}
 use Rattle.mt_descent.specs.Moves.{Continues}
 use Rattle.mt_state.specs.Steps.{MayFollow}
+use Rattle.mt_state.specs.Notes.{Says, columns_asked}
+use Rattle.mt_operation.specs.declared.outcome.Outcome.{Outcome}
 use Rattle.mt_operation.specs.declared.operation.Operation.{Operation}
+use Rattle.mt_operation.specs.Tasks.{ask}
 use Rattle.mt_operation.specs.Operations.{moved}
 use Rattle.mt_state.specs.Views.{Core}
 use Rattle.mt_state.specs.Kept.{IsOfKind}
@@ -32,6 +37,11 @@ pub record Descends (before after : Walk) : Type 0 where
   pub follows : MayFollow before.phase after.phase
   pub kind : IsOfKind after.phase after.writes
 
--- a state in which operation o has walked on by one more step, and all else is as it was
-abbrev pub descended : Core → ℕ → Operation → Walk → Core
-descended c o op w = record c { steps = c.steps + 1; table = slice_set c.table o (Some (moved op (c.steps + 1) w)) }
+-- a state in which operation o has walked on by one more step, with this outcome or none, and all else is as it was
+abbrev pub walked : Core → ℕ → Operation → Walk → Option Outcome → Core
+walked c o op w told = record c { steps = c.steps + 1; table = slice_set c.table o (Some (record (moved op (c.steps + 1) w) { outcome = told })) }
+
+-- the outcome of a get that took this row, or none
+pub record ShowsTaken (op : Operation) (row : Option Columns) (after : Walk) (told : Option Outcome) : Type 0 where
+  pub none : row ≡ None → told ≡ None
+  pub some : (columns : Columns) (asked : List ℕ) → row ≡ Some columns → columns_asked (ask op.task) ≡ Some asked → Says told (Found (shown asked columns)) after.right_at

@@ -1,14 +1,14 @@
 //! What the steps of others leave of an operation, and what a step leaves of the invariant. Each is a
 //! contract alone: no code runs.
 
-ghost use Rattle.std.specs.Prelude.{◌≡◌, ◌≢◌, ◌<◌, ◌≤◌, ◌^◌, ℕ, Bool, false, Some, None, length};
+ghost use Rattle.std.specs.Prelude.{◌≡◌, ◌≢◌, ◌+◌, ◌<◌, ◌≤◌, ◌^◌, ℕ, true, false, Option, Some, None, length};
 ghost use Rattle.mt_version.specs.Changes.{IsStable};
-ghost use Rattle.mt_arena.specs.Arena.{ArenaView};
+ghost use Rattle.mt_arena.specs.Arena.{ArenaView, IsArena};
 ghost use Rattle.mt_arena.specs.Layers.{slot_at};
 ghost use Rattle.mt_arena.specs.NodeFacts.{IsUnstable};
 ghost use Rattle.mt_arena.specs.Accesses.{at};
 ghost use Rattle.mt_operation.specs.declared.walk.Phase.{Phase};
-ghost use Rattle.mt_operation.specs.declared.walk.Phase.TheVariants.{Load, Lock};
+ghost use Rattle.mt_operation.specs.declared.walk.Phase.TheVariants.{Search, Load, Confirm, Lock, Done};
 ghost use Rattle.mt_operation.specs.declared.outcome.Outcome.{Outcome};
 ghost use Rattle.mt_operation.specs.declared.operation.Operation.{Operation};
 ghost use Rattle.mt_operation.specs.Operations.{OperationView, is_done};
@@ -21,7 +21,12 @@ ghost use Rattle.mt_operation.specs.Tables.{op_at as operation_at};
 ghost use Rattle.mt_descent.specs.Pasts.{Past};
 ghost use Rattle.mt_descent.specs.Kept.{IsKept};
 ghost use Rattle.mt_state.specs.Moves.{IsMove, IsTold};
-ghost use Rattle.mt_state.specs.Ways.{IsDescent, Descends, descended};
+ghost use Rattle.mt_rows.specs.Rows.{Columns};
+ghost use Rattle.mt_rows.specs.declared.reply.Reply.TheVariants.{Absent, NoMemory};
+ghost use Rattle.mt_border.specs.declared.entry.Find.{Find};
+ghost use Rattle.mt_descent.specs.Moves.{Continues};
+ghost use Rattle.mt_state.specs.Ways.{IsDescent, Descends, walked, ShowsTaken};
+ghost use Rattle.mt_state.specs.Calls.{IsLawful, Searches, Takes, Compares};
 
 /// All that is kept of an operation, at whatever phase it is, each step of another one keeps: what
 /// counts is what that step leaves to others. An answer that was right stays right.
@@ -50,11 +55,30 @@ pub fn wrong_steps_are_refused()
         (at old k).holder ≡ Some q → (at new k).holder ≢ Some o → (at new k).slots ≡ (at old k).slots }
 {}
 
-/// An operation that looks for the node of its key, and goes on its way by the step of a phase, makes
-/// a lawful step, and the invariant stays.
-pub fn a_descent_is_a_step()
-    ensures { (c : Core) (o : ℕ) (op : Operation) (w : Walk) → StateInvariant c → c.steps < 2 ^ 59 → operation_at c.table o ≡ Some op →
+/// Each phase of an operation that holds nothing makes a lawful step, by what its call ensures, and the
+/// invariant stays: where it looks for the node of its key; where a get searches that, and misses its
+/// key or finds a slot; where it takes what the slot holds, or has no memory to show it; and where it
+/// compares the version, and is done or goes on its way.
+pub fn a_look_is_a_step()
+    ensures descends { (c : Core) (o : ℕ) (op : Operation) (w : Walk) → StateInvariant c → c.steps < 2 ^ 59 → operation_at c.table o ≡ Some op →
         IsDescent op.walk.phase → Descends op.walk w → ((past : Past) → IsKept c.arena past op.task.key None w) →
-        let new = descended c o op w in
-        StateInvariant new × IsStep (shown c) (shown new) o false }
+        IsLawful c (walked c o op w op.outcome) o false }
+    ensures misses { (c : Core) (o : ℕ) (op : Operation) (w : Walk) (found : Find) → StateInvariant c → IsArena c.arena.nodes c.arena.trees → c.steps < 2 ^ 59 →
+        operation_at c.table o ≡ Some op → op.walk.phase ≡ Search → Searches c op w found → w.phase ≡ Confirm →
+        IsLawful c (walked c o op w (Some (record { reply = Absent; at = c.steps + 1 }))) o false }
+    ensures finds { (c : Core) (o : ℕ) (op : Operation) (w : Walk) (found : Find) → StateInvariant c → IsArena c.arena.nodes c.arena.trees → c.steps < 2 ^ 59 →
+        operation_at c.table o ≡ Some op → op.walk.phase ≡ Search → Searches c op w found → w.phase ≡ Load →
+        IsLawful c (walked c o op w op.outcome) o false }
+    ensures takes { (c : Core) (o : ℕ) (op : Operation) (w : Walk) (row : Option Columns) (told : Option Outcome) → StateInvariant c → IsArena c.arena.nodes c.arena.trees → c.steps < 2 ^ 59 →
+        operation_at c.table o ≡ Some op → op.walk.phase ≡ Load → Takes c op w row → ShowsTaken op row w told →
+        IsLawful c (walked c o op w told) o false }
+    ensures stops { (c : Core) (o : ℕ) (op : Operation) (w : Walk) → StateInvariant c → IsArena c.arena.nodes c.arena.trees → c.steps < 2 ^ 59 →
+        operation_at c.table o ≡ Some op → op.walk.phase ≡ Load → w.phase ≡ Done → Continues op.walk w →
+        IsLawful c (walked c o op w (Some (record { reply = NoMemory; at = c.steps + 1 }))) o true }
+    ensures ends { (c : Core) (o : ℕ) (op : Operation) (w : Walk) → StateInvariant c → c.steps < 2 ^ 59 →
+        operation_at c.table o ≡ Some op → op.walk.phase ≡ Confirm → Compares c op w → w.phase ≡ Done →
+        IsLawful c (walked c o op w op.outcome) o true }
+    ensures goes_back { (c : Core) (o : ℕ) (op : Operation) (w : Walk) → StateInvariant c → c.steps < 2 ^ 59 →
+        operation_at c.table o ≡ Some op → op.walk.phase ≡ Confirm → Compares c op w → w.phase ≢ Done →
+        IsLawful c (walked c o op w None) o false }
 {}

@@ -1,0 +1,282 @@
+-- A get that takes what its slot holds: it is to confirm it, or there was no memory for the row that it shows.
+use Rattle.std.proofs.Common.{◌≡◌, ◌≢◌, ℕ, ◌+◌, ◌<◌, ◌≤◌, ◌⊎◌, inl, inr, Bool, true, false, cond, List, length, max, Option, Some, None, refl, sym, ap, subst, ◌∙◌, arith}
+use Rattle.std.specs.Prelude.{◌^◌, IsSomeAnd}
+use Rattle.std.specs.List.{Contains}
+use Rattle.std.specs.FinMap.{get}
+use Rattle.std.proofs.lemmas.Bool.{cases_eq}
+use Rattle.std.proofs.lemmas.Option.{same_Some}
+use Rattle.std.proofs.lemmas.List.Elements.{All-contains}
+use Rattle.mt_slices.specs.Keys.{stored_key}
+use Rattle.mt_slices.specs.Slices.{suffix_of}
+use Rattle.mt_rows.specs.declared.reply.Reply.TheVariants.{Found, NoMemory}
+use Rattle.mt_rows.specs.Rows.{Bytes, Columns, shown as columns_shown}
+use Rattle.mt_rows.specs.Commands.{key_of}
+use Rattle.mt_rows.specs.Maps.{is_get}
+use Rattle.mt_rows.proofs.ContentLaws.{get-tenant_map}
+use Rattle.mt_border.specs.declared.entry.Pair.{Pair}
+use Rattle.mt_border.specs.declared.entry.Entry.{Entry}
+use Rattle.mt_border.specs.declared.entry.Held.{Held}
+use Rattle.mt_border.specs.declared.entry.Held.TheVariants as helds
+use Rattle.mt_border.specs.declared.entry.FoundKind.{FoundKind}
+use Rattle.mt_border.specs.declared.entry.FoundKind.TheVariants.{ThisKey, OtherLong, Link as ToTree}
+use Rattle.mt_border.specs.Entry.{IsKind, IsLink, pair_of}
+use Rattle.mt_border.specs.Contents.{owned, IsOfTree, HasKey}
+use Rattle.mt_border.proofs.Edits.{any_entry}
+use Rattle.mt_border.proofs.ContentsKeys.{owned_at}
+use Rattle.mt_tape.specs.declared.entry.Entry.{Entry as Write}
+use Rattle.mt_tape.specs.Histories.{contents_at, IsUnwrittenSince, written_key}
+use Rattle.mt_tape.proofs.TapeLaws.{get-contents_at}
+use Rattle.mt_arena.specs.Forests.{tree_at, layer_of}
+use Rattle.mt_arena.specs.Layers.{slot_at}
+use Rattle.mt_arena.specs.NodeView.{NodeView}
+use Rattle.mt_arena.specs.declared.tree.Standing.{Standing}
+use Rattle.mt_arena.specs.declared.tree.Standing.TheVariants.{Live}
+use Rattle.mt_arena.specs.Contents.{is_live, counts}
+use Rattle.mt_arena.specs.Arena.{ArenaView, IsArena, content_of}
+use Rattle.mt_arena.specs.Accesses.{at, tree_of}
+use Rattle.mt_arena.specs.Ways.{StandsFor}
+use Rattle.mt_arena.proofs.Homes as homes
+use Rattle.mt_arena.proofs.Owners.{found}
+use Rattle.mt_operation.specs.declared.task.Task.{Task}
+use Rattle.mt_operation.specs.declared.walk.Phase.{Phase}
+use Rattle.mt_operation.specs.declared.walk.Phase.TheVariants.{Enter, Load, Confirm, Done}
+use Rattle.mt_operation.specs.declared.walk.Taken.{Taken}
+use Rattle.mt_operation.specs.declared.walk.Taken.TheVariants as takens
+use Rattle.mt_operation.specs.declared.walk.Walk.{Walk}
+use Rattle.mt_operation.specs.declared.outcome.Outcome.{Outcome}
+use Rattle.mt_operation.specs.declared.operation.Operation.{Operation}
+use Rattle.mt_operation.specs.Tasks.{ask}
+use Rattle.mt_operation.specs.Operations.{view_of, is_done, moved}
+use Rattle.mt_operation.specs.Tables.{op_at as operation_at}
+use Rattle.mt_descent.specs.Pasts.{Past, StoodSince, AreStamped}
+use Rattle.mt_descent.specs.Kept.{IsInSlot, HasSlot, IsAtLoad as WalksLoad, KeptAt, IsKept}
+use Rattle.mt_descent.specs.Moves.{Continues, Loads, TakesOut, after_load}
+use Rattle.mt_state.specs.Views.{StateView, Core, shown, past_of, map_of, contents_of}
+use Rattle.mt_state.specs.Steps.{MayFollow, told_change}
+use Rattle.mt_state.specs.Notes.{Notes, Says, columns_asked, ShowsRow, ShowsNone, HasLink}
+use Rattle.mt_state.specs.Ways.{ShowsTaken}
+use Rattle.mt_state.specs.Kept.{IsOfKind, IsOpenOperation, TellsTaken, IsAtLoad, IsAtConfirm, HasAnswer, IsKeptAt}
+use Rattle.mt_state.specs.Invariant.{IsStampOf, IsTape, StateInvariant}
+use Rattle.mt_state.proofs.Replies.{get_asks}
+use Rattle.mt_state.proofs.OneBorder.{only, slot_key}
+use Rattle.mt_state.proofs.Telling.{Gives}
+use Rattle.mt_state.proofs.Moved.{went, first_same, first_begun, first_upto}
+use Rattle.mt_state.proofs.Still.{IsFree, IsUnready, still, still_gives}
+use Rattle.mt_state.proofs.Reading.{key_of_owner, walk_same}
+use Rattle.mt_state.proofs.Confirming.{get_of}
+
+-- the pairs of live nodes of live trees count
+counts_live : (deleted : Bool) (s : Standing) → deleted ≡ false → s ≡ Live → cond deleted false (is_live s) ≡ true
+counts_live true s live tree = absurd (cc)
+counts_live false s live tree = ap is_live tree
+
+module _ (c : Core) (h : StateInvariant c) (arena : IsArena c.arena.nodes c.arena.trees) where
+  -- what is known of the stamp of a pair that stands
+  pub stamp_of : (key : Bytes) (layer k i : ℕ) (pair : Pair) → StandsFor c.arena.nodes c.arena.trees key layer k i pair → IsStampOf c.steps c.tape (owned key) pair.stamp
+  stamp_of key layer k i pair s =
+      let n = at c.arena k in
+      subst (λ q. IsStampOf c.steps c.tape q pair.stamp) (owned_at (tree_of c.arena k).prefix layer (slot_at n i) key pair s.has s.pair_is)
+      (h.stamps k s.there (counts_live n.version.deleted (tree_of c.arena k).standing s.live s.tree_live) i any_entry s.in_range pair s.pair_is)
+
+  pub row_of : (key : Bytes) (layer k i : ℕ) (pair : Pair) → StandsFor c.arena.nodes c.arena.trees key layer k i pair → get (content_of c.arena) (owned key) ≡ Some pair.row
+  row_of key layer k i pair s = found c.arena.nodes c.arena.trees arena (homes.begun c.arena.nodes c.arena.trees arena.forest) key layer k i pair s
+
+  -- each pair has stood since the step of its stamp
+  pub stamped : (past : Past) → c.steps ≤ past.steps → ((n : ℕ) → past.contents n ≡ contents_at c.tape.entries (content_of c.arena) n) → AreStamped past c.arena
+  stamped past steps same key layer k i pair s =
+      let stamp = stamp_of key layer k i pair s in
+      record {
+        made = omega (arith, stamp.0, steps);
+        stood = λ n since upto. ap (λ m. get m (owned key)) (same n) ∙ get-contents_at c.tape.entries (content_of c.arena) (owned key) pair.stamp n stamp.1 since ∙ row_of key layer k i pair s;
+      }
+
+  -- the write of a row that stands since its step left that row
+  pub row_written : (key : Bytes) (layer k i : ℕ) (pair : Pair) (e : Write) → StandsFor c.arena.nodes c.arena.trees key layer k i pair → Contains c.tape.entries e → e.step ≡ pair.stamp → written_key e ≡ owned key → e.after ≡ Some pair.row
+  row_written key layer k i pair e s has step is =
+      let stamp = stamp_of key layer k i pair s in
+      sym (All-contains (λ x. get (contents_at c.tape.entries (content_of c.arena) x.step) (written_key x) ≡ x.after) c.tape.entries e h.tape.legal has)
+      ∙ ap (get (contents_at c.tape.entries (content_of c.arena) e.step)) is
+      ∙ get-contents_at c.tape.entries (content_of c.arena) (owned key) pair.stamp e.step stamp.1 (omega (arith, step))
+      ∙ row_of key layer k i pair s
+
+module _ (c : Core) (now : StateView) (o : ℕ) (is : shown c ≡ now) (h : StateInvariant c) (room : now.steps < 2 ^ 59) (arena : IsArena c.arena.nodes c.arena.trees) (op : Operation) (there : operation_at c.table o ≡ Some op) (at_load : op.walk.phase ≡ Load) where
+  loading : IsAtLoad c op
+  loading = subst (λ (p : Phase). IsKeptAt p c o op) at_load (h.ops o op there).kept
+
+  abbrev pub load_free : IsFree op.walk.phase
+  load_free = subst IsFree (sym at_load) tt
+
+  always : IsOpenOperation c op
+  always = (h.ops o op there).always
+
+  begun : 0 < op.walk.first
+  begun = always.begun (λ enters. absurd (let no : Load ≡ Enter = sym at_load ∙ enters in cc))
+
+  looks_on : op.walk.writes ≡ false
+  looks_on = subst (λ (p : Phase). IsOfKind p op.walk.writes) at_load always.kind
+
+  gets : is_get (ask op.task) ≡ true
+  gets = get_of (is_get (ask op.task)) op.walk.writes always.writes looks_on
+
+  key_asked_is : op.task.key ≡ stored_key op.task.tenant (key_of (ask op.task))
+  key_asked_is = key_of_owner op.task.key op.task.tenant (key_of (ask op.task)) always.stored always.owner
+
+  walks_load : WalksLoad c.arena op.task.key op.walk
+  walks_load = subst (λ (p : Phase). KeptAt p c.arena (past_of c) op.task.key None op.walk) at_load loading.way.kept
+
+  -- there is no memory for the row that it shows
+  pub load_stopped : (w : Walk) → w.phase ≡ Done → Continues op.walk w → Gives now (still c now o is h room op there load_free w (Some (record { reply = NoMemory; at = c.steps + 1 }))) o true
+  load_stopped w done same =
+      let told : Option Outcome = Some (record { reply = NoMemory; at = c.steps + 1 }) in
+      let new = still c now o is h room op there load_free w told in
+      let after = went op (c.steps + 1) w told op.prepared in
+      let own : HasAnswer new after = record {
+        outcome = record { reply = NoMemory; at = c.steps + 1 };
+        told = refl;
+        right = record { begun = first_begun c op always w; since = first_upto c op always w; upto = omega arith; placed = λ real. absurd (cc) };
+        unprepared = loading.way.unprepared;
+      } in
+      still_gives c now o is h room op there load_free w told
+      (subst (λ (p : Phase). MayFollow p w.phase) (sym at_load) (subst (MayFollow Load) (sym done) tt))
+      (subst IsUnready (sym done) tt) same.writes (subst (λ (p : Phase). IsOfKind p w.writes) (sym done) tt)
+      (sym (ap told_change loading.way.untold))
+      (subst (λ (p : Phase). Notes (shown c) (view_of op) p w.phase told) (sym at_load) (subst (λ (p : Phase). Notes (shown c) (view_of op) Load p told) (sym done) refl))
+      (ap told_change loading.way.untold)
+      (subst (λ (p : Phase). IsKeptAt p new o after) (sym done) own) true (sym (ap is_done done))
+
+  module _ (w : Walk) (row : Option Columns) (told : Option Outcome) (loads : Loads (at c.arena op.walk.place.node) op.walk w row) (shows : ShowsTaken op row w told) (same : Continues op.walk w)
+      (kept : (past : Past) → AreStamped past c.arena → op.walk.first ≤ past.steps → IsKept c.arena past op.task.key row w) where
+    abbrev pub node : NodeView
+    node = at c.arena op.walk.place.node
+
+    confirms : w.phase ≡ Confirm
+    confirms = ap (λ (x : Walk). x.phase) loads.is
+
+    within : op.walk.place.node < length c.arena.nodes
+    within = walks_load.at_border.covers.remembered.there
+
+    -- a pair in the slot stands for a key
+    stands : (pair : Pair) → op.walk.slot < length node.slots → pair_of (slot_at node op.walk.slot).held ≡ Some pair → (key : Bytes) × (layer : ℕ) × StandsFor c.arena.nodes c.arena.trees key layer op.walk.place.node op.walk.slot pair
+    stands pair in_range held =
+        let zero = only c.arena arena h.one_border op.walk.place.node within in
+        let s = slot_key c.arena arena h.one_border op.walk.slot pair (subst (λ k. op.walk.slot < length (at c.arena k).slots) zero in_range) (subst (λ k. pair_of (slot_at (at c.arena k) op.walk.slot).held ≡ Some pair) zero held) in
+        (s.0, layer_of (tree_of c.arena 0).prefix, subst (λ k. StandsFor c.arena.nodes c.arena.trees s.0 (layer_of (tree_of c.arena 0).prefix) k op.walk.slot pair) (sym zero) s.1)
+
+    -- where nobody made a step since the search, a pair in the slot is that of the get's own key
+    own_suffix : (held : Held) (pair : Pair) → pair_of held ≡ Some pair → (kind : FoundKind) → kind ≢ OtherLong → IsKind (record { slice = (slot_at node op.walk.slot).slice; mark = (slot_at node op.walk.slot).mark; held = held }) (suffix_of op.task.key op.walk.layer) kind
+        → pair.suffix ≡ suffix_of op.task.key op.walk.layer
+    own_suffix (helds.Stable p) pair e ThisKey leads k = ap (λ (x : Pair). x.suffix) (sym (same_Some p pair e)) ∙ k
+    own_suffix (helds.Unstable p tree) pair e ThisKey leads k = ap (λ (x : Pair). x.suffix) (sym (same_Some p pair e)) ∙ k
+    own_suffix (helds.Link tree) pair e ThisKey leads k = absurd k
+    own_suffix held pair e OtherLong leads k = absurd (leads refl)
+    own_suffix (helds.Stable p) pair e ToTree leads k = absurd k.1
+    own_suffix (helds.Unstable p tree) pair e ToTree leads k = absurd k.1
+    own_suffix (helds.Link tree) pair e ToTree leads k = absurd (cc)
+
+    own_key : (pair : Pair) → op.walk.slot < length node.slots → pair_of (slot_at node op.walk.slot).held ≡ Some pair → op.last ≡ c.steps → HasKey (tree_of c.arena op.walk.place.node).prefix op.walk.layer (slot_at node op.walk.slot) op.task.key
+    own_key pair in_range held last =
+        let f = loading.found last in
+        let through = walks_load.at_border.through in
+        record {
+          of_tree = subst (λ t. IsOfTree (tree_at c.arena.trees t).prefix op.walk.layer op.task.key) (sym walks_load.at_border.covers.remembered.tree_is) through.of_tree;
+          slice = f.in_slot.slice_is;
+          mark = f.in_slot.mark_is;
+          suffix = λ p e. own_suffix (slot_at node op.walk.slot).held p e f.kind f.leads f.in_slot.kind_is;
+        }
+
+    -- what is noted of a row
+    shows_row : (pair : Pair) → op.walk.slot < length node.slots → (slot_at node op.walk.slot).held ≡ helds.Stable pair → row ≡ Some pair.row → w.right_at ≡ max op.walk.first pair.stamp → ShowsRow (shown c) (view_of op) told
+    shows_row pair in_range is_held is_row is_right =
+        let held : pair_of (slot_at node op.walk.slot).held ≡ Some pair = ap pair_of is_held in
+        let s = stands pair in_range held in
+        let asked = get_asks (ask op.task) gets in
+        let stamp = stamp_of c h arena s.0 s.1 op.walk.place.node op.walk.slot pair s.2 in
+        let now_row = row_of c h arena s.0 s.1 op.walk.place.node op.walk.slot pair s.2 in
+        record {
+          columns = asked.0;
+          asked = asked.1;
+          key = owned s.0;
+          row = pair.row;
+          number = w.right_at;
+          says = shows.some pair.row asked.0 is_row asked.1;
+          there = now_row;
+          since = omega (arith, is_right);
+          made = omega (arith, is_right, stamp.0, always.order, always.made);
+          stood = λ m le. get-tenant_map (owned s.0).0 (contents_at c.tape.entries (content_of c.arena) m) (owned s.0).1
+              ∙ get-contents_at c.tape.entries (content_of c.arena) (owned s.0) pair.stamp m stamp.1 (omega (arith, is_right, le)) ∙ now_row;
+          wrote = λ later.
+              let is_stamp : w.right_at ≡ pair.stamp = omega (arith, is_right, later) in
+              let write = stamp.2 (omega (arith, is_stamp, later, always.floor begun)) in
+              (write.0, write.1, write.2 ∙ sym is_stamp, write.3, row_written c h arena s.0 s.1 op.walk.place.node op.walk.slot pair write.0 s.2 write.1 write.2 write.3);
+          own = λ last.
+              sym (owned_at (tree_of c.arena op.walk.place.node).prefix s.1 (slot_at node op.walk.slot) s.0 pair s.2.has held)
+              ∙ owned_at (tree_of c.arena op.walk.place.node).prefix op.walk.layer (slot_at node op.walk.slot) op.task.key pair (own_key pair in_range held last) held
+              ∙ always.owner;
+        }
+
+    -- and of none: a link for the key, or somebody made a step since
+    link_kind : (held : Held) (tree : ℕ) → held ≡ helds.Link tree → (kind : FoundKind) → kind ≢ OtherLong → IsKind (record { slice = (slot_at node op.walk.slot).slice; mark = (slot_at node op.walk.slot).mark; held = held }) (suffix_of op.task.key op.walk.layer) kind → kind ≡ ToTree
+    link_kind held tree e ToTree leads k = refl
+    link_kind held tree e OtherLong leads k = absurd (leads refl)
+    link_kind held tree e ThisKey leads k = absurd (subst (λ (x : Held). IsSomeAnd (pair_of x) (λ p. p.suffix ≡ suffix_of op.task.key op.walk.layer)) e k)
+
+    shows_link : (tree : ℕ) → (slot_at node op.walk.slot).held ≡ helds.Link tree → told ≡ None → ShowsNone (shown c) (view_of op) told
+    shows_link tree held none = record {
+      none = none;
+      why = elim (cases_eq op.last c.steps) [
+        | inl last ↦
+            let f = loading.found last in
+            inl (record {
+              layer = op.walk.layer;
+              node = op.walk.place.node;
+              slot = op.walk.slot;
+              there = within;
+              in_slot = subst (λ (key : Bytes). IsInSlot node op.walk.slot key op.walk.layer ToTree) key_asked_is
+                  (subst (IsInSlot node op.walk.slot op.task.key op.walk.layer) (link_kind (slot_at node op.walk.slot).held tree held f.kind f.leads f.in_slot.kind_is) f.in_slot);
+            })
+        | inr since ↦ inr since
+      ];
+    }
+
+    shows_nothing : (op.walk.slot < length node.slots → ⊥) → told ≡ None → ShowsNone (shown c) (view_of op) told
+    shows_nothing out none = record { none = none; why = inr (λ last. out (loading.found last).in_slot.in_range) }
+
+    noted : (taken : Taken) → TakesOut node op.walk row taken w.right_at → ShowsRow (shown c) (view_of op) told ⊎ ShowsNone (shown c) (view_of op) told
+    noted takens.Missing t = absurd t
+    noted takens.Row t = inl (shows_row t.1 t.0 t.2 t.3 t.4)
+    noted (takens.Link tree) t = inr (shows_link tree t.1 (shows.none t.2))
+    noted takens.Nothing t = inr (shows_nothing t.0 (shows.none t.1))
+
+    tells : (taken : Taken) (after : Operation) → after.task ≡ op.task → after.outcome ≡ told → after.walk ≡ w → TakesOut node op.walk row taken w.right_at → TellsTaken after row taken
+    tells takens.Missing after task outcome walk t = absurd t
+    tells takens.Row after task outcome walk t =
+        let asked = get_asks (ask op.task) gets in
+        (t.1.row, asked.0, t.3, subst (λ (x : Task). columns_asked (ask x) ≡ Some asked.0) (sym task) asked.1,
+        outcome ∙ subst (λ (x : Walk). Says told (Found (columns_shown asked.0 t.1.row)) x.right_at) (sym walk) (shows.some t.1.row asked.0 t.3 asked.1))
+    tells (takens.Link tree) after task outcome walk t = outcome ∙ shows.none t.2
+    tells takens.Nothing after task outcome walk t = outcome ∙ shows.none t.1
+
+    no_change : (taken : Taken) → TakesOut node op.walk row taken w.right_at → told_change told ≡ None
+    no_change takens.Missing t = absurd t
+    no_change takens.Row t = let asked = get_asks (ask op.task) gets in ap told_change (shows.some t.1.row asked.0 t.3 asked.1)
+    no_change (takens.Link tree) t = ap told_change (shows.none t.2)
+    no_change takens.Nothing t = ap told_change (shows.none t.1)
+
+    pub load_taken : Gives now (still c now o is h room op there load_free w told) o false
+    load_taken =
+        let new = still c now o is h room op there load_free w told in
+        let after = went op (c.steps + 1) w told op.prepared in
+        let is_walk = walk_same c op always w begun same.first in
+        let own : IsAtConfirm new after = record {
+          row = row;
+          kept = subst (λ (x : Walk). IsKept c.arena (past_of new) op.task.key row x) (sym is_walk) (kept (past_of new) (stamped c h arena (past_of new) (omega arith) (λ n. refl)) (omega (arith, always.order, always.made)));
+          tells = subst (λ (x : Walk). TellsTaken after row x.taken) (sym is_walk) (tells w.taken after refl refl is_walk loads.takes);
+          unprepared = loading.way.unprepared;
+        } in
+        still_gives c now o is h room op there load_free w told
+        (subst (λ (p : Phase). MayFollow p w.phase) (sym at_load) (subst (MayFollow Load) (sym confirms) tt))
+        (subst IsUnready (sym confirms) tt) same.writes (subst (λ (p : Phase). IsOfKind p w.writes) (sym confirms) (same.writes ∙ looks_on))
+        (no_change w.taken loads.takes ∙ sym (ap told_change loading.way.untold))
+        (subst (λ (p : Phase). Notes (shown c) (view_of op) p w.phase told) (sym at_load) (subst (λ (p : Phase). Notes (shown c) (view_of op) Load p told) (sym confirms) (noted w.taken loads.takes)))
+        (ap told_change loading.way.untold)
+        (subst (λ (p : Phase). IsKeptAt p new o after) (sym confirms) own) false (sym (ap is_done confirms))

@@ -1,0 +1,36 @@
+-- What the calls of the reading phases ensure of a state's operation, and when a step is lawful.
+use Rattle.std.specs.Prelude.{◌≡◌, ℕ, ◌+◌, ◌≤◌, Bool, Option}
+use Rattle.mt_rows.specs.Rows.{Columns}
+use Rattle.mt_border.specs.declared.entry.Find.{Find}
+use Rattle.mt_arena.specs.Accesses.{at}
+use Rattle.mt_operation.specs.declared.walk.Walk.{Walk}
+use Rattle.mt_operation.specs.declared.operation.Operation.{Operation}
+use Rattle.mt_descent.specs.Pasts.{Past, IsNow, AreStamped}
+use Rattle.mt_descent.specs.Kept.{IsAtConfirm, IsKept}
+use Rattle.mt_descent.specs.Moves.{Continues, FindsIn, after_search, Loads, Confirms}
+use Rattle.mt_state.specs.Views.{Core, shown}
+use Rattle.mt_state.specs.Promises.{IsStep}
+use Rattle.mt_state.specs.Invariant.{StateInvariant}
+
+-- a step of operation o that keeps the invariant, and does what a step may do
+pub record IsLawful (old new : Core) (o : ℕ) (done : Bool) : Type 0 where
+  pub invariant : StateInvariant new
+  pub step : IsStep (shown old) (shown new) o done
+
+-- the walk after a search by the next step
+pub record Searches (c : Core) (op : Operation) (w : Walk) (found : Find) : Type 0 where
+  pub finds : FindsIn (at c.arena op.walk.place.node) op.task.key op.walk.layer found
+  pub is : w ≡ after_search found op.walk (c.steps + 1)
+  pub kept : (past : Past) (row : Option Columns) → IsNow past (c.steps + 1) c.arena → op.walk.first ≤ c.steps + 1 → IsKept c.arena past op.task.key row w
+
+-- the walk after a load, and the row that it took
+pub record Takes (c : Core) (op : Operation) (w : Walk) (row : Option Columns) : Type 0 where
+  pub loads : Loads (at c.arena op.walk.place.node) op.walk w row
+  pub same : Continues op.walk w
+  pub kept : (past : Past) → AreStamped past c.arena → op.walk.first ≤ past.steps → IsKept c.arena past op.task.key row w
+
+-- the walk after the version was compared
+pub record Compares (c : Core) (op : Operation) (w : Walk) : Type 0 where
+  pub same : Continues op.walk w
+  pub confirms : Confirms (at c.arena op.walk.place.node) op.walk w
+  pub kept : (past : Past) (row : Option Columns) → IsAtConfirm c.arena past op.task.key row op.walk → IsKept c.arena past op.task.key row w
