@@ -148,9 +148,10 @@ records_takes bytes x fits e =
     let middle = Takes-then a.0.1 (to_be_bytes w64 b.0.0) b.0.1 (to_be_bytes w32 (length f.0.0) ++ texts) f.0.1 t.0 last in
     let whole = Takes-then bytes (to_be_bytes w64 a.0.0) a.0.1 (to_be_bytes w64 b.0.0 ++ (to_be_bytes w32 (length f.0.0) ++ texts)) f.0.1 s.0 middle in
     let few : length f.0.0 < 2 ^ 32 = omega (arith, u.1, v.1) in
-    subst (Reads 0 bytes) g.1
-    (Takes-more 0 bytes (to_be_bytes w64 a.0.0 ++ (to_be_bytes w64 b.0.0 ++ (to_be_bytes w32 (length f.0.0) ++ texts))) f.0.1 whole,
-    λ short. record { order = steps.0; last = steps.1; records = are_logged a.0.0 b.0.0 f.0.0 v.2 tests.1; few = few; short = short })
+    subst (Reads 0 bytes) g.1 (
+      Takes-more 0 bytes (to_be_bytes w64 a.0.0 ++ (to_be_bytes w64 b.0.0 ++ (to_be_bytes w32 (length f.0.0) ++ texts))) f.0.1 whole,
+      λ short. record { order = steps.0; last = steps.1; records = are_logged a.0.0 b.0.0 f.0.0 v.2 tests.1; few = few; short = short },
+    )
 
 resume_takes : (bytes : Bytes) (x : LogBatch × Bytes) → IsBytes bytes → resume_at bytes ≡ Some x → Reads 1 bytes x
 unfolding resume_at
@@ -167,9 +168,10 @@ resume_takes bytes x fits e =
     let u = number_takes w64 (2 ^ 64) wide64 b.0.1 d.0.0 d.0.1 t.0.rest_fits d.1 in
     let middle = Takes-then a.0.1 (to_be_bytes w64 b.0.0) b.0.1 (to_be_bytes w64 d.0.0) d.0.1 t.0 u.0 in
     let whole = Takes-then bytes (to_be_bytes w64 a.0.0) a.0.1 (to_be_bytes w64 b.0.0 ++ to_be_bytes w64 d.0.0) d.0.1 s.0 middle in
-    subst (Reads 1 bytes) g.1
-    (Takes-more 1 bytes (to_be_bytes w64 a.0.0 ++ (to_be_bytes w64 b.0.0 ++ to_be_bytes w64 d.0.0)) d.0.1 whole,
-    λ short. record { order = steps.0; last = steps.1; within = kept_from_test b.0.0 d.0.0 tests.1 })
+    subst (Reads 1 bytes) g.1 (
+      Takes-more 1 bytes (to_be_bytes w64 a.0.0 ++ (to_be_bytes w64 b.0.0 ++ to_be_bytes w64 d.0.0)) d.0.1 whole,
+      λ short. record { order = steps.0; last = steps.1; within = kept_from_test b.0.0 d.0.0 tests.1 },
+    )
 
 kind_takes : (kind : ℕ) (bytes : Bytes) (x : LogBatch × Bytes) → IsBytes bytes → batch_kind_at kind bytes ≡ Some x → Reads kind bytes x
 unfolding batch_kind_at

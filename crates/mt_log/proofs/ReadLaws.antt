@@ -63,9 +63,10 @@ pub batch_fits : (b : Batch) (len : ℕ) → are_steps b.from b.to ≡ true → 
 batch_fits b len steps rise few each is =
     let total = body_len b len is in
     let order = steps_from_test b.from b.to steps in
-    let records = records_from_test b.from b.to b.records rise in
-    (λ h. record { order = order.0; last = order.1; records = record { limits = records.0; within = records.1; each = each }; few = few; short = subst (λ n. n < 2 ^ 32) total (ltb-true (21 + len) (2 ^ 32) h) },
-    λ fits. below (21 + len) (2 ^ 32) (subst (λ n. n < 2 ^ 32) (sym total) fits.short))
+    let records = records_from_test b.from b.to b.records rise in (
+      λ h. record { order = order.0; last = order.1; records = record { limits = records.0; within = records.1; each = each }; few = few; short = subst (λ n. n < 2 ^ 32) total (ltb-true (21 + len) (2 ^ 32) h) },
+      λ fits. below (21 + len) (2 ^ 32) (subst (λ n. n < 2 ^ 32) (sym total) fits.short),
+    )
 
 -- and such a batch passes them
 pub batch_rises : (b : Batch) → IsBatch b → rise_within b.from b.to b.records ≡ true
@@ -121,12 +122,17 @@ pub stopped_bad : (image rest : Bytes) (worker logs place mark : ℕ) (bs : List
 stopped_bad image rest worker logs place mark bs below most head stand bad =
     let c : Contents = record { worker = worker; logs = logs; batches = bs } in
     let at = stand.len in
-    inr (c, record {
-      contents = record { worker = below; logs = most; join = stand.join };
-      rest = drop place rest;
-      whole = head ∙ ap (λ (l : Bytes). header worker logs ++ l) stand.parts;
-      bad = subst (λ m. IsBadGate m (drop place rest)) stand.last bad;
-    }, refl, omega arith)
+    inr (
+      c,
+      record {
+        contents = record { worker = below; logs = most; join = stand.join };
+        rest = drop place rest;
+        whole = head ∙ ap (λ (l : Bytes). header worker logs ++ l) stand.parts;
+        bad = subst (λ m. IsBadGate m (drop place rest)) stand.last bad;
+      },
+      refl,
+      omega arith,
+    )
 
 -- ---- openings
 

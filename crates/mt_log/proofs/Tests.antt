@@ -104,11 +104,13 @@ records_from_test last to (r ∷ records) e =
     let key = and_parts (nat_lt last r.stamp && not (nat_lt to r.stamp)) (not (nat_lt 251 (length r.key))) first.0 in
     let steps = and_parts (nat_lt last r.stamp) (not (nat_lt to r.stamp)) key.0 in
     let over : last < r.stamp = ltb-true last r.stamp steps.0 in
-    let rest = records_from_test r.stamp to records first.1 in
-    (record {
-      keys = All-cons (λ (x : Record). IsKey x.key) r records (not_below (length r.key) 251 key.1) rest.0.keys;
-      stamps = rising_more r.stamp (stamps records) (first_within r.stamp to records rest.1) rest.0.stamps;
-    }, All-cons (Within last to) r records (over, not_below r.stamp to steps.1) (All-weaker (Within r.stamp to) (Within last to) (λ x h. (let more = h.0 in omega arith, h.1)) records rest.1))
+    let rest = records_from_test r.stamp to records first.1 in (
+      record {
+        keys = All-cons (λ (x : Record). IsKey x.key) r records (not_below (length r.key) 251 key.1) rest.0.keys;
+        stamps = rising_more r.stamp (stamps records) (first_within r.stamp to records rest.1) rest.0.stamps;
+      },
+      All-cons (Within last to) r records (over, not_below r.stamp to steps.1) (All-weaker (Within r.stamp to) (Within last to) (λ x h. (let more = h.0 in omega arith, h.1)) records rest.1),
+    )
 
 -- and those pass it
 pub test_from_records : (last to : ℕ) (records : List Record) → AreRecords records → (0 < length (stamps records) → last < get_or (stamps records) 0 0) → All (λ r. r.stamp ≤ to) records → rise_within last to records ≡ true

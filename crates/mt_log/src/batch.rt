@@ -19,11 +19,7 @@ pub enum LogBatch {
     /// A worker's placed changes.
     Records(Batch),
     /// After a recovery: records of any log with a stamp over `kept` and at most `to` are void.
-    Resume {
-        from: u64,
-        to: u64,
-        kept: u64,
-    },
+    Resume { from: u64, to: u64, kept: u64 },
 }
 
 impl LogBatch {

@@ -16,11 +16,7 @@ pub enum OpenFault<D: Disk> {
     Memory(D),
     /// What stands at this offset, in bytes, isn't in the format: the header at 0, or the gate of a
     /// batch. The number is that of the log's worker, 0 where it has no header.
-    BadLog {
-        disk: D,
-        number: u8,
-        offset: u64,
-    },
+    BadLog { disk: D, number: u8, offset: u64 },
 }
 
 /// Why a batch was not appended, or perhaps was.

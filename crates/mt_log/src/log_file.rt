@@ -55,9 +55,14 @@ impl<D: Disk> LogFile<D> {
         ensures err { IfErr result (GivesDiskBack D.is_honest D.state D.failures disk) }
     {
         match open_file(alloc, &mut disk) {
-            Ok(Found {
-                front, end, mark, ..
-            }) => Ok((LogFile { disk, end, mark }, front)),
+            Ok(
+                Found {
+                    front,
+                    end,
+                    mark,
+                    ..
+                },
+            ) => Ok((LogFile { disk, end, mark }, front)),
             Err(ReadFault::Device) => Err(OpenFault::Device(disk)),
             Err(ReadFault::Memory) => Err(OpenFault::Memory(disk)),
             Err(ReadFault::Bad { number, offset }) => Err(OpenFault::BadLog {

@@ -9,8 +9,8 @@ ghost use Rattle.mt_log.specs.Stops.{IsAtGate, IsStop, IsRead, IsBadRead};
 
 use crate::batch::{Front, LogBatch, are_steps, rise_within};
 use crate::fault::{DecodeFault, ReadFault};
-use crate::gate::OPEN;
 use crate::fields::{slice_of, string_of, u8_at, u32_at, u64_at};
+use crate::gate::OPEN;
 use mt_rows::{Batch, Column, Key, Record, Records, Row};
 use std::alloc::{AllocError, Global};
 
@@ -106,11 +106,7 @@ fn header_of(bytes: &[u8]) -> Option<(u8, u8)>
 }
 
 // Batches one behind the other, up to the first gate that isn't open.
-fn batches_of(
-    alloc: Global,
-    bytes: &[u8],
-    batches: &mut Vec<LogBatch>,
-) -> Result<Stop, AllocError>
+fn batches_of(alloc: Global, bytes: &[u8], batches: &mut Vec<LogBatch>) -> Result<Stop, AllocError>
     requires { batches.old.items ≡ [] }
     ensures { IfOk result (IsStop bytes.now batches.new.items) }
 {
@@ -279,11 +275,7 @@ fn change_of(alloc: Global, bytes: &[u8]) -> Result<(Option<Row>, &[u8]), Decode
 }
 
 #[tactic(auto, unfolding(crate::specs::Reading::change_kind_at))]
-fn change_kind_of(
-    alloc: Global,
-    kind: u8,
-    rest: &[u8],
-) -> Result<(Option<Row>, &[u8]), DecodeFault>
+fn change_kind_of(alloc: Global, kind: u8, rest: &[u8]) -> Result<(Option<Row>, &[u8]), DecodeFault>
     ensures { Gives (λ x. (x.0, x.1.now)) result (change_kind_at kind rest.now) }
 {
     match kind {

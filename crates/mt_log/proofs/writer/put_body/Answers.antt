@@ -14,8 +14,8 @@ returns c =
     let same = c.as_slice-records.ensures.records in
     at_ok c.put_records.result
     (λ e. parts_joined c.args.out.now.items c.push.new.self.items c.put_u64.new.out.items c.put_u64-2.new.out.items c.put_u32.new.out.items c.put_records.new.out.items
-      (to_be_bytes w64 b.from) (to_be_bytes w64 b.to) (to_be_bytes w32 (length b.records)) (flat_map record_bytes b.records)
-      c.in_ok-push.ensures.items c.in_ok-put_u64.ensures c.in_ok-put_u64-2.ensures
-      (c.in_ok-put_u32.ensures ∙ ap (λ (rs : List Record). c.put_u64-2.new.out.items ++ to_be_bytes w32 (length rs)) same)
-      (e ∙ ap (λ (rs : List Record). c.put_u32.new.out.items ++ flat_map record_bytes rs) same))
+    (to_be_bytes w64 b.from) (to_be_bytes w64 b.to) (to_be_bytes w32 (length b.records)) (flat_map record_bytes b.records)
+    c.in_ok-push.ensures.items c.in_ok-put_u64.ensures c.in_ok-put_u64-2.ensures
+    (c.in_ok-put_u32.ensures ∙ ap (λ (rs : List Record). c.put_u64-2.new.out.items ++ to_be_bytes w32 (length rs)) same)
+    (e ∙ ap (λ (rs : List Record). c.put_u32.new.out.items ++ flat_map record_bytes rs) same))
     c.put_records.ensures
