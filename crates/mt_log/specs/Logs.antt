@@ -47,6 +47,7 @@ pub record Appended {D : Type 0} (is_honest : D → Bool) (state : D → DiskSta
 
 -- the disk failed, once, in a call that appends a batch
 pub record FailedIn {D : Type 0} (is_honest : D → Bool) (state : D → DiskState) (failures : D → ℕ) (old : LogFile D) (b : LogBatch) (disk : D) : Type 0 where
+  pub turn : from_of b ≡ old.mark
   pub leaves : LeavesBeforeOrAfter is_honest state old b disk
   pub count : GoesUp (failures old.disk) (failures disk)
   pub honest : is_honest disk ≡ is_honest old.disk
@@ -54,7 +55,7 @@ pub record FailedIn {D : Type 0} (is_honest : D → Bool) (state : D → DiskSta
 -- what a refused append gives back: log and batch unchanged, or the disk that failed and the batch
 abbrev pub GivesBack : {D : Type 0} → (D → Bool) → (D → DiskState) → (D → ℕ) → LogFile D → Batch → AppendFault D → Type 0
 GivesBack is_honest state failures old batch (appends.WrongTurn log back mark) = (log ≡ old) × (back ≡ batch) × (mark ≡ old.mark) × (batch.from ≢ old.mark)
-GivesBack is_honest state failures old batch (appends.Memory log back) = (log ≡ old) × (back ≡ batch)
+GivesBack is_honest state failures old batch (appends.Memory log back) = (log ≡ old) × (back ≡ batch) × (batch.from ≡ old.mark)
 GivesBack is_honest state failures old batch (appends.Device disk back) = (back ≡ batch) × FailedIn is_honest state failures old (Records batch) disk
 
 -- and a refused append of a resume batch

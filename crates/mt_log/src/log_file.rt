@@ -147,7 +147,7 @@ impl<D: Disk> LogFile<D> {
         requires { self.old.end < 2 ^ 60 }
         ensures ok { (b : LogBatch) → block.now ≡ told_body (body b) ++ 0 ∷ [] → IsLogBatch b → from_of b ≡ self.old.mark → to_of b ≡ to
             → OnOk result (Appended D.is_honest D.state D.failures self.old b self.new) }
-        ensures err { (b : LogBatch) → block.now ≡ told_body (body b) ++ 0 ∷ []
+        ensures err { (b : LogBatch) → block.now ≡ told_body (body b) ++ 0 ∷ [] → from_of b ≡ self.old.mark
             → OnErr result (FailedIn D.is_honest D.state D.failures self.old b self.new.disk) }
     {
         add(&mut self.disk, self.end, block)?;

@@ -10,8 +10,9 @@ use Rattle.mt_log.proofs.ReadLaws.{on_err}
 use Rattle.mt_log.proofs.log_file.LogFile.add_block.Goals as goal
 
 pub returns-in_err-add-clause-err : goal.returns-in_err-add-clause-err
-returns-in_err-add-clause-err g c = λ b is.
+returns-in_err-add-clause-err g c = λ b is turn.
     let failed : FailedIn g.D.Disk.is_honest g.D.Disk.state g.D.Disk.failures c.args.self.now b c.add.new.disk = record {
+      turn = turn;
       leaves = λ honest d log. c.add.ensures.leaves honest (log_bytes d) (body b) is log.rest;
       count = c.in_err-add.ensures.count;
       honest = c.add.ensures.honest;

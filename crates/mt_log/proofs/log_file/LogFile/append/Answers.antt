@@ -11,4 +11,5 @@ returns-in-Ok-add_block-clause-ok g c =
 
 pub returns-in-Err-add_block-clause-err : goal.returns-in-Err-add_block-clause-err
 returns-in-Err-add_block-clause-err g c =
-    (refl, subst (λ d. FailedIn g.D.Disk.is_honest g.D.Disk.state g.D.Disk.failures c.args.self (Records c.args.batch) d) (sym c.into_disk.ensures) (c.in-Err-add_block.ensures.err (Records c.args.batch) (c.deref.ensures.value ∙ c.in-Ok.ensures)))
+    let turn : c.args.batch.from ≡ c.args.self.mark = search rules in
+    (refl, subst (λ d. FailedIn g.D.Disk.is_honest g.D.Disk.state g.D.Disk.failures c.args.self (Records c.args.batch) d) (sym c.into_disk.ensures) (c.in-Err-add_block.ensures.err (Records c.args.batch) (c.deref.ensures.value ∙ c.in-Ok.ensures) turn))

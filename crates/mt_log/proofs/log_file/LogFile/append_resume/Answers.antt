@@ -10,4 +10,4 @@ returns-in-Ok-add_block-clause-ok g c =
 
 pub returns-clause-err : goal.returns-clause-err
 returns-clause-err g c =
-    subst (λ d. FailedIn g.D.Disk.is_honest g.D.Disk.state g.D.Disk.failures c.args.self (Resume c.args.self.mark c.args.to c.args.kept) d) (sym c.into_disk.ensures) (c.in-Err-add_block.ensures.err (Resume c.args.self.mark c.args.to c.args.kept) (c.deref.ensures.value ∙ c.in-Ok.ensures))
+    subst (λ d. FailedIn g.D.Disk.is_honest g.D.Disk.state g.D.Disk.failures c.args.self (Resume c.args.self.mark c.args.to c.args.kept) d) (sym c.into_disk.ensures) (c.in-Err-add_block.ensures.err (Resume c.args.self.mark c.args.to c.args.kept) (c.deref.ensures.value ∙ c.in-Ok.ensures) refl)
