@@ -1,0 +1,142 @@
+-- The tests of a row, of a batch's steps and of its stamps, as a reader makes them.
+use Rattle.std.proofs.Common.{◌≡◌, ℕ, zero, suc, ◌+◌, ◌^◌, ◌<◌, ◌≤◌, Bool, true, false, not, ◌&&◌, List, [], ◌∷◌, map, length, get_or, IsTrue, ◌↔◌, refl, sym, subst, arith}
+use Rattle.std.specs.Prelude.{nat_lt}
+use Rattle.std.specs.List.{All, list_all}
+use Rattle.std.specs.List.Sorted.{IsStrictlyIncreasing}
+use Rattle.std.proofs.lemmas.Bool.{and_parts, and_from, ltb-true}
+use Rattle.std.proofs.lemmas.Bool.Decides.{nat_tests}
+use Rattle.std.proofs.lemmas.List.Sums.{AllPass-from_list_all, list_all-from_AllPass}
+use Rattle.std.proofs.lemmas.List.Elements.{All-weaker, All-nil, All-cons, All-head, All-tail}
+use Rattle.mt_rows.specs.Rows.{Bytes, Columns, IsRow}
+use Rattle.mt_rows.specs.Commands.{IsKey}
+use Rattle.mt_rows.specs.Limits.{AreRecords}
+use Rattle.mt_rows.specs.declared.record.Record.{Record}
+use Rattle.mt_log.specs.Reading.{is_row, are_steps, rise_within}
+
+pub below : (a b : ℕ) → a < b → nat_lt a b ≡ true
+below a b h = grind (arith, nat_tests)
+
+shorter : {X : Type 0} (size : X → ℕ) (n : ℕ) (xs : List X) → list_all (λ x. nat_lt (size x) n) xs ≡ true → All (λ x. size x < n) xs
+shorter size n xs e = All-weaker (λ x. nat_lt (size x) n ≡ true) (λ x. size x < n) (λ x h. ltb-true (size x) n h) xs (AllPass-from_list_all (λ x. nat_lt (size x) n) xs e)
+
+shorter_test : {X : Type 0} (size : X → ℕ) (n : ℕ) (xs : List X) → All (λ x. size x < n) xs → list_all (λ x. nat_lt (size x) n) xs ≡ true
+shorter_test size n xs h = list_all-from_AllPass (λ x. nat_lt (size x) n) xs (All-weaker (λ x. size x < n) (λ x. nat_lt (size x) n ≡ true) (λ x lt. below (size x) n lt) xs h)
+
+-- columns that pass the test are a row
+pub row_from_test : (columns : Columns) → is_row columns ≡ true → IsRow columns
+row_from_test columns e =
+    let both = and_parts (nat_lt 0 (length columns) && nat_lt (length columns) 17) _ e in
+    let lengths = and_parts (nat_lt 0 (length columns)) (nat_lt (length columns) 17) both.0 in
+    let some : 0 < length columns = ltb-true 0 (length columns) lengths.0 in
+    let few : length columns < 17 = ltb-true (length columns) 17 lengths.1 in
+    record {
+      some = omega arith;
+      few = omega arith;
+      short = All-weaker (λ (c : Bytes). length c < 1025) (λ (c : Bytes). length c ≤ 1024) (λ c h. omega arith) columns (shorter length 1025 columns both.1);
+    }
+
+-- and a row passes it
+pub test_from_row : (columns : Columns) → IsRow columns → is_row columns ≡ true
+test_from_row columns h =
+    let some = h.some in
+    let few = h.few in
+    and_from (nat_lt 0 (length columns) && nat_lt (length columns) 17) _
+    (and_from (nat_lt 0 (length columns)) (nat_lt (length columns) 17) (below 0 (length columns) (omega arith)) (below (length columns) 17 (omega arith)))
+    (shorter_test length 1025 columns (All-weaker (λ (c : Bytes). length c ≤ 1024) (λ (c : Bytes). length c < 1025) (λ c k. omega arith) columns h.short))
+
+same : (a b : Bool) → (a ≡ true → b ≡ true) → (b ≡ true → a ≡ true) → b ≡ a
+same true b p q = p refl
+same false true p q = sym (q refl)
+same false false p q = refl
+
+-- a test that tells whether columns are a row is this one
+pub row_test : (columns : Columns) (b : Bool) → (IsTrue b ↔ IsRow columns) → is_row columns ≡ b
+row_test columns b h = same b (is_row columns) (λ e. test_from_row columns (h.0 e)) (λ e. h.1 (row_from_test columns e))
+
+pub ruleset row_tests = (row_test, row_from_test)
+
+-- ---- steps
+
+not_below : (a b : ℕ) → not (nat_lt b a) ≡ true → a ≤ b
+not_below a b h = grind (arith, nat_tests)
+
+at_most : (a b : ℕ) → a ≤ b → not (nat_lt b a) ≡ true
+at_most a b h = grind (arith, nat_tests)
+
+pub steps_from_test : (from to : ℕ) → are_steps from to ≡ true → (from ≤ to) × (to ≤ 2 ^ 59)
+steps_from_test from to e =
+    let both = and_parts (not (nat_lt to from)) (not (nat_lt (2 ^ 59) to)) e in
+    (not_below from to both.0, not_below to (2 ^ 59) both.1)
+
+pub test_from_steps : (from to : ℕ) → from ≤ to → to ≤ 2 ^ 59 → are_steps from to ≡ true
+test_from_steps from to order last = and_from (not (nat_lt to from)) (not (nat_lt (2 ^ 59) to)) (at_most from to order) (at_most to (2 ^ 59) last)
+
+pub kept_from_test : (to kept : ℕ) → not (nat_lt to kept) ≡ true → kept ≤ to
+kept_from_test to kept e = not_below kept to e
+
+pub test_from_kept : (to kept : ℕ) → kept ≤ to → not (nat_lt to kept) ≡ true
+test_from_kept to kept h = at_most kept to h
+
+-- ---- stamps
+
+abbrev stamps : List Record → List ℕ
+stamps records = map (λ r. r.stamp) records
+
+suc_more : (k : ℕ) → suc (k + 1) ≡ suc k + 1
+suc_more k = omega arith
+
+rising_more : (x : ℕ) (xs : List ℕ) → (0 < length xs → x < get_or xs 0 0) → IsStrictlyIncreasing xs → IsStrictlyIncreasing (x ∷ xs)
+rising_more x xs h rest zero lt = omega (arith, h (omega arith))
+rising_more x xs h rest (suc k) lt = subst (λ j. get_or (x ∷ xs) (suc k) 0 < get_or (x ∷ xs) j 0) (suc_more k) (rest k (omega arith))
+
+abbrev Within : ℕ → ℕ → Record → Type 0
+Within last to r = (last < r.stamp) × (r.stamp ≤ to)
+
+first_within : (last to : ℕ) (records : List Record) → All (Within last to) records → 0 < length (stamps records) → last < get_or (stamps records) 0 0
+first_within last to [] h lt = absurd (omega arith)
+first_within last to (r ∷ records) h lt = (All-head (Within last to) r records h).0
+
+-- records that pass the test are a batch's
+pub records_from_test : (last to : ℕ) (records : List Record) → rise_within last to records ≡ true → AreRecords records × All (Within last to) records
+records_from_test last to [] e = (record { keys = All-nil (λ r. IsKey r.key); stamps = λ k lt. absurd (omega arith) }, All-nil (Within last to))
+records_from_test last to (r ∷ records) e =
+    let first = and_parts (nat_lt last r.stamp && not (nat_lt to r.stamp) && not (nat_lt 251 (length r.key))) (rise_within r.stamp to records) e in
+    let key = and_parts (nat_lt last r.stamp && not (nat_lt to r.stamp)) (not (nat_lt 251 (length r.key))) first.0 in
+    let steps = and_parts (nat_lt last r.stamp) (not (nat_lt to r.stamp)) key.0 in
+    let over : last < r.stamp = ltb-true last r.stamp steps.0 in
+    let rest = records_from_test r.stamp to records first.1 in (
+      record {
+        keys = All-cons (λ (x : Record). IsKey x.key) r records (not_below (length r.key) 251 key.1) rest.0.keys;
+        stamps = rising_more r.stamp (stamps records) (first_within r.stamp to records rest.1) rest.0.stamps;
+      },
+      All-cons (Within last to) r records (over, not_below r.stamp to steps.1) (All-weaker (Within r.stamp to) (Within last to) (λ x h. (let more = h.0 in omega arith, h.1)) records rest.1),
+    )
+
+-- and those pass it
+pub test_from_records : (last to : ℕ) (records : List Record) → AreRecords records → (0 < length (stamps records) → last < get_or (stamps records) 0 0) → All (λ r. r.stamp ≤ to) records → rise_within last to records ≡ true
+test_from_records last to [] are from up_to = refl
+test_from_records last to (r ∷ records) are from up_to =
+    let over : last < r.stamp = from (omega arith) in
+    let key : length r.key ≤ 251 = All-head (λ (x : Record). IsKey x.key) r records are.keys in
+    let small : r.stamp ≤ to = All-head (λ (x : Record). x.stamp ≤ to) r records up_to in
+    let rest : AreRecords records = record {
+      keys = All-tail (λ (x : Record). IsKey x.key) r records are.keys;
+      stamps = λ k lt. subst (λ j. get_or (stamps (r ∷ records)) (suc k) 0 < get_or (stamps (r ∷ records)) j 0) (sym (suc_more k)) (are.stamps (suc k) (omega arith));
+    } in
+    let after : 0 < length (stamps records) → r.stamp < get_or (stamps records) 0 0 = λ lt. are.stamps 0 (omega arith) in
+    and_from (nat_lt last r.stamp && not (nat_lt to r.stamp) && not (nat_lt 251 (length r.key))) (rise_within r.stamp to records)
+    (and_from (nat_lt last r.stamp && not (nat_lt to r.stamp)) (not (nat_lt 251 (length r.key)))
+    (and_from (nat_lt last r.stamp) (not (nat_lt to r.stamp)) (below last r.stamp over) (at_most r.stamp to small))
+    (at_most (length r.key) 251 key))
+    (test_from_records r.stamp to records rest after (All-tail (λ (x : Record). x.stamp ≤ to) r records up_to))
+
+-- the records of a batch pass it
+pub test_of_batch : (from to : ℕ) (records : List Record) → AreRecords records → All (Within from to) records → rise_within from to records ≡ true
+test_of_batch from to records are within =
+    test_from_records from to records are (first_within from to records within) (All-weaker (Within from to) (λ (r : Record). r.stamp ≤ to) (λ r h. h.1) records within)
+
+-- what a list needs that is made after the test
+pub are_records : (from to : ℕ) (records : List Record) → rise_within from to records ≡ true → AreRecords records
+are_records from to records e = (records_from_test from to records e).0
+
+pub ruleset batch_tests = (are_records)

@@ -1,0 +1,86 @@
+-- The front of a log, what an append may make of it, and what is no log.
+use Rattle.std.specs.Prelude.{◌≡◌, ◌≢◌, ◌⊎◌, ℕ, ◌<◌, ◌≤◌, [], ◌∷◌, ◌++◌, length}
+use Rattle.mt_rows.specs.Rows.{Bytes}
+use Rattle.mt_disk.specs.Disk.{DiskState, IsDurable}
+use Rattle.mt_log.specs.declared.batch.LogBatch.{LogBatch}
+use Rattle.mt_log.specs.Format.{header, body, told_body, open_batch}
+use Rattle.mt_log.specs.Contents.{Contents, IsContents, IsLogBatch, from_of, mark_of, log_bytes, with_batch}
+
+-- The front of an image: its batches with an open gate, up to the first gate that isn't 01. Whatever
+-- stands behind that gate counts for nothing.
+pub record HasFront (c : Contents) (image : Bytes) : Type 0 where
+  pub contents : IsContents c
+  pub gate : ℕ
+  pub behind : Bytes
+  pub is_shut : gate ≢ 1
+  pub whole : image ≡ log_bytes c ++ (gate ∷ behind)
+
+-- no header stands at the front
+abbrev pub HasNoHeader : Bytes → Type 0
+HasNoHeader image = (worker logs : ℕ) (more : Bytes) → worker < logs → logs ≤ 64 → image ≡ header worker logs ++ more → ⊥
+
+-- no batch that begins at this step stands here, whole behind its length
+abbrev pub HasNoBatch : ℕ → Bytes → Type 0
+HasNoBatch mark bytes = (b : LogBatch) (more : Bytes) → from_of b ≡ mark → IsLogBatch b → bytes ≡ told_body (body b) ++ more → ⊥
+
+-- no gate stands here, or an open one before no batch
+abbrev pub IsBadGate : ℕ → Bytes → Type 0
+IsBadGate mark bytes = (bytes ≡ []) ⊎ ((behind : Bytes) × (bytes ≡ 1 ∷ behind) × HasNoBatch mark behind)
+
+-- behind these batches the image isn't in the format
+pub record IsBadAfter (c : Contents) (image : Bytes) : Type 0 where
+  pub contents : IsContents c
+  pub rest : Bytes
+  pub whole : image ≡ log_bytes c ++ rest
+  pub bad : IsBadGate (mark_of c) rest
+
+-- An image that is no log: at 0 it has no header, or at the gate behind a worker's last good batch it
+-- isn't in the format.
+abbrev pub IsBadLog : Bytes → ℕ → ℕ → Type 0
+IsBadLog image number offset = (HasNoHeader image × (number ≡ 0) × (offset ≡ 0)) ⊎ ((c : Contents) × IsBadAfter c image × (number ≡ c.worker) × (offset ≡ length (log_bytes c)))
+
+-- these bytes, and then a closed gate
+pub record IsShut (front image : Bytes) : Type 0 where
+  pub behind : Bytes
+  pub whole : image ≡ front ++ (0 ∷ behind)
+
+-- What an append of a body may leave of the old front: its end gate is 00, or it is torn, and then the
+-- body and the next closed gate stand whole behind it.
+pub record IsTorn (front bytes image : Bytes) : Type 0 where
+  pub gate : ℕ
+  pub behind : Bytes
+  pub is_shut : gate ≢ 1
+  pub whole : image ≡ front ++ (gate ∷ behind)
+  pub torn : gate ≢ 0 → (more : Bytes) × (behind ≡ told_body bytes ++ 0 ∷ more)
+
+-- the front is the old one, or the old one with the body of one batch more
+abbrev pub IsBeforeOrAfter : Bytes → Bytes → Bytes → Type 0
+IsBeforeOrAfter front bytes image = IsTorn front bytes image ⊎ IsShut (front ++ open_batch bytes) image
+
+-- What may be left of a log to which a batch was being appended. Its front is the old one or the one
+-- with the batch (`before_or_after_is_a_front`).
+abbrev pub IsLeft : Contents → LogBatch → Bytes → Type 0
+IsLeft c b image = IsBeforeOrAfter (log_bytes c) (body b) image
+
+-- the one or the other
+abbrev pub IsOldOrNew : Contents → LogBatch → Contents → Type 0
+IsOldOrNew c b front = (front ≡ c) ⊎ (front ≡ with_batch b c)
+
+-- a disk at rest: these bytes, the closed gate, nothing behind it, and all of it durable
+pub record IsAtRest (front : Bytes) (place : ℕ) (s : DiskState) : Type 0 where
+  pub image : s.image ≡ front ++ 0 ∷ []
+  pub durable : IsDurable s
+  pub end : place ≡ length front
+
+-- with a body staged behind the end gate, all of it durable
+pub record IsStaged (front bytes : Bytes) (place : ℕ) (s : DiskState) : Type 0 where
+  pub image : s.image ≡ front ++ (0 ∷ (told_body bytes ++ 0 ∷ []))
+  pub durable : IsDurable s
+  pub end : place ≡ length front
+
+-- as an opening finds it once it has synced: these bytes end at this gate
+pub record IsFound (front : Bytes) (gate place : ℕ) (s : DiskState) : Type 0 where
+  pub behind : Bytes
+  pub image : s.image ≡ front ++ (gate ∷ behind)
+  pub durable : IsDurable s
+  pub end : place ≡ length front

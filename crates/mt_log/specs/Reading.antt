@@ -1,0 +1,141 @@
+-- Reading fields from left to right: for the functions that do it, whose callers see the spellings alone.
+use Rattle.std.specs.Prelude.{◌≡◌, ℕ, zero, suc, ◌^◌, ◌==◌, Bool, true, not, ◌&&◌, List, [], ◌∷◌, length, take, drop, Option, Some, None, Result, Ok, Err, nat_lt, if◌then◌else◌}
+use Rattle.std.specs.List.{list_all}
+use Rattle.std.specs.Int.{Width, w16, w32, w64, byte_len, from_be_bytes}
+use Rattle.mt_rows.specs.Rows.{Bytes, Columns}
+use Rattle.mt_rows.specs.declared.record.Record.{Record}
+use Rattle.mt_log.specs.declared.batch.LogBatch.{LogBatch}
+use Rattle.mt_log.specs.declared.batch.LogBatch.TheVariants.{Records, Resume}
+use Rattle.mt_log.specs.declared.fault.DecodeFault.{DecodeFault}
+use Rattle.mt_log.specs.declared.fault.DecodeFault.TheVariants as faults
+use Rattle.mt_log.specs.Contents.{from_of}
+
+-- a step and, where it gives something, the next
+infixl 10 ◌>>=◌
+abbrev pub ◌>>=◌ : {A B : Type 0} → Option A → (A → Option B) → Option B
+None >>= f = None
+(Some x) >>= f = f x
+
+-- why reading gives nothing: none stands there, or memory ran out
+abbrev pub Fails : {Y : Type 0} → DecodeFault → Option Y → Type 0
+Fails faults.Memory read = Unit {0}
+Fails faults.Bad read = read ≡ None
+
+-- what a function returned, seen by view, is what reading gives, unless memory ran out
+abbrev pub Gives : {X Y : Type 0} → (X → Y) → Result X DecodeFault → Option Y → Type 0
+Gives view (Ok x) read = read ≡ Some (view x)
+Gives view (Err e) read = Fails e read
+
+-- a byte; each field is a value and the bytes behind it
+abbrev pub byte_at : Bytes → Option (ℕ × Bytes)
+byte_at [] = None
+byte_at (b ∷ rest) = Some (b, rest)
+
+-- a number
+abbrev pub number_at : Width → Bytes → Option (ℕ × Bytes)
+number_at w bytes = if nat_lt (length bytes) (byte_len w) then None else Some (from_be_bytes w (take (byte_len w) bytes), drop (byte_len w) bytes)
+
+-- so many bytes
+abbrev pub taken_at : ℕ → Bytes → Option (Bytes × Bytes)
+taken_at n bytes = if nat_lt (length bytes) n then None else Some (take n bytes, drop n bytes)
+
+-- a key or a column
+unfoldable pub string_at : Bytes → Option (Bytes × Bytes)
+string_at bytes = do
+  n ← number_at w16 bytes
+  taken_at n.0 n.1
+
+-- so many items, one after the other
+unfoldable pub each_at : {A : Type 0} → (Bytes → Option (A × Bytes)) → ℕ → Bytes → Option (List A × Bytes)
+each_at item zero bytes = Some ([], bytes)
+each_at item (suc n) bytes = do
+  first ← item bytes
+  others ← each_at item n first.1
+  Some (first.0 ∷ others.0, others.1)
+
+-- whether columns make a row
+abbrev pub is_row : Columns → Bool
+is_row columns = nat_lt 0 (length columns) && nat_lt (length columns) 17 && list_all (λ c. nat_lt (length c) 1025) columns
+
+-- a row
+unfoldable pub row_at : Bytes → Option (Columns × Bytes)
+row_at bytes = do
+  n ← byte_at bytes
+  columns ← each_at string_at n.0 n.1
+  if is_row columns.0 then Some columns else None
+
+-- the row of a key that was written
+unfoldable pub written_at : Bytes → Option (Option Columns × Bytes)
+written_at bytes = do
+  row ← row_at bytes
+  Some (Some row.0, row.1)
+
+-- what became of a key, by its first byte
+unfoldable pub change_kind_at : ℕ → Bytes → Option (Option Columns × Bytes)
+change_kind_at kind rest =
+    if kind == 0 then Some (None, rest) else
+    if kind == 1 then written_at rest else None
+
+unfoldable pub change_at : Bytes → Option (Option Columns × Bytes)
+change_at bytes = do
+  kind ← byte_at bytes
+  change_kind_at kind.0 kind.1
+
+-- a record of these fields
+abbrev pub record_of : ℕ → ℕ → Bytes → Option Columns → Record
+record_of stamp tenant key row = record { stamp = stamp; tenant = tenant; key = key; row = row }
+
+unfoldable pub record_at : Bytes → Option (Record × Bytes)
+record_at bytes = do
+  stamp ← number_at w64 bytes
+  tenant ← number_at w32 stamp.1
+  key ← string_at tenant.1
+  row ← change_at key.1
+  Some (record_of stamp.0 tenant.0 key.0 row.0, row.1)
+
+-- whether each stamp is over the one before it, the first over `last`, and none over `to`, and keys are user keys
+abbrev pub rise_within : ℕ → ℕ → List Record → Bool
+rise_within last to [] = true
+rise_within last to (r ∷ records) = nat_lt last r.stamp && not (nat_lt to r.stamp) && not (nat_lt 251 (length r.key)) && rise_within r.stamp to records
+
+-- whether steps stand in a log
+abbrev pub are_steps : ℕ → ℕ → Bool
+are_steps from to = not (nat_lt to from) && not (nat_lt (2 ^ 59) to)
+
+-- a batch of records, behind its first byte
+unfoldable pub records_at : Bytes → Option (LogBatch × Bytes)
+records_at bytes = do
+  from ← number_at w64 bytes
+  to ← number_at w64 from.1
+  count ← number_at w32 to.1
+  records ← each_at record_at count.0 count.1
+  if are_steps from.0 to.0 && rise_within from.0 to.0 records.0 then Some (Records (record { from = from.0; to = to.0; records = records.0 }), records.1) else None
+
+-- a resume batch, behind its first byte
+unfoldable pub resume_at : Bytes → Option (LogBatch × Bytes)
+resume_at bytes = do
+  from ← number_at w64 bytes
+  to ← number_at w64 from.1
+  kept ← number_at w64 to.1
+  if are_steps from.0 to.0 && not (nat_lt to.0 kept.0) then Some (Resume from.0 to.0 kept.0, kept.1) else None
+
+-- by its first byte
+unfoldable pub batch_kind_at : ℕ → Bytes → Option (LogBatch × Bytes)
+batch_kind_at kind rest =
+    if kind == 0 then records_at rest else
+    if kind == 1 then resume_at rest else None
+
+-- a batch that takes all of the bytes, and begins at this step
+unfoldable pub batch_in : ℕ → Bytes → Option LogBatch
+batch_in mark bytes = do
+  kind ← byte_at bytes
+  b ← batch_kind_at kind.0 kind.1
+  if length b.1 == 0 && from_of b.0 == mark then Some b.0 else None
+
+-- a batch behind its length
+unfoldable pub batch_at : ℕ → Bytes → Option (LogBatch × Bytes)
+batch_at mark bytes = do
+  n ← number_at w32 bytes
+  body ← taken_at n.0 n.1
+  b ← batch_in mark body.0
+  Some (b, body.1)

@@ -1,0 +1,101 @@
+//! Fields of a body, read from the front of some bytes and written at the end of others.
+//!
+//! A reader gives a value and the bytes behind it. What a writer that fails leaves is not said.
+
+ghost use Rattle.std.specs.Prelude.{◌≡◌, ◌<◌, ◌^◌, ◌++◌, length, OnOk};
+ghost use Rattle.std.specs.Int.{w16, w32, w64, to_be_bytes};
+ghost use Rattle.mt_log.specs.Format.{string};
+ghost use Rattle.mt_log.specs.Reading.{Gives, byte_at, number_at, taken_at, string_at};
+
+use crate::fault::DecodeFault;
+use byteorder::{BigEndian, ByteOrder};
+use std::alloc::{AllocError, Global};
+
+/// A byte.
+pub fn u8_at(bytes: &[u8]) -> Result<(u8, &[u8]), DecodeFault>
+    ensures { Gives (λ x. (x.0, x.1.now)) result (byte_at bytes.now) }
+{
+    match bytes {
+        [] => Err(DecodeFault::Bad),
+        [byte, rest @ ..] => Ok((*byte, rest)),
+    }
+}
+
+/// A number of two bytes.
+#[tactic(auto, using(crate::proofs::Numbers::numbers))]
+pub fn u16_at(bytes: &[u8]) -> Result<(u16, &[u8]), DecodeFault>
+    ensures { Gives (λ x. (x.0, x.1.now)) result (number_at w16 bytes.now) }
+{
+    if bytes.len() < 2 {
+        return Err(DecodeFault::Bad);
+    }
+    let (front, rest) = bytes.split_at(2);
+    Ok((BigEndian::read_u16(front), rest))
+}
+
+/// A number of four bytes.
+#[tactic(auto, using(crate::proofs::Numbers::numbers))]
+pub fn u32_at(bytes: &[u8]) -> Result<(u32, &[u8]), DecodeFault>
+    ensures { Gives (λ x. (x.0, x.1.now)) result (number_at w32 bytes.now) }
+{
+    if bytes.len() < 4 {
+        return Err(DecodeFault::Bad);
+    }
+    let (front, rest) = bytes.split_at(4);
+    Ok((BigEndian::read_u32(front), rest))
+}
+
+/// A number of eight bytes.
+#[tactic(auto, using(crate::proofs::Numbers::numbers))]
+pub fn u64_at(bytes: &[u8]) -> Result<(u64, &[u8]), DecodeFault>
+    ensures { Gives (λ x. (x.0, x.1.now)) result (number_at w64 bytes.now) }
+{
+    if bytes.len() < 8 {
+        return Err(DecodeFault::Bad);
+    }
+    let (front, rest) = bytes.split_at(8);
+    Ok((BigEndian::read_u64(front), rest))
+}
+
+/// So many bytes.
+pub fn slice_of(count: usize, bytes: &[u8]) -> Result<(&[u8], &[u8]), DecodeFault>
+    ensures { Gives (λ x. (x.0.now, x.1.now)) result (taken_at count bytes.now) }
+{
+    if bytes.len() < count {
+        return Err(DecodeFault::Bad);
+    }
+    Ok(bytes.split_at(count))
+}
+
+/// A key or a column.
+#[tactic(auto, unfolding(crate::specs::Reading::string_at))]
+pub fn string_of(alloc: Global, bytes: &[u8]) -> Result<(Vec<u8>, &[u8]), DecodeFault>
+    ensures { Gives (λ x. (x.0.items, x.1.now)) result (string_at bytes.now) }
+{
+    let (count, rest) = u16_at(bytes)?;
+    let (text, rest) = slice_of(usize::from(count), rest)?;
+    Ok((Vec::from_slice(alloc, text)?, rest))
+}
+
+/// A number of four bytes.
+pub fn put_u32(out: &mut Vec<u8>, number: u32) -> Result<(), AllocError>
+    ensures { OnOk result (out.new.items ≡ out.old.items ++ to_be_bytes w32 number) }
+{
+    out.extend_from_slice(&number.to_be_bytes())
+}
+
+/// A number of eight bytes.
+pub fn put_u64(out: &mut Vec<u8>, number: u64) -> Result<(), AllocError>
+    ensures { OnOk result (out.new.items ≡ out.old.items ++ to_be_bytes w64 number) }
+{
+    out.extend_from_slice(&number.to_be_bytes())
+}
+
+/// A key or a column.
+pub fn put_string(out: &mut Vec<u8>, text: &[u8]) -> Result<(), AllocError>
+    requires { length text.now < 2 ^ 16 }
+    ensures { OnOk result (out.new.items ≡ out.old.items ++ string text.now) }
+{
+    out.extend_from_slice(&(text.len() as u16).to_be_bytes())?;
+    out.extend_from_slice(text)
+}

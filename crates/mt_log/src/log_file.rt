@@ -1,0 +1,196 @@
+//! A log on its disk: made, opened and appended to.
+
+ghost use Rattle.std.specs.Prelude.{◌≡◌, ◌<◌, ◌≤◌, ◌^◌, ◌++◌, ◌∷◌, [], length, IsTrue, IfOk, IfErr, OnOk, OnErr};
+ghost use Rattle.mt_disk.specs.Disk.{CountsFailure, GoesUp, synced};
+ghost use Rattle.mt_log.specs.declared.batch.LogBatch.{LogBatch};
+ghost use Rattle.mt_log.specs.Format.{body, told_body};
+ghost use Rattle.mt_log.specs.Contents.{IsBatch, IsLogBatch, from_of, to_of, log_bytes, no_batches};
+ghost use Rattle.mt_log.specs.Fronts.{IsAtRest};
+ghost use Rattle.mt_log.specs.Logs.{Created, Appended, FailedIn, GivesBack, GivesLogBack, Opened, GivesDiskBack, ReadsSynced, FailsToRead, fault_with};
+
+use crate::batch::{Front, MAX_STEP};
+use crate::fault::{AppendFault, OpenFault, ReadFault, ResumeFault};
+use crate::gate::add;
+use crate::opening::set_right;
+use crate::reader::{Found, HEADER_BYTES, front_of, header};
+use crate::writer::{batch_block, resume_block};
+use mt_disk::{DeviceFailed, Disk};
+use mt_rows::Batch;
+use std::alloc::{AllocError, Global};
+
+// The longest file that is appended to.
+const MAX_END: usize = 1 << 60;
+
+/// A log whose end gate stands closed at `end`, with nothing behind it; its last batch goes up to step
+/// `mark`.
+pub struct LogFile<D: Disk> {
+    disk: D,
+    end: usize,
+    mark: u64,
+}
+
+impl<D: Disk> LogFile<D> {
+    /// Makes the log of a worker, one of so many logs, with no batches; whatever the disk held is lost.
+    /// A crash in it, or an error, may leave anything: the file is made anew.
+    pub fn create(mut disk: D, worker: u8, logs: u8) -> Result<LogFile<D>, (DeviceFailed, D)>
+        requires worker { worker < logs }
+        requires logs { logs ≤ 64 }
+        ensures ok { IfOk result (Created D.is_honest D.state D.failures disk worker logs) }
+        ensures err { IfErr result (λ e. GoesUp (D.failures disk) (D.failures e.1) × (D.is_honest e.1 ≡ D.is_honest disk)) }
+    {
+        match write_new(&mut disk, worker, logs) {
+            Ok(()) => Ok(LogFile {
+                disk,
+                end: HEADER_BYTES,
+                mark: 0,
+            }),
+            Err(failed) => Err((failed, disk)),
+        }
+    }
+
+    /// Opens a log, and gives its front. Its end is set right: a gate that was torn is closed, and
+    /// what stands behind it is cut off.
+    pub fn open(alloc: Global, mut disk: D) -> Result<(LogFile<D>, Front), OpenFault<D>>
+        ensures ok { IfOk result (λ r. Opened D.is_honest D.state D.failures disk r.0 r.1) }
+        ensures err { IfErr result (GivesDiskBack D.is_honest D.state D.failures disk) }
+    {
+        match open_file(alloc, &mut disk) {
+            Ok(
+                Found {
+                    front,
+                    end,
+                    mark,
+                    ..
+                },
+            ) => Ok((LogFile { disk, end, mark }, front)),
+            Err(ReadFault::Device) => Err(OpenFault::Device(disk)),
+            Err(ReadFault::Memory) => Err(OpenFault::Memory(disk)),
+            Err(ReadFault::Bad { number, offset }) => Err(OpenFault::BadLog {
+                disk,
+                number,
+                offset,
+            }),
+        }
+    }
+
+    /// The step at which its last batch ends, 0 where it has none.
+    pub fn mark(&self) -> u64
+        ensures { result ≡ self.now.mark }
+    {
+        self.mark
+    }
+
+    /// Its disk.
+    pub fn into_disk(self) -> D
+        ensures { result ≡ self.disk }
+    {
+        let LogFile {
+            disk,
+            end: _,
+            mark: _,
+        } = self;
+        disk
+    }
+
+    /// Appends a batch: whole, or not at all.
+    pub fn append(mut self, alloc: Global, batch: Batch) -> Result<LogFile<D>, AppendFault<D>>
+        requires { IsBatch batch }
+        ensures ok { IfOk result (Appended D.is_honest D.state D.failures self (LogBatch.Records batch)) }
+        ensures err { IfErr result (GivesBack D.is_honest D.state D.failures self batch) }
+    {
+        if batch.from != self.mark {
+            let mark = self.mark;
+            return Err(AppendFault::WrongTurn(self, batch, mark));
+        }
+        if self.end >= MAX_END {
+            return Err(AppendFault::Memory(self, batch));
+        }
+        let block = match batch_block(alloc, &batch) {
+            Ok(block) => block,
+            Err(_) => return Err(AppendFault::Memory(self, batch)),
+        };
+        match self.add_block(&block, batch.to) {
+            Ok(()) => Ok(self),
+            Err(_) => Err(AppendFault::Device(self.into_disk(), batch)),
+        }
+    }
+
+    /// Appends the batch with which a recovery ends: records of any log with a stamp over `kept` and at
+    /// most `to` are void.
+    pub fn append_resume(
+        mut self,
+        alloc: Global,
+        kept: u64,
+        to: u64,
+    ) -> Result<LogFile<D>, ResumeFault<D>>
+        requires order { self.mark ≤ to }
+        requires last { to ≤ 2 ^ 59 }
+        requires kept { kept ≤ to }
+        ensures ok { IfOk result (Appended D.is_honest D.state D.failures self (LogBatch.Resume self.mark to kept)) }
+        ensures err { IfErr result (GivesLogBack D.is_honest D.state D.failures self (LogBatch.Resume self.mark to kept)) }
+    {
+        if self.end >= MAX_END {
+            return Err(ResumeFault::Memory(self));
+        }
+        let block = match resume_block(alloc, self.mark, to, kept) {
+            Ok(block) => block,
+            Err(_) => return Err(ResumeFault::Memory(self)),
+        };
+        match self.add_block(&block, to) {
+            Ok(()) => Ok(self),
+            Err(_) => Err(ResumeFault::Device(self.into_disk())),
+        }
+    }
+
+    // Adds a batch that goes up to `to`, spelled behind its length and before the next closed gate.
+    fn add_block(&mut self, block: &[u8], to: u64) -> Result<(), DeviceFailed>
+        requires { self.old.end < 2 ^ 60 }
+        ensures ok { (b : LogBatch) → block.now ≡ told_body (body b) ++ 0 ∷ [] → IsLogBatch b → from_of b ≡ self.old.mark → to_of b ≡ to
+            → OnOk result (Appended D.is_honest D.state D.failures self.old b self.new) }
+        ensures err { (b : LogBatch) → block.now ≡ told_body (body b) ++ 0 ∷ [] → from_of b ≡ self.old.mark
+            → OnErr result (FailedIn D.is_honest D.state D.failures self.old b self.new.disk) }
+    {
+        add(&mut self.disk, self.end, block)?;
+        self.end += block.len();
+        self.mark = to;
+        Ok(())
+    }
+}
+
+// A header and a closed gate in place of what the disk held.
+fn write_new<D: Disk>(disk: &mut D, worker: u8, logs: u8) -> Result<(), DeviceFailed>
+    ensures made { IsTrue (D.is_honest disk.old) → OnOk result (IsAtRest (log_bytes (no_batches worker logs)) 8 (D.state disk.new)) }
+    ensures honest { D.is_honest disk.new ≡ D.is_honest disk.old }
+    ensures count { CountsFailure result (D.failures disk.old) (D.failures disk.new) }
+{
+    disk.cut(0)?;
+    disk.write_at(0, &[b'M', b'T', b'L', b'O', b'G', 1, worker, logs, 0])?;
+    disk.sync()
+}
+
+// Syncs a file and reads it whole. What was left by an append that failed is durable before it is read:
+// of a gate that was torn open, a crash could else still leave either.
+fn read_synced<D: Disk>(alloc: Global, disk: &mut D) -> Result<Vec<u8>, ReadFault>
+    ensures ok { IfOk result (ReadsSynced D.is_honest D.state D.failures disk.old disk.new) }
+    ensures err { IfErr result (FailsToRead D.is_honest D.state D.failures disk.old disk.new) }
+{
+    disk.sync()?;
+    let len = disk.len()?;
+    let mut bytes = match Vec::from_elem(alloc, 0, len) {
+        Ok(bytes) => bytes,
+        Err(_) => return Err(ReadFault::Memory),
+    };
+    disk.read(0, &mut bytes)?;
+    Ok(bytes)
+}
+
+// Opens a log on its disk.
+fn open_file<D: Disk>(alloc: Global, disk: &mut D) -> Result<Found, ReadFault>
+    ensures ok { IfOk result (λ found. Opened D.is_honest D.state D.failures disk.old (record { disk = disk.new; end = found.end; mark = found.mark }) found.front) }
+    ensures err { IfErr result (λ e. GivesDiskBack D.is_honest D.state D.failures disk.old (fault_with disk.new e)) }
+{
+    let bytes = read_synced(alloc, disk)?;
+    let found = front_of(alloc, &bytes)?;
+    set_right(disk, found.end, found.gate)?;
+    Ok(found)
+}

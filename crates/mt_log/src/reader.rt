@@ -1,0 +1,326 @@
+//! A log's bytes as its front. Each byte is read once, and nothing is made by a number that was read:
+//! a list grows with the records that stand there.
+
+ghost use Rattle.std.specs.Prelude.{◌≡◌, ◌<◌, ◌≤◌, ◌^◌, [], ◌∷◌, ◌++◌, length, drop, IfSome, IfNone, IfOk, IfErr};
+ghost use Rattle.mt_log.specs.Format.{header};
+ghost use Rattle.mt_log.specs.Fronts.{HasNoHeader};
+ghost use Rattle.mt_log.specs.Reading.{Gives, each_at, string_at, row_at, written_at, change_kind_at, change_at, record_at, records_at, resume_at, batch_kind_at, batch_in, batch_at};
+ghost use Rattle.mt_log.specs.Stops.{IsAtGate, IsStop, IsRead, IsBadRead};
+
+use crate::batch::{Front, LogBatch, are_steps, rise_within};
+use crate::fault::{DecodeFault, ReadFault};
+use crate::fields::{slice_of, string_of, u8_at, u32_at, u64_at};
+use crate::gate::OPEN;
+use mt_rows::{Batch, Column, Key, Record, Records, Row};
+use std::alloc::{AllocError, Global};
+
+/// The bytes of a header.
+pub const HEADER_BYTES: usize = 8;
+
+/// A log's front as it was read: the gate at `end` is its first that isn't open.
+#[derive(Drop)]
+pub struct Found {
+    pub front: Front,
+    pub end: usize,
+    pub gate: u8,
+    pub mark: u64,
+}
+
+/// What stands at a gate.
+#[derive(Drop)]
+pub enum AtGate {
+    /// A gate that isn't open.
+    Shut(u8),
+    /// An open gate and a batch, of this many bytes together.
+    Open(LogBatch, usize),
+    /// Neither.
+    Bad,
+}
+
+/// Where batches stop: at the gate at this place, or at what isn't in the format.
+#[derive(Drop)]
+pub struct Stop {
+    pub place: usize,
+    pub gate: Option<u8>,
+    pub mark: u64,
+}
+
+/// The header of one of so many logs, in format 1.
+pub fn header(worker: u8, logs: u8) -> [u8; 8]
+    ensures { result ≡ header worker logs }
+{
+    [b'M', b'T', b'L', b'O', b'G', 1, worker, logs]
+}
+
+/// The front of a log.
+pub fn front_of(alloc: Global, bytes: &[u8]) -> Result<Found, ReadFault>
+    ensures ok { IfOk result (IsRead bytes.now) }
+    ensures err { IfErr result (IsBadRead bytes.now) }
+{
+    let Some((worker, logs)) = header_of(bytes) else {
+        return Err(ReadFault::Bad {
+            number: 0,
+            offset: 0,
+        });
+    };
+    let (_, rest) = bytes.split_at(HEADER_BYTES);
+    let mut batches = Vec::new(alloc);
+    let stop = match batches_of(alloc, rest, &mut batches) {
+        Ok(stop) => stop,
+        Err(_) => return Err(ReadFault::Memory),
+    };
+    let end = HEADER_BYTES + stop.place;
+    match stop.gate {
+        Some(gate) => Ok(Found {
+            front: Front {
+                worker,
+                logs,
+                batches,
+            },
+            end,
+            gate,
+            mark: stop.mark,
+        }),
+        None => Err(ReadFault::Bad {
+            number: worker,
+            offset: end as u64,
+        }),
+    }
+}
+
+// The worker and the number of logs of a header.
+fn header_of(bytes: &[u8]) -> Option<(u8, u8)>
+    ensures some { IfSome result (λ h. (h.0 < h.1) × (h.1 ≤ 64) × (bytes.now ≡ header h.0 h.1 ++ drop 8 bytes.now)) }
+    ensures none { IfNone result (HasNoHeader bytes.now) }
+{
+    if bytes.len() < HEADER_BYTES {
+        return None;
+    }
+    let (front, _) = bytes.split_at(HEADER_BYTES);
+    let (worker, logs) = (front[6], front[7]);
+    if worker < logs && logs <= 64 && front == header(worker, logs).as_slice() {
+        Some((worker, logs))
+    } else {
+        None
+    }
+}
+
+// Batches one behind the other, up to the first gate that isn't open.
+fn batches_of(alloc: Global, bytes: &[u8], batches: &mut Vec<LogBatch>) -> Result<Stop, AllocError>
+    requires { batches.old.items ≡ [] }
+    ensures { IfOk result (IsStop bytes.now batches.new.items) }
+{
+    let mut place = 0;
+    let mut mark = 0;
+    loop {
+        let (_, rest) = bytes.split_at(place);
+        match at_gate(alloc, mark, rest)? {
+            AtGate::Shut(gate) => {
+                return Ok(Stop {
+                    place,
+                    gate: Some(gate),
+                    mark,
+                });
+            }
+            AtGate::Bad => {
+                return Ok(Stop {
+                    place,
+                    gate: None,
+                    mark,
+                });
+            }
+            AtGate::Open(batch, len) => {
+                place += len;
+                mark = batch.to();
+                batches.push(batch)?;
+            }
+        }
+    }
+}
+
+// What stands at a gate, behind batches that end at this mark.
+fn at_gate(alloc: Global, mark: u64, bytes: &[u8]) -> Result<AtGate, AllocError>
+    ensures { IfOk result (IsAtGate mark bytes.now) }
+{
+    match bytes {
+        [] => Ok(AtGate::Bad),
+        [gate, behind @ ..] => behind_gate(alloc, mark, *gate, behind),
+    }
+}
+
+// What stands at this gate, by what stands behind it.
+fn behind_gate(alloc: Global, mark: u64, gate: u8, behind: &[u8]) -> Result<AtGate, AllocError>
+    requires { length behind.now < 2 ^ 63 }
+    ensures { IfOk result (IsAtGate mark (gate ∷ behind.now)) }
+{
+    if gate != OPEN {
+        return Ok(AtGate::Shut(gate));
+    }
+    match batch_of(alloc, mark, behind) {
+        Ok((batch, rest)) => Ok(AtGate::Open(batch, 1 + (behind.len() - rest.len()))),
+        Err(DecodeFault::Bad) => Ok(AtGate::Bad),
+        Err(DecodeFault::Memory) => Err(AllocError),
+    }
+}
+
+// A batch behind its length.
+#[tactic(auto, unfolding(crate::specs::Reading::batch_at))]
+fn batch_of(alloc: Global, mark: u64, bytes: &[u8]) -> Result<(LogBatch, &[u8]), DecodeFault>
+    ensures { Gives (λ x. (x.0, x.1.now)) result (batch_at mark bytes.now) }
+{
+    let (len, rest) = u32_at(bytes)?;
+    let (body, rest) = slice_of(len as usize, rest)?;
+    Ok((body_of(alloc, mark, body)?, rest))
+}
+
+// A batch that takes all of the bytes.
+#[tactic(auto, unfolding(crate::specs::Reading::batch_in))]
+fn body_of(alloc: Global, mark: u64, bytes: &[u8]) -> Result<LogBatch, DecodeFault>
+    ensures { Gives (λ b. b) result (batch_in mark bytes.now) }
+{
+    let (kind, rest) = u8_at(bytes)?;
+    let (batch, rest) = kind_of(alloc, kind, rest)?;
+    if !rest.is_empty() || batch.from() != mark {
+        return Err(DecodeFault::Bad);
+    }
+    Ok(batch)
+}
+
+#[tactic(auto, unfolding(crate::specs::Reading::batch_kind_at))]
+fn kind_of(alloc: Global, kind: u8, rest: &[u8]) -> Result<(LogBatch, &[u8]), DecodeFault>
+    ensures { Gives (λ x. (x.0, x.1.now)) result (batch_kind_at kind rest.now) }
+{
+    match kind {
+        0 => records_of(alloc, rest),
+        1 => resume_of(rest),
+        _ => Err(DecodeFault::Bad),
+    }
+}
+
+// A resume batch, behind its first byte.
+#[tactic(auto, unfolding(crate::specs::Reading::resume_at))]
+fn resume_of(bytes: &[u8]) -> Result<(LogBatch, &[u8]), DecodeFault>
+    ensures { Gives (λ x. (x.0, x.1.now)) result (resume_at bytes.now) }
+{
+    let (from, rest) = u64_at(bytes)?;
+    let (to, rest) = u64_at(rest)?;
+    let (kept, rest) = u64_at(rest)?;
+    if !are_steps(from, to) || kept > to {
+        return Err(DecodeFault::Bad);
+    }
+    Ok((LogBatch::Resume { from, to, kept }, rest))
+}
+
+// A batch of records, behind its first byte.
+#[tactic(auto, using(crate::proofs::Tests::batch_tests), unfolding(crate::specs::Reading::records_at))]
+fn records_of(alloc: Global, bytes: &[u8]) -> Result<(LogBatch, &[u8]), DecodeFault>
+    ensures { Gives (λ x. (x.0, x.1.now)) result (records_at bytes.now) }
+{
+    let (from, rest) = u64_at(bytes)?;
+    let (to, rest) = u64_at(rest)?;
+    let (count, rest) = u32_at(rest)?;
+    let (records, rest) = record_list_of(alloc, count, rest)?;
+    if !are_steps(from, to) || !rise_within(from, to, &records) {
+        return Err(DecodeFault::Bad);
+    }
+    let records = Records::new(records);
+    Ok((LogBatch::Records(Batch { from, to, records }), rest))
+}
+
+// So many records. The list grows as they are read: the count is the file's.
+fn record_list_of(
+    alloc: Global,
+    count: u32,
+    bytes: &[u8],
+) -> Result<(Vec<Record>, &[u8]), DecodeFault>
+    ensures { Gives (λ x. (x.0.items, x.1.now)) result (each_at record_at count bytes.now) }
+{
+    let mut records = Vec::new(alloc);
+    let mut rest = bytes;
+    for _ in 0..count {
+        let (record, after) = record_of(alloc, rest)?;
+        records.push(record)?;
+        rest = after;
+    }
+    Ok((records, rest))
+}
+
+#[tactic(auto, unfolding(crate::specs::Reading::record_at))]
+fn record_of(alloc: Global, bytes: &[u8]) -> Result<(Record, &[u8]), DecodeFault>
+    ensures { Gives (λ x. (x.0, x.1.now)) result (record_at bytes.now) }
+{
+    let (stamp, rest) = u64_at(bytes)?;
+    let (tenant, rest) = u32_at(rest)?;
+    let (key, rest) = string_of(alloc, rest)?;
+    let key = Key::new(key);
+    let (row, rest) = change_of(alloc, rest)?;
+    Ok((
+        Record {
+            stamp,
+            tenant,
+            key,
+            row,
+        },
+        rest,
+    ))
+}
+
+// What became of a key.
+#[tactic(auto, unfolding(crate::specs::Reading::change_at))]
+fn change_of(alloc: Global, bytes: &[u8]) -> Result<(Option<Row>, &[u8]), DecodeFault>
+    ensures { Gives (λ x. (x.0, x.1.now)) result (change_at bytes.now) }
+{
+    let (kind, rest) = u8_at(bytes)?;
+    change_kind_of(alloc, kind, rest)
+}
+
+#[tactic(auto, unfolding(crate::specs::Reading::change_kind_at))]
+fn change_kind_of(alloc: Global, kind: u8, rest: &[u8]) -> Result<(Option<Row>, &[u8]), DecodeFault>
+    ensures { Gives (λ x. (x.0, x.1.now)) result (change_kind_at kind rest.now) }
+{
+    match kind {
+        0 => Ok((None, rest)),
+        1 => written_of(alloc, rest),
+        _ => Err(DecodeFault::Bad),
+    }
+}
+
+#[tactic(auto, unfolding(crate::specs::Reading::written_at))]
+fn written_of(alloc: Global, bytes: &[u8]) -> Result<(Option<Row>, &[u8]), DecodeFault>
+    ensures { Gives (λ x. (x.0, x.1.now)) result (written_at bytes.now) }
+{
+    let (row, rest) = row_of(alloc, bytes)?;
+    Ok((Some(row), rest))
+}
+
+#[tactic(auto, using(crate::proofs::Tests::row_tests), unfolding(crate::specs::Reading::row_at))]
+fn row_of(alloc: Global, bytes: &[u8]) -> Result<(Row, &[u8]), DecodeFault>
+    ensures { Gives (λ x. (x.0, x.1.now)) result (row_at bytes.now) }
+{
+    let (count, rest) = u8_at(bytes)?;
+    let (columns, rest) = columns_of(alloc, count, rest)?;
+    if !Row::fits(&columns) {
+        return Err(DecodeFault::Bad);
+    }
+    Ok((Row::new(alloc, columns)?, rest))
+}
+
+fn columns_of(alloc: Global, count: u8, bytes: &[u8]) -> Result<(Vec<Column>, &[u8]), DecodeFault>
+    ensures { Gives (λ x. (x.0.items, x.1.now)) result (each_at string_at count bytes.now) }
+{
+    let mut columns = Vec::new(alloc);
+    let mut rest = bytes;
+    for _ in 0..count {
+        let (column, after) = column_of(alloc, rest)?;
+        columns.push(column)?;
+        rest = after;
+    }
+    Ok((columns, rest))
+}
+
+fn column_of(alloc: Global, bytes: &[u8]) -> Result<(Column, &[u8]), DecodeFault>
+    ensures { Gives (λ x. (x.0, x.1.now)) result (string_at bytes.now) }
+{
+    let (text, rest) = string_of(alloc, bytes)?;
+    Ok((Column::new(text), rest))
+}

@@ -1,0 +1,173 @@
+//! A batch as the bytes that are appended: its length, its body, and the next gate, closed.
+
+ghost use Rattle.std.specs.Prelude.{◌≡◌, ◌≤◌, ◌<◌, ◌*◌, ◌^◌, ◌++◌, ◌∷◌, [], length, IfOk, OnOk};
+ghost use Rattle.std.specs.List.{flat_map, All};
+ghost use Rattle.mt_rows.specs.Rows.{IsRow};
+ghost use Rattle.mt_rows.specs.Commands.{IsKey};
+ghost use Rattle.mt_rows.specs.Limits.{AreRecords};
+ghost use Rattle.mt_log.specs.declared.batch.LogBatch.{LogBatch};
+ghost use Rattle.mt_log.specs.Format.{row_bytes, change_bytes, record_bytes, body, told_body};
+ghost use Rattle.mt_log.specs.Contents.{IsRecord, IsRowOrNone, IsBatch};
+
+use crate::fields::{put_string, put_u32, put_u64};
+use mt_rows::{Batch, Column, Record, Row};
+use std::alloc::{AllocError, Global};
+
+/// A body has fewer bytes, and a batch fewer records.
+pub(crate) const BODY_LIMIT: usize = 1 << 32;
+
+/// The bytes of a batch of records before its records: its kind, two steps and a count.
+pub(crate) const RECORDS_HEAD: usize = 21;
+
+// How many bytes a row is spelled with.
+fn row_len(columns: &[Column]) -> usize
+    requires { IsRow columns.now }
+    ensures exact { result ≡ length (row_bytes columns.now) }
+    ensures few { result ≤ 16417 }
+{
+    let mut len = 1;
+    for column in columns {
+        len += 2 + column.as_bytes().len();
+    }
+    len
+}
+
+// How many bytes are told of what became of a key.
+fn change_len(row: &Option<Row>) -> usize
+    ensures exact { result ≡ length (change_bytes row.now) }
+    ensures few { result ≤ 16418 }
+    ensures limits { IsRowOrNone row.now }
+{
+    match row {
+        None => 1,
+        Some(row) => 1 + row_len(row.columns()),
+    }
+}
+
+// How many bytes a record is spelled with.
+fn record_len(change: &Record) -> usize
+    requires { IsKey change.now.key }
+    ensures exact { result ≡ length (record_bytes change.now) }
+    ensures few { result ≤ 16683 }
+    ensures limits { IsRecord change.now }
+{
+    let _tenant = change.tenant;
+    14 + change.key.as_bytes().len() + change_len(&change.row)
+}
+
+// How many bytes records are spelled with.
+pub(crate) fn records_len(records: &[Record]) -> usize
+    requires few { length records.now < 2 ^ 32 }
+    requires limits { AreRecords records.now }
+    ensures exact { result ≡ length (flat_map record_bytes records.now) }
+    ensures small { result < 2 ^ 47 }
+    ensures each { All IsRecord records.now }
+{
+    let mut len = 0;
+    for record in records {
+        len += record_len(record);
+    }
+    len
+}
+
+// A row.
+fn put_row(out: &mut Vec<u8>, columns: &[Column]) -> Result<(), AllocError>
+    requires { IsRow columns.now }
+    ensures { OnOk result (out.new.items ≡ out.old.items ++ row_bytes columns.now) }
+{
+    out.push(columns.len() as u8)?;
+    for column in columns {
+        put_string(out, column.as_bytes())?;
+    }
+    Ok(())
+}
+
+// What became of a key.
+fn put_change(out: &mut Vec<u8>, row: &Option<Row>) -> Result<(), AllocError>
+    ensures { OnOk result (out.new.items ≡ out.old.items ++ change_bytes row.now) }
+{
+    match row {
+        None => {
+            out.push(0)?;
+            Ok(())
+        }
+        Some(row) => {
+            out.push(1)?;
+            put_row(out, row.columns())
+        }
+    }
+}
+
+// A record.
+fn put_record(out: &mut Vec<u8>, change: &Record) -> Result<(), AllocError>
+    requires { IsKey change.now.key }
+    ensures { OnOk result (out.new.items ≡ out.old.items ++ record_bytes change.now) }
+{
+    put_u64(out, change.stamp)?;
+    put_u32(out, change.tenant)?;
+    put_string(out, change.key.as_bytes())?;
+    put_change(out, &change.row)
+}
+
+// Records, one after the other.
+fn put_records(out: &mut Vec<u8>, records: &[Record]) -> Result<(), AllocError>
+    requires { AreRecords records.now }
+    ensures { OnOk result (out.new.items ≡ out.old.items ++ flat_map record_bytes records.now) }
+{
+    for record in records {
+        put_record(out, record)?;
+    }
+    Ok(())
+}
+
+// The body of a batch of records.
+fn put_body(out: &mut Vec<u8>, batch: &Batch) -> Result<(), AllocError>
+    requires { length batch.now.records < 2 ^ 32 }
+    ensures { OnOk result (out.new.items ≡ out.old.items ++ body (LogBatch.Records batch.now)) }
+{
+    let records = batch.records.as_slice();
+    out.push(0)?;
+    put_u64(out, batch.from)?;
+    put_u64(out, batch.to)?;
+    put_u32(out, records.len() as u32)?;
+    put_records(out, records)
+}
+
+// A batch of records behind its length.
+fn put_batch(out: &mut Vec<u8>, batch: &Batch) -> Result<(), AllocError>
+    requires { IsBatch batch.now }
+    ensures { OnOk result (out.new.items ≡ out.old.items ++ told_body (body (LogBatch.Records batch.now))) }
+{
+    let len = RECORDS_HEAD + records_len(batch.records.as_slice());
+    put_u32(out, len as u32)?;
+    put_body(out, batch)
+}
+
+/// What is appended for a batch of records.
+pub(crate) fn batch_block(alloc: Global, batch: &Batch) -> Result<Vec<u8>, AllocError>
+    requires { IsBatch batch.now }
+    ensures { IfOk result (λ block. block.items ≡ told_body (body (LogBatch.Records batch.now)) ++ 0 ∷ []) }
+{
+    let mut block = Vec::new(alloc);
+    put_batch(&mut block, batch)?;
+    block.push(0)?;
+    Ok(block)
+}
+
+/// What is appended for a resume batch.
+pub(crate) fn resume_block(
+    alloc: Global,
+    from: u64,
+    to: u64,
+    kept: u64,
+) -> Result<Vec<u8>, AllocError>
+    ensures { IfOk result (λ block. block.items ≡ told_body (body (LogBatch.Resume from to kept)) ++ 0 ∷ []) }
+{
+    let mut block = Vec::new(alloc);
+    block.extend_from_slice(&[0, 0, 0, 25, 1])?;
+    put_u64(&mut block, from)?;
+    put_u64(&mut block, to)?;
+    put_u64(&mut block, kept)?;
+    block.push(0)?;
+    Ok(block)
+}
