@@ -1,38 +1,36 @@
 -- A get that compares the version with the one that it remembered: it is done with what it took, or goes on its way.
-use Rattle.std.proofs.Common.{◌≡◌, ◌≢◌, ℕ, ◌+◌, ◌<◌, ◌≤◌, ◌⊎◌, inl, inr, Bool, true, false, not, cond, List, Option, Some, None, refl, sym, ap, subst, ◌∙◌, arith}
+use Rattle.std.proofs.Common.{◌≡◌, ◌≢◌, ℕ, ◌+◌, ◌<◌, ◌≤◌, ◌⊎◌, inl, inr, Bool, true, false, not, Option, Some, None, refl, sym, ap, subst, ◌∙◌, arith}
 use Rattle.std.specs.Prelude.{◌^◌}
 use Rattle.std.specs.FinMap.{get}
 use Rattle.mt_rows.specs.declared.reply.Reply.{Reply}
 use Rattle.mt_rows.specs.declared.reply.Reply.TheVariants.{Absent, Found}
 use Rattle.mt_rows.specs.Rows.{Bytes, Columns, shown as columns_shown}
 use Rattle.mt_rows.specs.Commands.{key_of}
-use Rattle.mt_rows.specs.Maps.{is_get, is_change, is_no_memory, reply_of}
+use Rattle.mt_rows.specs.Maps.{is_get, is_change, reply_of}
 use Rattle.mt_rows.proofs.ContentLaws.{get-tenant_map}
 use Rattle.mt_border.specs.Contents.{owned}
 use Rattle.mt_tape.specs.Histories.{contents_at}
 use Rattle.mt_arena.specs.Arena.{ArenaView, content_of}
 use Rattle.mt_arena.specs.Accesses.{at}
 use Rattle.mt_operation.specs.declared.walk.Phase.{Phase}
-use Rattle.mt_operation.specs.declared.walk.Phase.TheVariants.{Enter, Pick, Child, Verify, Search, Load, Confirm, Forward, Lock, Judge, Store, Publish, Unlock, Done}
+use Rattle.mt_operation.specs.declared.walk.Phase.TheVariants.{Enter, Pick, Child, Verify, Search, Confirm, Forward, Lock, Done}
 use Rattle.mt_operation.specs.declared.walk.Taken.{Taken}
 use Rattle.mt_operation.specs.declared.walk.Taken.TheVariants.{Missing, Row, Link, Nothing}
 use Rattle.mt_operation.specs.declared.walk.Walk.{Walk}
-use Rattle.mt_operation.specs.declared.outcome.Outcome.{Outcome}
 use Rattle.mt_operation.specs.declared.operation.Operation.{Operation}
 use Rattle.mt_operation.specs.Tasks.{ask}
-use Rattle.mt_operation.specs.Operations.{view_of, is_done, moved}
+use Rattle.mt_operation.specs.Operations.{view_of, is_done}
 use Rattle.mt_operation.specs.Tables.{op_at as operation_at}
 use Rattle.mt_descent.specs.Pasts.{Past}
-use Rattle.mt_descent.specs.Kept.{IsAtConfirm as WalksConfirm, KeptAt, IsKept, Had, TakenWasRight}
-use Rattle.mt_descent.specs.Moves.{Continues, Confirms, after_confirm, after_change}
-use Rattle.mt_state.specs.Views.{StateView, Core, shown, past_of, map_of, quota_of, IsPlaced}
+use Rattle.mt_descent.specs.Kept.{IsAtConfirm as WalksConfirm, KeptAt, IsKept, TakenWasRight}
+use Rattle.mt_descent.specs.Moves.{Continues, Confirms, after_confirm}
+use Rattle.mt_state.specs.Views.{StateView, Core, shown, past_of, map_of, quota_of}
 use Rattle.mt_state.specs.Steps.{MayFollow, told_change}
-use Rattle.mt_state.specs.Notes.{Notes, Says, columns_asked}
-use Rattle.mt_state.specs.Promises.{IsAnswer}
+use Rattle.mt_state.specs.Notes.{Notes}
 use Rattle.mt_state.specs.Ways.{IsOnWay}
 use Rattle.mt_state.specs.Kept.{IsOfKind, IsOpenOperation, TellsTaken, IsOnItsWay, IsAtConfirm, HasAnswer, IsKeptAt}
 use Rattle.mt_state.specs.Invariant.{StateInvariant}
-use Rattle.mt_state.proofs.Replies.{get_looks, get_absent, get_found}
+use Rattle.mt_state.proofs.Replies.{get_absent, get_found}
 use Rattle.mt_state.proofs.Decides.{same_or_not}
 use Rattle.mt_state.proofs.Descents.{Leads, first_aside, changed_leads}
 use Rattle.mt_state.proofs.Telling.{Gives}

@@ -1,5 +1,5 @@
 -- Where an operation goes that looks for the node of its key: for `descend`, and for the steps of gets.
-use Rattle.std.proofs.Common.{◌≡◌, ◌≢◌, ℕ, ◌⊎◌, inl, inr, Bool, true, false, cond, Option, Some, None, refl, sym, ap, subst, ◌∙◌}
+use Rattle.std.proofs.Common.{◌≡◌, ℕ, inl, inr, Bool, true, false, cond, Option, refl, sym, subst}
 use Rattle.std.specs.Prelude.{nat_le}
 use Rattle.mt_version.specs.Parts.{Parts}
 use Rattle.mt_rows.specs.Rows.{Bytes, Columns}
@@ -8,9 +8,9 @@ use Rattle.mt_arena.specs.declared.tree.Standing.TheVariants.{Made, Live, Dead}
 use Rattle.mt_arena.specs.NodeView.{NodeView}
 use Rattle.mt_arena.specs.Arena.{ArenaView}
 use Rattle.mt_operation.specs.declared.walk.Phase.{Phase}
-use Rattle.mt_operation.specs.declared.walk.Phase.TheVariants.{Enter, Pick, Child, Verify, Search, Load, Confirm, Forward, Lock, Judge, Store, Publish, Unlock, Done}
+use Rattle.mt_operation.specs.declared.walk.Phase.TheVariants.{Enter, Pick, Child, Verify, Search, Forward, Lock}
 use Rattle.mt_operation.specs.declared.walk.Walk.{Walk}
-use Rattle.mt_descent.specs.Moves.{Continues, arrival, arrival_at, walk_onto, walk_into, walk_anew, walk_reseen, walk_here, walk_to_next, after_enter, after_pick, after_child, after_change, after_forward, Verifies}
+use Rattle.mt_descent.specs.Moves.{Continues, arrival, arrival_at, walk_anew, walk_here, walk_to_next, after_enter, after_change, after_forward, Verifies}
 use Rattle.mt_descent.specs.Pasts.{Past}
 use Rattle.mt_descent.specs.Kept.{KeptAt}
 use Rattle.mt_state.specs.Steps.{MayFollow}

@@ -1,5 +1,5 @@
 -- A get that takes what its slot holds: it is to confirm it, or there was no memory for the row that it shows.
-use Rattle.std.proofs.Common.{◌≡◌, ◌≢◌, ℕ, ◌+◌, ◌<◌, ◌≤◌, ◌⊎◌, inl, inr, Bool, true, false, cond, List, length, max, Option, Some, None, refl, sym, ap, subst, ◌∙◌, arith}
+use Rattle.std.proofs.Common.{◌≡◌, ◌≢◌, ℕ, ◌+◌, ◌<◌, ◌≤◌, ◌⊎◌, inl, inr, Bool, true, false, cond, length, max, Option, Some, None, refl, sym, ap, subst, ◌∙◌, arith}
 use Rattle.std.specs.Prelude.{◌^◌, IsSomeAnd}
 use Rattle.std.specs.List.{Contains}
 use Rattle.std.specs.FinMap.{get}
@@ -14,25 +14,24 @@ use Rattle.mt_rows.specs.Commands.{key_of}
 use Rattle.mt_rows.specs.Maps.{is_get}
 use Rattle.mt_rows.proofs.ContentLaws.{get-tenant_map}
 use Rattle.mt_border.specs.declared.entry.Pair.{Pair}
-use Rattle.mt_border.specs.declared.entry.Entry.{Entry}
 use Rattle.mt_border.specs.declared.entry.Held.{Held}
 use Rattle.mt_border.specs.declared.entry.Held.TheVariants as helds
 use Rattle.mt_border.specs.declared.entry.FoundKind.{FoundKind}
 use Rattle.mt_border.specs.declared.entry.FoundKind.TheVariants.{ThisKey, OtherLong, Link as ToTree}
-use Rattle.mt_border.specs.Entry.{IsKind, IsLink, pair_of}
+use Rattle.mt_border.specs.Entry.{IsKind, pair_of}
 use Rattle.mt_border.specs.Contents.{owned, IsOfTree, HasKey}
 use Rattle.mt_border.proofs.Edits.{any_entry}
 use Rattle.mt_border.proofs.ContentsKeys.{owned_at}
 use Rattle.mt_tape.specs.declared.entry.Entry.{Entry as Write}
-use Rattle.mt_tape.specs.Histories.{contents_at, IsUnwrittenSince, written_key}
+use Rattle.mt_tape.specs.Histories.{contents_at, written_key}
 use Rattle.mt_tape.proofs.TapeLaws.{get-contents_at}
 use Rattle.mt_arena.specs.Forests.{tree_at, layer_of}
 use Rattle.mt_arena.specs.Layers.{slot_at}
 use Rattle.mt_arena.specs.NodeView.{NodeView}
 use Rattle.mt_arena.specs.declared.tree.Standing.{Standing}
 use Rattle.mt_arena.specs.declared.tree.Standing.TheVariants.{Live}
-use Rattle.mt_arena.specs.Contents.{is_live, counts}
-use Rattle.mt_arena.specs.Arena.{ArenaView, IsArena, content_of}
+use Rattle.mt_arena.specs.Contents.{is_live}
+use Rattle.mt_arena.specs.Arena.{IsArena, content_of}
 use Rattle.mt_arena.specs.Accesses.{at, tree_of}
 use Rattle.mt_arena.specs.Ways.{StandsFor}
 use Rattle.mt_arena.proofs.Homes as homes
@@ -46,21 +45,21 @@ use Rattle.mt_operation.specs.declared.walk.Walk.{Walk}
 use Rattle.mt_operation.specs.declared.outcome.Outcome.{Outcome}
 use Rattle.mt_operation.specs.declared.operation.Operation.{Operation}
 use Rattle.mt_operation.specs.Tasks.{ask}
-use Rattle.mt_operation.specs.Operations.{view_of, is_done, moved}
+use Rattle.mt_operation.specs.Operations.{view_of, is_done}
 use Rattle.mt_operation.specs.Tables.{op_at as operation_at}
-use Rattle.mt_descent.specs.Pasts.{Past, StoodSince, AreStamped}
-use Rattle.mt_descent.specs.Kept.{IsInSlot, HasSlot, IsAtLoad as WalksLoad, KeptAt, IsKept}
-use Rattle.mt_descent.specs.Moves.{Continues, Loads, TakesOut, after_load}
-use Rattle.mt_state.specs.Views.{StateView, Core, shown, past_of, map_of, contents_of}
+use Rattle.mt_descent.specs.Pasts.{Past, AreStamped}
+use Rattle.mt_descent.specs.Kept.{IsInSlot, IsAtLoad as WalksLoad, KeptAt, IsKept}
+use Rattle.mt_descent.specs.Moves.{Continues, Loads, TakesOut}
+use Rattle.mt_state.specs.Views.{StateView, Core, shown, past_of}
 use Rattle.mt_state.specs.Steps.{MayFollow, told_change}
-use Rattle.mt_state.specs.Notes.{Notes, Says, columns_asked, ShowsRow, ShowsNone, HasLink}
+use Rattle.mt_state.specs.Notes.{Notes, Says, columns_asked, ShowsRow, ShowsNone}
 use Rattle.mt_state.specs.Ways.{ShowsTaken}
 use Rattle.mt_state.specs.Kept.{IsOfKind, IsOpenOperation, TellsTaken, IsAtLoad, IsAtConfirm, HasAnswer, IsKeptAt}
-use Rattle.mt_state.specs.Invariant.{IsStampOf, IsTape, StateInvariant}
+use Rattle.mt_state.specs.Invariant.{IsStampOf, StateInvariant}
 use Rattle.mt_state.proofs.Replies.{get_asks}
 use Rattle.mt_state.proofs.OneBorder.{only, slot_key}
 use Rattle.mt_state.proofs.Telling.{Gives}
-use Rattle.mt_state.proofs.Moved.{went, first_same, first_begun, first_upto}
+use Rattle.mt_state.proofs.Moved.{went, first_begun, first_upto}
 use Rattle.mt_state.proofs.Still.{IsFree, IsUnready, still, still_gives}
 use Rattle.mt_state.proofs.Reading.{key_of_owner, walk_same}
 use Rattle.mt_state.proofs.Confirming.{get_of}
@@ -250,9 +249,13 @@ module _ (c : Core) (now : StateView) (o : ℕ) (is : shown c ≡ now) (h : Stat
     tells : (taken : Taken) (after : Operation) → after.task ≡ op.task → after.outcome ≡ told → after.walk ≡ w → TakesOut node op.walk row taken w.right_at → TellsTaken after row taken
     tells takens.Missing after task outcome walk t = absurd t
     tells takens.Row after task outcome walk t =
-        let asked = get_asks (ask op.task) gets in
-        (t.1.row, asked.0, t.3, subst (λ (x : Task). columns_asked (ask x) ≡ Some asked.0) (sym task) asked.1,
-        outcome ∙ subst (λ (x : Walk). Says told (Found (columns_shown asked.0 t.1.row)) x.right_at) (sym walk) (shows.some t.1.row asked.0 t.3 asked.1))
+        let asked = get_asks (ask op.task) gets in (
+          t.1.row,
+          asked.0,
+          t.3,
+          subst (λ (x : Task). columns_asked (ask x) ≡ Some asked.0) (sym task) asked.1,
+          outcome ∙ subst (λ (x : Walk). Says told (Found (columns_shown asked.0 t.1.row)) x.right_at) (sym walk) (shows.some t.1.row asked.0 t.3 asked.1),
+        )
     tells (takens.Link tree) after task outcome walk t = outcome ∙ shows.none t.2
     tells takens.Nothing after task outcome walk t = outcome ∙ shows.none t.1
 

@@ -1,12 +1,11 @@
 -- A step of one operation: what it has to bring, and that the invariant stays: for all phases.
-use Rattle.std.proofs.Common.{◌≡◌, ◌≢◌, ℕ, zero, suc, ◌+◌, ◌<◌, ◌≤◌, ◌⊎◌, inl, inr, Bool, true, false, List, [], ◌∷◌, length, set, get_or, Option, Some, None, IsSome, refl, sym, ap, subst, ◌∙◌, arith}
+use Rattle.std.proofs.Common.{◌≡◌, ◌≢◌, ℕ, zero, suc, ◌+◌, ◌<◌, ◌⊎◌, inl, inr, true, false, [], ◌∷◌, length, set, Some, IsSome, refl, sym, ap, subst, ◌∙◌, arith}
 use Rattle.std.specs.Prelude.{◌^◌}
 use Rattle.std.specs.FinMap.{get}
 use Rattle.std.proofs.lemmas.Bool.{both_ways, cases_eq}
-use Rattle.mt_rows.specs.Rows.{Bytes}
 use Rattle.mt_rows.specs.Maps.{is_get}
 use Rattle.mt_border.specs.Contents.{owned}
-use Rattle.mt_arena.specs.Arena.{ArenaView, content_of}
+use Rattle.mt_arena.specs.Arena.{content_of}
 use Rattle.mt_arena.specs.Accesses.{at}
 use Rattle.mt_operation.specs.declared.task.Task.{Task}
 use Rattle.mt_operation.specs.declared.walk.Phase.{Phase}
@@ -18,7 +17,7 @@ use Rattle.mt_operation.specs.Tables.{Table, op_at as operation_at}
 use Rattle.mt_operation.proofs.Tables.{set_is, set_here, set_there}
 use Rattle.mt_state.specs.Views.{Core}
 use Rattle.mt_state.specs.Kept.{IsKeptOf}
-use Rattle.mt_state.specs.Invariant.{IsTape, AreStamps, AreVersions, AreHolders, HoldsAt, AreCounted, IsOneBorder, IsOnePut, StateInvariant, StateGuarantee, one_if_prepared, prepared_count, is_unplaced}
+use Rattle.mt_state.specs.Invariant.{AreHolders, IsOnePut, StateInvariant, one_if_prepared, prepared_count, is_unplaced}
 use Rattle.mt_state.specs.Moves.{IsMove}
 use Rattle.mt_state.proofs.Rely as rely
 
@@ -96,9 +95,9 @@ module _ (old new : Core) (o : ℕ) (before after : Operation) (h : StateInvaria
           subst (λ c. (length (at new.arena 0).slots < 15) ⊎ IsSome (get c (owned op.task.key))) (sym contents)
           (subst (λ s. (length s < 15) ⊎ IsSome (get (content_of old.arena) (owned op.task.key))) (sym slots) (room_was q op is put unplaced))
       | inr (is_put, placed) ↦ elim (was q op is) [
-          | inl (same, it) ↦ absurd (both_ways _ (ap (λ (w : Operation). is_unplaced w.walk.phase) (sym it) ∙ placed) unplaced)
-          | inr (other, there) ↦ absurd (other (h.one_put.one q o op before there m.there put is_put (unplaced_open op.walk.phase unplaced) m.unfinished))
-        ]
+        | inl (same, it) ↦ absurd (both_ways _ (ap (λ (w : Operation). is_unplaced w.walk.phase) (sym it) ∙ placed) unplaced)
+        | inr (other, there) ↦ absurd (other (h.one_put.one q o op before there m.there put is_put (unplaced_open op.walk.phase unplaced) m.unfinished))
+      ]
     ];
   }
 

@@ -1,25 +1,21 @@
 -- A step that places a put's change: what it leaves to others, and that the invariant stays: for Store and Publish.
-use Rattle.std.proofs.Common.{◌≡◌, ◌≢◌, ℕ, ◌+◌, ◌-◌, ◌<◌, ◌≤◌, ◌⊎◌, inl, inr, Bool, true, false, cond, eqb, List, [], ◌∷◌, ◌++◌, length, set, Option, Some, None, IsSome, refl, sym, ap, subst, ◌∙◌, arith}
-use Rattle.std.specs.Prelude.{◌^◌}
-use Rattle.std.specs.List.{Contains}
+use Rattle.std.proofs.Common.{◌≡◌, ◌≢◌, ℕ, ◌+◌, ◌-◌, ◌<◌, ◌≤◌, inr, Bool, true, false, cond, eqb, [], ◌∷◌, ◌++◌, length, set, Some, IsSome, refl, sym, ap, subst, ◌∙◌, arith}
 use Rattle.std.specs.FinMap.{get, len, insert}
 use Rattle.std.proofs.lemmas.Bool.{both_ways, eq-eqb, eqb-true}
 use Rattle.std.proofs.lemmas.List.Elements.{Contains-push, Contains-append_left}
 use Rattle.mt_rows.specs.declared.reply.Reply.{Reply}
-use Rattle.mt_rows.specs.declared.reply.Reply.TheVariants.{New, Replaced, Removed}
 use Rattle.mt_rows.specs.declared.tenants.Account.{Account}
 use Rattle.mt_rows.specs.Rows.{Bytes, Columns, columns_of}
 use Rattle.mt_rows.specs.Changes.{changed}
 use Rattle.mt_rows.specs.Commands.{key_of}
-use Rattle.mt_rows.specs.Maps.{reply_of, map_after, is_change, is_no_memory, is_get}
+use Rattle.mt_rows.specs.Maps.{reply_of, map_after, is_change}
 use Rattle.mt_rows.specs.Accounts.{Accounts, account_of}
 use Rattle.mt_rows.specs.Tenants.{Contents, tenant_map}
 use Rattle.mt_rows.proofs.ContentLaws.{tenant_map-insert, tenant_map-insert_other}
 use Rattle.mt_border.specs.Contents.{owned}
 use Rattle.mt_border.proofs.ContentsMaps.{at_owner}
 use Rattle.mt_tape.specs.declared.entry.Entry.{Entry as Write}
-use Rattle.mt_tape.specs.Tapes.{Kept}
-use Rattle.mt_tape.specs.Histories.{IsNextWrite, with_write, with_row, written_key, contents_at, IsLegalTape}
+use Rattle.mt_tape.specs.Histories.{IsNextWrite, with_write, written_key, contents_at, IsLegalTape}
 use Rattle.mt_tape.proofs.EntryLaws.{rises-push, last_step_over-push, is_changed-push, is_changed-push_other}
 use Rattle.mt_tape.proofs.TapeLaws.{contents_at-push, legal-push, untouched-push, untouched-past_last}
 use Rattle.mt_arena.specs.Arena.{ArenaView, content_of, Guarantee}
@@ -30,7 +26,7 @@ use Rattle.mt_operation.specs.Tasks.{ask}
 use Rattle.mt_operation.specs.Operations.{view_of, is_done}
 use Rattle.mt_operation.specs.Tables.{op_at as operation_at}
 use Rattle.mt_insert.specs.Puts.{IsPut, change_of, row_over, write_of}
-use Rattle.mt_insert.specs.Moves.{pushed, Places}
+use Rattle.mt_insert.specs.Moves.{pushed}
 use Rattle.mt_state.specs.Views.{Core, shown, map_of, quota_of, quota_in, KeepsPast}
 use Rattle.mt_state.specs.Notes.{key_asked}
 use Rattle.mt_state.specs.Promises.{IsPlacing, IsAnswer}
@@ -190,9 +186,9 @@ module _ (c : Core) (o : ℕ) (before after : Operation) (arena : ArenaView) (ac
         changes = λ e. (
           is_changed-push c.tape.entries wrote,
           told
-          ∙ ap (λ q. reply_of q (ask before.task) (tenant_map before.task.tenant (content_of c.arena))) (sym (p.counts.quotas before.task.tenant))
-          ∙ ap (reply_of (quota_of (shown new) before.task.tenant) (ask before.task)) (sym map_before)
-          ∙ ap (λ (t : Task). reply_of (quota_of (shown new) t.tenant) (ask t) (map_of (shown new) t.tenant (c.steps + 1 - 1))) (sym task),
+              ∙ ap (λ q. reply_of q (ask before.task) (tenant_map before.task.tenant (content_of c.arena))) (sym (p.counts.quotas before.task.tenant))
+              ∙ ap (reply_of (quota_of (shown new) before.task.tenant) (ask before.task)) (sym map_before)
+              ∙ ap (λ (t : Task). reply_of (quota_of (shown new) t.tenant) (ask t) (map_of (shown new) t.tenant (c.steps + 1 - 1))) (sym task),
         );
         looks = λ e. absurd (both_ways _ e changes);
       };

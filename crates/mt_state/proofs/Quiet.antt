@@ -1,6 +1,5 @@
 -- A step that changes no pair: what it leaves to others, and that the invariant stays: for all phases but Store and Publish.
-use Rattle.std.proofs.Common.{◌≡◌, ◌≢◌, ℕ, ◌+◌, ◌<◌, ◌≤◌, ◌⊎◌, inl, inr, Bool, true, false, List, length, set, Option, Some, refl, sym, ap, subst, ◌∙◌, arith}
-use Rattle.std.specs.Prelude.{◌^◌}
+use Rattle.std.proofs.Common.{◌≡◌, ℕ, ◌+◌, ◌<◌, ◌≤◌, inl, true, false, List, length, set, Some, refl, sym, ap, subst, arith}
 use Rattle.std.specs.FinMap.{len}
 use Rattle.mt_rows.specs.Rows.{Bytes}
 use Rattle.mt_rows.specs.Tenants.{Contents, tenant_map}
@@ -18,7 +17,7 @@ use Rattle.mt_state.specs.Views.{Core, shown, KeepsPast}
 use Rattle.mt_state.specs.Steps.{change_in}
 use Rattle.mt_state.specs.Promises.{IsQuiet}
 use Rattle.mt_state.specs.Kept.{IsKeptOf}
-use Rattle.mt_state.specs.Invariant.{IsTape, AreStamps, IsStampOf, IsCountedUpTo, AreVersions, HoldsAt, IsOneBorder, StateInvariant, StateGuarantee, one_if_prepared, is_unplaced}
+use Rattle.mt_state.specs.Invariant.{IsTape, AreStamps, IsStampOf, IsCountedUpTo, HoldsAt, IsOneBorder, StateInvariant, StateGuarantee, one_if_prepared, is_unplaced}
 use Rattle.mt_state.specs.Moves.{IsMove}
 
 -- what a step leaves that changes no pair

@@ -1,26 +1,17 @@
 -- The steps of an operation that holds nothing: for `State::descend`, `search`, `load` and `confirm`.
-use Rattle.std.proofs.Common.{◌≡◌, ◌≢◌, ℕ, ◌+◌, ◌<◌, ◌≤◌, ◌⊎◌, inl, inr, Bool, true, false, not, List, length, set, max, Option, Some, None, refl, sym, ap, subst, ◌∙◌, arith}
-use Rattle.std.specs.Prelude.{◌^◌, IsSomeAnd}
-use Rattle.std.specs.Option.{option_map}
-use Rattle.std.specs.FinMap.{get}
-use Rattle.std.proofs.lemmas.Bool.{both_ways}
-use Rattle.std.proofs.lemmas.Option.{same_Some}
+use Rattle.std.proofs.Common.{◌≡◌, ◌≢◌, ℕ, ◌+◌, ◌<◌, ◌≤◌, false, List, length, set, Option, Some, None, refl, sym, ap, subst, ◌∙◌, arith}
+use Rattle.std.specs.Prelude.{◌^◌}
 use Rattle.mt_slices.specs.Keys.{IsStoredKey, stored_key}
 use Rattle.mt_slices.proofs.Tenants.{stored_key-again}
 use Rattle.mt_slices.specs.Slices.{slice_of, mark_of, suffix_of}
-use Rattle.mt_rows.specs.declared.command.Command.{Command}
-use Rattle.mt_rows.specs.declared.reply.Reply.{Reply}
-use Rattle.mt_rows.specs.declared.reply.Reply.TheVariants.{Absent, Found, NoMemory}
-use Rattle.mt_rows.specs.Rows.{Bytes, Columns, shown as columns_shown}
+use Rattle.mt_rows.specs.declared.reply.Reply.TheVariants.{Absent}
+use Rattle.mt_rows.specs.Rows.{Bytes, Columns}
 use Rattle.mt_rows.specs.Commands.{key_of}
-use Rattle.mt_rows.specs.Maps.{is_get, is_change, reply_of}
-use Rattle.mt_rows.proofs.ContentLaws.{get-tenant_map}
-use Rattle.mt_border.specs.declared.entry.Pair.{Pair}
 use Rattle.mt_border.specs.declared.entry.FoundKind.{FoundKind}
 use Rattle.mt_border.specs.declared.entry.FoundKind.TheVariants.{ThisKey, OtherLong, Link as ToTree}
 use Rattle.mt_border.specs.declared.entry.Find.{Find}
 use Rattle.mt_border.specs.declared.entry.Find.TheVariants as finds
-use Rattle.mt_border.specs.Entry.{IsKind, IsLink, pair_of}
+use Rattle.mt_border.specs.Entry.{IsKind}
 use Rattle.mt_border.specs.declared.entry.Held.{Held}
 use Rattle.mt_border.specs.declared.entry.Held.TheVariants as helds
 use Rattle.mt_slices.specs.declared.mark.Mark.{Mark}
@@ -31,11 +22,11 @@ use Rattle.mt_tape.specs.Histories.{contents_at}
 use Rattle.mt_tape.proofs.TapeLaws.{contents_at-now}
 use Rattle.mt_arena.specs.NodeView.{NodeView}
 use Rattle.mt_arena.specs.Layers.{slot_at}
-use Rattle.mt_arena.specs.Arena.{ArenaView, IsArena, content_of}
+use Rattle.mt_arena.specs.Arena.{IsArena, content_of}
 use Rattle.mt_arena.specs.Accesses.{at}
 use Rattle.mt_arena.proofs.Places.{same_slot}
 use Rattle.mt_operation.specs.declared.walk.Phase.{Phase}
-use Rattle.mt_operation.specs.declared.walk.Phase.TheVariants.{Enter, Pick, Child, Verify, Search, Load, Confirm, Forward, Lock, Judge, Store, Publish, Unlock, Done}
+use Rattle.mt_operation.specs.declared.walk.Phase.TheVariants.{Enter, Pick, Child, Verify, Search, Load, Confirm, Forward, Lock}
 use Rattle.mt_operation.specs.declared.walk.Taken.{Taken}
 use Rattle.mt_operation.specs.declared.walk.Taken.TheVariants as takens
 use Rattle.mt_operation.specs.declared.walk.Walk.{Walk}
@@ -43,21 +34,19 @@ use Rattle.mt_operation.specs.declared.outcome.Outcome.{Outcome}
 use Rattle.mt_operation.specs.declared.operation.Operation.{Operation}
 use Rattle.mt_operation.specs.Tasks.{ask}
 use Rattle.mt_operation.specs.Operations.{OperationView, view_of, is_done, moved}
-use Rattle.mt_operation.specs.Tables.{Table, op_at as operation_at}
-use Rattle.mt_descent.specs.Pasts.{Past, IsNow, AreStamped}
-use Rattle.mt_descent.specs.Kept.{IsInSlot, HasSlot, IsAtBorder, KeptAt, IsKept, Had, TakenWasRight}
-use Rattle.mt_descent.specs.Moves.{Continues, FindsIn, after_search, Confirms, after_confirm, after_change}
-use Rattle.mt_state.specs.Views.{StateView, Core, shown, past_of, map_of, quota_of, op_at, IsPlaced}
-use Rattle.mt_state.specs.Steps.{MayFollow, told_change, change_in}
-use Rattle.mt_state.specs.Notes.{Notes, LacksKey, Says, columns_asked}
+use Rattle.mt_operation.specs.Tables.{op_at as operation_at}
+use Rattle.mt_descent.specs.Pasts.{Past, IsNow}
+use Rattle.mt_descent.specs.Kept.{IsInSlot, HasSlot, IsAtBorder, KeptAt, IsKept}
+use Rattle.mt_descent.specs.Moves.{FindsIn, after_search}
+use Rattle.mt_state.specs.Views.{StateView, Core, shown, past_of}
+use Rattle.mt_state.specs.Steps.{MayFollow, told_change}
+use Rattle.mt_state.specs.Notes.{Notes}
 use Rattle.mt_state.specs.Ways.{IsDescent, IsOnWay, Descends}
-use Rattle.mt_state.specs.Kept.{IsOfKind, IsOpenOperation, TellsTaken, IsOnItsWay, IsAtLoad, IsAtConfirm, HasAnswer, IsKeptAt}
+use Rattle.mt_state.specs.Kept.{IsOfKind, IsOpenOperation, TellsTaken, IsOnItsWay, IsAtLoad, IsAtConfirm, IsKeptAt}
 use Rattle.mt_state.specs.Invariant.{StateInvariant}
-use Rattle.mt_state.proofs.Replies.{get_looks, get_absent, get_found}
-use Rattle.mt_state.proofs.Decides.{same_or_not}
-use Rattle.mt_state.proofs.Descents.{first_aside, changed_leads}
+use Rattle.mt_state.proofs.Descents.{first_aside}
 use Rattle.mt_state.proofs.Telling.{Gives}
-use Rattle.mt_state.proofs.Moved.{went, first_same, first_begun}
+use Rattle.mt_state.proofs.Moved.{went, first_same}
 use Rattle.mt_state.proofs.Still.{IsFree, IsUnready, still, still_gives}
 
 -- an operation that is on its way, by its phase

@@ -1,19 +1,15 @@
 -- What a step that was made may tell of itself: for all phases.
-use Rattle.std.proofs.Common.{◌≡◌, ◌≢◌, ℕ, ◌+◌, ◌<◌, ◌≤◌, ◌⊎◌, Bool, true, false, set, Option, Some, refl, sym, ap, subst, ◌∙◌, arith}
+use Rattle.std.proofs.Common.{◌≡◌, ℕ, ◌<◌, ◌≤◌, Bool, true, Some, sym, ap, subst, ◌∙◌, arith}
 use Rattle.std.specs.Prelude.{◌^◌}
 use Rattle.mt_rows.specs.Tenants.{tenant_map}
 use Rattle.mt_tape.proofs.TapeLaws.{contents_at-now}
 use Rattle.mt_arena.specs.Arena.{content_of}
-use Rattle.mt_operation.specs.declared.outcome.Outcome.{Outcome}
 use Rattle.mt_operation.specs.declared.walk.Phase.{Phase}
 use Rattle.mt_operation.specs.declared.walk.Phase.TheVariants.{Done}
 use Rattle.mt_operation.specs.declared.operation.Operation.{Operation}
 use Rattle.mt_operation.specs.Operations.{view_of, is_done}
-use Rattle.mt_operation.specs.Tables.{Table}
-use Rattle.mt_state.specs.Views.{StateView, Core, shown, map_of, contents_of}
-use Rattle.mt_state.specs.Steps.{HasMoved}
-use Rattle.mt_state.specs.Notes.{Notes}
-use Rattle.mt_state.specs.Promises.{IsQuiet, IsPlacing, IsAnswer, Touches, IsStep}
+use Rattle.mt_state.specs.Views.{StateView, Core, shown, map_of}
+use Rattle.mt_state.specs.Promises.{IsStep}
 use Rattle.mt_state.specs.Kept.{HasAnswer, IsKeptAt}
 use Rattle.mt_state.specs.Invariant.{IsTape, StateInvariant}
 use Rattle.mt_state.proofs.Shown.{shown_table, shown_there, shown_set}

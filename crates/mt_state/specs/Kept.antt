@@ -1,15 +1,13 @@
 -- What a state keeps of each operation, by its phase.
-use Rattle.std.specs.Prelude.{◌≡◌, ◌≢◌, ℕ, ◌≤◌, ◌<◌, Bool, not, true, false, List, length, max, Option, Some, None, IsSome}
+use Rattle.std.specs.Prelude.{◌≡◌, ◌≢◌, ℕ, ◌≤◌, ◌<◌, Bool, not, true, false, List, length, Option, Some, None, IsSome}
 use Rattle.std.specs.List.{Contains}
 use Rattle.mt_slices.specs.Keys.{IsStoredKey}
-use Rattle.mt_rows.specs.declared.command.Command.{Command}
-use Rattle.mt_rows.specs.declared.reply.Reply.{Reply}
 use Rattle.mt_rows.specs.declared.reply.Reply.TheVariants as replies
-use Rattle.mt_rows.specs.Rows.{Bytes, Columns, columns_of, shown as columns_shown}
+use Rattle.mt_rows.specs.Rows.{Columns, columns_of, shown as columns_shown}
 use Rattle.mt_rows.specs.Changes.{changed}
 use Rattle.mt_rows.specs.Commands.{key_of, HasColumns}
 use Rattle.mt_rows.specs.Accounts.{account_of}
-use Rattle.mt_rows.specs.Maps.{is_get, is_no_memory}
+use Rattle.mt_rows.specs.Maps.{is_get}
 use Rattle.mt_border.specs.Contents.{owned}
 use Rattle.mt_tape.specs.declared.entry.Entry.{Entry as TapeEntry}
 use Rattle.mt_arena.specs.Accesses.{at}

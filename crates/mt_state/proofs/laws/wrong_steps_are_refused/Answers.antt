@@ -1,4 +1,4 @@
-use Rattle.std.proofs.Common.{◌≡◌, ◌≢◌, ℕ, ◌<◌, inl, inr, length, refl, sym, ap, ◌∙◌}
+use Rattle.std.proofs.Common.{◌≢◌, ℕ, ◌<◌, inl, inr, length, refl, sym, ap, ◌∙◌}
 use Rattle.std.proofs.lemmas.Bool.{both_ways}
 use Rattle.std.proofs.lemmas.Option.{same_Some}
 use Rattle.mt_version.specs.Parts.{Parts}
@@ -9,7 +9,7 @@ use Rattle.mt_arena.specs.Accesses.{at}
 use Rattle.mt_operation.specs.declared.walk.Phase.{Phase}
 use Rattle.mt_operation.specs.declared.walk.Phase.TheVariants.{Load, Lock}
 use Rattle.mt_descent.specs.Moves.{IsBlocked}
-use Rattle.mt_state.specs.Promises.{IsInTheWay, Touches}
+use Rattle.mt_state.specs.Promises.{IsInTheWay}
 use Rattle.mt_state.proofs.laws.wrong_steps_are_refused.Goals as goal
 
 unmarked : (p : Parts) → IsStable p → IsMarked p → ⊥
