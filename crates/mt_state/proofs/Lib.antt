@@ -8,3 +8,10 @@ pub mod Moved
 pub mod Decides
 pub mod Replies
 pub mod Still
+pub mod HistoryMaps
+pub mod HistoryStart
+pub mod HistoryChanges
+pub mod HistorySteps
+pub mod HistoryBegins
+pub mod HistoryRuns
+pub mod HistoryEvents

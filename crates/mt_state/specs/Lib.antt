@@ -5,3 +5,6 @@ pub mod Promises
 pub mod Kept
 pub mod Invariant
 pub mod Moves
+pub mod Begins
+pub mod Refused
+pub mod Histories

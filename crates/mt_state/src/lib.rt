@@ -5,6 +5,7 @@
 //! what each step may do, `specs/Invariant.antt` what a state keeps.
 #![tactic(auto)]
 
+pub mod histories;
 pub mod laws;
 pub mod moves;
 

@@ -1,0 +1,17 @@
+//! What a run of events on a new state is, where each was answered as it may be. Each is a contract
+//! alone: no code runs.
+
+ghost use Rattle.std.specs.Prelude.{ℕ};
+ghost use Rattle.mt_rows.specs.Accounts.{Accounts, account_of};
+ghost use Rattle.mt_runs.specs.Runs.{Run, story_of};
+ghost use Rattle.mt_runs.specs.Placings.{no_pairs, HasOneOrder};
+ghost use Rattle.mt_state.specs.Views.{StateView, quota_in};
+ghost use Rattle.mt_state.specs.Begins.{new_state};
+ghost use Rattle.mt_state.specs.Histories.{Names, no_names, BringsTo};
+
+/// One order explains each run of events on a new state that were answered as they may be, whichever
+/// operations it began, and in whatever turn they made their steps.
+pub fn told_runs_have_one_order()
+    ensures { (logs : ℕ) (accounts : Accounts) (run : Run) (names : Names) (v : StateView) → BringsTo no_names (new_state logs accounts) run names v →
+        HasOneOrder (λ t. quota_in (account_of accounts t)) no_pairs (story_of 0 run) }
+{}
