@@ -1,5 +1,5 @@
 -- A numbered step of an operation keeps the story right, and what it tells of every operation: for HistoryRuns.
-use Rattle.std.proofs.Common.{◌≡◌, ◌≢◌, ℕ, suc, ◌+◌, ◌-◌, ◌≤◌, ◌⊎◌, inl, inr, Bool, true, false, not, ◌&&◌, cond, eqb, Option, Some, None, sym, refl, ap, subst, ◌∙◌, arith}
+use Rattle.std.proofs.Common.{◌≡◌, ◌≢◌, ℕ, suc, ◌+◌, ◌-◌, ◌≤◌, ◌⊎◌, inl, inr, Bool, true, false, not, ◌&&◌, cond, eqb, Option, Some, sym, refl, ap, subst, ◌∙◌, arith}
 use mathlib.Core.Path.{fun_ext}
 use Rattle.std.proofs.lemmas.Bool.{both_ways, eqb-false, eqb-true}
 use Rattle.std.proofs.lemmas.Option.{same_Some}
@@ -17,8 +17,6 @@ use Rattle.mt_runs.proofs.Growth.{right_step}
 use Rattle.mt_rows.specs.declared.command.Command.{Command}
 use Rattle.mt_rows.specs.declared.command.Command.TheVariants.{Scan}
 use Rattle.mt_operation.specs.declared.walk.Phase.{Phase}
-use Rattle.mt_operation.specs.declared.walk.Phase.TheVariants.{Done}
-use Rattle.mt_operation.specs.declared.outcome.Outcome.{Outcome}
 use Rattle.mt_operation.specs.Operations.{OperationView, is_done}
 use Rattle.mt_state.specs.Views.{StateView, contents_of, map_of, changed_at, quota_of, IsPlaced}
 use Rattle.mt_state.specs.Steps.{told_change, change_in}

@@ -15,3 +15,5 @@ pub mod HistorySteps
 pub mod HistoryBegins
 pub mod HistoryRuns
 pub mod HistoryEvents
+pub mod HistoryNew
+pub mod HistoryGets
