@@ -27,7 +27,7 @@ get_looks quota (Get key columns) m e = looks_only columns _
 get_looks quota _ m e = absurd (cc)
 
 -- and finds nothing where there is no pair
-get_absent : (quota : ℕ) (command : Command) → is_get command ≡ true → reply_of quota command empty ≡ Absent
+pub get_absent : (quota : ℕ) (command : Command) → is_get command ≡ true → reply_of quota command empty ≡ Absent
 unfolding reply_of
 get_absent quota (Get key columns) e = ap (told_of_row columns) (get-empty (slice_cmp nat_cmp) key)
 get_absent quota _ e = absurd (cc)

@@ -41,12 +41,12 @@ history_start v first none quiet begun =
     }
 
 -- there is no pair in a new arena
-content-new : content_of new_arena ≡ pairs.empty
+pub content-new : content_of new_arena ≡ pairs.empty
 unfolding contents.content
 content-new = refl
 
 -- a tenant has no pairs where there are none
-tenant_map-empty : (t : ℕ) → tenant_map t pairs.empty ≡ no_pairs t
+pub tenant_map-empty : (t : ℕ) → tenant_map t pairs.empty ≡ no_pairs t
 tenant_map-empty t = same_rows _ _ (λ k. get-tenant_map t pairs.empty k ∙ get-empty owned_cmp (t, k) ∙ sym (get-empty (slice_cmp nat_cmp) k))
 
 -- a new state

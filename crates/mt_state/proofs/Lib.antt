@@ -15,5 +15,6 @@ pub mod HistorySteps
 pub mod HistoryBegins
 pub mod HistoryRuns
 pub mod HistoryEvents
-pub mod HistoryNew
 pub mod HistoryGets
+pub mod HistoryNew
+pub mod HistoryGet

@@ -8,3 +8,4 @@ pub mod Moves
 pub mod Begins
 pub mod Refused
 pub mod Histories
+pub mod OneGet
