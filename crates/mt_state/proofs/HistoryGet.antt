@@ -1,10 +1,9 @@
 -- One get of a new state, step by step, each as it may be: for `a_get_of_a_new_state_is_told_of_no_row`.
-use Rattle.std.proofs.Common.{◌≡◌, ◌≢◌, ℕ, zero, suc, ◌+◌, ◌<◌, ◌≤◌, inl, inr, ◌⊎◌, Bool, true, false, cond, eqb, [], ◌∷◌, Option, Some, None, refl, sym, ap, ◌∙◌, arith}
+use Rattle.std.proofs.Common.{◌≡◌, ◌≢◌, ℕ, zero, suc, ◌+◌, inl, inr, ◌⊎◌, Bool, true, false, cond, eqb, [], ◌∷◌, Option, Some, None, refl, sym, ap, ◌∙◌, arith}
 use Rattle.std.specs.Option.{is_none, option_or}
 use Rattle.std.proofs.lemmas.Bool.{ne_eqb}
 use Rattle.std.proofs.lemmas.Option.{same_Some}
 use Rattle.mt_rows.specs.declared.tenants.Account.{Account}
-use Rattle.mt_rows.specs.declared.refusal.Refusal.{Refusal}
 use Rattle.mt_rows.specs.declared.refusal.Refusal.TheVariants.{NoTenant}
 use Rattle.mt_rows.specs.declared.reply.Reply.TheVariants.{Absent}
 use Rattle.mt_rows.specs.Accounts.{Accounts, account_of}
@@ -16,17 +15,16 @@ use Rattle.mt_rows.specs.Rows.{Columns}
 use Rattle.mt_rows.specs.Maps.{is_get}
 use Rattle.mt_runs.specs.Runs.{Asked, story_of, first_of}
 use Rattle.mt_runs.specs.WrongRuns.{get_k}
-use Rattle.mt_operation.specs.declared.walk.Phase.{Phase}
 use Rattle.mt_operation.specs.declared.walk.Phase.TheVariants.{Search, Confirm, Done}
 use Rattle.mt_operation.specs.declared.outcome.Outcome.{Outcome}
 use Rattle.mt_operation.specs.Operations.{OperationView, is_done}
-use Rattle.mt_state.specs.Views.{StateView, op_at, quota_of, map_of}
+use Rattle.mt_state.specs.Views.{StateView, op_at, quota_of}
 use Rattle.mt_state.specs.Steps.{HasMoved, change_in}
 use Rattle.mt_state.specs.Notes.{Notes}
 use Rattle.mt_state.specs.Promises.{IsAnswer, IsStep}
 use Rattle.mt_state.specs.Refused.{cause_of}
 use Rattle.mt_state.specs.Begins.{new_state, begun, Begins, Takes}
-use Rattle.mt_state.specs.Histories.{Names, no_names, Renames, BringsTo}
+use Rattle.mt_state.specs.Histories.{Names, no_names, BringsTo}
 use Rattle.mt_state.specs.OneGet.{one_get}
 use Rattle.mt_state.proofs.Still.{nothing_changes}
 use Rattle.mt_state.proofs.HistoryStart.{content-new, tenant_map-empty}
@@ -132,11 +130,25 @@ module _ (logs : ℕ) (accounts : Accounts) where
   pub get_told : (a : Account) → account_of accounts 7 ≡ Some a
       → BringsTo no_names (new_state logs accounts) (one_get Absent) (alone None) left
   get_told a there = (
-    alone (Some 0), reached 0 at_first, (0, refl, record { here = refl; others = alone_other (Some 0) }, tt, begins_so, uncaused a there),
-    (alone (Some 0), reached 1 searching, (0, refl, refl, step_1),
-    (alone (Some 0), reached 2 confirming, (0, refl, refl, step_2),
-    (alone None, left, (0, reached 3 ended, refl, record { here = refl; others = λ q ne. alone_other None q ne ∙ sym (alone_other (Some 0) q ne) }, step_3, takes),
-    (refl, refl))))
+    alone (Some 0),
+    reached 0 at_first,
+    (0, refl, record { here = refl; others = alone_other (Some 0) }, tt, begins_so, uncaused a there),
+    (
+      alone (Some 0),
+      reached 1 searching,
+      (0, refl, refl, step_1),
+      (
+        alone (Some 0),
+        reached 2 confirming,
+        (0, refl, refl, step_2),
+        (
+          alone None,
+          left,
+          (0, reached 3 ended, refl, record { here = refl; others = λ q ne. alone_other None q ne ∙ sym (alone_other (Some 0) q ne) }, step_3, takes),
+          (refl, refl),
+        ),
+      ),
+    ),
   )
 
 -- its one command is a get

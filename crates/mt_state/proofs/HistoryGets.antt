@@ -1,5 +1,5 @@
 -- A right story of gets alone, from no pairs on, changes no map, and each of its answers finds nothing: for `gets_of_a_new_state_find_nothing`.
-use Rattle.std.proofs.Common.{◌≡◌, ℕ, zero, suc, ◌<◌, ◌≤◌, ◌⊎◌, inl, inr, Bool, true, false, not, ◌&&◌, List, Option, Some, None, refl, sym, ap, subst, ◌∙◌, arith}
+use Rattle.std.proofs.Common.{◌≡◌, ℕ, zero, suc, ◌<◌, ◌≤◌, ◌⊎◌, inl, inr, Bool, true, false, not, ◌&&◌, List, Option, Some, None, refl, ap, ◌∙◌, arith}
 use Rattle.std.specs.FinMap.{empty, get-empty}
 use Rattle.std.specs.Ordering.{nat_cmp}
 use Rattle.std.specs.Cmp.Lexicographic.{slice_cmp}
@@ -11,8 +11,8 @@ use Rattle.mt_rows.specs.declared.reply.Reply.TheVariants.{Absent, NoMemory}
 use Rattle.mt_rows.specs.Rows.{Columns}
 use Rattle.mt_rows.specs.Maps.{Map, reply_of, told_of_row, is_change, is_get, is_scan, is_no_memory}
 use Rattle.mt_runs.specs.declared.event.Answer.{Answer}
-use Rattle.mt_runs.specs.Runs.{Story, Run, Asked, story_of, last_step, owner, Finished}
-use Rattle.mt_runs.specs.Placings.{Quotas, no_pairs, is_placed, reply_in}
+use Rattle.mt_runs.specs.Runs.{Run, Asked, story_of, last_step, Finished}
+use Rattle.mt_runs.specs.Placings.{Quotas, no_pairs, is_placed}
 use Rattle.mt_runs.specs.Right.{Right, IsAnswered}
 use Rattle.mt_runs.proofs.Steps.{owner_in}
 
