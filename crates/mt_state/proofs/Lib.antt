@@ -13,3 +13,13 @@ pub mod Reading
 pub mod Confirming
 pub mod OneBorder
 pub mod Loading
+pub mod HistoryMaps
+pub mod HistoryStart
+pub mod HistoryChanges
+pub mod HistorySteps
+pub mod HistoryBegins
+pub mod HistoryRuns
+pub mod HistoryEvents
+pub mod HistoryGets
+pub mod HistoryNew
+pub mod HistoryGet

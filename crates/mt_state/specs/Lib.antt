@@ -7,3 +7,7 @@ pub mod Invariant
 pub mod Moves
 pub mod Ways
 pub mod Calls
+pub mod Begins
+pub mod Refused
+pub mod Histories
+pub mod OneGet

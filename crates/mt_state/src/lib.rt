@@ -3,8 +3,10 @@
 //!
 //! Definitions and laws; the state itself, with its calls, stands above. `specs/Promises.antt` says
 //! what each step may do, `specs/Invariant.antt` what a state keeps.
+//! `specs/Histories.antt` says what each event of a run may answer; from that alone the run has one order.
 #![tactic(auto)]
 
+pub mod histories;
 pub mod laws;
 pub mod moves;
 

@@ -1,0 +1,169 @@
+-- One get of a new state, step by step, each as it may be: for `a_get_of_a_new_state_is_told_of_no_row`.
+use Rattle.std.proofs.Common.{◌≡◌, ◌≢◌, ℕ, zero, suc, ◌+◌, inl, inr, ◌⊎◌, Bool, true, false, cond, eqb, [], ◌∷◌, Option, Some, None, refl, sym, ap, ◌∙◌, arith}
+use Rattle.std.specs.Option.{is_none, option_or}
+use Rattle.std.proofs.lemmas.Bool.{ne_eqb}
+use Rattle.std.proofs.lemmas.Option.{same_Some}
+use Rattle.mt_rows.specs.declared.tenants.Account.{Account}
+use Rattle.mt_rows.specs.declared.refusal.Refusal.TheVariants.{NoTenant}
+use Rattle.mt_rows.specs.declared.reply.Reply.TheVariants.{Absent}
+use Rattle.mt_rows.specs.Accounts.{Accounts, account_of}
+use Rattle.mt_rows.specs.Maps.{reply_of}
+use Rattle.mt_rows.specs.Tenants.{tenant_map}
+use Rattle.mt_rows.specs.declared.reply.Reply.{Reply}
+use Rattle.mt_rows.specs.declared.reply.Reply.TheVariants.{Found, NoMemory}
+use Rattle.mt_rows.specs.Rows.{Columns}
+use Rattle.mt_rows.specs.Maps.{is_get}
+use Rattle.mt_runs.specs.Runs.{Asked, story_of, first_of}
+use Rattle.mt_runs.specs.WrongRuns.{get_k}
+use Rattle.mt_operation.specs.declared.walk.Phase.TheVariants.{Search, Confirm, Done}
+use Rattle.mt_operation.specs.declared.outcome.Outcome.{Outcome}
+use Rattle.mt_operation.specs.Operations.{OperationView, is_done}
+use Rattle.mt_state.specs.Views.{StateView, op_at, quota_of}
+use Rattle.mt_state.specs.Steps.{HasMoved, change_in}
+use Rattle.mt_state.specs.Notes.{Notes}
+use Rattle.mt_state.specs.Promises.{IsAnswer, IsStep}
+use Rattle.mt_state.specs.Refused.{cause_of}
+use Rattle.mt_state.specs.Begins.{new_state, begun, Begins, Takes}
+use Rattle.mt_state.specs.Histories.{Names, no_names, BringsTo}
+use Rattle.mt_state.specs.OneGet.{one_get}
+use Rattle.mt_state.proofs.Still.{nothing_changes}
+use Rattle.mt_state.proofs.HistoryStart.{content-new, tenant_map-empty}
+use Rattle.mt_state.proofs.HistoryGets.{get_absent}
+use Rattle.mt_state.proofs.HistoryNew.{nothing_found}
+
+-- one name alone
+abbrev pub alone : Option ℕ → Names
+alone stands q = cond (eqb 1 q) (Some stands) None
+
+alone_other : (stands : Option ℕ) (q : ℕ) → q ≢ 1 → alone stands q ≡ None
+alone_other stands q ne = ap (λ b. cond b (Some stands) None) (ne_eqb 1 q (λ is. ne (sym is)))
+
+module _ (logs : ℕ) (accounts : Accounts) where
+  -- a new state after so many steps of one operation
+  abbrev reached : ℕ → OperationView → StateView
+  reached n op = record {
+    steps = n;
+    logs = logs;
+    accounts = accounts;
+    arena = (new_state logs accounts).arena;
+    tape = (new_state logs accounts).tape;
+    table = Some op ∷ [];
+  }
+
+  step : (n : ℕ) (before after : OperationView) (done : Bool) → is_done before.phase ≡ false → HasMoved before after (n + 1) → Notes (reached n before) before before.phase after.phase after.outcome
+      → change_in after ≡ change_in before → done ≡ is_done after.phase → (done ≡ true → (told : Outcome) × (after.outcome ≡ Some told) × IsAnswer (reached (n + 1) after) after told)
+      → IsStep (reached n before) (reached (n + 1) after) 0 done
+  step n before after done left moves notes same ends answer = record {
+    before = before;
+    after = after;
+    there = refl;
+    unfinished = left;
+    moves = moves;
+    notes = notes;
+    table = refl;
+    number = refl;
+    logs = refl;
+    grows = record { steps = omega arith; quotas = λ t. refl; maps = λ t m le. refl; changes = λ m le. refl };
+    arena = nothing_changes 0 (new_state logs accounts).arena;
+    touches = λ k within. inl refl;
+    effect = inl (record { contents = refl; entries = refl; change = same });
+    ends = ends;
+    answer = answer;
+    present = λ t. refl;
+  }
+
+  abbrev at_first : OperationView
+  at_first = begun 0 7 get_k
+
+  abbrev searching : OperationView
+  searching = record at_first { first = 1; last = 1; phase = Search }
+
+  abbrev absent : Outcome
+  absent = record { reply = Absent; at = 2 }
+
+  abbrev confirming : OperationView
+  confirming = record searching { last = 2; phase = Confirm; outcome = Some absent }
+
+  abbrev ended : OperationView
+  ended = record confirming { last = 3; phase = Done }
+
+  -- the key is nowhere
+  right : IsAnswer (reached 3 ended) ended absent
+  right = record {
+    begun = omega arith;
+    since = omega arith;
+    upto = omega arith;
+    placed = λ real. record {
+      changes = λ e. absurd (cc);
+      looks = λ e. sym (ap (reply_of (quota_of (reached 3 ended) 7) get_k) (ap (tenant_map 7) content-new ∙ tenant_map-empty 7) ∙ get_absent (quota_of (reached 3 ended) 7) get_k refl);
+    };
+  }
+
+  begins_so : Begins (new_state logs accounts) (reached 0 at_first) 0 0 7 get_k
+  begins_so = record { free = refl; there = refl; others = others; stands = refl }
+    where
+      others : (q : ℕ) → q ≢ 0 → op_at (Some at_first ∷ []) q ≡ op_at [] q
+      others zero ne = absurd (ne refl)
+      others (suc q) ne = refl
+
+  uncaused : (a : Account) → account_of accounts 7 ≡ Some a → cause_of (new_state logs accounts) 7 get_k ≡ None
+  uncaused a there = ap (λ (w : Option Account). option_or (cond (is_none w) (Some NoTenant) None) None) there
+
+  step_1 : IsStep (reached 0 at_first) (reached 1 searching) 0 false
+  step_1 = step 0 at_first searching false refl (record { asked = record { worker = refl; tenant = refl; command = refl }; first = refl; last = refl; follows = tt }) refl refl refl (λ e. absurd (cc))
+
+  step_2 : IsStep (reached 1 searching) (reached 2 confirming) 0 false
+  step_2 = step 1 searching confirming false refl (record { asked = record { worker = refl; tenant = refl; command = refl }; first = refl; last = refl; follows = tt })
+      (record { says = refl; lacks = record { layer = 0; node = 0; there = omega arith; border = refl; from = omega arith; missing = λ slot has. omega (arith, has.in_slot.in_range) } })
+      refl refl (λ e. absurd (cc))
+
+  step_3 : IsStep (reached 2 confirming) (reached 3 ended) 0 true
+  step_3 = step 2 confirming ended true refl (record { asked = record { worker = refl; tenant = refl; command = refl }; first = refl; last = refl; follows = tt }) refl refl refl
+      (λ e. (absent, refl, right))
+
+  abbrev pub left : StateView
+  left = record (reached 3 ended) { table = None ∷ [] }
+
+  takes : Takes (reached 3 ended) left 0 (record { command = get_k; reply = Absent; first = 1; at = 2; last = 3 })
+  takes = record { op = ended; there = refl; told = record { finished = refl; told = refl; command = refl; first = refl; last = refl }; right = right; gone = refl }
+
+  pub get_told : (a : Account) → account_of accounts 7 ≡ Some a
+      → BringsTo no_names (new_state logs accounts) (one_get Absent) (alone None) left
+  get_told a there = (
+    alone (Some 0),
+    reached 0 at_first,
+    (0, refl, record { here = refl; others = alone_other (Some 0) }, tt, begins_so, uncaused a there),
+    (
+      alone (Some 0),
+      reached 1 searching,
+      (0, refl, refl, step_1),
+      (
+        alone (Some 0),
+        reached 2 confirming,
+        (0, refl, refl, step_2),
+        (
+          alone None,
+          left,
+          (0, reached 3 ended, refl, record { here = refl; others = λ q ne. alone_other None q ne ∙ sym (alone_other (Some 0) q ne) }, step_3, takes),
+          (refl, refl),
+        ),
+      ),
+    ),
+  )
+
+-- its one command is a get
+only_gets : (reply : Reply) (q : ℕ) (w : Asked) → (story_of 0 (one_get reply)).asked q ≡ Some w → is_get w.command ≡ true
+only_gets reply q w e = by (eqb 1 q) e
+  where
+    by : (b : Bool) → first_of (cond b (Some (record { tenant = 7; command = get_k })) None) None ≡ Some w → is_get w.command ≡ true
+    by true h = ap (λ (x : Asked). is_get x.command) (sym (same_Some _ w h))
+    by false h = absurd (cc)
+
+-- no row is right
+pub row_refused : (logs : ℕ) (accounts : Accounts) (row : Columns) (names : Names) (v : StateView) → BringsTo no_names (new_state logs accounts) (one_get (Found row)) names v → ⊥
+row_refused logs accounts row names v leads =
+    never (nothing_found logs accounts (one_get (Found row)) names v leads (only_gets (Found row)) 1 (record { command = get_k; reply = Found row; first = 1; at = 2; last = 3 }) (3, refl))
+  where
+    never : (Found row ≡ Absent) ⊎ (Found row ≡ NoMemory) → ⊥
+    never (inl e) = cc
+    never (inr e) = cc

@@ -1,0 +1,73 @@
+-- A new state, and what a begin and a take make of a state.
+use Rattle.std.specs.Prelude.{◌≡◌, ◌≢◌, ℕ, ◌<◌, max, true, false, [], Some, None, slice_set}
+use Rattle.mt_rows.specs.declared.command.Command.{Command}
+use Rattle.mt_rows.specs.declared.command.Command.TheVariants.{Get, Put}
+use Rattle.mt_rows.specs.declared.tenants.Account.{Account}
+use Rattle.mt_rows.specs.Accounts.{Accounts, account_of}
+use Rattle.mt_rows.specs.Maps.{is_get}
+use Rattle.mt_runs.specs.declared.event.Answer.{Answer}
+use Rattle.mt_arena.specs.Accesses.{new_arena}
+use Rattle.mt_operation.specs.declared.walk.Phase.TheVariants.{Enter, Done}
+use Rattle.mt_operation.specs.Operations.{OperationView, is_done}
+use Rattle.mt_state.specs.Views.{StateView, Shown, op_at}
+use Rattle.mt_state.specs.Promises.{IsAnswer}
+
+-- a state in which nothing has happened
+abbrev pub new_state : ℕ → Accounts → StateView
+new_state logs accounts = record {
+  steps = 0;
+  logs = logs;
+  accounts = accounts;
+  arena = new_arena;
+  tape = record { entries = []; floor = 0; reserved = 0 };
+  table = [];
+}
+
+-- no tenant has a pair
+abbrev pub HaveNoPairs : Accounts → Type 0
+HaveNoPairs accounts = (t : ℕ) (a : Account) → account_of accounts t ≡ Some a → a.count ≡ 0
+
+-- a worker is one of those that the logs have, or the only one where no logs are kept
+abbrev pub IsWorker : ℕ → ℕ → Type 0
+IsWorker logs worker = worker < max logs 1
+
+-- a put has a step left
+abbrev pub HasOpenPut : Shown → Type 0
+HasOpenPut table = (o : ℕ) × (op : OperationView) × (op_at table o ≡ Some op) × (is_get op.command ≡ false) × (is_done op.phase ≡ false)
+
+-- as long as there is one node alone: a get may be begun at any time, a put where no other has a step left
+abbrev pub MayBegin : Shown → Command → Type 0
+MayBegin table (Get key columns) = Unit {0}
+MayBegin table (Put key change) = ¬ HasOpenPut table
+MayBegin table _ = ⊥
+
+-- an operation before its first step
+abbrev pub begun : ℕ → ℕ → Command → OperationView
+begun worker tenant command = record { worker = worker; tenant = tenant; command = command; first = 0; last = 0; phase = Enter; outcome = None }
+
+-- an operation more, at an id that was free; all else is as it was
+pub record Begins (old new : StateView) (o worker tenant : ℕ) (command : Command) : Type 0 where
+  pub free : op_at old.table o ≡ None
+  pub there : op_at new.table o ≡ Some (begun worker tenant command)
+  pub others : (q : ℕ) → q ≢ o → op_at new.table q ≡ op_at old.table q
+  pub stands : new ≡ record old { table = new.table }
+
+-- the answer is that of an operation that is finished
+pub record IsAnswerOf (op : OperationView) (answer : Answer) : Type 0 where
+  pub finished : op.phase ≡ Done
+  pub told : op.outcome ≡ Some (record { reply = answer.reply; at = answer.at })
+  pub command : answer.command ≡ op.command
+  pub first : answer.first ≡ op.first
+  pub last : answer.last ≡ op.last
+
+-- the operation is gone, with its answer, which is right by the maps that the state keeps; all else is as it was
+pub record Takes (old new : StateView) (o : ℕ) (answer : Answer) : Type 0 where
+  pub op : OperationView
+  pub there : op_at old.table o ≡ Some op
+  pub told : IsAnswerOf op answer
+  pub right : IsAnswer old op (record { reply = answer.reply; at = answer.at })
+  pub gone : new ≡ record old { table = slice_set old.table o None }
+
+-- the operation is there, and no step of it is left
+abbrev pub IsEnded : Shown → ℕ → Type 0
+IsEnded table o = (op : OperationView) × (op_at table o ≡ Some op) × (is_done op.phase ≡ true)
