@@ -11,3 +11,4 @@ pub mod Still
 pub mod Descents
 pub mod Reading
 pub mod Confirming
+pub mod OneNode
