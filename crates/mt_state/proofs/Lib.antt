@@ -12,3 +12,4 @@ pub mod Descents
 pub mod Reading
 pub mod Confirming
 pub mod OneNode
+pub mod Locking
