@@ -13,3 +13,4 @@ pub mod Reading
 pub mod Confirming
 pub mod OneNode
 pub mod Locking
+pub mod Putting
