@@ -245,3 +245,89 @@ module _ (c : Core) (now : StateView) (o : ℕ) (is : shown c ≡ now) (h : Stat
             effect = inr (is_placing c o op the_after the_arena accounts h put pair reply changes told makes refl);
           })
           false (sym (ap is_done ends))
+
+  -- the slots of a held border node, and their keys, which are of its tree
+  module _ (arena_is : IsArena c.arena.nodes c.arena.trees) (holds : HoldsBorder c.arena o op.task.key op.walk) where
+    within_here : k < length c.arena.nodes
+    within_here = holds.judged.held.there
+
+    border_here : IsBorder n.slots
+    border_here = (arena_is.nodes.each k within_here).slots.border
+
+    keys_here : AreKeys (tree_of c.arena k).prefix (layer_of (tree_of c.arena k).prefix) n.slots
+    keys_here = (keys_of c.arena.nodes c.arena.trees k within_here arena_is.forest).keys
+
+  module _ (at_store : op.walk.phase ≡ Store) where
+    storing : IsStoring c o op
+    storing = subst (λ (p : Phase). IsKeptAt p c o op) at_store (h.ops o op there).kept
+
+    stores_on : op.walk.writes ≡ true
+    stores_on = subst (λ (p : Phase). IsOfKind p op.walk.writes) at_store always.kind
+
+    -- a put that writes its row over the one of its key
+    pub store_done : (arena : ArenaView) (tape : Kept) (w : Walk) (row before : Columns) → IsArena c.arena.nodes c.arena.trees
+        → ((pair : Pair) → (slot_at (at c.arena op.walk.place.node) op.walk.slot).held ≡ Stable pair → arena ≡ with_node c.arena op.walk.place.node (with_slots (at c.arena op.walk.place.node)
+        (replaced (at c.arena op.walk.place.node).slots (with_row (slot_at (at c.arena op.walk.place.node) op.walk.slot) pair row (c.steps + 1)))))
+        → get (content_of c.arena) (owned op.task.key) ≡ Some before → Places op.task (c.steps + 1) c.arena arena c.tape tape → w ≡ walk_placed op.walk → Continues op.walk w → Guarantee o c.arena arena → IsAtUnlock arena o w
+        → Gives now (stepped c arena tape c.accounts o (went op (c.steps + 1) w (Some (record { reply = Replaced; at = c.steps + 1 })) None)) o false
+    store_done arena tape w row before arena_is wrote was_there places goes same guarantee unlocks =
+        let s = storing.stores in
+        let j = s.holds.judged in
+        let slots = replaced n.slots (with_row (slot_at n op.walk.slot) s.pair row (c.steps + 1)) in
+        let after = went op (c.steps + 1) w (Some (record { reply = Replaced; at = c.steps + 1 })) None in
+        let takes : arena ≡ with_node c.arena k (with_slots n slots) = wrote s.pair s.stable in
+        let may = may_store c.arena o op.task.key op.walk arena_is s.holds op.walk.slot s.pair s.in_slot s.stable in
+        let contents = subst (λ (v : ArenaView). content_of v ≡ insert (content_of c.arena) (op.task.tenant, key_of (ask op.task)) (row_over op.task (get (content_of c.arena) key))) takes places.contents in
+        let row_there : get (tenant_map op.task.tenant (content_of c.arena)) (key_of (ask op.task)) ≡ Some before =
+        get-tenant_map op.task.tenant (content_of c.arena) (key_of (ask op.task)) ∙ ap (get (content_of c.arena)) (sym put.owner) ∙ was_there in
+        let replies = put_there (quota_of (shown c) op.task.tenant) op.task.request (tenant_map op.task.tenant (content_of c.arena)) before put.put_is row_there in
+        let makes = replies.1 ∙ ap (λ (b : Option Columns). insert (tenant_map op.task.tenant (content_of c.arena)) (key_of (ask op.task)) (row_over op.task b)) (sym was_there) in
+        let stamps = stamped_store (IsStampOf c.steps c.tape) (IsStampOf (c.steps + 1) (pushed c.tape (next_write c op)))
+            (as_border n op.walk.slot s.pair row (c.steps + 1) (border_here arena_is s.holds) s.in_slot.in_range n.slots)
+            (as_border n op.walk.slot s.pair row (c.steps + 1) (border_here arena_is s.holds) s.in_slot.in_range slots)
+            op.walk.slot s.pair row (c.steps + 1) (border_here arena_is s.holds) s.in_slot.in_range (ap pair_of s.stable)
+            (rewrites n op.walk.slot s.pair row (c.steps + 1) (border_here arena_is s.holds) s.in_slot.in_range)
+            (tree_of c.arena k).prefix (layer_of (tree_of c.arena k).prefix) op.task.key (keys_here arena_is s.holds) may.stands.has
+            (untouched_beside c op h put) (untouched_now c op h put) in
+        subst (λ (v : ArenaView). Gives now (stepped c v tape c.accounts o after) o false) (sym takes)
+        (subst (λ (t : Kept). Gives now (stepped c (with_node c.arena k (with_slots n slots)) t c.accounts o after) o false) (sym places.tape)
+        (placed_gives slots c.accounts w Replaced j.held.there j.at_border.border (subst (Guarantee o c.arena) takes guarantee) contents
+        (counted_there (content_of (with_node c.arena k (with_slots n slots))) (row_over op.task (get (content_of c.arena) key)) before contents was_there) stamps
+        refl replies.0 makes Store at_store refl refl (λ e. cc) tt stores_on refl goes same j.held.holder (subst (λ (v : ArenaView). IsAtUnlock v o w) takes unlocks)))
+
+  module _ (at_publish : op.walk.phase ≡ Publish) where
+    publishing : IsPublishing c o op
+    publishing = subst (λ (p : Phase). IsKeptAt p c o op) at_publish (h.ops o op there).kept
+
+    publishes_on : op.walk.writes ≡ true
+    publishes_on = subst (λ (p : Phase). IsOfKind p op.walk.writes) at_publish always.kind
+
+    -- a put of a new key that finds room
+    pub publish_done : (arena : ArenaView) (tape : Kept) (accounts : Accounts) (w : Walk) (row : Columns) → IsArena c.arena.nodes c.arena.trees
+        → arena ≡ with_node c.arena op.walk.place.node (with_slots (at c.arena op.walk.place.node) (with_entry (at c.arena op.walk.place.node).slots (entry_of op.task.key op.walk.layer row (c.steps + 1))))
+        → get (content_of c.arena) (owned op.task.key) ≡ None → HasRoom (account_of c.accounts op.task.tenant)
+        → account_of accounts op.task.tenant ≡ option_map one_more (account_of c.accounts op.task.tenant) → OthersStay c.accounts accounts op.task.tenant
+        → Places op.task (c.steps + 1) c.arena arena c.tape tape → w ≡ walk_placed op.walk → Continues op.walk w → Guarantee o c.arena arena → IsAtUnlock arena o w
+        → Gives now (stepped c arena tape accounts o (went op (c.steps + 1) w (Some (record { reply = New; at = c.steps + 1 })) None)) o false
+    publish_done arena tape accounts w row arena_is takes missing has_room more others places goes same guarantee unlocks =
+        let s = publishing.publishes in
+        let j = s.holds.judged in
+        let added = entry_of op.task.key op.walk.layer row (c.steps + 1) in
+        let slots = with_entry n.slots added in
+        let after = went op (c.steps + 1) w (Some (record { reply = New; at = c.steps + 1 })) None in
+        let may = may_publish c.arena o op.task.key op.walk arena_is s.holds row (c.steps + 1) s.missing s.room in
+        let contents = subst (λ (v : ArenaView). content_of v ≡ insert (content_of c.arena) (op.task.tenant, key_of (ask op.task)) (row_over op.task (get (content_of c.arena) key))) takes places.contents in
+        let none_there : get (tenant_map op.task.tenant (content_of c.arena)) (key_of (ask op.task)) ≡ None =
+        get-tenant_map op.task.tenant (content_of c.arena) (key_of (ask op.task)) ∙ ap (get (content_of c.arena)) (sym put.owner) ∙ missing in
+        let less : len (tenant_map op.task.tenant (content_of c.arena)) < quota_of (shown c) op.task.tenant =
+        room_left (account_of c.accounts op.task.tenant) (len (tenant_map op.task.tenant (content_of c.arena))) has_room (λ a e. (h.counts op.task.tenant a e).0) in
+        let replies = put_new (quota_of (shown c) op.task.tenant) op.task.request (tenant_map op.task.tenant (content_of c.arena)) put.put_is none_there less in
+        let makes = replies.1 ∙ ap (λ (b : Option Columns). insert (tenant_map op.task.tenant (content_of c.arena)) (key_of (ask op.task)) (row_over op.task b)) (sym missing) in
+        let stamps = stamped_publish (IsStampOf c.steps c.tape) (IsStampOf (c.steps + 1) (pushed c.tape (next_write c op)))
+            (tree_of c.arena k).prefix (layer_of (tree_of c.arena k).prefix) n.slots added op.task.key (record { suffix = suffix_of op.task.key op.walk.layer; row = row; stamp = c.steps + 1 })
+            (keys_here arena_is s.holds) may.has s.missing refl (untouched_beside c op h put) (untouched_now c op h put) in
+        subst (λ (v : ArenaView). Gives now (stepped c v tape accounts o after) o false) (sym takes)
+        (subst (λ (t : Kept). Gives now (stepped c (with_node c.arena k (with_slots n slots)) t accounts o after) o false) (sym places.tape)
+        (placed_gives slots accounts w New j.held.there j.at_border.border (subst (Guarantee o c.arena) takes guarantee) contents
+        (counted_new accounts (content_of (with_node c.arena k (with_slots n slots))) (row_over op.task (get (content_of c.arena) key)) contents missing has_room more others) stamps
+        refl replies.0 makes Publish at_publish refl refl (λ e. cc) tt publishes_on (inl refl) goes same j.held.holder (subst (λ (v : ArenaView). IsAtUnlock v o w) takes unlocks)))
