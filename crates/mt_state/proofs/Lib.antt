@@ -14,3 +14,4 @@ pub mod Confirming
 pub mod OneNode
 pub mod Locking
 pub mod Putting
+pub mod Needs

@@ -1,5 +1,5 @@
 -- The steps of a put that change no pair: it locks its border node, judges it, finds its quota full, and gives the lock back.
-use Rattle.std.proofs.Common.{◌≡◌, ◌≢◌, ℕ, zero, suc, ◌+◌, ◌-◌, ◌<◌, ◌≤◌, ◌⊎◌, inl, inr, Bool, true, false, cond, [], ◌∷◌, length, set, Option, Some, None, refl, sym, ap, subst, ◌∙◌, arith}
+use Rattle.std.proofs.Common.{◌≡◌, ℕ, zero, suc, ◌+◌, ◌-◌, ◌<◌, ◌≤◌, inl, inr, true, false, cond, [], ◌∷◌, length, Option, Some, None, refl, sym, ap, subst, ◌∙◌, arith}
 use Rattle.std.specs.Prelude.{◌^◌}
 use Rattle.std.proofs.lemmas.Bool.{cases_lt}
 use Rattle.std.proofs.lemmas.Option.{same_Some}
@@ -7,10 +7,10 @@ use Rattle.std.specs.FinMap.{get, len}
 use Rattle.mt_version.specs.Changes.{CanUnlock}
 use Rattle.mt_rows.specs.declared.reply.Reply.TheVariants.{NoMemory, Full}
 use Rattle.mt_rows.specs.declared.tenants.Account.{Account}
-use Rattle.mt_rows.specs.Rows.{Bytes, Columns}
-use Rattle.mt_rows.specs.Accounts.{Accounts, account_of, HasRoom}
+use Rattle.mt_rows.specs.Rows.{Columns}
+use Rattle.mt_rows.specs.Accounts.{account_of, HasRoom}
 use Rattle.mt_rows.specs.Commands.{key_of}
-use Rattle.mt_rows.specs.Maps.{is_get, reply_of}
+use Rattle.mt_rows.specs.Maps.{reply_of}
 use Rattle.mt_rows.specs.Tenants.{tenant_map}
 use Rattle.mt_rows.proofs.ContentLaws.{get-tenant_map}
 use Rattle.mt_border.specs.Contents.{owned}
@@ -21,40 +21,38 @@ use Rattle.mt_arena.specs.Arena.{ArenaView, content_of, Guarantee}
 use Rattle.mt_arena.specs.Accesses.{at, with_node}
 use Rattle.mt_arena.specs.Settled.{IsSettled}
 use Rattle.mt_operation.specs.declared.walk.Phase.{Phase}
-use Rattle.mt_operation.specs.declared.walk.Phase.TheVariants.{Enter, Forward, Lock, Judge, Store, Publish, Unlock, Done}
+use Rattle.mt_operation.specs.declared.walk.Phase.TheVariants.{Enter, Lock, Judge, Store, Publish, Unlock, Done}
 use Rattle.mt_operation.specs.declared.walk.Walk.{Walk}
-use Rattle.mt_operation.specs.declared.task.Task.{Task}
 use Rattle.mt_operation.specs.declared.outcome.Outcome.{Outcome}
 use Rattle.mt_operation.specs.declared.prepared.Prepared.{Prepared}
 use Rattle.mt_operation.specs.declared.operation.Operation.{Operation}
 use Rattle.mt_operation.specs.Tasks.{ask}
-use Rattle.mt_operation.specs.Operations.{view_of, is_done, moved}
+use Rattle.mt_operation.specs.Operations.{view_of, is_done}
 use Rattle.mt_operation.specs.Tables.{Table, op_at as operation_at}
 use Rattle.mt_descent.specs.Pasts.{Past}
-use Rattle.mt_descent.specs.Seen.{IsOutdated}
 use Rattle.mt_descent.specs.Kept.{IsAtBorder, IsAtJudge, KeptAt, IsKept}
 use Rattle.mt_descent.specs.Moves.{Continues, Locks, after_change}
 use Rattle.mt_insert.specs.Puts.{IsPut}
 use Rattle.mt_insert.specs.Kept.{HoldsBorder, KeptReady, IsAtUnlock}
 use Rattle.mt_insert.specs.Moves.{after_judge, walk_placed, walk_done, reserving, released}
 use Rattle.mt_insert.proofs.Looks.{held_here}
-use Rattle.mt_state.specs.Views.{StateView, Core, shown, past_of, map_of, quota_of, quota_in}
-use Rattle.mt_state.specs.Steps.{MayFollow, told_change, change_in}
+use Rattle.mt_state.specs.Views.{StateView, Core, shown, past_of, quota_of, quota_in}
+use Rattle.mt_state.specs.Steps.{MayFollow, told_change}
 use Rattle.mt_state.specs.Notes.{Notes}
 use Rattle.mt_state.specs.Promises.{IsAnswer, Touches}
 use Rattle.mt_state.specs.Ways.{IsOnWay}
-use Rattle.mt_state.specs.Kept.{IsOfKind, IsOpenOperation, IsOnItsWay, IsJudging, IsStoring, IsPublishing, IsUnlocking, HasAnswer, IsKeptAt}
+use Rattle.mt_state.specs.Kept.{IsOfKind, IsOpenOperation, IsOnItsWay, IsJudging, IsPublishing, IsUnlocking, HasAnswer, IsKeptAt}
 use Rattle.mt_state.specs.Invariant.{IsCountedUpTo, HoldsAt, StateInvariant, one_if_prepared, is_prepared, prepared_count, is_unplaced}
 use Rattle.mt_state.proofs.Decides.{outdated_or_not}
 use Rattle.mt_state.proofs.Descents.{Leads, first_aside, changed_leads}
 use Rattle.mt_state.proofs.Rely.{answer_stays}
 use Rattle.mt_state.proofs.Replies.{put_full}
 use Rattle.mt_state.proofs.Telling.{Gives, map_now}
-use Rattle.mt_state.proofs.Quiet.{quiet, LeavesPairs}
+use Rattle.mt_state.proofs.Quiet.{LeavesPairs}
 use Rattle.mt_state.proofs.Moved.{went, first_same, first_begun, first_upto}
-use Rattle.mt_state.proofs.Still.{IsFree, IsUnready, still, still_gives, leaves_all, unready_none}
+use Rattle.mt_state.proofs.Still.{IsFree, still, still_gives, leaves_all, unready_none}
 use Rattle.mt_state.proofs.Reading.{kept_on_way, on_way_unready, on_way_open, walk_same}
-use Rattle.mt_state.proofs.OneNode.{stepped, can_unlock, counted_unlocked, replaced_at, replaced_touches, replaced_leaves, quiet_grows, few_steps, quiet_gives}
+use Rattle.mt_state.proofs.OneNode.{stepped, can_unlock, counted_unlocked, replaced_at, replaced_touches, replaced_leaves, quiet_grows, quiet_gives}
 
 -- an operation that has all ready for its write counts once
 pub ready_one : (op : Operation) (p : Phase) → op.walk.phase ≡ p → is_prepared p ≡ true → one_if_prepared (Some op) ≡ 1
@@ -151,7 +149,7 @@ module _ (c : Core) (now : StateView) (o : ℕ) (is : shown c ≡ now) (h : Stat
           let whole = walk_same c op always w begun_lock same.first in
           let counted : IsCountedUpTo (c.steps + 1) (locked n o) = let was = counted_here within in record { inserts = omega (arith, was.inserts); splits = omega (arith, was.splits) } in
           let leaves : LeavesPairs c o (with_node c.arena k (locked n o)) = replaced_leaves c o h k within (locked n o) refl refl refl refl counted
-              (subst (Guarantee o c.arena) takes guarantee) (subst (λ (v : ArenaView). content_of v ≡ content_of c.arena) takes contents) in
+          (subst (Guarantee o c.arena) takes guarantee) (subst (λ (v : ArenaView). content_of v ≡ content_of c.arena) takes contents) in
           let own : IsJudging (locked_core arena) o after = record {
             judges = subst (HoldsBorder arena o op.task.key) (sym whole) (held_here o c.arena arena op.task.key op.walk w locks judges (judged judges) (settled judges));
             untold = locking.untold;
@@ -164,7 +162,7 @@ module _ (c : Core) (now : StateView) (o : ℕ) (is : shown c ≡ now) (h : Stat
           (subst (λ (p : Phase). Notes (shown c) (view_of op) p w.phase op.outcome) (sym at_lock) (subst (λ (p : Phase). Notes (shown c) (view_of op) Lock p op.outcome) (sym judges) locking.untold))
           (λ _. ap is_unplaced at_lock)
           (λ j inside holds. subst (λ (p : Phase). HoldsAt p w.place.node j) (sym judges)
-              ((replaced_at c.arena h.one_border k within (locked n o) j (subst (λ (v : ArenaView). j < length v.nodes) takes inside)).0 ∙ sym place))
+          ((replaced_at c.arena h.one_border k within (locked n o) j (subst (λ (v : ArenaView). j < length v.nodes) takes inside)).0 ∙ sym place))
           (subst (λ (p : Phase). IsKeptAt p (locked_core arena) o after) (sym judges) own)
           (let none = unready_none op Lock at_lock tt in let no = unready_none after Judge judges tt in omega (arith, none, no))
           (subst (Touches o c.arena) (sym takes) (replaced_touches c.arena h.one_border k within (locked n o) o (inr refl)))

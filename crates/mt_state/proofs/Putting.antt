@@ -1,18 +1,18 @@
 -- The steps that place a put: it stores a row over the one of its key, or makes a new pair live.
-use Rattle.std.proofs.Common.{◌≡◌, ◌≢◌, ℕ, ◌+◌, ◌-◌, ◌<◌, ◌≤◌, ◌⊎◌, inl, inr, Bool, true, false, cond, List, length, get_or, set, get_or-set_same, get_or-set_other, Option, Some, None, IsSome, is_some, refl, sym, ap, subst, ◌∙◌, arith}
+use Rattle.std.proofs.Common.{◌≡◌, ◌≢◌, ℕ, ◌+◌, ◌<◌, inl, inr, true, false, cond, List, length, get_or, set, get_or-set_same, get_or-set_other, Option, Some, None, is_some, refl, sym, ap, subst, ◌∙◌, arith}
 use Rattle.std.specs.Prelude.{◌^◌}
 use Rattle.std.specs.Option.{option_map}
 use Rattle.std.specs.FinMap.{get, len, insert}
 use Rattle.std.proofs.lemmas.Bool.{cases_eq}
 use Rattle.std.proofs.lemmas.Option.{same_Some}
 use Rattle.std.proofs.lemmas.List.{length-set}
-use Rattle.mt_slices.specs.Slices.{slice_of, mark_of, suffix_of}
+use Rattle.mt_slices.specs.Slices.{suffix_of}
 use Rattle.mt_rows.specs.declared.reply.Reply.{Reply}
 use Rattle.mt_rows.specs.declared.reply.Reply.TheVariants.{New, Replaced}
 use Rattle.mt_rows.specs.declared.tenants.Account.{Account}
 use Rattle.mt_rows.specs.Rows.{Bytes, Columns}
 use Rattle.mt_rows.specs.Commands.{key_of}
-use Rattle.mt_rows.specs.Maps.{is_get, is_change, reply_of, map_after}
+use Rattle.mt_rows.specs.Maps.{is_change, reply_of, map_after}
 use Rattle.mt_rows.specs.Accounts.{Accounts, account_of, HasRoom, one_more, OthersStay}
 use Rattle.mt_rows.specs.Tenants.{Contents, tenant_map}
 use Rattle.mt_rows.proofs.ContentLaws.{get-tenant_map}
@@ -38,7 +38,6 @@ use Rattle.mt_arena.proofs.Steps.{keys_of}
 use Rattle.mt_operation.specs.declared.walk.Phase.{Phase}
 use Rattle.mt_operation.specs.declared.walk.Phase.TheVariants.{Enter, Store, Publish, Unlock}
 use Rattle.mt_operation.specs.declared.walk.Walk.{Walk}
-use Rattle.mt_operation.specs.declared.outcome.Outcome.{Outcome}
 use Rattle.mt_operation.specs.declared.operation.Operation.{Operation}
 use Rattle.mt_operation.specs.Tasks.{ask}
 use Rattle.mt_operation.specs.Operations.{view_of, is_done}
@@ -49,18 +48,17 @@ use Rattle.mt_insert.specs.Kept.{HoldsBorder, IsAtUnlock}
 use Rattle.mt_insert.specs.Moves.{walk_placed, entry_of, pushed, Places}
 use Rattle.mt_insert.proofs.Places.{may_store, may_publish}
 use Rattle.mt_state.specs.Views.{StateView, Core, shown, quota_of, quota_in}
-use Rattle.mt_state.specs.Steps.{MayFollow, change_in}
+use Rattle.mt_state.specs.Steps.{MayFollow}
 use Rattle.mt_state.specs.Notes.{Notes}
-use Rattle.mt_state.specs.Promises.{Touches}
 use Rattle.mt_state.specs.Kept.{IsOfKind, IsOpenOperation, IsStoring, IsPublishing, IsUnlocking, IsKeptAt, IsPlacedOnce, IsKeptOf}
-use Rattle.mt_state.specs.Invariant.{IsStampOf, AreStamps, IsCountedUpTo, HoldsAt, StateInvariant, one_if_prepared, is_prepared, is_unplaced}
+use Rattle.mt_state.specs.Invariant.{IsStampOf, IsCountedUpTo, HoldsAt, StateInvariant, is_prepared, is_unplaced}
 use Rattle.mt_state.proofs.Replies.{put_there, put_new}
 use Rattle.mt_state.proofs.Telling.{Gives, gives}
 use Rattle.mt_state.proofs.Placing.{Counts, next_write, placed, PlacesPair, untouched_beside, untouched_now, placed_move, placed_right, is_placing, placed_once}
 use Rattle.mt_state.proofs.Moved.{went, first_begun, first_upto, open_moved, has_moved}
 use Rattle.mt_state.proofs.Still.{floor_made, unready_none}
 use Rattle.mt_state.proofs.Reading.{walk_same}
-use Rattle.mt_state.proofs.OneNode.{stepped, only_number, replaced_at, replaced_border, replaced_touches, few_steps}
+use Rattle.mt_state.proofs.OneNode.{stepped, replaced_at, replaced_border, replaced_touches, few_steps}
 use Rattle.mt_state.proofs.Locking.{ready_one, room_for}
 
 -- one pair more leaves the quota, and the account there
@@ -283,12 +281,12 @@ module _ (c : Core) (now : StateView) (o : ℕ) (is : shown c ≡ now) (h : Stat
         let replies = put_there (quota_of (shown c) op.task.tenant) op.task.request (tenant_map op.task.tenant (content_of c.arena)) before put.put_is row_there in
         let makes = replies.1 ∙ ap (λ (b : Option Columns). insert (tenant_map op.task.tenant (content_of c.arena)) (key_of (ask op.task)) (row_over op.task b)) (sym was_there) in
         let stamps = stamped_store (IsStampOf c.steps c.tape) (IsStampOf (c.steps + 1) (pushed c.tape (next_write c op)))
-            (as_border n op.walk.slot s.pair row (c.steps + 1) (border_here arena_is s.holds) s.in_slot.in_range n.slots)
-            (as_border n op.walk.slot s.pair row (c.steps + 1) (border_here arena_is s.holds) s.in_slot.in_range slots)
-            op.walk.slot s.pair row (c.steps + 1) (border_here arena_is s.holds) s.in_slot.in_range (ap pair_of s.stable)
-            (rewrites n op.walk.slot s.pair row (c.steps + 1) (border_here arena_is s.holds) s.in_slot.in_range)
-            (tree_of c.arena k).prefix (layer_of (tree_of c.arena k).prefix) op.task.key (keys_here arena_is s.holds) may.stands.has
-            (untouched_beside c op h put) (untouched_now c op h put) in
+        (as_border n op.walk.slot s.pair row (c.steps + 1) (border_here arena_is s.holds) s.in_slot.in_range n.slots)
+        (as_border n op.walk.slot s.pair row (c.steps + 1) (border_here arena_is s.holds) s.in_slot.in_range slots)
+        op.walk.slot s.pair row (c.steps + 1) (border_here arena_is s.holds) s.in_slot.in_range (ap pair_of s.stable)
+        (rewrites n op.walk.slot s.pair row (c.steps + 1) (border_here arena_is s.holds) s.in_slot.in_range)
+        (tree_of c.arena k).prefix (layer_of (tree_of c.arena k).prefix) op.task.key (keys_here arena_is s.holds) may.stands.has
+        (untouched_beside c op h put) (untouched_now c op h put) in
         subst (λ (v : ArenaView). Gives now (stepped c v tape c.accounts o after) o false) (sym takes)
         (subst (λ (t : Kept). Gives now (stepped c (with_node c.arena k (with_slots n slots)) t c.accounts o after) o false) (sym places.tape)
         (placed_gives slots c.accounts w Replaced j.held.there j.at_border.border (subst (Guarantee o c.arena) takes guarantee) contents
@@ -324,8 +322,8 @@ module _ (c : Core) (now : StateView) (o : ℕ) (is : shown c ≡ now) (h : Stat
         let replies = put_new (quota_of (shown c) op.task.tenant) op.task.request (tenant_map op.task.tenant (content_of c.arena)) put.put_is none_there less in
         let makes = replies.1 ∙ ap (λ (b : Option Columns). insert (tenant_map op.task.tenant (content_of c.arena)) (key_of (ask op.task)) (row_over op.task b)) (sym missing) in
         let stamps = stamped_publish (IsStampOf c.steps c.tape) (IsStampOf (c.steps + 1) (pushed c.tape (next_write c op)))
-            (tree_of c.arena k).prefix (layer_of (tree_of c.arena k).prefix) n.slots added op.task.key (record { suffix = suffix_of op.task.key op.walk.layer; row = row; stamp = c.steps + 1 })
-            (keys_here arena_is s.holds) may.has s.missing refl (untouched_beside c op h put) (untouched_now c op h put) in
+        (tree_of c.arena k).prefix (layer_of (tree_of c.arena k).prefix) n.slots added op.task.key (record { suffix = suffix_of op.task.key op.walk.layer; row = row; stamp = c.steps + 1 })
+        (keys_here arena_is s.holds) may.has s.missing refl (untouched_beside c op h put) (untouched_now c op h put) in
         subst (λ (v : ArenaView). Gives now (stepped c v tape accounts o after) o false) (sym takes)
         (subst (λ (t : Kept). Gives now (stepped c (with_node c.arena k (with_slots n slots)) t accounts o after) o false) (sym places.tape)
         (placed_gives slots accounts w New j.held.there j.at_border.border (subst (Guarantee o c.arena) takes guarantee) contents
