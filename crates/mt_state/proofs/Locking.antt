@@ -8,7 +8,7 @@ use Rattle.mt_version.specs.Changes.{CanUnlock}
 use Rattle.mt_rows.specs.declared.reply.Reply.TheVariants.{NoMemory, Full}
 use Rattle.mt_rows.specs.declared.tenants.Account.{Account}
 use Rattle.mt_rows.specs.Rows.{Columns}
-use Rattle.mt_rows.specs.Accounts.{account_of, HasRoom}
+use Rattle.mt_rows.specs.Accounts.{Accounts, account_of, HasRoom}
 use Rattle.mt_rows.specs.Commands.{key_of}
 use Rattle.mt_rows.specs.Maps.{reply_of}
 use Rattle.mt_rows.specs.Tenants.{tenant_map}
@@ -241,10 +241,11 @@ module _ (c : Core) (now : StateView) (o : ℕ) (is : shown c ≡ now) (h : Stat
     judged_place None = refl
 
     -- a put that has made all ready for its write
-    pub judge_ready : (tape : Kept) (w : Walk) (prepared : Prepared) (slot : Option ℕ) → tape ≡ reserving c.tape → w ≡ after_judge slot op.walk → Continues op.walk w → KeptReady w.phase c.arena o op.task prepared w
-        → Gives now (stepped c c.arena tape c.accounts o (went op (c.steps + 1) w op.outcome (Some prepared))) o false
-    judge_ready tape w prepared slot reserves goes same kept =
-        subst (λ (t : Kept). Gives now (stepped c c.arena t c.accounts o after) o false) (sym reserves)
+    pub judge_ready : (arena : ArenaView) (tape : Kept) (w : Walk) (prepared : Prepared) (slot : Option ℕ) → arena ≡ c.arena → tape ≡ reserving c.tape → w ≡ after_judge slot op.walk → Continues op.walk w → KeptReady w.phase arena o op.task prepared w
+        → Gives now (stepped c arena tape c.accounts o (went op (c.steps + 1) w op.outcome (Some prepared))) o false
+    judge_ready arena tape w prepared slot stays reserves goes same kept =
+        subst (λ (v : ArenaView). Gives now (stepped c v tape c.accounts o after) o false) (sym stays)
+        (subst (λ (t : Kept). Gives now (stepped c c.arena t c.accounts o after) o false) (sym reserves)
         (quiet_gives c now o is h room op there c.arena (c.tape.reserved + 1) w op.outcome (Some prepared)
         (leaves_all c o h) (ap is_done at_judge)
         (subst (λ (p : Phase). MayFollow p w.phase) (sym at_judge) (subst (MayFollow Judge) (sym phase) (follows slot)))
@@ -252,10 +253,10 @@ module _ (c : Core) (now : StateView) (o : ℕ) (is : shown c ≡ now) (h : Stat
         (subst (λ (p : Phase). Notes (shown c) (view_of op) p w.phase op.outcome) (sym at_judge) (subst (λ (p : Phase). Notes (shown c) (view_of op) Judge p op.outcome) (sym phase) (notes slot)))
         (λ _. ap is_unplaced at_judge)
         (λ j inside holds. subst (λ (p : Phase). HoldsAt p w.place.node j) (sym phase) (holds_on slot j (holds_node j inside holds ∙ sym place)))
-        (subst (λ (p : Phase). IsKeptAt p new o after) (sym phase) (own slot (subst (λ (p : Phase). KeptReady p c.arena o op.task prepared after.walk) phase (subst (λ (x : Walk). KeptReady w.phase c.arena o op.task prepared x) (sym whole) kept))))
+        (subst (λ (p : Phase). IsKeptAt p new o after) (sym phase) (own slot (subst (λ (p : Phase). KeptReady p c.arena o op.task prepared after.walk) phase (subst (λ (x : Walk). KeptReady w.phase c.arena o op.task prepared x) (sym whole) (subst (λ (v : ArenaView). KeptReady w.phase v o op.task prepared w) stays kept)))))
         (let none = unready_none op Judge at_judge tt in let one = ready_one after (to_place slot) phase (ready slot) in omega (arith, none, one))
         (λ j inside. inl refl)
-        false (sym (ap is_done phase ∙ open_on slot)))
+        false (sym (ap is_done phase ∙ open_on slot))))
       where
         after : Operation
         after = went op (c.steps + 1) w op.outcome (Some prepared)
@@ -307,10 +308,10 @@ module _ (c : Core) (now : StateView) (o : ℕ) (is : shown c ≡ now) (h : Stat
         own None publishes = record { prepared = prepared; has = refl; publishes = publishes; untold = judging.untold }
 
     -- a put that memory stops: its lock is given back in the same step
-    pub judge_refused : (arena : ArenaView) (w : Walk) → arena ≡ with_node c.arena op.walk.place.node (unlocked (at c.arena op.walk.place.node)) → w ≡ walk_done op.walk → Continues op.walk w
+    pub judge_refused : (arena : ArenaView) (tape : Kept) (w : Walk) → arena ≡ with_node c.arena op.walk.place.node (unlocked (at c.arena op.walk.place.node)) → tape ≡ c.tape → w ≡ walk_done op.walk → Continues op.walk w
         → Guarantee o c.arena arena → content_of arena ≡ content_of c.arena
-        → Gives now (stepped c arena c.tape c.accounts o (went op (c.steps + 1) w (Some (record { reply = NoMemory; at = c.steps + 1 })) op.prepared)) o true
-    judge_refused arena w gives_back goes same guarantee contents =
+        → Gives now (stepped c arena tape c.accounts o (went op (c.steps + 1) w (Some (record { reply = NoMemory; at = c.steps + 1 })) op.prepared)) o true
+    judge_refused arena tape w gives_back keeps goes same guarantee contents =
         let told : Option Outcome = Some (record { reply = NoMemory; at = c.steps + 1 }) in
         let after = went op (c.steps + 1) w told op.prepared in
         let new = stepped c arena c.tape c.accounts o after in
@@ -327,7 +328,8 @@ module _ (c : Core) (now : StateView) (o : ℕ) (is : shown c ≡ now) (h : Stat
           };
           unprepared = judging.unprepared;
         } in
-        quiet_gives c now o is h room op there arena c.tape.reserved w told op.prepared
+        subst (λ (t : Kept). Gives now (stepped c arena t c.accounts o after) o true) (sym keeps)
+        (quiet_gives c now o is h room op there arena c.tape.reserved w told op.prepared
         (subst (LeavesPairs c o) (sym gives_back) (back_leaves within (subst (Guarantee o c.arena) gives_back guarantee) (subst (λ (v : ArenaView). content_of v ≡ content_of c.arena) gives_back contents)))
         (ap is_done at_judge)
         (subst (λ (p : Phase). MayFollow p w.phase) (sym at_judge) (subst (MayFollow Judge) (sym ends) tt))
@@ -338,7 +340,7 @@ module _ (c : Core) (now : StateView) (o : ℕ) (is : shown c ≡ now) (h : Stat
         (subst (λ (p : Phase). IsKeptAt p new o after) (sym ends) own)
         (let none = unready_none op Judge at_judge tt in let no = unready_none after Done ends tt in omega (arith, none, no))
         (subst (Touches o c.arena) (sym gives_back) (replaced_touches c.arena h.one_border k within (unlocked n) o (inl judging.judges.judged.held.holder)))
-        true (sym (ap is_done ends))
+        true (sym (ap is_done ends)))
 
   -- where a tenant has no room, it has as many pairs as its quota
   no_room_left : (t : ℕ) (a : Option Account) → account_of c.accounts t ≡ a → ¬ HasRoom a → quota_in a ≤ len (tenant_map t (content_of c.arena))
@@ -359,9 +361,9 @@ module _ (c : Core) (now : StateView) (o : ℕ) (is : shown c ≡ now) (h : Stat
     publishes_on = subst (λ (p : Phase). IsOfKind p op.walk.writes) at_publish always.kind
 
     -- a put of a new key that finds its quota full
-    pub publish_full : (tape : Kept) (w : Walk) → tape ≡ released c.tape → w ≡ walk_placed op.walk → Continues op.walk w → IsAtUnlock c.arena o w → get (content_of c.arena) (owned op.task.key) ≡ None → ¬ HasRoom (account_of c.accounts op.task.tenant)
-        → Gives now (stepped c c.arena tape c.accounts o (went op (c.steps + 1) w (Some (record { reply = Full; at = c.steps + 1 })) None)) o false
-    publish_full tape w releases goes same unlocks missing no_room =
+    pub publish_full : (arena : ArenaView) (tape : Kept) (accounts : Accounts) (w : Walk) → arena ≡ c.arena → accounts ≡ c.accounts → tape ≡ released c.tape → w ≡ walk_placed op.walk → Continues op.walk w → IsAtUnlock arena o w → get (content_of c.arena) (owned op.task.key) ≡ None → ¬ HasRoom (account_of c.accounts op.task.tenant)
+        → Gives now (stepped c arena tape accounts o (went op (c.steps + 1) w (Some (record { reply = Full; at = c.steps + 1 })) None)) o false
+    publish_full arena tape accounts w stays same_accounts releases goes same unlocks missing no_room =
         let told : Option Outcome = Some (record { reply = Full; at = c.steps + 1 }) in
         let after = went op (c.steps + 1) w told None in
         let new = stepped c c.arena (released c.tape) c.accounts o after in
@@ -373,7 +375,7 @@ module _ (c : Core) (now : StateView) (o : ℕ) (is : shown c ≡ now) (h : Stat
         get-tenant_map op.task.tenant (content_of c.arena) (key_of (ask op.task)) ∙ ap (get (content_of c.arena)) (sym put.owner) ∙ missing in
         let is_full = put_full (quota_of (shown c) op.task.tenant) op.task.request (tenant_map op.task.tenant (content_of c.arena)) put.put_is none full in
         let own : IsUnlocking new o after = record {
-          unlocks = subst (IsAtUnlock c.arena o) (sym whole) unlocks;
+          unlocks = subst (IsAtUnlock c.arena o) (sym whole) (subst (λ (v : ArenaView). IsAtUnlock v o w) stays unlocks);
           answer = record {
             outcome = record { reply = Full; at = c.steps + 1 };
             told = refl;
@@ -389,7 +391,9 @@ module _ (c : Core) (now : StateView) (o : ℕ) (is : shown c ≡ now) (h : Stat
             unprepared = refl;
           };
         } in
-        subst (λ (t : Kept). Gives now (stepped c c.arena t c.accounts o after) o false) (sym releases)
+        subst (λ (v : ArenaView). Gives now (stepped c v tape accounts o after) o false) (sym stays)
+        (subst (λ (a : Accounts). Gives now (stepped c c.arena tape a o after) o false) (sym same_accounts)
+        (subst (λ (t : Kept). Gives now (stepped c c.arena t c.accounts o after) o false) (sym releases)
         (quiet_gives c now o is h room op there c.arena (c.tape.reserved - 1) w told None
         (leaves_all c o h) (ap is_done at_publish)
         (subst (λ (p : Phase). MayFollow p w.phase) (sym at_publish) (subst (MayFollow Publish) (sym ends) tt))
@@ -400,7 +404,7 @@ module _ (c : Core) (now : StateView) (o : ℕ) (is : shown c ≡ now) (h : Stat
         (subst (λ (p : Phase). IsKeptAt p new o after) (sym ends) own)
         (let one = ready_one op Publish at_publish refl in let no = unready_none after Unlock ends tt in let some = room_for c h o op Publish there at_publish refl in omega (arith, one, no, some))
         (λ j inside. inl refl)
-        false (sym (ap is_done ends)))
+        false (sym (ap is_done ends)))))
       where
         holds_node : (j : ℕ) → j < length c.arena.nodes → (at c.arena j).holder ≡ Some o → j ≡ k
         holds_node j inside holds =
