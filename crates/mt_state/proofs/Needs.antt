@@ -1,17 +1,13 @@
 -- What the calls of a put's phases ask, by the invariant: for `State::lock`, `judge`, `store`, `publish` and `unlock`.
-use Rattle.std.proofs.Common.{◌≡◌, ◌≢◌, ℕ, ◌+◌, ◌*◌, ◌<◌, ◌≤◌, ◌⊎◌, inl, inr, Bool, true, false, not, length, Option, Some, None, IsSome, is_some, refl, sym, ap, subst, ◌∙◌, arith}
+use Rattle.std.proofs.Common.{◌≡◌, ℕ, ◌+◌, ◌<◌, inl, inr, Bool, true, false, not, length, Some, None, IsSome, is_some, refl, sym, ap, subst, ◌∙◌, arith}
 use Rattle.std.proofs.lemmas.Option.{same_Some}
-use Rattle.std.specs.FinMap.{get}
 use Rattle.mt_version.specs.Changes.{CanUnlock}
-use Rattle.mt_slices.specs.Slices.{slice_of, mark_of}
 use Rattle.mt_rows.specs.Maps.{is_get}
-use Rattle.mt_border.specs.Entries.{IsMissing}
-use Rattle.mt_border.specs.Contents.{owned}
 use Rattle.mt_tape.specs.Tapes.{last_write}
-use Rattle.mt_arena.specs.Arena.{IsArena, content_of}
+use Rattle.mt_arena.specs.Arena.{IsArena}
 use Rattle.mt_arena.specs.Accesses.{at}
 use Rattle.mt_operation.specs.declared.walk.Phase.{Phase}
-use Rattle.mt_operation.specs.declared.walk.Phase.TheVariants.{Enter, Pick, Child, Verify, Search, Load, Confirm, Forward, Lock, Judge, Store, Publish, Unlock, Done}
+use Rattle.mt_operation.specs.declared.walk.Phase.TheVariants.{Lock, Judge, Store, Publish, Unlock, Done}
 use Rattle.mt_operation.specs.declared.prepared.Prepared.{Prepared}
 use Rattle.mt_operation.specs.declared.operation.Operation.{Operation}
 use Rattle.mt_operation.specs.Tasks.{ask}
@@ -23,7 +19,7 @@ use Rattle.mt_insert.specs.Kept.{HoldsBorder, IsAtStore, IsAtPublish, IsAtUnlock
 use Rattle.mt_insert.specs.Moves.{FitsIn}
 use Rattle.mt_insert.proofs.Places.{none_here}
 use Rattle.mt_state.specs.Views.{Core, shown, past_of}
-use Rattle.mt_state.specs.Promises.{HasStep, IsInTheWay, IsHeldByOther}
+use Rattle.mt_state.specs.Promises.{IsInTheWay, IsHeldByOther}
 use Rattle.mt_state.specs.Kept.{IsOfKind, IsOpenOperation, IsOnItsWay, IsJudging, IsStoring, IsPublishing, IsUnlocking, IsKeptAt}
 use Rattle.mt_state.specs.Invariant.{HoldsAt, StateInvariant, is_prepared, is_unplaced}
 use Rattle.mt_state.proofs.Shown.{shown_there}
