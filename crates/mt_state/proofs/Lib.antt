@@ -23,3 +23,7 @@ pub mod HistoryEvents
 pub mod HistoryGets
 pub mod HistoryNew
 pub mod HistoryGet
+pub mod OneNode
+pub mod Locking
+pub mod Putting
+pub mod Needs

@@ -1,0 +1,413 @@
+-- The steps of a put that change no pair: it locks its border node, judges it, finds its quota full, and gives the lock back.
+use Rattle.std.proofs.Common.{◌≡◌, ℕ, zero, suc, ◌+◌, ◌-◌, ◌<◌, ◌≤◌, inl, inr, true, false, cond, [], ◌∷◌, length, Option, Some, None, refl, sym, ap, subst, ◌∙◌, arith}
+use Rattle.std.specs.Prelude.{◌^◌}
+use Rattle.std.proofs.lemmas.Bool.{cases_lt}
+use Rattle.std.proofs.lemmas.Option.{same_Some}
+use Rattle.std.specs.FinMap.{get, len}
+use Rattle.mt_version.specs.Changes.{CanUnlock}
+use Rattle.mt_rows.specs.declared.reply.Reply.TheVariants.{NoMemory, Full}
+use Rattle.mt_rows.specs.declared.tenants.Account.{Account}
+use Rattle.mt_rows.specs.Rows.{Columns}
+use Rattle.mt_rows.specs.Accounts.{Accounts, account_of, HasRoom}
+use Rattle.mt_rows.specs.Commands.{key_of}
+use Rattle.mt_rows.specs.Maps.{reply_of}
+use Rattle.mt_rows.specs.Tenants.{tenant_map}
+use Rattle.mt_rows.proofs.ContentLaws.{get-tenant_map}
+use Rattle.mt_border.specs.Contents.{owned}
+use Rattle.mt_tape.specs.Tapes.{Kept}
+use Rattle.mt_arena.specs.NodeView.{NodeView}
+use Rattle.mt_arena.specs.Edits.{locked, unlocked}
+use Rattle.mt_arena.specs.Arena.{ArenaView, content_of, Guarantee}
+use Rattle.mt_arena.specs.Accesses.{at, with_node}
+use Rattle.mt_arena.specs.Settled.{IsSettled}
+use Rattle.mt_operation.specs.declared.walk.Phase.{Phase}
+use Rattle.mt_operation.specs.declared.walk.Phase.TheVariants.{Enter, Lock, Judge, Store, Publish, Unlock, Done}
+use Rattle.mt_operation.specs.declared.walk.Walk.{Walk}
+use Rattle.mt_operation.specs.declared.outcome.Outcome.{Outcome}
+use Rattle.mt_operation.specs.declared.prepared.Prepared.{Prepared}
+use Rattle.mt_operation.specs.declared.operation.Operation.{Operation}
+use Rattle.mt_operation.specs.Tasks.{ask}
+use Rattle.mt_operation.specs.Operations.{view_of, is_done}
+use Rattle.mt_operation.specs.Tables.{Table, op_at as operation_at}
+use Rattle.mt_descent.specs.Pasts.{Past}
+use Rattle.mt_descent.specs.Kept.{IsAtBorder, IsAtJudge, KeptAt, IsKept}
+use Rattle.mt_descent.specs.Moves.{Continues, Locks, after_change}
+use Rattle.mt_insert.specs.Puts.{IsPut}
+use Rattle.mt_insert.specs.Kept.{HoldsBorder, KeptReady, IsAtUnlock}
+use Rattle.mt_insert.specs.Moves.{after_judge, walk_placed, walk_done, reserving, released}
+use Rattle.mt_insert.proofs.Looks.{held_here}
+use Rattle.mt_state.specs.Views.{StateView, Core, shown, past_of, quota_of, quota_in}
+use Rattle.mt_state.specs.Steps.{MayFollow, told_change}
+use Rattle.mt_state.specs.Notes.{Notes}
+use Rattle.mt_state.specs.Promises.{IsAnswer, Touches}
+use Rattle.mt_state.specs.Ways.{IsOnWay}
+use Rattle.mt_state.specs.Kept.{IsOfKind, IsOpenOperation, IsOnItsWay, IsJudging, IsPublishing, IsUnlocking, HasAnswer, IsKeptAt}
+use Rattle.mt_state.specs.Invariant.{IsCountedUpTo, HoldsAt, StateInvariant, one_if_prepared, is_prepared, prepared_count, is_unplaced}
+use Rattle.mt_state.proofs.Decides.{outdated_or_not}
+use Rattle.mt_state.proofs.Descents.{Leads, first_aside, changed_leads}
+use Rattle.mt_state.proofs.Rely.{answer_stays}
+use Rattle.mt_state.proofs.Replies.{put_full}
+use Rattle.mt_state.proofs.Telling.{Gives, map_now}
+use Rattle.mt_state.proofs.Quiet.{LeavesPairs}
+use Rattle.mt_state.proofs.Moved.{went, first_same, first_begun, first_upto}
+use Rattle.mt_state.proofs.Still.{IsFree, still, still_gives, leaves_all, unready_none}
+use Rattle.mt_state.proofs.Reading.{kept_on_way, on_way_unready, on_way_open, walk_same}
+use Rattle.mt_state.proofs.OneNode.{stepped, can_unlock, counted_unlocked, replaced_at, replaced_touches, replaced_leaves, quiet_grows, quiet_gives}
+
+-- an operation that has all ready for its write counts once
+pub ready_one : (op : Operation) (p : Phase) → op.walk.phase ≡ p → is_prepared p ≡ true → one_if_prepared (Some op) ≡ 1
+ready_one op p is ready = ap (λ q. cond (is_prepared q) 1 0) is ∙ ap (λ b. cond b 1 0) ready
+
+-- each of them is counted
+pub counted_there : (table : Table) (o : ℕ) (op : Operation) → operation_at table o ≡ Some op → one_if_prepared (Some op) ≤ prepared_count table
+counted_there [] o op e = absurd (cc)
+counted_there (x ∷ table) zero op e = let is = ap one_if_prepared e in omega (arith, is)
+counted_there (x ∷ table) (suc o) op e = let rest = counted_there table o op e in omega (arith, rest)
+
+-- so the tape has room for the write of one that has all ready
+pub room_for : (c : Core) → StateInvariant c → (o : ℕ) (op : Operation) (p : Phase) → operation_at c.table o ≡ Some op → op.walk.phase ≡ p → is_prepared p ≡ true → 0 < c.tape.reserved
+room_for c h o op p there is ready = let counted = counted_there c.table o op there in let one = ready_one op p is ready in let all = h.reserved in omega (arith, counted, one, all)
+
+-- the lock is given back by a version with as many counts as steps at most
+pub may_unlock : (c : Core) → StateInvariant c → (k : ℕ) → k < length c.arena.nodes → CanUnlock (at c.arena k).version
+may_unlock c h k within = can_unlock (at c.arena k) c.steps (h.versions k within) h.few
+
+module _ (c : Core) (now : StateView) (o : ℕ) (is : shown c ≡ now) (h : StateInvariant c) (room : now.steps < 2 ^ 59) (op : Operation) (there : operation_at c.table o ≡ Some op) where
+  abbrev k : ℕ
+  k = op.walk.place.node
+
+  abbrev n : NodeView
+  n = at c.arena op.walk.place.node
+
+  always : IsOpenOperation c op
+  always = (h.ops o op there).always
+
+  counted_here : k < length c.arena.nodes → IsCountedUpTo c.steps n
+  counted_here within = h.versions k within
+
+  -- the arena with the lock of the operation's node given back
+  abbrev given_back : ArenaView
+  given_back = with_node c.arena k (unlocked n)
+
+  back_leaves : k < length c.arena.nodes → Guarantee o c.arena given_back → content_of given_back ≡ content_of c.arena → LeavesPairs c o given_back
+  back_leaves within guarantee contents = replaced_leaves c o h k within (unlocked n) refl refl refl refl (counted_unlocked n c.steps (counted_here within) (unlocked n) refl) guarantee contents
+
+  -- nothing is held then
+  back_free : k < length c.arena.nodes → (j : ℕ) → j < length given_back.nodes → (at given_back j).holder ≡ Some o → ⊥
+  back_free within j inside holds = let free = ap (λ (m : NodeView). m.holder) (sym (replaced_at c.arena h.one_border k within (unlocked n) j inside).2) ∙ holds in cc
+
+  module _ (at_lock : op.walk.phase ≡ Lock) where
+    locking : IsOnItsWay c op
+    locking = subst (λ (p : Phase). IsKeptAt p c o op) at_lock (h.ops o op there).kept
+
+    at_border : IsAtBorder c.arena op.task.key op.walk
+    at_border = subst (λ (p : Phase). KeptAt p c.arena (past_of c) op.task.key None op.walk) at_lock locking.kept
+
+    abbrev lock_free : IsFree op.walk.phase
+    lock_free = subst IsFree (sym at_lock) tt
+
+    begun_lock : 0 < op.walk.first
+    begun_lock = always.begun (λ enters. absurd (let no : Lock ≡ Enter = sym at_lock ∙ enters in cc))
+
+    locks_on : op.walk.writes ≡ true
+    locks_on = subst (λ (p : Phase). IsOfKind p op.walk.writes) at_lock always.kind
+
+    module _ (arena : ArenaView) (w : Walk) (locks : Locks o c.arena arena op.walk w) (same : Continues op.walk w) (guarantee : Guarantee o c.arena arena) (contents : content_of arena ≡ content_of c.arena)
+        (kept : (past : Past) (row : Option Columns) → IsKept arena past op.task.key row w) (judged : w.phase ≡ Judge → IsAtJudge arena o op.task.key w)
+        (settled : w.phase ≡ Judge → IsSettled arena.nodes op.walk.place.node (at arena op.walk.place.node)) where
+      abbrev locked_core : ArenaView → Core
+      locked_core v = stepped c v c.tape c.accounts o (went op (c.steps + 1) w op.outcome op.prepared)
+
+      -- the node was deleted or split: the operation is on its way, and the arena as it was
+      lock_left : arena ≡ c.arena → w ≡ after_change op.walk n.version n.next → Gives now (locked_core arena) o false
+      lock_left stays goes =
+          let leads : Leads Lock w.phase w.writes = subst (λ (x : Walk). Leads Lock x.phase x.writes) (sym goes) (changed_leads Lock tt tt op.walk n.version n.next) in
+          let new = still c now o is h room op there lock_free w op.outcome in
+          let after = went op (c.steps + 1) w op.outcome op.prepared in
+          let on : IsOnItsWay new after = record {
+            kept = first_aside w.phase leads.0 c.arena (past_of new) op.task.key None w after.walk.first (subst (λ (v : ArenaView). IsKept v (past_of new) op.task.key None w) stays (kept (past_of new) None));
+            untold = locking.untold;
+            unprepared = locking.unprepared;
+          } in
+          subst (λ (v : ArenaView). Gives now (locked_core v) o false) (sym stays)
+          (still_gives c now o is h room op there lock_free w op.outcome
+          (subst (λ (p : Phase). MayFollow p w.phase) (sym at_lock) leads.1) (on_way_unready w.phase leads.0) same.writes leads.2 refl
+          (subst (λ (p : Phase). Notes (shown c) (view_of op) p w.phase op.outcome) (sym at_lock) (by_phase w.phase leads.0))
+          (ap told_change locking.untold)
+          (kept_on_way w.phase leads.0 new o after on) false (sym (on_way_open w.phase leads.0)))
+        where
+          by_phase : (q : Phase) → IsOnWay q → Notes (shown c) (view_of op) Lock q op.outcome
+          by_phase q on = locking.untold
+
+      -- the operation holds its node
+      lock_taken : arena ≡ with_node c.arena k (locked n o) → w ≡ record op.walk { phase = Judge } → Gives now (locked_core arena) o false
+      lock_taken takes goes =
+          let after = went op (c.steps + 1) w op.outcome op.prepared in
+          let within = at_border.covers.remembered.there in
+          let judges : w.phase ≡ Judge = ap (λ (x : Walk). x.phase) goes in
+          let place : w.place.node ≡ k = ap (λ (x : Walk). x.place.node) goes in
+          let whole = walk_same c op always w begun_lock same.first in
+          let counted : IsCountedUpTo (c.steps + 1) (locked n o) = let was = counted_here within in record { inserts = omega (arith, was.inserts); splits = omega (arith, was.splits) } in
+          let leaves : LeavesPairs c o (with_node c.arena k (locked n o)) = replaced_leaves c o h k within (locked n o) refl refl refl refl counted
+          (subst (Guarantee o c.arena) takes guarantee) (subst (λ (v : ArenaView). content_of v ≡ content_of c.arena) takes contents) in
+          let own : IsJudging (locked_core arena) o after = record {
+            judges = subst (HoldsBorder arena o op.task.key) (sym whole) (held_here o c.arena arena op.task.key op.walk w locks judges (judged judges) (settled judges));
+            untold = locking.untold;
+            unprepared = locking.unprepared;
+          } in
+          quiet_gives c now o is h room op there arena c.tape.reserved w op.outcome op.prepared
+          (subst (LeavesPairs c o) (sym takes) leaves) (ap is_done at_lock)
+          (subst (λ (p : Phase). MayFollow p w.phase) (sym at_lock) (subst (MayFollow Lock) (sym judges) tt))
+          same.writes (subst (λ (p : Phase). IsOfKind p w.writes) (sym judges) (same.writes ∙ locks_on)) refl
+          (subst (λ (p : Phase). Notes (shown c) (view_of op) p w.phase op.outcome) (sym at_lock) (subst (λ (p : Phase). Notes (shown c) (view_of op) Lock p op.outcome) (sym judges) locking.untold))
+          (λ _. ap is_unplaced at_lock)
+          (λ j inside holds. subst (λ (p : Phase). HoldsAt p w.place.node j) (sym judges)
+          ((replaced_at c.arena h.one_border k within (locked n o) j (subst (λ (v : ArenaView). j < length v.nodes) takes inside)).0 ∙ sym place))
+          (subst (λ (p : Phase). IsKeptAt p (locked_core arena) o after) (sym judges) own)
+          (let none = unready_none op Lock at_lock tt in let no = unready_none after Judge judges tt in omega (arith, none, no))
+          (subst (Touches o c.arena) (sym takes) (replaced_touches c.arena h.one_border k within (locked n o) o (inr refl)))
+          false (sym (ap is_done judges))
+
+      -- a put that was to lock its border node
+      pub lock_done : Gives now (stepped c arena c.tape c.accounts o (went op (c.steps + 1) w op.outcome op.prepared)) o false
+      lock_done = elim (outdated_or_not n op.walk.place.seen) [
+        | inl outdated ↦ lock_left (locks.leaves outdated) (locks.goes_on outdated)
+        | inr fresh ↦ lock_taken (locks.takes fresh) (locks.judges fresh)
+      ]
+
+  module _ (at_unlock : op.walk.phase ≡ Unlock) where
+    unlocking : IsUnlocking c o op
+    unlocking = subst (λ (p : Phase). IsKeptAt p c o op) at_unlock (h.ops o op there).kept
+
+    begun_unlock : 0 < op.walk.first
+    begun_unlock = always.begun (λ enters. absurd (let no : Unlock ≡ Enter = sym at_unlock ∙ enters in cc))
+
+    -- an operation that has its outcome gives its lock back, and is done with it
+    pub unlock_done : (arena : ArenaView) (w : Walk) → arena ≡ with_node c.arena op.walk.place.node (unlocked (at c.arena op.walk.place.node)) → w ≡ walk_done op.walk → Continues op.walk w
+        → Guarantee o c.arena arena → content_of arena ≡ content_of c.arena → Gives now (stepped c arena c.tape c.accounts o (went op (c.steps + 1) w op.outcome op.prepared)) o true
+    unlock_done arena w gives_back goes same guarantee contents =
+        let after = went op (c.steps + 1) w op.outcome op.prepared in
+        let new = stepped c arena c.tape c.accounts o after in
+        let within = unlocking.unlocks.held.there in
+        let ends : w.phase ≡ Done = ap (λ (x : Walk). x.phase) goes in
+        let first = first_same c op always w begun_unlock in
+        let answer = unlocking.answer in
+        let stays : IsAnswer (shown new) (view_of op) answer.outcome = answer_stays (shown c) (shown new) (quiet_grows c o arena c.tape.reserved after contents) (view_of op) answer.outcome always.made answer.right in
+        let own : HasAnswer new after = record {
+          outcome = answer.outcome;
+          told = answer.told;
+          right = record {
+            begun = first_begun c op always w;
+            since = omega (arith, first, stays.since);
+            upto = omega (arith, stays.upto, always.made);
+            placed = stays.placed;
+          };
+          unprepared = answer.unprepared;
+        } in
+        quiet_gives c now o is h room op there arena c.tape.reserved w op.outcome op.prepared
+        (subst (LeavesPairs c o) (sym gives_back) (back_leaves within (subst (Guarantee o c.arena) gives_back guarantee) (subst (λ (v : ArenaView). content_of v ≡ content_of c.arena) gives_back contents)))
+        (ap is_done at_unlock)
+        (subst (λ (p : Phase). MayFollow p w.phase) (sym at_unlock) (subst (MayFollow Unlock) (sym ends) tt))
+        same.writes (subst (λ (p : Phase). IsOfKind p w.writes) (sym ends) tt) refl
+        (subst (λ (p : Phase). Notes (shown c) (view_of op) p w.phase op.outcome) (sym at_unlock) (subst (λ (p : Phase). Notes (shown c) (view_of op) Unlock p op.outcome) (sym ends) refl))
+        (λ unplaced. absurd (let no = sym (ap is_unplaced ends) ∙ unplaced in cc))
+        (λ j inside holds. absurd (back_free within j (subst (λ (v : ArenaView). j < length v.nodes) gives_back inside) (subst (λ (v : ArenaView). (at v j).holder ≡ Some o) gives_back holds)))
+        (subst (λ (p : Phase). IsKeptAt p new o after) (sym ends) own)
+        (let none = unready_none op Unlock at_unlock tt in let no = unready_none after Done ends tt in omega (arith, none, no))
+        (subst (Touches o c.arena) (sym gives_back) (replaced_touches c.arena h.one_border k within (unlocked n) o (inl unlocking.unlocks.held.holder)))
+        true (sym (ap is_done ends))
+
+  module _ (at_judge : op.walk.phase ≡ Judge) where
+    judging : IsJudging c o op
+    judging = subst (λ (p : Phase). IsKeptAt p c o op) at_judge (h.ops o op there).kept
+
+    begun_judge : 0 < op.walk.first
+    begun_judge = always.begun (λ enters. absurd (let no : Judge ≡ Enter = sym at_judge ∙ enters in cc))
+
+    judges_on : op.walk.writes ≡ true
+    judges_on = subst (λ (p : Phase). IsOfKind p op.walk.writes) at_judge always.kind
+
+    -- where it goes on with all ready, by the slot that has its key
+    abbrev to_place : Option ℕ → Phase
+    to_place (Some slot) = Store
+    to_place None = Publish
+
+    judged_to : (slot : Option ℕ) → (after_judge slot op.walk).phase ≡ to_place slot
+    judged_to (Some slot) = refl
+    judged_to None = refl
+
+    judged_place : (slot : Option ℕ) → (after_judge slot op.walk).place.node ≡ k
+    judged_place (Some slot) = refl
+    judged_place None = refl
+
+    -- a put that has made all ready for its write
+    pub judge_ready : (arena : ArenaView) (tape : Kept) (w : Walk) (prepared : Prepared) (slot : Option ℕ) → arena ≡ c.arena → tape ≡ reserving c.tape → w ≡ after_judge slot op.walk → Continues op.walk w → KeptReady w.phase arena o op.task prepared w
+        → Gives now (stepped c arena tape c.accounts o (went op (c.steps + 1) w op.outcome (Some prepared))) o false
+    judge_ready arena tape w prepared slot stays reserves goes same kept =
+        subst (λ (v : ArenaView). Gives now (stepped c v tape c.accounts o after) o false) (sym stays)
+        (subst (λ (t : Kept). Gives now (stepped c c.arena t c.accounts o after) o false) (sym reserves)
+        (quiet_gives c now o is h room op there c.arena (c.tape.reserved + 1) w op.outcome (Some prepared)
+        (leaves_all c o h) (ap is_done at_judge)
+        (subst (λ (p : Phase). MayFollow p w.phase) (sym at_judge) (subst (MayFollow Judge) (sym phase) (follows slot)))
+        same.writes (subst (λ (p : Phase). IsOfKind p w.writes) (sym phase) (kind slot)) refl
+        (subst (λ (p : Phase). Notes (shown c) (view_of op) p w.phase op.outcome) (sym at_judge) (subst (λ (p : Phase). Notes (shown c) (view_of op) Judge p op.outcome) (sym phase) (notes slot)))
+        (λ _. ap is_unplaced at_judge)
+        (λ j inside holds. subst (λ (p : Phase). HoldsAt p w.place.node j) (sym phase) (holds_on slot j (holds_node j inside holds ∙ sym place)))
+        (subst (λ (p : Phase). IsKeptAt p new o after) (sym phase) (own slot (subst (λ (p : Phase). KeptReady p c.arena o op.task prepared after.walk) phase (subst (λ (x : Walk). KeptReady w.phase c.arena o op.task prepared x) (sym whole) (subst (λ (v : ArenaView). KeptReady w.phase v o op.task prepared w) stays kept)))))
+        (let none = unready_none op Judge at_judge tt in let one = ready_one after (to_place slot) phase (ready slot) in omega (arith, none, one))
+        (λ j inside. inl refl)
+        false (sym (ap is_done phase ∙ open_on slot))))
+      where
+        after : Operation
+        after = went op (c.steps + 1) w op.outcome (Some prepared)
+
+        new : Core
+        new = stepped c c.arena (reserving c.tape) c.accounts o after
+
+        phase : w.phase ≡ to_place slot
+        phase = ap (λ (x : Walk). x.phase) goes ∙ judged_to slot
+
+        place : w.place.node ≡ k
+        place = ap (λ (x : Walk). x.place.node) goes ∙ judged_place slot
+
+        whole : after.walk ≡ w
+        whole = walk_same c op always w begun_judge same.first
+
+        holds_node : (j : ℕ) → j < length c.arena.nodes → (at c.arena j).holder ≡ Some o → j ≡ k
+        holds_node j inside holds =
+            let f = h.holders j o inside holds in
+            let it = same_Some f.0 op (sym f.1 ∙ there) in
+            subst (λ (p : Phase). HoldsAt p op.walk.place.node j) at_judge (subst (λ (x : Operation). HoldsAt x.walk.phase x.walk.place.node j) it f.2)
+
+        follows : (slot : Option ℕ) → MayFollow Judge (to_place slot)
+        follows (Some i) = tt
+        follows None = tt
+
+        kind : (slot : Option ℕ) → IsOfKind (to_place slot) w.writes
+        kind (Some i) = same.writes ∙ judges_on
+        kind None = same.writes ∙ judges_on
+
+        notes : (slot : Option ℕ) → Notes (shown c) (view_of op) Judge (to_place slot) op.outcome
+        notes (Some i) = judging.untold
+        notes None = judging.untold
+
+        holds_on : (slot : Option ℕ) (j : ℕ) → j ≡ w.place.node → HoldsAt (to_place slot) w.place.node j
+        holds_on (Some i) j e = e
+        holds_on None j e = e
+
+        ready : (slot : Option ℕ) → is_prepared (to_place slot) ≡ true
+        ready (Some i) = refl
+        ready None = refl
+
+        open_on : (slot : Option ℕ) → is_done (to_place slot) ≡ false
+        open_on (Some i) = refl
+        open_on None = refl
+
+        own : (slot : Option ℕ) → KeptReady (to_place slot) c.arena o op.task prepared after.walk → IsKeptAt (to_place slot) new o after
+        own (Some i) stores = record { prepared = prepared; has = refl; stores = stores; untold = judging.untold }
+        own None publishes = record { prepared = prepared; has = refl; publishes = publishes; untold = judging.untold }
+
+    -- a put that memory stops: its lock is given back in the same step
+    pub judge_refused : (arena : ArenaView) (tape : Kept) (w : Walk) → arena ≡ with_node c.arena op.walk.place.node (unlocked (at c.arena op.walk.place.node)) → tape ≡ c.tape → w ≡ walk_done op.walk → Continues op.walk w
+        → Guarantee o c.arena arena → content_of arena ≡ content_of c.arena
+        → Gives now (stepped c arena tape c.accounts o (went op (c.steps + 1) w (Some (record { reply = NoMemory; at = c.steps + 1 })) op.prepared)) o true
+    judge_refused arena tape w gives_back keeps goes same guarantee contents =
+        let told : Option Outcome = Some (record { reply = NoMemory; at = c.steps + 1 }) in
+        let after = went op (c.steps + 1) w told op.prepared in
+        let new = stepped c arena c.tape c.accounts o after in
+        let within = judging.judges.judged.held.there in
+        let ends : w.phase ≡ Done = ap (λ (x : Walk). x.phase) goes in
+        let own : HasAnswer new after = record {
+          outcome = record { reply = NoMemory; at = c.steps + 1 };
+          told = refl;
+          right = record {
+            begun = first_begun c op always w;
+            since = first_upto c op always w;
+            upto = omega arith;
+            placed = λ real. absurd (cc);
+          };
+          unprepared = judging.unprepared;
+        } in
+        subst (λ (t : Kept). Gives now (stepped c arena t c.accounts o after) o true) (sym keeps)
+        (quiet_gives c now o is h room op there arena c.tape.reserved w told op.prepared
+        (subst (LeavesPairs c o) (sym gives_back) (back_leaves within (subst (Guarantee o c.arena) gives_back guarantee) (subst (λ (v : ArenaView). content_of v ≡ content_of c.arena) gives_back contents)))
+        (ap is_done at_judge)
+        (subst (λ (p : Phase). MayFollow p w.phase) (sym at_judge) (subst (MayFollow Judge) (sym ends) tt))
+        same.writes (subst (λ (p : Phase). IsOfKind p w.writes) (sym ends) tt) (sym (ap told_change judging.untold))
+        (subst (λ (p : Phase). Notes (shown c) (view_of op) p w.phase told) (sym at_judge) (subst (λ (p : Phase). Notes (shown c) (view_of op) Judge p told) (sym ends) refl))
+        (λ _. ap is_unplaced at_judge)
+        (λ j inside holds. absurd (back_free within j (subst (λ (v : ArenaView). j < length v.nodes) gives_back inside) (subst (λ (v : ArenaView). (at v j).holder ≡ Some o) gives_back holds)))
+        (subst (λ (p : Phase). IsKeptAt p new o after) (sym ends) own)
+        (let none = unready_none op Judge at_judge tt in let no = unready_none after Done ends tt in omega (arith, none, no))
+        (subst (Touches o c.arena) (sym gives_back) (replaced_touches c.arena h.one_border k within (unlocked n) o (inl judging.judges.judged.held.holder)))
+        true (sym (ap is_done ends)))
+
+  -- where a tenant has no room, it has as many pairs as its quota
+  no_room_left : (t : ℕ) (a : Option Account) → account_of c.accounts t ≡ a → ¬ HasRoom a → quota_in a ≤ len (tenant_map t (content_of c.arena))
+  no_room_left t None e never = omega arith
+  no_room_left t (Some account) e never = let counted = h.counts t account e in elim (cases_lt account.count account.quota) [
+    | inl lt ↦ absurd (never lt)
+    | inr le ↦ omega (arith, counted.0, le)
+  ]
+
+  module _ (at_publish : op.walk.phase ≡ Publish) (put : IsPut op.task) where
+    publishing : IsPublishing c o op
+    publishing = subst (λ (p : Phase). IsKeptAt p c o op) at_publish (h.ops o op there).kept
+
+    begun_publish : 0 < op.walk.first
+    begun_publish = always.begun (λ enters. absurd (let no : Publish ≡ Enter = sym at_publish ∙ enters in cc))
+
+    publishes_on : op.walk.writes ≡ true
+    publishes_on = subst (λ (p : Phase). IsOfKind p op.walk.writes) at_publish always.kind
+
+    -- a put of a new key that finds its quota full
+    pub publish_full : (arena : ArenaView) (tape : Kept) (accounts : Accounts) (w : Walk) → arena ≡ c.arena → accounts ≡ c.accounts → tape ≡ released c.tape → w ≡ walk_placed op.walk → Continues op.walk w → IsAtUnlock arena o w → get (content_of c.arena) (owned op.task.key) ≡ None → ¬ HasRoom (account_of c.accounts op.task.tenant)
+        → Gives now (stepped c arena tape accounts o (went op (c.steps + 1) w (Some (record { reply = Full; at = c.steps + 1 })) None)) o false
+    publish_full arena tape accounts w stays same_accounts releases goes same unlocks missing no_room =
+        let told : Option Outcome = Some (record { reply = Full; at = c.steps + 1 }) in
+        let after = went op (c.steps + 1) w told None in
+        let new = stepped c c.arena (released c.tape) c.accounts o after in
+        let ends : w.phase ≡ Unlock = ap (λ (x : Walk). x.phase) goes in
+        let place : w.place.node ≡ k = ap (λ (x : Walk). x.place.node) goes in
+        let whole = walk_same c op always w begun_publish same.first in
+        let full = no_room_left op.task.tenant (account_of c.accounts op.task.tenant) refl no_room in
+        let none : get (tenant_map op.task.tenant (content_of c.arena)) (key_of (ask op.task)) ≡ None =
+        get-tenant_map op.task.tenant (content_of c.arena) (key_of (ask op.task)) ∙ ap (get (content_of c.arena)) (sym put.owner) ∙ missing in
+        let is_full = put_full (quota_of (shown c) op.task.tenant) op.task.request (tenant_map op.task.tenant (content_of c.arena)) put.put_is none full in
+        let own : IsUnlocking new o after = record {
+          unlocks = subst (IsAtUnlock c.arena o) (sym whole) (subst (λ (v : ArenaView). IsAtUnlock v o w) stays unlocks);
+          answer = record {
+            outcome = record { reply = Full; at = c.steps + 1 };
+            told = refl;
+            right = record {
+              begun = first_begun c op always w;
+              since = first_upto c op always w;
+              upto = omega arith;
+              placed = λ real. record {
+                changes = λ e. absurd (cc);
+                looks = λ e. is_full ∙ ap (reply_of (quota_of (shown c) op.task.tenant) (ask op.task)) (sym (map_now c h.tape op.task.tenant (c.steps + 1) (omega arith)));
+              };
+            };
+            unprepared = refl;
+          };
+        } in
+        subst (λ (v : ArenaView). Gives now (stepped c v tape accounts o after) o false) (sym stays)
+        (subst (λ (a : Accounts). Gives now (stepped c c.arena tape a o after) o false) (sym same_accounts)
+        (subst (λ (t : Kept). Gives now (stepped c c.arena t c.accounts o after) o false) (sym releases)
+        (quiet_gives c now o is h room op there c.arena (c.tape.reserved - 1) w told None
+        (leaves_all c o h) (ap is_done at_publish)
+        (subst (λ (p : Phase). MayFollow p w.phase) (sym at_publish) (subst (MayFollow Publish) (sym ends) tt))
+        same.writes (subst (λ (p : Phase). IsOfKind p w.writes) (sym ends) (same.writes ∙ publishes_on)) (sym (ap told_change publishing.untold))
+        (subst (λ (p : Phase). Notes (shown c) (view_of op) p w.phase told) (sym at_publish) (subst (λ (p : Phase). Notes (shown c) (view_of op) Publish p told) (sym ends) (inr refl)))
+        (λ unplaced. absurd (let no = sym (ap is_unplaced ends) ∙ unplaced in cc))
+        (λ j inside holds. subst (λ (p : Phase). HoldsAt p w.place.node j) (sym ends) (holds_node j inside holds ∙ sym place))
+        (subst (λ (p : Phase). IsKeptAt p new o after) (sym ends) own)
+        (let one = ready_one op Publish at_publish refl in let no = unready_none after Unlock ends tt in let some = room_for c h o op Publish there at_publish refl in omega (arith, one, no, some))
+        (λ j inside. inl refl)
+        false (sym (ap is_done ends)))))
+      where
+        holds_node : (j : ℕ) → j < length c.arena.nodes → (at c.arena j).holder ≡ Some o → j ≡ k
+        holds_node j inside holds =
+            let f = h.holders j o inside holds in
+            let it = same_Some f.0 op (sym f.1 ∙ there) in
+            subst (λ (p : Phase). HoldsAt p op.walk.place.node j) at_publish (subst (λ (x : Operation). HoldsAt x.walk.phase x.walk.place.node j) it f.2)

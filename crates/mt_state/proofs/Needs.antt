@@ -1,0 +1,138 @@
+-- What the calls of a put's phases ask, by the invariant: for `State::lock`, `judge`, `store`, `publish` and `unlock`.
+use Rattle.std.proofs.Common.{◌≡◌, ℕ, ◌+◌, ◌<◌, inl, inr, Bool, true, false, not, length, Some, None, IsSome, is_some, refl, sym, ap, subst, ◌∙◌, arith}
+use Rattle.std.proofs.lemmas.Option.{same_Some}
+use Rattle.mt_version.specs.Changes.{CanUnlock}
+use Rattle.mt_rows.specs.Maps.{is_get}
+use Rattle.mt_tape.specs.Tapes.{last_write}
+use Rattle.mt_arena.specs.Arena.{IsArena}
+use Rattle.mt_arena.specs.Accesses.{at}
+use Rattle.mt_operation.specs.declared.walk.Phase.{Phase}
+use Rattle.mt_operation.specs.declared.walk.Phase.TheVariants.{Lock, Judge, Store, Publish, Unlock, Done}
+use Rattle.mt_operation.specs.declared.prepared.Prepared.{Prepared}
+use Rattle.mt_operation.specs.declared.operation.Operation.{Operation}
+use Rattle.mt_operation.specs.Tasks.{ask}
+use Rattle.mt_operation.specs.Operations.{view_of, is_done}
+use Rattle.mt_operation.specs.Tables.{op_at as operation_at}
+use Rattle.mt_descent.specs.Kept.{IsAtBorder, KeptAt, HoldsNothing}
+use Rattle.mt_insert.specs.Puts.{IsPut}
+use Rattle.mt_insert.specs.Kept.{HoldsBorder, IsAtStore, IsAtPublish, IsAtUnlock}
+use Rattle.mt_insert.specs.Moves.{FitsIn}
+use Rattle.mt_insert.proofs.Places.{none_here}
+use Rattle.mt_state.specs.Views.{Core, shown, past_of}
+use Rattle.mt_state.specs.Promises.{IsInTheWay, IsHeldByOther}
+use Rattle.mt_state.specs.Kept.{IsOfKind, IsOpenOperation, IsOnItsWay, IsJudging, IsStoring, IsPublishing, IsUnlocking, IsKeptAt}
+use Rattle.mt_state.specs.Invariant.{HoldsAt, StateInvariant, is_prepared, is_unplaced}
+use Rattle.mt_state.proofs.Shown.{shown_there}
+use Rattle.mt_state.proofs.OneNode.{only_number}
+use Rattle.mt_state.proofs.Locking.{may_unlock, room_for}
+
+-- a phase of writes alone
+abbrev pub IsOfWrites : Phase → Type 0
+IsOfWrites Lock = Unit {0}
+IsOfWrites Judge = Unit {0}
+IsOfWrites Store = Unit {0}
+IsOfWrites Publish = Unit {0}
+IsOfWrites Unlock = Unit {0}
+IsOfWrites _ = ⊥
+
+writes_of : (p : Phase) (writes : Bool) → IsOfWrites p → IsOfKind p writes → writes ≡ true
+writes_of Lock writes of_writes kind = kind
+writes_of Judge writes of_writes kind = kind
+writes_of Store writes of_writes kind = kind
+writes_of Publish writes of_writes kind = kind
+writes_of Unlock writes of_writes kind = kind
+writes_of _ writes of_writes kind = absurd of_writes
+
+-- an operation that writes is no get
+no_get : (b writes : Bool) → writes ≡ not b → writes ≡ true → b ≡ false
+no_get true writes e f = absurd (let no = sym e ∙ f in cc)
+no_get false writes e f = refl
+
+-- who holds a node has a step left
+holder_open : (p : Phase) (node k : ℕ) → HoldsAt p node k → is_done p ≡ false
+holder_open Done node k holds = absurd holds
+holder_open _ node k holds = refl
+
+module _ (c : Core) (o : ℕ) (h : StateInvariant c) (op : Operation) (there : operation_at c.table o ≡ Some op) where
+  always : IsOpenOperation c op
+  always = (h.ops o op there).always
+
+  -- the operation is a put
+  pub put_at : (p : Phase) → op.walk.phase ≡ p → IsOfWrites p → IsPut op.task
+  put_at p at_p of_writes = record {
+    put_is = no_get (is_get (ask op.task)) op.walk.writes always.writes (writes_of p op.walk.writes of_writes (subst (λ (q : Phase). IsOfKind q op.walk.writes) at_p always.kind));
+    owner = always.owner;
+  }
+
+  -- the next step is later than all writes
+  pub step_later : last_write c.tape < c.steps + 1
+  step_later = omega (arith, h.tape.made)
+
+  -- it stands at a border node, and holds nothing
+  pub lock_kept : op.walk.phase ≡ Lock → IsAtBorder c.arena op.task.key op.walk
+  lock_kept at_lock =
+      let way : IsOnItsWay c op = subst (λ (p : Phase). IsKeptAt p c o op) at_lock (h.ops o op there).kept in
+      subst (λ (p : Phase). KeptAt p c.arena (past_of c) op.task.key None op.walk) at_lock way.kept
+
+  pub lock_free_hands : op.walk.phase ≡ Lock → HoldsNothing c.arena o
+  lock_free_hands at_lock k within held =
+      let f = h.holders k o within held in
+      let same = same_Some f.0 op (sym f.1 ∙ there) in
+      subst (λ (p : Phase). HoldsAt p op.walk.place.node k) at_lock (subst (λ (x : Operation). HoldsAt x.walk.phase x.walk.place.node k) same f.2)
+
+  -- whoever holds the node is another operation, which has a step left
+  pub lock_blocked : op.walk.phase ≡ Lock → (holder : ℕ) → (at c.arena op.walk.place.node).holder ≡ Some holder → IsHeldByOther (shown c) o holder
+  lock_blocked at_lock holder held =
+      let within = (lock_kept at_lock).covers.remembered.there in
+      let f = h.holders op.walk.place.node holder within held in
+      record {
+        other = λ same. lock_free_hands at_lock op.walk.place.node within (held ∙ ap Some same);
+        unfinished = (view_of f.0, shown_there c.table holder f.0 f.1, holder_open f.0.walk.phase f.0.walk.place.node op.walk.place.node f.2);
+        op = view_of op;
+        there = shown_there c.table o op there;
+        holds = subst (λ (p : Phase). IsInTheWay c.arena p holder) (sym at_lock) (op.walk.place.node, within, held);
+      }
+
+  -- it holds its border node
+  pub judge_kept : op.walk.phase ≡ Judge → HoldsBorder c.arena o op.task.key op.walk
+  judge_kept at_judge = let k : IsJudging c o op = subst (λ (p : Phase). IsKeptAt p c o op) at_judge (h.ops o op there).kept in k.judges
+
+  -- in which its key ends, and has room where it is missing
+  pub judge_fits : op.walk.phase ≡ Judge → IsArena c.arena.nodes c.arena.trees → FitsIn (at c.arena op.walk.place.node) op.task.key op.walk.layer
+  judge_fits at_judge arena = record {
+    ends = let short = always.short in omega (arith, short);
+    room = λ missing. elim (h.one_put.room o op there (put_at Judge at_judge tt).put_is (ap is_unplaced at_judge)) [
+      | inl few ↦ subst (λ k. length (at c.arena k).slots < 15) (sym (only_number c.arena h.one_border op.walk.place.node (judge_kept at_judge).judged.held.there)) few
+      | inr some ↦ absurd (let no = sym (ap is_some (none_here c.arena o op.task.key op.walk arena (judge_kept at_judge) missing)) ∙ some in cc)
+    ];
+  }
+
+  -- what it has made ready is the put over its key's row
+  pub store_kept : op.walk.phase ≡ Store → (prepared : Prepared) → op.prepared ≡ Some prepared → IsAtStore c.arena o op.task prepared op.walk
+  store_kept at_store prepared has =
+      let k : IsStoring c o op = subst (λ (p : Phase). IsKeptAt p c o op) at_store (h.ops o op there).kept in
+      subst (λ (x : Prepared). IsAtStore c.arena o op.task x op.walk) (same_Some k.prepared prepared (sym k.has ∙ has)) k.stores
+
+  -- or over no row
+  pub publish_kept : op.walk.phase ≡ Publish → (prepared : Prepared) → op.prepared ≡ Some prepared → IsAtPublish c.arena o op.task prepared op.walk
+  publish_kept at_publish prepared has =
+      let k : IsPublishing c o op = subst (λ (p : Phase). IsKeptAt p c o op) at_publish (h.ops o op there).kept in
+      subst (λ (x : Prepared). IsAtPublish c.arena o op.task x op.walk) (same_Some k.prepared prepared (sym k.has ∙ has)) k.publishes
+
+  -- it is there
+  pub store_ready : op.walk.phase ≡ Store → IsSome op.prepared
+  store_ready at_store = let k : IsStoring c o op = subst (λ (p : Phase). IsKeptAt p c o op) at_store (h.ops o op there).kept in ap is_some k.has
+
+  pub publish_ready : op.walk.phase ≡ Publish → IsSome op.prepared
+  publish_ready at_publish = let k : IsPublishing c o op = subst (λ (p : Phase). IsKeptAt p c o op) at_publish (h.ops o op there).kept in ap is_some k.has
+
+  -- and the tape has room for its write
+  pub write_room : (p : Phase) → op.walk.phase ≡ p → is_prepared p ≡ true → 0 < c.tape.reserved
+  write_room p at_p ready = room_for c h o op p there at_p ready
+
+  -- it may give its lock back
+  pub unlock_kept : op.walk.phase ≡ Unlock → IsAtUnlock c.arena o op.walk
+  unlock_kept at_unlock = let k : IsUnlocking c o op = subst (λ (p : Phase). IsKeptAt p c o op) at_unlock (h.ops o op there).kept in k.unlocks
+
+  pub unlock_room : op.walk.phase ≡ Unlock → CanUnlock (at c.arena op.walk.place.node).version
+  unlock_room at_unlock = may_unlock c h op.walk.place.node (unlock_kept at_unlock).held.there

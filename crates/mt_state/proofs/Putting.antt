@@ -1,0 +1,331 @@
+-- The steps that place a put: it stores a row over the one of its key, or makes a new pair live.
+use Rattle.std.proofs.Common.{◌≡◌, ◌≢◌, ℕ, ◌+◌, ◌<◌, inl, inr, true, false, cond, List, length, get_or, set, get_or-set_same, get_or-set_other, Option, Some, None, is_some, refl, sym, ap, subst, ◌∙◌, arith}
+use Rattle.std.specs.Prelude.{◌^◌}
+use Rattle.std.specs.Option.{option_map}
+use Rattle.std.specs.FinMap.{get, len, insert}
+use Rattle.std.proofs.lemmas.Bool.{cases_eq}
+use Rattle.std.proofs.lemmas.Option.{same_Some}
+use Rattle.std.proofs.lemmas.List.{length-set}
+use Rattle.mt_slices.specs.Slices.{suffix_of}
+use Rattle.mt_rows.specs.declared.reply.Reply.{Reply}
+use Rattle.mt_rows.specs.declared.reply.Reply.TheVariants.{New, Replaced}
+use Rattle.mt_rows.specs.declared.tenants.Account.{Account}
+use Rattle.mt_rows.specs.Rows.{Bytes, Columns}
+use Rattle.mt_rows.specs.Commands.{key_of}
+use Rattle.mt_rows.specs.Maps.{is_change, reply_of, map_after}
+use Rattle.mt_rows.specs.Accounts.{Accounts, account_of, HasRoom, one_more, OthersStay}
+use Rattle.mt_rows.specs.Tenants.{Contents, tenant_map}
+use Rattle.mt_rows.proofs.ContentLaws.{get-tenant_map}
+use Rattle.mt_border.specs.declared.entry.Pair.{Pair}
+use Rattle.mt_border.specs.declared.entry.Entry.{Entry}
+use Rattle.mt_border.specs.declared.entry.Held.TheVariants.{Stable}
+use Rattle.mt_border.specs.Entry.{pair_of}
+use Rattle.mt_border.specs.Entries.{IsBorder, replaced, with_entry}
+use Rattle.mt_border.specs.Node.{Node as BorderNode, Rewrites}
+use Rattle.mt_border.specs.Contents.{owned, AreKeys, AllStamped}
+use Rattle.mt_border.proofs.Edits.{any_entry, replaced_at as set_at}
+use Rattle.mt_border.proofs.ContentsMaps.{len_new, len_there, len_other}
+use Rattle.mt_border.proofs.ContentsStamps.{stamped_store, stamped_publish}
+use Rattle.mt_tape.specs.Tapes.{Kept}
+use Rattle.mt_arena.specs.NodeView.{NodeView}
+use Rattle.mt_arena.specs.Forests.{tree_at, layer_of}
+use Rattle.mt_arena.specs.Layers.{slot_at}
+use Rattle.mt_arena.specs.Contents.{counts}
+use Rattle.mt_arena.specs.Edits.{with_slots}
+use Rattle.mt_arena.specs.Arena.{ArenaView, IsArena, content_of, Guarantee}
+use Rattle.mt_arena.specs.Accesses.{at, tree_of, with_node, with_row}
+use Rattle.mt_arena.proofs.Steps.{keys_of}
+use Rattle.mt_operation.specs.declared.walk.Phase.{Phase}
+use Rattle.mt_operation.specs.declared.walk.Phase.TheVariants.{Enter, Store, Publish, Unlock}
+use Rattle.mt_operation.specs.declared.walk.Walk.{Walk}
+use Rattle.mt_operation.specs.declared.operation.Operation.{Operation}
+use Rattle.mt_operation.specs.Tasks.{ask}
+use Rattle.mt_operation.specs.Operations.{view_of, is_done}
+use Rattle.mt_operation.specs.Tables.{op_at as operation_at}
+use Rattle.mt_descent.specs.Moves.{Continues}
+use Rattle.mt_insert.specs.Puts.{IsPut, row_over}
+use Rattle.mt_insert.specs.Kept.{HoldsBorder, IsAtUnlock}
+use Rattle.mt_insert.specs.Moves.{walk_placed, entry_of, pushed, Places}
+use Rattle.mt_insert.proofs.Places.{may_store, may_publish}
+use Rattle.mt_state.specs.Views.{StateView, Core, shown, quota_of, quota_in}
+use Rattle.mt_state.specs.Steps.{MayFollow}
+use Rattle.mt_state.specs.Notes.{Notes}
+use Rattle.mt_state.specs.Kept.{IsOfKind, IsOpenOperation, IsStoring, IsPublishing, IsUnlocking, IsKeptAt, IsPlacedOnce, IsKeptOf}
+use Rattle.mt_state.specs.Invariant.{IsStampOf, IsCountedUpTo, HoldsAt, StateInvariant, is_prepared, is_unplaced}
+use Rattle.mt_state.proofs.Replies.{put_there, put_new}
+use Rattle.mt_state.proofs.Telling.{Gives, gives}
+use Rattle.mt_state.proofs.Placing.{Counts, next_write, placed, PlacesPair, untouched_beside, untouched_now, placed_move, placed_right, is_placing, placed_once}
+use Rattle.mt_state.proofs.Moved.{went, first_begun, first_upto, open_moved, has_moved}
+use Rattle.mt_state.proofs.Still.{floor_made, unready_none}
+use Rattle.mt_state.proofs.Reading.{walk_same}
+use Rattle.mt_state.proofs.OneNode.{stepped, replaced_at, replaced_border, replaced_touches, few_steps}
+use Rattle.mt_state.proofs.Locking.{ready_one, room_for}
+
+-- one pair more leaves the quota, and the account there
+quota_more : (a : Option Account) → quota_in (option_map one_more a) ≡ quota_in a
+quota_more None = refl
+quota_more (Some account) = refl
+
+some_more : (a : Option Account) → is_some (option_map one_more a) ≡ is_some a
+some_more None = refl
+some_more (Some account) = refl
+
+one_less_of : (was : Option Account) (a : Account) → option_map one_more was ≡ Some a → (b : Account) × (was ≡ Some b) × (one_more b ≡ a)
+one_less_of None a e = absurd (cc)
+one_less_of (Some b) a e = (b, refl, same_Some _ _ e)
+
+-- there is room where fewer pairs are than the quota
+room_left : (account : Option Account) (count : ℕ) → HasRoom account → ((a : Account) → account ≡ Some a → a.count ≡ count) → count < quota_in account
+room_left None count room is = absurd room
+room_left (Some a) count room is = omega (arith, room, is a refl)
+
+-- the slots of a border node with another row in one of them
+module _ (n : NodeView) (slot : ℕ) (pair : Pair) (row : Columns) (stamp : ℕ) (border : IsBorder n.slots) (live : slot < length n.slots) where
+  abbrev pub as_border : List Entry → BorderNode
+  as_border slots = record { slots = slots; next = None; previous = None; parent = None; low = 0; high = None; version = n.version }
+
+  abbrev e : Entry
+  e = with_row (slot_at n slot) pair row stamp
+
+  set_is : replaced n.slots e ≡ set n.slots slot e
+  set_is = set_at n.slots slot e any_entry border.rising live refl
+
+  pub rewrites : Rewrites (as_border n.slots) (as_border (replaced n.slots e)) slot (Stable (record pair { row = row; stamp = stamp }))
+  rewrites = record {
+    entries = refl;
+    here = ap (λ (l : List Entry). get_or l slot any_entry) set_is ∙ get_or-set_same n.slots slot e any_entry live;
+    live = λ other. let same = ap (λ (l : List Entry). length l) set_is ∙ length-set n.slots slot e in (λ lt. omega (arith, same, lt), λ lt. omega (arith, same, lt));
+    others = λ other differ. ap (λ (l : List Entry). get_or l other any_entry) set_is ∙ get_or-set_other n.slots slot other e any_entry differ;
+    rest = refl;
+  }
+
+module _ (c : Core) (now : StateView) (o : ℕ) (is : shown c ≡ now) (h : StateInvariant c) (room : now.steps < 2 ^ 59) (op : Operation) (there : operation_at c.table o ≡ Some op) (put : IsPut op.task) where
+  abbrev k : ℕ
+  k = op.walk.place.node
+
+  abbrev n : NodeView
+  n = at c.arena op.walk.place.node
+
+  always : IsOpenOperation c op
+  always = (h.ops o op there).always
+
+  abbrev key : ℕ × Bytes
+  key = owned op.task.key
+
+  -- how many pairs each tenant has once the put's row is inserted at its key
+  more_at : (all : Contents) (row : Columns) → all ≡ insert (content_of c.arena) (op.task.tenant, key_of (ask op.task)) row → (t : ℕ) → len (tenant_map t all) ≡ len (tenant_map t (insert (content_of c.arena) (op.task.tenant, key_of (ask op.task)) row))
+  more_at all row e t = ap (λ x. len (tenant_map t x)) e
+
+  -- the counts after a put over a row
+  counted_there : (all : Contents) (row before : Columns) → all ≡ insert (content_of c.arena) (op.task.tenant, key_of (ask op.task)) row → get (content_of c.arena) key ≡ Some before → Counts c c.accounts all
+  counted_there all row before e was_there = record {
+    quotas = λ t. refl;
+    there = λ t some. some;
+    counted = λ t a e_at.
+        let was = h.counts t a e_at in (
+          was.0 ∙ sym (more_at all row e t ∙ elim (cases_eq t op.task.tenant) [
+            | inl same ↦ ap (λ u. len (tenant_map u (insert (content_of c.arena) (op.task.tenant, key_of (ask op.task)) row))) same
+                ∙ len_there op.task.tenant (key_of (ask op.task)) (content_of c.arena) before row (ap (get (content_of c.arena)) (sym put.owner) ∙ was_there)
+                ∙ ap (λ u. len (tenant_map u (content_of c.arena))) (sym same)
+            | inr other ↦ len_other t op.task.tenant (key_of (ask op.task)) (content_of c.arena) row (λ u. other (sym u))
+          ]),
+          was.1,
+        );
+  }
+
+  -- and after a put of a new key
+  counted_new : (accounts : Accounts) (all : Contents) (row : Columns) → all ≡ insert (content_of c.arena) (op.task.tenant, key_of (ask op.task)) row → get (content_of c.arena) key ≡ None
+      → HasRoom (account_of c.accounts op.task.tenant) → account_of accounts op.task.tenant ≡ option_map one_more (account_of c.accounts op.task.tenant) → OthersStay c.accounts accounts op.task.tenant → Counts c accounts all
+  counted_new accounts all row e none has_room more others = record {
+    quotas = λ t. elim (cases_eq t op.task.tenant) [
+      | inl same ↦ ap (λ u. quota_in (account_of accounts u)) same ∙ ap quota_in more ∙ quota_more (account_of c.accounts op.task.tenant) ∙ ap (λ u. quota_in (account_of c.accounts u)) (sym same)
+      | inr other ↦ ap quota_in (others t other)
+    ];
+    there = λ t some. elim (cases_eq t op.task.tenant) [
+      | inl same ↦ ap (λ u. is_some (account_of accounts u)) same ∙ ap is_some more ∙ some_more (account_of c.accounts op.task.tenant) ∙ ap (λ u. is_some (account_of c.accounts u)) (sym same) ∙ some
+      | inr other ↦ ap is_some (others t other) ∙ some
+    ];
+    counted = λ t a e_at.
+        let now_len = more_at all row e t in
+        elim (cases_eq t op.task.tenant) [
+          | inl same ↦
+              let old = one_less_of (account_of c.accounts op.task.tenant) a (sym more ∙ ap (account_of accounts) (sym same) ∙ e_at) in
+              let was = h.counts op.task.tenant old.0 old.1 in
+              let grown = len_new op.task.tenant (key_of (ask op.task)) (content_of c.arena) row (ap (get (content_of c.arena)) (sym put.owner) ∙ none) in
+              let less_old = subst HasRoom old.1 has_room in
+              let here = ap (λ u. len (tenant_map u (insert (content_of c.arena) (op.task.tenant, key_of (ask op.task)) row))) same in
+              (omega (arith, now_len, here, grown, was.0, ap (λ (x : Account). x.count) old.2), omega (arith, less_old, ap (λ (x : Account). x.count) old.2, ap (λ (x : Account). x.quota) old.2))
+          | inr other ↦
+              let was = h.counts t a (sym (others t other) ∙ e_at) in
+              (was.0 ∙ sym (now_len ∙ len_other t op.task.tenant (key_of (ask op.task)) (content_of c.arena) row (λ u. other (sym u))), was.1)
+        ];
+  }
+
+  -- the operation's node with other slots, which have the stamps that they should have
+  module _ (slots : List Entry) (accounts : Accounts) (w : Walk) (reply : Reply) where
+    abbrev y : NodeView
+    y = with_slots n slots
+
+    abbrev the_arena : ArenaView
+    the_arena = with_node c.arena k y
+
+    abbrev the_after : Operation
+    the_after = went op (c.steps + 1) w (Some (record { reply = reply; at = c.steps + 1 })) None
+
+    abbrev the_new : Core
+    the_new = placed c the_arena accounts o op the_after
+
+    abbrev the_row : Columns
+    the_row = row_over op.task (get (content_of c.arena) key)
+
+    module _ (within : k < length c.arena.nodes) (level : n.level ≡ 0) (guarantee : Guarantee o c.arena the_arena)
+        (contents : content_of the_arena ≡ insert (content_of c.arena) (op.task.tenant, key_of (ask op.task)) the_row) (counted : Counts c accounts (content_of the_arena))
+        (stamps : AllStamped (IsStampOf c.steps c.tape) (tree_of c.arena k).prefix n.slots → AllStamped (IsStampOf (c.steps + 1) (pushed c.tape (next_write c op))) (tree_of c.arena k).prefix slots) where
+      places_pair : PlacesPair c o op the_after the_arena accounts
+      places_pair = record {
+        guarantee = guarantee;
+        contents = contents;
+        stamps = λ j inside is_counted.
+            let r = replaced_at c.arena h.one_border k within y j inside in
+            subst (λ (m : NodeView). AllStamped (IsStampOf (c.steps + 1) (pushed c.tape (next_write c op))) (tree_at c.arena.trees m.tree).prefix m.slots) (sym r.2)
+            (stamps (h.stamps k within (ap (counts c.arena.trees) (sym r.2) ∙ is_counted)));
+        versions = λ j inside. subst (IsCountedUpTo (c.steps + 1)) (sym (replaced_at c.arena h.one_border k within y j inside).2)
+            (let was = h.versions k within in record { inserts = omega (arith, was.inserts); splits = omega (arith, was.splits) });
+        one_border = replaced_border c.arena h.one_border k within y level;
+        counts = counted;
+      }
+
+      -- a step that places the put's row
+      placed_gives : (changes : is_change reply ≡ true)
+          → (told : reply ≡ reply_of (quota_of (shown c) op.task.tenant) (ask op.task) (tenant_map op.task.tenant (content_of c.arena)))
+          → (makes : map_after (quota_of (shown c) op.task.tenant) (ask op.task) (tenant_map op.task.tenant (content_of c.arena)) ≡ insert (tenant_map op.task.tenant (content_of c.arena)) (key_of (ask op.task)) the_row)
+          → (p : Phase) → op.walk.phase ≡ p → is_prepared p ≡ true → is_done p ≡ false → p ≢ Enter → MayFollow p Unlock → op.walk.writes ≡ true
+          → Notes (shown c) (view_of op) p Unlock (Some (record { reply = reply; at = c.steps + 1 }))
+          → w ≡ walk_placed op.walk → Continues op.walk w → n.holder ≡ Some o → IsAtUnlock the_arena o w → Gives now the_new o false
+      placed_gives changes told makes p at_p ready left later follows writes notes goes same holder unlocks =
+          let begun = always.begun (λ enters. later (sym at_p ∙ enters)) in
+          let whole = walk_same c op always w begun same.first in
+          let ends : w.phase ≡ Unlock = ap (λ (x : Walk). x.phase) goes in
+          let place : w.place.node ≡ k = ap (λ (x : Walk). x.place.node) goes in
+          let pair = places_pair in
+          let own : IsUnlocking the_new o the_after = record {
+            unlocks = subst (IsAtUnlock the_arena o) (sym whole) unlocks;
+            answer = record {
+              outcome = record { reply = reply; at = c.steps + 1 };
+              told = refl;
+              right = placed_right c o op the_after the_arena accounts h put pair reply changes told makes (first_begun c op always w) (first_upto c op always w) refl refl;
+              unprepared = refl;
+            };
+          } in
+          let kept : IsKeptOf the_new o the_after = record {
+            always = open_moved c op always w the_new (Some (record { reply = reply; at = c.steps + 1 })) None refl refl counted.there (floor_made c h.tape) same.writes
+                (subst (λ (q : Phase). IsOfKind q w.writes) (sym ends) (same.writes ∙ writes));
+            kept = subst (λ (q : Phase). IsKeptAt q the_new o the_after) (sym ends) own;
+            placed = λ m placed_at. subst (IsPlacedOnce the_new the_after) (same_Some (c.steps + 1) m (ap (λ b. cond b (Some (c.steps + 1)) None) (sym changes) ∙ placed_at)) (placed_once c o op the_after the_arena accounts h put pair refl);
+          } in
+          gives now c the_new o op the_after is h (few_steps c now o is h room op there)
+          (placed_move c o op the_after the_arena accounts h put pair (record {
+            there = there;
+            unfinished = ap is_done at_p ∙ left;
+            put = put;
+            task = refl;
+            is_placed = ap is_unplaced ends;
+            held = λ j inside holds. subst (λ (q : Phase). HoldsAt q w.place.node j) (sym ends) ((replaced_at c.arena h.one_border k within y j inside).0 ∙ sym place);
+            kept = kept;
+            reserved = let one = ready_one op p at_p ready in let no = unready_none the_after Unlock ends tt in let some = room_for c h o op p there at_p ready in omega (arith, one, no, some);
+          }))
+          (record {
+            logs = refl;
+            moves = has_moved c op always w (Some (record { reply = reply; at = c.steps + 1 })) None (subst (λ (q : Phase). MayFollow q w.phase) (sym at_p) (subst (MayFollow p) (sym ends) follows));
+            notes = subst (λ (q : Phase). Notes (shown c) (view_of op) q w.phase (Some (record { reply = reply; at = c.steps + 1 }))) (sym at_p)
+                (subst (λ (q : Phase). Notes (shown c) (view_of op) p q (Some (record { reply = reply; at = c.steps + 1 }))) (sym ends) notes);
+            touches = replaced_touches c.arena h.one_border k within y o (inl holder);
+            effect = inr (is_placing c o op the_after the_arena accounts h put pair reply changes told makes refl);
+          })
+          false (sym (ap is_done ends))
+
+  -- the slots of a held border node, and their keys, which are of its tree
+  module _ (arena_is : IsArena c.arena.nodes c.arena.trees) (holds : HoldsBorder c.arena o op.task.key op.walk) where
+    within_here : k < length c.arena.nodes
+    within_here = holds.judged.held.there
+
+    border_here : IsBorder n.slots
+    border_here = (arena_is.nodes.each k within_here).slots.border
+
+    keys_here : AreKeys (tree_of c.arena k).prefix (layer_of (tree_of c.arena k).prefix) n.slots
+    keys_here = (keys_of c.arena.nodes c.arena.trees k within_here arena_is.forest).keys
+
+  module _ (at_store : op.walk.phase ≡ Store) where
+    storing : IsStoring c o op
+    storing = subst (λ (p : Phase). IsKeptAt p c o op) at_store (h.ops o op there).kept
+
+    stores_on : op.walk.writes ≡ true
+    stores_on = subst (λ (p : Phase). IsOfKind p op.walk.writes) at_store always.kind
+
+    -- a put that writes its row over the one of its key
+    pub store_done : (arena : ArenaView) (tape : Kept) (w : Walk) (row before : Columns) → IsArena c.arena.nodes c.arena.trees
+        → ((pair : Pair) → (slot_at (at c.arena op.walk.place.node) op.walk.slot).held ≡ Stable pair → arena ≡ with_node c.arena op.walk.place.node (with_slots (at c.arena op.walk.place.node)
+        (replaced (at c.arena op.walk.place.node).slots (with_row (slot_at (at c.arena op.walk.place.node) op.walk.slot) pair row (c.steps + 1)))))
+        → get (content_of c.arena) (owned op.task.key) ≡ Some before → Places op.task (c.steps + 1) c.arena arena c.tape tape → w ≡ walk_placed op.walk → Continues op.walk w → Guarantee o c.arena arena → IsAtUnlock arena o w
+        → Gives now (stepped c arena tape c.accounts o (went op (c.steps + 1) w (Some (record { reply = Replaced; at = c.steps + 1 })) None)) o false
+    store_done arena tape w row before arena_is wrote was_there places goes same guarantee unlocks =
+        let s = storing.stores in
+        let j = s.holds.judged in
+        let slots = replaced n.slots (with_row (slot_at n op.walk.slot) s.pair row (c.steps + 1)) in
+        let after = went op (c.steps + 1) w (Some (record { reply = Replaced; at = c.steps + 1 })) None in
+        let takes : arena ≡ with_node c.arena k (with_slots n slots) = wrote s.pair s.stable in
+        let may = may_store c.arena o op.task.key op.walk arena_is s.holds op.walk.slot s.pair s.in_slot s.stable in
+        let contents = subst (λ (v : ArenaView). content_of v ≡ insert (content_of c.arena) (op.task.tenant, key_of (ask op.task)) (row_over op.task (get (content_of c.arena) key))) takes places.contents in
+        let row_there : get (tenant_map op.task.tenant (content_of c.arena)) (key_of (ask op.task)) ≡ Some before =
+        get-tenant_map op.task.tenant (content_of c.arena) (key_of (ask op.task)) ∙ ap (get (content_of c.arena)) (sym put.owner) ∙ was_there in
+        let replies = put_there (quota_of (shown c) op.task.tenant) op.task.request (tenant_map op.task.tenant (content_of c.arena)) before put.put_is row_there in
+        let makes = replies.1 ∙ ap (λ (b : Option Columns). insert (tenant_map op.task.tenant (content_of c.arena)) (key_of (ask op.task)) (row_over op.task b)) (sym was_there) in
+        let stamps = stamped_store (IsStampOf c.steps c.tape) (IsStampOf (c.steps + 1) (pushed c.tape (next_write c op)))
+        (as_border n op.walk.slot s.pair row (c.steps + 1) (border_here arena_is s.holds) s.in_slot.in_range n.slots)
+        (as_border n op.walk.slot s.pair row (c.steps + 1) (border_here arena_is s.holds) s.in_slot.in_range slots)
+        op.walk.slot s.pair row (c.steps + 1) (border_here arena_is s.holds) s.in_slot.in_range (ap pair_of s.stable)
+        (rewrites n op.walk.slot s.pair row (c.steps + 1) (border_here arena_is s.holds) s.in_slot.in_range)
+        (tree_of c.arena k).prefix (layer_of (tree_of c.arena k).prefix) op.task.key (keys_here arena_is s.holds) may.stands.has
+        (untouched_beside c op h put) (untouched_now c op h put) in
+        subst (λ (v : ArenaView). Gives now (stepped c v tape c.accounts o after) o false) (sym takes)
+        (subst (λ (t : Kept). Gives now (stepped c (with_node c.arena k (with_slots n slots)) t c.accounts o after) o false) (sym places.tape)
+        (placed_gives slots c.accounts w Replaced j.held.there j.at_border.border (subst (Guarantee o c.arena) takes guarantee) contents
+        (counted_there (content_of (with_node c.arena k (with_slots n slots))) (row_over op.task (get (content_of c.arena) key)) before contents was_there) stamps
+        refl replies.0 makes Store at_store refl refl (λ e. cc) tt stores_on refl goes same j.held.holder (subst (λ (v : ArenaView). IsAtUnlock v o w) takes unlocks)))
+
+  module _ (at_publish : op.walk.phase ≡ Publish) where
+    publishing : IsPublishing c o op
+    publishing = subst (λ (p : Phase). IsKeptAt p c o op) at_publish (h.ops o op there).kept
+
+    publishes_on : op.walk.writes ≡ true
+    publishes_on = subst (λ (p : Phase). IsOfKind p op.walk.writes) at_publish always.kind
+
+    -- a put of a new key that finds room
+    pub publish_done : (arena : ArenaView) (tape : Kept) (accounts : Accounts) (w : Walk) (row : Columns) → IsArena c.arena.nodes c.arena.trees
+        → arena ≡ with_node c.arena op.walk.place.node (with_slots (at c.arena op.walk.place.node) (with_entry (at c.arena op.walk.place.node).slots (entry_of op.task.key op.walk.layer row (c.steps + 1))))
+        → get (content_of c.arena) (owned op.task.key) ≡ None → HasRoom (account_of c.accounts op.task.tenant)
+        → account_of accounts op.task.tenant ≡ option_map one_more (account_of c.accounts op.task.tenant) → OthersStay c.accounts accounts op.task.tenant
+        → Places op.task (c.steps + 1) c.arena arena c.tape tape → w ≡ walk_placed op.walk → Continues op.walk w → Guarantee o c.arena arena → IsAtUnlock arena o w
+        → Gives now (stepped c arena tape accounts o (went op (c.steps + 1) w (Some (record { reply = New; at = c.steps + 1 })) None)) o false
+    publish_done arena tape accounts w row arena_is takes missing has_room more others places goes same guarantee unlocks =
+        let s = publishing.publishes in
+        let j = s.holds.judged in
+        let added = entry_of op.task.key op.walk.layer row (c.steps + 1) in
+        let slots = with_entry n.slots added in
+        let after = went op (c.steps + 1) w (Some (record { reply = New; at = c.steps + 1 })) None in
+        let may = may_publish c.arena o op.task.key op.walk arena_is s.holds row (c.steps + 1) s.missing s.room in
+        let contents = subst (λ (v : ArenaView). content_of v ≡ insert (content_of c.arena) (op.task.tenant, key_of (ask op.task)) (row_over op.task (get (content_of c.arena) key))) takes places.contents in
+        let none_there : get (tenant_map op.task.tenant (content_of c.arena)) (key_of (ask op.task)) ≡ None =
+        get-tenant_map op.task.tenant (content_of c.arena) (key_of (ask op.task)) ∙ ap (get (content_of c.arena)) (sym put.owner) ∙ missing in
+        let less : len (tenant_map op.task.tenant (content_of c.arena)) < quota_of (shown c) op.task.tenant =
+        room_left (account_of c.accounts op.task.tenant) (len (tenant_map op.task.tenant (content_of c.arena))) has_room (λ a e. (h.counts op.task.tenant a e).0) in
+        let replies = put_new (quota_of (shown c) op.task.tenant) op.task.request (tenant_map op.task.tenant (content_of c.arena)) put.put_is none_there less in
+        let makes = replies.1 ∙ ap (λ (b : Option Columns). insert (tenant_map op.task.tenant (content_of c.arena)) (key_of (ask op.task)) (row_over op.task b)) (sym missing) in
+        let stamps = stamped_publish (IsStampOf c.steps c.tape) (IsStampOf (c.steps + 1) (pushed c.tape (next_write c op)))
+        (tree_of c.arena k).prefix (layer_of (tree_of c.arena k).prefix) n.slots added op.task.key (record { suffix = suffix_of op.task.key op.walk.layer; row = row; stamp = c.steps + 1 })
+        (keys_here arena_is s.holds) may.has s.missing refl (untouched_beside c op h put) (untouched_now c op h put) in
+        subst (λ (v : ArenaView). Gives now (stepped c v tape accounts o after) o false) (sym takes)
+        (subst (λ (t : Kept). Gives now (stepped c (with_node c.arena k (with_slots n slots)) t accounts o after) o false) (sym places.tape)
+        (placed_gives slots accounts w New j.held.there j.at_border.border (subst (Guarantee o c.arena) takes guarantee) contents
+        (counted_new accounts (content_of (with_node c.arena k (with_slots n slots))) (row_over op.task (get (content_of c.arena) key)) contents missing has_room more others) stamps
+        refl replies.0 makes Publish at_publish refl refl (λ e. cc) tt publishes_on (inl refl) goes same j.held.holder (subst (λ (v : ArenaView). IsAtUnlock v o w) takes unlocks)))
