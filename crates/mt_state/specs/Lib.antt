@@ -11,3 +11,4 @@ pub mod Begins
 pub mod Refused
 pub mod Histories
 pub mod OneGet
+pub mod Writes

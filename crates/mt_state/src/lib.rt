@@ -9,5 +9,6 @@
 pub mod histories;
 pub mod laws;
 pub mod moves;
+pub mod writes;
 
 pub use moves::Move;

@@ -1,0 +1,98 @@
+-- What the calls of a put's phases ensure of a state's operation, from its lock on.
+use Rattle.std.specs.Prelude.{◌≡◌, ℕ, ◌+◌, Option, Some, None, slice_set}
+use Rattle.std.specs.Option.{option_map}
+use Rattle.std.specs.FinMap.{get}
+use Rattle.mt_rows.specs.Rows.{Columns}
+use Rattle.mt_rows.specs.Accounts.{Accounts, account_of, HasRoom, one_more, OthersStay}
+use Rattle.mt_border.specs.declared.entry.Pair.{Pair}
+use Rattle.mt_border.specs.declared.entry.Held.TheVariants.{Stable}
+use Rattle.mt_border.specs.Entries.{with_entry, replaced}
+use Rattle.mt_border.specs.Contents.{owned}
+use Rattle.mt_tape.specs.Tapes.{Kept}
+use Rattle.mt_arena.specs.Settled.{IsSettled}
+use Rattle.mt_arena.specs.Layers.{slot_at}
+use Rattle.mt_arena.specs.Edits.{unlocked, with_slots}
+use Rattle.mt_arena.specs.Arena.{ArenaView, content_of, Guarantee}
+use Rattle.mt_arena.specs.Accesses.{at, with_node, with_row}
+use Rattle.mt_operation.specs.declared.walk.Phase.TheVariants.{Judge}
+use Rattle.mt_operation.specs.declared.walk.Walk.{Walk}
+use Rattle.mt_operation.specs.declared.outcome.Outcome.{Outcome}
+use Rattle.mt_operation.specs.declared.prepared.Prepared.{Prepared}
+use Rattle.mt_operation.specs.declared.operation.Operation.{Operation}
+use Rattle.mt_operation.specs.Operations.{moved}
+use Rattle.mt_descent.specs.Pasts.{Past}
+use Rattle.mt_descent.specs.Kept.{IsAtJudge, IsKept}
+use Rattle.mt_descent.specs.Moves.{Continues, Locks}
+use Rattle.mt_insert.specs.Kept.{KeptReady, IsAtUnlock}
+use Rattle.mt_insert.specs.Moves.{Places, after_judge, walk_placed, walk_done, entry_of, reserving, released}
+use Rattle.mt_state.specs.Views.{Core}
+
+-- a state in which operation o has walked on by one more step, with this outcome and what it has made ready, and with another arena, tape and accounts
+abbrev pub wrote : Core → ArenaView → Kept → Accounts → ℕ → Operation → Walk → Option Outcome → Option Prepared → Core
+wrote c arena tape accounts o op w told prepared = record c {
+  steps = c.steps + 1;
+  accounts = accounts;
+  arena = arena;
+  tape = tape;
+  table = slice_set c.table o (Some (record (moved op (c.steps + 1) w) { outcome = told; prepared = prepared }));
+}
+
+-- a step of operation o that leaves the contents: what others may rely on
+pub record LeavesContents (c : Core) (o : ℕ) (arena : ArenaView) : Type 0 where
+  pub guarantee : Guarantee o c.arena arena
+  pub contents : content_of arena ≡ content_of c.arena
+
+-- the lock was taken, or the node was deleted or split
+pub record TakesLock (c : Core) (o : ℕ) (op : Operation) (arena : ArenaView) (w : Walk) : Type 0 where
+  pub locks : Locks o c.arena arena op.walk w
+  pub same : Continues op.walk w
+  pub leaves : LeavesContents c o arena
+  pub kept : (past : Past) (row : Option Columns) → IsKept arena past op.task.key row w
+  pub judged : w.phase ≡ Judge → IsAtJudge arena o op.task.key w
+  pub settled : w.phase ≡ Judge → IsSettled arena.nodes op.walk.place.node (at arena op.walk.place.node)
+
+-- the lock was given back
+pub record GivesBack (c : Core) (o : ℕ) (op : Operation) (arena : ArenaView) (w : Walk) : Type 0 where
+  pub is : arena ≡ with_node c.arena op.walk.place.node (unlocked (at c.arena op.walk.place.node))
+  pub walk : w ≡ walk_done op.walk
+  pub same : Continues op.walk w
+  pub leaves : LeavesContents c o arena
+
+-- all was made ready, with room on the tape
+pub record MakesReady (c : Core) (o : ℕ) (op : Operation) (tape : Kept) (w : Walk) (prepared : Prepared) : Type 0 where
+  pub slot : Option ℕ
+  pub walk : w ≡ after_judge slot op.walk
+  pub same : Continues op.walk w
+  pub tape_is : tape ≡ reserving c.tape
+  pub kept : KeptReady w.phase c.arena o op.task prepared w
+
+-- the quota had no room, and the room on the tape was given back
+pub record FindsFull (c : Core) (o : ℕ) (op : Operation) (tape : Kept) (w : Walk) : Type 0 where
+  pub walk : w ≡ walk_placed op.walk
+  pub same : Continues op.walk w
+  pub tape_is : tape ≡ released c.tape
+  pub kept : IsAtUnlock c.arena o w
+  pub missing : get (content_of c.arena) (owned op.task.key) ≡ None
+  pub full : ¬ HasRoom (account_of c.accounts op.task.tenant)
+
+-- the change was placed by the next step, with its write on the tape
+pub record PlacesChange (c : Core) (o : ℕ) (op : Operation) (arena : ArenaView) (tape : Kept) (w : Walk) : Type 0 where
+  pub places : Places op.task (c.steps + 1) c.arena arena c.tape tape
+  pub walk : w ≡ walk_placed op.walk
+  pub same : Continues op.walk w
+  pub guarantee : Guarantee o c.arena arena
+  pub kept : IsAtUnlock arena o w
+
+-- the row was written over the one of the key
+pub record Stores (c : Core) (op : Operation) (arena : ArenaView) (row before : Columns) : Type 0 where
+  pub is : (pair : Pair) → (slot_at (at c.arena op.walk.place.node) op.walk.slot).held ≡ Stable pair → arena ≡ with_node c.arena op.walk.place.node (with_slots (at c.arena op.walk.place.node)
+      (replaced (at c.arena op.walk.place.node).slots (with_row (slot_at (at c.arena op.walk.place.node) op.walk.slot) pair row (c.steps + 1))))
+  pub before_is : get (content_of c.arena) (owned op.task.key) ≡ Some before
+
+-- the pair of the missing key was made live, and counted
+pub record Publishes (c : Core) (op : Operation) (arena : ArenaView) (accounts : Accounts) (row : Columns) : Type 0 where
+  pub is : arena ≡ with_node c.arena op.walk.place.node (with_slots (at c.arena op.walk.place.node) (with_entry (at c.arena op.walk.place.node).slots (entry_of op.task.key op.walk.layer row (c.steps + 1))))
+  pub missing : get (content_of c.arena) (owned op.task.key) ≡ None
+  pub room : HasRoom (account_of c.accounts op.task.tenant)
+  pub counted : account_of accounts op.task.tenant ≡ option_map one_more (account_of c.accounts op.task.tenant)
+  pub others : OthersStay c.accounts accounts op.task.tenant

@@ -1,0 +1,46 @@
+//! Each phase of a put, from its lock on, makes a lawful step. Contracts alone: no code runs.
+
+ghost use Rattle.std.specs.Prelude.{◌≡◌, ◌+◌, ◌<◌, ◌^◌, ℕ, true, false, Option, Some, None};
+ghost use Rattle.mt_rows.specs.Rows.{Columns};
+ghost use Rattle.mt_rows.specs.Accounts.{Accounts};
+ghost use Rattle.mt_rows.specs.declared.reply.Reply.TheVariants.{New, Replaced, Full, NoMemory};
+ghost use Rattle.mt_tape.specs.Tapes.{Kept};
+ghost use Rattle.mt_arena.specs.Arena.{ArenaView, IsArena};
+ghost use Rattle.mt_operation.specs.declared.walk.Phase.TheVariants.{Lock, Judge, Store, Publish, Unlock};
+ghost use Rattle.mt_operation.specs.declared.walk.Walk.{Walk};
+ghost use Rattle.mt_operation.specs.declared.prepared.Prepared.{Prepared};
+ghost use Rattle.mt_operation.specs.declared.operation.Operation.{Operation};
+ghost use Rattle.mt_operation.specs.Tables.{op_at as operation_at};
+ghost use Rattle.mt_insert.specs.Puts.{IsPut};
+ghost use Rattle.mt_state.specs.Views.{Core};
+ghost use Rattle.mt_state.specs.Invariant.{StateInvariant};
+ghost use Rattle.mt_state.specs.Calls.{IsLawful};
+ghost use Rattle.mt_state.specs.Writes.{wrote, TakesLock, GivesBack, MakesReady, FindsFull, PlacesChange, Stores, Publishes};
+
+/// Each phase of a put makes a lawful step, by what its call ensures, and the invariant stays: where it
+/// takes the lock of its border node, or goes on its way; where it makes all ready, or has no memory
+/// and gives the lock back; where it writes over its key's row, makes a new pair, or finds no room in
+/// the quota; and where it gives the lock back.
+pub fn a_write_is_a_step()
+    ensures locks { (c : Core) (o : ℕ) (op : Operation) (arena : ArenaView) (w : Walk) → StateInvariant c → c.steps < 2 ^ 59 → operation_at c.table o ≡ Some op →
+        op.walk.phase ≡ Lock → TakesLock c o op arena w →
+        IsLawful c (wrote c arena c.tape c.accounts o op w op.outcome op.prepared) o false }
+    ensures readies { (c : Core) (o : ℕ) (op : Operation) (tape : Kept) (w : Walk) (prepared : Prepared) → StateInvariant c → c.steps < 2 ^ 59 → operation_at c.table o ≡ Some op →
+        op.walk.phase ≡ Judge → MakesReady c o op tape w prepared →
+        IsLawful c (wrote c c.arena tape c.accounts o op w op.outcome (Some prepared)) o false }
+    ensures stops { (c : Core) (o : ℕ) (op : Operation) (arena : ArenaView) (w : Walk) → StateInvariant c → c.steps < 2 ^ 59 → operation_at c.table o ≡ Some op →
+        op.walk.phase ≡ Judge → GivesBack c o op arena w →
+        IsLawful c (wrote c arena c.tape c.accounts o op w (Some (record { reply = NoMemory; at = c.steps + 1 })) op.prepared) o true }
+    ensures stores { (c : Core) (o : ℕ) (op : Operation) (arena : ArenaView) (tape : Kept) (w : Walk) (row before : Columns) → StateInvariant c → IsArena c.arena.nodes c.arena.trees →
+        c.steps < 2 ^ 59 → operation_at c.table o ≡ Some op → IsPut op.task → op.walk.phase ≡ Store → Stores c op arena row before → PlacesChange c o op arena tape w →
+        IsLawful c (wrote c arena tape c.accounts o op w (Some (record { reply = Replaced; at = c.steps + 1 })) None) o false }
+    ensures publishes { (c : Core) (o : ℕ) (op : Operation) (arena : ArenaView) (tape : Kept) (accounts : Accounts) (w : Walk) (row : Columns) → StateInvariant c → IsArena c.arena.nodes c.arena.trees →
+        c.steps < 2 ^ 59 → operation_at c.table o ≡ Some op → IsPut op.task → op.walk.phase ≡ Publish → Publishes c op arena accounts row → PlacesChange c o op arena tape w →
+        IsLawful c (wrote c arena tape accounts o op w (Some (record { reply = New; at = c.steps + 1 })) None) o false }
+    ensures fills { (c : Core) (o : ℕ) (op : Operation) (tape : Kept) (w : Walk) → StateInvariant c → c.steps < 2 ^ 59 → operation_at c.table o ≡ Some op → IsPut op.task →
+        op.walk.phase ≡ Publish → FindsFull c o op tape w →
+        IsLawful c (wrote c c.arena tape c.accounts o op w (Some (record { reply = Full; at = c.steps + 1 })) None) o false }
+    ensures unlocks { (c : Core) (o : ℕ) (op : Operation) (arena : ArenaView) (w : Walk) → StateInvariant c → c.steps < 2 ^ 59 → operation_at c.table o ≡ Some op →
+        op.walk.phase ≡ Unlock → GivesBack c o op arena w →
+        IsLawful c (wrote c arena c.tape c.accounts o op w op.outcome op.prepared) o true }
+{}
