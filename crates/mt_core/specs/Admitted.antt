@@ -1,19 +1,30 @@
--- What a begin makes of a command.
-use Rattle.std.specs.Prelude.{◌≡◌, ℕ, ◌≤◌, ◌<◌, ◌⊎◌, false, length}
+-- What is made of a command before its operation is begun, and which refusals a begin of it answers.
+use Rattle.std.specs.Prelude.{◌≡◌, ℕ, ◌<◌, ◌≤◌, ◌⊎◌, not, true, false, if◌then◌else◌, length, Option, Some, None, Result, Ok, Err}
+use Rattle.std.specs.Option.{is_none}
 use Rattle.mt_slices.specs.Keys.{IsStoredKey}
-use Rattle.mt_slices.specs.Slices.{slice_of, mark_of, suffix_of}
 use Rattle.mt_rows.specs.declared.command.Command.{Command}
 use Rattle.mt_rows.specs.declared.command.Command.TheVariants.{Get, Put}
+use Rattle.mt_rows.specs.declared.refusal.Refusal.{Refusal}
+use Rattle.mt_rows.specs.declared.refusal.Refusal.TheVariants.{Memory, NoTenant}
+use Rattle.mt_rows.specs.Accounts.{account_of}
 use Rattle.mt_rows.specs.Commands.{key_of, HasColumns}
 use Rattle.mt_rows.specs.Maps.{is_get}
-use Rattle.mt_border.specs.declared.entry.FoundKind.TheVariants.{ThisKey}
-use Rattle.mt_border.specs.Node.{Node, IsFound, entries_of}
-use Rattle.mt_core.specs.declared.operation.Operation.{Operation}
-use Rattle.mt_core.specs.declared.operation.Request.{Request}
-use Rattle.mt_core.specs.Operations.{command_of}
+use Rattle.mt_slices.specs.Slices.{slice_of, mark_of}
 use Rattle.mt_border.specs.Contents.{owned}
-use Rattle.mt_core.specs.Kept.{ask}
-use Rattle.mt_core.specs.Begins.{IsBegun}
+use Rattle.mt_border.specs.Entries.{IsMissing}
+use Rattle.mt_border.specs.declared.entry.FoundKind.TheVariants.{ThisKey}
+use Rattle.mt_arena.specs.NodeView.{NodeView}
+use Rattle.mt_operation.specs.declared.task.Request.{Request}
+use Rattle.mt_operation.specs.declared.task.Task.{Task}
+use Rattle.mt_operation.specs.declared.operation.Operation.{Operation}
+use Rattle.mt_operation.specs.Tasks.{command_of, ask}
+use Rattle.mt_operation.specs.Operations.{OperationView, view_of}
+use Rattle.mt_operation.specs.Walks.{walk_from_top}
+use Rattle.mt_descent.specs.Kept.{IsInSlot}
+use Rattle.mt_state.specs.Views.{StateView}
+use Rattle.mt_state.specs.Begins.{begun, Begins, IsWorker, MayBegin}
+use Rattle.mt_state.specs.Refused.{fault_of, first_lack, Refuses}
+use Rattle.mt_core.specs.declared.answers.Ticket.{Ticket}
 
 -- a get or a put
 abbrev pub IsPoint : Command → Type 0
@@ -28,13 +39,70 @@ pub record IsRequest (request : Request) (command : Command) : Type 0 where
   pub columns : HasColumns command
 
 -- an operation before its first step, with its key in stored form, short enough for one slice
-pub record IsAdmitted (op : Operation) (worker tenant : ℕ) (command : Command) : Type 0 where
-  pub begun : IsBegun op worker tenant command
-  pub stored : IsStoredKey op.key
-  pub owner : owned op.key ≡ (op.tenant, key_of (ask op))
-  pub short : length op.key ≤ 8
-  pub columns : HasColumns (ask op)
+pub record IsAdmitted (op : Operation) : Type 0 where
+  pub is_begun : view_of op ≡ begun op.task.worker op.task.tenant (ask op.task)
+  pub walk : op.walk ≡ walk_from_top (not (is_get (ask op.task))) 0
+  pub unprepared : op.prepared ≡ None
+  pub stored : IsStoredKey op.task.key
+  pub owner : owned op.task.key ≡ (op.task.tenant, key_of (ask op.task))
+  pub short : length op.task.key ≤ 8
+  pub columns : HasColumns (ask op.task)
 
--- a get, or a put that finds its key or room
-abbrev pub HasRoomFor : Node → Operation → Type 0
-HasRoomFor node op = is_get (ask op) ≡ false → (length (entries_of node) < 15) ⊎ ((slot : ℕ) × IsFound node (slice_of op.key 0) (mark_of op.key 0) (suffix_of op.key 0) slot ThisKey)
+-- a get, or a put that finds its key or room in the node
+abbrev pub HasRoomFor : NodeView → Task → Type 0
+HasRoomFor node task = is_get (ask task) ≡ false → (length node.slots < 15) ⊎ ((slot : ℕ) × IsInSlot node slot task.key 0 ThisKey)
+
+-- a put whose key is missing in a full node
+pub record LacksRoom (node : NodeView) (task : Task) : Type 0 where
+  pub put : is_get (ask task) ≡ false
+  pub full : 15 ≤ length node.slots
+  pub missing : IsMissing node.slots (slice_of task.key 0) (mark_of task.key 0)
+
+-- what a begin would begin, as it is shown, or for which fault it is refused; and for which tenant
+pub record OpeningView : Type 0 where
+  pub tenant : ℕ
+  pub made : Result OperationView Refusal
+
+-- the operation is one of the opening's tenant before its first step
+pub record IsOpening (tenant : ℕ) (op : Operation) : Type 0 where
+  pub tenant_is : op.task.tenant ≡ tenant
+  pub admitted : IsAdmitted op
+
+abbrev pub IsRightOpening : ℕ → Result Operation Refusal → Type 0
+IsRightOpening tenant (Ok op) = IsOpening tenant op
+IsRightOpening tenant (Err refusal) = Unit {0}
+
+-- what is made of a command that has no fault
+abbrev pub IsMadeOf : Result OperationView Refusal → ℕ → ℕ → Command → Type 0
+IsMadeOf (Ok op) worker tenant command = op ≡ begun worker tenant command
+IsMadeOf (Err refusal) worker tenant command = Unit {0}
+
+-- the operation of an opening is of a worker of the state, and may be begun in it
+abbrev pub MayAdmit : StateView → Result OperationView Refusal → Type 0
+MayAdmit v (Ok op) = IsWorker v.logs op.worker × MayBegin v.table op.command
+MayAdmit v (Err refusal) = Unit {0}
+
+-- what an opening may answer: a refused one changes nothing
+abbrev pub TellsAdmitted : StateView → StateView → OpeningView → Result Ticket Refusal → Type 0
+TellsAdmitted old new opening (Ok ticket) = (op : OperationView) × (opening.made ≡ Ok op) × Begins old new ticket.id op.worker op.tenant op.command
+TellsAdmitted old new opening (Err refusal) = new ≡ old
+
+-- the fault of an opening, for which no memory stands, and the first cause for which it is refused
+abbrev pub fault_made : Result OperationView Refusal → Option Refusal
+fault_made (Ok op) = None
+fault_made (Err Memory) = None
+fault_made (Err refusal) = Some refusal
+
+abbrev pub cause_made : StateView → Result OperationView Refusal → Option Refusal
+cause_made v (Ok op) = first_lack v op.tenant op.command
+cause_made v (Err refusal) = Some refusal
+
+abbrev pub first_fault_of : StateView → OpeningView → Option Refusal
+first_fault_of v opening = if is_none (account_of v.accounts opening.tenant) then Some NoTenant else fault_made opening.made
+
+abbrev pub first_cause_of : StateView → OpeningView → Option Refusal
+first_cause_of v opening = if is_none (account_of v.accounts opening.tenant) then Some NoTenant else cause_made v opening.made
+
+-- an opening is refused for its first cause alone, or for want of memory where it has no fault
+abbrev pub RefusesOpening : StateView → OpeningView → Result Ticket Refusal → Type 0
+RefusesOpening v opening result = Refuses (first_fault_of v opening) (first_cause_of v opening) result

@@ -2,16 +2,13 @@
 use Rattle.std.specs.Prelude.{ℕ, ◌-◌, Bool, true, false, if◌then◌else◌, List, [], ◌∷◌, ◌++◌, length, replicate, codes, slice_get, Option, Some}
 use Rattle.std.specs.Fmt.{digits, decimal}
 use Rattle.std.specs.Option.{option_map}
-use Rattle.std.specs.FinMap as pairs
 use Rattle.mt_slices.specs.declared.mark.Mark.{Mark}
 use Rattle.mt_slices.specs.declared.mark.Mark.TheVariants.{Short, Long}
-use Rattle.mt_slices.specs.Keys.{stored_key}
-use Rattle.mt_slices.specs.Slices.{slice_of, mark_of}
-use Rattle.mt_rows.specs.Rows.{Bytes}
-use Rattle.mt_rows.specs.Tenants.{Contents}
 use Rattle.mt_border.specs.declared.entry.Entry.{Entry}
 use Rattle.mt_border.specs.declared.entry.Held.{Held}
 use Rattle.mt_border.specs.declared.entry.Held.TheVariants.{Link as LinkTo}
+use Rattle.mt_arena.specs.Arena.{ArenaView}
+use Rattle.mt_arena.specs.Accesses.{at}
 use Rattle.mt_core.specs.declared.shape.Edge.{Edge}
 use Rattle.mt_core.specs.declared.shape.ShapeLine.{ShapeLine}
 use Rattle.mt_core.specs.declared.shape.ShapeLine.TheVariants.{Tree, Border}
@@ -35,14 +32,6 @@ line_text Tree = codes "tree - layer 0"
 line_text (Border count (Some first) (Some last)) = codes "  border " ++ (decimal count ++ (codes " " ++ (edge_text first ++ (codes " " ++ edge_text last))))
 line_text (Border count first last) = codes "  border " ++ decimal count
 
--- a tenant's key at the edge of a node
-abbrev pub edge_of : ℕ × Bytes → Edge
-edge_of q = let key = stored_key q.0 q.1 in record { slice = slice_of key 0; mark = mark_of key 0; is_link = false }
-
--- the edge of the i-th pair, in the order of tenants and keys
-abbrev pub edge_at : Contents → ℕ → Option Edge
-edge_at contents i = option_map (λ e. edge_of e.0) (slice_get (pairs.entries contents) i)
-
 -- whether a slot holds a link
 abbrev pub is_link : Held → Bool
 is_link (LinkTo tree) = true
@@ -56,6 +45,10 @@ edge_in e = record { slice = e.slice; mark = e.mark; is_link = is_link e.held }
 abbrev pub line_in : List Entry → ShapeLine
 line_in entries = Border (length entries) (option_map edge_in (slice_get entries 0)) (option_map edge_in (slice_get entries (length entries - 1)))
 
--- the tree of these pairs: one border node, with how many there are, and the first and the last
-abbrev pub shape_of : Contents → List ShapeLine
-shape_of contents = Tree ∷ Border (pairs.len contents) (edge_at contents 0) (edge_at contents (pairs.len contents - 1)) ∷ []
+-- the line of a border node of an arena
+abbrev pub line_of : ArenaView → ℕ → ShapeLine
+line_of v k = line_in (at v k).slots
+
+-- the tree, as long as it is one border node: that node, with how many keys it has, and the first and the last
+abbrev pub shape_of : ArenaView → List ShapeLine
+shape_of v = Tree ∷ line_of v 0 ∷ []

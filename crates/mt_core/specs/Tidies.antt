@@ -1,15 +1,15 @@
 -- What a tidying leaves.
 use Rattle.std.specs.Prelude.{◌≡◌, ℕ, ◌<◌, ◌≤◌, Some}
 use Rattle.mt_tape.specs.Tapes.{later_entries}
-use Rattle.mt_core.specs.declared.operation.Operation.{Operation}
-use Rattle.mt_core.specs.Views.{StateView, Table, op_at, map_of, changed_at}
+use Rattle.mt_operation.specs.Operations.{OperationView}
+use Rattle.mt_state.specs.Views.{StateView, Shown, op_at, map_of, changed_at}
 
--- every operation of the table that has made a step made its first one after this number
-abbrev pub IsBeforeFirsts : Table → ℕ → Type 0
-IsBeforeFirsts table floor = (o : ℕ) (op : Operation) → op_at table o ≡ Some op → 0 < op.first → floor < op.first
+-- every operation that has made a step made its first one after this number
+abbrev pub IsBeforeFirsts : Shown → ℕ → Type 0
+IsBeforeFirsts table floor = (o : ℕ) (op : OperationView) → op_at table o ≡ Some op → 0 < op.first → floor < op.first
 
--- the floor that a tape needs after so many steps: the greatest number of steps that is before the first step of each operation of the table
-pub record IsFloorNeeded (table : Table) (steps floor : ℕ) : Type 0 where
+-- the floor that a tape needs after so many steps: the greatest number of steps that is before the first step of each operation
+pub record IsFloorNeeded (table : Shown) (steps floor : ℕ) : Type 0 where
   pub made : floor ≤ steps
   pub before : IsBeforeFirsts table floor
   pub greatest : (n : ℕ) → n ≤ steps → IsBeforeFirsts table n → n ≤ floor
@@ -19,7 +19,7 @@ pub record Tidies (old new : StateView) : Type 0 where
   pub steps : new.steps ≡ old.steps
   pub logs : new.logs ≡ old.logs
   pub accounts : new.accounts ≡ old.accounts
-  pub contents : new.contents ≡ old.contents
+  pub arena : new.arena ≡ old.arena
   pub table : new.table ≡ old.table
   pub reserved : new.tape.reserved ≡ old.tape.reserved
   pub needed : IsFloorNeeded old.table old.steps new.tape.floor

@@ -1,4 +1,4 @@
-//! What a state answers to a begin and to a step.
+//! What a state answers to a begin.
 
 ghost use Rattle.std.specs.Prelude.{◌≡◌};
 
@@ -17,21 +17,4 @@ impl Ticket {
     {
         self.id as u64
     }
-}
-
-/// What a step answers.
-#[derive(Clone, Copy, PartialEq, Eq, Debug)]
-pub enum Move {
-    /// The operation moved by one numbered step.
-    Moved,
-    /// The node is locked or marked by this operation; nothing changed.
-    Again { holder: u64 },
-    /// A growth was refused; the operation stands, and can be stepped again.
-    NoMemory,
-    /// The operation made its last numbered step; its answer can be taken.
-    Done,
-    /// All step numbers are given; nothing changed.
-    Spent,
-    /// The ticket's operation is not open; nothing changed.
-    NoSuch,
 }

@@ -11,14 +11,16 @@ ghost use Rattle.mt_rows.specs.Accounts.{account_of};
 ghost use Rattle.mt_runs.specs.declared.event.Event.TheVariants.{Begin, Step};
 ghost use Rattle.mt_runs.specs.Runs.{story_of};
 ghost use Rattle.mt_runs.specs.Placings.{no_pairs, HasOneOrder};
-ghost use Rattle.mt_core.specs.Views.{quota_in};
-ghost use Rattle.mt_core.specs.Begins.{new_state, HaveNoPairs, IsWorker, MayBegin, IsEnded, Takes};
-ghost use Rattle.mt_core.specs.Histories.{named, Renames, AreNamed, AreHeld, AreById, IsServed, TellsEvent, BringsTo, no_names, Names as AnyNames};
+ghost use Rattle.mt_state.specs.Views.{quota_in};
+ghost use Rattle.mt_state.specs.Begins.{new_state, HaveNoPairs, IsWorker, MayBegin, IsEnded, Takes};
+ghost use Rattle.mt_state.specs.Histories.{Renames, AreNamed, AreHeld, AreById, IsServed, TellsEvent, BringsTo, no_names, Names as AnyNames};
+ghost use Rattle.mt_core.specs.Tickets.{named};
 
-use crate::answers::{Move, Ticket};
+use crate::answers::Ticket;
 use crate::state::State;
 use mt_rows::{Command, Tenants};
 use mt_runs::{Answer, Event, Told};
+use mt_state::Move;
 use std::alloc::{AllocError, Global};
 use std::collections::BTreeMap;
 use std::marker::Model;
@@ -74,7 +76,7 @@ pub fn run_events(
     ensures count { IfOk result (λ r. length r.1 ≡ length events.now) }
     ensures run { IfOk result (λ r. (names : AnyNames) × BringsTo no_names (new_state logs tenants) (zip events.now r.1) names r.0) }
 {
-    let mut state = State::new(alloc, logs, tenants);
+    let mut state = State::new(alloc, logs, tenants)?;
     let mut roster = Roster {
         tickets: BTreeMap::new(alloc),
         names: BTreeMap::new(alloc),

@@ -1,24 +1,20 @@
-//! The store as one state: one border node, the tape of its changes, and the operations that are open.
+//! The store as one state: all nodes and trees, the tape of their changes, and the operations that are open.
 //!
-//! A get or a put is an operation: it is begun, and then run by single steps, each one access to the
+//! A get or a put is an operation: it is begun, and then run by single steps, each one access to a
 //! node. Steps of different operations fall between each other in any order. `state.rt` has the
-//! state and its calls; `specs/Promises.antt` says what each step may do.
+//! state and its calls: it finds the operation, lets the call of its phase make the step, and writes
+//! down what came of it. What a step may do is said in `mt_state`, by `specs/Promises.antt`.
 #![tactic(auto)]
 
 pub mod answers;
 pub mod events;
-mod openings;
-pub mod operation;
-pub mod phase;
-mod queue;
-mod reads;
+mod looks;
+pub mod openings;
 pub mod shape;
 pub mod state;
-mod table;
 
-pub use answers::{Move, Ticket};
+pub use answers::Ticket;
 pub use events::{ToldList, run_events};
-pub use operation::{Operation, Progress, Request};
-pub use phase::Phase;
+pub use openings::{Opening, prepare};
 pub use shape::{Edge, ShapeLine};
 pub use state::State;

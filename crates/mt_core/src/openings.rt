@@ -1,23 +1,27 @@
 //! How operations are made of commands, and answered.
 
-ghost use Rattle.std.specs.Prelude.{◌≡◌, ◌≢◌, ◌≤◌, ◌↔◌, ℕ, false, IsTrue, IfSome, IfNone, IfOk, IfErr, OnErr, length, slice_set, Some, None};
+ghost use Rattle.std.specs.Prelude.{◌≡◌, ◌≢◌, ◌≤◌, ℕ, true, false, IsTrue, IfSome, IfNone, IfOk, length, slice_set, Some, None};
 ghost use Rattle.std.specs.Result.{result_err};
-ghost use Rattle.mt_core.specs.Views.{op_at};
-ghost use Rattle.mt_core.specs.Operations.{command_of};
-ghost use Rattle.mt_core.specs.declared.operation.Operation.{Operation as AnyOperation};
-ghost use Rattle.mt_core.specs.Invariant.{is_unfinished};
-ghost use Rattle.mt_core.specs.Begins.{IsAnswerOf, IsEnded};
-ghost use Rattle.mt_core.specs.Admitted.{IsPoint, IsRequest, IsAdmitted, HasRoomFor};
-ghost use Rattle.mt_core.specs.Refused.{asks_first, names_first, fault_of, Refuses, LacksRoom};
+ghost use Rattle.mt_slices.specs.Slices.{slice_of, mark_of, suffix_of};
+ghost use Rattle.mt_border.specs.Entries.{IsMissing};
+ghost use Rattle.mt_border.specs.Node.{IsFound, entries_of};
+ghost use Rattle.mt_arena.specs.Accesses.{at};
+ghost use Rattle.mt_operation.specs.declared.operation.Operation.{Operation as AnyOperation};
+ghost use Rattle.mt_operation.specs.Operations.{view_of, is_unfinished};
+ghost use Rattle.mt_operation.specs.Tables.{op_at as operation_at};
+ghost use Rattle.mt_state.specs.Begins.{begun, IsAnswerOf};
+ghost use Rattle.mt_state.specs.Invariant.{IsOneBorder};
+ghost use Rattle.mt_state.specs.Refused.{asks_first, names_first, fault_of, Refuses};
+ghost use Rattle.mt_core.specs.Admitted.{IsPoint, IsRequest, IsAdmitted, IsMadeOf, HasRoomFor, LacksRoom};
 
-use crate::operation::{Operation, Progress, Request};
-use crate::reads::slot_of;
-use crate::table::Operations;
-use mt_border::Border;
+use mt_arena::Arena;
+use mt_border::{Border, Find, FoundKind};
+use mt_operation::{Operation, Operations, Outcome, Request, Task};
 use mt_rows::{Change, ColumnIndexes, Command, Key, NamedColumns, Refusal};
 use mt_runs::Answer;
 use mt_slices::{KeyRefusal, StoredKey};
 use std::alloc::Global;
+use std::marker::Model;
 
 /// The longest key that one border node takes, in bytes.
 const SHORT_KEY_BYTES: usize = 4;
@@ -79,15 +83,51 @@ fn names_first(change: &NamedColumns) -> bool
     matches!(change.as_slice(), [named] if named.0 == 0)
 }
 
-/// An operation before its first step.
-pub(crate) fn admitted(
+/// An operation that was made of a command, with its key and its change, and waits to be begun; or
+/// the refusal of its command. It is made before the state is touched.
+#[derive(Drop)]
+pub struct Opening {
+    pub(crate) tenant: u32,
+    pub(crate) made: Result<Operation, Refusal>,
+}
+
+impl Model for Opening {
+    ghost use Rattle.std.specs.Result.{result_map_both};
+    ghost use Rattle.mt_operation.specs.Operations.{view_of};
+    ghost use Rattle.mt_core.specs.Admitted.{OpeningView, IsRightOpening};
+
+    ghost Value = { OpeningView };
+
+    ghost view = { λ o. record { tenant = o.tenant; made = result_map_both view_of (λ r. r) o.made } };
+
+    ghost invariant = { λ o. IsRightOpening o.tenant o.made };
+}
+
+/// Makes all of an operation that a begin needs of its command.
+///
+/// What refuses the command stays in the opening, and is answered where it is begun.
+pub fn prepare(alloc: Global, worker: u8, tenant: u32, command: Command) -> Opening
+    requires { IsPoint command }
+    ensures tenant { result.tenant ≡ tenant }
+    ensures made { IsMadeOf result.made worker tenant command }
+    ensures refused { Refuses (fault_of command) (fault_of command) result.made }
+{
+    Opening {
+        tenant,
+        made: admitted(alloc, worker, tenant, command),
+    }
+}
+
+// An operation before its first step.
+fn admitted(
     alloc: Global,
     worker: u8,
     tenant: u32,
     command: Command,
 ) -> Result<Operation, Refusal>
     requires { IsPoint command }
-    ensures admitted { IfOk result (λ op. IsAdmitted op worker tenant command) }
+    ensures admitted { IfOk result IsAdmitted }
+    ensures is { IfOk result (λ op. view_of op ≡ begun worker tenant command) }
     ensures fault { Refuses (fault_of command) (fault_of command) result }
 {
     let request = request_of(command)?;
@@ -96,31 +136,47 @@ pub(crate) fn admitted(
         Err(KeyRefusal::KeyLong) => return Err(Refusal::KeyLong),
         Err(KeyRefusal::Memory) => return Err(Refusal::Memory),
     };
-    Ok(Operation {
+    Ok(Operation::new(Task {
         worker,
         tenant,
         request,
         key,
-        first: 0,
-        last: 0,
-        progress: Progress::Enter,
-    })
+    }))
 }
 
-/// Whether the node has room for the operation: a get needs none, and a put none where its key is
+/// Whether the one node has room for the task: a get needs none, and a put none where its key is
 /// there.
-pub(crate) fn has_room(root: &Border, operation: &Operation) -> bool
-    requires { length operation.now.key ≤ 8 }
-    ensures room { IsTrue result → HasRoomFor root.now operation.now }
-    ensures full { result ≡ false → LacksRoom root.now operation.now }
+pub(crate) fn has_room(arena: &Arena, task: &Task) -> bool
+    requires short { length task.now.key ≤ 8 }
+    requires one { IsOneBorder arena.now }
+    ensures room { IsTrue result → HasRoomFor (at arena.now 0) task.now }
+    ensures full { result ≡ false → LacksRoom (at arena.now 0) task.now }
 {
-    operation.request.is_get() || !root.is_full() || slot_of(root, &operation.key).is_some()
+    if task.request.is_get() {
+        return true;
+    }
+    let root = arena.border(0);
+    !root.is_full() || has_key(root, &task.key)
+}
+
+// Whether a node has a short key.
+fn has_key(root: &Border, key: &StoredKey) -> bool
+    requires { length key.now ≤ 8 }
+    ensures found { IsTrue result → (slot : ℕ) × IsFound root.now (slice_of key.now 0) (mark_of key.now 0) (suffix_of key.now 0) slot FoundKind.ThisKey }
+    ensures missing { result ≡ false → IsMissing (entries_of root.now) (slice_of key.now 0) (mark_of key.now 0) }
+{
+    match root.find(key.slice(0), key.mark(0), key.suffix(0)) {
+        Find::Slot(_, FoundKind::ThisKey) => true,
+        Find::Slot(_, FoundKind::OtherLong | FoundKind::Link) => unreachable!(),
+        Find::Missing => false,
+    }
 }
 
 /// Takes an operation that is finished out of the table, and tells its answer.
 pub(crate) fn give_up(operations: &mut Operations, id: usize) -> Option<Answer>
-    ensures taken { IfSome result (λ answer. (op : AnyOperation) × (op_at operations.old id ≡ Some op) × IsAnswerOf op answer × (operations.new ≡ slice_set operations.old id None)) }
-    ensures open { IfNone result ((operations.new ≡ operations.old) × ¬ IsEnded operations.old id) }
+    requires { (op : AnyOperation) → operation_at operations.old id ≡ Some op → is_unfinished op ≡ false → op.outcome ≢ None }
+    ensures taken { IfSome result (λ answer. (op : AnyOperation) × (operation_at operations.old id ≡ Some op) × IsAnswerOf (view_of op) answer × (operations.new ≡ slice_set operations.old id None)) }
+    ensures open { IfNone result ((operations.new ≡ operations.old) × ((op : AnyOperation) → operation_at operations.old id ≡ Some op → is_unfinished op ≡ true)) }
 {
     if !is_ended(operations, id) {
         return None;
@@ -133,34 +189,36 @@ pub(crate) fn give_up(operations: &mut Operations, id: usize) -> Option<Answer>
 
 // Whether the operation is there, and no step of it is left.
 fn is_ended(operations: &Operations, id: usize) -> bool
-    ensures { IsTrue result ↔ IsEnded operations.now id }
+    ensures yes { IsTrue result → (op : AnyOperation) × (operation_at operations.now id ≡ Some op) × (is_unfinished op ≡ false) }
+    ensures no { result ≡ false → (op : AnyOperation) → operation_at operations.now id ≡ Some op → is_unfinished op ≡ true }
 {
     match operations.get(id) {
-        Some(operation) => matches!(&operation.progress, Progress::Finished { .. }),
+        Some(operation) => !operation.is_unfinished(),
         None => false,
     }
 }
 
 // The answer of a finished operation.
 fn answer_of(operation: Operation) -> Answer
-    requires { is_unfinished operation.progress ≡ false }
-    ensures { IsAnswerOf operation result }
+    requires done { is_unfinished operation ≡ false }
+    requires told { operation.outcome ≢ None }
+    ensures { IsAnswerOf (view_of operation) result }
 {
     let Operation {
-        request,
-        first,
+        task: Task { request, .. },
+        walk,
         last,
-        progress,
+        outcome,
         ..
     } = operation;
-    match progress {
-        Progress::Finished { reply, at } => Answer {
-            command: request.into_command(),
-            reply,
-            first,
-            at,
-            last,
-        },
-        _ => unreachable!(),
+    let Some(Outcome { reply, at }) = outcome else {
+        unreachable!()
+    };
+    Answer {
+        command: request.into_command(),
+        reply,
+        first: walk.first,
+        at,
+        last,
     }
 }

@@ -6,8 +6,10 @@
 ghost use Rattle.std.specs.Prelude.{◌≡◌};
 ghost use Rattle.std.specs.Option.{option_map, option_copied};
 ghost use Rattle.mt_border.specs.Node.{entries_of};
-ghost use Rattle.mt_core.specs.Shapes.{edge_in, line_in};
+ghost use Rattle.mt_core.specs.Shapes.{edge_in, line_in, line_of as line_shown};
+ghost use Rattle.mt_state.specs.Invariant.{IsOneBorder};
 
+use mt_arena::Arena;
 use mt_border::{Border, Entry, Held};
 use mt_slices::Mark;
 use std::fmt;
@@ -68,8 +70,16 @@ impl fmt::Display for ShapeLine {
     }
 }
 
-/// The line of a border node.
-pub(crate) fn line_of(border: &Border) -> ShapeLine
+/// The line of the one node.
+pub(crate) fn root_line(arena: &Arena) -> ShapeLine
+    requires { IsOneBorder arena.now }
+    ensures { result ≡ line_shown arena.now 0 }
+{
+    line_of(arena.border(0))
+}
+
+// The line of a border node.
+fn line_of(border: &Border) -> ShapeLine
     ensures { result ≡ line_in (entries_of border.now) }
 {
     ShapeLine::Border {

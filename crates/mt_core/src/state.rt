@@ -1,38 +1,38 @@
 //! The state and its calls.
 //!
-//! Invariant: `StateInvariant` of `specs/Invariant.antt`. It owns its node, its tape and its operations. Errors:
+//! Invariant: `StateInvariant` of `specs/Invariant.antt`. It owns its nodes, its tape and its operations. Errors:
 //! refusals of `begin`, which change nothing. Units: steps by their numbers, which begin at 1.
 
-ghost use Rattle.std.specs.Prelude.{◌≡◌, ◌+◌, ◌<◌, ◌≤◌, ◌^◌, ◌↔◌, ℕ, IsTrue, IfOk, false, max, Some, None};
-ghost use Rattle.mt_rows.specs.declared.reply.Reply.{Reply as AnyReply};
-ghost use Rattle.mt_rows.specs.Rows.{Bytes, Columns};
-ghost use Rattle.mt_tape.specs.declared.entry.Entry.{Entry as AnyEntry};
-ghost use Rattle.mt_version.specs.Parts.{Parts};
+ghost use Rattle.std.specs.Prelude.{◌≡◌, ◌≢◌, ◌+◌, ◌<◌, ◌≤◌, ◌^◌, ◌↔◌, ℕ, IsTrue, IsSome, IfOk, slice_set, Some, None};
 ghost use Rattle.std.specs.Option.{option_map};
-ghost use Rattle.mt_core.specs.Promises.{IsNext, Tells};
-ghost use Rattle.mt_core.specs.Begins.{new_state, HaveNoPairs, IsWorker, MayBegin, HasOpenPut, TellsBegin, TellsTake};
-ghost use Rattle.mt_core.specs.Refused.{TellsRefusal};
+ghost use Rattle.mt_state.specs.Promises.{Tells};
+ghost use Rattle.mt_state.specs.Begins.{new_state, HaveNoPairs, IsWorker, MayBegin, HasOpenPut};
+ghost use Rattle.mt_core.specs.Tickets.{TellsBegin, TellsTake, TellsRefusal};
+ghost use Rattle.mt_core.specs.Admitted.{MayAdmit, TellsAdmitted, RefusesOpening};
+ghost use Rattle.mt_core.specs.Rights.{IsRightState};
 ghost use Rattle.mt_core.specs.Shapes.{shape_of};
 ghost use Rattle.mt_core.specs.Shows.{phase_at, noted_at};
-ghost use Rattle.mt_core.specs.declared.operation.Operation.{Operation as AnyOperation};
 ghost use Rattle.mt_core.specs.Alone.{Runs, IsAlone, EndsAlone};
 ghost use Rattle.mt_core.specs.Tidies.{Tidies};
+ghost use Rattle.mt_core.specs.Nexts.{IsNext, ending};
+ghost use Rattle.mt_state.specs.Ways.{IsDescent};
+ghost use Rattle.mt_core.specs.Shows.{phase_in};
+ghost use Rattle.mt_operation.specs.declared.operation.Operation.{Operation as AnyOperation};
+ghost use Rattle.mt_operation.specs.Operations.{OperationView, view_of};
+ghost use Rattle.mt_operation.specs.Tables.{op_at as operation_at};
 
-use crate::answers::{Move, Ticket};
-use crate::openings::{admitted, give_up, has_room};
-use crate::operation::Progress;
-use crate::phase::Phase;
-use crate::reads::{
-    add_entry, count_at, entry_of, left, marker, out_of_memory, push_write, ready_at, searched,
-    slot_at, taken_at, turn, write_row,
-};
-use crate::shape::{ShapeLine, line_of};
-use crate::table::Operations;
-use mt_border::Border;
+use crate::answers::Ticket;
+use crate::looks::{Loaded, absent, descended, load_row, no_memory};
+use crate::openings::{Opening, give_up, has_room, prepare};
+use crate::shape::{ShapeLine, root_line};
+use mt_arena::Arena;
+use mt_descent::{confirm, lock, search};
+use mt_insert::{judge, publish, store, unlock};
+use mt_operation::{Operation, Operations, Outcome, Phase, Prepared};
 use mt_rows::{Command, Refusal, Reply, Tenants};
 use mt_runs::Answer;
+use mt_state::Move;
 use mt_tape::Tape;
-use mt_version::Version;
 use std::alloc::{AllocError, Global};
 use std::marker::Model;
 
@@ -43,29 +43,24 @@ pub const MAX_STEPS: u64 = 1 << 59;
 /// in one node.
 pub const MOST_STEPS: u32 = 256 * (1 + 64);
 
-/// The node, the tape of its changes, and the operations.
+/// All nodes and trees, the tape of their changes, and the operations.
 #[derive(Drop)]
 pub struct State {
     alloc: Global,
     steps: u64,
     logs: u8,
     tenants: Tenants,
-    root: Border,
-    holder: Option<usize>,
+    arena: Arena,
     tape: Tape,
     operations: Operations,
 }
 
 impl Model for State {
-    ghost use Rattle.mt_core.specs.Views.{StateView, shown, contents_code};
-    ghost use Rattle.mt_core.specs.Invariant.{StateInvariant};
-    ghost use Rattle.std.specs.Coded.{codes};
+    ghost use Rattle.mt_state.specs.Views.{StateView, shown};
+    ghost use Rattle.mt_state.specs.Invariant.{StateInvariant};
+    ghost use Rattle.mt_core.specs.States.{core_of};
 
     ghost Value = { StateView };
-
-    ghost coded = { Prim.hlevel (codes, contents_code) };
-
-    ghost use Rattle.mt_core.specs.States.{core_of};
 
     ghost view = { λ s. shown (core_of s) };
 
@@ -74,22 +69,21 @@ impl Model for State {
 
 impl State {
     /// A state in which nothing has happened, for logs of so many workers, or for one worker where
-    /// none are kept.
-    pub fn new(alloc: Global, logs: u8, tenants: Tenants) -> Self
+    /// none are kept. An error comes where memory is refused.
+    pub fn new(alloc: Global, logs: u8, tenants: Tenants) -> Result<Self, AllocError>
         requires logs { logs ≤ 64 }
         requires empty { HaveNoPairs tenants }
-        ensures { result ≡ new_state logs tenants }
+        ensures { IfOk result (λ state. state ≡ new_state logs tenants) }
     {
-        State {
+        Ok(State {
             alloc,
             steps: 0,
             logs,
             tenants,
-            root: Border::new(alloc, 0, None, Version::root_border()),
-            holder: None,
+            arena: Arena::new(alloc)?,
             tape: Tape::new(alloc, 0),
             operations: Operations::new(alloc),
-        }
+        })
     }
 
     /// Begins an operation of a worker for a tenant.
@@ -103,11 +97,21 @@ impl State {
         ensures told { TellsBegin self.old self.new worker tenant command result }
         ensures refused { TellsRefusal self.old tenant command result }
     {
-        let Some(_) = self.tenants.account(tenant) else {
+        self.admit(prepare(self.alloc, worker, tenant, command))
+    }
+
+    /// Begins the operation of an opening. Errors are those of `begin`.
+    pub fn admit(&mut self, opening: Opening) -> Result<Ticket, Refusal>
+        requires { MayAdmit self.old opening.made }
+        ensures told { TellsAdmitted self.old self.new opening result }
+        ensures refused { RefusesOpening self.old opening result }
+    {
+        let Opening { tenant, made } = opening;
+        if self.tenants.account(tenant).is_none() {
             return Err(Refusal::NoTenant);
-        };
-        let operation = admitted(self.alloc, worker, tenant, command)?;
-        if !has_room(&self.root, &operation) {
+        }
+        let operation = made?;
+        if !has_room(&self.arena, &operation.task) {
             return Err(Refusal::NoRoom);
         }
         if self.steps >= MAX_STEPS {
@@ -117,7 +121,7 @@ impl State {
         Ok(Ticket { id })
     }
 
-    /// The answer of an operation that is finished; else its ticket comes back.
+    /// The answer of an operation that is finished, which is right; else its ticket comes back.
     pub fn take(&mut self, ticket: Ticket) -> Result<Answer, Ticket>
         ensures { TellsTake self.old self.new ticket result }
     {
@@ -138,7 +142,7 @@ impl State {
     pub fn phase(&self, ticket: &Ticket) -> Option<Phase>
         ensures { result ≡ phase_at self.now.table ticket.now.id }
     {
-        self.operations.get(ticket.id)?.progress.phase()
+        next_phase(&self.operations, ticket.id)
     }
 
     /// The reply that a get remembers, which it answers where its next step finds the node's keys
@@ -146,19 +150,20 @@ impl State {
     pub fn noted(&self, ticket: &Ticket) -> Option<&Reply>
         ensures { option_map (λ r. r.now) result ≡ noted_at self.now.table ticket.now.id }
     {
-        match &self.operations.get(ticket.id)?.progress {
-            Progress::Confirm { reply, .. } => Some(reply),
+        let operation = self.operations.get(ticket.id)?;
+        match (operation.walk.phase, &operation.outcome) {
+            (Phase::Confirm, Some(outcome)) => Some(&outcome.reply),
             _ => None,
         }
     }
 
     /// The tree, line by line, as it is printed.
     pub fn shape(&self, alloc: Global) -> Result<Vec<ShapeLine>, AllocError>
-        ensures { IfOk result (λ lines. lines.items ≡ shape_of self.now.contents) }
+        ensures { IfOk result (λ lines. lines.items ≡ shape_of self.now.arena) }
     {
         let mut lines = Vec::new(alloc);
         lines.push(ShapeLine::Tree)?;
-        lines.push(line_of(&self.root))?;
+        lines.push(root_line(&self.arena))?;
         Ok(lines)
     }
 
@@ -176,6 +181,15 @@ impl State {
         self.logs
     }
 
+    /// What holds of every state: its tape is legal, and goes back before the first step of each open
+    /// operation; a finished one's reply is right at its number; a change that was placed has its entry;
+    /// the accounts count the pairs.
+    pub fn facts(&self)
+        ensures { IsRightState self.now }
+    {
+        let _ = &self.steps;
+    }
+
     /// Gives up the writes of the tape that no operation needs any more.
     pub fn tidy(&mut self)
         ensures { Tidies self.old self.new }
@@ -189,46 +203,25 @@ impl State {
         ensures { Tells self.old self.new ticket.now.id result }
     {
         let id = ticket.id;
-        let Some(operation) = self.operations.get(id) else {
+        let Some(phase) = next_phase(&self.operations, id) else {
             return Move::NoSuch;
         };
-        if let Progress::Finished { .. } = &operation.progress {
-            return Move::NoSuch;
-        }
         if self.steps >= MAX_STEPS {
             return Move::Spent;
         }
-        match &operation.progress {
-            Progress::Enter => self.enter(id),
-            Progress::Search { seen } => {
-                let seen = *seen;
-                self.search(id, seen)
+        match phase {
+            Phase::Enter | Phase::Pick | Phase::Child | Phase::Verify | Phase::Forward => {
+                self.descend(id)
             }
-            Progress::Load {
-                seen,
-                slot,
-                searched,
-            } => {
-                let (seen, slot, searched) = (*seen, *slot, *searched);
-                self.load(id, seen, slot, searched)
-            }
-            Progress::Confirm { seen, .. } => {
-                let seen = *seen;
-                self.confirm(id, seen)
-            }
-            Progress::Forward { seen } => {
-                let seen = *seen;
-                self.forward(id, seen)
-            }
-            Progress::Lock { seen } => {
-                let seen = *seen;
-                self.lock(id, seen)
-            }
-            Progress::Judge => self.judge(id),
-            Progress::Store { .. } => self.store(id),
-            Progress::Publish { .. } => self.publish(id),
-            Progress::Unlock { .. } => self.unlock(id),
-            Progress::Finished { .. } => Move::NoSuch,
+            Phase::Search => self.search(id),
+            Phase::Load => self.load(id),
+            Phase::Confirm => self.confirm(id),
+            Phase::Lock => self.lock(id),
+            Phase::Judge => self.judge(id),
+            Phase::Store => self.store(id),
+            Phase::Publish => self.publish(id),
+            Phase::Unlock => self.unlock(id),
+            Phase::Done => Move::NoSuch,
         }
     }
 
@@ -236,7 +229,7 @@ impl State {
     /// one answered. An operation that is alone from its first step on is done.
     pub fn run_alone(&mut self, ticket: &Ticket) -> Move
         ensures runs { Runs self.old self.new ticket.now.id result }
-        ensures alone { (op : AnyOperation) → IsAlone self.old ticket.now.id op → EndsAlone self.old self.new ticket.now.id op result }
+        ensures alone { (op : OperationView) → IsAlone self.old ticket.now.id op → EndsAlone self.old self.new ticket.now.id op result }
     {
         for _ in 0..MOST_STEPS {
             match self.step(ticket) {
@@ -247,136 +240,110 @@ impl State {
         Move::Moved
     }
 
-    // Remembers the root's version.
-    fn enter(&mut self, id: usize) -> Move
-        requires next { IsNext self.old id Progress.Enter }
+    // Goes down the tree, or on to the next node.
+    fn descend(&mut self, id: usize) -> Move
+        requires next { IsNext self.old id IsDescent }
         requires few { self.old.steps < 2 ^ 59 }
         ensures { Tells self.old self.new id result }
     {
-        let seen = self.root.version();
-        if let Some(holder) = marker(seen, self.holder) {
-            return Move::Again {
-                holder: holder as u64,
-            };
+        match descended(&self.arena, open(&self.operations, id)) {
+            Ok(walk) => {
+                self.steps += 1;
+                self.operations.go_on(id, self.steps, walk);
+                Move::Moved
+            }
+            Err(holder) => again(holder),
         }
-        self.steps += 1;
-        let progress = turn(&self.operations, id, seen);
-        self.operations.go_on(id, self.steps, progress);
-        Move::Moved
     }
 
     // Looks for the key.
-    fn search(&mut self, id: usize, seen: Version) -> Move
-        requires next { IsNext self.old id (Progress.Search seen) }
+    fn search(&mut self, id: usize) -> Move
+        requires next { IsNext self.old id (λ phase. phase ≡ Phase.Search) }
         requires few { self.old.steps < 2 ^ 59 }
         ensures { Tells self.old self.new id result }
     {
-        let found = slot_at(&self.root, &self.operations, id);
         self.steps += 1;
-        let progress = searched(seen, found, self.steps);
-        self.operations.go_on(id, self.steps, progress);
+        let operation = open(&self.operations, id);
+        let mut walk = operation.walk;
+        search(&self.arena, &operation.task.key, &mut walk, self.steps);
+        self.operations.go_on(id, self.steps, walk);
+        if walk.phase == Phase::Confirm {
+            self.operations.note(id, Some(absent(self.steps)));
+        }
         Move::Moved
     }
 
     // Takes the row of the slot that was found.
-    fn load(&mut self, id: usize, seen: Version, slot: usize, searched: u64) -> Move
-        requires next { IsNext self.old id (Progress.Load seen slot searched) }
+    fn load(&mut self, id: usize) -> Move
+        requires next { IsNext self.old id (λ phase. phase ≡ Phase.Load) }
         requires few { self.old.steps < 2 ^ 59 }
         ensures { Tells self.old self.new id result }
     {
-        let taken = taken_at(self.alloc, &self.root, slot, &self.operations, id);
-        self.steps += 1;
-        match taken {
-            Some((reply, at)) => {
-                let at = at.unwrap_or(searched);
-                let progress = Progress::Confirm { seen, reply, at };
-                self.operations.go_on(id, self.steps, progress);
-                Move::Moved
+        match load_row(self.alloc, &self.arena, open(&self.operations, id), self.steps + 1) {
+            Ok(Loaded { walk, outcome }) => {
+                self.steps += 1;
+                self.operations.go_on(id, self.steps, walk);
+                self.operations.note(id, outcome);
+                ending(walk.phase)
             }
-            None => {
-                let progress = out_of_memory(self.steps);
-                self.operations.go_on(id, self.steps, progress);
-                Move::Done
-            }
+            Err(holder) => again(holder),
         }
     }
 
     // Compares the version with the one that was remembered.
-    fn confirm(&mut self, id: usize, seen: Version) -> Move
-        requires next { (reply : AnyReply) × (at : ℕ) × IsNext self.old id (Progress.Confirm seen reply at) }
+    fn confirm(&mut self, id: usize) -> Move
+        requires next { IsNext self.old id (λ phase. phase ≡ Phase.Confirm) }
         requires few { self.old.steps < 2 ^ 59 }
         ensures { Tells self.old self.new id result }
     {
-        let version = self.root.version();
-        if let Some(holder) = marker(version, self.holder) {
-            return Move::Again {
-                holder: holder as u64,
-            };
+        let operation = open(&self.operations, id);
+        let mut walk = operation.walk;
+        if let Some(holder) = confirm(&self.arena, &operation.task.key, &mut walk) {
+            return again(holder);
         }
         self.steps += 1;
-        if version.same_but_lock(seen) {
-            self.operations.finish(id, self.steps);
+        self.operations.go_on(id, self.steps, walk);
+        if walk.phase == Phase::Done {
             return Move::Done;
         }
-        let progress = left(version);
-        self.operations.go_on(id, self.steps, progress);
+        self.operations.note(id, None);
         Move::Moved
     }
 
-    // There is no next node: goes back.
-    fn forward(&mut self, id: usize, seen: Version) -> Move
-        requires next { IsNext self.old id (Progress.Forward seen) }
+    // Takes the lock of the border node.
+    fn lock(&mut self, id: usize) -> Move
+        requires next { IsNext self.old id (λ phase. phase ≡ Phase.Lock) }
         requires few { self.old.steps < 2 ^ 59 }
         ensures { Tells self.old self.new id result }
     {
-        self.steps += 1;
-        let progress = turn(&self.operations, id, seen);
-        self.operations.go_on(id, self.steps, progress);
-        Move::Moved
-    }
-
-    // Takes the lock, where the node still has the keys that it had.
-    fn lock(&mut self, id: usize, seen: Version) -> Move
-        requires next { IsNext self.old id (Progress.Lock seen) }
-        requires few { self.old.steps < 2 ^ 59 }
-        ensures { Tells self.old self.new id result }
-    {
-        if let Some(holder) = self.holder {
-            return Move::Again {
-                holder: holder as u64,
-            };
+        let operation = open(&self.operations, id);
+        let mut walk = operation.walk;
+        if let Some(holder) = lock(&mut self.arena, &operation.task.key, &mut walk, id) {
+            return again(holder);
         }
         self.steps += 1;
-        let version = self.root.version();
-        if version.is_deleted() || version.splits() != seen.splits() {
-            let progress = left(version);
-            self.operations.go_on(id, self.steps, progress);
-            return Move::Moved;
-        }
-        self.root.set_version(version.locked());
-        self.holder = Some(id);
-        self.operations.go_on(id, self.steps, Progress::Judge);
+        self.operations.go_on(id, self.steps, walk);
         Move::Moved
     }
 
     // Looks for the key under the lock, and makes all growths of the placing step.
     fn judge(&mut self, id: usize) -> Move
-        requires next { IsNext self.old id Progress.Judge }
+        requires next { IsNext self.old id (λ phase. phase ≡ Phase.Judge) }
         requires few { self.old.steps < 2 ^ 59 }
         ensures { Tells self.old self.new id result }
     {
         self.steps += 1;
-        let ready = ready_at(self.alloc, &self.root, &mut self.tape, &self.operations, id);
-        match ready {
-            Some(progress) => {
-                self.operations.go_on(id, self.steps, progress);
+        let operation = open(&self.operations, id);
+        let mut walk = operation.walk;
+        let prepared = judge(self.alloc, &mut self.arena, &mut self.tape, &operation.task, &mut walk, id);
+        self.operations.go_on(id, self.steps, walk);
+        match prepared {
+            Some(prepared) => {
+                self.operations.make_ready(id, prepared);
                 Move::Moved
             }
             None => {
-                self.root.set_version(self.root.version().unlocked());
-                self.holder = None;
-                let progress = out_of_memory(self.steps);
-                self.operations.go_on(id, self.steps, progress);
+                self.operations.note(id, Some(no_memory(self.steps)));
                 Move::Done
             }
         }
@@ -384,64 +351,116 @@ impl State {
 
     // Writes the row over the one that is there.
     fn store(&mut self, id: usize) -> Move
-        requires next { (slot : ℕ) × (row : Columns) × (entry : AnyEntry) × IsNext self.old id (Progress.Store slot row entry) }
+        requires next { IsNext self.old id (λ phase. phase ≡ Phase.Store) }
         requires few { self.old.steps < 2 ^ 59 }
         ensures { Tells self.old self.new id result }
     {
         self.steps += 1;
-        let placed = Progress::Unlock {
-            reply: Reply::Replaced,
-            at: self.steps,
-        };
-        let ready = self.operations.advance(id, self.steps, placed);
-        let Some(Progress::Store { slot, row, entry }) = ready else {
-            unreachable!()
-        };
-        write_row(&mut self.root, slot, row, self.steps);
-        push_write(&mut self.tape, entry, self.steps);
+        let prepared = taken_out(&mut self.operations, id);
+        let operation = open(&self.operations, id);
+        let mut walk = operation.walk;
+        store(&mut self.arena, &mut self.tape, &operation.task, &mut walk, prepared, self.steps, id);
+        self.operations.go_on(id, self.steps, walk);
+        self.operations.note(id, Some(placed(Reply::Replaced, self.steps)));
         Move::Moved
     }
 
     // Judges the quota, and makes the pair live.
     fn publish(&mut self, id: usize) -> Move
-        requires next { (suffix : Bytes) × (row : Columns) × (entry : AnyEntry) × IsNext self.old id (Progress.Publish suffix row entry) }
+        requires next { IsNext self.old id (λ phase. phase ≡ Phase.Publish) }
         requires few { self.old.steps < 2 ^ 59 }
         ensures { Tells self.old self.new id result }
     {
         self.steps += 1;
-        if !count_at(&mut self.tenants, &self.operations, id) {
-            let placed = Progress::Unlock {
-                reply: Reply::Full,
-                at: self.steps,
-            };
-            self.operations.go_on(id, self.steps, placed);
-            self.tape.release();
-            return Move::Moved;
-        }
-        let placed = Progress::Unlock {
-            reply: Reply::New,
-            at: self.steps,
-        };
-        let ready = self.operations.advance(id, self.steps, placed);
-        let Some(Progress::Publish { suffix, row, entry }) = ready else {
-            unreachable!()
-        };
-        let added = entry_of(&self.operations, id, suffix, row, self.steps);
-        add_entry(&mut self.root, added);
-        push_write(&mut self.tape, entry, self.steps);
+        let prepared = taken_out(&mut self.operations, id);
+        let operation = open(&self.operations, id);
+        let mut walk = operation.walk;
+        let is_new = publish(
+            &mut self.arena,
+            &mut self.tape,
+            &mut self.tenants,
+            &operation.task,
+            &mut walk,
+            prepared,
+            self.steps,
+            id,
+        );
+        self.operations.go_on(id, self.steps, walk);
+        let reply = if is_new { Reply::New } else { Reply::Full };
+        self.operations.note(id, Some(placed(reply, self.steps)));
         Move::Moved
     }
 
     // Gives the lock back.
     fn unlock(&mut self, id: usize) -> Move
-        requires next { (reply : AnyReply) × (at : ℕ) × IsNext self.old id (Progress.Unlock reply at) }
+        requires next { IsNext self.old id (λ phase. phase ≡ Phase.Unlock) }
         requires few { self.old.steps < 2 ^ 59 }
         ensures { Tells self.old self.new id result }
     {
         self.steps += 1;
-        self.root.set_version(self.root.version().unlocked());
-        self.holder = None;
-        self.operations.finish(id, self.steps);
+        let mut walk = open(&self.operations, id).walk;
+        unlock(&mut self.arena, &mut walk, id);
+        self.operations.go_on(id, self.steps, walk);
         Move::Done
+    }
+}
+
+// Another operation is in the way.
+fn again(holder: usize) -> Move
+    ensures { result ≡ Move.Again holder }
+{
+    Move::Again {
+        holder: holder as u64,
+    }
+}
+
+// What a step answers that leads to this phase.
+fn ending(phase: Phase) -> Move
+    ensures { result ≡ ending phase }
+{
+    if phase == Phase::Done {
+        Move::Done
+    } else {
+        Move::Moved
+    }
+}
+
+// The outcome of a put that this step has judged.
+fn placed(reply: Reply, step: u64) -> Outcome
+    ensures { result ≡ record { reply = reply; at = step } }
+{
+    Outcome { reply, at: step }
+}
+
+// What the next step of an operation does; nothing, where no step of it is left.
+fn next_phase(operations: &Operations, id: usize) -> Option<Phase>
+    ensures { result ≡ phase_in (option_map view_of (operation_at operations.now id)) }
+{
+    match operations.get(id)?.walk.phase {
+        Phase::Done => None,
+        phase => Some(phase),
+    }
+}
+
+// The operation of an id, which is there.
+fn open<'a>(operations: &'a Operations, id: usize) -> &'a Operation
+    requires { IsSome (operation_at operations.now id) }
+    ensures { operation_at operations.now id ≡ Some result.now }
+{
+    match operations.get(id) {
+        Some(operation) => operation,
+        None => unreachable!(),
+    }
+}
+
+// Takes out what an operation has made ready.
+fn taken_out(operations: &mut Operations, id: usize) -> Prepared
+    requires { (op : AnyOperation) × (operation_at operations.old id ≡ Some op) × (op.prepared ≢ None) }
+    ensures { (op : AnyOperation) → operation_at operations.old id ≡ Some op →
+        (op.prepared ≡ Some result) × (operations.new ≡ slice_set operations.old id (Some (record op { prepared = None }))) }
+{
+    match operations.take_prepared(id) {
+        Some(prepared) => prepared,
+        None => unreachable!(),
     }
 }

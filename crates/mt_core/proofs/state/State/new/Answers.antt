@@ -1,8 +1,0 @@
-use Rattle.mt_core.proofs.Starts.{start_done}
-use Rattle.mt_core.proofs.state.State.new.Goals as goal
-
-pub invariant_of-result : goal.invariant_of-result
-invariant_of-result c = (start_done c.args.logs c.args.tenants c.new.result c.root_border.result c.new-2.result c.new-3.result c.requires.empty c.new.ensures c.root_border.ensures.value c.new-2.ensures c.new-3.ensures).0
-
-pub returns : goal.returns
-returns c = (start_done c.args.logs c.args.tenants c.new.result c.root_border.result c.new-2.result c.new-3.result c.requires.empty c.new.ensures c.root_border.ensures.value c.new-2.ensures c.new-3.ensures).1

@@ -1,0 +1,52 @@
+-- What holds of every state, by what it shows.
+use Rattle.std.specs.Prelude.{◌≡◌, ℕ, ◌<◌, ◌≤◌, true, Some}
+use Rattle.std.specs.List.{Contains}
+use Rattle.std.specs.FinMap.{len}
+use Rattle.mt_rows.specs.declared.tenants.Account.{Account}
+use Rattle.mt_rows.specs.Accounts.{account_of}
+use Rattle.mt_rows.specs.Changes.{changed}
+use Rattle.mt_rows.specs.Commands.{key_of}
+use Rattle.mt_rows.specs.Rows.{columns_of}
+use Rattle.mt_rows.specs.Tenants.{tenant_map}
+use Rattle.mt_tape.specs.declared.entry.Entry.{Entry as TapeEntry}
+use Rattle.mt_tape.specs.Tapes.{RisesOver, last_write}
+use Rattle.mt_tape.specs.Histories.{IsLegalTape}
+use Rattle.mt_insert.specs.Puts.{change_of}
+use Rattle.mt_operation.specs.declared.outcome.Outcome.{Outcome}
+use Rattle.mt_operation.specs.Operations.{OperationView, is_done}
+use Rattle.mt_state.specs.Views.{StateView, contents_of, op_at}
+use Rattle.mt_state.specs.Steps.{change_in}
+use Rattle.mt_state.specs.Promises.{IsAnswer}
+
+-- the steps of the tape rise over its floor and were made, and each entry tells what its step did
+pub record IsRightTape (v : StateView) : Type 0 where
+  pub rises : RisesOver v.tape.floor v.tape.entries
+  pub made : last_write v.tape ≤ v.steps
+  pub legal : IsLegalTape v.tape.entries (contents_of v)
+
+-- a change that an operation has placed has an entry of its step, worker, tenant and key, with the row that its command makes of the one before
+pub record HasEntry (v : StateView) (op : OperationView) (step : ℕ) : Type 0 where
+  pub entry : TapeEntry
+  pub there : Contains v.tape.entries entry
+  pub step_is : entry.step ≡ step
+  pub worker : entry.worker ≡ op.worker
+  pub tenant : entry.tenant ≡ op.tenant
+  pub key_is : entry.key ≡ key_of op.command
+  pub makes : entry.after ≡ Some (changed (change_of op.command) (columns_of entry.before))
+
+-- what holds of an operation: the tape goes back before its first step, its reply is right once it is finished, and its change has its entry
+pub record IsRightOperation (v : StateView) (op : OperationView) : Type 0 where
+  pub floor : 0 < op.first → v.tape.floor < op.first
+  pub answer : is_done op.phase ≡ true → (told : Outcome) × (op.outcome ≡ Some told) × IsAnswer v op told
+  pub placed : (m : ℕ) → change_in op ≡ Some m → HasEntry v op m
+
+-- a tenant's count is the number of its pairs, at most its quota
+pub record IsRightAccount (v : StateView) (tenant : ℕ) (account : Account) : Type 0 where
+  pub count : account.count ≡ len (tenant_map tenant (contents_of v))
+  pub quota : account.count ≤ account.quota
+
+-- all of it
+pub record IsRightState (v : StateView) : Type 0 where
+  pub tape : IsRightTape v
+  pub operations : (o : ℕ) (op : OperationView) → op_at v.table o ≡ Some op → IsRightOperation v op
+  pub accounts : (t : ℕ) (account : Account) → account_of v.accounts t ≡ Some account → IsRightAccount v t account
