@@ -1,5 +1,5 @@
--- What a begin and a take answer, by their tickets.
-use Rattle.std.specs.Prelude.{◌≡◌, ℕ, Option, Result, Ok, Err}
+-- What a begin, a take and a cancelling answer, by their tickets.
+use Rattle.std.specs.Prelude.{◌≡◌, ℕ, Option, Some, None, Result, Ok, Err, slice_set}
 use Rattle.std.specs.Option.{option_map}
 use Rattle.std.specs.Ordering.{nat_cmp}
 use Rattle.std.specs.BTreeMap.{BTreeMap, get}
@@ -7,7 +7,8 @@ use Rattle.mt_rows.specs.declared.command.Command.{Command}
 use Rattle.mt_rows.specs.declared.refusal.Refusal.{Refusal}
 use Rattle.mt_runs.specs.declared.event.Answer.{Answer}
 use Rattle.mt_core.specs.declared.answers.Ticket.{Ticket}
-use Rattle.mt_state.specs.Views.{StateView}
+use Rattle.mt_operation.specs.Operations.{OperationView}
+use Rattle.mt_state.specs.Views.{StateView, Shown, op_at}
 use Rattle.mt_state.specs.Begins.{Begins, Takes, IsEnded}
 use Rattle.mt_state.specs.Histories.{Names}
 use Rattle.mt_state.specs.Refused.{first_fault, cause_of, Refuses}
@@ -21,6 +22,20 @@ TellsBegin old new worker tenant command (Err refusal) = new ≡ old
 abbrev pub TellsTake : StateView → StateView → Ticket → Result Answer Ticket → Type 0
 TellsTake old new ticket (Ok answer) = Takes old new ticket.id answer
 TellsTake old new ticket (Err back) = (back ≡ ticket) × (new ≡ old) × ¬ IsEnded old.table ticket.id
+
+-- an operation is there that has made no step
+abbrev pub IsStill : Shown → ℕ → Type 0
+IsStill table o = (op : OperationView) × (op_at table o ≡ Some op) × (op.first ≡ 0)
+
+-- it is gone; all else is as it was
+pub record Cancels (old new : StateView) (o : ℕ) : Type 0 where
+  pub still : IsStill old.table o
+  pub gone : new ≡ record old { table = slice_set old.table o None }
+
+-- what a cancelling may answer: the ticket of an operation that has made a step, or is not there, comes back, and nothing changes
+abbrev pub TellsCancel : StateView → StateView → Ticket → Result (Unit {0}) Ticket → Type 0
+TellsCancel old new ticket (Ok done) = Cancels old new ticket.id
+TellsCancel old new ticket (Err back) = (back ≡ ticket) × (new ≡ old) × ¬ IsStill old.table ticket.id
 
 -- Memory may stand in place of NoRoom, of Spent and of a success, and never of a fault
 abbrev pub TellsRefusal : StateView → ℕ → Command → Result Ticket Refusal → Type 0

@@ -1,6 +1,6 @@
 //! How operations are made of commands, and answered.
 
-ghost use Rattle.std.specs.Prelude.{◌≡◌, ◌≢◌, ◌≤◌, ℕ, true, false, IsTrue, IfSome, IfNone, IfOk, length, slice_set, Some, None};
+ghost use Rattle.std.specs.Prelude.{◌≡◌, ◌≢◌, ◌<◌, ◌≤◌, ℕ, true, false, IsTrue, IfSome, IfNone, IfOk, length, slice_set, Some, None};
 ghost use Rattle.std.specs.Result.{result_err};
 ghost use Rattle.mt_slices.specs.Slices.{slice_of, mark_of, suffix_of};
 ghost use Rattle.mt_border.specs.Entries.{IsMissing};
@@ -220,5 +220,16 @@ fn answer_of(operation: Operation) -> Answer
         first: walk.first,
         at,
         last,
+    }
+}
+
+/// Whether the operation is there, and has made no step.
+pub(crate) fn is_still(operations: &Operations, id: usize) -> bool
+    ensures yes { IsTrue result → (op : AnyOperation) × (operation_at operations.now id ≡ Some op) × (op.walk.first ≡ 0) }
+    ensures no { result ≡ false → (op : AnyOperation) → operation_at operations.now id ≡ Some op → 0 < op.walk.first }
+{
+    match operations.get(id) {
+        Some(operation) => operation.first() == 0,
+        None => false,
     }
 }

@@ -7,7 +7,7 @@ ghost use Rattle.std.specs.Prelude.{◌≡◌, ◌≢◌, ◌+◌, ◌<◌, ◌�
 ghost use Rattle.std.specs.Option.{option_map};
 ghost use Rattle.mt_state.specs.Promises.{Tells};
 ghost use Rattle.mt_state.specs.Begins.{new_state, HaveNoPairs, IsWorker, MayBegin, HasOpenPut};
-ghost use Rattle.mt_core.specs.Tickets.{TellsBegin, TellsTake, TellsRefusal};
+ghost use Rattle.mt_core.specs.Tickets.{TellsBegin, TellsTake, TellsCancel, TellsRefusal};
 ghost use Rattle.mt_core.specs.Admitted.{MayAdmit, TellsAdmitted, RefusesOpening};
 ghost use Rattle.mt_core.specs.Rights.{IsRightState};
 ghost use Rattle.mt_core.specs.Shapes.{shape_of};
@@ -23,7 +23,7 @@ ghost use Rattle.mt_operation.specs.Tables.{op_at as operation_at};
 
 use crate::answers::Ticket;
 use crate::looks::{Loaded, absent, descended, load_row, no_memory};
-use crate::openings::{Opening, give_up, has_room, prepare};
+use crate::openings::{Opening, give_up, has_room, is_still, prepare};
 use crate::shape::{ShapeLine, root_line};
 use mt_arena::Arena;
 use mt_descent::{confirm, lock, search};
@@ -129,6 +129,17 @@ impl State {
             Some(answer) => Ok(answer),
             None => Err(ticket),
         }
+    }
+
+    /// Takes out an operation that has made no step; else its ticket comes back.
+    pub fn cancel(&mut self, ticket: Ticket) -> Result<(), Ticket>
+        ensures { TellsCancel self.old self.new ticket result }
+    {
+        if !is_still(&self.operations, ticket.id) {
+            return Err(ticket);
+        }
+        self.operations.remove(ticket.id);
+        Ok(())
     }
 
     /// Whether a put has a step left: as long as there is one node alone, no other may be begun.

@@ -5,48 +5,47 @@ use Rattle.std.proofs.lemmas.Bool.{cases_eq}
 use Rattle.std.proofs.lemmas.List.{get_or-set_other}
 use Rattle.std.proofs.lemmas.Option.{same_Some, none-some}
 use Rattle.mt_runs.specs.declared.event.Answer.{Answer}
-use Rattle.mt_core.specs.declared.answers.Move.{Move}
-use Rattle.mt_core.specs.declared.answers.Move.TheVariants.{Moved, Again, NoMemory, Done, Spent, NoSuch}
-use Rattle.mt_core.specs.declared.phase.Phase.{Phase}
-use Rattle.mt_core.specs.declared.operation.Operation.{Operation}
-use Rattle.mt_core.specs.Operations.{moved}
-use Rattle.mt_core.specs.Views.{StateView, Table, op_at}
-use Rattle.mt_core.specs.Promises.{IsStep}
-use Rattle.mt_core.specs.Begins.{Takes}
+use Rattle.mt_state.specs.declared.moves.Move.{Move}
+use Rattle.mt_state.specs.declared.moves.Move.TheVariants.{Moved, Again, NoMemory, Done, Spent, NoSuch}
+use Rattle.mt_operation.specs.declared.walk.Phase.{Phase}
+use Rattle.mt_operation.specs.Operations.{OperationView}
+use Rattle.mt_state.specs.Views.{StateView, Shown, op_at}
+use Rattle.mt_state.specs.Promises.{IsStep}
+use Rattle.mt_state.specs.Begins.{Takes}
 use Rattle.mt_core.specs.Tidies.{Tidies}
 use Rattle.mt_lines.specs.Names.{Tickets, operation_of, FreesName}
 use Rattle.mt_lines.specs.Stores.{HaveOneName, IsInTable, TellsMove, Walks, EndsWalk, IsWalk}
 
 -- an operation that is written over is there
-pub written_is : (table : Table) (o : ℕ) (before after : Operation) → op_at table o ≡ Some before → op_at (set table o (Some after)) o ≡ Some after
+pub written_is : (table : Shown) (o : ℕ) (before after : OperationView) → op_at table o ≡ Some before → op_at (set table o (Some after)) o ≡ Some after
 written_is [] o before after e = absurd (none-some before e)
 written_is (x ∷ table) zero before after e = refl
 written_is (x ∷ table) (suc o) before after e = written_is table o before after e
 
 -- one that is taken away is not
-gone_is : (table : Table) (o : ℕ) → op_at (set table o None) o ≡ None
+gone_is : (table : Shown) (o : ℕ) → op_at (set table o None) o ≡ None
 gone_is [] o = refl
 gone_is (x ∷ table) zero = refl
 gone_is (x ∷ table) (suc o) = gone_is table o
 
 -- the same operations are open
-abbrev pub SameOpen : Table → Table → Type 0
+abbrev pub SameOpen : Shown → Shown → Type 0
 SameOpen old new = (q : ℕ) → is_some (op_at new q) ≡ is_some (op_at old q)
 
 -- where the same operations are open, the names are still theirs, one each
-pub named_same : (old new : Table) (named : Tickets) → SameOpen old new → HaveOneName old named → HaveOneName new named
+pub named_same : (old new : Shown) (named : Tickets) → SameOpen old new → HaveOneName old named → HaveOneName new named
 named_same old new named same a = record {
   each = λ o there. a.each o (sym (same o) ∙ there);
   one = a.one;
   open_ones = λ name o e. same o ∙ a.open_ones name o e;
 }
 
-step_case : (table : Table) (o q : ℕ) (before after : Operation) → op_at table o ≡ Some before → ((q ≡ o) ⊎ (q ≢ o)) → is_some (op_at (set table o (Some after)) q) ≡ is_some (op_at table q)
+step_case : (table : Shown) (o q : ℕ) (before after : OperationView) → op_at table o ≡ Some before → ((q ≡ o) ⊎ (q ≢ o)) → is_some (op_at (set table o (Some after)) q) ≡ is_some (op_at table q)
 step_case table o q before after there (inl here) = ap (λ k. is_some (op_at (set table o (Some after)) k)) here ∙ ap is_some (written_is table o before after there) ∙ sym (ap (λ k. is_some (op_at table k)) here ∙ ap is_some there)
 step_case table o q before after there (inr apart) = ap is_some (get_or-set_other table o q (Some after) None apart)
 
 step_same : (old new : StateView) (o : ℕ) (done : Bool) → IsStep old new o done → SameOpen old.table new.table
-step_same old new o done s q = ap (λ t. is_some (op_at t q)) s.table ∙ step_case old.table o q s.before (moved s.before (old.steps + 1) s.progress) s.there (cases_eq q o)
+step_same old new o done s q = ap (λ t. is_some (op_at t q)) s.table ∙ step_case old.table o q s.before s.after s.there (cases_eq q o)
 
 equal_same : (old new : StateView) → new ≡ old → SameOpen old.table new.table
 equal_same old new e q = ap (λ (v : StateView). is_some (op_at v.table q)) e
@@ -80,7 +79,7 @@ no_both : false ≡ true → ⊥
 no_both e = absurd cc
 
 -- no name stands for an operation that is not open
-pub unnamed : (table : Table) (named : Tickets) (o : ℕ) → HaveOneName table named → op_at table o ≡ None → (other : ℕ) → operation_of named other ≢ Some o
+pub unnamed : (table : Shown) (named : Tickets) (o : ℕ) → HaveOneName table named → op_at table o ≡ None → (other : ℕ) → operation_of named other ≢ Some o
 unnamed table named o a free other e = no_both (sym (ap is_some free) ∙ a.open_ones other o e)
 
 -- an operation is taken, and its name freed

@@ -1,27 +1,21 @@
 -- What a store hands on of the steps of an operation: for `NamedStore::step`, `until` and `run`.
 use Rattle.std.proofs.Common.{◌≡◌, ◌≢◌, ℕ, ◌+◌, Bool, true, false, not, Option, Some, None, refl, sym, ◌∙◌, ap, subst, arith}
 use Rattle.std.specs.Prelude.{is_some}
-use Rattle.mt_core.specs.declared.answers.Move.{Move}
-use Rattle.mt_core.specs.declared.answers.Move.TheVariants.{Moved, Again, NoMemory, Done, Spent, NoSuch}
-use Rattle.mt_core.specs.declared.phase.Phase.{Phase}
-use Rattle.mt_core.specs.Operations.{moved}
-use Rattle.mt_core.specs.Views.{StateView, op_at}
-use Rattle.mt_core.specs.Invariant.{is_unfinished}
-use Rattle.mt_core.specs.Promises.{IsStep, Tells}
-use Rattle.mt_core.specs.Begins.{IsEnded}
+use Rattle.mt_state.specs.declared.moves.Move.{Move}
+use Rattle.mt_state.specs.declared.moves.Move.TheVariants.{Moved, Again, NoMemory, Done, Spent, NoSuch}
+use Rattle.mt_operation.specs.declared.walk.Phase.{Phase}
+use Rattle.mt_state.specs.Views.{StateView, op_at}
+use Rattle.mt_state.specs.Promises.{IsStep, Tells}
+use Rattle.mt_state.specs.Begins.{IsEnded}
 use Rattle.mt_lines.specs.declared.response.Response.{Response}
 use Rattle.mt_lines.specs.declared.response.Response.TheVariants as responses
 use Rattle.mt_lines.specs.Names.{Tickets, operation_of, FreesName}
 use Rattle.mt_lines.specs.Stores.{StoreView, TellsMove, TellsStep, EndsWalk, SaysEnd, IsWalk, TellsWalk, SaysMove, CanSay, TellsNamed}
 use Rattle.mt_lines.proofs.NamedLemmas.{written_is}
 
-not_unfinished : (b : Bool) → true ≡ not b → b ≡ false
-not_unfinished true e = e
-not_unfinished false e = refl
-
 -- after its last step an operation is there, and no step of it is left
 pub ended : (old new : StateView) (o : ℕ) → IsStep old new o true → IsEnded new.table o
-ended old new o s = (moved s.before (old.steps + 1) s.progress, ap (λ t. op_at t o) s.table ∙ written_is old.table o s.before (moved s.before (old.steps + 1) s.progress) s.there, not_unfinished (is_unfinished s.progress) s.ends)
+ended old new o s = (s.after, ap (λ t. op_at t o) s.table ∙ written_is old.table o s.before s.after s.there, sym s.ends)
 
 -- what a step tells
 pub tells_move : (old new : StateView) (o : ℕ) (move : Move) → Tells old new o move → TellsMove old new o move
@@ -29,13 +23,13 @@ tells_move old new o Moved t = t
 tells_move old new o (Again holder) t = t
 tells_move old new o NoMemory t = t
 tells_move old new o Done t = t
-tells_move old new o Spent t = (t.0, omega (arith, t.1))
+tells_move old new o Spent t = (t.0, omega (arith, t.2))
 tells_move old new o NoSuch t = t
 
 -- what was told of a step can be said: an operation that is done has ended, and a holder is open
 pub can_say : (old new : StateView) (o : ℕ) (move : Move) → TellsMove old new o move → CanSay new o move
 can_say old new o Moved t = tt
-can_say old new o (Again holder) t = ap (λ (v : StateView). is_some (op_at v.table holder)) t.0 ∙ ap is_some t.1.there
+can_say old new o (Again holder) t = ap (λ (v : StateView). is_some (op_at v.table holder)) t.0 ∙ ap is_some t.2.unfinished.1
 can_say old new o NoMemory t = tt
 can_say old new o Done t = ended old new o t
 can_say old new o Spent t = tt
@@ -60,7 +54,7 @@ ends_walk stop mid new o Moved ne t = absurd (ne refl)
 ends_walk stop mid new o (Again holder) ne t = t
 ends_walk stop mid new o NoMemory ne t = t
 ends_walk stop mid new o Done ne t = t
-ends_walk stop mid new o Spent ne t = (t.0, omega (arith, t.1))
+ends_walk stop mid new o Spent ne t = (t.0, omega (arith, t.2))
 ends_walk stop mid new o NoSuch ne t = t
 
 -- a walk that isn't to stop ends otherwise

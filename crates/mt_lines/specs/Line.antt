@@ -2,9 +2,9 @@
 use Rattle.std.specs.Prelude.{ℕ, if◌then◌else◌, List, codes, Option, Some, None}
 use Rattle.mt_rows.specs.declared.command.Command.{Command}
 use Rattle.mt_rows.specs.declared.command.Command.TheVariants.{Get, Put}
-use Rattle.mt_core.specs.declared.phase.Phase.{Phase}
-use Rattle.mt_core.specs.declared.phase.Phase.TheVariants.{Enter, Search, Load, Confirm, Forward, Lock, Judge, Store, Publish, Unlock}
-use Rattle.mt_core.specs.Names as phases
+use Rattle.mt_operation.specs.declared.walk.Phase.{Phase}
+use Rattle.mt_operation.specs.declared.walk.Phase.TheVariants.{Enter, Search, Load, Confirm, Forward, Lock, Judge, Store, Publish, Unlock}
+use Rattle.mt_operation.specs.Names as phases
 use Rattle.mt_lines.specs.declared.line.Line.{Line}
 use Rattle.mt_lines.specs.declared.line.Line.TheVariants.{Tenant, Begin, Step, Until, Run, Shape}
 use Rattle.mt_lines.specs.Words.{◌>>=◌, words_of, next, no_more, each, number_up_to, name_word, is_text, key_word, column_word}

@@ -5,8 +5,8 @@ use Rattle.mt_rows.specs.declared.refusal.Refusal.{Refusal}
 use Rattle.mt_rows.specs.declared.refusal.Refusal.TheVariants.{Quota, Memory}
 use Rattle.mt_rows.specs.Accounts.{Accounts, account_of, OthersStay, IsQuota}
 use Rattle.mt_core.specs.declared.answers.Ticket.{Ticket}
-use Rattle.mt_core.specs.Begins.{new_state, TellsBegin}
-use Rattle.mt_core.specs.Refused.{TellsRefusal}
+use Rattle.mt_state.specs.Begins.{new_state}
+use Rattle.mt_core.specs.Tickets.{TellsBegin, TellsRefusal}
 use Rattle.mt_core.specs.Shapes.{shape_of}
 use Rattle.mt_lines.specs.declared.line.Line.{Line}
 use Rattle.mt_lines.specs.declared.line.Line.TheVariants as lines
@@ -26,11 +26,18 @@ IsTenantRefusal quota Quota = ¬ IsQuota quota
 IsTenantRefusal quota Memory = IsQuota quota
 IsTenantRefusal quota _ = ⊥
 
+-- a store in which nothing has happened, of this tenant alone
+pub record IsStoreOf (tenant quota : ℕ) (store : StoreView) : Type 0 where
+  pub accounts : Accounts
+  pub account : account_of accounts tenant ≡ Some (record { quota = quota; count = 0 })
+  pub others : OthersStay [] accounts tenant
+  pub state : store.state ≡ new_state 0 accounts
+  pub names : store.named ≡ []
+
 -- what is said of a tenant, where one is still taken: `ok`, and the store begins anew with this tenant alone; or it is refused, and nothing changes
 abbrev pub TellsTenant : Session → Session → ℕ → ℕ → Response → Type 0
 TellsTenant old new tenant quota Taken =
-    (old.takes_tenants ≡ true) × IsQuota quota × (new.takes_tenants ≡ false) × (new.store.named ≡ [])
-    × ((accounts : Accounts) × (account_of accounts tenant ≡ Some (record { quota = quota; count = 0 })) × OthersStay [] accounts tenant × (new.store.state ≡ new_state 0 accounts))
+    (old.takes_tenants ≡ true) × IsQuota quota × (new.takes_tenants ≡ false) × IsStoreOf tenant quota new.store
 TellsTenant old new tenant quota (Refused refusal) = (old.takes_tenants ≡ true) × IsTenantRefusal quota refusal × (new ≡ old)
 TellsTenant old new tenant quota BadLine = (old.takes_tenants ≡ false) × (new ≡ old)
 TellsTenant old new tenant quota _ = ⊥
@@ -47,9 +54,9 @@ abbrev pub TellsBeginLine : Session → Session → ℕ → ℕ → Command → 
 TellsBeginLine old new name tenant command BadLine = (new ≡ old) × ¬ MayBeginAs old.store name command
 TellsBeginLine old new name tenant command response = MayBeginAs old.store name command × (new.takes_tenants ≡ false) × TellsBegun old.store new.store name tenant command response
 
--- what is said of the tree: that of the store's pairs
+-- what is said of the tree
 abbrev pub TellsShape : Session → Response → Type 0
-TellsShape session (Shape lines) = lines.items ≡ shape_of session.store.state.contents
+TellsShape session (Shape lines) = lines.items ≡ shape_of session.store.state.arena
 TellsShape session _ = ⊥
 
 -- what is said of a line that steps the operation of a name

@@ -2,13 +2,13 @@
 use Rattle.std.specs.Prelude.{◌≡◌, ℕ, zero, suc, ◌≤◌, ◌^◌, true, false, [], Option, Some, None, is_some}
 use Rattle.mt_rows.specs.declared.command.Command.{Command}
 use Rattle.mt_runs.specs.declared.event.Answer.{Answer}
-use Rattle.mt_core.specs.declared.answers.Move.{Move}
-use Rattle.mt_core.specs.declared.answers.Move.TheVariants as moves
-use Rattle.mt_core.specs.declared.phase.Phase.{Phase}
-use Rattle.mt_core.specs.Views.{StateView, Table, op_at}
+use Rattle.mt_state.specs.declared.moves.Move.{Move}
+use Rattle.mt_state.specs.declared.moves.Move.TheVariants as moves
+use Rattle.mt_operation.specs.declared.walk.Phase.{Phase}
+use Rattle.mt_state.specs.Views.{StateView, Shown, op_at}
 use Rattle.mt_core.specs.Shows.{phase_at}
-use Rattle.mt_core.specs.Promises.{IsStep, Tells}
-use Rattle.mt_core.specs.Begins.{new_state, MayBegin, Takes, IsEnded}
+use Rattle.mt_state.specs.Promises.{IsStep, Tells}
+use Rattle.mt_state.specs.Begins.{new_state, MayBegin, Takes, IsEnded}
 use Rattle.mt_core.specs.Tidies.{Tidies}
 use Rattle.mt_lines.specs.declared.response.Response.{Response}
 use Rattle.mt_lines.specs.declared.response.Response.TheVariants.{At, Moved, Again, NoMemory, Spent, NoSuch, Done}
@@ -24,14 +24,20 @@ abbrev pub fresh_store : StoreView
 fresh_store = record { state = new_state 0 []; named = [] }
 
 -- the operation of an id was begun, and its answer not taken
-abbrev pub IsInTable : Table → ℕ → Type 0
+abbrev pub IsInTable : Shown → ℕ → Type 0
 IsInTable table o = is_some (op_at table o) ≡ true
 
 -- the names in use are exactly those of the open operations: each open operation has one name, and each name stands for an open operation
-pub record HaveOneName (table : Table) (named : Tickets) : Type 0 where
+pub record HaveOneName (table : Shown) (named : Tickets) : Type 0 where
   pub each : (o : ℕ) → IsInTable table o → (name : ℕ) × (operation_of named name ≡ Some o)
   pub one : (a b o : ℕ) → operation_of named a ≡ Some o → operation_of named b ≡ Some o → a ≡ b
   pub open_ones : (name o : ℕ) → operation_of named name ≡ Some o → IsInTable table o
+
+-- the same names, and the same operations
+pub record IsAsBefore (old new : StoreView) : Type 0 where
+  pub names : new.named ≡ old.named
+  pub operations : (o : ℕ) → op_at new.state.table o ≡ op_at old.state.table o
+  pub stands : new.state ≡ record old.state { table = new.state.table }
 
 -- the last step of an operation: its answer is taken, and the store tidied
 pub record Ends (old new : StateView) (o : ℕ) (answer : Answer) : Type 0 where

@@ -8,7 +8,7 @@ ghost use Rattle.mt_lines.specs.Line.{index_word, phase_word, tenant_line, get_w
 
 use crate::fault::LineFault;
 use crate::words;
-use mt_core::Phase;
+use mt_operation::Phase;
 use mt_rows::{Column, ColumnIndexes, Command, NamedColumns};
 use std::alloc::{AllocError, Global};
 

@@ -4,13 +4,14 @@
 //! found by a ticket's id in one look-up. Its memory is that of the names in use, and of the greatest
 //! id that one of them had.
 
-ghost use Rattle.std.specs.Prelude.{◌≡◌, ◌≢◌, ◌<◌, ◌↔◌, ℕ, [], length, slice_index_or, OnOk, OnErr, Some, None};
+ghost use Rattle.std.specs.Prelude.{◌≡◌, ◌≢◌, ◌<◌, ◌↔◌, ℕ, [], length, slice_index_or, OnOk, IfErr, Some, None};
 ghost use Rattle.std.specs.Option.{option_map};
 ghost use Rattle.mt_lines.specs.Names.{ticket_of, operation_of, TakesName, FreesName};
 
 use mt_core::Ticket;
 use std::alloc::{AllocError, Global};
 use std::collections::BTreeMap;
+use std::collections::btree_map::Entry;
 use std::marker::Model;
 
 /// The tickets by their names, and the names by their tickets' ids.
@@ -55,15 +56,25 @@ impl Names {
         name_at(&self.row, id as usize)
     }
 
-    /// Lets a free name stand for an operation that has none.
-    pub fn insert(&mut self, name: u32, ticket: Ticket) -> Result<(), AllocError>
+    /// Lets a free name stand for an operation that has none. Where memory is refused the ticket comes
+    /// back, and nothing changes.
+    pub fn insert(&mut self, name: u32, ticket: Ticket) -> Result<(), Ticket>
         requires free { operation_of self.old name ≡ None }
         requires unnamed { (other : ℕ) → operation_of self.old other ≢ Some ticket.id }
         ensures taken { OnOk result (TakesName self.old self.new name ticket.id) }
+        ensures back { IfErr result (λ back. (back ≡ ticket) × (self.new ≡ self.old)) }
     {
         let id = ticket.id() as usize;
-        make_room(&mut self.row, id)?;
-        self.tickets.insert(name, ticket)?;
+        if make_room(&mut self.row, id).is_err() {
+            return Err(ticket);
+        }
+        match self.tickets.entry(name) {
+            Ok(Entry::Vacant(entry)) => {
+                entry.insert(ticket);
+            }
+            Ok(Entry::Occupied(_)) => unreachable!(),
+            Err(_) => return Err(ticket),
+        }
         self.row[id] = Some(name);
         Ok(())
     }

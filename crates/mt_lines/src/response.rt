@@ -3,7 +3,8 @@
 ghost use Rattle.std.specs.Prelude.{◌≡◌, ◌++◌, OnOk, IfOk, string_bytes};
 ghost use Rattle.mt_lines.specs.Text.{columns_asked, index_at, cell_text, row_text, key_text, pairs_text, reply_text, answer_text, tree_text, IsText, Adds};
 
-use mt_core::{Phase, ShapeLine};
+use mt_core::ShapeLine;
+use mt_operation::Phase;
 use mt_rows::{Column, Command, Key, PairList, Refusal, Reply, Row};
 use mt_runs::Answer;
 use std::alloc::{AllocError, Global};

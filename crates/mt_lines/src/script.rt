@@ -70,7 +70,7 @@ pub fn run_script<R: Source, W: Sink>(
     ensures { RunsScript (R.remaining reader.old) (R.remaining reader.new) (W.contents writer.old) (W.contents writer.new)
         (Failed (R.failures reader.old) (R.failures reader.new)) (Failed (W.failures writer.old) (W.failures writer.new)) result }
 {
-    let mut session = Session::new(alloc);
+    let mut session = Session::new(alloc)?;
     let mut line = LineBuffer::new(alloc);
     answer_lines(alloc, &mut session, &mut line, reader, writer)
 }

@@ -1,14 +1,14 @@
 //! What a script has done so far: the store with the names of its operations, and whether a tenant is
 //! still taken.
 
-ghost use Rattle.std.specs.Prelude.{◌≡◌, IfOk, OnErr};
-ghost use Rattle.mt_lines.specs.Sessions.{fresh, TellsTenant, TellsBeginLine, TellsLine};
-ghost use Rattle.mt_lines.specs.Stores.{HaveOneName};
+ghost use Rattle.std.specs.Prelude.{◌≡◌, IfOk, IfErr, IsOk};
+ghost use Rattle.mt_lines.specs.Sessions.{fresh, IsStoreOf, IsTenantRefusal, TellsTenant, TellsBeginLine, TellsLine};
+ghost use Rattle.mt_rows.specs.Accounts.{IsQuota};
 
 use crate::line::Line;
 use crate::response::Response;
 use crate::store::NamedStore;
-use mt_rows::{Command, Tenants};
+use mt_rows::{Command, Refusal, Tenants};
 use std::alloc::{AllocError, Global};
 
 /// The store of a script, and whether a tenant may still be added.
@@ -20,13 +20,13 @@ pub struct Session {
 
 impl Session {
     /// A session without tenants, pairs and operations.
-    pub fn new(alloc: Global) -> Session
-        ensures { result ≡ fresh }
+    pub fn new(alloc: Global) -> Result<Session, AllocError>
+        ensures { IfOk result (λ session. session ≡ fresh) }
     {
-        Session {
-            store: NamedStore::new(alloc, Tenants::new(alloc)),
+        Ok(Session {
+            store: NamedStore::new(alloc, Tenants::new(alloc))?,
             takes_tenants: true,
-        }
+        })
     }
 
     /// Does what a line asks for.
@@ -39,7 +39,7 @@ impl Session {
                 name,
                 tenant,
                 command,
-            } => self.begin(alloc, name, tenant, command),
+            } => self.begin(name, tenant, command),
             Line::Step { name } => Ok(self.store.step(name)),
             Line::Until { name, phase } => Ok(self.store.until(name, phase)),
             Line::Run { name } => Ok(self.store.run(name)),
@@ -54,11 +54,10 @@ impl Session {
         if !self.takes_tenants {
             return Response::BadLine;
         }
-        let mut tenants = Tenants::new(alloc);
-        match tenants.add(tenant, quota) {
-            Ok(()) => {
+        match store_of(alloc, tenant, quota) {
+            Ok(store) => {
                 *self = Session {
-                    store: NamedStore::new(alloc, tenants),
+                    store,
                     takes_tenants: false,
                 };
                 Response::Taken
@@ -70,7 +69,6 @@ impl Session {
     // A name in use can't be begun, nor what the store doesn't take now.
     fn begin(
         &mut self,
-        alloc: Global,
         name: u32,
         tenant: u32,
         command: Command,
@@ -81,6 +79,17 @@ impl Session {
             return Ok(Response::BadLine);
         }
         self.takes_tenants = false;
-        self.store.begin(alloc, name, tenant, command)
+        self.store.begin(name, tenant, command)
     }
+}
+
+// A store of one tenant.
+fn store_of(alloc: Global, tenant: u32, quota: u32) -> Result<NamedStore, Refusal>
+    ensures store { IfOk result (IsStoreOf tenant quota) }
+    ensures refused { IfErr result (IsTenantRefusal quota) }
+    ensures taken { IsOk result → IsQuota quota }
+{
+    let mut tenants = Tenants::new(alloc);
+    tenants.add(tenant, quota)?;
+    Ok(NamedStore::new(alloc, tenants)?)
 }

@@ -5,21 +5,24 @@
 //! keeps no more of it.
 
 ghost use Rattle.std.specs.Prelude.{◌≡◌, ◌↔◌, ℕ, [], IfOk, OnErr, IsTrue, Some, None, Ok, Err, true};
-ghost use Rattle.mt_core.specs.Views.{StateView};
+ghost use Rattle.mt_state.specs.Views.{StateView};
 ghost use Rattle.mt_core.specs.Shows.{phase_at};
-ghost use Rattle.mt_core.specs.Begins.{new_state, HaveNoPairs, MayBegin, IsEnded};
+ghost use Rattle.mt_state.specs.Begins.{new_state, HaveNoPairs, MayBegin, IsEnded};
+ghost use Rattle.mt_core.specs.Tickets.{IsStill, Cancels};
 ghost use Rattle.mt_core.specs.Shapes.{shape_of};
 ghost use Rattle.mt_runs.specs.declared.event.Answer.{Answer as AnyAnswer};
 ghost use Rattle.mt_lines.specs.Names.{operation_of};
 ghost use Rattle.mt_lines.specs.Sessions.{TellsBegun};
-ghost use Rattle.mt_lines.specs.Stores.{fresh_store, HaveOneName, StopsAt, IsWalk, TellsStep, TellsWalk, TellsNamed, MayBeginAs, CanSay, GivesUp, SaysMove};
+ghost use Rattle.mt_lines.specs.Stores.{IsAsBefore, HaveOneName, StopsAt, IsWalk, TellsStep, TellsWalk, TellsNamed, MayBeginAs, CanSay, GivesUp, SaysMove};
 
 use crate::names::Names;
 use crate::response::Response;
 use mt_core::state::MAX_STEPS;
-use mt_core::{Move, Phase, ShapeLine, State, Ticket};
+use mt_core::{ShapeLine, State, Ticket};
+use mt_operation::Phase;
 use mt_rows::{Command, Tenants};
 use mt_runs::Answer;
+use mt_state::Move;
 use std::alloc::{AllocError, Global};
 use std::marker::Model;
 
@@ -31,13 +34,9 @@ pub struct NamedStore {
 }
 
 impl Model for NamedStore {
-    ghost use Rattle.std.specs.Coded.{codes};
-    ghost use Rattle.mt_core.specs.Views.{contents_code};
     ghost use Rattle.mt_lines.specs.Stores.{StoreView, HaveOneName};
 
     ghost Value = { StoreView };
-
-    ghost coded = { Prim.hlevel (codes, contents_code) };
 
     ghost view = { λ s. record { state = s.state; named = s.names } };
 
@@ -46,14 +45,14 @@ impl Model for NamedStore {
 
 impl NamedStore {
     /// A store of these tenants in which nothing has happened.
-    pub fn new(alloc: Global, tenants: Tenants) -> NamedStore
+    pub fn new(alloc: Global, tenants: Tenants) -> Result<NamedStore, AllocError>
         requires { HaveNoPairs tenants }
-        ensures { result ≡ record { state = new_state 0 tenants; named = [] } }
+        ensures { IfOk result (λ store. store ≡ record { state = new_state 0 tenants; named = [] }) }
     {
-        NamedStore {
-            state: State::new(alloc, 0, tenants),
+        Ok(NamedStore {
+            state: State::new(alloc, 0, tenants)?,
             names: Names::new(alloc),
-        }
+        })
     }
 
     /// Whether a begin may stand here: its name is free, and the store takes its command now: a get
@@ -73,24 +72,22 @@ impl NamedStore {
 
     /// Begins an operation by a free name, for worker 0.
     ///
-    /// Where a growth is refused behind the store's own begin, no operation is left without a name:
-    /// the store begins anew.
+    /// Where a growth is refused behind the store's own begin, the operation is cancelled: an error
+    /// leaves the names as they were, and the same operations open.
     pub fn begin(
         &mut self,
-        alloc: Global,
         name: u32,
         tenant: u32,
         command: Command,
     ) -> Result<Response, AllocError>
         requires { MayBeginAs self.old name command }
         ensures told { IfOk result (TellsBegun self.old self.new name tenant command) }
-        ensures given_up { OnErr result (self.new ≡ fresh_store) }
+        ensures cancelled { OnErr result (IsAsBefore self.old self.new) }
     {
         match self.state.begin(0, tenant, command) {
             Ok(ticket) => {
-                if self.names.insert(name, ticket).is_err() {
-                    self.state = State::new(alloc, 0, Tenants::new(alloc));
-                    self.names = Names::new(alloc);
+                if let Err(ticket) = self.names.insert(name, ticket) {
+                    cancel(&mut self.state, ticket);
                     return Err(AllocError);
                 }
                 Ok(Response::Begun(name))
@@ -136,10 +133,20 @@ impl NamedStore {
 
     /// The tree, as it is printed.
     pub fn shape(&self, alloc: Global) -> Result<Vec<ShapeLine>, AllocError>
-        ensures { IfOk result (λ lines. lines.items ≡ shape_of self.now.state.contents) }
+        ensures { IfOk result (λ lines. lines.items ≡ shape_of self.now.state.arena) }
     {
         self.state.shape(alloc)
     }
+}
+
+// Takes out an operation that has made no step.
+fn cancel(state: &mut State, ticket: Ticket)
+    requires { IsStill state.old.table ticket.id }
+    ensures { Cancels state.old state.new ticket.id }
+{
+    let Ok(()) = state.cancel(ticket) else {
+        unreachable!()
+    };
 }
 
 // What is said of a step's answer. After the last step the operation is taken with its answer.

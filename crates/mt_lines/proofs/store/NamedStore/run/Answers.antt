@@ -2,7 +2,7 @@ use Rattle.std.proofs.Common.{◌≡◌, ◌≢◌, None, Some, refl, sym, ap, s
 use Rattle.std.specs.Option.{option_map}
 use Rattle.mt_core.specs.declared.answers.Ticket.{Ticket}
 use Rattle.mt_lines.specs.Names.{operation_of}
-use Rattle.mt_core.specs.declared.answers.Move.TheVariants.{Moved}
+use Rattle.mt_state.specs.declared.moves.Move.TheVariants.{Moved}
 use Rattle.mt_lines.specs.Stores.{StoreView, TellsWalk, TellsNamed}
 use Rattle.mt_lines.proofs.StepLemmas.{never_stops, walk_can_say, tells_walk, of_named}
 use Rattle.mt_lines.proofs.NamedLemmas.{named_same, walk_same}
