@@ -43,6 +43,7 @@ module _ (logs : ℕ) (accounts : Accounts) where
   abbrev reached : ℕ → OperationView → StateView
   reached n op = record {
     steps = n;
+    answers = 0;
     logs = logs;
     accounts = accounts;
     arena = (new_state logs accounts).arena;
@@ -62,6 +63,7 @@ module _ (logs : ℕ) (accounts : Accounts) where
     notes = notes;
     table = refl;
     number = refl;
+    answers = refl;
     logs = refl;
     grows = record { steps = omega arith; quotas = λ t. refl; maps = λ t m le. refl; changes = λ m le. refl };
     arena = nothing_changes 0 (new_state logs accounts).arena;
@@ -122,7 +124,7 @@ module _ (logs : ℕ) (accounts : Accounts) where
       (λ e. (absent, refl, right))
 
   abbrev pub left : StateView
-  left = record (reached 3 ended) { table = None ∷ [] }
+  left = record (reached 3 ended) { answers = 1; table = None ∷ [] }
 
   takes : Takes (reached 3 ended) left 0 (record { command = get_k; reply = Absent; first = 1; at = 2; last = 3 })
   takes = record { op = ended; there = refl; told = record { finished = refl; told = refl; command = refl; first = refl; last = refl }; right = right; gone = refl }

@@ -1,5 +1,5 @@
 -- A numbered step keeps the history of a run, and so does one that ends its operation, with the answer taken: for HistoryEvents.
-use Rattle.std.proofs.Common.{◌≡◌, ◌≢◌, ℕ, inl, inr, Bool, true, set, Option, Some, None, sym, ap, subst, ◌∙◌, arith}
+use Rattle.std.proofs.Common.{◌≡◌, ◌≢◌, ℕ, ◌+◌, inl, inr, Bool, true, set, Option, Some, None, sym, ap, subst, ◌∙◌, arith}
 use Rattle.std.proofs.lemmas.Bool.{cases_eq}
 use Rattle.std.proofs.lemmas.Option.{same_Some}
 use Rattle.mt_runs.specs.declared.event.Answer.{Answer}
@@ -18,9 +18,9 @@ use Rattle.mt_state.proofs.HistorySteps.{right_after, own_told, other_told, made
 no_value : {A : Type 0} {a : A} → ◌≡◌ {A = Option A} None (Some a) → ⊥
 no_value e = cc
 
--- what is told of an operation reads no table
-told_without : (story : Story) (v : StateView) (table : Shown) (o : ℕ) (op : OperationView) → StoryTells story v o op → StoryTells story (record v { table = table }) o op
-told_without story v table o op k = record { asked_so = k.asked_so; first = k.first; last = k.last; still = k.still; unfinished = k.unfinished; changes = k.changes; own = k.own; placed = k.placed; no_scan = k.no_scan }
+-- what is told of an operation reads no table, and counts no answers
+told_without : (story : Story) (v : StateView) (answers : ℕ) (table : Shown) (o : ℕ) (op : OperationView) → StoryTells story v o op → StoryTells story (record v { answers = answers; table = table }) o op
+told_without story v answers table o op k = record { asked_so = k.asked_so; first = k.first; last = k.last; still = k.still; unfinished = k.unfinished; changes = k.changes; own = k.own; placed = k.placed; no_scan = k.no_scan }
 
 module _ (quotas : Quotas) (first : Maps) (story : Story) (names : Names) (old new : StateView) (o n : ℕ) (done : Bool) (answer : Option Answer)
     (h : History quotas first story names old) (known : names o ≡ Some (Some n)) (s : IsStep old new n done)
@@ -92,7 +92,7 @@ module _ (quotas : Quotas) (first : Maps) (story : Story) (names : Names) (old n
         let ne = other q m e in
         let was : names q ≡ Some (Some m) = sym (r.others q ne) ∙ e in
         let k = told_elsewhere q m ne was in
-        (k.0, set_there new.table n m None (other_number q m ne was) ∙ k.1, told_without (with_step story o answer) new (set new.table n None) q k.0 k.2);
+        (k.0, set_there new.table n m None (other_number q m ne was) ∙ k.1, told_without (with_step story o answer) new (new.answers + 1) (set new.table n None) q k.0 k.2);
     apart = λ p q m e f. h.apart p q m (sym (r.others p (other p m e)) ∙ e) (sym (r.others q (other q m f)) ∙ f);
     all = λ m op at. elim (cases_eq m n) [
       | inl is ↦ absurd (no_value (sym (set_none new.table n) ∙ ap (op_at (set new.table n None)) (sym is) ∙ at))

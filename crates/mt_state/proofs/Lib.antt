@@ -1,5 +1,6 @@
 pub mod Shown
 pub mod Rely
+pub mod Answered
 pub mod Moving
 pub mod Telling
 pub mod Quiet

@@ -1,5 +1,5 @@
 -- A step of one operation: what it has to bring, and that the invariant stays: for all phases.
-use Rattle.std.proofs.Common.{◌≡◌, ◌≢◌, ℕ, zero, suc, ◌+◌, ◌<◌, ◌⊎◌, inl, inr, true, false, [], ◌∷◌, length, set, Some, IsSome, refl, sym, ap, subst, ◌∙◌, arith}
+use Rattle.std.proofs.Common.{◌≡◌, ◌≢◌, ℕ, zero, suc, ◌+◌, ◌<◌, ◌≤◌, ◌⊎◌, inl, inr, true, false, [], ◌∷◌, length, set, Some, IsSome, refl, sym, ap, subst, ◌∙◌, arith}
 use Rattle.std.specs.Prelude.{◌^◌}
 use Rattle.std.specs.FinMap.{get}
 use Rattle.std.proofs.lemmas.Bool.{both_ways, cases_eq}
@@ -15,11 +15,13 @@ use Rattle.mt_operation.specs.Tasks.{ask}
 use Rattle.mt_operation.specs.Operations.{is_done}
 use Rattle.mt_operation.specs.Tables.{Table, op_at as operation_at}
 use Rattle.mt_operation.proofs.Tables.{set_is, set_here, set_there}
-use Rattle.mt_state.specs.Views.{Core}
+use Rattle.mt_state.specs.Views.{Core, shown}
 use Rattle.mt_state.specs.Kept.{IsKeptOf}
-use Rattle.mt_state.specs.Invariant.{AreHolders, IsOnePut, StateInvariant, one_if_prepared, prepared_count, is_unplaced}
+use Rattle.mt_state.specs.Invariant.{AreHolders, IsOnePut, StateInvariant, one_if_prepared, prepared_count, made_count, is_unplaced}
 use Rattle.mt_state.specs.Moves.{IsMove}
 use Rattle.mt_state.proofs.Rely as rely
+use Rattle.mt_state.proofs.Shown.{shown_table}
+use Rattle.mt_state.proofs.Answered.{made_set}
 
 -- an operation with a place in the table counts once
 counted_set : (table : Table) (o : ℕ) (before after : Operation) → operation_at table o ≡ Some before → prepared_count (set table o (Some after)) + one_if_prepared (Some before) ≡ prepared_count table + one_if_prepared (Some after)
@@ -104,6 +106,12 @@ module _ (old new : Core) (o : ℕ) (before after : Operation) (h : StateInvaria
   reserved_stays : new.tape.reserved ≡ prepared_count new.table
   reserved_stays = let counted = counted_set old.table o before after m.there in let is = ap prepared_count m.table in omega (arith, counted, is, m.reserved, h.reserved)
 
+  answered_stays : new.answers + made_count (shown new).table ≤ new.steps
+  answered_stays =
+      let counted = made_set old.table o after in
+      let is = ap (λ (t : Table). made_count (shown_table t)) m.table in
+      omega (arith, counted, is, m.answers, m.number, h.answered)
+
   -- the invariant over all operations is kept by a step that brings this
   pub invariant_stays : StateInvariant new
   invariant_stays = record {
@@ -114,6 +122,7 @@ module _ (old new : Core) (o : ℕ) (before after : Operation) (h : StateInvaria
     counts = m.counts;
     ops = ops_stay;
     reserved = reserved_stays;
+    answered = answered_stays;
     one_border = m.one_border;
     one_put = one_put_stays;
     few = omega (arith, m.number);

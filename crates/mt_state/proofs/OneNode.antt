@@ -36,6 +36,7 @@ use Rattle.mt_state.proofs.Still.{floor_made}
 abbrev pub stepped : Core → ArenaView → Kept → Accounts → ℕ → Operation → Core
 stepped c arena tape accounts o after = record {
   steps = c.steps + 1;
+  answers = c.answers;
   logs = c.logs;
   accounts = accounts;
   arena = arena;

@@ -49,6 +49,7 @@ next_write c op = write_of op.task (content_of c.arena) (c.steps + 1)
 abbrev pub placed : Core → ArenaView → Accounts → ℕ → Operation → Operation → Core
 placed c arena accounts o before after = record {
   steps = c.steps + 1;
+  answers = c.answers;
   logs = c.logs;
   accounts = accounts;
   arena = arena;
@@ -149,6 +150,7 @@ module _ (c : Core) (o : ℕ) (before after : Operation) (arena : ArenaView) (ac
     task = own.task;
     table = refl;
     number = refl;
+    answers = refl;
     leaves = placed_guarantee;
     tape = placed_tape;
     stamps = p.stamps;

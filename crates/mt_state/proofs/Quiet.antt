@@ -24,6 +24,7 @@ use Rattle.mt_state.specs.Moves.{IsMove}
 abbrev pub quiet : Core → ArenaView → ℕ → ℕ → Operation → Core
 quiet c arena reserved o after = record {
   steps = c.steps + 1;
+  answers = c.answers;
   logs = c.logs;
   accounts = c.accounts;
   arena = arena;
@@ -98,6 +99,7 @@ module _ (c : Core) (o : ℕ) (before after : Operation) (arena : ArenaView) (re
     task = own.task;
     table = refl;
     number = refl;
+    answers = refl;
     leaves = guarantee;
     tape = tape;
     stamps = stamps;

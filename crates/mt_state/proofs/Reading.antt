@@ -108,6 +108,7 @@ module _ (c : Core) (now : StateView) (o : ℕ) (is : shown c ≡ now) (h : Stat
   -- an operation that goes down
   pub descend_done : (w : Walk) → IsDescent op.walk.phase → Descends op.walk w → ((past : Past) → IsKept c.arena past op.task.key None w) → Gives now (record {
     steps = c.steps + 1;
+    answers = c.answers;
     logs = c.logs;
     accounts = c.accounts;
     arena = c.arena;

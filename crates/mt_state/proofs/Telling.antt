@@ -43,6 +43,7 @@ gives now old new o before after view h few m t done ends = (
     notes = t.notes;
     table = ap shown_table m.table ∙ shown_set old.table o (Some after);
     number = m.number;
+    answers = m.answers;
     logs = t.logs;
     grows = m.leaves.grows;
     arena = m.leaves.arena;

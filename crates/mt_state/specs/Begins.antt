@@ -1,5 +1,5 @@
 -- A new state, and what a begin and a take make of a state.
-use Rattle.std.specs.Prelude.{◌≡◌, ◌≢◌, ℕ, ◌<◌, max, true, false, [], Some, None, slice_set}
+use Rattle.std.specs.Prelude.{◌≡◌, ◌≢◌, ℕ, ◌+◌, ◌<◌, max, true, false, [], Some, None, slice_set}
 use Rattle.mt_rows.specs.declared.command.Command.{Command}
 use Rattle.mt_rows.specs.declared.command.Command.TheVariants.{Get, Put}
 use Rattle.mt_rows.specs.declared.tenants.Account.{Account}
@@ -16,6 +16,7 @@ use Rattle.mt_state.specs.Promises.{IsAnswer}
 abbrev pub new_state : ℕ → Accounts → StateView
 new_state logs accounts = record {
   steps = 0;
+  answers = 0;
   logs = logs;
   accounts = accounts;
   arena = new_arena;
@@ -60,13 +61,13 @@ pub record IsAnswerOf (op : OperationView) (answer : Answer) : Type 0 where
   pub first : answer.first ≡ op.first
   pub last : answer.last ≡ op.last
 
--- the operation is gone, with its answer, which is right by the maps that the state keeps; all else is as it was
+-- the operation is gone, with its answer, which is right by the maps that the state keeps; one more answer was taken, and all else is as it was
 pub record Takes (old new : StateView) (o : ℕ) (answer : Answer) : Type 0 where
   pub op : OperationView
   pub there : op_at old.table o ≡ Some op
   pub told : IsAnswerOf op answer
   pub right : IsAnswer old op (record { reply = answer.reply; at = answer.at })
-  pub gone : new ≡ record old { table = slice_set old.table o None }
+  pub gone : new ≡ record old { answers = old.answers + 1; table = slice_set old.table o None }
 
 -- the operation is there, and no step of it is left
 abbrev pub IsEnded : Shown → ℕ → Type 0

@@ -1,5 +1,5 @@
 -- The invariant of a state, and what a step of one operation leaves of it to all others.
-use Rattle.std.specs.Prelude.{◌≡◌, ℕ, ◌+◌, ◌≤◌, ◌<◌, ◌^◌, ◌⊎◌, Bool, true, false, if◌then◌else◌, [], ◌∷◌, length, Option, Some, None, IsSome}
+use Rattle.std.specs.Prelude.{◌≡◌, ℕ, ◌+◌, ◌==◌, ◌≤◌, ◌<◌, ◌^◌, ◌⊎◌, Bool, true, false, if◌then◌else◌, [], ◌∷◌, length, Option, Some, None, IsSome}
 use Rattle.std.specs.List.{Contains}
 use Rattle.std.specs.FinMap.{get, len}
 use Rattle.mt_rows.specs.declared.tenants.Account.{Account}
@@ -21,8 +21,8 @@ use Rattle.mt_operation.specs.declared.operation.Operation.{Operation}
 use Rattle.mt_operation.specs.Tasks.{ask}
 use Rattle.mt_operation.specs.Tables.{Table, op_at as operation_at}
 use Rattle.mt_descent.specs.Pasts.{ExtendsPast}
-use Rattle.mt_state.specs.Views.{Core, shown, past_of, KeepsPast}
-use Rattle.mt_operation.specs.Operations.{is_done}
+use Rattle.mt_state.specs.Views.{Shown, Core, shown, past_of, KeepsPast}
+use Rattle.mt_operation.specs.Operations.{OperationView, is_done}
 use Rattle.mt_state.specs.Kept.{IsKeptOf}
 
 -- the tape: its steps rise and were made, and each entry tells what its step did
@@ -75,6 +75,16 @@ abbrev pub prepared_count : Table → ℕ
 prepared_count [] = 0
 prepared_count (op ∷ table) = one_if_prepared op + prepared_count table
 
+-- whether an operation has made a step, as a number
+abbrev pub one_if_made : Option OperationView → ℕ
+one_if_made None = 0
+one_if_made (Some op) = if op.first == 0 then 0 else 1
+
+-- how many operations have
+abbrev pub made_count : Shown → ℕ
+made_count [] = 0
+made_count (op ∷ table) = one_if_made op + made_count table
+
 -- each tenant's count is the number of its pairs, at most its quota
 abbrev pub AreCounted : Core → Type 0
 AreCounted c = (t : ℕ) (a : Account) → account_of c.accounts t ≡ Some a → (a.count ≡ len (tenant_map t (content_of c.arena))) × (a.count ≤ a.quota)
@@ -103,7 +113,7 @@ pub record IsOnePut (c : Core) : Type 0 where
   pub room : (o : ℕ) (op : Operation) → operation_at c.table o ≡ Some op → is_get (ask op.task) ≡ false → is_unplaced op.walk.phase ≡ true
       → (length (at c.arena 0).slots < 15) ⊎ IsSome (get (content_of c.arena) (owned op.task.key))
 
--- the invariant; `IsArena` is the arena's own
+-- the invariant; `IsArena` is the arena's own; by `answered` each answer that was taken, and each operation that has made a step, has a step of its own
 pub record StateInvariant (c : Core) : Type 0 where
   pub tape : IsTape c
   pub stamps : AreStamps c
@@ -112,6 +122,7 @@ pub record StateInvariant (c : Core) : Type 0 where
   pub counts : AreCounted c
   pub ops : AreKept c
   pub reserved : c.tape.reserved ≡ prepared_count c.table
+  pub answered : c.answers + made_count (shown c).table ≤ c.steps
   pub one_border : IsOneBorder c.arena
   pub one_put : IsOnePut c
   pub few : c.steps ≤ 2 ^ 59

@@ -21,6 +21,7 @@ pub record IsMove (old new : Core) (o : ℕ) (before after : Operation) : Type 0
   pub task : after.task ≡ before.task
   pub table : new.table ≡ slice_set old.table o (Some after)
   pub number : new.steps ≡ old.steps + 1
+  pub answers : new.answers ≡ old.answers
   pub leaves : StateGuarantee old new o
   pub tape : IsTape new
   pub stamps : AreStamps new

@@ -75,6 +75,7 @@ pub record IsStep (old new : StateView) (o : ℕ) (done : Bool) : Type 0 where
   pub notes : Notes old before before.phase after.phase after.outcome
   pub table : new.table ≡ slice_set old.table o (Some after)
   pub number : new.steps ≡ old.steps + 1
+  pub answers : new.answers ≡ old.answers
   pub logs : new.logs ≡ old.logs
   pub grows : KeepsPast old new
   pub arena : Guarantee o old.arena new.arena

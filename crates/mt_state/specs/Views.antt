@@ -18,10 +18,11 @@ use Rattle.mt_descent.specs.Pasts.{Past}
 abbrev pub Shown : Type 0
 Shown = List (Option OperationView)
 
--- what a state shows: how many steps it has made, how many logs it serves, the tenants' accounts, all nodes and trees, the changes since a floor,
--- and the operations
+-- what a state shows: how many steps it has made, how many answers were taken, how many logs it serves, the tenants' accounts, all nodes and trees,
+-- the changes since a floor, and the operations
 pub record StateView : Type 0 where
   pub steps : ℕ
+  pub answers : ℕ
   pub logs : ℕ
   pub accounts : Accounts
   pub arena : ArenaView
@@ -31,6 +32,7 @@ pub record StateView : Type 0 where
 -- what is inside: all of each operation
 pub record Core : Type 0 where
   pub steps : ℕ
+  pub answers : ℕ
   pub logs : ℕ
   pub accounts : Accounts
   pub arena : ArenaView
@@ -39,7 +41,7 @@ pub record Core : Type 0 where
 
 -- what is shown of what is inside
 abbrev pub shown : Core → StateView
-shown c = record { steps = c.steps; logs = c.logs; accounts = c.accounts; arena = c.arena; tape = c.tape; table = map (option_map view_of) c.table }
+shown c = record { steps = c.steps; answers = c.answers; logs = c.logs; accounts = c.accounts; arena = c.arena; tape = c.tape; table = map (option_map view_of) c.table }
 
 -- the operation of an id, as it is shown
 abbrev pub op_at : Shown → ℕ → Option OperationView
