@@ -1,5 +1,5 @@
 -- What holds of every state, by what it shows.
-use Rattle.std.specs.Prelude.{◌≡◌, ℕ, ◌<◌, ◌≤◌, true, Some}
+use Rattle.std.specs.Prelude.{◌≡◌, ℕ, ◌+◌, ◌<◌, ◌≤◌, true, Some}
 use Rattle.std.specs.List.{Contains}
 use Rattle.std.specs.FinMap.{len}
 use Rattle.mt_rows.specs.declared.tenants.Account.{Account}
@@ -17,6 +17,7 @@ use Rattle.mt_operation.specs.Operations.{OperationView, is_done}
 use Rattle.mt_state.specs.Views.{StateView, contents_of, op_at}
 use Rattle.mt_state.specs.Steps.{change_in}
 use Rattle.mt_state.specs.Promises.{IsAnswer}
+use Rattle.mt_state.specs.Invariant.{made_count}
 
 -- the steps of the tape rise over its floor and were made, and each entry tells what its step did
 pub record IsRightTape (v : StateView) : Type 0 where
@@ -45,8 +46,9 @@ pub record IsRightAccount (v : StateView) (tenant : ℕ) (account : Account) : T
   pub count : account.count ≡ len (tenant_map tenant (contents_of v))
   pub quota : account.count ≤ account.quota
 
--- all of it
+-- all of it; and each answer that was taken, and each operation that has made a step, made one of its own
 pub record IsRightState (v : StateView) : Type 0 where
+  pub answers : v.answers + made_count v.table ≤ v.steps
   pub tape : IsRightTape v
   pub operations : (o : ℕ) (op : OperationView) → op_at v.table o ≡ Some op → IsRightOperation v op
   pub accounts : (t : ℕ) (account : Account) → account_of v.accounts t ≡ Some account → IsRightAccount v t account

@@ -17,6 +17,7 @@ pub record IsFloorNeeded (table : Shown) (steps floor : ℕ) : Type 0 where
 -- the tape begins at the floor that it needs, and nothing else has changed: every map from there on stands, and so does every change after it
 pub record Tidies (old new : StateView) : Type 0 where
   pub steps : new.steps ≡ old.steps
+  pub answers : new.answers ≡ old.answers
   pub logs : new.logs ≡ old.logs
   pub accounts : new.accounts ≡ old.accounts
   pub arena : new.arena ≡ old.arena

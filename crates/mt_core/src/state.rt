@@ -48,6 +48,7 @@ pub const MOST_STEPS: u32 = 256 * (1 + 64);
 pub struct State {
     alloc: Global,
     steps: u64,
+    answers: u64,
     logs: u8,
     tenants: Tenants,
     arena: Arena,
@@ -78,6 +79,7 @@ impl State {
         Ok(State {
             alloc,
             steps: 0,
+            answers: 0,
             logs,
             tenants,
             arena: Arena::new(alloc)?,
@@ -126,7 +128,10 @@ impl State {
         ensures { TellsTake self.old self.new ticket result }
     {
         match give_up(&mut self.operations, ticket.id) {
-            Some(answer) => Ok(answer),
+            Some(answer) => {
+                self.answers += 1;
+                Ok(answer)
+            }
             None => Err(ticket),
         }
     }
@@ -183,6 +188,13 @@ impl State {
         ensures { result ≡ self.now.steps }
     {
         self.steps
+    }
+
+    /// How many answers were taken.
+    pub fn answers(&self) -> u64
+        ensures { result ≡ self.now.answers }
+    {
+        self.answers
     }
 
     /// How many logs are served, 0 where none are kept.

@@ -1,13 +1,11 @@
-//! Tests of `mt_core`: a put and a get step by step, gets that stand open together, and a run by names.
+//! Tests of `mt_core`: a put and gets call by call, and runs of events with what each is told.
 //!
 //! They stand in a crate of their own, since a crate with tests is proved twice.
 #![tactic(auto)]
 
 #[cfg(test)]
-mod calls;
+mod asked;
 #[cfg(test)]
-mod many;
-#[cfg(test)]
-mod run;
+mod runs;
 #[cfg(test)]
 mod story;

@@ -1,38 +1,19 @@
-//! A put of a pair and a get of it, as one store answers them step by step.
+//! One store, call by call.
 
 ghost use Rattle.std.specs.Prelude.{◌≡◌};
-ghost use Rattle.mt_core.specs.Begins.{HasOpenPut};
+ghost use Rattle.mt_state.specs.Begins.{HasOpenPut};
 
-use crate::calls::{begin_get, begin_put, end, expect_numbers, new_store, walk};
-use mt_core::{Phase, State};
-use mt_rows::{ColumnIndexes, Command, Key, Refusal, Reply};
+use crate::asked::{get, one_tenant, put};
+use mt_core::{State, Ticket, prepare};
+use mt_operation::Phase;
+use mt_rows::{Command, Refusal};
+use mt_runs::Answer;
+use mt_state::Move;
 use std::alloc::{AllocError, Global};
 use std::process::Abort;
 use std::test::Fail;
 
-// Begins a get of these columns, which is refused for this cause.
-fn expect_refusal(
-    rt: &impl Abort,
-    alloc: Global,
-    state: &mut State,
-    tenant: u32,
-    key: &[u8],
-    columns: &[u8],
-    cause: Refusal,
-) -> Result<(), AllocError>
-    requires { state.old.logs ≡ 0 }
-    ensures { state.new.logs ≡ 0 }
-{
-    let key = Key::new(Vec::from_slice(alloc, key)?);
-    let columns = ColumnIndexes::new(Vec::from_slice(alloc, columns)?);
-    match state.begin(0, tenant, Command::Get { key, columns }) {
-        Ok(_) => panic!(rt; "the get is begun"),
-        Err(refusal) => assert_eq!(rt; refusal, cause),
-    }
-    Ok(())
-}
-
-// Compares the line of the node with this text.
+// The line of the node.
 fn expect_line(
     rt: &impl Abort,
     alloc: Global,
@@ -48,53 +29,64 @@ fn expect_line(
     Ok(())
 }
 
-// The first put, step by step.
-fn put_is_placed(rt: &impl Abort, alloc: Global, state: &mut State) -> Result<(), AllocError>
-    requires logs { state.old.logs ≡ 0 }
-    requires idle { ¬ HasOpenPut state.old.table }
-    ensures { state.new.logs ≡ 0 }
+// The answer of an operation that is finished: its numbers are these.
+fn expect_end(rt: &impl Abort, state: &mut State, ticket: Ticket, numbers: (u64, u64, u64))
+    ensures { state.new.logs ≡ state.old.logs }
 {
-    let ticket = begin_put(rt, alloc, state, b"k", b"v")?;
-    let phases = [Phase::Enter, Phase::Lock, Phase::Judge, Phase::Publish];
-    walk(rt, state, &ticket, &phases);
-    let answer = end(rt, state, ticket);
-    assert!(rt; matches!(&answer.reply, Reply::New));
-    expect_numbers(rt, &answer, 1, 4, 5);
-    Ok(())
-}
-
-// A get of its pair.
-fn get_is_placed(rt: &impl Abort, alloc: Global, state: &mut State) -> Result<(), AllocError>
-    requires { state.old.logs ≡ 0 }
-{
-    let ticket = begin_get(rt, alloc, state, b"k")?;
-    let phases = [Phase::Enter, Phase::Search, Phase::Load];
-    walk(rt, state, &ticket, &phases);
-    assert!(rt; state.noted(&ticket).is_some());
-    let answer = end(rt, state, ticket);
-    assert!(rt; matches!(&answer.reply, Reply::Found(_)));
-    expect_numbers(rt, &answer, 6, 6, 9);
-    Ok(())
+    match state.take(ticket) {
+        Ok(Answer {
+            first, at, last, ..
+        }) => assert_eq!(rt; (first, at, last), numbers),
+        Err(_) => panic!(rt; "the operation isn't finished"),
+    }
 }
 
 #[test]
-fn a_put_and_a_get_are_placed(rt: HostRuntime) -> Result<(), Fail> {
+fn a_put_and_a_get_of_it(rt: HostRuntime) -> Result<(), Fail> {
     let alloc = rt.alloc();
-    let mut state = new_store(&rt, alloc);
+    let mut state = State::new(alloc, 0, one_tenant(alloc))?;
     expect_line(&rt, alloc, &state, "  border 0")?;
-    put_is_placed(&rt, alloc, &mut state)?;
-    let line = "  border 1 000000076b000000:5 000000076b000000:5";
-    expect_line(&rt, alloc, &state, line)?;
-    get_is_placed(&rt, alloc, &mut state)?;
+    let Ok(ticket) = state.begin(0, 7, put(alloc, "k", "v")?) else {
+        panic!(rt; "the put is refused");
+    };
+    assert!(rt; state.has_open_put());
+    assert!(rt; state.run_alone(&ticket) == Move::Done);
+    expect_end(&rt, &mut state, ticket, (1, 4, 5));
+    expect_line(&rt, alloc, &state, "  border 1 000000076b000000:5 000000076b000000:5")?;
+    let Ok(ticket) = state.admit(prepare(alloc, 0, 7, get(alloc, "k", &[])?)) else {
+        panic!(rt; "the get is refused");
+    };
+    for phase in [Phase::Enter, Phase::Search, Phase::Load] {
+        assert!(rt; state.phase(&ticket) == Some(phase));
+        assert!(rt; state.step(&ticket) == Move::Moved);
+    }
+    assert!(rt; state.noted(&ticket).is_some());
+    assert!(rt; state.step(&ticket) == Move::Done);
+    expect_end(&rt, &mut state, ticket, (6, 6, 9));
+    state.tidy();
+    state.facts();
+    assert_eq!(rt; (state.steps(), state.answers(), state.logs()), (9, 2, 0));
     Ok(())
 }
 
 #[test]
-fn the_first_cause_is_told(rt: HostRuntime) -> Result<(), Fail> {
+fn the_first_cause_is_told_and_a_begin_is_cancelled(rt: HostRuntime) -> Result<(), Fail> {
     let alloc = rt.alloc();
-    let mut state = new_store(&rt, alloc);
-    expect_refusal(&rt, alloc, &mut state, 8, b"long1", &[1], Refusal::NoTenant)?;
-    expect_refusal(&rt, alloc, &mut state, 7, b"long1", &[1], Refusal::KeyLong)?;
-    expect_refusal(&rt, alloc, &mut state, 7, b"long", &[0, 1], Refusal::Column)?;
+    let mut state = State::new(alloc, 0, one_tenant(alloc))?;
+    let rows: [(u32, &str, &[u8], Refusal); 3] = [
+        (8, "long1", &[1], Refusal::NoTenant),
+        (7, "long1", &[1], Refusal::KeyLong),
+        (7, "long", &[0, 1], Refusal::Column),
+    ];
+    for (tenant, key, columns, cause) in rows {
+        match state.begin(0, tenant, get(alloc, key, columns)?) {
+            Ok(_) => panic!(rt; "the get is begun"),
+            Err(refusal) => assert_eq!(rt; refusal, cause),
+        }
+    }
+    match state.begin(0, 7, get(alloc, "k", &[0])?) {
+        Ok(ticket) => assert!(rt; state.cancel(ticket).is_ok()),
+        Err(refusal) => panic!(rt; "{refusal}"),
+    }
     Ok(())
 }

@@ -1,0 +1,142 @@
+//! Runs of events, with what each event is told.
+
+ghost use Rattle.std.specs.Prelude.{IfOk};
+ghost use Rattle.std.specs.List.{All};
+ghost use Rattle.mt_state.specs.Histories.{IsServed};
+
+use crate::asked::{get, one_tenant, put};
+use mt_core::run_events;
+use mt_rows::Reply;
+use mt_runs::{Event, Told};
+use std::alloc::{AllocError, Global};
+use std::test::Fail;
+
+// An operation's name, what happens to it, and what it is told: a get of a key, a put of a key, `=` and
+// a value, or a step where nothing stands.
+type Row = (u64, &'static str, &'static str);
+
+// A get finds no pair, and before it compares the version a put makes the pair. It meets the mark, looks
+// again, and finds what the put wrote.
+const A_GET_LOOKS_AGAIN: [Row; 18] = [
+    (1, "k", "begun"),
+    (1, "", "moved"),
+    (1, "", "moved"),
+    (2, "k=v", "begun"),
+    (3, "l=w", "no such"),
+    (2, "", "moved"),
+    (2, "", "moved"),
+    (2, "", "moved"),
+    (1, "k", "no such"),
+    (2, "", "moved"),
+    (1, "", "again 2"),
+    (2, "", "new"),
+    (2, "", "no such"),
+    (1, "", "moved"),
+    (1, "", "moved"),
+    (1, "", "moved"),
+    (1, "", "moved"),
+    (1, "", "found"),
+];
+
+// Three gets end in another order than they began, and a put that is full changes nothing.
+const IN_ANY_ORDER: [Row; 36] = [
+    (1, "a=1", "begun"),
+    (1, "", "moved"),
+    (1, "", "moved"),
+    (1, "", "moved"),
+    (2, "a", "begun"),
+    (3, "b", "begun"),
+    (3, "", "moved"),
+    (2, "", "moved"),
+    (1, "", "moved"),
+    (1, "", "new"),
+    (4, "b=1", "begun"),
+    (4, "", "moved"),
+    (3, "", "moved"),
+    (3, "", "moved"),
+    (3, "", "moved"),
+    (3, "", "moved"),
+    (3, "", "absent"),
+    (4, "", "moved"),
+    (4, "", "moved"),
+    (4, "", "moved"),
+    (4, "", "new"),
+    (5, "c=1", "begun"),
+    (5, "", "moved"),
+    (5, "", "moved"),
+    (5, "", "moved"),
+    (5, "", "moved"),
+    (5, "", "full"),
+    (6, "a=2", "begun"),
+    (6, "", "moved"),
+    (6, "", "moved"),
+    (6, "", "moved"),
+    (6, "", "moved"),
+    (6, "", "replaced"),
+    (2, "", "moved"),
+    (2, "", "moved"),
+    (2, "", "moved"),
+];
+
+// The events of a run, by the only worker, for tenant 7.
+fn events_of(alloc: Global, rows: &[Row]) -> Result<Vec<Event>, AllocError>
+    ensures { IfOk result (λ events. All (IsServed 0) events.items) }
+{
+    let mut events = Vec::new(alloc);
+    for row in rows {
+        events.push(event_of(alloc, row)?)?;
+    }
+    Ok(events)
+}
+
+fn event_of(alloc: Global, row: &Row) -> Result<Event, AllocError>
+    ensures { IfOk result (IsServed 0) }
+{
+    let op = row.0;
+    if row.1.is_empty() {
+        return Ok(Event::Step { op });
+    }
+    let command = match row.1.split_once('=') {
+        Some((key, value)) => put(alloc, key, value)?,
+        None => get(alloc, row.1, &[])?,
+    };
+    Ok(Event::Begin {
+        op,
+        worker: 0,
+        tenant: 7,
+        command,
+    })
+}
+
+// What an event is told, as a row says it.
+fn text_of(told: &Told) -> &'static str {
+    match told {
+        Told::Begun => "begun",
+        Told::NoSuch => "no such",
+        Told::Moved => "moved",
+        Told::Again(2) => "again 2",
+        Told::Done(answer) => match &answer.reply {
+            Reply::Absent => "absent",
+            Reply::Found(_) => "found",
+            Reply::New => "new",
+            Reply::Replaced => "replaced",
+            Reply::Full => "full",
+            _ => "another reply",
+        },
+        _ => "another",
+    }
+}
+
+#[test]
+fn each_event_is_told_what_its_row_says(rt: HostRuntime) -> Result<(), Fail> {
+    let alloc = rt.alloc();
+    let runs: [&[Row]; 2] = [&A_GET_LOOKS_AGAIN, &IN_ANY_ORDER];
+    for rows in runs {
+        let events = events_of(alloc, rows)?;
+        let (_, told) = run_events(alloc, 0, one_tenant(alloc), &events)?;
+        for (row, told) in rows.iter().zip(told.as_slice()) {
+            assert_eq!(rt; text_of(told), row.2);
+        }
+    }
+    Ok(())
+}
