@@ -332,6 +332,7 @@ impl State {
         requires few { self.old.steps < 2 ^ 59 }
         ensures { Tells self.old self.new id result }
     {
+        self.arena.facts();
         self.steps += 1;
         let operation = open(&self.operations, id);
         let mut walk = operation.walk;
@@ -355,6 +356,7 @@ impl State {
         requires few { self.old.steps < 2 ^ 59 }
         ensures { Tells self.old self.new id result }
     {
+        self.arena.facts();
         self.steps += 1;
         let prepared = taken_out(&mut self.operations, id);
         let operation = open(&self.operations, id);
@@ -371,6 +373,7 @@ impl State {
         requires few { self.old.steps < 2 ^ 59 }
         ensures { Tells self.old self.new id result }
     {
+        self.arena.facts();
         self.steps += 1;
         let prepared = taken_out(&mut self.operations, id);
         let operation = open(&self.operations, id);

@@ -1,0 +1,24 @@
+use Rattle.std.proofs.Common.{refl, ap, sym, ◌∙◌, ◌+◌}
+use Rattle.mt_operation.specs.declared.walk.Phase.TheVariants.{Publish}
+use Rattle.mt_core.specs.States.{core_of}
+use Rattle.mt_core.proofs.PutSteps.{publish_has, open_after, may_go_on, put_is, room_is, publish_at, publish_made, full_made, outcome_of}
+use Rattle.mt_core.proofs.state.State.publish.Goals.{then-is_new, else-is_new}
+use Rattle.mt_core.proofs.state.State.publish.Goals as goal
+
+pub taken_out-prepared-requires : goal.taken_out-prepared-requires
+taken_out-prepared-requires c = publish_has (core_of c.self.inside) _ c.args.id c.self.view_is c.self.invariant c.requires.next
+
+pub open-operation-requires : goal.open-operation-requires
+open-operation-requires c = open_after (core_of c.self.inside) _ c.args.id c.self.view_is c.self.invariant Publish c.requires.next _ _ c.taken_out-prepared.ensures
+
+pub publish-is_new-requires-clause-put : goal.publish-is_new-requires-clause-put
+publish-is_new-requires-clause-put c = put_is (core_of c.self.inside) _ c.args.id c.self.view_is c.self.invariant Publish c.requires.next _ _ c.taken_out-prepared.ensures _ c.open-operation.ensures tt
+
+pub publish-is_new-requires-clause-kept : goal.publish-is_new-requires-clause-kept
+publish-is_new-requires-clause-kept c = publish_at (core_of c.self.inside) _ c.args.id c.self.view_is c.self.invariant c.requires.next _ _ c.taken_out-prepared.ensures _ c.open-operation.ensures
+
+pub publish-is_new-requires-clause-reserved : goal.publish-is_new-requires-clause-reserved
+publish-is_new-requires-clause-reserved c = room_is (core_of c.self.inside) _ c.args.id c.self.view_is c.self.invariant Publish c.requires.next refl
+
+pub go_on-requires : goal.go_on-requires
+go_on-requires c = may_go_on (core_of c.self.inside) _ c.args.id c.self.view_is c.self.invariant Publish c.requires.next _ _ c.taken_out-prepared.ensures refl
