@@ -19,7 +19,9 @@ use Rattle.mt_operation.specs.declared.operation.Operation.{Operation}
 use Rattle.mt_operation.specs.Operations.{view_of, OperationView, is_done, moved, noted, made_ready, with_nothing_ready}
 use Rattle.mt_operation.specs.Tables.{Table, op_at as operation_at, MayMove}
 use Rattle.mt_operation.proofs.Tables.{set_is, set_here, set_there}
+use Rattle.mt_descent.specs.Moves.{Continues}
 use Rattle.mt_insert.specs.Puts.{IsPut}
+use Rattle.mt_insert.specs.Moves.{StandsIn, after_judge, reserving}
 use Rattle.mt_insert.specs.Kept.{KeptReady, IsAtStore, IsAtPublish, IsAtUnlock}
 use Rattle.mt_state.specs.declared.moves.Move.{Move}
 use Rattle.mt_state.specs.declared.moves.Move.TheVariants.{Again}
@@ -50,6 +52,21 @@ writes_both old mid new o f g first second x there =
     let is : mid ≡ set old o (Some (f x)) = first x there in
     second (f x) (ap (λ (t : Table). operation_at t o) is ∙ set_is old o (f x) x there)
     ∙ ap (λ (t : Table). set t o (Some (g (f x)))) is ∙ set_again old o (Some (f x)) (Some (g (f x)))
+
+-- an outcome of this reply
+pub outcome_is : (told : Outcome) (reply of : Reply) (step : ℕ) → told ≡ record { reply = reply; at = step } → reply ≡ of → told ≡ record { reply = of; at = step }
+outcome_is told reply of step says same = says ∙ ap (λ (r : Reply). record { reply = r; at = step }) same
+
+-- what a judgement that made all ready ensures
+pub ready_for : (c : Core) (o : ℕ) (x : Operation) (arena : ArenaView) (tape : Kept) (w : Walk) (prepared : Prepared) → (slot : Option ℕ) × StandsIn (at c.arena x.walk.place.node) x.task.key x.walk.layer slot × (w ≡ after_judge slot x.walk)
+    → Continues x.walk w → tape ≡ reserving c.tape → arena ≡ c.arena → KeptReady w.phase arena o x.task prepared w → MakesReady c o x tape w prepared
+ready_for c o x arena tape w prepared judged same reserves stays kept = record {
+  slot = judged.0;
+  walk = judged.2;
+  same = same;
+  tape_is = reserves;
+  kept = subst (λ (v : ArenaView). KeptReady w.phase v o x.task prepared w) stays kept;
+}
 
 module _ (c : Core) (now : StateView) (o : ℕ) (is : shown c ≡ now) (h : StateInvariant c) where
   -- the operation that is to make its step, at its phase

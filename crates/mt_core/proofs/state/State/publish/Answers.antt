@@ -1,7 +1,7 @@
 use Rattle.std.proofs.Common.{refl, ap, sym, ◌∙◌, ◌+◌}
 use Rattle.mt_operation.specs.declared.walk.Phase.TheVariants.{Publish}
 use Rattle.mt_core.specs.States.{core_of}
-use Rattle.mt_core.proofs.PutSteps.{publish_has, open_after, may_go_on, put_is, room_is, publish_at, publish_made, full_made, outcome_of}
+use Rattle.mt_core.proofs.PutSteps.{publish_has, open_after, may_go_on, put_is, room_is, publish_at, publish_made, full_made, outcome_is}
 use Rattle.mt_core.proofs.state.State.publish.Goals.{then-is_new, else-is_new}
 use Rattle.mt_core.proofs.state.State.publish.Goals as goal
 
@@ -22,3 +22,21 @@ publish-is_new-requires-clause-reserved c = room_is (core_of c.self.inside) _ c.
 
 pub go_on-requires : goal.go_on-requires
 go_on-requires c = may_go_on (core_of c.self.inside) _ c.args.id c.self.view_is c.self.invariant Publish c.requires.next _ _ c.taken_out-prepared.ensures refl
+
+pub invariant_of-self : goal.invariant_of-self
+invariant_of-self c = let e = c.publish-is_new.ensures in elim c.if-is_new.branch [
+      | then-is_new w ↦ (publish_made (core_of c.self.inside) _ c.args.id c.self.view_is c.self.invariant c.requires.next _ _ c.taken_out-prepared.ensures _ c.open-operation.ensures c.requires.few _ _ _ _ _ _ _ c.go_on.ensures.moves c.note.ensures.notes c.facts.ensures.arena
+          (record { is = e.is w.if-is_new.true; missing = e.before; room = e.room.0 w.if-is_new.true; counted = e.counted w.if-is_new.true; others = e.others })
+          (record { places = e.places w.if-is_new.true; walk = e.walk; same = e.same; guarantee = e.step; kept = e.kept })
+          (outcome_is _ _ _ _ c.placed.ensures w.reply-is)).0
+      | else-is_new w ↦ ?
+    ]
+
+pub returns : goal.returns
+returns c = let e = c.publish-is_new.ensures in elim c.if-is_new.branch [
+      | then-is_new w ↦ (publish_made (core_of c.self.inside) _ c.args.id c.self.view_is c.self.invariant c.requires.next _ _ c.taken_out-prepared.ensures _ c.open-operation.ensures c.requires.few _ _ _ _ _ _ _ c.go_on.ensures.moves c.note.ensures.notes c.facts.ensures.arena
+          (record { is = e.is w.if-is_new.true; missing = e.before; room = e.room.0 w.if-is_new.true; counted = e.counted w.if-is_new.true; others = e.others })
+          (record { places = e.places w.if-is_new.true; walk = e.walk; same = e.same; guarantee = e.step; kept = e.kept })
+          (outcome_is _ _ _ _ c.placed.ensures w.reply-is)).1
+      | else-is_new w ↦ ?
+    ]
