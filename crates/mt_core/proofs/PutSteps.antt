@@ -3,12 +3,14 @@ use Rattle.std.proofs.Common.{◌≡◌, ◌≢◌, ℕ, zero, suc, ◌+◌, ◌
 use Rattle.std.specs.Prelude.{◌^◌}
 use Rattle.std.proofs.lemmas.Bool.{cases_eq}
 use Rattle.std.proofs.lemmas.Option.{same_Some}
-use Rattle.mt_rows.specs.Accounts.{Accounts}
+use Rattle.std.specs.FinMap.{get}
+use Rattle.mt_rows.specs.Accounts.{Accounts, account_of, HasRoom}
+use Rattle.mt_border.specs.Contents.{owned}
 use Rattle.mt_rows.specs.declared.reply.Reply.{Reply}
 use Rattle.mt_rows.specs.declared.reply.Reply.TheVariants.{NoMemory, New, Full, Replaced}
 use Rattle.mt_rows.specs.Rows.{Columns}
 use Rattle.mt_tape.specs.Tapes.{Kept}
-use Rattle.mt_arena.specs.Arena.{ArenaView, IsArena}
+use Rattle.mt_arena.specs.Arena.{ArenaView, IsArena, content_of}
 use Rattle.mt_arena.specs.Accesses.{at}
 use Rattle.mt_operation.specs.declared.walk.Phase.{Phase}
 use Rattle.mt_operation.specs.declared.walk.Phase.TheVariants.{Lock, Judge, Store, Publish, Unlock}
@@ -21,7 +23,7 @@ use Rattle.mt_operation.specs.Tables.{Table, op_at as operation_at, MayMove}
 use Rattle.mt_operation.proofs.Tables.{set_is, set_here, set_there}
 use Rattle.mt_descent.specs.Moves.{Continues}
 use Rattle.mt_insert.specs.Puts.{IsPut}
-use Rattle.mt_insert.specs.Moves.{StandsIn, after_judge, reserving}
+use Rattle.mt_insert.specs.Moves.{StandsIn, after_judge, walk_placed, reserving, released}
 use Rattle.mt_insert.specs.Kept.{KeptReady, IsAtStore, IsAtPublish, IsAtUnlock}
 use Rattle.mt_state.specs.declared.moves.Move.{Move}
 use Rattle.mt_state.specs.declared.moves.Move.TheVariants.{Again}
@@ -66,6 +68,18 @@ ready_for c o x arena tape w prepared judged same reserves stays kept = record {
   same = same;
   tape_is = reserves;
   kept = subst (λ (v : ArenaView). KeptReady w.phase v o x.task prepared w) stays kept;
+}
+
+-- and one that found the quota full
+pub full_for : (c : Core) (o : ℕ) (x : Operation) (arena : ArenaView) (tape : Kept) (w : Walk) → w ≡ walk_placed x.walk → Continues x.walk w → tape ≡ released c.tape → arena ≡ c.arena → IsAtUnlock arena o w
+    → get (content_of c.arena) (owned x.task.key) ≡ None → ¬ HasRoom (account_of c.accounts x.task.tenant) → FindsFull c o x tape w
+full_for c o x arena tape w goes same releases stays kept missing full = record {
+  walk = goes;
+  same = same;
+  tape_is = releases;
+  kept = subst (λ (v : ArenaView). IsAtUnlock v o w) stays kept;
+  missing = missing;
+  full = full;
 }
 
 module _ (c : Core) (now : StateView) (o : ℕ) (is : shown c ≡ now) (h : StateInvariant c) where

@@ -1,8 +1,9 @@
-use Rattle.std.proofs.Common.{refl, sym, ◌∙◌}
+use Rattle.std.proofs.Common.{false, refl, sym}
 use Rattle.mt_operation.specs.declared.walk.Phase.TheVariants.{Lock}
 use Rattle.mt_state.proofs.Needs.{lock_kept}
+use Rattle.mt_state.proofs.Telling.{Gives}
 use Rattle.mt_core.specs.States.{core_of}
-use Rattle.mt_core.proofs.PutSteps.{may_step, phase_is, lock_waits, lock_made}
+use Rattle.mt_core.proofs.PutSteps.{made, may_step, phase_is, lock_waits, lock_made}
 use Rattle.mt_core.proofs.state.State.lock.Goals as goal
 
 pub lock-requires : goal.lock-requires
@@ -14,10 +15,12 @@ returns-in-Some c = lock_waits (core_of c.self.inside) _ c.args.id c.self.view_i
 pub go_on-requires : goal.go_on-requires
 go_on-requires c = may_step (core_of c.self.inside) _ c.args.id c.self.view_is c.self.invariant Lock refl c.requires.next
 
+gives : (c : goal.After-go_on) → Gives c.args.self.now (made (core_of c.self.inside) _ c.args.id c.self.view_is c.self.invariant c.lock.new.arena c.self.inside.tape c.self.inside.tenants c.go_on.new.self) c.args.id false
+gives c = let e = c.in_default.ensures in lock_made (core_of c.self.inside) _ c.args.id c.self.view_is c.self.invariant c.requires.few c.requires.next _ c.open-operation.ensures _ _ _
+    (record { locks = e.is; same = e.same; leaves = record { guarantee = e.step; contents = e.contents }; kept = e.kept; judged = e.holds; settled = e.settled }) c.go_on.ensures.moves
+
 pub invariant_of-self-2 : goal.invariant_of-self-2
-invariant_of-self-2 c = let e = c.in_default.ensures in (lock_made (core_of c.self.inside) _ c.args.id c.self.view_is c.self.invariant c.requires.few c.requires.next _ c.open-operation.ensures _ _ _
-    (record { locks = e.is; same = e.same; leaves = record { guarantee = e.step; contents = e.contents }; kept = e.kept; judged = e.holds; settled = e.settled }) c.go_on.ensures.moves).0
+invariant_of-self-2 c = (gives c).0
 
 pub returns : goal.returns
-returns c = let e = c.in_default.ensures in (lock_made (core_of c.self.inside) _ c.args.id c.self.view_is c.self.invariant c.requires.few c.requires.next _ c.open-operation.ensures _ _ _
-    (record { locks = e.is; same = e.same; leaves = record { guarantee = e.step; contents = e.contents }; kept = e.kept; judged = e.holds; settled = e.settled }) c.go_on.ensures.moves).1
+returns c = (gives c).1

@@ -1,7 +1,8 @@
-use Rattle.std.proofs.Common.{refl}
+use Rattle.std.proofs.Common.{false, refl}
 use Rattle.mt_operation.specs.declared.walk.Phase.TheVariants.{Store}
+use Rattle.mt_state.proofs.Telling.{Gives}
 use Rattle.mt_core.specs.States.{core_of}
-use Rattle.mt_core.proofs.PutSteps.{store_has, open_after, may_go_on, put_is, room_is, store_at, store_made}
+use Rattle.mt_core.proofs.PutSteps.{made, store_has, open_after, may_go_on, put_is, room_is, store_at, store_made}
 use Rattle.mt_core.proofs.state.State.store.Goals as goal
 
 pub taken_out-prepared-requires : goal.taken_out-prepared-requires
@@ -22,10 +23,12 @@ store-requires-clause-reserved c = room_is (core_of c.self.inside) _ c.args.id c
 pub go_on-requires : goal.go_on-requires
 go_on-requires c = may_go_on (core_of c.self.inside) _ c.args.id c.self.view_is c.self.invariant Store c.requires.next _ _ c.taken_out-prepared.ensures refl
 
+gives : (c : goal.After-note) → Gives c.args.self.now (made (core_of c.self.inside) _ c.args.id c.self.view_is c.self.invariant c.store.new.arena c.store.new.tape c.self.inside.tenants c.note.new.self) c.args.id false
+gives c = let e = c.store.ensures in store_made (core_of c.self.inside) _ c.args.id c.self.view_is c.self.invariant c.requires.next _ _ c.taken_out-prepared.ensures _ c.open-operation.ensures c.requires.few _ _ _ _ _ _ _ c.facts.ensures.arena
+    (record { is = e.is; before_is = e.before }) (record { places = e.places; walk = e.walk; same = e.same; guarantee = e.step; kept = e.kept }) c.placed.ensures c.go_on.ensures.moves c.note.ensures.notes
+
 pub invariant_of-self : goal.invariant_of-self
-invariant_of-self c = let e = c.store.ensures in (store_made (core_of c.self.inside) _ c.args.id c.self.view_is c.self.invariant c.requires.next _ _ c.taken_out-prepared.ensures _ c.open-operation.ensures c.requires.few _ _ _ _ _ _ _ c.facts.ensures.arena
-    (record { is = e.is; before_is = e.before }) (record { places = e.places; walk = e.walk; same = e.same; guarantee = e.step; kept = e.kept }) c.placed.ensures c.go_on.ensures.moves c.note.ensures.notes).0
+invariant_of-self c = (gives c).0
 
 pub returns : goal.returns
-returns c = let e = c.store.ensures in (store_made (core_of c.self.inside) _ c.args.id c.self.view_is c.self.invariant c.requires.next _ _ c.taken_out-prepared.ensures _ c.open-operation.ensures c.requires.few _ _ _ _ _ _ _ c.facts.ensures.arena
-    (record { is = e.is; before_is = e.before }) (record { places = e.places; walk = e.walk; same = e.same; guarantee = e.step; kept = e.kept }) c.placed.ensures c.go_on.ensures.moves c.note.ensures.notes).1
+returns c = (gives c).1
