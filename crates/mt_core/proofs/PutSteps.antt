@@ -1,5 +1,5 @@
 -- The phases of a put by the ensures of the calls that they make: for `State::lock`, `judge`, `store`, `publish` and `unlock`.
-use Rattle.std.proofs.Common.{◌≡◌, ◌≢◌, ℕ, zero, suc, ◌+◌, ◌<◌, inl, inr, Bool, true, false, not, [], ◌∷◌, set, Option, Some, None, IsSome, is_some, refl, sym, ap, subst, ◌∙◌, arith}
+use Rattle.std.proofs.Common.{◌≡◌, ◌≢◌, ℕ, zero, suc, ◌+◌, ◌<◌, inl, inr, true, false, not, [], ◌∷◌, set, Option, Some, None, IsSome, is_some, refl, sym, ap, subst, ◌∙◌, arith}
 use Rattle.std.specs.Prelude.{◌^◌}
 use Rattle.std.proofs.lemmas.Bool.{cases_eq}
 use Rattle.std.proofs.lemmas.Option.{same_Some}
@@ -18,7 +18,7 @@ use Rattle.mt_operation.specs.declared.walk.Walk.{Walk}
 use Rattle.mt_operation.specs.declared.outcome.Outcome.{Outcome}
 use Rattle.mt_operation.specs.declared.prepared.Prepared.{Prepared}
 use Rattle.mt_operation.specs.declared.operation.Operation.{Operation}
-use Rattle.mt_operation.specs.Operations.{view_of, OperationView, is_done, moved, noted, made_ready, with_nothing_ready}
+use Rattle.mt_operation.specs.Operations.{OperationView, is_done, moved, noted, made_ready, with_nothing_ready}
 use Rattle.mt_operation.specs.Tables.{Table, op_at as operation_at, MayMove}
 use Rattle.mt_operation.proofs.Tables.{set_is, set_here, set_there}
 use Rattle.mt_descent.specs.Moves.{Continues}
@@ -165,11 +165,12 @@ module _ (c : Core) (now : StateView) (o : ℕ) (is : shown c ≡ now) (h : Stat
   abbrev pub TakesOut : Table → Prepared → Type 0
   TakesOut table prepared = (y : Operation) → operation_at c.table o ≡ Some y → (y.prepared ≡ Some prepared) × (table ≡ set c.table o (Some (record y { prepared = None })))
 
-  -- it has something ready
+  -- what is there is not none
   some_ready : (ready : Option Prepared) → IsSome ready → ready ≢ None
   some_ready None some e = absurd (cc)
   some_ready (Some prepared) some e = absurd (cc)
 
+  -- the operation that is to store has all ready, and so has the one that is to publish
   pub store_has : IsNext now o (λ q. q ≡ Store) → (y : Operation) × (operation_at c.table o ≡ Some y) × (y.prepared ≢ None)
   store_has next = let s = standing Store next in (s.0, s.1, some_ready s.0.prepared (store_ready c o h s.0 s.1 s.2))
 
@@ -193,12 +194,15 @@ module _ (c : Core) (now : StateView) (o : ℕ) (is : shown c ≡ now) (h : Stat
     pub open_after : IsSome (operation_at table o)
     open_after = ap is_some there_now
 
+    -- nothing but what it had ready is gone
     takes_it : Writes c.table table o with_nothing_ready
     takes_it y at_y = (takes y at_y).1
 
+    -- it may make its step
     pub may_go_on : is_done p ≡ false → MayMove table o (c.steps + 1)
     may_go_on left = may_step_after p left next table takes_it
 
+    -- whichever operation is found at the id then
     module _ (x : Operation) (there_x : operation_at table o ≡ Some x) where
       opened : with_nothing_ready op ≡ x
       opened = same_Some (with_nothing_ready op) x (sym there_now ∙ there_x)
@@ -211,6 +215,7 @@ module _ (c : Core) (now : StateView) (o : ℕ) (is : shown c ≡ now) (h : Stat
   room_is p next ready = let s = standing p next in write_room c o h s.0 s.1 p s.2 ready
 
   module _ (next : IsNext now o (λ q. q ≡ Store)) (table : Table) (prepared : Prepared) (takes : TakesOut table prepared) (x : Operation) (there_x : operation_at table o ≡ Some x) where
+    -- what is kept of it is what `store` asks
     pub store_at : IsAtStore c.arena o x.task prepared x.walk
     store_at = subst (λ (y : Operation). IsAtStore c.arena o y.task prepared y.walk) (opened Store next table prepared takes x there_x)
         (let s = standing Store next in store_kept c o h s.0 s.1 s.2 prepared (has Store next table prepared takes))
@@ -231,6 +236,7 @@ module _ (c : Core) (now : StateView) (o : ℕ) (is : shown c ≡ now) (h : Stat
         (store_done c now o is h few s.0 s.1 (put_at c o h s.0 s.1 Store s.2 tt) s.2 arena tape w prepared.row before is_arena st.is st.before_is pl.places pl.walk pl.same pl.guarantee pl.kept))
 
   module _ (next : IsNext now o (λ q. q ≡ Publish)) (table : Table) (prepared : Prepared) (takes : TakesOut table prepared) (x : Operation) (there_x : operation_at table o ≡ Some x) where
+    -- what is kept of it is what `publish` asks
     pub publish_at : IsAtPublish c.arena o x.task prepared x.walk
     publish_at = subst (λ (y : Operation). IsAtPublish c.arena o y.task prepared y.walk) (opened Publish next table prepared takes x there_x)
         (let s = standing Publish next in publish_kept c o h s.0 s.1 s.2 prepared (has Publish next table prepared takes))

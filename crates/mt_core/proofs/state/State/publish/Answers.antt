@@ -1,4 +1,4 @@
-use Rattle.std.proofs.Common.{false, refl, sym, subst, ◌∙◌}
+use Rattle.std.proofs.Common.{false, refl, sym, ◌∙◌}
 use Rattle.mt_operation.specs.declared.walk.Phase.TheVariants.{Publish}
 use Rattle.mt_state.proofs.Telling.{Gives}
 use Rattle.mt_core.specs.States.{core_of}
