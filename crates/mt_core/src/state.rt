@@ -355,10 +355,18 @@ impl State {
         requires few { self.old.steps < 2 ^ 59 }
         ensures { Tells self.old self.new id result }
     {
+        self.arena.facts();
         self.steps += 1;
         let operation = open(&self.operations, id);
         let mut walk = operation.walk;
-        let prepared = judge(self.alloc, &mut self.arena, &mut self.tape, &operation.task, &mut walk, id);
+        let prepared = judge(
+            self.alloc,
+            &mut self.arena,
+            &mut self.tape,
+            &operation.task,
+            &mut walk,
+            id,
+        );
         self.operations.go_on(id, self.steps, walk);
         match prepared {
             Some(prepared) => {
@@ -378,13 +386,23 @@ impl State {
         requires few { self.old.steps < 2 ^ 59 }
         ensures { Tells self.old self.new id result }
     {
+        self.arena.facts();
         self.steps += 1;
         let prepared = taken_out(&mut self.operations, id);
         let operation = open(&self.operations, id);
         let mut walk = operation.walk;
-        store(&mut self.arena, &mut self.tape, &operation.task, &mut walk, prepared, self.steps, id);
+        store(
+            &mut self.arena,
+            &mut self.tape,
+            &operation.task,
+            &mut walk,
+            prepared,
+            self.steps,
+            id,
+        );
         self.operations.go_on(id, self.steps, walk);
-        self.operations.note(id, Some(placed(Reply::Replaced, self.steps)));
+        self.operations
+            .note(id, Some(placed(Reply::Replaced, self.steps)));
         Move::Moved
     }
 
@@ -394,6 +412,7 @@ impl State {
         requires few { self.old.steps < 2 ^ 59 }
         ensures { Tells self.old self.new id result }
     {
+        self.arena.facts();
         self.steps += 1;
         let prepared = taken_out(&mut self.operations, id);
         let operation = open(&self.operations, id);
