@@ -1,0 +1,2 @@
+pub mod LookSteps
+pub mod ReadSteps

@@ -83,10 +83,10 @@ pub(crate) fn load_row(
     let mut walk = operation.walk;
     let row = load(arena, &operation.task.key, &mut walk)?;
     match shown(alloc, row, &operation.task.request) {
-        Ok(reply) => Ok(Loaded {
-            walk,
-            outcome: reply.map(|reply| Outcome { reply, at: walk.right_at }),
-        }),
+        Ok(reply) => {
+            let outcome = told(reply, walk.right_at);
+            Ok(Loaded { walk, outcome })
+        }
         Err(_) => {
             walk.phase = Phase::Done;
             Ok(Loaded {
@@ -110,6 +110,16 @@ fn shown(
     match (row, request) {
         (Some(row), Request::Get { columns, .. }) => Ok(Some(Reply::Found(row.shown(alloc, columns)?))),
         _ => Ok(None),
+    }
+}
+
+// The outcome of a get that shows this reply, which is right at this number.
+fn told(reply: Option<Reply>, at: u64) -> Option<Outcome>
+    ensures { result ≡ option_map (λ r. record { reply = r; at = at }) reply }
+{
+    match reply {
+        Some(reply) => Some(Outcome { reply, at }),
+        None => None,
     }
 }
 
