@@ -1,8 +1,8 @@
 -- What the steps of an operation that holds nothing ask of the invariant, and what they tell: for `State::descend`, `search`, `load` and `confirm`.
-use Rattle.std.proofs.Common.{◌≡◌, ◌≢◌, ℕ, zero, suc, ◌+◌, ◌<◌, inl, inr, true, false, not, List, [], ◌∷◌, length, set, Option, Some, None, refl, sym, ap, subst, ◌∙◌, arith}
+use Rattle.std.proofs.Common.{◌≡◌, ◌≢◌, ℕ, zero, suc, ◌+◌, ◌<◌, ◌≤◌, inl, inr, Bool, true, false, not, List, [], ◌∷◌, length, set, Option, Some, None, refl, sym, ap, subst, ◌∙◌, arith}
 use Rattle.std.specs.Prelude.{◌^◌}
 use Rattle.std.proofs.lemmas.Option.{same_Some}
-use Rattle.mt_rows.specs.declared.reply.Reply.TheVariants.{Absent}
+use Rattle.mt_rows.specs.declared.reply.Reply.TheVariants.{Absent, NoMemory}
 use Rattle.mt_rows.specs.Rows.{Columns}
 use Rattle.mt_rows.specs.Commands.{HasColumns}
 use Rattle.mt_rows.specs.Maps.{is_get}
@@ -28,7 +28,8 @@ use Rattle.mt_state.specs.declared.moves.Move.{Move}
 use Rattle.mt_state.specs.declared.moves.Move.TheVariants.{Moved, Again}
 use Rattle.mt_state.specs.Views.{StateView, Core, shown, past_of, op_at}
 use Rattle.mt_state.specs.Promises.{Tells, IsInTheWay}
-use Rattle.mt_state.specs.Ways.{IsDescent, Descends}
+use Rattle.mt_state.specs.Notes.{Says}
+use Rattle.mt_state.specs.Ways.{IsDescent, Descends, ShowsTaken}
 use Rattle.mt_state.specs.Kept.{IsOfKind, IsOnItsWay, IsAtLoad, IsAtConfirm, IsKeptAt}
 use Rattle.mt_state.specs.Invariant.{HoldsAt, StateInvariant}
 use Rattle.mt_state.proofs.Shown.{shown_there}
@@ -53,6 +54,16 @@ free_unfinished _ f = refl
 holder_unfinished : (p : Phase) (node k : ℕ) → HoldsAt p node k → is_done p ≡ false
 holder_unfinished Done node k holds = absurd holds
 holder_unfinished _ node k holds = refl
+
+-- by the phase
+pub search_hands : (p : Phase) → p ≡ Search → IsFree p
+search_hands p e = subst IsFree (sym e) tt
+
+pub load_hands : (p : Phase) → p ≡ Load → IsFree p
+load_hands p e = subst IsFree (sym e) tt
+
+pub confirm_hands : (p : Phase) → p ≡ Confirm → IsFree p
+confirm_hands p e = subst IsFree (sym e) tt
 
 -- who is in the way holds a node
 way_held : (v : ArenaView) (p : Phase) (holder : ℕ) → IsInTheWay v p holder → (k : ℕ) × (k < length v.nodes) × ((at v k).holder ≡ Some holder)
@@ -84,7 +95,7 @@ noted_table old mid new o op after told there goes notes =
 abbrev pub stepped : Core → Table → Core
 stepped c table = record c { steps = c.steps + 1; table = table }
 
-with_table : (c : Core) (now : StateView) (o : ℕ) (done : _) (table was : Table) → table ≡ was → Gives now (stepped c was) o done → Gives now (stepped c table) o done
+with_table : (c : Core) (now : StateView) (o : ℕ) (done : Bool) (table was : Table) → table ≡ was → Gives now (stepped c was) o done → Gives now (stepped c table) o done
 with_table c now o done table was e g = subst (λ (t : Table). Gives now (stepped c t) o done) (sym e) g
 
 module _ (c : Core) (now : StateView) (o : ℕ) (is : shown c ≡ now) (h : StateInvariant c) (room : now.steps < 2 ^ 59) (op : Operation) (there : operation_at c.table o ≡ Some op) where
@@ -122,3 +133,103 @@ module _ (c : Core) (now : StateView) (o : ℕ) (is : shown c ≡ now) (h : Stat
       → Gives now (stepped c table) o false
   descent_gives table w descent goes kept e =
       with_table c now o false table (set c.table o (Some (moved op (c.steps + 1) w))) e (descend_done c now o is h room op there w descent goes kept)
+
+  -- what is kept of an operation that is to search
+  pub search_kept : op.walk.phase ≡ Search → IsAtBorder c.arena op.task.key op.walk
+  search_kept at_search =
+      let way : IsOnItsWay c op = subst (λ (p : Phase). IsKeptAt p c o op) at_search (h.ops o op there).kept in
+      subst (λ (p : Phase). KeptAt p c.arena (past_of c) op.task.key None op.walk) at_search way.kept
+
+  -- of one that is to load, which is a get
+  pub load_kept : op.walk.phase ≡ Load → WalksLoad c.arena op.task.key op.walk
+  load_kept at_load =
+      let loading : IsAtLoad c op = subst (λ (p : Phase). IsKeptAt p c o op) at_load (h.ops o op there).kept in
+      subst (λ (p : Phase). KeptAt p c.arena (past_of c) op.task.key None op.walk) at_load loading.way.kept
+
+  pub load_gets : op.walk.phase ≡ Load → is_get (ask op.task) ≡ true
+  load_gets at_load =
+      let always = (h.ops o op there).always in
+      get_of (is_get (ask op.task)) op.walk.writes always.writes (subst (λ (p : Phase). IsOfKind p op.walk.writes) at_load always.kind)
+
+  pub asked_columns : HasColumns (ask op.task)
+  asked_columns = (h.ops o op there).always.columns
+
+  -- and of one that is to confirm
+  pub confirm_kept : op.walk.phase ≡ Confirm → IsAtBorder c.arena op.task.key op.walk
+  confirm_kept at_confirm =
+      let confirming : IsAtConfirm c op = subst (λ (p : Phase). IsKeptAt p c o op) at_confirm (h.ops o op there).kept in
+      let kept : WalksConfirm c.arena (past_of c) op.task.key confirming.row op.walk = subst (λ (p : Phase). KeptAt p c.arena (past_of c) op.task.key confirming.row op.walk) at_confirm confirming.kept in
+      kept.at_border
+
+  -- who is in the way of a load, and of a confirmation
+  pub load_way : op.walk.phase ≡ Load → (holder : ℕ) → IsBlockedAt (at c.arena op.walk.place.node) op.walk.slot holder → IsInTheWay c.arena op.walk.phase holder
+  load_way at_load holder way =
+      subst (λ (p : Phase). IsInTheWay c.arena p holder) (sym at_load) (op.walk.place.node, op.walk.slot, (load_kept at_load).at_border.covers.remembered.there, way)
+
+  pub confirm_way : op.walk.phase ≡ Confirm → (holder : ℕ) → IsBlocked (at c.arena op.walk.place.node) holder → IsInTheWay c.arena op.walk.phase holder
+  confirm_way at_confirm holder way =
+      subst (λ (p : Phase). IsInTheWay c.arena p holder) (sym at_confirm) (op.walk.place.node, (confirm_kept at_confirm).covers.remembered.there, way)
+
+  -- a search that found nothing
+  pub search_gives_missing : IsArena c.arena.nodes c.arena.trees → (at_search : op.walk.phase ≡ Search) → (w : Walk) → (found : (f : Find) × FindsIn (at c.arena op.walk.place.node) op.task.key op.walk.layer f × (w ≡ after_search f op.walk (c.steps + 1)))
+      → ((past : Past) (row : Option Columns) → IsNow past (c.steps + 1) c.arena → op.walk.first ≤ c.steps + 1 → IsKept c.arena past op.task.key row w) → w.phase ≡ Confirm
+      → (table : Table) → table ≡ set c.table o (Some (noted (moved op (c.steps + 1) w) (Some (record { reply = Absent; at = c.steps + 1 })))) → Gives now (stepped c table) o false
+  search_gives_missing arena at_search w found kept confirms table e =
+      with_table c now o false table (set c.table o (Some (noted (moved op (c.steps + 1) w) (Some (record { reply = Absent; at = c.steps + 1 }))))) e (search_missing c now o is h room arena op there at_search w found.0 found.1 found.2 kept confirms)
+
+  -- a search that found a slot
+  pub search_gives_found : IsArena c.arena.nodes c.arena.trees → (at_search : op.walk.phase ≡ Search) → (w : Walk) → (found : (f : Find) × FindsIn (at c.arena op.walk.place.node) op.task.key op.walk.layer f × (w ≡ after_search f op.walk (c.steps + 1)))
+      → ((past : Past) (row : Option Columns) → IsNow past (c.steps + 1) c.arena → op.walk.first ≤ c.steps + 1 → IsKept c.arena past op.task.key row w) → w.phase ≢ Confirm
+      → (table : Table) → table ≡ set c.table o (Some (moved op (c.steps + 1) w)) → Gives now (stepped c table) o false
+  search_gives_found arena at_search w found kept other table e =
+      with_table c now o false table (set c.table o (Some (moved op (c.steps + 1) w))) e (search_found c now o is h room arena op there at_search w found.0 found.1 found.2 kept (loads found.0 found.2))
+    where
+      loads : (f : Find) → w ≡ after_search f op.walk (c.steps + 1) → w.phase ≡ Load
+      loads finds.Missing is_after = absurd (other (ap (λ (x : Walk). x.phase) is_after))
+      loads (finds.Slot slot OtherLong) is_after = absurd (other (ap (λ (x : Walk). x.phase) is_after))
+      loads (finds.Slot slot ThisKey) is_after = ap (λ (x : Walk). x.phase) is_after
+      loads (finds.Slot slot ToTree) is_after = ap (λ (x : Walk). x.phase) is_after
+
+  -- a get that has confirmed what it took
+  pub confirm_gives_done : (at_confirm : op.walk.phase ≡ Confirm) → (w : Walk) → Continues op.walk w → Confirms (at c.arena op.walk.place.node) op.walk w
+      → ((past : Past) (row : Option Columns) → WalksConfirm c.arena past op.task.key row op.walk → IsKept c.arena past op.task.key row w) → w.phase ≡ Done
+      → (table : Table) → table ≡ set c.table o (Some (moved op (c.steps + 1) w)) → Gives now (stepped c table) o true
+  confirm_gives_done at_confirm w same confirms kept done table e =
+      with_table c now o true table (set c.table o (Some (moved op (c.steps + 1) w))) e (confirm_done c now o is h room op there at_confirm w same confirms kept done)
+
+  -- or goes on its way
+  pub confirm_gives_back : (at_confirm : op.walk.phase ≡ Confirm) → (w : Walk) → Continues op.walk w → Confirms (at c.arena op.walk.place.node) op.walk w
+      → ((past : Past) (row : Option Columns) → WalksConfirm c.arena past op.task.key row op.walk → IsKept c.arena past op.task.key row w) → w.phase ≢ Done
+      → (table : Table) → table ≡ set c.table o (Some (noted (moved op (c.steps + 1) w) None)) → Gives now (stepped c table) o false
+  confirm_gives_back at_confirm w same confirms kept other table e =
+      with_table c now o false table (set c.table o (Some (noted (moved op (c.steps + 1) w) None))) e (confirm_back c now o is h room op there at_confirm w same confirms kept other)
+
+  -- what a load gives: the invariant, and what the step tells
+  abbrev pub LoadGives : Table → Move → Type 0
+  LoadGives table answer = StateInvariant (stepped c table) × Tells now (shown (stepped c table)) o answer
+
+  pub load_gives : IsArena c.arena.nodes c.arena.trees → (at_load : op.walk.phase ≡ Load) → (w : Walk) (told : Option Outcome) → TellsLoaded (at c.arena op.walk.place.node) op (c.steps + 1) (record { walk = w; outcome = told })
+      → (table : Table) → table ≡ set c.table o (Some (noted (moved op (c.steps + 1) w) told)) → (answer : Move) → answer ≡ ending w.phase → LoadGives table answer
+  load_gives arena at_load w told t table e answer ends = elim t.told [
+    | inl (same, shows) ↦ taken same shows
+    | inr (same, says) ↦ stopped same says
+  ]
+    where
+      same_now : Continues op.walk t.after
+      same_now = record { writes = ap (λ (x : Walk). x.writes) t.loads.is; first = ap (λ (x : Walk). x.first) t.loads.is }
+
+      taken : w ≡ t.after → ShowsTaken op t.row t.after told → LoadGives table answer
+      taken same shows =
+          let g = with_table c now o false table (set c.table o (Some (noted (moved op (c.steps + 1) t.after) told))) (e ∙ ap (λ (x : Walk). set c.table o (Some (noted (moved op (c.steps + 1) x) told))) same)
+              (load_taken c now o is h room arena op there at_load t.after t.row told t.loads shows same_now
+              (λ past stamped since. kept_loads c.arena op.task.key op.walk t.after past t.row arena (load_kept at_load) stamped since t.loads)) in
+          (g.0, subst (λ (a : Move). Tells now (shown (stepped c table)) o a) (sym (ends ∙ ap (λ (x : Walk). ending x.phase) same ∙ ap (λ (x : Walk). ending x.phase) t.loads.is)) g.1)
+
+      stopped : w ≡ record t.after { phase = Done } → Says told NoMemory (c.steps + 1) → LoadGives table answer
+      stopped same says =
+          let after : Walk = record t.after { phase = Done } in
+          let none : Option Outcome = Some (record { reply = NoMemory; at = c.steps + 1 }) in
+          let g = with_table c now o true table (set c.table o (Some (noted (moved op (c.steps + 1) after) none)))
+              (e ∙ ap (λ (x : Walk). set c.table o (Some (noted (moved op (c.steps + 1) x) told))) same ∙ ap (λ (x : Option Outcome). set c.table o (Some (noted (moved op (c.steps + 1) after) x))) says)
+              (load_stopped c now o is h room arena op there at_load after refl (record { writes = same_now.writes; first = same_now.first })) in
+          (g.0, subst (λ (a : Move). Tells now (shown (stepped c table)) o a) (sym (ends ∙ ap (λ (x : Walk). ending x.phase) same)) g.1)

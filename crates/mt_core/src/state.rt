@@ -262,6 +262,7 @@ impl State {
         requires few { self.old.steps < 2 ^ 59 }
         ensures { Tells self.old self.new id result }
     {
+        self.arena.facts();
         self.steps += 1;
         let operation = open(&self.operations, id);
         let mut walk = operation.walk;
@@ -279,6 +280,7 @@ impl State {
         requires few { self.old.steps < 2 ^ 59 }
         ensures { Tells self.old self.new id result }
     {
+        self.arena.facts();
         match load_row(self.alloc, &self.arena, open(&self.operations, id), self.steps + 1) {
             Ok(Loaded { walk, outcome }) => {
                 self.steps += 1;
