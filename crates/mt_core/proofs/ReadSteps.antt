@@ -1,5 +1,7 @@
 -- What the steps of an operation that holds nothing ask of the invariant, and what they tell: for `State::descend`, `search`, `load` and `confirm`.
-use Rattle.std.proofs.Common.{◌≡◌, ◌≢◌, ℕ, zero, suc, ◌+◌, ◌<◌, ◌≤◌, inl, inr, Bool, true, false, not, List, [], ◌∷◌, length, set, Option, Some, None, refl, sym, ap, subst, ◌∙◌, arith}
+use denote.Enum.Bare.{sameb, same_true}
+use Rattle.mt_operation.specs.contracts.walk.Phase.{the_type}
+use Rattle.std.proofs.Common.{rules, ◌≡◌, ◌≢◌, ℕ, zero, suc, ◌+◌, ◌<◌, ◌≤◌, inl, inr, Bool, true, false, not, List, [], ◌∷◌, length, set, Option, Some, None, refl, sym, ap, subst, ◌∙◌, arith}
 use Rattle.std.specs.Prelude.{◌^◌}
 use Rattle.std.proofs.lemmas.Option.{same_Some}
 use Rattle.mt_rows.specs.declared.reply.Reply.TheVariants.{Absent, NoMemory}
@@ -64,6 +66,19 @@ load_hands p e = subst IsFree (sym e) tt
 
 pub confirm_hands : (p : Phase) → p ≡ Confirm → IsFree p
 confirm_hands p e = subst IsFree (sym e) tt
+
+-- phases that a comparison finds to be the same, or not
+pub confirm_if : (p : Phase) → true ≡ sameb the_type p Confirm → p ≡ Confirm
+confirm_if p e = same_true the_type (search rules) _ _ (sym e)
+
+pub confirm_unless : (p : Phase) → false ≡ sameb the_type p Confirm → p ≢ Confirm
+confirm_unless p e is = absurd (let no : false ≡ true = e ∙ ap (λ (q : Phase). sameb the_type q Confirm) is in cc)
+
+pub done_if : (p : Phase) → true ≡ sameb the_type p Done → p ≡ Done
+done_if p e = same_true the_type (search rules) _ _ (sym e)
+
+pub done_unless : (p : Phase) → false ≡ sameb the_type p Done → p ≢ Done
+done_unless p e is = absurd (let no : false ≡ true = e ∙ ap (λ (q : Phase). sameb the_type q Done) is in cc)
 
 -- who is in the way holds a node
 way_held : (v : ArenaView) (p : Phase) (holder : ℕ) → IsInTheWay v p holder → (k : ℕ) × (k < length v.nodes) × ((at v k).holder ≡ Some holder)
