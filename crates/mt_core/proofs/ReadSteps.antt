@@ -14,7 +14,7 @@ use Rattle.mt_border.specs.declared.entry.FoundKind.TheVariants.{ThisKey, OtherL
 use Rattle.mt_arena.specs.Arena.{ArenaView, IsArena}
 use Rattle.mt_arena.specs.Accesses.{at}
 use Rattle.mt_operation.specs.declared.walk.Phase.{Phase}
-use Rattle.mt_operation.specs.declared.walk.Phase.TheVariants.{Enter, Pick, Child, Verify, Search, Load, Confirm, Forward, Lock, Judge, Store, Publish, Unlock, Done}
+use Rattle.mt_operation.specs.declared.walk.Phase.TheVariants.{Search, Load, Confirm, Lock, Judge, Store, Publish, Unlock, Done}
 use Rattle.mt_operation.specs.declared.walk.Walk.{Walk}
 use Rattle.mt_operation.specs.declared.outcome.Outcome.{Outcome}
 use Rattle.mt_operation.specs.declared.operation.Operation.{Operation}
@@ -22,12 +22,12 @@ use Rattle.mt_operation.specs.Tasks.{ask}
 use Rattle.mt_operation.specs.Operations.{OperationView, view_of, is_done, moved, noted}
 use Rattle.mt_operation.specs.Tables.{Table, MayMove, op_at as operation_at}
 use Rattle.mt_operation.proofs.Tables.{set_is}
-use Rattle.mt_descent.specs.Pasts.{Past, IsNow, AreStamped}
+use Rattle.mt_descent.specs.Pasts.{Past, IsNow}
 use Rattle.mt_descent.specs.Kept.{IsAtBorder, IsAtLoad as WalksLoad, IsAtConfirm as WalksConfirm, KeptAt, IsKept}
-use Rattle.mt_descent.specs.Moves.{IsBlocked, IsBlockedAt, Continues, FindsIn, after_search, Loads, Confirms}
+use Rattle.mt_descent.specs.Moves.{IsBlocked, IsBlockedAt, Continues, FindsIn, after_search, Confirms}
 use Rattle.mt_descent.proofs.Looks.{kept_loads}
 use Rattle.mt_state.specs.declared.moves.Move.{Move}
-use Rattle.mt_state.specs.declared.moves.Move.TheVariants.{Moved, Again}
+use Rattle.mt_state.specs.declared.moves.Move.TheVariants.{Again}
 use Rattle.mt_state.specs.Views.{StateView, Core, shown, past_of, op_at}
 use Rattle.mt_state.specs.Promises.{Tells, IsInTheWay}
 use Rattle.mt_state.specs.Notes.{Says}
@@ -37,7 +37,7 @@ use Rattle.mt_state.specs.Invariant.{HoldsAt, StateInvariant}
 use Rattle.mt_state.proofs.Shown.{shown_there}
 use Rattle.mt_state.proofs.Telling.{Gives}
 use Rattle.mt_state.proofs.Still.{IsFree, holds_nothing}
-use Rattle.mt_state.proofs.Reading.{way_of, descent_free, descend_done, search_missing, search_found}
+use Rattle.mt_state.proofs.Reading.{way_of, descend_done, search_missing, search_found}
 use Rattle.mt_state.proofs.Loading.{load_taken, load_stopped}
 use Rattle.mt_state.proofs.Confirming.{get_of, confirm_done, confirm_back}
 use Rattle.mt_core.specs.Nexts.{IsNext, ending}
@@ -188,9 +188,11 @@ module _ (c : Core) (now : StateView) (o : ℕ) (is : shown c ≡ now) (h : Stat
   -- a search that found nothing
   pub search_gives_missing : IsArena c.arena.nodes c.arena.trees → (at_search : op.walk.phase ≡ Search) → (w : Walk) → (found : (f : Find) × FindsIn (at c.arena op.walk.place.node) op.task.key op.walk.layer f × (w ≡ after_search f op.walk (c.steps + 1)))
       → ((past : Past) (row : Option Columns) → IsNow past (c.steps + 1) c.arena → op.walk.first ≤ c.steps + 1 → IsKept c.arena past op.task.key row w) → w.phase ≡ Confirm
-      → (table : Table) → table ≡ set c.table o (Some (noted (moved op (c.steps + 1) w) (Some (record { reply = Absent; at = c.steps + 1 })))) → Gives now (stepped c table) o false
-  search_gives_missing arena at_search w found kept confirms table e =
-      with_table c now o false table (set c.table o (Some (noted (moved op (c.steps + 1) w) (Some (record { reply = Absent; at = c.steps + 1 }))))) e (search_missing c now o is h room arena op there at_search w found.0 found.1 found.2 kept confirms)
+      → (told : Outcome) → told ≡ record { reply = Absent; at = c.steps + 1 } → (table : Table) → table ≡ set c.table o (Some (noted (moved op (c.steps + 1) w) (Some told))) → Gives now (stepped c table) o false
+  search_gives_missing arena at_search w found kept confirms told says table e =
+      with_table c now o false table (set c.table o (Some (noted (moved op (c.steps + 1) w) (Some (record { reply = Absent; at = c.steps + 1 })))))
+      (e ∙ ap (λ (x : Outcome). set c.table o (Some (noted (moved op (c.steps + 1) w) (Some x)))) says)
+      (search_missing c now o is h room arena op there at_search w found.0 found.1 found.2 kept confirms)
 
   -- a search that found a slot
   pub search_gives_found : IsArena c.arena.nodes c.arena.trees → (at_search : op.walk.phase ≡ Search) → (w : Walk) → (found : (f : Find) × FindsIn (at c.arena op.walk.place.node) op.task.key op.walk.layer f × (w ≡ after_search f op.walk (c.steps + 1)))

@@ -1,3 +1,4 @@
+-- A step down goes where the version of the interior node leads: one lemma over what the comparison told.
 use Rattle.mt_core.proofs.LookSteps.{verify_goes}
 use Rattle.mt_core.proofs.looks.descend.Goals as goal
 

@@ -1,3 +1,4 @@
+-- What a load tells that had memory for the row that it shows.
 use Rattle.mt_core.proofs.LookSteps.{tells_shown}
 use Rattle.mt_core.proofs.looks.load_row.Goals as goal
 

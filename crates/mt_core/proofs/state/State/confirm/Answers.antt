@@ -1,4 +1,5 @@
-use Rattle.std.proofs.Common.{◌≡◌, sym}
+-- A get that confirms what it took: the lemma of the step, where it is done, and where it goes on its way.
+use Rattle.std.proofs.Common.{◌≡◌}
 use Rattle.mt_operation.specs.declared.walk.Phase.TheVariants.{Confirm}
 use Rattle.mt_core.specs.States.{core_of}
 use Rattle.mt_core.proofs.ReadSteps.{phase_is, free_moves, blocked, confirm_hands, confirm_kept, confirm_way, done_if, done_unless, confirm_gives_done, confirm_gives_back, noted_table}

@@ -1,3 +1,4 @@
+-- A step down of an operation: the lemma of the step, at the walk that the call gave.
 use Rattle.mt_state.specs.Views.{past_of}
 use Rattle.mt_state.specs.Ways.{IsDescent}
 use Rattle.mt_state.proofs.Reading.{descent_free}

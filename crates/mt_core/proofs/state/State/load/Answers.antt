@@ -1,5 +1,5 @@
-use Rattle.std.proofs.Common.{◌≡◌, sym, ap, ◌∙◌}
-use Rattle.mt_operation.specs.declared.walk.Phase.{Phase}
+-- A load of a get: the lemma of the step, at what the load told.
+use Rattle.std.proofs.Common.{◌≡◌}
 use Rattle.mt_operation.specs.declared.walk.Phase.TheVariants.{Load}
 use Rattle.mt_core.specs.States.{core_of}
 use Rattle.mt_core.proofs.ReadSteps.{phase_is, free_moves, blocked, load_hands, load_kept, load_gets, asked_columns, load_way, load_gives, noted_table}
