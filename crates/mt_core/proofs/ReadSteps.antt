@@ -238,8 +238,8 @@ module _ (c : Core) (now : StateView) (o : ℕ) (is : shown c ≡ now) (h : Stat
       taken : w ≡ t.after → ShowsTaken op t.row t.after told → LoadGives table answer
       taken same shows =
           let g = with_table c now o false table (set c.table o (Some (noted (moved op (c.steps + 1) t.after) told))) (e ∙ ap (λ (x : Walk). set c.table o (Some (noted (moved op (c.steps + 1) x) told))) same)
-              (load_taken c now o is h room arena op there at_load t.after t.row told t.loads shows same_now
-              (λ past stamped since. kept_loads c.arena op.task.key op.walk t.after past t.row arena (load_kept at_load) stamped since t.loads)) in
+          (load_taken c now o is h room arena op there at_load t.after t.row told t.loads shows same_now
+          (λ past stamped since. kept_loads c.arena op.task.key op.walk t.after past t.row arena (load_kept at_load) stamped since t.loads)) in
           (g.0, subst (λ (a : Move). Tells now (shown (stepped c table)) o a) (sym (ends ∙ ap (λ (x : Walk). ending x.phase) same ∙ ap (λ (x : Walk). ending x.phase) t.loads.is)) g.1)
 
       stopped : w ≡ record t.after { phase = Done } → Says told NoMemory (c.steps + 1) → LoadGives table answer
@@ -247,6 +247,6 @@ module _ (c : Core) (now : StateView) (o : ℕ) (is : shown c ≡ now) (h : Stat
           let after : Walk = record t.after { phase = Done } in
           let none : Option Outcome = Some (record { reply = NoMemory; at = c.steps + 1 }) in
           let g = with_table c now o true table (set c.table o (Some (noted (moved op (c.steps + 1) after) none)))
-              (e ∙ ap (λ (x : Walk). set c.table o (Some (noted (moved op (c.steps + 1) x) told))) same ∙ ap (λ (x : Option Outcome). set c.table o (Some (noted (moved op (c.steps + 1) after) x))) says)
-              (load_stopped c now o is h room arena op there at_load after refl (record { writes = same_now.writes; first = same_now.first })) in
+          (e ∙ ap (λ (x : Walk). set c.table o (Some (noted (moved op (c.steps + 1) x) told))) same ∙ ap (λ (x : Option Outcome). set c.table o (Some (noted (moved op (c.steps + 1) after) x))) says)
+          (load_stopped c now o is h room arena op there at_load after refl (record { writes = same_now.writes; first = same_now.first })) in
           (g.0, subst (λ (a : Move). Tells now (shown (stepped c table)) o a) (sym (ends ∙ ap (λ (x : Walk). ending x.phase) same)) g.1)

@@ -98,17 +98,15 @@ pub(crate) fn load_row(
 }
 
 // What a get answers that took this row, if it took one.
-fn shown(
-    alloc: Global,
-    row: Option<&Row>,
-    request: &Request,
-) -> Result<Option<Reply>, AllocError>
+fn shown(alloc: Global, row: Option<&Row>, request: &Request) -> Result<Option<Reply>, AllocError>
     requires columns { HasColumns (command_of request.now) }
     ensures { IfOk result (λ reply. (asked : List ℕ) → columns_asked (command_of request.now) ≡ Some asked →
         reply ≡ option_map (λ r. Reply.Found (columns_shown asked r.now)) row.entry) }
 {
     match (row, request) {
-        (Some(row), Request::Get { columns, .. }) => Ok(Some(Reply::Found(row.shown(alloc, columns)?))),
+        (Some(row), Request::Get { columns, .. }) => Ok(Some(Reply::Found(row.shown(
+            alloc, columns,
+        )?))),
         _ => Ok(None),
     }
 }

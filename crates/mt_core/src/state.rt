@@ -281,7 +281,12 @@ impl State {
         ensures { Tells self.old self.new id result }
     {
         self.arena.facts();
-        match load_row(self.alloc, &self.arena, open(&self.operations, id), self.steps + 1) {
+        match load_row(
+            self.alloc,
+            &self.arena,
+            open(&self.operations, id),
+            self.steps + 1,
+        ) {
             Ok(Loaded { walk, outcome }) => {
                 self.steps += 1;
                 self.operations.go_on(id, self.steps, walk);

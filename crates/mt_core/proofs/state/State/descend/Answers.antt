@@ -7,8 +7,11 @@ use Rattle.mt_core.proofs.ReadSteps.{phase_is, free_moves, blocked, descent_kept
 use Rattle.mt_core.proofs.state.State.descend.Goals as goal
 
 pub descended-requires-clause-kept : goal.descended-requires-clause-kept
-descended-requires-clause-kept c = (past_of (core_of c.self.inside), descent_kept (core_of c.self.inside) _ c.args.id c.self.view_is c.self.invariant c.requires.few c.open.result.now c.open.ensures
-    (phase_is (core_of c.self.inside) _ c.args.id IsDescent c.self.view_is c.open.result.now c.open.ensures c.requires.next))
+descended-requires-clause-kept c = (
+  past_of (core_of c.self.inside),
+  descent_kept (core_of c.self.inside) _ c.args.id c.self.view_is c.self.invariant c.requires.few c.open.result.now c.open.ensures
+      (phase_is (core_of c.self.inside) _ c.args.id IsDescent c.self.view_is c.open.result.now c.open.ensures c.requires.next),
+)
 
 pub go_on-requires : goal.go_on-requires
 go_on-requires c = free_moves (core_of c.self.inside) _ c.args.id c.self.view_is c.self.invariant c.requires.few c.open.result.now c.open.ensures

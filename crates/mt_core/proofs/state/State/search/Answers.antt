@@ -6,8 +6,10 @@ use Rattle.mt_core.proofs.ReadSteps.{phase_is, free_moves, search_hands, search_
 use Rattle.mt_core.proofs.state.State.search.Goals as goal
 
 pub search-requires : goal.search-requires
-search-requires c = record { kept = search_kept (core_of c.self.inside) _ c.args.id c.self.view_is c.self.invariant c.requires.few c.open-operation.result.now c.open-operation.ensures
-    (phase_is (core_of c.self.inside) _ c.args.id (λ p. p ≡ Search) c.self.view_is c.open-operation.result.now c.open-operation.ensures c.requires.next) }
+search-requires c = record {
+  kept = search_kept (core_of c.self.inside) _ c.args.id c.self.view_is c.self.invariant c.requires.few c.open-operation.result.now c.open-operation.ensures
+      (phase_is (core_of c.self.inside) _ c.args.id (λ p. p ≡ Search) c.self.view_is c.open-operation.result.now c.open-operation.ensures c.requires.next);
+}
 
 pub go_on-requires : goal.go_on-requires
 go_on-requires c = free_moves (core_of c.self.inside) _ c.args.id c.self.view_is c.self.invariant c.requires.few c.open-operation.result.now c.open-operation.ensures
