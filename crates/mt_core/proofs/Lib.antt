@@ -1,1 +1,3 @@
 pub mod PutSteps
+pub mod LookSteps
+pub mod ReadSteps

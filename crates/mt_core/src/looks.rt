@@ -83,10 +83,10 @@ pub(crate) fn load_row(
     let mut walk = operation.walk;
     let row = load(arena, &operation.task.key, &mut walk)?;
     match shown(alloc, row, &operation.task.request) {
-        Ok(reply) => Ok(Loaded {
-            walk,
-            outcome: reply.map(|reply| Outcome { reply, at: walk.right_at }),
-        }),
+        Ok(reply) => {
+            let outcome = told(reply, walk.right_at);
+            Ok(Loaded { walk, outcome })
+        }
         Err(_) => {
             walk.phase = Phase::Done;
             Ok(Loaded {
@@ -98,18 +98,26 @@ pub(crate) fn load_row(
 }
 
 // What a get answers that took this row, if it took one.
-fn shown(
-    alloc: Global,
-    row: Option<&Row>,
-    request: &Request,
-) -> Result<Option<Reply>, AllocError>
+fn shown(alloc: Global, row: Option<&Row>, request: &Request) -> Result<Option<Reply>, AllocError>
     requires columns { HasColumns (command_of request.now) }
     ensures { IfOk result (λ reply. (asked : List ℕ) → columns_asked (command_of request.now) ≡ Some asked →
         reply ≡ option_map (λ r. Reply.Found (columns_shown asked r.now)) row.entry) }
 {
     match (row, request) {
-        (Some(row), Request::Get { columns, .. }) => Ok(Some(Reply::Found(row.shown(alloc, columns)?))),
+        (Some(row), Request::Get { columns, .. }) => Ok(Some(Reply::Found(row.shown(
+            alloc, columns,
+        )?))),
         _ => Ok(None),
+    }
+}
+
+// The outcome of a get that shows this reply, which is right at this number.
+fn told(reply: Option<Reply>, at: u64) -> Option<Outcome>
+    ensures { result ≡ option_map (λ r. record { reply = r; at = at }) reply }
+{
+    match reply {
+        Some(reply) => Some(Outcome { reply, at }),
+        None => None,
     }
 }
 

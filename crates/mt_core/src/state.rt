@@ -28,7 +28,7 @@ use crate::shape::{ShapeLine, root_line};
 use mt_arena::Arena;
 use mt_descent::{confirm, lock, search};
 use mt_insert::{judge, publish, store, unlock};
-use mt_operation::{Operation, Operations, Outcome, Phase, Prepared};
+use mt_operation::{Operation, Operations, Outcome, Phase, Prepared, Walk};
 use mt_rows::{Command, Refusal, Reply, Tenants};
 use mt_runs::Answer;
 use mt_state::Move;
@@ -285,6 +285,7 @@ impl State {
         requires few { self.old.steps < 2 ^ 59 }
         ensures { Tells self.old self.new id result }
     {
+        self.arena.facts();
         self.steps += 1;
         let operation = open(&self.operations, id);
         let mut walk = operation.walk;
@@ -302,12 +303,18 @@ impl State {
         requires few { self.old.steps < 2 ^ 59 }
         ensures { Tells self.old self.new id result }
     {
-        match load_row(self.alloc, &self.arena, open(&self.operations, id), self.steps + 1) {
+        self.arena.facts();
+        match load_row(
+            self.alloc,
+            &self.arena,
+            open(&self.operations, id),
+            self.steps + 1,
+        ) {
             Ok(Loaded { walk, outcome }) => {
                 self.steps += 1;
                 self.operations.go_on(id, self.steps, walk);
                 self.operations.note(id, outcome);
-                ending(walk.phase)
+                ending(&walk)
             }
             Err(holder) => again(holder),
         }
@@ -456,11 +463,11 @@ fn again(holder: usize) -> Move
     }
 }
 
-// What a step answers that leads to this phase.
-fn ending(phase: Phase) -> Move
-    ensures { result ≡ ending phase }
+// What a step answers that leads to this walk.
+fn ending(walk: &Walk) -> Move
+    ensures { result ≡ ending walk.now.phase }
 {
-    if phase == Phase::Done {
+    if walk.phase == Phase::Done {
         Move::Done
     } else {
         Move::Moved

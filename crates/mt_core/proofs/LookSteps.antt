@@ -1,0 +1,53 @@
+-- Where the steps of an operation that holds nothing lead, and what a load shows: for `descend` and `load_row`.
+use Rattle.std.proofs.Common.{◌≡◌, ℕ, true, List, Option, Some, None, IfNone, inl, refl, sym, ap, subst, ◌∙◌}
+use Rattle.std.specs.Option.{option_map}
+use Rattle.std.proofs.lemmas.Option.{same_Some}
+use Rattle.mt_rows.specs.declared.reply.Reply.{Reply}
+use Rattle.mt_rows.specs.declared.reply.Reply.TheVariants.{Found}
+use Rattle.mt_rows.specs.Rows.{Columns, shown}
+use Rattle.mt_rows.specs.Maps.{is_get}
+use Rattle.mt_arena.specs.NodeView.{NodeView}
+use Rattle.mt_operation.specs.declared.walk.Phase.TheVariants.{Verify}
+use Rattle.mt_operation.specs.declared.walk.Walk.{Walk}
+use Rattle.mt_operation.specs.declared.outcome.Outcome.{Outcome}
+use Rattle.mt_operation.specs.declared.operation.Operation.{Operation}
+use Rattle.mt_operation.specs.Tasks.{ask}
+use Rattle.mt_descent.specs.Moves.{Continues, Verifies, Loads}
+use Rattle.mt_state.specs.Notes.{columns_asked}
+use Rattle.mt_state.specs.Ways.{Descends, ShowsTaken}
+use Rattle.mt_state.proofs.Descents.{descends, verified}
+use Rattle.mt_state.proofs.Replies.{get_asks}
+use Rattle.mt_core.specs.Looks.{TellsLoaded}
+
+-- a walk that compared the version of its interior node goes on so
+pub verify_goes : (r : Option ℕ) (n : NodeView) (before after : Walk) → before.phase ≡ Verify → IfNone r (Verifies n before after) → Continues before after → IfNone r (Descends before after)
+verify_goes None n before after at_verify v same = descends before after same (verified n before after at_verify v)
+verify_goes (Some holder) n before after at_verify v same = tt
+
+-- the outcome of a reply that is right at a number
+abbrev pub placed_at : ℕ → Reply → Outcome
+placed_at m reply = record { reply = reply; at = m }
+
+-- the row that a get took is shown as it asks
+shows_taken : {R : Type 0} (f : R → Columns) (taken : Option R) (reply : Option Reply) (op : Operation) (after : Walk) → is_get (ask op.task) ≡ true
+    → ((asked : List ℕ) → columns_asked (ask op.task) ≡ Some asked → reply ≡ option_map (λ r. Found (shown asked (f r))) taken)
+    → ShowsTaken op (option_map f taken) after (option_map (placed_at after.right_at) reply)
+shows_taken f None reply op after gets is = record {
+  none = λ e. let asked = get_asks (ask op.task) gets in ap (option_map (placed_at after.right_at)) (is asked.0 asked.1);
+  some = λ columns asked e _. absurd (cc);
+}
+shows_taken f (Some r) reply op after gets is = record {
+  none = λ e. absurd (cc);
+  some = λ columns asked e by. ap (option_map (placed_at after.right_at)) (is asked by) ∙ ap (λ (x : Columns). Some (placed_at after.right_at (Found (shown asked x)))) (same_Some (f r) columns e);
+}
+
+-- what a load tells that had memory for the row that it shows
+pub tells_shown : {R : Type 0} (f : R → Columns) (taken : Option R) (reply : Option Reply) (n : NodeView) (op : Operation) (step : ℕ) (after : Walk) (told : Option Outcome) → is_get (ask op.task) ≡ true → Loads n op.walk after (option_map f taken)
+    → ((asked : List ℕ) → columns_asked (ask op.task) ≡ Some asked → reply ≡ option_map (λ r. Found (shown asked (f r))) taken) → told ≡ option_map (placed_at after.right_at) reply
+    → TellsLoaded n op step (record { walk = after; outcome = told })
+tells_shown f taken reply n op step after told gets loads is says = record {
+  row = option_map f taken;
+  after = after;
+  loads = loads;
+  told = inl (refl, subst (λ (x : Option Outcome). ShowsTaken op (option_map f taken) after x) (sym says) (shows_taken f taken reply op after gets is));
+}
