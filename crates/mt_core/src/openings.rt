@@ -205,12 +205,13 @@ fn answer_of(operation: Operation) -> Answer
     ensures { IsAnswerOf (view_of operation) result }
 {
     let Operation {
-        task: Task { request, .. },
+        task,
         walk,
         last,
         outcome,
         ..
     } = operation;
+    let Task { request, .. } = task;
     let Some(Outcome { reply, at }) = outcome else {
         unreachable!()
     };
