@@ -6,3 +6,4 @@ pub mod Starts
 pub mod Rooms
 pub mod Beginning
 pub mod Causes
+pub mod Refusing
