@@ -7,3 +7,5 @@ pub mod Rooms
 pub mod Beginning
 pub mod Causes
 pub mod Refusing
+pub mod Righting
+pub mod Texts
