@@ -1,10 +1,8 @@
 -- A begin that was not refused: the invariant with an operation more, and what it tells: for `State::admit`.
-use Rattle.std.proofs.Common.{◌≡◌, ◌≢◌, ℕ, ◌<◌, ◌≤◌, inl, inr, true, false, not, length, Option, None, Some, IsSome, Result, Ok, Err, refl, sym, ap, subst, ◌∙◌, arith}
-use Rattle.std.specs.Prelude.{is_some}
+use Rattle.std.proofs.Common.{◌≡◌, ◌≢◌, ℕ, inl, inr, true, false, not, length, Option, None, Some, IsSome, Result, Ok, refl, sym, ap, subst, ◌∙◌, arith}
 use Rattle.std.specs.Option.{is_none, option_map}
 use Rattle.std.specs.Result.{result_map_both}
 use Rattle.std.proofs.lemmas.Option.{none-some}
-use Rattle.std.specs.FinMap.{get}
 use Rattle.mt_rows.specs.declared.command.Command.{Command}
 use Rattle.mt_rows.specs.declared.command.Command.TheVariants.{Get, Put, Remove, Scan}
 use Rattle.mt_rows.specs.declared.refusal.Refusal.{Refusal}
@@ -13,27 +11,25 @@ use Rattle.mt_rows.specs.Accounts.{account_of}
 use Rattle.mt_rows.specs.Maps.{is_get}
 use Rattle.mt_rows.specs.Rows.{Bytes}
 use Rattle.mt_slices.specs.Keys.{IsStoredKey}
-use Rattle.mt_border.specs.Contents.{owned, IsOfTree}
+use Rattle.mt_border.specs.Contents.{IsOfTree}
 use Rattle.mt_border.proofs.ContentsKeys.{in_top_tree}
-use Rattle.mt_arena.specs.Arena.{ArenaView, IsArena, content_of}
+use Rattle.mt_arena.specs.Arena.{ArenaView, IsArena}
 use Rattle.mt_arena.specs.Accesses.{at, top_tree}
 use Rattle.mt_arena.specs.Forests.{tree_at}
 use Rattle.mt_arena.specs.declared.tree.Tree.{Tree}
 use Rattle.mt_operation.specs.declared.operation.Operation.{Operation}
 use Rattle.mt_operation.specs.declared.walk.Phase.{Phase}
-use Rattle.mt_operation.specs.declared.walk.Phase.TheVariants.{Enter}
 use Rattle.mt_operation.specs.declared.walk.Walk.{Walk}
 use Rattle.mt_operation.specs.Tasks.{ask}
-use Rattle.mt_operation.specs.Walks.{walk_from_top}
-use Rattle.mt_operation.specs.Operations.{OperationView, view_of, is_done, is_unfinished}
+use Rattle.mt_operation.specs.Operations.{OperationView, view_of, is_done}
 use Rattle.mt_operation.specs.Tables.{Table, HasOpenPut as HasOpen, op_at as operation_at}
 use Rattle.mt_descent.specs.Kept.{GoesThrough, KeptAt}
-use Rattle.mt_state.specs.Views.{Core, StateView, Shown, shown, past_of, op_at}
-use Rattle.mt_state.specs.Kept.{IsOpenOperation, IsOnItsWay, IsOfKind, IsKeptAt, IsKeptOf}
-use Rattle.mt_state.specs.Steps.{told_change, change_in}
+use Rattle.mt_state.specs.Views.{Core, StateView, shown, past_of}
+use Rattle.mt_state.specs.Kept.{IsOfKind, IsKeptAt, IsKeptOf}
+use Rattle.mt_state.specs.Steps.{change_in}
 use Rattle.mt_state.specs.Invariant.{IsOneBorder, StateInvariant, one_if_prepared}
-use Rattle.mt_state.specs.Begins.{begun, Begins, MayBegin, HasOpenPut}
-use Rattle.mt_state.proofs.Shown.{shown_table, shown_at, shown_there, inside_of}
+use Rattle.mt_state.specs.Begins.{Begins, MayBegin, HasOpenPut}
+use Rattle.mt_state.proofs.Shown.{shown_table, shown_at, shown_there}
 use Rattle.mt_core.specs.declared.answers.Ticket.{Ticket}
 use Rattle.mt_core.specs.Admitted.{IsAdmitted, HasRoomFor, OpeningView, IsOpening, IsRightOpening, MayAdmit, TellsAdmitted}
 use Rattle.mt_core.proofs.Tabling.{with_table, begun_sound}
@@ -133,10 +129,14 @@ module _ (c : Core) (now : StateView) (opening : OpeningView) (tenant : ℕ) (ma
 
     -- and what is told of it
     pub begun_tells : (ticket : Ticket) → ticket.id ≡ o → TellsAdmitted now (shown (with_table c table)) opening (Ok ticket)
-    begun_tells ticket ticket_is = (view_of op, shows, subst (λ (v : StateView). Begins v (shown (with_table c table)) ticket.id op.task.worker op.task.tenant (ask op.task)) is
-        (subst (λ i. Begins (shown c) (shown (with_table c table)) i op.task.worker op.task.tenant (ask op.task)) (sym ticket_is) (record {
-          free = shown_at c.table o ∙ ap (option_map view_of) vacant;
-          there = shown_there table o op there ∙ ap Some a.is_begun;
-          others = λ q other. shown_at table q ∙ ap (option_map view_of) (others q other) ∙ sym (shown_at c.table q);
-          stands = refl;
-        })))
+    begun_tells ticket ticket_is = (
+      view_of op,
+      shows,
+      subst (λ (v : StateView). Begins v (shown (with_table c table)) ticket.id op.task.worker op.task.tenant (ask op.task)) is
+          (subst (λ i. Begins (shown c) (shown (with_table c table)) i op.task.worker op.task.tenant (ask op.task)) (sym ticket_is) (record {
+            free = shown_at c.table o ∙ ap (option_map view_of) vacant;
+            there = shown_there table o op there ∙ ap Some a.is_begun;
+            others = λ q other. shown_at table q ∙ ap (option_map view_of) (others q other) ∙ sym (shown_at c.table q);
+            stands = refl;
+          })),
+    )

@@ -6,7 +6,6 @@ use Rattle.std.specs.Result.{result_err, result_map_both}
 use Rattle.std.specs.FinMap.{get, len}
 use Rattle.std.proofs.lemmas.Bool.{false≢true, lt-ltb, le-ltb, leb-true, le-leb, eqb-true, eq-eqb, ne_eqb}
 use Rattle.std.proofs.lemmas.List.Sums.{AllPass-from_list_all, list_all-from_AllPass}
-use Rattle.mt_rows.specs.declared.command.Command.{Command}
 use Rattle.mt_rows.specs.declared.command.Command.TheVariants.{Put}
 use Rattle.mt_rows.specs.declared.refusal.Refusal.{Refusal}
 use Rattle.mt_rows.specs.declared.refusal.Refusal.TheVariants.{Memory, NoTenant, ColumnLong, Spent, NoRoom}
@@ -21,12 +20,11 @@ use Rattle.mt_arena.specs.Arena.{IsArena, content_of}
 use Rattle.mt_arena.specs.Accesses.{at}
 use Rattle.mt_operation.specs.declared.operation.Operation.{Operation}
 use Rattle.mt_operation.specs.Tasks.{ask}
-use Rattle.mt_operation.specs.Operations.{OperationView, view_of}
+use Rattle.mt_operation.specs.Operations.{view_of}
 use Rattle.mt_state.specs.Views.{Core, StateView, shown, contents_of}
 use Rattle.mt_state.specs.Invariant.{StateInvariant}
-use Rattle.mt_state.specs.Refused.{is_first_alone, names_first, are_short, fault_of, first_fault, has_room, first_lack, cause_of, IsRefusal, Refuses}
-use Rattle.mt_core.specs.declared.answers.Ticket.{Ticket}
-use Rattle.mt_core.specs.Admitted.{HasRoomFor, LacksRoom, OpeningView, IsRightOpening, first_cause_of, first_fault_of, RefusesOpening, fault_made, cause_made}
+use Rattle.mt_state.specs.Refused.{is_first_alone, names_first, are_short, fault_of, has_room, IsRefusal}
+use Rattle.mt_core.specs.Admitted.{HasRoomFor, LacksRoom, OpeningView, IsRightOpening, first_cause_of, cause_made}
 use Rattle.mt_core.proofs.Rooms.{len_content, missing_none, found_some}
 use Rattle.mt_core.proofs.Beginning.{opened, shows, tenant_is}
 

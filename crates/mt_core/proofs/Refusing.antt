@@ -9,7 +9,6 @@ use Rattle.mt_rows.specs.declared.refusal.Refusal.TheVariants.{Memory, NoTenant}
 use Rattle.mt_rows.specs.Accounts.{account_of}
 use Rattle.mt_operation.specs.Operations.{OperationView}
 use Rattle.mt_state.specs.Views.{StateView}
-use Rattle.mt_state.specs.Begins.{begun}
 use Rattle.mt_state.specs.Refused.{fault_of, first_lack, IsRefusal, Refuses}
 use Rattle.mt_core.specs.declared.answers.Ticket.{Ticket}
 use Rattle.mt_core.specs.Admitted.{OpeningView, IsMadeOf, RefusesOpening, fault_made, cause_made}

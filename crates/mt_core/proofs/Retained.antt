@@ -1,14 +1,13 @@
 -- What is kept of an operation stays where only the table is another, and the tape goes back as far as the operation needs: for `State::admit`, `take` and `tidy`.
-use Rattle.std.proofs.Common.{◌≡◌, ◌≢◌, ℕ, ◌+◌, ◌-◌, ◌<◌, ◌≤◌, Bool, true, false, Option, None, Some, sym, refl, ap, subst, ◌∙◌, arith}
+use Rattle.std.proofs.Common.{◌≡◌, ◌≢◌, ℕ, ◌+◌, ◌-◌, ◌<◌, ◌≤◌, Bool, true, false, Option, None, Some, sym, refl, ap, ◌∙◌, arith}
 use Rattle.std.specs.Prelude.{if◌then◌else◌}
 use Rattle.std.specs.List.{Contains}
 use Rattle.std.proofs.lemmas.Option.{same_Some, none-some}
 use Rattle.mt_rows.specs.declared.command.Command.{Command}
 use Rattle.mt_rows.specs.declared.reply.Reply.{Reply}
-use Rattle.mt_rows.specs.declared.reply.Reply.TheVariants as replies
 use Rattle.mt_rows.specs.Rows.{Bytes, Columns}
 use Rattle.mt_rows.specs.Maps.{reply_of, is_change}
-use Rattle.mt_rows.specs.Tenants.{Contents, tenant_map}
+use Rattle.mt_rows.specs.Tenants.{tenant_map}
 use Rattle.mt_tape.specs.declared.entry.Entry.{Entry as TapeEntry}
 use Rattle.mt_tape.specs.Tapes.{Kept}
 use Rattle.mt_tape.specs.Histories.{contents_at, is_changed}
@@ -25,10 +24,9 @@ use Rattle.mt_operation.specs.Tables.{Table}
 use Rattle.mt_descent.specs.Pasts.{Past, ExtendsPast}
 use Rattle.mt_descent.specs.Kept.{IsKept, KeptAt}
 use Rattle.mt_descent.proofs.Rely as descent
-use Rattle.mt_state.specs.Views.{StateView, Core, shown, past_of, map_of, changed_at, quota_of, IsPlaced}
+use Rattle.mt_state.specs.Views.{Core, shown, past_of, map_of, quota_of, IsPlaced}
 use Rattle.mt_state.specs.Steps.{change_in, told_change}
-use Rattle.mt_state.specs.Promises.{IsAnswer}
-use Rattle.mt_state.specs.Kept.{IsOpenOperation, IsOnItsWay, HasAnswer, TellsTaken, IsKeptAt, IsPlacedOnce, IsKeptOf}
+use Rattle.mt_state.specs.Kept.{IsOpenOperation, IsOnItsWay, HasAnswer, TellsTaken, IsKeptAt, IsKeptOf}
 use Rattle.mt_state.proofs.Still.{nothing_changes}
 
 -- the same state with another tape and another table

@@ -1,15 +1,11 @@
 -- What holds of every state, by its invariant, and of its open puts, by the table inside: for `State::facts` and `has_open_put`.
-use Rattle.std.proofs.Common.{◌≡◌, ℕ, ◌<◌, Bool, true, false, Some, sym, ap, subst, ◌∙◌}
+use Rattle.std.proofs.Common.{◌≡◌, ℕ, Bool, Some, sym, ap, subst, ◌∙◌}
 use Rattle.std.specs.Prelude.{◌↔◌, IsTrue, not}
-use Rattle.mt_operation.specs.declared.outcome.Outcome.{Outcome}
 use Rattle.mt_operation.specs.declared.operation.Operation.{Operation}
-use Rattle.mt_operation.specs.declared.walk.Phase.{Phase}
 use Rattle.mt_operation.specs.Operations.{OperationView, view_of, is_done}
 use Rattle.mt_operation.specs.Tables.{Table, HasOpenPut as HasOpen, op_at as operation_at}
 use Rattle.mt_rows.specs.Maps.{is_get}
-use Rattle.mt_state.specs.Views.{Core, StateView, shown, op_at}
-use Rattle.mt_state.specs.Steps.{change_in}
-use Rattle.mt_state.specs.Promises.{IsAnswer}
+use Rattle.mt_state.specs.Views.{Core, StateView, shown}
 use Rattle.mt_state.specs.Invariant.{StateInvariant}
 use Rattle.mt_state.specs.Begins.{HasOpenPut}
 use Rattle.mt_state.proofs.Shown.{shown_table, inside_of}

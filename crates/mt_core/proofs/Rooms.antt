@@ -1,5 +1,5 @@
 -- The pairs of the one border node, by its slots: as many as the slots, and a key's pair is there where a slot has it: for `State::admit`.
-use Rattle.std.proofs.Common.{◌≡◌, ◌≢◌, ℕ, ◌<◌, ◌≤◌, Bool, true, false, cond, List, [], ◌∷◌, ◌++◌, length, get_or, Option, Some, None, IsSome, refl, sym, ap, subst, ◌∙◌, arith}
+use Rattle.std.proofs.Common.{◌≡◌, ◌≢◌, ℕ, ◌<◌, true, false, cond, List, [], ◌∷◌, ◌++◌, length, get_or, Option, Some, None, IsSome, refl, sym, ap, subst, ◌∙◌, arith}
 use Rattle.std.specs.Prelude.{IsSomeAnd, is_some, filter_map}
 use Rattle.std.specs.List.{All}
 use Rattle.std.specs.Int.{w64, to_be_bytes}

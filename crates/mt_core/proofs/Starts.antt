@@ -1,6 +1,6 @@
 -- A state in which nothing has happened keeps the invariant: for `State::new`.
-use Rattle.std.proofs.Common.{◌≡◌, ℕ, zero, suc, ◌<◌, [], ◌∷◌, None, true, false, length, sym, refl, ap, subst, ◌∙◌, arith}
-use Rattle.std.specs.FinMap.{len, len-empty, get-empty, from_entries}
+use Rattle.std.proofs.Common.{◌≡◌, ℕ, zero, suc, ◌<◌, [], sym, refl, ap, subst, ◌∙◌, arith}
+use Rattle.std.specs.FinMap.{len, len-empty, get-empty}
 use Rattle.std.specs.FinMap as pairs
 use Rattle.std.specs.Ordering.{nat_cmp}
 use Rattle.std.specs.Cmp.Lexicographic.{slice_cmp}
@@ -17,9 +17,9 @@ use Rattle.mt_arena.specs.Arena.{ArenaView, content_of}
 use Rattle.mt_arena.specs.Edits.{fresh_root}
 use Rattle.mt_arena.specs.Accesses.{new_arena}
 use Rattle.mt_operation.specs.Tables.{Table}
-use Rattle.mt_state.specs.Views.{Core, StateView, shown}
+use Rattle.mt_state.specs.Views.{Core}
 use Rattle.mt_state.specs.Invariant.{StateInvariant, AreStamps, AreVersions, AreHolders}
-use Rattle.mt_state.specs.Begins.{HaveNoPairs, new_state}
+use Rattle.mt_state.specs.Begins.{HaveNoPairs}
 
 -- the tape of a new state
 abbrev pub no_tape : Kept

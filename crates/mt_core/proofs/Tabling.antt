@@ -1,5 +1,5 @@
 -- The invariant of a state with another table: one operation more, or one that is finished less: for `State::admit` and `take`.
-use Rattle.std.proofs.Common.{◌≡◌, ◌≢◌, ℕ, zero, suc, ◌+◌, ◌<◌, ◌≤◌, ◌⊎◌, inl, inr, true, false, [], ◌∷◌, length, set, Option, Some, None, IsSome, refl, sym, ap, subst, ◌∙◌, arith}
+use Rattle.std.proofs.Common.{◌≡◌, ◌≢◌, ℕ, suc, ◌<◌, ◌⊎◌, inl, inr, true, false, [], ◌∷◌, length, set, Some, None, IsSome, refl, sym, ap, subst, ◌∙◌, arith}
 use Rattle.std.proofs.lemmas.Bool.{cases_eq}
 use Rattle.std.proofs.lemmas.Option.{same_Some, none-some}
 use Rattle.std.specs.FinMap.{get}
@@ -65,9 +65,9 @@ pub taken_sound : (c : Core) (o : ℕ) (op : Operation) → StateInvariant c →
 taken_sound c o op h there ended =
     table_sound c o (set c.table o None) h (λ q ne. set_there c.table o q None ne)
     (λ k within held.
-        let w = h.holders k o within held in
-        let same = same_Some w.0 op (sym w.1 ∙ there) in
-        done_holds w.0.walk.phase w.0.walk.place.node k (ap (λ (x : Operation). x.walk.phase) same ∙ ended) w.2)
+    let w = h.holders k o within held in
+    let same = same_Some w.0 op (sym w.1 ∙ there) in
+    done_holds w.0.walk.phase w.0.walk.place.node k (ap (λ (x : Operation). x.walk.phase) same ∙ ended) w.2)
     (λ x is. absurd (none-some x (sym (set_none c.table o) ∙ is)))
     (ap one_if_prepared (set_none c.table o) ∙ sym (ap one_if_prepared there ∙ ap (λ p. one_if_prepared (Some (record op { walk = record op.walk { phase = p } }))) ended))
     (record {

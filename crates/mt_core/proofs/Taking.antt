@@ -1,10 +1,8 @@
 -- What a take makes of a state, and what it tells: for `State::take`.
 use Rattle.std.proofs.Common.{◌≡◌, ◌≢◌, ℕ, true, false, set, Option, None, Some, refl, sym, ap, subst, ◌∙◌}
 use Rattle.std.specs.Prelude.{not, IfSome, IfNone}
-use Rattle.std.proofs.lemmas.Bool.{both_ways}
 use Rattle.std.proofs.lemmas.Option.{same_Some, none-some}
 use Rattle.mt_runs.specs.declared.event.Answer.{Answer}
-use Rattle.mt_operation.specs.declared.outcome.Outcome.{Outcome}
 use Rattle.mt_operation.specs.declared.operation.Operation.{Operation}
 use Rattle.mt_operation.specs.declared.walk.Phase.{Phase}
 use Rattle.mt_operation.specs.declared.walk.Phase.TheVariants.{Done}
@@ -66,8 +64,8 @@ pub keeps_by : (c : Core) (now : StateView) (o : ℕ) (table : Table) → shown 
 keeps_by c now o table is gave = (
   ap (λ t. shown (with_table c t)) gave.0 ∙ is,
   λ ended.
-  let inside = inside_of c.table o ended.0 (ap (λ (v : StateView). op_at v.table o) is ∙ ended.1) in
-  let left = gave.1 inside.0 inside.1 in
-  let done : is_done inside.0.walk.phase ≡ true = ap (λ (x : OperationView). is_done x.phase) inside.2 ∙ ended.2 in
-  absurd (cc),
+      let inside = inside_of c.table o ended.0 (ap (λ (v : StateView). op_at v.table o) is ∙ ended.1) in
+      let left = gave.1 inside.0 inside.1 in
+      let done : is_done inside.0.walk.phase ≡ true = ap (λ (x : OperationView). is_done x.phase) inside.2 ∙ ended.2 in
+      absurd (cc),
 )

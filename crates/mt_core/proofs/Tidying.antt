@@ -1,5 +1,5 @@
 -- A trim to the floor that a tape needs keeps the invariant, and all that a tidying promises: for `State::tidy`.
-use Rattle.std.proofs.Common.{◌≡◌, ℕ, ◌+◌, ◌<◌, ◌≤◌, inl, inr, List, [], ◌∷◌, length, Some, sym, refl, ap, subst, ◌∙◌, arith}
+use Rattle.std.proofs.Common.{◌≡◌, ℕ, ◌<◌, ◌≤◌, inl, inr, List, [], ◌∷◌, Some, sym, refl, ap, subst, arith}
 use Rattle.std.specs.List.{Contains}
 use Rattle.std.proofs.lemmas.Bool.{cases_lt}
 use Rattle.std.proofs.lemmas.List.Elements.{Contains-push, Contains-push_cases, Contains-append_cases, Contains-append_left, Contains-append_right}
@@ -12,7 +12,7 @@ use Rattle.mt_arena.specs.Arena.{content_of}
 use Rattle.mt_arena.specs.Accesses.{at, tree_of}
 use Rattle.mt_operation.specs.declared.operation.Operation.{Operation}
 use Rattle.mt_operation.specs.Operations.{OperationView, view_of}
-use Rattle.mt_operation.specs.Tables.{Table, IsBeforeFirsts, IsFloorNeeded, op_at as operation_at}
+use Rattle.mt_operation.specs.Tables.{IsBeforeFirsts, IsFloorNeeded, op_at as operation_at}
 use Rattle.mt_state.specs.Views.{Core, StateView, shown}
 use Rattle.mt_state.specs.Invariant.{IsStampOf, StateInvariant}
 use Rattle.mt_state.proofs.Shown.{shown_there, inside_of}
@@ -68,9 +68,13 @@ module _ (c : Core) (floor : ℕ) (h : StateInvariant c) (rises : c.tape.floor �
       legal = legal-trim floor c.tape.entries (content_of c.arena) h.tape.legal;
     };
     stamps = λ k within counted. stamped_weaker (IsStampOf c.steps c.tape) (IsStampOf c.steps (trimmed c floor)) (tree_of c.arena k).prefix (at c.arena k).slots
-        (λ q s w. (w.0, untouched-trim floor c.tape.entries q s w.1, λ lt.
-            let wrote = w.2 (omega (arith, rises, lt)) in
-            (wrote.0, later_has floor c.tape.entries wrote.0 wrote.1 (omega (arith, lt, wrote.2)), wrote.2, wrote.3)))
+        (λ q s w. (
+          w.0,
+          untouched-trim floor c.tape.entries q s w.1,
+          λ lt.
+              let wrote = w.2 (omega (arith, rises, lt)) in
+              (wrote.0, later_has floor c.tape.entries wrote.0 wrote.1 (omega (arith, lt, wrote.2)), wrote.2, wrote.3),
+        ))
         (h.stamps k within counted);
     versions = h.versions;
     holders = h.holders;

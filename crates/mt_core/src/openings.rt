@@ -119,12 +119,7 @@ pub fn prepare(alloc: Global, worker: u8, tenant: u32, command: Command) -> Open
 }
 
 // An operation before its first step.
-fn admitted(
-    alloc: Global,
-    worker: u8,
-    tenant: u32,
-    command: Command,
-) -> Result<Operation, Refusal>
+fn admitted(alloc: Global, worker: u8, tenant: u32, command: Command) -> Result<Operation, Refusal>
     requires { IsPoint command }
     ensures admitted { IfOk result IsAdmitted }
     ensures is { IfOk result (λ op. view_of op ≡ begun worker tenant command) }

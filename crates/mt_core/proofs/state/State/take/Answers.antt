@@ -15,6 +15,6 @@ pub returns : goal.returns
 returns c = elim c.match-give_up.branch [
   | in-Some w ↦ subst (TellsTake c.args.self.now _ c.args.ticket) (sym w.result-is) (takes_by (core_of c.self.inside) _ c.args.ticket.id _ w.in-Some.answer c.self.view_is c.self.invariant w.in-Some.ensures.taken)
   | in-None w ↦ subst (TellsTake c.args.self.now _ c.args.ticket) (sym w.result-is) (
-    let kept = keeps_by (core_of c.self.inside) _ c.args.ticket.id _ c.self.view_is w.in-None.ensures.«open» in
-    (refl, kept.0, kept.1))
+      let kept = keeps_by (core_of c.self.inside) _ c.args.ticket.id _ c.self.view_is w.in-None.ensures.«open» in
+      (refl, kept.0, kept.1))
 ]
