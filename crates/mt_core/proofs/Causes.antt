@@ -1,14 +1,14 @@
--- Which cause for a refusal a begin meets first: for `State::admit` and `begin`, clause `refused`, and `put_of`.
-use Rattle.std.proofs.Common.{◌≡◌, ℕ, ◌<◌, ◌≤◌, ◌^◌, ◌⊎◌, ◌↔◌, inl, inr, Bool, true, false, not, ◌||◌, eqb, List, [], ◌∷◌, length, get_or, Option, Some, None, Result, Ok, Err, sym, refl, ap, subst, ◌∙◌, arith}
+-- Which cause for a refusal a begin meets first: for `State::admit`, clause `refused`, and `put_of`.
+use Rattle.std.proofs.Common.{◌≡◌, ℕ, ◌<◌, ◌≤◌, ◌^◌, ◌⊎◌, ◌↔◌, inl, inr, Bool, true, false, not, ◌||◌, eqb, List, [], ◌∷◌, length, get_or, Some, None, Result, Ok, Err, sym, refl, ap, subst, ◌∙◌, arith}
 use Rattle.std.specs.Prelude.{is_some, IsOk, IsErrAnd, if◌then◌else◌, nat_lt, nat_le}
-use Rattle.std.specs.Option.{is_none, option_or}
+use Rattle.std.specs.Option.{is_none}
 use Rattle.std.specs.Result.{result_err, result_map_both}
 use Rattle.std.specs.FinMap.{get, len}
 use Rattle.std.proofs.lemmas.Bool.{false≢true, lt-ltb, le-ltb, leb-true, le-leb, eqb-true, eq-eqb, ne_eqb}
 use Rattle.std.proofs.lemmas.List.Sums.{AllPass-from_list_all, list_all-from_AllPass}
 use Rattle.mt_rows.specs.declared.command.Command.TheVariants.{Put}
 use Rattle.mt_rows.specs.declared.refusal.Refusal.{Refusal}
-use Rattle.mt_rows.specs.declared.refusal.Refusal.TheVariants.{Memory, NoTenant, ColumnLong, Spent, NoRoom}
+use Rattle.mt_rows.specs.declared.refusal.Refusal.TheVariants.{NoTenant, ColumnLong, Spent, NoRoom}
 use Rattle.mt_rows.specs.Rows.{Bytes, AreIndexes}
 use Rattle.mt_rows.specs.Changes.{Named, indexes_of, NamesColumns, AreShort, IsChange}
 use Rattle.mt_rows.specs.Commands.{key_of}
@@ -23,7 +23,7 @@ use Rattle.mt_operation.specs.Tasks.{ask}
 use Rattle.mt_operation.specs.Operations.{view_of}
 use Rattle.mt_state.specs.Views.{Core, StateView, shown, contents_of}
 use Rattle.mt_state.specs.Invariant.{StateInvariant}
-use Rattle.mt_state.specs.Refused.{is_first_alone, names_first, are_short, fault_of, has_room, IsRefusal}
+use Rattle.mt_state.specs.Refused.{is_first_alone, names_first, are_short, fault_of, has_room}
 use Rattle.mt_core.specs.Admitted.{HasRoomFor, LacksRoom, OpeningView, IsRightOpening, first_cause_of, cause_made}
 use Rattle.mt_core.proofs.Rooms.{len_content, missing_none, found_some}
 use Rattle.mt_core.proofs.Beginning.{opened, shows, tenant_is}
@@ -137,8 +137,3 @@ module _ (c : Core) (now : StateView) (opening : OpeningView) (tenant : ℕ) (ma
   -- and no cause where there is one
   pub told_none : HasRoomFor (at c.arena 0) op.task → c.steps < 2 ^ 59 → first_cause_of now opening ≡ None
   told_none has some = cause_is true false (room_true has) (ne_eqb now.steps (2 ^ 59) (λ e. omega (arith, steps_now, some, e)))
-
--- what was refused for a fault is refused for the first cause
-pub at_fault : (fault lack : Option Refusal) (refusal : Refusal) → IsRefusal fault fault refusal → IsRefusal fault (option_or fault lack) refusal
-at_fault fault lack Memory is = is
-at_fault fault lack refusal is = ap (λ o. option_or o lack) is

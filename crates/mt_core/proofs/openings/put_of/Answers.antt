@@ -1,3 +1,4 @@
+-- For what the request of a put is refused, for `put_of`.
 use Rattle.std.proofs.Common.{length, Ok, Err, sym, ap, ◌∙◌, arith}
 use Rattle.mt_core.proofs.Causes.{put_told, handed_on}
 use Rattle.mt_core.proofs.openings.put_of.Goals as goal

@@ -1,3 +1,4 @@
+-- What an edge writes, for its `Display`.
 use Rattle.std.proofs.Common.{◌≡◌, Some, subst}
 use Rattle.std.specs.Fmt.{styled_digits_output, DisplaysOnOk}
 use Rattle.mt_core.specs.Shapes.{sixteen_digits}

@@ -1,3 +1,4 @@
+-- That a begin keeps the invariant, what it tells, and for what it is refused, for `State::admit`.
 use Rattle.std.proofs.Common.{rules, ◌≡◌, false, refl}
 use Rattle.std.specs.Option.{is_none}
 use Rattle.mt_rows.specs.Accounts.{account_of}

@@ -1,3 +1,4 @@
+-- For what a begin is refused, for `State::begin`.
 use Rattle.mt_core.proofs.Refusing.{refused_by}
 use Rattle.mt_core.proofs.state.State.begin.Goals as goal
 

@@ -1,3 +1,4 @@
+-- What holds of every state, for `State::facts`.
 use Rattle.mt_core.specs.States.{core_of}
 use Rattle.mt_core.proofs.Righting.{right_state}
 use Rattle.mt_core.proofs.state.State.facts.Goals as goal

@@ -1,3 +1,4 @@
+-- Whether a put has a step left, by the table inside, for `State::has_open_put`.
 use Rattle.mt_core.specs.States.{core_of}
 use Rattle.mt_core.proofs.Righting.{open_told}
 use Rattle.mt_core.proofs.state.State.has_open_put.Goals as goal

@@ -1,3 +1,4 @@
+-- That a new state keeps the invariant, for `State::new`.
 use Rattle.mt_core.proofs.Starts.{start_done}
 use Rattle.mt_core.proofs.state.State.new.Goals as goal
 

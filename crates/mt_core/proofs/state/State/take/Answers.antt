@@ -1,3 +1,4 @@
+-- That a take keeps the invariant, and what it answers, for `State::take`.
 use Rattle.std.proofs.Common.{sym, subst, refl}
 use Rattle.mt_core.specs.States.{core_of}
 use Rattle.mt_core.specs.Tickets.{TellsTake}

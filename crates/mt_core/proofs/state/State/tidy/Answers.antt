@@ -1,3 +1,4 @@
+-- That a tidying keeps the invariant and what it promises, for `State::tidy`.
 use Rattle.mt_core.specs.States.{core_of}
 use Rattle.mt_core.proofs.Tidying.{tidied, floor_rises, firsts_made}
 use Rattle.mt_core.proofs.state.State.tidy.Goals as goal
