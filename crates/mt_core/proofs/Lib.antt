@@ -1,3 +1,14 @@
 pub mod PutSteps
 pub mod LookSteps
 pub mod ReadSteps
+pub mod Retained
+pub mod Tabling
+pub mod Taking
+pub mod Tidying
+pub mod Starts
+pub mod Rooms
+pub mod Beginning
+pub mod Causes
+pub mod Refusing
+pub mod Righting
+pub mod Texts

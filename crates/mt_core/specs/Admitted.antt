@@ -1,5 +1,5 @@
 -- What is made of a command before its operation is begun, and which refusals a begin of it answers.
-use Rattle.std.specs.Prelude.{◌≡◌, ℕ, ◌<◌, ◌≤◌, ◌⊎◌, not, true, false, if◌then◌else◌, length, Option, Some, None, Result, Ok, Err}
+use Rattle.std.specs.Prelude.{◌≡◌, ℕ, ◌<◌, ◌≤◌, ◌⊎◌, not, false, if◌then◌else◌, length, Option, Some, None, Result, Ok, Err}
 use Rattle.std.specs.Option.{is_none}
 use Rattle.mt_slices.specs.Keys.{IsStoredKey}
 use Rattle.mt_rows.specs.declared.command.Command.{Command}
@@ -23,7 +23,7 @@ use Rattle.mt_operation.specs.Walks.{walk_from_top}
 use Rattle.mt_descent.specs.Kept.{IsInSlot}
 use Rattle.mt_state.specs.Views.{StateView}
 use Rattle.mt_state.specs.Begins.{begun, Begins, IsWorker, MayBegin}
-use Rattle.mt_state.specs.Refused.{fault_of, first_lack, Refuses}
+use Rattle.mt_state.specs.Refused.{first_lack, Refuses}
 use Rattle.mt_core.specs.declared.answers.Ticket.{Ticket}
 
 -- a get or a put

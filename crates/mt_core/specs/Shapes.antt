@@ -1,5 +1,5 @@
 -- The shape of the tree, and its lines as they are printed.
-use Rattle.std.specs.Prelude.{ℕ, ◌-◌, Bool, true, false, if◌then◌else◌, List, [], ◌∷◌, ◌++◌, length, replicate, codes, slice_get, Option, Some}
+use Rattle.std.specs.Prelude.{ℕ, ◌-◌, Bool, true, false, if◌then◌else◌, List, [], ◌∷◌, ◌++◌, length, replicate, codes, slice_get, Some}
 use Rattle.std.specs.Fmt.{digits, decimal}
 use Rattle.std.specs.Option.{option_map}
 use Rattle.mt_slices.specs.declared.mark.Mark.{Mark}

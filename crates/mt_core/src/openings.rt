@@ -119,12 +119,7 @@ pub fn prepare(alloc: Global, worker: u8, tenant: u32, command: Command) -> Open
 }
 
 // An operation before its first step.
-fn admitted(
-    alloc: Global,
-    worker: u8,
-    tenant: u32,
-    command: Command,
-) -> Result<Operation, Refusal>
+fn admitted(alloc: Global, worker: u8, tenant: u32, command: Command) -> Result<Operation, Refusal>
     requires { IsPoint command }
     ensures admitted { IfOk result IsAdmitted }
     ensures is { IfOk result (λ op. view_of op ≡ begun worker tenant command) }
@@ -205,12 +200,13 @@ fn answer_of(operation: Operation) -> Answer
     ensures { IsAnswerOf (view_of operation) result }
 {
     let Operation {
-        task: Task { request, .. },
+        task,
         walk,
         last,
         outcome,
         ..
     } = operation;
+    let Task { request, .. } = task;
     let Some(Outcome { reply, at }) = outcome else {
         unreachable!()
     };

@@ -113,6 +113,7 @@ impl State {
             return Err(Refusal::NoTenant);
         }
         let operation = made?;
+        self.arena.facts();
         if !has_room(&self.arena, &operation.task) {
             return Err(Refusal::NoRoom);
         }

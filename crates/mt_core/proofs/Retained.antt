@@ -1,0 +1,190 @@
+-- What is kept of an operation stays where only the table is another, and the tape goes back as far as the operation needs: for `State::admit`, `take` and `tidy`.
+use Rattle.std.proofs.Common.{◌≡◌, ◌≢◌, ℕ, ◌+◌, ◌-◌, ◌<◌, ◌≤◌, Bool, true, false, Option, None, Some, sym, refl, ap, ◌∙◌, arith}
+use Rattle.std.specs.Prelude.{if◌then◌else◌}
+use Rattle.std.specs.List.{Contains}
+use Rattle.std.proofs.lemmas.Option.{same_Some, none-some}
+use Rattle.mt_rows.specs.declared.command.Command.{Command}
+use Rattle.mt_rows.specs.declared.reply.Reply.{Reply}
+use Rattle.mt_rows.specs.Rows.{Bytes, Columns}
+use Rattle.mt_rows.specs.Maps.{reply_of, is_change}
+use Rattle.mt_rows.specs.Tenants.{tenant_map}
+use Rattle.mt_tape.specs.declared.entry.Entry.{Entry as TapeEntry}
+use Rattle.mt_tape.specs.Tapes.{Kept}
+use Rattle.mt_tape.specs.Histories.{contents_at, is_changed}
+use Rattle.mt_arena.specs.Arena.{ArenaView, content_of}
+use Rattle.mt_operation.specs.declared.outcome.Outcome.{Outcome}
+use Rattle.mt_operation.specs.declared.operation.Operation.{Operation}
+use Rattle.mt_operation.specs.declared.walk.Phase.{Phase}
+use Rattle.mt_operation.specs.declared.walk.Phase.TheVariants.{Enter, Pick, Child, Verify, Search, Load, Confirm, Forward, Lock, Judge, Store, Publish, Unlock, Done}
+use Rattle.mt_operation.specs.declared.walk.Walk.{Walk}
+use Rattle.mt_operation.specs.declared.walk.Taken.{Taken}
+use Rattle.mt_operation.specs.declared.walk.Taken.TheVariants.{Missing, Row, Link, Nothing}
+use Rattle.mt_operation.specs.Operations.{view_of}
+use Rattle.mt_operation.specs.Tables.{Table}
+use Rattle.mt_descent.specs.Pasts.{Past, ExtendsPast}
+use Rattle.mt_descent.specs.Kept.{IsKept, KeptAt}
+use Rattle.mt_descent.proofs.Rely as descent
+use Rattle.mt_state.specs.Views.{Core, shown, past_of, map_of, quota_of, IsPlaced}
+use Rattle.mt_state.specs.Steps.{change_in, told_change}
+use Rattle.mt_state.specs.Kept.{IsOpenOperation, IsOnItsWay, HasAnswer, TellsTaken, IsKeptAt, IsKeptOf}
+use Rattle.mt_state.proofs.Still.{nothing_changes}
+
+-- the same state with another tape and another table
+abbrev pub retaped : Core → Kept → Table → Core
+retaped c tape table = record c { tape = tape; table = table }
+
+-- a tape that tells of an operation that has begun what the state's own one tells: the contents from just before its first step on, and the writes from that step on
+pub record TellsOf (c : Core) (tape : Kept) (op : Operation) : Type 0 where
+  pub floor : 0 < op.walk.first → tape.floor < op.walk.first
+  pub contents : 0 < op.walk.first → (n : ℕ) → op.walk.first ≤ n + 1 → contents_at tape.entries (content_of c.arena) n ≡ contents_at c.tape.entries (content_of c.arena) n
+  pub changes : 0 < op.walk.first → (n : ℕ) → op.walk.first ≤ n → is_changed tape.entries n ≡ is_changed c.tape.entries n
+  pub writes : 0 < op.walk.first → (e : TapeEntry) → op.walk.first ≤ e.step → Contains c.tape.entries e → Contains tape.entries e
+
+-- a walk that has begun goes on by a past that tells the same from its first step on
+kept_past : (v : ArenaView) (old new : Past) (key : Bytes) (row : Option Columns) (w : Walk) (p : Phase) → (p ≢ Enter → ExtendsPast w.first old new) → KeptAt p v old key row w → KeptAt p v new key row w
+kept_past v old new key row w Enter past h = h
+kept_past v old new key row w Pick past h = h
+kept_past v old new key row w Child past h = h
+kept_past v old new key row w Verify past h = h
+kept_past v old new key row w Search past h = h
+kept_past v old new key row w Load past h = h
+kept_past v old new key row w Confirm past h = descent.kept_stays 0 v v (nothing_changes 0 v).nodes old new key row w Confirm (past (λ e. cc)) h
+kept_past v old new key row w Forward past h = h
+kept_past v old new key row w Lock past h = h
+kept_past v old new key row w Judge past h = h
+kept_past v old new key row w Store past h = h
+kept_past v old new key row w Publish past h = h
+kept_past v old new key row w Unlock past h = h
+kept_past v old new key row w Done past h = descent.kept_stays 0 v v (nothing_changes 0 v).nodes old new key row w Done (past (λ e. cc)) h
+
+-- a change that was made is told with the reply
+module _ (c : Core) (o : ℕ) (op : Operation) where
+  no_change : op.outcome ≡ None → (m : ℕ) → change_in (view_of op) ≡ Some m → ⊥
+  no_change untold m is = none-some m (ap told_change (sym untold) ∙ is)
+
+  looked : (told : Outcome) → told_change (Some told) ≡ None → op.outcome ≡ Some told → (m : ℕ) → change_in (view_of op) ≡ Some m → ⊥
+  looked told none says m is = none-some m (sym none ∙ ap told_change (sym says) ∙ is)
+
+  told_at : (told : Outcome) (m : ℕ) → told_change (Some told) ≡ Some m → told.at ≡ m
+  told_at told m is = at_of (is_change told.reply) is
+    where
+      at_of : (b : Bool) → (if b then Some told.at else None) ≡ Some m → told.at ≡ m
+      at_of true e = same_Some told.at m e
+      at_of false e = absurd (none-some m e)
+
+  taken_none : (row : Option Columns) (taken : Taken) → TellsTaken op row taken → (m : ℕ) → change_in (view_of op) ≡ Some m → ⊥
+  taken_none row Missing h m is = looked _ refl h m is
+  taken_none row Row h m is = looked _ refl h.4 m is
+  taken_none row (Link u) h m is = no_change h m is
+  taken_none row Nothing h m is = no_change h m is
+
+  answered : HasAnswer c op → (m : ℕ) → change_in (view_of op) ≡ Some m → (0 < op.walk.first) × (op.walk.first ≤ m)
+  answered h m is =
+      let same = told_at h.outcome m (ap told_change (sym h.told) ∙ is) in
+      (h.right.begun, omega (arith, h.right.since, same))
+
+  -- a change was made by the first step or a later one
+  pub change_since : (p : Phase) → IsKeptAt p c o op → (m : ℕ) → change_in (view_of op) ≡ Some m → (0 < op.walk.first) × (op.walk.first ≤ m)
+  change_since Enter h m is = absurd (no_change h.untold m is)
+  change_since Pick h m is = absurd (no_change h.untold m is)
+  change_since Child h m is = absurd (no_change h.untold m is)
+  change_since Verify h m is = absurd (no_change h.untold m is)
+  change_since Search h m is = absurd (no_change h.untold m is)
+  change_since Load h m is = absurd (no_change h.way.untold m is)
+  change_since Confirm h m is = absurd (taken_none h.row op.walk.taken h.tells m is)
+  change_since Forward h m is = absurd (no_change h.untold m is)
+  change_since Lock h m is = absurd (no_change h.untold m is)
+  change_since Judge h m is = absurd (no_change h.untold m is)
+  change_since Store h m is = absurd (no_change h.untold m is)
+  change_since Publish h m is = absurd (no_change h.untold m is)
+  change_since Unlock h m is = answered h.answer m is
+  change_since Done h m is = answered h m is
+
+module _ (c : Core) (tape : Kept) (table : Table) (q : ℕ) (op : Operation) (t : TellsOf c tape op) (k : IsOpenOperation c op) where
+  abbrev new : Core
+  new = retaped c tape table
+
+  past_stays : 0 < op.walk.first → ExtendsPast op.walk.first (past_of c) (past_of new)
+  past_stays begun = record { steps = omega arith; same = λ n from upto. t.contents begun n (omega (arith, from)) }
+
+  walk_stays : (row : Option Columns) → IsKept c.arena (past_of c) op.task.key row op.walk → IsKept new.arena (past_of new) op.task.key row op.walk
+  walk_stays row h = kept_past c.arena (past_of c) (past_of new) op.task.key row op.walk op.walk.phase (λ other. past_stays (k.begun other)) h
+
+  same_map : 0 < op.walk.first → (u m : ℕ) → op.walk.first ≤ m + 1 → map_of (shown new) u m ≡ map_of (shown c) u m
+  same_map begun u m from = ap (tenant_map u) (t.contents begun m from)
+
+  placed_stays : 0 < op.walk.first → (u : ℕ) (command : Command) (at : ℕ) (reply : Reply) → op.walk.first ≤ at → IsPlaced (shown c) u command at reply → IsPlaced (shown new) u command at reply
+  placed_stays begun u command at reply from h = record {
+    changes = λ e. let w = h.changes e in (t.changes begun at from ∙ w.0, w.1 ∙ ap (reply_of (quota_of (shown c) u) command) (sym (same_map begun u (at - 1) (omega (arith, from)))));
+    looks = λ e. h.looks e ∙ ap (reply_of (quota_of (shown c) u) command) (sym (same_map begun u at (omega (arith, from))));
+  }
+
+  told_stays : HasAnswer c op → HasAnswer new op
+  told_stays h = record {
+    outcome = h.outcome;
+    told = h.told;
+    right = record {
+      begun = h.right.begun;
+      since = h.right.since;
+      upto = h.right.upto;
+      placed = λ real. placed_stays h.right.begun (view_of op).tenant (view_of op).command h.outcome.at h.outcome.reply h.right.since (h.right.placed real);
+    };
+    unprepared = h.unprepared;
+  }
+
+  way_stays : IsOnItsWay c op → IsOnItsWay new op
+  way_stays h = record { kept = walk_stays None h.kept; untold = h.untold; unprepared = h.unprepared }
+
+  kept_stays : (p : Phase) → IsKeptAt p c q op → IsKeptAt p new q op
+  kept_stays Enter h = way_stays h
+  kept_stays Pick h = way_stays h
+  kept_stays Child h = way_stays h
+  kept_stays Verify h = way_stays h
+  kept_stays Search h = way_stays h
+  kept_stays Load h = record { way = way_stays h.way; found = h.found }
+  kept_stays Confirm h = record { row = h.row; kept = walk_stays h.row h.kept; tells = h.tells; unprepared = h.unprepared }
+  kept_stays Forward h = way_stays h
+  kept_stays Lock h = way_stays h
+  kept_stays Judge h = record { judges = h.judges; untold = h.untold; unprepared = h.unprepared }
+  kept_stays Store h = record { prepared = h.prepared; has = h.has; stores = h.stores; untold = h.untold }
+  kept_stays Publish h = record { prepared = h.prepared; has = h.has; publishes = h.publishes; untold = h.untold }
+  kept_stays Unlock h = record { unlocks = h.unlocks; answer = told_stays h.answer }
+  kept_stays Done h = told_stays h
+
+  pub open_retained : IsOpenOperation new op
+  open_retained = record {
+    stored = k.stored;
+    owner = k.owner;
+    short = k.short;
+    columns = k.columns;
+    tenant = k.tenant;
+    writes = k.writes;
+    kind = k.kind;
+    order = k.order;
+    made = k.made;
+    floor = t.floor;
+    begun = k.begun;
+  }
+
+  -- all that is kept of the operation
+  pub retained : IsKeptOf c q op → IsKeptOf new q op
+  retained h = record {
+    always = open_retained;
+    kept = kept_stays op.walk.phase h.kept;
+    placed = λ m is.
+        let once = h.placed m is in
+        let since = change_since c q op op.walk.phase h.kept m is in
+        record {
+          entry = once.entry;
+          there = t.writes since.0 once.entry (omega (arith, since.1, once.step_is)) once.there;
+          step_is = once.step_is;
+          worker = once.worker;
+          tenant = once.tenant;
+          key_is = once.key_is;
+          makes = once.makes;
+        };
+  }
+
+-- a state's own tape tells of each operation that is kept
+pub own_tape : (c : Core) (op : Operation) → IsOpenOperation c op → TellsOf c c.tape op
+own_tape c op k = record { floor = k.floor; contents = λ begun n from. refl; changes = λ begun n from. refl; writes = λ begun e from there. there }

@@ -1,0 +1,121 @@
+-- The invariant of a state with another table: one operation more, or one that is finished less: for `State::admit` and `take`.
+use Rattle.std.proofs.Common.{◌≡◌, ◌≢◌, ℕ, suc, ◌<◌, ◌⊎◌, inl, inr, true, false, [], ◌∷◌, length, set, Some, None, IsSome, refl, sym, ap, subst, ◌∙◌, arith}
+use Rattle.std.proofs.lemmas.Bool.{cases_eq}
+use Rattle.std.proofs.lemmas.Option.{same_Some, none-some}
+use Rattle.std.specs.FinMap.{get}
+use Rattle.mt_rows.specs.Maps.{is_get}
+use Rattle.mt_border.specs.Contents.{owned}
+use Rattle.mt_arena.specs.Arena.{content_of}
+use Rattle.mt_arena.specs.Accesses.{at}
+use Rattle.mt_operation.specs.declared.operation.Operation.{Operation}
+use Rattle.mt_operation.specs.declared.walk.Phase.{Phase}
+use Rattle.mt_operation.specs.declared.walk.Phase.TheVariants.{Done}
+use Rattle.mt_operation.specs.Tasks.{ask}
+use Rattle.mt_operation.specs.Operations.{is_done, is_unfinished}
+use Rattle.mt_operation.specs.Tables.{Table, HasOpenPut, op_at as operation_at}
+use Rattle.mt_operation.proofs.Tables.{set_there, set_none}
+use Rattle.mt_state.specs.Views.{Core}
+use Rattle.mt_state.specs.Kept.{IsKeptOf}
+use Rattle.mt_state.specs.Invariant.{HoldsAt, IsOnePut, StateInvariant, one_if_prepared, prepared_count, is_unplaced}
+use Rattle.mt_core.proofs.Retained.{retained, own_tape}
+
+-- the same state with another table
+abbrev pub with_table : Core → Table → Core
+with_table c table = record c { table = table }
+
+-- two tables have as many operations that are ready where each id has as many
+pub same_count : (t u : Table) → ((q : ℕ) → one_if_prepared (operation_at t q) ≡ one_if_prepared (operation_at u q)) → prepared_count t ≡ prepared_count u
+same_count [] [] h = refl
+same_count [] (y ∷ u) h = let rest = same_count [] u (λ q. h (suc q)) in let here = h 0 in omega (arith, rest, here)
+same_count (x ∷ t) [] h = let rest = same_count t [] (λ q. h (suc q)) in let here = h 0 in omega (arith, rest, here)
+same_count (x ∷ t) (y ∷ u) h = let rest = same_count t u (λ q. h (suc q)) in let here = h 0 in omega (arith, rest, here)
+
+module _ (c : Core) (o : ℕ) (table : Table) (h : StateInvariant c) (others : (q : ℕ) → q ≢ o → operation_at table q ≡ operation_at c.table q) where
+  -- the invariant stays where it holds of that one operation
+  pub table_sound : ((k : ℕ) → k < length c.arena.nodes → (at c.arena k).holder ≡ Some o → ⊥) → ((op : Operation) → operation_at table o ≡ Some op → IsKeptOf (with_table c table) o op)
+      → one_if_prepared (operation_at table o) ≡ one_if_prepared (operation_at c.table o) → IsOnePut (with_table c table) → StateInvariant (with_table c table)
+  table_sound free own weight one_put = record {
+    tape = record { rises = h.tape.rises; made = h.tape.made; legal = h.tape.legal };
+    stamps = h.stamps;
+    versions = h.versions;
+    holders = λ k q within held.
+        let w = h.holders k q within held in
+        (w.0, others q (λ is. free k within (held ∙ ap Some is)) ∙ w.1, w.2);
+    counts = h.counts;
+    ops = λ q op there. elim (cases_eq q o) [
+      | inl is ↦ subst (λ n. IsKeptOf (with_table c table) n op) (sym is) (own op (ap (operation_at table) (sym is) ∙ there))
+      | inr other ↦ let was = h.ops q op (sym (others q other) ∙ there) in retained c c.tape table q op (own_tape c op was.always) was.always was
+    ];
+    reserved = h.reserved ∙ sym (same_count table c.table (λ q. elim (cases_eq q o) [
+      | inl is ↦ ap (λ n. one_if_prepared (operation_at table n)) is ∙ weight ∙ ap (λ n. one_if_prepared (operation_at c.table n)) (sym is)
+      | inr other ↦ ap one_if_prepared (others q other)
+    ]));
+    one_border = h.one_border;
+    one_put = one_put;
+    few = h.few;
+  }
+
+-- who holds a node is not done
+done_holds : (p : Phase) (node k : ℕ) → p ≡ Done → HoldsAt p node k → ⊥
+done_holds Done node k is held = held
+done_holds p node k is held = subst (λ p. HoldsAt p node k) is held
+
+-- an operation less, which was finished
+pub taken_sound : (c : Core) (o : ℕ) (op : Operation) → StateInvariant c → operation_at c.table o ≡ Some op → op.walk.phase ≡ Done → StateInvariant (with_table c (set c.table o None))
+taken_sound c o op h there ended =
+    table_sound c o (set c.table o None) h (λ q ne. set_there c.table o q None ne)
+    (λ k within held.
+    let w = h.holders k o within held in
+    let same = same_Some w.0 op (sym w.1 ∙ there) in
+    done_holds w.0.walk.phase w.0.walk.place.node k (ap (λ (x : Operation). x.walk.phase) same ∙ ended) w.2)
+    (λ x is. absurd (none-some x (sym (set_none c.table o) ∙ is)))
+    (ap one_if_prepared (set_none c.table o) ∙ sym (ap one_if_prepared there ∙ ap (λ p. one_if_prepared (Some (record op { walk = record op.walk { phase = p } }))) ended))
+    (record {
+      one = λ p q a b at_a at_b. h.one_put.one p q a b (was p a at_a) (was q b at_b);
+      room = λ q x is. h.one_put.room q x (was q x is);
+    })
+  where
+    was : (q : ℕ) (x : Operation) → operation_at (set c.table o None) q ≡ Some x → operation_at c.table q ≡ Some x
+    was q x is = elim (cases_eq q o) [
+      | inl same ↦ absurd (none-some x (sym (set_none c.table o) ∙ ap (operation_at (set c.table o None)) (sym same) ∙ is))
+      | inr other ↦ sym (set_there c.table o q None other) ∙ is
+    ]
+
+-- an operation more
+module _ (c : Core) (o : ℕ) (op : Operation) (table : Table) (h : StateInvariant c) (vacant : operation_at c.table o ≡ None) (there : operation_at table o ≡ Some op) (others : (q : ℕ) → q ≢ o → operation_at table q ≡ operation_at c.table q) where
+  -- the invariant with an operation more
+  pub begun_sound : one_if_prepared (Some op) ≡ 0 → IsKeptOf (with_table c table) o op → (is_get (ask op.task) ≡ false → ¬ HasOpenPut c.table)
+      → (is_get (ask op.task) ≡ false → (length (at c.arena 0).slots < 15) ⊎ IsSome (get (content_of c.arena) (owned op.task.key))) → StateInvariant (with_table c table)
+  begun_sound unready kept alone room = table_sound c o table h others
+      (λ k within held. let w = h.holders k o within held in none-some w.0 (sym vacant ∙ w.1))
+      (λ x is. subst (IsKeptOf (with_table c table) o) (same_Some op x (sym there ∙ is)) kept)
+      (ap one_if_prepared there ∙ unready ∙ sym (ap one_if_prepared vacant))
+      (record { one = one; room = rooms })
+    where
+      -- each put that is open was so before, or is the new one
+      was : (q : ℕ) (x : Operation) → operation_at table q ≡ Some x → ((q ≡ o) × (op ≡ x)) ⊎ ((q ≢ o) × (operation_at c.table q ≡ Some x))
+      was q x is = elim (cases_eq q o) [
+        | inl same ↦ inl (same, same_Some op x (sym there ∙ ap (operation_at table) (sym same) ∙ is))
+        | inr other ↦ inr (other, sym (others q other) ∙ is)
+      ]
+
+      unfinished : (x : Operation) → is_done x.walk.phase ≡ false → is_unfinished x ≡ true
+      unfinished x left = cc
+
+      one : (p q : ℕ) (a b : Operation) → operation_at table p ≡ Some a → operation_at table q ≡ Some b → is_get (ask a.task) ≡ false → is_get (ask b.task) ≡ false → is_done a.walk.phase ≡ false → is_done b.walk.phase ≡ false → p ≡ q
+      one p q a b at_a at_b put_a put_b left_a left_b = elim (was p a at_a) [
+        | inl (p_is, a_is) ↦ elim (was q b at_b) [
+          | inl (q_is, b_is) ↦ p_is ∙ sym q_is
+          | inr (other, there_b) ↦ absurd (alone (ap (λ (w : Operation). is_get (ask w.task)) a_is ∙ put_a) (q, b, there_b, put_b, unfinished b left_b))
+        ]
+        | inr (other, there_a) ↦ elim (was q b at_b) [
+          | inl (q_is, b_is) ↦ absurd (alone (ap (λ (w : Operation). is_get (ask w.task)) b_is ∙ put_b) (p, a, there_a, put_a, unfinished a left_a))
+          | inr (beside, there_b) ↦ h.one_put.one p q a b there_a there_b put_a put_b left_a left_b
+        ]
+      ]
+
+      rooms : (q : ℕ) (x : Operation) → operation_at table q ≡ Some x → is_get (ask x.task) ≡ false → is_unplaced x.walk.phase ≡ true → (length (at c.arena 0).slots < 15) ⊎ IsSome (get (content_of c.arena) (owned x.task.key))
+      rooms q x is put waits = elim (was q x is) [
+        | inl (same, it) ↦ subst (λ (w : Operation). (length (at c.arena 0).slots < 15) ⊎ IsSome (get (content_of c.arena) (owned w.task.key))) it (room (ap (λ (w : Operation). is_get (ask w.task)) it ∙ put))
+        | inr (other, before) ↦ h.one_put.room q x before put waits
+      ]

@@ -1,0 +1,71 @@
+-- What a take makes of a state, and what it tells: for `State::take`.
+use Rattle.std.proofs.Common.{◌≡◌, ◌≢◌, ℕ, true, false, set, Option, None, Some, refl, sym, ap, subst, ◌∙◌}
+use Rattle.std.specs.Prelude.{not, IfSome, IfNone}
+use Rattle.std.proofs.lemmas.Option.{same_Some, none-some}
+use Rattle.mt_runs.specs.declared.event.Answer.{Answer}
+use Rattle.mt_operation.specs.declared.operation.Operation.{Operation}
+use Rattle.mt_operation.specs.declared.walk.Phase.{Phase}
+use Rattle.mt_operation.specs.declared.walk.Phase.TheVariants.{Done}
+use Rattle.mt_operation.specs.Operations.{OperationView, view_of, is_done, is_unfinished}
+use Rattle.mt_operation.specs.Tables.{Table, op_at as operation_at}
+use Rattle.mt_state.specs.Views.{Core, StateView, Shown, shown, op_at}
+use Rattle.mt_state.specs.Promises.{IsAnswer}
+use Rattle.mt_state.specs.Kept.{HasAnswer, IsKeptAt}
+use Rattle.mt_state.specs.Invariant.{StateInvariant}
+use Rattle.mt_state.specs.Begins.{IsAnswerOf, Takes, IsEnded}
+use Rattle.mt_state.proofs.Shown.{shown_there, shown_set, inside_of}
+use Rattle.mt_core.proofs.Tabling.{with_table, taken_sound}
+
+-- an operation that is finished has its answer
+pub done_answer : (c : Core) (o : ℕ) (op : Operation) → StateInvariant c → operation_at c.table o ≡ Some op → op.walk.phase ≡ Done → HasAnswer c op
+done_answer c o op h there ended = subst (λ p. IsKeptAt p c o op) ended (h.ops o op there).kept
+
+done_is : (p : Phase) → not (is_done p) ≡ false → p ≡ Done
+done_is Done e = refl
+done_is _ e = absurd (cc)
+
+-- an operation with no step left is done
+pub ended_done : (op : Operation) → is_unfinished op ≡ false → op.walk.phase ≡ Done
+ended_done op e = done_is op.walk.phase e
+
+-- so it has an outcome
+pub done_told : (c : Core) (o : ℕ) → StateInvariant c → (op : Operation) → operation_at c.table o ≡ Some op → is_unfinished op ≡ false → op.outcome ≢ None
+done_told c o h op there ended none = let a = done_answer c o op h there (ended_done op ended) in none-some a.outcome (sym none ∙ a.told)
+
+-- what a give-up leaves where it has an answer
+abbrev pub GaveUp : Core → ℕ → Table → Answer → Type 0
+GaveUp c o table answer = (op : Operation) × (operation_at c.table o ≡ Some op) × IsAnswerOf (view_of op) answer × (table ≡ set c.table o None)
+
+-- and where it has none
+abbrev pub GaveNone : Core → ℕ → Table → Type 0
+GaveNone c o table = (table ≡ c.table) × ((op : Operation) → operation_at c.table o ≡ Some op → is_unfinished op ≡ true)
+
+-- a take leaves the invariant, whatever it answers
+pub taken_by : (c : Core) (o : ℕ) (table : Table) (told : Option Answer) → StateInvariant c → IfSome told (GaveUp c o table) → IfNone told (GaveNone c o table) → StateInvariant (with_table c table)
+taken_by c o table None h took stays = subst (λ t. StateInvariant (with_table c t)) (sym stays.0) h
+taken_by c o table (Some answer) h took stays = subst (λ t. StateInvariant (with_table c t)) (sym took.3) (taken_sound c o took.0 h took.1 took.2.finished)
+
+-- what a take tells
+pub takes_by : (c : Core) (now : StateView) (o : ℕ) (table : Table) (answer : Answer) → shown c ≡ now → StateInvariant c → GaveUp c o table answer → Takes now (shown (with_table c table)) o answer
+takes_by c now o table answer is h gave =
+    subst (λ (v : StateView). Takes v (shown (with_table c table)) o answer) is
+    (subst (λ t. Takes (shown c) (shown (with_table c t)) o answer) (sym gave.3) (record {
+      op = view_of gave.0;
+      there = shown_there c.table o gave.0 gave.1;
+      told = gave.2;
+      right =
+          let a = done_answer c o gave.0 h gave.1 gave.2.finished in
+          subst (IsAnswer (shown c) (view_of gave.0)) (same_Some a.outcome (record { reply = answer.reply; at = answer.at }) (sym a.told ∙ gave.2.told)) a.right;
+      gone = ap (λ (t : Shown). record (shown c) { table = t }) (shown_set c.table o None);
+    }))
+
+-- what it tells of an operation that is not finished
+pub keeps_by : (c : Core) (now : StateView) (o : ℕ) (table : Table) → shown c ≡ now → GaveNone c o table → (shown (with_table c table) ≡ now) × ¬ IsEnded now.table o
+keeps_by c now o table is gave = (
+  ap (λ t. shown (with_table c t)) gave.0 ∙ is,
+  λ ended.
+      let inside = inside_of c.table o ended.0 (ap (λ (v : StateView). op_at v.table o) is ∙ ended.1) in
+      let left = gave.1 inside.0 inside.1 in
+      let done : is_done inside.0.walk.phase ≡ true = ap (λ (x : OperationView). is_done x.phase) inside.2 ∙ ended.2 in
+      absurd (cc),
+)

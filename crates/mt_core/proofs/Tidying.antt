@@ -1,0 +1,133 @@
+-- A trim to the floor that a tape needs keeps the invariant, and all that a tidying promises: for `State::tidy`.
+use Rattle.std.proofs.Common.{◌≡◌, ℕ, ◌<◌, ◌≤◌, inl, inr, List, [], ◌∷◌, Some, sym, refl, ap, subst, arith}
+use Rattle.std.specs.List.{Contains}
+use Rattle.std.proofs.lemmas.Bool.{cases_lt}
+use Rattle.std.proofs.lemmas.List.Elements.{Contains-push, Contains-push_cases, Contains-append_cases, Contains-append_left, Contains-append_right}
+use Rattle.mt_border.proofs.ContentsStamps.{stamped_weaker}
+use Rattle.mt_tape.specs.declared.entry.Entry.{Entry as TapeEntry}
+use Rattle.mt_tape.specs.Tapes.{Kept, later_entries}
+use Rattle.mt_tape.proofs.EntryLaws.{floor_upto_last, later_entries-kept, later_entries-dropped, rises-later_entries, last_step_over-later_entries, is_changed-later_entries}
+use Rattle.mt_tape.proofs.TapeLaws.{contents_at-trim, map_at-trim, legal-trim, untouched-trim}
+use Rattle.mt_arena.specs.Arena.{content_of}
+use Rattle.mt_arena.specs.Accesses.{at, tree_of}
+use Rattle.mt_operation.specs.declared.operation.Operation.{Operation}
+use Rattle.mt_operation.specs.Operations.{OperationView, view_of}
+use Rattle.mt_operation.specs.Tables.{IsBeforeFirsts, IsFloorNeeded, op_at as operation_at}
+use Rattle.mt_state.specs.Views.{Core, StateView, shown}
+use Rattle.mt_state.specs.Invariant.{IsStampOf, StateInvariant}
+use Rattle.mt_state.proofs.Shown.{shown_there, inside_of}
+use Rattle.mt_core.specs.Tidies.{Tidies, IsBeforeFirsts as IsBeforeAll, IsFloorNeeded as IsNeeded}
+use Rattle.mt_core.proofs.Retained.{TellsOf, retained}
+
+-- an entry of a step after a floor is one of those that are kept
+pub later_has : (floor : ℕ) (entries : List TapeEntry) (e : TapeEntry) → Contains entries e → floor < e.step → Contains (later_entries floor entries) e
+later_has floor [] e has lt = has
+later_has floor (x ∷ entries) e has lt = elim (Contains-append_cases (x ∷ []) entries e has) [
+  | inl here ↦
+      let is : x ≡ e = only here in
+      subst (λ es. Contains es e) (sym (later_entries-kept floor x entries (omega (arith, lt, ap (λ (w : TapeEntry). w.step) is))))
+      (subst (λ w. Contains (w ∷ later_entries floor entries) e) (sym is) (Contains-append_left (e ∷ []) (later_entries floor entries) e (Contains-push [] e)))
+  | inr there ↦ elim (cases_lt floor x.step) [
+    | inl kept ↦ subst (λ es. Contains es e) (sym (later_entries-kept floor x entries kept)) (Contains-append_right (x ∷ []) (later_entries floor entries) e (later_has floor entries e there lt))
+    | inr dropped ↦ subst (λ es. Contains es e) (sym (later_entries-dropped floor x entries dropped)) (later_has floor entries e there lt)
+  ]
+]
+  where
+    only : Contains (x ∷ []) e → x ≡ e
+    only here = elim (Contains-push_cases [] x e here) [
+      | inl none ↦ absurd (omega (arith, none.1))
+      | inr is ↦ is
+    ]
+
+-- no first step is later than the last step of all
+pub firsts_made : (c : Core) → StateInvariant c → (q : ℕ) (op : Operation) → operation_at c.table q ≡ Some op → op.walk.first ≤ c.steps
+firsts_made c h q op there = let k = (h.ops q op there).always in omega (arith, k.order, k.made)
+
+-- the tape that begins at a later floor
+abbrev pub trimmed : Core → ℕ → Kept
+trimmed c floor = record c.tape { entries = later_entries floor c.tape.entries; floor = floor }
+
+module _ (c : Core) (floor : ℕ) (h : StateInvariant c) (rises : c.tape.floor ≤ floor) (made : floor ≤ c.steps) (before : IsBeforeFirsts c.table floor) where
+  abbrev new : Core
+  new = record c { tape = trimmed c floor }
+
+  tells : (o : ℕ) (op : Operation) → operation_at c.table o ≡ Some op → TellsOf c (trimmed c floor) op
+  tells o op there = record {
+    floor = before o op there;
+    contents = λ begun n from. contents_at-trim floor n c.tape.entries (content_of c.arena) (omega (arith, before o op there begun, from));
+    changes = λ begun n from. is_changed-later_entries floor n c.tape.entries (omega (arith, before o op there begun, from));
+    writes = λ begun e from has. later_has floor c.tape.entries e has (omega (arith, before o op there begun, from));
+  }
+
+  -- a trim to a floor before the first step of each operation leaves the invariant
+  pub trimmed_sound : StateInvariant new
+  trimmed_sound = record {
+    tape = record {
+      rises = rises-later_entries c.tape.floor floor c.tape.entries h.tape.rises rises;
+      made = omega (arith, made, last_step_over-later_entries c.tape.floor floor c.tape.entries h.tape.rises rises, h.tape.made);
+      legal = legal-trim floor c.tape.entries (content_of c.arena) h.tape.legal;
+    };
+    stamps = λ k within counted. stamped_weaker (IsStampOf c.steps c.tape) (IsStampOf c.steps (trimmed c floor)) (tree_of c.arena k).prefix (at c.arena k).slots
+        (λ q s w. (
+          w.0,
+          untouched-trim floor c.tape.entries q s w.1,
+          λ lt.
+              let wrote = w.2 (omega (arith, rises, lt)) in
+              (wrote.0, later_has floor c.tape.entries wrote.0 wrote.1 (omega (arith, lt, wrote.2)), wrote.2, wrote.3),
+        ))
+        (h.stamps k within counted);
+    versions = h.versions;
+    holders = h.holders;
+    counts = h.counts;
+    ops = λ o op there. let k = h.ops o op there in retained c (trimmed c floor) c.table o op (tells o op there) k.always k;
+    reserved = h.reserved;
+    one_border = h.one_border;
+    one_put = record { one = h.one_put.one; room = h.one_put.room };
+    few = h.few;
+  }
+
+-- the floor of before is at most the one that is needed
+pub floor_rises : (c : Core) (floor : ℕ) → StateInvariant c → IsFloorNeeded c.table c.steps floor → c.tape.floor ≤ floor
+floor_rises c floor h needed =
+    needed.greatest c.tape.floor (omega (arith, floor_upto_last c.tape.floor c.tape.entries h.tape.rises, h.tape.made))
+    (λ o op there begun. (h.ops o op there).always.floor begun)
+
+-- a floor that is before the first steps of all operations inside is so by what is shown, and the other way round
+before_shown : (c : Core) (floor : ℕ) → IsBeforeFirsts c.table floor → IsBeforeAll (shown c).table floor
+before_shown c floor before o view there begun =
+    let w = inside_of c.table o view there in
+    let same = ap (λ (x : OperationView). x.first) w.2 in
+    subst (λ n. floor < n) same (before o w.0 w.1 (subst (λ n. 0 < n) (sym same) begun))
+
+before_inside : (c : Core) (floor : ℕ) → IsBeforeAll (shown c).table floor → IsBeforeFirsts c.table floor
+before_inside c floor before o op there begun = before o (view_of op) (shown_there c.table o op there) begun
+
+needed_shown : (c : Core) (floor : ℕ) → IsFloorNeeded c.table c.steps floor → IsNeeded (shown c).table c.steps floor
+needed_shown c floor needed = record {
+  made = needed.made;
+  before = before_shown c floor needed.before;
+  greatest = λ n upto before. needed.greatest n upto (before_inside c n before);
+}
+
+-- what the code has after the trim: the invariant, and what the tidying tells
+pub tidied : (c : Core) (now : StateView) (floor : ℕ) (tape : Kept) → shown c ≡ now → StateInvariant c → IsFloorNeeded c.table c.steps floor → tape ≡ trimmed c floor
+    → StateInvariant (record c { tape = tape }) × Tidies now (shown (record c { tape = tape }))
+tidied c now floor tape is h needed trims =
+    let up = floor_rises c floor h needed in
+    subst (λ (v : StateView). StateInvariant (record c { tape = tape }) × Tidies v (shown (record c { tape = tape }))) is
+    (subst (λ (x : Kept). StateInvariant (record c { tape = x }) × Tidies (shown c) (shown (record c { tape = x }))) (sym trims) (
+      trimmed_sound c floor h up needed.made needed.before,
+      record {
+        steps = refl;
+        logs = refl;
+        accounts = refl;
+        arena = refl;
+        table = refl;
+        reserved = refl;
+        needed = needed_shown c floor needed;
+        rises = up;
+        entries = refl;
+        maps = λ t m le. map_at-trim floor m c.tape.entries (content_of c.arena) t le;
+        changes = λ m lt. is_changed-later_entries floor m c.tape.entries lt;
+      },
+    ))
