@@ -93,7 +93,7 @@ module _ (c : Core) (now : StateView) (opening : OpeningView) (tenant : ℕ) (ma
         some None e = absurd (cc)
         some (Some x) e = refl
 
-    kept_begun : is_none (account_of c.accounts tenant) ≡ false → IsKeptOf (with_table c table) o op
+    kept_begun : is_none (account_of c.accounts tenant) ≡ false → IsKeptOf (with_table c c.answers table) o op
     kept_begun known = record {
       always = record {
         stored = a.stored;
@@ -108,7 +108,7 @@ module _ (c : Core) (now : StateView) (opening : OpeningView) (tenant : ℕ) (ma
         floor = λ begun. let first = ap (λ (w : Walk). w.first) a.walk in absurd (omega (arith, first, begun));
         begun = λ other. absurd (other (ap (λ (w : Walk). w.phase) a.walk));
       };
-      kept = subst (λ p. IsKeptAt p (with_table c table) o op) (sym (ap (λ (w : Walk). w.phase) a.walk)) (record {
+      kept = subst (λ p. IsKeptAt p (with_table c c.answers table) o op) (sym (ap (λ (w : Walk). w.phase) a.walk)) (record {
         kept = subst (λ (w : Walk). KeptAt w.phase c.arena (past_of c) op.task.key None w) (sym a.walk) (through_top c.arena op.task.key h.one_border a.stored);
         untold = ap (λ (v : OperationView). v.outcome) a.is_begun;
         unprepared = a.unprepared;
@@ -117,8 +117,8 @@ module _ (c : Core) (now : StateView) (opening : OpeningView) (tenant : ℕ) (ma
     }
 
     -- the invariant with it
-    pub begun_keeps : is_none (account_of c.accounts tenant) ≡ false → MayAdmit now opening.made → HasRoomFor (at c.arena 0) op.task → StateInvariant (with_table c table)
-    begun_keeps known may room = begun_sound c o op table h vacant there others
+    pub begun_keeps : is_none (account_of c.accounts tenant) ≡ false → MayAdmit now opening.made → HasRoomFor (at c.arena 0) op.task → StateInvariant (with_table c c.answers table)
+    begun_keeps known may room = begun_sound c o op table h vacant there others (ap (λ (w : Walk). w.first) a.walk)
         (ap (λ (w : Walk). one_if_prepared (Some (record op { walk = w }))) a.walk)
         (kept_begun known)
         (begun_alone may)
@@ -128,12 +128,12 @@ module _ (c : Core) (now : StateView) (opening : OpeningView) (tenant : ℕ) (ma
         ])
 
     -- and what is told of it
-    pub begun_tells : (ticket : Ticket) → ticket.id ≡ o → TellsAdmitted now (shown (with_table c table)) opening (Ok ticket)
+    pub begun_tells : (ticket : Ticket) → ticket.id ≡ o → TellsAdmitted now (shown (with_table c c.answers table)) opening (Ok ticket)
     begun_tells ticket ticket_is = (
       view_of op,
       shows,
-      subst (λ (v : StateView). Begins v (shown (with_table c table)) ticket.id op.task.worker op.task.tenant (ask op.task)) is
-          (subst (λ i. Begins (shown c) (shown (with_table c table)) i op.task.worker op.task.tenant (ask op.task)) (sym ticket_is) (record {
+      subst (λ (v : StateView). Begins v (shown (with_table c c.answers table)) ticket.id op.task.worker op.task.tenant (ask op.task)) is
+          (subst (λ i. Begins (shown c) (shown (with_table c c.answers table)) i op.task.worker op.task.tenant (ask op.task)) (sym ticket_is) (record {
             free = shown_at c.table o ∙ ap (option_map view_of) vacant;
             there = shown_there table o op there ∙ ap Some a.is_begun;
             others = λ q other. shown_at table q ∙ ap (option_map view_of) (others q other) ∙ sym (shown_at c.table q);

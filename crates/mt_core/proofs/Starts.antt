@@ -27,7 +27,7 @@ no_tape = record { entries = []; floor = 0; reserved = 0 }
 
 -- what is inside a new state
 abbrev pub start : ℕ → Accounts → Core
-start logs accounts = record { steps = 0; logs = logs; accounts = accounts; arena = new_arena; tape = no_tape; table = [] }
+start logs accounts = record { steps = 0; answers = 0; logs = logs; accounts = accounts; arena = new_arena; tape = no_tape; table = [] }
 
 -- a new arena has no pairs
 pub no_content : content_of new_arena ≡ pairs.empty
@@ -54,6 +54,7 @@ start_sound logs accounts none = record {
   counts = λ t a there. (none t a there ∙ sym (no_len t (content_of new_arena) no_content), omega (arith, none t a there));
   ops = λ o op there. absurd (cc);
   reserved = refl;
+  answered = omega arith;
   one_border = record { node = fresh_root 0; nodes = refl; trees = refl; border = refl };
   one_put = record { one = λ o q a b at_a at_b put_a put_b open_a open_b. absurd (cc); room = λ o op there put waits. absurd (cc) };
   few = omega arith;

@@ -1,5 +1,7 @@
--- The invariant of a state with another table: one operation more, or one that is finished less: for `State::admit` and `take`.
-use Rattle.std.proofs.Common.{◌≡◌, ◌≢◌, ℕ, suc, ◌<◌, ◌⊎◌, inl, inr, true, false, [], ◌∷◌, length, set, Some, None, IsSome, refl, sym, ap, subst, ◌∙◌, arith}
+-- The invariant of a state with another table: one operation more, or one that holds nothing less: for `State::admit`, `take` and `cancel`.
+use Rattle.std.proofs.Common.{◌≡◌, ◌≢◌, ℕ, suc, ◌+◌, ◌<◌, ◌≤◌, ◌⊎◌, inl, inr, true, false, [], ◌∷◌, length, set, zero, Some, None, IsSome, refl, sym, ap, subst, ◌∙◌, arith}
+use Rattle.std.specs.Prelude.{if◌then◌else◌}
+use Rattle.std.specs.Option.{option_map}
 use Rattle.std.proofs.lemmas.Bool.{cases_eq}
 use Rattle.std.proofs.lemmas.Option.{same_Some, none-some}
 use Rattle.std.specs.FinMap.{get}
@@ -8,20 +10,20 @@ use Rattle.mt_border.specs.Contents.{owned}
 use Rattle.mt_arena.specs.Arena.{content_of}
 use Rattle.mt_arena.specs.Accesses.{at}
 use Rattle.mt_operation.specs.declared.operation.Operation.{Operation}
-use Rattle.mt_operation.specs.declared.walk.Phase.{Phase}
-use Rattle.mt_operation.specs.declared.walk.Phase.TheVariants.{Done}
 use Rattle.mt_operation.specs.Tasks.{ask}
-use Rattle.mt_operation.specs.Operations.{is_done, is_unfinished}
+use Rattle.mt_operation.specs.Operations.{view_of, is_done, is_unfinished}
 use Rattle.mt_operation.specs.Tables.{Table, HasOpenPut, op_at as operation_at}
 use Rattle.mt_operation.proofs.Tables.{set_there, set_none}
-use Rattle.mt_state.specs.Views.{Core}
+use Rattle.mt_state.specs.Views.{Core, Shown}
 use Rattle.mt_state.specs.Kept.{IsKeptOf}
-use Rattle.mt_state.specs.Invariant.{HoldsAt, IsOnePut, StateInvariant, one_if_prepared, prepared_count, is_unplaced}
+use Rattle.mt_state.specs.Invariant.{HoldsAt, IsOnePut, StateInvariant, is_prepared, one_if_prepared, prepared_count, made_count, is_unplaced}
+use Rattle.mt_state.proofs.Shown.{shown_table, shown_at, shown_there, shown_set}
+use Rattle.mt_state.proofs.Answered.{answered_begun}
 use Rattle.mt_core.proofs.Retained.{retained, own_tape}
 
--- the same state with another table
-abbrev pub with_table : Core → Table → Core
-with_table c table = record c { table = table }
+-- the same state with another count of answers and another table
+abbrev pub with_table : Core → ℕ → Table → Core
+with_table c answers table = record c { answers = answers; table = table }
 
 -- two tables have as many operations that are ready where each id has as many
 pub same_count : (t u : Table) → ((q : ℕ) → one_if_prepared (operation_at t q) ≡ one_if_prepared (operation_at u q)) → prepared_count t ≡ prepared_count u
@@ -30,11 +32,11 @@ same_count [] (y ∷ u) h = let rest = same_count [] u (λ q. h (suc q)) in let 
 same_count (x ∷ t) [] h = let rest = same_count t [] (λ q. h (suc q)) in let here = h 0 in omega (arith, rest, here)
 same_count (x ∷ t) (y ∷ u) h = let rest = same_count t u (λ q. h (suc q)) in let here = h 0 in omega (arith, rest, here)
 
-module _ (c : Core) (o : ℕ) (table : Table) (h : StateInvariant c) (others : (q : ℕ) → q ≢ o → operation_at table q ≡ operation_at c.table q) where
+module _ (c : Core) (o answers : ℕ) (table : Table) (h : StateInvariant c) (others : (q : ℕ) → q ≢ o → operation_at table q ≡ operation_at c.table q) where
   -- the invariant stays where it holds of that one operation
-  pub table_sound : ((k : ℕ) → k < length c.arena.nodes → (at c.arena k).holder ≡ Some o → ⊥) → ((op : Operation) → operation_at table o ≡ Some op → IsKeptOf (with_table c table) o op)
-      → one_if_prepared (operation_at table o) ≡ one_if_prepared (operation_at c.table o) → IsOnePut (with_table c table) → StateInvariant (with_table c table)
-  table_sound free own weight one_put = record {
+  pub table_sound : ((k : ℕ) → k < length c.arena.nodes → (at c.arena k).holder ≡ Some o → ⊥) → ((op : Operation) → operation_at table o ≡ Some op → IsKeptOf (with_table c answers table) o op)
+      → one_if_prepared (operation_at table o) ≡ one_if_prepared (operation_at c.table o) → answers + made_count (shown_table table) ≤ c.steps → IsOnePut (with_table c answers table) → StateInvariant (with_table c answers table)
+  table_sound free own weight bound one_put = record {
     tape = record { rises = h.tape.rises; made = h.tape.made; legal = h.tape.legal };
     stamps = h.stamps;
     versions = h.versions;
@@ -43,33 +45,40 @@ module _ (c : Core) (o : ℕ) (table : Table) (h : StateInvariant c) (others : (
         (w.0, others q (λ is. free k within (held ∙ ap Some is)) ∙ w.1, w.2);
     counts = h.counts;
     ops = λ q op there. elim (cases_eq q o) [
-      | inl is ↦ subst (λ n. IsKeptOf (with_table c table) n op) (sym is) (own op (ap (operation_at table) (sym is) ∙ there))
-      | inr other ↦ let was = h.ops q op (sym (others q other) ∙ there) in retained c c.tape table q op (own_tape c op was.always) was.always was
+      | inl is ↦ subst (λ n. IsKeptOf (with_table c answers table) n op) (sym is) (own op (ap (operation_at table) (sym is) ∙ there))
+      | inr other ↦ let was = h.ops q op (sym (others q other) ∙ there) in retained c answers c.tape table q op (own_tape c op was.always) was.always was
     ];
     reserved = h.reserved ∙ sym (same_count table c.table (λ q. elim (cases_eq q o) [
       | inl is ↦ ap (λ n. one_if_prepared (operation_at table n)) is ∙ weight ∙ ap (λ n. one_if_prepared (operation_at c.table n)) (sym is)
       | inr other ↦ ap one_if_prepared (others q other)
     ]));
+    answered = bound;
     one_border = h.one_border;
     one_put = one_put;
     few = h.few;
   }
 
--- who holds a node is not done
-done_holds : (p : Phase) (node k : ℕ) → p ≡ Done → HoldsAt p node k → ⊥
-done_holds Done node k is held = held
-done_holds p node k is held = subst (λ p. HoldsAt p node k) is held
+-- taking an operation out, no operation more has made a step
+made_without : (table : Shown) (o : ℕ) → made_count (set table o None) ≤ made_count table
+made_without [] o = omega arith
+made_without (x ∷ table) zero = omega arith
+made_without (x ∷ table) (suc o) = let rest = made_without table o in omega (arith, rest)
 
--- an operation less, which was finished
-pub taken_sound : (c : Core) (o : ℕ) (op : Operation) → StateInvariant c → operation_at c.table o ≡ Some op → op.walk.phase ≡ Done → StateInvariant (with_table c (set c.table o None))
-taken_sound c o op h there ended =
-    table_sound c o (set c.table o None) h (λ q ne. set_there c.table o q None ne)
+pub made_inside : (table : Table) (o : ℕ) → made_count (shown_table (set table o None)) ≤ made_count (shown_table table)
+made_inside table o = let is = ap made_count (shown_set table o None) in let less = made_without (shown_table table) o in omega (arith, is, less)
+
+-- an operation less, which held nothing and had nothing ready
+pub removed_sound : (c : Core) (o answers : ℕ) (op : Operation) → StateInvariant c → operation_at c.table o ≡ Some op → ((node k : ℕ) → HoldsAt op.walk.phase node k → ⊥) → is_prepared op.walk.phase ≡ false
+    → answers + made_count (shown_table (set c.table o None)) ≤ c.steps → StateInvariant (with_table c answers (set c.table o None))
+removed_sound c o answers op h there free unready bound =
+    table_sound c o answers (set c.table o None) h (λ q ne. set_there c.table o q None ne)
     (λ k within held.
     let w = h.holders k o within held in
     let same = same_Some w.0 op (sym w.1 ∙ there) in
-    done_holds w.0.walk.phase w.0.walk.place.node k (ap (λ (x : Operation). x.walk.phase) same ∙ ended) w.2)
+    free w.0.walk.place.node k (subst (λ p. HoldsAt p w.0.walk.place.node k) (ap (λ (x : Operation). x.walk.phase) same) w.2))
     (λ x is. absurd (none-some x (sym (set_none c.table o) ∙ is)))
-    (ap one_if_prepared (set_none c.table o) ∙ sym (ap one_if_prepared there ∙ ap (λ p. one_if_prepared (Some (record op { walk = record op.walk { phase = p } }))) ended))
+    (ap one_if_prepared (set_none c.table o) ∙ sym (ap one_if_prepared there ∙ ap (λ b. if b then 1 else 0) unready))
+    bound
     (record {
       one = λ p q a b at_a at_b. h.one_put.one p q a b (was p a at_a) (was q b at_b);
       room = λ q x is. h.one_put.room q x (was q x is);
@@ -84,12 +93,14 @@ taken_sound c o op h there ended =
 -- an operation more
 module _ (c : Core) (o : ℕ) (op : Operation) (table : Table) (h : StateInvariant c) (vacant : operation_at c.table o ≡ None) (there : operation_at table o ≡ Some op) (others : (q : ℕ) → q ≢ o → operation_at table q ≡ operation_at c.table q) where
   -- the invariant with an operation more
-  pub begun_sound : one_if_prepared (Some op) ≡ 0 → IsKeptOf (with_table c table) o op → (is_get (ask op.task) ≡ false → ¬ HasOpenPut c.table)
-      → (is_get (ask op.task) ≡ false → (length (at c.arena 0).slots < 15) ⊎ IsSome (get (content_of c.arena) (owned op.task.key))) → StateInvariant (with_table c table)
-  begun_sound unready kept alone room = table_sound c o table h others
+  pub begun_sound : op.walk.first ≡ 0 → one_if_prepared (Some op) ≡ 0 → IsKeptOf (with_table c c.answers table) o op → (is_get (ask op.task) ≡ false → ¬ HasOpenPut c.table)
+      → (is_get (ask op.task) ≡ false → (length (at c.arena 0).slots < 15) ⊎ IsSome (get (content_of c.arena) (owned op.task.key))) → StateInvariant (with_table c c.answers table)
+  begun_sound still unready kept alone room = table_sound c o c.answers table h others
       (λ k within held. let w = h.holders k o within held in none-some w.0 (sym vacant ∙ w.1))
-      (λ x is. subst (IsKeptOf (with_table c table) o) (same_Some op x (sym there ∙ is)) kept)
+      (λ x is. subst (IsKeptOf (with_table c c.answers table) o) (same_Some op x (sym there ∙ is)) kept)
       (ap one_if_prepared there ∙ unready ∙ sym (ap one_if_prepared vacant))
+      (answered_begun c.answers c.steps (shown_table c.table) (shown_table table) o (view_of op) (shown_at c.table o ∙ ap (option_map view_of) vacant) (shown_there table o op there) still
+      (λ q other. shown_at table q ∙ ap (option_map view_of) (others q other) ∙ sym (shown_at c.table q)) h.answered)
       (record { one = one; room = rooms })
     where
       -- each put that is open was so before, or is the new one

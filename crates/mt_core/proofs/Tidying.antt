@@ -79,8 +79,9 @@ module _ (c : Core) (floor : ℕ) (h : StateInvariant c) (rises : c.tape.floor �
     versions = h.versions;
     holders = h.holders;
     counts = h.counts;
-    ops = λ o op there. let k = h.ops o op there in retained c (trimmed c floor) c.table o op (tells o op there) k.always k;
+    ops = λ o op there. let k = h.ops o op there in retained c c.answers (trimmed c floor) c.table o op (tells o op there) k.always k;
     reserved = h.reserved;
+    answered = h.answered;
     one_border = h.one_border;
     one_put = record { one = h.one_put.one; room = h.one_put.room };
     few = h.few;
@@ -119,6 +120,7 @@ tidied c now floor tape is h needed trims =
       trimmed_sound c floor h up needed.made needed.before,
       record {
         steps = refl;
+        answers = refl;
         logs = refl;
         accounts = refl;
         arena = refl;

@@ -219,8 +219,20 @@ fn answer_of(operation: Operation) -> Answer
     }
 }
 
-/// Whether the operation is there, and has made no step.
-pub(crate) fn is_still(operations: &Operations, id: usize) -> bool
+/// Takes an operation that has made no step out of the table; whether there was one.
+pub(crate) fn give_back(operations: &mut Operations, id: usize) -> bool
+    ensures gone { IsTrue result → (op : AnyOperation) × (operation_at operations.old id ≡ Some op) × (op.walk.first ≡ 0) × (operations.new ≡ slice_set operations.old id None) }
+    ensures stays { result ≡ false → (operations.new ≡ operations.old) × ((op : AnyOperation) → operation_at operations.old id ≡ Some op → 0 < op.walk.first) }
+{
+    if !is_still(operations, id) {
+        return false;
+    }
+    operations.remove(id);
+    true
+}
+
+// Whether the operation is there, and has made no step.
+fn is_still(operations: &Operations, id: usize) -> bool
     ensures yes { IsTrue result → (op : AnyOperation) × (operation_at operations.now id ≡ Some op) × (op.walk.first ≡ 0) }
     ensures no { result ≡ false → (op : AnyOperation) → operation_at operations.now id ≡ Some op → 0 < op.walk.first }
 {

@@ -23,7 +23,7 @@ ghost use Rattle.mt_operation.specs.Tables.{op_at as operation_at};
 
 use crate::answers::Ticket;
 use crate::looks::{Loaded, absent, descended, load_row, no_memory};
-use crate::openings::{Opening, give_up, has_room, is_still, prepare};
+use crate::openings::{Opening, give_back, give_up, has_room, prepare};
 use crate::shape::{ShapeLine, root_line};
 use mt_arena::Arena;
 use mt_descent::{confirm, lock, search};
@@ -141,10 +141,9 @@ impl State {
     pub fn cancel(&mut self, ticket: Ticket) -> Result<(), Ticket>
         ensures { TellsCancel self.old self.new ticket result }
     {
-        if !is_still(&self.operations, ticket.id) {
+        if !give_back(&mut self.operations, ticket.id) {
             return Err(ticket);
         }
-        self.operations.remove(ticket.id);
         Ok(())
     }
 
