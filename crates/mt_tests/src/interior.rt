@@ -21,7 +21,7 @@ fn put(node: &mut Interior, separator: u64, child: usize) {
     }
 }
 
-// A new child takes the upper part of a range, and its range goes to the one before when it is removed.
+// A new child takes the upper part of a range, which goes to the one before when it is removed.
 #[test]
 fn a_slice_that_equals_a_separator_belongs_to_its_right(rt: HostRuntime) {
     let mut node = root(2);

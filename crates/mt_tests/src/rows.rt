@@ -148,7 +148,7 @@ fn gaps_are_empty_and_other_columns_kept(rt: HostRuntime) {
     store.get(&rt, b"k", &[], "found 0=62,1=,2=,3=63");
 }
 
-// And a scan starts at its key or after it.
+// The scans of what it has in the end start at their key, or after it.
 #[test]
 fn a_full_tenant_replaces_and_adds_nothing(rt: HostRuntime) {
     let mut store = Store::new(rt.alloc(), 2);
