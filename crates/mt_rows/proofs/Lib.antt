@@ -3,4 +3,5 @@ pub mod ContentLaws
 pub mod Indexes
 pub mod Limits
 pub mod RowLaws
+pub mod SameColumns
 pub mod Sorted

@@ -74,6 +74,49 @@ impl Command {
         }
     }
 
+    /// Whether the other command is of the same kind and has the same parts.
+    pub fn is_same(&self, other: &Command) -> bool
+        ensures { IsTrue result ↔ (self.now ≡ other.now) }
+    {
+        match (self, other) {
+            (
+                Command::Get { key, columns },
+                Command::Get {
+                    key: other_key,
+                    columns: other_columns,
+                },
+            ) => key == other_key && columns.as_slice() == other_columns.as_slice(),
+            (
+                Command::Put { key, change },
+                Command::Put {
+                    key: other_key,
+                    change: other_change,
+                },
+            ) => key == other_key && change.as_slice() == other_change.as_slice(),
+            (Command::Remove { key }, Command::Remove { key: other_key }) => key == other_key,
+            (
+                Command::Scan {
+                    from,
+                    after,
+                    count,
+                    columns,
+                },
+                Command::Scan {
+                    from: other_from,
+                    after: other_after,
+                    count: other_count,
+                    columns: other_columns,
+                },
+            ) => {
+                from == other_from
+                    && after == other_after
+                    && count == other_count
+                    && columns.as_slice() == other_columns.as_slice()
+            }
+            _ => false,
+        }
+    }
+
     /// The same command. An error leaves this one as it was.
     pub fn copied(&self) -> Result<Command, AllocError>
         ensures { IfOk result (λ command. command ≡ self.now) }

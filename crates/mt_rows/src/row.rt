@@ -6,7 +6,9 @@
 //!
 //! Units: lengths in bytes, rows in columns.
 
-ghost use Rattle.std.specs.Prelude.{◌≡◌, ◌<◌, ◌≤◌, ◌↔◌, IsTrue, length, map, IfOk};
+ghost use Rattle.std.specs.Prelude.{◌≡◌, ◌<◌, ◌≤◌, ◌↔◌, IsTrue, length, map, IfOk, nat_eq};
+ghost use Rattle.std.specs.Cmp.{partial_equiv_from_equiv};
+ghost use Rattle.std.specs.Cmp.Lexicographic.{pointwise, nat_list_eq_equiv};
 ghost use Rattle.mt_rows.specs.Rows.{IsRow, AreIndexes, rise_from, column, shown};
 
 use std::alloc::{AllocError, Global};
@@ -45,6 +47,20 @@ impl Column {
     {
         &self.bytes
     }
+}
+
+impl PartialEq for Column {
+    ghost eq = { pointwise nat_eq };
+
+    ghost laws = { partial_equiv_from_equiv nat_list_eq_equiv };
+
+    fn eq(&self, other: &Column) -> bool {
+        self.as_bytes() == other.as_bytes()
+    }
+}
+
+impl Eq for Column {
+    ghost laws = { nat_list_eq_equiv };
 }
 
 /// Indexes of columns as they were asked for, none for all; `may_be_asked` tells whether they are

@@ -21,75 +21,51 @@ fn put(node: &mut Interior, separator: u64, child: usize) {
     }
 }
 
+// A new child takes the upper part of a range, which goes to the one before when it is removed.
 #[test]
 fn a_slice_that_equals_a_separator_belongs_to_its_right(rt: HostRuntime) {
-    let node = root(2);
-    assert_eq!(rt; node.children().len(), 3);
-    for (slice, child) in [
-        (0, 100),
-        (9, 100),
-        (10, 101),
-        (19, 101),
-        (20, 102),
-        (u64::MAX, 102),
-    ] {
-        assert_eq!(rt; node.child_of(slice), child, "at {slice}");
-    }
-    assert_eq!(rt; node.place_of(20), 2);
-}
-
-#[test]
-fn a_new_child_takes_the_upper_part_of_a_range(rt: HostRuntime) {
     let mut node = root(2);
     put(&mut node, 15, 115);
     assert_eq!(rt; node.separators(), [10, 15, 20].as_slice());
     assert_eq!(rt; node.children(), [100, 101, 115, 102].as_slice());
-}
-
-#[test]
-fn the_range_of_a_removed_child_goes_to_the_one_before(rt: HostRuntime) {
-    let mut node = root(3);
-    assert_eq!(rt; node.children().len(), 4);
+    for (slice, child) in [
+        (0, 100),
+        (9, 100),
+        (10, 101),
+        (14, 101),
+        (15, 115),
+        (20, 102),
+        (u64::MAX, 102),
+    ] {
+        assert_eq!(rt; node.child_of(slice), child);
+    }
+    assert_eq!(rt; node.place_of(15), 2);
     node.remove_child(2);
-    assert_eq!(rt; node.separators(), [10, 30].as_slice());
-    assert_eq!(rt; node.children(), [100, 101, 103].as_slice());
-    assert_eq!(rt; node.child_of(25), 101);
+    assert_eq!(rt; node.separators(), [10, 20].as_slice());
+    assert_eq!(rt; node.children(), [100, 101, 102].as_slice());
 }
 
+// The new separator is among the lower ones, the ninth, and among the upper ones.
 #[test]
 fn a_split_sends_the_ninth_of_sixteen_separators_up(rt: HostRuntime) {
-    // The new separator among the lower ones, as the ninth, and among the upper ones.
     for (separator, up, first_at_right) in [(5, 80, 108), (85, 85, 7), (95, 90, 109)] {
         let mut left = root(15);
         let mut right = Interior::new(up, None, Version::child_interior());
         assert!(rt; left.is_full() && !left.separators().contains(&separator));
         assert_eq!(rt; left.middle_with(separator), up);
         assert_eq!(rt; left.split_into(separator, 7, &mut right), up);
-        assert_eq!(rt;
-            (left.separators().len(), left.children().len()),
-            (8, 9),
-            "{separator}"
-        );
+        assert_eq!(rt; (left.separators().len(), left.children().len()), (8, 9));
         assert_eq!(rt;
             (right.separators().len(), right.children().len()),
-            (7, 8),
-            "{separator}"
+            (SEPARATORS - 8, 8)
         );
         assert_eq!(rt; right.children().first(), Some(&first_at_right));
-        assert_eq!(rt;
-            SEPARATORS,
-            left.separators().len() + right.separators().len()
-        );
     }
 }
 
 #[test]
 fn fields_are_read_back(rt: HostRuntime) {
     let mut node = Interior::new(10, Some(30), Version::child_interior());
-    assert_eq!(rt;
-        (node.low(), node.high(), node.parent()),
-        (10, Some(30), None)
-    );
     node.set_high(Some(20));
     node.set_parent(Some(4));
     node.set_version(node.version().locked());

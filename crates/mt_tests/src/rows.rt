@@ -1,12 +1,14 @@
 //! Rows, commands and tenants.
 
+ghost use Rattle.std.specs.Prelude.{◌≡◌};
+
 use mt_rows::{
-    Change, Column, ColumnIndexes, Command, Key, NamedColumns, PairList, PlainMap, Record, Records,
-    Refusal, Reply, Row, Tenants, merge,
+    Change, Column, ColumnIndexes, Command, Key, NamedColumns, PlainMap, Record, Records, Refusal,
+    Reply, Row, Tenants, merge,
 };
 use std::alloc::{AllocError, Global};
 use std::fmt::Write;
-use std::test::Fail;
+use std::process::Abort;
 
 /// A tenant with a quota, whose commands are written as bytes and answered as text.
 #[derive(Drop)]
@@ -25,40 +27,59 @@ impl Store {
         }
     }
 
-    fn get(&mut self, key: &[u8], columns: &[u8]) -> Result<String, Refusal> {
-        let key = Key::new(Vec::from_slice(self.alloc, key)?);
-        let columns = ColumnIndexes::new(Vec::from_slice(self.alloc, columns)?);
-        self.run(Command::Get { key, columns })
+    fn get(&mut self, rt: &impl Abort, key: &[u8], columns: &[u8], wanted: &str) {
+        let key = key_of(rt, self.alloc, key);
+        let columns = Vec::from_slice(self.alloc, columns).expect(rt, "memory");
+        let columns = ColumnIndexes::new(columns);
+        self.tells(rt, Command::Get { key, columns }, wanted);
     }
 
-    fn put(&mut self, key: &[u8], columns: &[(u8, &[u8])]) -> Result<String, Refusal> {
-        let key = Key::new(Vec::from_slice(self.alloc, key)?);
-        let change = named(self.alloc, columns)?;
-        self.run(Command::Put { key, change })
+    fn put(&mut self, rt: &impl Abort, key: &[u8], columns: &[(u8, &[u8])], wanted: &str) {
+        let key = key_of(rt, self.alloc, key);
+        let change = named(self.alloc, columns).expect(rt, "memory");
+        self.tells(rt, Command::Put { key, change }, wanted);
     }
 
-    fn remove(&mut self, key: &[u8]) -> Result<String, Refusal> {
-        let key = Key::new(Vec::from_slice(self.alloc, key)?);
-        self.run(Command::Remove { key })
+    fn remove(&mut self, rt: &impl Abort, key: &[u8], wanted: &str) {
+        let key = key_of(rt, self.alloc, key);
+        self.tells(rt, Command::Remove { key }, wanted);
     }
 
-    fn scan(&mut self, from: &[u8], after: bool, count: u8) -> Result<String, Refusal> {
-        let from = Key::new(Vec::from_slice(self.alloc, from)?);
+    fn scan(&mut self, rt: &impl Abort, from: &[u8], after: bool, count: u8, wanted: &str) {
+        let from = key_of(rt, self.alloc, from);
         let columns = ColumnIndexes::new(Vec::new(self.alloc));
-        self.run(Command::Scan {
+        let scan = Command::Scan {
             from,
             after,
             count,
             columns,
-        })
+        };
+        self.tells(rt, scan, wanted);
     }
 
-    fn run(&mut self, command: Command) -> Result<String, Refusal> {
-        let copy = command.copied()?;
-        copy.check()?;
-        let reply = self.map.apply(self.alloc, self.quota, copy)?;
-        Ok(text_of(self.alloc, &reply)?)
+    // Runs a copy of the command, which tells this reply or refusal.
+    fn tells(&mut self, rt: &impl Abort, command: Command, wanted: &str) {
+        let copy = command.copied().expect(rt, "memory");
+        assert!(rt; copy.is_same(&command));
+        let mut told = String::new(self.alloc);
+        let written = match self.run(copy) {
+            Ok(reply) => push_reply(&mut told, &reply),
+            Err(refusal) => write!(told, "{refusal}"),
+        };
+        assert!(rt; written.is_ok());
+        assert_eq!(rt; told.as_str(), wanted);
     }
+
+    fn run(&mut self, command: Command) -> Result<Reply, Refusal> {
+        command.check()?;
+        Ok(self.map.apply(self.alloc, self.quota, command)?)
+    }
+}
+
+fn key_of(rt: &impl Abort, alloc: Global, bytes: &[u8]) -> Key
+    ensures { result ≡ bytes.now }
+{
+    Key::new(Vec::from_slice(alloc, bytes).expect(rt, "memory"))
 }
 
 // Columns by index.
@@ -71,33 +92,29 @@ fn named(alloc: Global, columns: &[(u8, &[u8])]) -> Result<NamedColumns, AllocEr
 }
 
 // A reply as the script program prints it.
-fn text_of(alloc: Global, reply: &Reply) -> Result<String, AllocError> {
+fn push_reply(text: &mut String, reply: &Reply) -> Result<(), AllocError> {
     match reply {
-        Reply::Absent => "absent".to_string(alloc),
+        Reply::Absent => text.push_str("absent"),
         Reply::Found(row) => {
-            let mut text = "found ".to_string(alloc)?;
-            push_row(&mut text, row)?;
-            Ok(text)
+            text.push_str("found ")?;
+            push_row(text, row)
         }
-        Reply::New => "new".to_string(alloc),
-        Reply::Replaced => "replaced".to_string(alloc),
-        Reply::Full => "full".to_string(alloc),
-        Reply::Removed => "removed".to_string(alloc),
-        Reply::Pairs(pairs) => text_of_pairs(alloc, pairs),
-        Reply::NoMemory => "memory".to_string(alloc),
+        Reply::New => text.push_str("new"),
+        Reply::Replaced => text.push_str("replaced"),
+        Reply::Full => text.push_str("full"),
+        Reply::Removed => text.push_str("removed"),
+        Reply::Pairs(pairs) => {
+            write!(text, "pairs {}", pairs.as_slice().len())?;
+            for (key, row) in pairs.as_slice() {
+                text.push_str(" ")?;
+                push_hex(text, key.as_bytes())?;
+                text.push_str(":")?;
+                push_row(text, row)?;
+            }
+            Ok(())
+        }
+        Reply::NoMemory => text.push_str("memory"),
     }
-}
-
-fn text_of_pairs(alloc: Global, pairs: &PairList) -> Result<String, AllocError> {
-    let count = pairs.as_slice().len();
-    let mut text = format!(in alloc; "pairs {count}")?;
-    for (key, row) in pairs.as_slice() {
-        text.push_str(" ")?;
-        push_hex(&mut text, key.as_bytes())?;
-        text.push_str(":")?;
-        push_row(&mut text, row)?;
-    }
-    Ok(text)
 }
 
 fn push_row(text: &mut String, row: &Row) -> Result<(), AllocError> {
@@ -119,100 +136,76 @@ fn push_hex(text: &mut String, bytes: &[u8]) -> Result<(), AllocError> {
 }
 
 #[test]
-fn gaps_are_empty_and_other_columns_kept(rt: HostRuntime) -> Result<(), Fail> {
+fn gaps_are_empty_and_other_columns_kept(rt: HostRuntime) {
     let mut store = Store::new(rt.alloc(), 100);
-    assert_eq!(rt; store.put(b"k", &[(2, b"v")])?.as_str(), "new");
-    assert_eq!(rt; store.get(b"k", &[])?.as_str(), "found 0=,1=,2=76");
-    assert_eq!(rt; store.put(b"k", &[(0, b"a")])?.as_str(), "replaced");
-    assert_eq!(rt; store.get(b"k", &[])?.as_str(), "found 0=61,1=,2=76");
-    assert_eq!(rt; store.get(b"k", &[5])?.as_str(), "found 0=");
-    assert_eq!(rt; store.get(b"k", &[0, 2])?.as_str(), "found 0=61,1=76");
-    assert_eq!(rt;
-        store.put(b"k", &[(0, b"b"), (2, b""), (3, b"c")])?.as_str(),
-        "replaced"
-    );
-    assert_eq!(rt; store.get(b"k", &[])?.as_str(), "found 0=62,1=,2=,3=63");
-    Ok(())
+    store.put(&rt, b"k", &[(2, b"v")], "new");
+    store.get(&rt, b"k", &[], "found 0=,1=,2=76");
+    store.put(&rt, b"k", &[(0, b"a")], "replaced");
+    store.get(&rt, b"k", &[], "found 0=61,1=,2=76");
+    store.get(&rt, b"k", &[5], "found 0=");
+    store.get(&rt, b"k", &[0, 2], "found 0=61,1=76");
+    store.put(&rt, b"k", &[(0, b"b"), (2, b""), (3, b"c")], "replaced");
+    store.get(&rt, b"k", &[], "found 0=62,1=,2=,3=63");
 }
 
+// The scans of what it has in the end start at their key, or after it.
 #[test]
-fn a_full_tenant_replaces_and_adds_nothing(rt: HostRuntime) -> Result<(), Fail> {
+fn a_full_tenant_replaces_and_adds_nothing(rt: HostRuntime) {
     let mut store = Store::new(rt.alloc(), 2);
-    assert_eq!(rt; store.get(b"", &[])?.as_str(), "absent");
-    assert_eq!(rt; store.put(b"", &[(0, b"v")])?.as_str(), "new");
-    assert_eq!(rt; store.put(b"q", &[(0, b"v")])?.as_str(), "new");
-    assert_eq!(rt; store.put(b"a", &[(0, b"v")])?.as_str(), "full");
-    assert_eq!(rt; store.get(b"a", &[])?.as_str(), "absent");
-    assert_eq!(rt; store.put(b"q", &[(0, b"w")])?.as_str(), "replaced");
-    assert_eq!(rt; store.remove(b"")?.as_str(), "removed");
-    assert_eq!(rt; store.remove(b"")?.as_str(), "absent");
-    assert_eq!(rt; store.put(b"a", &[(0, b"v")])?.as_str(), "new");
-    Ok(())
+    store.get(&rt, b"", &[], "absent");
+    store.put(&rt, b"", &[(0, b"v")], "new");
+    store.put(&rt, b"q", &[(0, b"v")], "new");
+    store.put(&rt, b"a", &[(0, b"v")], "full");
+    store.get(&rt, b"a", &[], "absent");
+    store.put(&rt, b"q", &[(0, b"w")], "replaced");
+    store.remove(&rt, b"", "removed");
+    store.remove(&rt, b"", "absent");
+    store.put(&rt, b"a", &[(0, b"v")], "new");
+    store.scan(&rt, b"a", false, 2, "pairs 2 61:0=76 71:0=77");
+    store.scan(&rt, b"a", false, 1, "pairs 1 61:0=76");
+    store.scan(&rt, b"a", true, 5, "pairs 1 71:0=77");
+    store.scan(&rt, b"q", true, 5, "pairs 0");
 }
 
 #[test]
-fn a_scan_starts_at_its_key_or_after_it(rt: HostRuntime) -> Result<(), Fail> {
-    let mut store = Store::new(rt.alloc(), 100);
-    for key in [b"o", b"m", b"p", b"n"] {
-        store.put(key, &[(0, b"v")])?;
-    }
-    assert_eq!(rt;
-        store.scan(b"m", false, 2)?.as_str(),
-        "pairs 2 6d:0=76 6e:0=76"
-    );
-    assert_eq!(rt; store.scan(b"o", true, 5)?.as_str(), "pairs 1 70:0=76");
-    assert_eq!(rt; store.scan(b"p", true, 5)?.as_str(), "pairs 0");
-    Ok(())
-}
-
-#[test]
-fn commands_past_a_limit_are_refused(rt: HostRuntime) -> Result<(), Fail> {
+fn commands_past_a_limit_are_refused(rt: HostRuntime) {
     let mut store = Store::new(rt.alloc(), 100);
     let long = [b'k'; 252];
     let column = [b'v'; 1_025];
-    assert_eq!(rt;
-        store.put(&long[..251], &[(15, &column[..1_024])])?.as_str(),
-        "new"
-    );
-    assert!(rt; matches!(store.put(&long, &[(16, &column)]), Err(Refusal::KeyLong)));
-    assert!(rt; matches!(store.put(b"k", &[(16, &column)]), Err(Refusal::Column)));
-    assert!(rt; matches!(store.put(b"k", &[]), Err(Refusal::Column)));
-    assert!(rt;
-        matches!(
-            store.put(b"k", &[(1, b"v"), (1, b"w")]),
-            Err(Refusal::Column)
-        )
-    );
-    assert!(rt; matches!(store.put(b"k", &[(0, &column)]), Err(Refusal::ColumnLong)));
-    assert!(rt; matches!(store.get(b"k", &[3, 2]), Err(Refusal::Column)));
-    assert!(rt; matches!(store.scan(b"k", false, 0), Err(Refusal::ScanCount)));
-    assert!(rt; matches!(store.scan(b"k", false, 65), Err(Refusal::ScanCount)));
-    Ok(())
+    store.put(&rt, &long[..251], &[(15, &column[..1_024])], "new");
+    store.put(&rt, &long, &[(16, &column)], "E1");
+    store.put(&rt, b"k", &[(16, &column)], "E5");
+    store.put(&rt, b"k", &[], "E5");
+    store.put(&rt, b"k", &[(1, b"v"), (1, b"w")], "E5");
+    store.put(&rt, b"k", &[(0, &column)], "E6");
+    store.get(&rt, b"k", &[3, 2], "E5");
+    store.scan(&rt, b"k", false, 0, "E8");
+    store.scan(&rt, b"k", false, 65, "E8");
 }
 
 #[test]
-fn tenants_keep_their_quotas_and_counts(rt: HostRuntime) -> Result<(), Fail> {
+fn tenants_keep_their_quotas_and_counts(rt: HostRuntime) {
     let mut tenants = Tenants::new(rt.alloc());
-    assert!(rt; matches!(tenants.add(7, 0), Err(Refusal::Quota)));
-    assert!(rt; matches!(tenants.add(7, 1_048_577), Err(Refusal::Quota)));
-    assert!(rt; tenants.add(7, 1).is_ok());
-    assert!(rt; matches!(tenants.add(7, 0), Err(Refusal::TenantThere)));
-    assert!(rt; tenants.add(8, 1_048_576).is_ok());
-    assert!(rt; matches!(tenants.quota(8), Ok(1_048_576)));
-    assert!(rt; matches!(tenants.quota(9), Err(Refusal::NoTenant)));
+    for (tenant, quota, told) in [
+        (7, 0, Err(Refusal::Quota)),
+        (7, 1_048_577, Err(Refusal::Quota)),
+        (7, 1, Ok(())),
+        (7, 0, Err(Refusal::TenantThere)),
+        (8, 1_048_576, Ok(())),
+    ] {
+        assert!(rt; tenants.add(tenant, quota) == told);
+    }
+    assert!(rt; tenants.quota(8) == Ok(1_048_576) && tenants.quota(9) == Err(Refusal::NoTenant));
     assert!(rt; tenants.count_new(7));
     assert!(rt; !tenants.count_new(7));
-    assert!(rt; matches!(tenants.count(7), Ok(1)));
+    assert!(rt; tenants.count(7) == Ok(1) && tenants.count(9) == Err(Refusal::NoTenant));
     tenants.count_removed(7);
-    assert!(rt; matches!(tenants.count(7), Ok(0)));
-    assert!(rt; matches!(tenants.count(9), Err(Refusal::NoTenant)));
-    Ok(())
+    assert!(rt; tenants.count(7) == Ok(0));
 }
 
 #[test]
-fn refusals_print_their_numbers(rt: HostRuntime) -> Result<(), Fail> {
-    let alloc = rt.alloc();
-    let refusals = [
+fn refusals_print_their_numbers(rt: HostRuntime) {
+    for (refusal, text) in [
         (Refusal::KeyLong, "E1"),
         (Refusal::Memory, "E2"),
         (Refusal::TenantThere, "E3"),
@@ -245,32 +238,32 @@ fn refusals_print_their_numbers(rt: HostRuntime) -> Result<(), Fail> {
         (Refusal::OpenTwice, "E18"),
         (Refusal::NoRoom, "E19"),
         (Refusal::NoStore, "E20"),
-    ];
-    for (refusal, text) in refusals {
-        assert_eq!(rt; refusal.to_string(alloc)?.as_str(), text);
+    ] {
+        let printed = refusal.to_string(rt.alloc()).expect(&rt, "memory");
+        assert_eq!(rt; printed.as_str(), text);
     }
-    Ok(())
 }
 
 #[test]
-fn a_change_merges_and_a_row_is_shared(rt: HostRuntime) -> Result<(), Fail> {
+fn a_change_merges_and_a_row_is_shared(rt: HostRuntime) {
     let alloc = rt.alloc();
-    let change = Change::new(named(alloc, &[(1, b"v")])?)?;
-    let row = merge(alloc, None, &change)?;
-    assert_eq!(rt; row.share()?.columns().len(), 2);
-    assert!(rt; Row::fits(row.columns()));
-    assert!(rt; !Row::fits(&[]));
-    assert!(rt; !Reply::Found(row.share()?).is_change());
-    assert!(rt; Reply::New.is_change());
-    assert_eq!(rt; merge(alloc, Some(&row), &change)?.columns().len(), 2);
+    let change = Change::new(named(alloc, &[(1, b"v")]).expect(&rt, "memory")).expect(
+        &rt, "a change",
+    );
+    let row = merge(alloc, None, &change).expect(&rt, "memory");
+    let merged = merge(alloc, Some(&row), &change).expect(&rt, "memory");
+    assert_eq!(rt; (row.columns().len(), merged.columns().len()), (2, 2));
     assert_eq!(rt; change.into_list().as_slice().len(), 1);
+    assert!(rt; Row::fits(row.columns()) && !Row::fits(&[]));
+    let found = Reply::Found(row.share().expect(&rt, "memory"));
+    assert!(rt; Reply::New.is_change() && !found.is_change());
     let mut records = Vec::new(alloc);
-    records.push(Record {
+    let record = Record {
         stamp: 5,
         tenant: 7,
-        key: Key::new(Vec::from_slice(alloc, b"k")?),
+        key: key_of(&rt, alloc, b"k"),
         row: Some(row),
-    })?;
+    };
+    records.push(record).expect(&rt, "memory");
     assert_eq!(rt; Records::new(records).as_slice().len(), 1);
-    Ok(())
 }

@@ -1,11 +1,24 @@
 //! Stored keys and their slices and marks, by values worked out by hand.
 
 use mt_slices::{KeyRefusal, Mark, StoredKey, USER_KEY_BYTES};
+use std::alloc::Global;
 use std::cmp::Ordering;
-use std::test::Fail;
+use std::process::Abort;
+
+fn key_of(rt: &impl Abort, alloc: Global, tenant: u32, user_key: &[u8]) -> StoredKey {
+    StoredKey::new(alloc, tenant, user_key).expect(rt, "a short key")
+}
+
+// The slice and the mark of a key of tenant 7 in a layer.
+fn cut(rt: &impl Abort, alloc: Global, user_key: &[u8], layer: usize) -> (u64, Mark) {
+    let key = key_of(rt, alloc, 7, user_key);
+    assert!(rt; key.has_layer(layer));
+    (key.slice(layer), key.mark(layer))
+}
 
 #[test]
-fn keys_are_cut_into_slices_and_marks(rt: HostRuntime) -> Result<(), Fail> {
+fn keys_are_cut_into_slices_and_marks(rt: HostRuntime) {
+    let longest = [0x61; USER_KEY_BYTES];
     for (user_key, layer, slice, mark) in [
         (b"".as_slice(), 0, 0x0000_0007_0000_0000, Mark::Short(4)),
         (b"k".as_slice(), 0, 0x0000_0007_6b00_0000, Mark::Short(5)),
@@ -29,71 +42,66 @@ fn keys_are_cut_into_slices_and_marks(rt: HostRuntime) -> Result<(), Fail> {
             0xaa00_0000_0000_0000,
             Mark::Long,
         ),
-    ] {
-        let key = StoredKey::new(rt.alloc(), 7, user_key)?;
-        assert!(rt; key.has_layer(layer));
-        assert_eq!(rt; key.slice(layer), slice);
-        assert_eq!(rt; key.mark(layer), mark);
-    }
-    Ok(())
-}
-
-#[test]
-fn a_key_gives_back_what_it_was_made_of(rt: HostRuntime) -> Result<(), Fail> {
-    let key = StoredKey::new(rt.alloc(), 0x0102_0304, b"ABCDEFG")?;
-    assert_eq!(rt; key.as_bytes(), b"\x01\x02\x03\x04ABCDEFG".as_slice());
-    assert_eq!(rt; key.tenant(), 0x0102_0304);
-    assert_eq!(rt; key.user_key(), b"ABCDEFG".as_slice());
-    assert_eq!(rt; key.suffix(0), b"EFG".as_slice());
-    Ok(())
-}
-
-#[test]
-fn the_longest_key_ends_in_layer_31(rt: HostRuntime) -> Result<(), Fail> {
-    let bytes = [0x61; USER_KEY_BYTES + 1];
-    let key = StoredKey::new(rt.alloc(), 7, &bytes[..USER_KEY_BYTES])?;
-    assert!(rt; key.has_layer(31));
-    assert_eq!(rt; key.mark(30), Mark::Long);
-    assert_eq!(rt; key.mark(31), Mark::Short(7));
-    assert!(rt; !key.has_layer(32));
-    let refused = StoredKey::new(rt.alloc(), 7, &bytes);
-    assert!(rt; matches!(refused, Err(KeyRefusal::KeyLong)));
-    Ok(())
-}
-
-#[test]
-fn keys_are_in_the_order_of_their_bytes(rt: HostRuntime) -> Result<(), Fail> {
-    for (tenant, user_key, other_tenant, other, order) in [
+        (longest.as_slice(), 30, 0x6161_6161_6161_6161, Mark::Long),
         (
-            7,
-            b"ABCDEFG".as_slice(),
-            7,
-            b"ABCDEFG\0".as_slice(),
+            longest.as_slice(),
+            31,
+            0x6161_6161_6161_6100,
+            Mark::Short(7),
+        ),
+    ] {
+        assert_eq!(rt; cut(&rt, rt.alloc(), user_key, layer), (slice, mark));
+    }
+}
+
+#[test]
+fn a_key_gives_back_what_it_was_made_of(rt: HostRuntime) {
+    let key = key_of(&rt, rt.alloc(), 0x0102_0304, b"ABCDEFG");
+    assert!(rt; key.as_bytes() == b"\x01\x02\x03\x04ABCDEFG".as_slice());
+    assert!(rt; key.tenant() == 0x0102_0304 && key.user_key() == b"ABCDEFG".as_slice());
+    assert!(rt; key.suffix(0) == b"EFG".as_slice() && !key.has_layer(2));
+    let refused = StoredKey::new(rt.alloc(), 7, &[0x61; USER_KEY_BYTES + 1]);
+    assert!(rt; matches!(refused, Err(KeyRefusal::KeyLong)));
+}
+
+// How two keys compare, whether they are equal, and whether the first is less.
+fn compared(
+    rt: &impl Abort,
+    alloc: Global,
+    key: (u32, &[u8]),
+    other: (u32, &[u8]),
+) -> (Ordering, bool, bool) {
+    let key = key_of(rt, alloc, key.0, key.1);
+    let other = key_of(rt, alloc, other.0, other.1);
+    (key.cmp(&other), key == other, key < other)
+}
+
+#[test]
+fn keys_and_marks_are_in_the_order_of_the_bytes(rt: HostRuntime) {
+    for (key, other, order) in [
+        (
+            (7, b"ABCDEFG".as_slice()),
+            (7, b"ABCDEFG\0".as_slice()),
             Ordering::Less,
         ),
         (
-            7,
-            b"pppp\xaa\0".as_slice(),
-            7,
-            b"pppp\xaa".as_slice(),
+            (7, b"pppp\xaa\0".as_slice()),
+            (7, b"pppp\xaa".as_slice()),
             Ordering::Greater,
         ),
-        (7, b"z".as_slice(), 8, b"a".as_slice(), Ordering::Less),
-        (256, b"".as_slice(), 7, b"k".as_slice(), Ordering::Greater),
-        (7, b"k".as_slice(), 7, b"k".as_slice(), Ordering::Equal),
+        ((7, b"z".as_slice()), (8, b"a".as_slice()), Ordering::Less),
+        (
+            (256, b"".as_slice()),
+            (7, b"k".as_slice()),
+            Ordering::Greater,
+        ),
+        ((7, b"k".as_slice()), (7, b"k".as_slice()), Ordering::Equal),
     ] {
-        let key = StoredKey::new(rt.alloc(), tenant, user_key)?;
-        let other = StoredKey::new(rt.alloc(), other_tenant, other)?;
-        assert_eq!(rt; key.cmp(&other), order);
-        assert_eq!(rt; key == other, order == Ordering::Equal);
-        assert_eq!(rt; key < other, order == Ordering::Less);
+        assert_eq!(rt;
+            compared(&rt, rt.alloc(), key, other),
+            (order, order == Ordering::Equal, order == Ordering::Less)
+        );
     }
-    Ok(())
-}
-
-#[test]
-fn a_slice_that_is_full_stands_before_one_that_goes_on(rt: HostRuntime) {
     assert!(rt; Mark::Short(0).is_before(Mark::Short(8)));
-    assert!(rt; Mark::Short(8).is_before(Mark::Long));
-    assert!(rt; !Mark::Long.is_before(Mark::Short(8)));
+    assert!(rt; Mark::Short(8).is_before(Mark::Long) && !Mark::Long.is_before(Mark::Short(8)));
 }
