@@ -1,7 +1,9 @@
 pub mod Orders
 pub mod Edits
-pub mod Slots
+pub mod RowEdits
+pub mod Writes
 pub mod Cuts
+pub mod Counts
 pub mod Parts
 pub mod ContentsLists
 pub mod ContentsMaps

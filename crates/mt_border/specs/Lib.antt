@@ -1,5 +1,6 @@
 pub mod Entry
 pub mod Entries
+pub mod Rows
 pub mod Node
 pub mod Split
 pub mod Contents

@@ -12,14 +12,14 @@
 //! nodes and trees are the arena's.
 
 ghost use Rattle.std.specs.Prelude.{◌≡◌, ◌-◌, ◌<◌, ◌≤◌, ◌↔◌, ℕ, [], IsTrue, IsSome, IfSome, length, slice_get};
-ghost use Rattle.std.specs.Option.{option_copied};
+ghost use Rattle.std.specs.Option.{option_map};
 ghost use Rattle.mt_slices.specs.Marks.{IsMark};
 
-use crate::entry::{Entry, Find, Held, Pair};
+use crate::entry::{Entry, EntryRef, Find, Held, Pair};
 use crate::iter::Entries;
-use crate::places::{place_of, search};
-use crate::split::{count_below, move_tail, separator_of};
-use arrayvec::ArrayVec;
+use crate::places::{count_below, place_of, search};
+use crate::slots::Slots;
+use crate::split::separator_of;
 use mt_rows::Row;
 use mt_slices::Mark;
 use mt_version::Version;
@@ -29,20 +29,18 @@ use std::marker::Model;
 /// The number of slots of a border node.
 pub const SLOTS: usize = 15;
 
-/// The entries in the order of their keys.
-pub(crate) type Slots = ArrayVec<Entry, SLOTS, Global>;
-
 /// A border node of one tree, whose keys have slices from the low fence on and below the high one,
 /// which is missing where there is no end.
+// A reader takes the version before it searches, so that stands first, and the slices behind it.
 #[derive(Debug, Drop)]
 pub struct Border {
+    version: Version,
     slots: Slots,
     next: Option<usize>,
     previous: Option<usize>,
     parent: Option<usize>,
     low: u64,
     high: Option<u64>,
-    version: Version,
 }
 
 impl Model for Border {
@@ -52,7 +50,7 @@ impl Model for Border {
     ghost Value = { Node };
 
     ghost view = { λ b. record {
-      slots = b.slots.items;
+      slots = b.slots;
       next = b.next;
       previous = b.previous;
       parent = b.parent;
@@ -61,12 +59,13 @@ impl Model for Border {
       version = b.version;
     } };
 
-    ghost invariant = { λ b. IsBorder b.slots.items };
+    ghost invariant = { λ b. IsBorder b.slots };
 }
 
 impl Border {
     ghost use Rattle.mt_border.specs.declared.entry.Pair.{Pair};
     ghost use Rattle.mt_border.specs.Entry.{IsEntry, IsRest, IsStablePair, IsUnlinked, IsLinked};
+    ghost use Rattle.mt_border.specs.Rows.{entry_seen};
     ghost use Rattle.mt_border.specs.Entries.{IsBorder, IsMissing, with_entry, without};
     ghost use Rattle.mt_border.specs.Split.{IsCut, IsParted, IsSeparator, slices_with};
     ghost use Rattle.mt_border.specs.Node.{empty_node, entries_of, entry_at, held_at, IsLive, Finds, Rewrites};
@@ -76,13 +75,13 @@ impl Border {
         ensures { result ≡ empty_node low high version }
     {
         Border {
-            slots: ArrayVec::new_in(alloc),
+            version,
+            slots: Slots::new(alloc),
             next: None,
             previous: None,
             parent: None,
             low,
             high,
-            version,
         }
     }
 
@@ -97,7 +96,7 @@ impl Border {
     pub fn is_empty(&self) -> bool
         ensures { IsTrue result ↔ (entries_of self.now ≡ []) }
     {
-        self.slots.is_empty()
+        self.slots.len() == 0
     }
 
     /// Whether there is no room for one more key.
@@ -105,7 +104,7 @@ impl Border {
         ensures full { IsTrue result ↔ (length (entries_of self.now) ≡ SLOTS) }
         ensures within { length (entries_of self.now) ≤ SLOTS }
     {
-        self.slots.is_full()
+        self.slots.len() == SLOTS
     }
 
     /// Where the key with this slice, mark and suffix stands. An unstable pair is found as a pair.
@@ -115,7 +114,7 @@ impl Border {
         ensures { Finds self.now slice mark suffix.now result }
     {
         match search(&self.slots, slice, mark) {
-            Some(slot) => Find::Slot(slot, self.slots[slot].kind(suffix)),
+            Some(slot) => Find::Slot(slot, self.slots.entry(slot).kind(suffix)),
             None => Find::Missing,
         }
     }
@@ -125,29 +124,29 @@ impl Border {
         ensures live { IsSome result ↔ IsLive self.now slot }
         ensures value { IfSome result (λ held. held.now ≡ held_at self.now slot) }
     {
-        self.slots.get(slot).map(|entry| &entry.held)
+        self.slots.get(slot).map(|entry| entry.held)
     }
 
     /// The entries in the order of their keys.
     pub fn entries(&self) -> Entries<'_>
         ensures { result ≡ entries_of self.now }
     {
-        Entries { rest: &self.slots }
+        self.slots.entries()
     }
 
     /// The first entry in the order of keys.
-    pub fn first(&self) -> Option<&Entry>
-        ensures { option_copied result ≡ slice_get (entries_of self.now) 0 }
+    pub fn first(&self) -> Option<EntryRef<'_>>
+        ensures { option_map entry_seen result ≡ slice_get (entries_of self.now) 0 }
     {
-        self.slots.first()
+        self.slots.get(0)
     }
 
     /// The last entry in the order of keys.
-    pub fn last(&self) -> Option<&Entry>
+    pub fn last(&self) -> Option<EntryRef<'_>>
         ensures { let entries = entries_of self.now in
-            option_copied result ≡ slice_get entries (length entries - 1) }
+            option_map entry_seen result ≡ slice_get entries (length entries - 1) }
     {
-        self.slots.last()
+        self.slots.get(self.slots.len().saturating_sub(1))
     }
 
     /// Makes one more key live.
@@ -173,8 +172,8 @@ impl Border {
             Rewrites self.old self.new slot
             (Held.Stable (record pair { row = row; stamp = stamp })) }
     {
-        let entry = &mut self.slots[slot];
-        entry.held.put_row(row, stamp)
+        let slots = &mut self.slots;
+        slots.helds[slot].put_row(row, stamp)
     }
 
     /// Makes the pair of a longer key unstable, for which a tree of its own is made.
@@ -185,8 +184,8 @@ impl Border {
         ensures { (pair : Pair) → held_at self.old slot ≡ Held.Stable pair →
             Rewrites self.old self.new slot (Held.Unstable pair None) }
     {
-        let entry = &mut self.slots[slot];
-        entry.held.unsettle();
+        let slots = &mut self.slots;
+        slots.helds[slot].unsettle();
     }
 
     /// Writes the number of its tree beside an unstable pair.
@@ -196,8 +195,8 @@ impl Border {
         ensures { (pair : Pair) → held_at self.old slot ≡ Held.Unstable pair None →
             Rewrites self.old self.new slot (Held.Unstable pair (Some tree)) }
     {
-        let entry = &mut self.slots[slot];
-        entry.held.put_tree(tree);
+        let slots = &mut self.slots;
+        slots.helds[slot].put_tree(tree);
     }
 
     /// Makes the slot of an unstable pair a link to its tree, and gives the pair back, which stands
@@ -211,8 +210,8 @@ impl Border {
             held_at self.old slot ≡ Held.Unstable pair (Some tree) →
             Rewrites self.old self.new slot (Held.Link tree) }
     {
-        let entry = &mut self.slots[slot];
-        entry.held.become_link()
+        let slots = &mut self.slots;
+        slots.helds[slot].become_link()
     }
 
     /// Takes a key or a link out, and gives its entry back.
@@ -252,8 +251,8 @@ impl Border {
         ensures others_on_the_right { right.new ≡ record right.old { slots = right.new.slots } }
     {
         let separator = self.separator(slice, mark);
-        let keep = count_below(&self.slots, separator);
-        move_tail(&mut self.slots, keep, &mut right.slots);
+        let keep = count_below(self.slots.slices(), separator);
+        self.slots.move_tail(keep, &mut right.slots);
         separator
     }
 

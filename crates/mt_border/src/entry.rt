@@ -3,7 +3,7 @@
 //! An entry is plain data, made by whoever fills a slot; what it has to keep, `IsEntry`, is asked
 //! for where it enters a node. It owns its suffix, which lies on the heap, and a share of its row.
 
-ghost use Rattle.std.specs.Prelude.{◌≡◌, ◌<◌, ◌↔◌, ℕ, IsTrue};
+ghost use Rattle.std.specs.Prelude.{◌≡◌, ◌↔◌, ℕ, IsTrue};
 
 use mt_rows::Row;
 use mt_slices::Mark;
@@ -70,14 +70,55 @@ pub struct Entry {
     pub held: Held,
 }
 
+/// An entry where it stands in a node.
+#[derive(Clone, Copy, Debug)]
+pub struct EntryRef<'a> {
+    pub slice: u64,
+    pub mark: Mark,
+    pub held: &'a Held,
+}
+
 // What lies in the places that no slot uses. No contract sees it.
-impl MadeWith<Global> for Entry {
-    fn made_with(_: Global) -> Entry {
-        Entry {
-            slice: 0,
-            mark: Mark::Long,
-            held: Held::Link(0),
-        }
+impl MadeWith<Global> for Held {
+    fn made_with(_: Global) -> Held {
+        Held::Link(0)
+    }
+}
+
+/// The mark of a slot.
+#[derive(Clone, Copy, Debug)]
+pub(crate) struct SlotMark {
+    mark: Mark,
+}
+
+impl Model for SlotMark {
+    ghost use Rattle.mt_slices.specs.declared.mark.Mark.{Mark};
+
+    ghost Value = { Mark };
+
+    ghost view = { λ m. m.mark };
+
+    ghost inverse = { λ mark. record { mark = mark } };
+}
+
+impl SlotMark {
+    pub(crate) fn new(mark: Mark) -> Self
+        ensures { result ≡ mark }
+    {
+        SlotMark { mark }
+    }
+
+    pub(crate) fn get(self) -> Mark
+        ensures { result ≡ self }
+    {
+        self.mark
+    }
+}
+
+// What lies in the places that no slot uses. No contract sees it.
+impl Default for SlotMark {
+    fn default() -> SlotMark {
+        SlotMark { mark: Mark::Long }
     }
 }
 
@@ -104,31 +145,23 @@ pub enum Find {
     Slot(usize, FoundKind),
 }
 
-impl Entry {
-    ghost use Rattle.mt_slices.specs.Marks.{IsMark};
-    ghost use Rattle.mt_border.specs.Entry.{order_of, order_at, IsKind, IsEntry, IsRest};
+impl<'a> EntryRef<'a> {
+    ghost use Rattle.mt_border.specs.Entry.{IsKind, IsEntry, IsRest};
+    ghost use Rattle.mt_border.specs.Rows.{entry_seen};
 
-    pub(crate) fn has(&self, slice: u64, mark: Mark) -> bool
-        ensures { IsTrue result ↔ ((self.now.slice ≡ slice) × (self.now.mark ≡ mark)) }
+    pub(crate) fn has(self, slice: u64, mark: Mark) -> bool
+        ensures { IsTrue result ↔ ((self.entry.slice ≡ slice) × (self.entry.mark ≡ mark)) }
     {
         self.slice == slice && self.mark == mark
     }
 
-    pub(crate) fn is_before(&self, slice: u64, mark: Mark) -> bool
-        requires this { IsMark self.now.mark }
-        requires that { IsMark mark }
-        ensures { IsTrue result ↔ (order_of self.now < order_at slice mark) }
-    {
-        self.slice < slice || (self.slice == slice && self.mark.is_before(mark))
-    }
-
     /// What the entry holds of the key that has its slice and mark, and this suffix.
-    pub(crate) fn kind(&self, suffix: &[u8]) -> FoundKind
-        requires entry { IsEntry self.now }
-        requires rest { IsRest self.now.mark suffix.now }
-        ensures { IsKind self.now suffix.now result }
+    pub(crate) fn kind(self, suffix: &[u8]) -> FoundKind
+        requires entry { IsEntry (entry_seen self) }
+        requires rest { IsRest self.mark suffix.now }
+        ensures { IsKind (entry_seen self.entry) suffix.now result }
     {
-        match &self.held {
+        match self.held {
             Held::Link(_) => FoundKind::Link,
             Held::Stable(pair) | Held::Unstable(pair, _) => {
                 if pair.suffix.as_bytes() == suffix {

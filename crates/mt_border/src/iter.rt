@@ -1,35 +1,49 @@
 //! The entries of a border node, one after the other in the order of their keys.
 
-ghost use Rattle.std.specs.Iterator.{YieldsFirstRef, item_count};
+ghost use Rattle.std.specs.Iterator.{YieldsFirstBy, item_count};
+ghost use Rattle.mt_border.specs.Rows.{entry_seen};
 
-use crate::entry::Entry;
+use crate::entry::{EntryRef, Held, SlotMark};
 use std::marker::Model;
 
 /// The entries of a node, seen as the list of those that are left.
 #[derive(Drop)]
 pub struct Entries<'a> {
-    pub(crate) rest: &'a [Entry],
+    pub(crate) slices: &'a [u64],
+    pub(crate) marks: &'a [SlotMark],
+    pub(crate) helds: &'a [Held],
 }
 
 impl<'a> Model for Entries<'a> {
     ghost use Rattle.std.specs.Prelude.{List};
     ghost use Rattle.mt_border.specs.declared.entry.Entry.{Entry};
+    ghost use Rattle.mt_border.specs.Rows.{entries_in, AreRows};
 
     ghost Value = { List Entry };
 
-    ghost view = { λ it. it.rest.now };
+    ghost view = { λ it. entries_in it.slices.now it.marks.now it.helds.now };
+
+    ghost invariant = { λ it. AreRows it.slices.now it.marks.now it.helds.now };
 }
 
 impl<'a> Iterator for Entries<'a> {
-    type Item = &'a Entry;
+    type Item = EntryRef<'a>;
 
-    ghost next_gives = { YieldsFirstRef (λ rest. rest) };
+    ghost next_gives = { YieldsFirstBy entry_seen (λ rest. rest) };
 
     ghost remaining = { item_count (λ rest. rest) };
 
-    fn next(&mut self) -> Option<&'a Entry> {
-        let (first, rest) = self.rest.split_first()?;
-        self.rest = rest;
-        Some(first)
+    fn next(&mut self) -> Option<EntryRef<'a>> {
+        let (slice, slices) = self.slices.split_first()?;
+        let (mark, marks) = self.marks.split_first()?;
+        let (held, helds) = self.helds.split_first()?;
+        self.slices = slices;
+        self.marks = marks;
+        self.helds = helds;
+        Some(EntryRef {
+            slice: *slice,
+            mark: mark.get(),
+            held,
+        })
     }
 }

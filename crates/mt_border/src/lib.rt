@@ -16,8 +16,9 @@ pub mod entry;
 mod iter;
 pub mod laws;
 mod places;
+mod slots;
 mod split;
 
 pub use border::{Border, SLOTS};
-pub use entry::{Entry, Find, FoundKind, Held, Pair, Suffix};
+pub use entry::{Entry, EntryRef, Find, FoundKind, Held, Pair, Suffix};
 pub use iter::Entries;

@@ -1,37 +1,53 @@
 //! Where a key stands, or would stand, among entries in the order of their keys.
 
-ghost use Rattle.std.specs.Prelude.{◌≡◌, ◌≤◌, IfNone, IfSome, length};
+ghost use Rattle.std.specs.Prelude.{◌≡◌, ℕ, ◌<◌, ◌≤◌, IfNone, IfSome, length, slice_index};
 ghost use Rattle.mt_slices.specs.Marks.{IsMark};
 ghost use Rattle.mt_border.specs.Entry.{order_at};
 ghost use Rattle.mt_border.specs.Entries.{IsAt, IsBorder, IsMissing, place_in};
 
-use crate::entry::Entry;
+use crate::slots::Slots;
 use mt_slices::Mark;
 
-/// How many entries stand before the slice and the mark.
-pub(crate) fn place_of(entries: &[Entry], slice: u64, mark: Mark) -> usize
-    requires border { IsBorder entries.now }
-    requires mark { IsMark mark }
-    ensures place { result ≡ place_in entries.now (order_at slice mark) }
-    ensures within { result ≤ length entries.now }
+/// How many slices are below one, where they do not fall.
+pub(crate) fn count_below(slices: &[u64], slice: u64) -> usize
+    ensures within { result ≤ length slices.now }
+    ensures below { (k : ℕ) → k < result → slice_index slices.now k < slice }
+    ensures above { result < length slices.now → slice ≤ slice_index slices.now result }
 {
-    for (place, entry) in entries.iter().enumerate() {
-        if !entry.is_before(slice, mark) {
+    for (place, own) in slices.iter().enumerate() {
+        if *own >= slice {
             return place;
         }
     }
-    entries.len()
+    slices.len()
+}
+
+/// How many entries stand before the slice and the mark.
+pub(crate) fn place_of(slots: &Slots, slice: u64, mark: Mark) -> usize
+    requires border { IsBorder slots.now }
+    requires mark { IsMark mark }
+    ensures place { result ≡ place_in slots.now (order_at slice mark) }
+    ensures within { result ≤ length slots.now }
+{
+    let slices = slots.slices();
+    let marks = slots.marks();
+    for place in count_below(slices, slice)..slices.len() {
+        if slices[place] != slice || !marks[place].get().is_before(mark) {
+            return place;
+        }
+    }
+    slices.len()
 }
 
 /// The place of the entry that has the slice and the mark.
-pub(crate) fn search(entries: &[Entry], slice: u64, mark: Mark) -> Option<usize>
-    requires border { IsBorder entries.now }
+pub(crate) fn search(slots: &Slots, slice: u64, mark: Mark) -> Option<usize>
+    requires border { IsBorder slots.now }
     requires mark { IsMark mark }
-    ensures found { IfSome result (λ place. IsAt entries.now slice mark place) }
-    ensures missing { IfNone result (IsMissing entries.now slice mark) }
+    ensures found { IfSome result (λ place. IsAt slots.now slice mark place) }
+    ensures missing { IfNone result (IsMissing slots.now slice mark) }
 {
-    let place = place_of(entries, slice, mark);
-    if place < entries.len() && entries[place].has(slice, mark) {
+    let place = place_of(slots, slice, mark);
+    if place < slots.len() && slots.entry(place).has(slice, mark) {
         Some(place)
     } else {
         None

@@ -4,13 +4,14 @@
 //! where there are any the first and the last one as slice, colon and mark.
 
 ghost use Rattle.std.specs.Prelude.{◌≡◌};
-ghost use Rattle.std.specs.Option.{option_map, option_copied};
+ghost use Rattle.std.specs.Option.{option_map};
 ghost use Rattle.mt_border.specs.Node.{entries_of};
+ghost use Rattle.mt_border.specs.Rows.{entry_seen};
 ghost use Rattle.mt_core.specs.Shapes.{edge_in, line_in, line_of as line_shown};
 ghost use Rattle.mt_state.specs.Invariant.{IsOneBorder};
 
 use mt_arena::Arena;
-use mt_border::{Border, Entry, Held};
+use mt_border::{Border, EntryRef, Held};
 use mt_slices::Mark;
 use std::fmt;
 
@@ -90,14 +91,14 @@ fn line_of(border: &Border) -> ShapeLine
 }
 
 // An entry, as it is printed.
-fn edge_of(entry: Option<&Entry>) -> Option<Edge>
-    ensures { result ≡ option_map edge_in (option_copied entry.entry) }
+fn edge_of(entry: Option<EntryRef<'_>>) -> Option<Edge>
+    ensures { result ≡ option_map edge_in (option_map entry_seen entry.entry) }
 {
     match entry {
         Some(entry) => Some(Edge {
             slice: entry.slice,
             mark: entry.mark,
-            is_link: matches!(&entry.held, Held::Link(_)),
+            is_link: matches!(entry.held, Held::Link(_)),
         }),
         None => None,
     }

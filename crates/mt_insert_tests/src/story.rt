@@ -198,7 +198,7 @@ fn root_of(arena: &Arena) -> Option<&Border> {
 
 // The stamp of the root's first pair, and the first byte of its row.
 fn first_pair(arena: &Arena) -> Option<(u64, u8)> {
-    match &root_of(arena)?.first()?.held {
+    match root_of(arena)?.first()?.held {
         Held::Stable(pair) => {
             let column = pair.row.columns().first()?;
             Some((pair.stamp, *column.as_bytes().first()?))

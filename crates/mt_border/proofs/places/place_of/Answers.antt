@@ -1,19 +1,53 @@
 -- the first entry that is not before the key stands at its place
-use Rattle.std.proofs.Common.{length, arith, below_more}
+use Rattle.std.proofs.Common.{◌≡◌, ◌≢◌, ◌<◌, ◌≤◌, length, get_or, arith, ap, ◌∙◌, below_more}
 use Rattle.std.proofs.lemmas.Bool.Decides.{nat_tests}
-use Rattle.mt_border.proofs.Edits.{orders_read, place_in-is}
+use Rattle.std.proofs.lemmas.List.{length-map}
+use Rattle.mt_slices.specs.Marks.{mark_rank}
+use Rattle.mt_border.specs.declared.entry.Entry.{Entry}
+use Rattle.mt_border.specs.Entries.{slices}
+use Rattle.mt_border.proofs.Edits.{place_in-is}
+use Rattle.mt_border.proofs.Cuts.{marks_of}
+use Rattle.mt_border.proofs.Counts.{mark_read, lower_slices, other_slice, lower_mark, other_mark}
 use Rattle.mt_border.proofs.places.place_of.Goals as goal
+use Rattle.mt_border.proofs.places.place_of.Goals.{then-slices-place-via-then-slices-place, then-slices-place-via-else-slices-place+then-not-is_before}
 
-pub returns-then-not-is_before-clause-place : goal.returns-then-not-is_before-clause-place
-returns-then-not-is_before-clause-place c =
-    let here = orders_read c.args.entries.now c.loop-place.place c.index-entries-place.result c.loop-place-test.true c.index-entries-place.is in
-    place_in-is _ _ c.loop-place.place (omega arith) c.loop-place.invariant (λ _. rw here (grind (arith, nat_tests)))
+pub loop-place-init : goal.loop-place-init
+loop-place-init c =
+    let es = c.args.slots.now in
+    let count = rw c.slices-slices.ensures at c.count_below-place.ensures in
+    let size = length-map es (λ (e : Entry). e.slice) in
+    lower_slices es c.args.slice _ c.args.mark c.requires.border (omega (arith, count.within, size)) count.below
+
+pub is_before-requires-clause-this : goal.is_before-requires-clause-this
+is_before-requires-clause-this c =
+    let es = c.args.slots.now in
+    let size = length-map es (λ (e : Entry). e.slice) in
+    let within : c.loop-place.place < length es = omega (arith, ap length c.slices-slices.ensures, c.loop-place-test.true, size) in
+    mark_read es c.loop-place.place c.get.result (marks_of es c.requires.border) within (rw (c.get.ensures, ← c.marks-marks.ensures) c.index-marks-place.is)
+
+pub returns-then-slices-place-clause-place : goal.returns-then-slices-place-clause-place
+returns-then-slices-place-clause-place c =
+    let es = c.args.slots.now in
+    let count = rw c.slices-slices.ensures at c.count_below-place.ensures in
+    let size = length-map es (λ (e : Entry). e.slice) in
+    let within : c.loop-place.place < length es = omega (arith, ap length c.slices-slices.ensures, c.loop-place-test.true, size) in
+    place_in-is _ _ c.loop-place.place (omega (arith, within)) c.loop-place.invariant (λ _. elim c.then-slices-place.branch [
+      | then-slices-place-via-then-slices-place w ↦
+          other_slice es c.args.slice c.count_below-place.result c.loop-place.place c.args.mark c.requires.border c.requires.mark (λ lt. count.above (omega (arith, lt, size))) c.loop-place.auto.place within (rw (← c.slices-slices.ensures) w.if-slices-place.true)
+      | then-slices-place-via-else-slices-place+then-not-is_before w ↦
+          other_mark es c.args.slice c.loop-place.place c.args.mark w.get.result within (rw (← c.slices-slices.ensures) w.if-slices-place.false) (rw (w.get.ensures, ← c.marks-marks.ensures) w.index-marks-place.is) (grind (arith, nat_tests))
+    ])
 
 pub loop-place-preserved : goal.loop-place-preserved
 loop-place-preserved c =
-    let here = orders_read c.args.entries.now c.loop-place.place c.index-entries-place.result c.loop-place-test.true c.index-entries-place.is in
-    below_more _ _ c.loop-place.invariant (rw here (grind (arith, nat_tests)))
+    let es = c.args.slots.now in
+    let size = length-map es (λ (e : Entry). e.slice) in
+    let within : c.loop-place.place < length es = omega (arith, ap length c.slices-slices.ensures, c.loop-place-test.true, size) in
+    below_more _ _ c.loop-place.invariant (lower_mark es c.args.slice c.loop-place.place c.args.mark c.get.result within (rw (← c.slices-slices.ensures) c.if-slices-place.false) (rw (c.get.ensures, ← c.marks-marks.ensures) c.index-marks-place.is) (grind (arith, nat_tests)))
 
 pub returns-clause-place : goal.returns-clause-place
 returns-clause-place c =
-    place_in-is _ _ (length c.args.entries.now) (omega arith) (λ k lt. c.loop-place.invariant k (omega arith)) (λ lt. absurd (omega arith))
+    let es = c.args.slots.now in
+    let size = length-map es (λ (e : Entry). e.slice) in
+    let whole = ap length c.slices-slices.ensures in
+    place_in-is es _ (length c.slices-slices.result.now) (omega (arith, whole, size)) (λ k lt. c.loop-place.invariant k (omega (arith, lt, c.loop-place-test.false))) (λ lt. absurd (omega (arith, lt, whole, size)))

@@ -5,4 +5,4 @@ use Rattle.mt_border.specs.Entries.{orders}
 use Rattle.mt_border.proofs.places.place_of.Given as goal
 
 abbrev pub invariant-loop-place : goal.invariant-loop-place
-invariant-loop-place l = (k : ℕ) → k < l.place → get_or (orders l.entries) k 0 < order_at l.slice l.mark
+invariant-loop-place l = (k : ℕ) → k < l.place → get_or (orders l.slots) k 0 < order_at l.slice l.mark

@@ -3,5 +3,5 @@ use Rattle.std.proofs.Common.{◌≡◌, take}
 use Rattle.mt_border.specs.Entries.{slices}
 use Rattle.mt_border.proofs.split.separator_of.Given as goal
 
-abbrev pub invariant-loop-entry : goal.invariant-loop-entry
-invariant-loop-entry l = l.slices.items ≡ take l.entry-index (slices l.entries)
+abbrev pub invariant-loop-own : goal.invariant-loop-own
+invariant-loop-own l = l.slices.items ≡ take l.own-index (slices l.slots)

@@ -6,11 +6,11 @@ use Rattle.mt_border.proofs.border.Border.drop_key.Goals as goal
 
 pub invariant_of-self : goal.invariant_of-self
 invariant_of-self c =
-    let within : c.args.slot < length c.self.inside.slots.items = rw (ap entries_of c.self.view_is) c.requires in
-    rw c.remove.ensures.items (border_remove _ _ c.self.invariant (omega (arith, within)))
+    let within : c.args.slot < length c.self.inside.slots = rw (ap entries_of c.self.view_is) c.requires in
+    rw c.remove.ensures.entries (border_remove _ _ c.self.invariant (omega (arith, within)))
 
 pub returns-clause-entries : goal.returns-clause-entries
 returns-clause-entries c =
-    let within : c.args.slot < length c.self.inside.slots.items = rw (ap entries_of c.self.view_is) c.requires in
-    rw (← c.self.view_is, c.remove.ensures.items)
+    let within : c.args.slot < length c.self.inside.slots = rw (ap entries_of c.self.view_is) c.requires in
+    rw (← c.self.view_is, c.remove.ensures.entries)
     (sym (without_at _ _ c.remove.result c.self.invariant.rising (omega (arith, within)) c.remove.ensures.value))

@@ -1,18 +1,31 @@
 -- the entries stay in order, and the slot alone changes: its pair is unstable
-use Rattle.std.proofs.Common.{◌<◌, length, ap}
+use Rattle.std.proofs.Common.{◌<◌, length, ap, ◌∙◌}
 use Rattle.mt_border.specs.Node.{entries_of}
-use Rattle.mt_border.proofs.Slots.{read_mark, read_held, border_written, rewrites_written}
+use Rattle.mt_border.proofs.Writes.{slot_within, held_is, border_written, rewrites_written}
 use Rattle.mt_border.proofs.border.Border.mark_unstable.Goals as goal
+
+pub bounds-deref_mut-slot : goal.bounds-deref_mut-slot
+bounds-deref_mut-slot c =
+    let within : c.args.slot < length c.self.inside.slots = rw (ap entries_of c.self.view_is) c.requires.live in
+    slot_within _ _ _ _ _ c.args.slot c.slots.invariant c.slots.view_is c.deref_mut.ensures.value within
+
+pub unsettle-requires : goal.unsettle-requires
+unsettle-requires c =
+    let within : c.args.slot < length c.self.inside.slots = rw (ap entries_of c.self.view_is) c.requires.live in
+    rw (held_is _ _ _ _ _ c.args.slot c.slots.invariant c.slots.view_is c.deref_mut.ensures.value within _)
+    (rw (← c.self.view_is) at c.requires.stable)
 
 pub invariant_of-self : goal.invariant_of-self
 invariant_of-self c =
-    let within : c.args.slot < length c.self.inside.slots.items = rw (ap entries_of c.self.view_is) c.requires.live in
+    let within : c.args.slot < length c.self.inside.slots = rw (ap entries_of c.self.view_is) c.requires.live in
     let long = rw (← c.self.view_is) at c.requires.long in
-    border_written _ _ c.args.slot _ _ c.deref_mut.ensures.value c.self.invariant within (c.unsettle.ensures.fits _ (read_mark _ _ c.args.slot _ _ c.deref_mut.ensures.value within long))
+    border_written _ _ _ _ _ c.args.slot c.slots.invariant c.slots.view_is c.deref_mut.ensures.value within _ _ c.self.invariant (c.unsettle.ensures.fits _ long)
 
 pub returns : goal.returns
 returns c = λ pair stable.
-    let within : c.args.slot < length c.self.inside.slots.items = rw (ap entries_of c.self.view_is) c.requires.live in
+    let within : c.args.slot < length c.self.inside.slots = rw (ap entries_of c.self.view_is) c.requires.live in
+    let here = held_is _ _ _ _ _ c.args.slot c.slots.invariant c.slots.view_is c.deref_mut.ensures.value within _ in
     let was = rw (← c.self.view_is) at stable in
-    let now = c.unsettle.ensures.held pair (read_held _ _ c.args.slot _ _ c.deref_mut.ensures.value within was) in
-    rw (← c.self.view_is, ← now) (rewrites_written _ _ c.args.slot _ _ c.deref_mut.ensures.value c.self.invariant within)
+    let now = c.unsettle.ensures.held pair (here ∙ was) in
+    rw (← c.self.view_is, ← now)
+    (rewrites_written _ _ _ _ _ c.args.slot _ c.slots.invariant c.slots.view_is c.deref_mut.ensures.value c.self.invariant within)

@@ -1,6 +1,7 @@
 -- each side is a part of the entries, cut where their slices reach the separator
 use Rattle.std.proofs.Common.{◌≡◌, length, ap, arith}
-use Rattle.std.proofs.lemmas.List.{length-take, length-drop}
+use Rattle.std.proofs.lemmas.List.{length-take, length-drop, length-map}
+use Rattle.mt_border.specs.declared.entry.Entry.{Entry}
 use Rattle.mt_border.specs.Entries.{IsMissing}
 use Rattle.mt_border.specs.Node.{entries_of}
 use Rattle.mt_border.proofs.Edits.{border_take, border_drop}
@@ -10,34 +11,38 @@ use Rattle.mt_border.proofs.border.Border.split_without.Goals as goal
 
 pub invariant_of-self : goal.invariant_of-self
 invariant_of-self c =
-    let count = rw c.deref.ensures.0 at c.count_below-keep.ensures in
-    rw c.move_tail.ensures.kept (border_take _ c.count_below-keep.result c.self.invariant.rising c.self.invariant.each (omega (arith, count.within, c.self.invariant.within)))
+    let count = rw c.slices.ensures at c.count_below-keep.ensures in
+    let size = length-map c.self.inside.slots (λ (e : Entry). e.slice) in
+    rw c.move_tail.ensures.kept (border_take _ c.count_below-keep.result c.self.invariant.rising c.self.invariant.each (omega (arith, count.within, size, c.self.invariant.within)))
 
 pub invariant_of-right : goal.invariant_of-right
 invariant_of-right c = rw c.move_tail.ensures.moved (border_drop _ c.count_below-keep.result c.self.invariant.rising c.self.invariant.each (omega (arith, c.self.invariant.within)))
 
 pub returns-clause-parted : goal.returns-clause-parted
 returns-clause-parted c =
-    let count = rw c.deref.ensures.0 at c.count_below-keep.ensures in
+    let es = c.self.inside.slots in
+    let count = rw c.slices.ensures at c.count_below-keep.ensures in
+    let size = length-map es (λ (e : Entry). e.slice) in
     rw (← c.self.view_is, c.move_tail.ensures.kept, c.move_tail.ensures.moved)
-    (parted_at _ _ c.count_below-keep.result c.self.invariant.rising (marks_of _ c.self.invariant) count.within count.below count.above)
+    (parted_at es _ c.count_below-keep.result c.self.invariant.rising (marks_of _ c.self.invariant) (omega (arith, count.within, size)) count.below (λ lt. count.above (omega (arith, lt, size))))
 
 pub returns-clause-two_on_the_left : goal.returns-clause-two_on_the_left
 returns-clause-two_on_the_left c =
-    let es = c.self.inside.slots.items in
+    let es = c.self.inside.slots in
     let entries_are = ap entries_of c.self.view_is in
-    let count = rw c.deref.ensures.0 at c.count_below-keep.ensures in
+    let count = rw c.slices.ensures at c.count_below-keep.ensures in
+    let size = length-map es (λ (e : Entry). e.slice) in
     let full : length es ≡ 15 = rw entries_are c.requires.full in
     let missing : IsMissing es c.args.slice c.args.mark = rw entries_are c.requires.missing in
     let separator = rw (← entries_are) at c.separator-separator.ensures in
-    let keep = least_left es c.args.slice c.args.mark c.self.invariant c.requires.mark missing full _ _ separator count.above in
-    rw c.move_tail.ensures.kept (omega (arith, length-take c.count_below-keep.result es, keep, count.within))
+    let keep = least_left es c.args.slice c.args.mark c.self.invariant c.requires.mark missing full _ _ separator (λ lt. count.above (omega (arith, lt, size))) in
+    rw c.move_tail.ensures.kept (omega (arith, length-take c.count_below-keep.result es, keep, count.within, size))
 
 pub returns-clause-two_on_the_right : goal.returns-clause-two_on_the_right
 returns-clause-two_on_the_right c =
-    let es = c.self.inside.slots.items in
+    let es = c.self.inside.slots in
     let entries_are = ap entries_of c.self.view_is in
-    let count = rw c.deref.ensures.0 at c.count_below-keep.ensures in
+    let count = rw c.slices.ensures at c.count_below-keep.ensures in
     let full : length es ≡ 15 = rw entries_are c.requires.full in
     let missing : IsMissing es c.args.slice c.args.mark = rw entries_are c.requires.missing in
     let separator = rw (← entries_are) at c.separator-separator.ensures in
