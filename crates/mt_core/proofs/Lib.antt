@@ -1,0 +1,2 @@
+pub mod EventNames
+pub mod EventRuns
