@@ -1,2 +1,3 @@
 pub mod EventNames
 pub mod EventRuns
+pub mod NextSteps
