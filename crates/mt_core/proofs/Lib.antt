@@ -1,3 +1,4 @@
 pub mod EventNames
 pub mod EventRuns
 pub mod NextSteps
+pub mod AloneRuns
