@@ -175,7 +175,8 @@ after_unlock : (p : Phase) → MayFollow Unlock p → p ≡ Done
 after_unlock Done follows = refl
 after_unlock _ follows = absurd follows
 
-enters_or : (p : Phase) → (p ≡ Enter) ⊎ (p ≢ Enter)
+-- an operation is at Enter, or not
+pub enters_or : (p : Phase) → (p ≡ Enter) ⊎ (p ≢ Enter)
 enters_or Enter = inl refl
 enters_or Pick = inr (λ e. cc)
 enters_or Child = inr (λ e. cc)

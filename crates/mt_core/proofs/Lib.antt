@@ -2,3 +2,4 @@ pub mod EventNames
 pub mod EventRuns
 pub mod NextSteps
 pub mod AloneRuns
+pub mod FreshSteps
