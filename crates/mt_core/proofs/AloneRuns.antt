@@ -48,7 +48,7 @@ done_is Done e = refl
 done_is _ e = absurd (cc)
 
 -- the operation once it has made the step
-stepped : (v w : StateView) (o : ℕ) (done : Bool) (s : IsStep v w o done) → op_at w.table o ≡ Some s.after
+pub stepped : (v w : StateView) (o : ℕ) (done : Bool) (s : IsStep v w o done) → op_at w.table o ≡ Some s.after
 stepped v w o done s = ap (λ (t : Shown). op_at t o) s.table ∙ set_is v.table o s.after s.before s.there
 
 -- who is in the way of a step holds a node

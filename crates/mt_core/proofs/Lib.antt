@@ -3,3 +3,5 @@ pub mod EventRuns
 pub mod NextSteps
 pub mod AloneRuns
 pub mod FreshSteps
+pub mod StraightSteps
+pub mod FreshNode
