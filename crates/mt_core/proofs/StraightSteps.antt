@@ -1,5 +1,5 @@
 -- No step leads an operation back that went straight so far, phase by phase: what `run_alone` needs of each step, where all operations are fresh.
-use Rattle.std.proofs.Common.{◌≡◌, ℕ, ◌⊎◌, inl, inr, Bool, true, false, Some, refl, sym, ap, subst, ◌∙◌}
+use Rattle.std.proofs.Common.{◌≡◌, ℕ, ◌⊎◌, inl, inr, Bool, true, false, Some, refl, sym, ap, subst, ◌∙◌, arith}
 use Rattle.std.proofs.lemmas.Option.{same_Some}
 use Rattle.mt_arena.specs.NodeView.{NodeView}
 use Rattle.mt_arena.specs.Arena.{ArenaView}
@@ -69,3 +69,7 @@ enter_never p q writes is arrives = leads_nowhere p q Enter (arrival writes) is 
     by : (b : Bool) → LeadsBack Enter (arrival b) → ⊥
     by true back = back
     by false back = back
+
+-- where no step was made
+pub unmoved_stays : (v : StateView) (o : ℕ) → StaysStraight v v o
+unmoved_stays v o s gone back = omega (arith, s.number)

@@ -7,6 +7,7 @@ use Rattle.mt_operation.specs.declared.operation.Operation.{Operation}
 use Rattle.mt_operation.specs.Operations.{view_of}
 use Rattle.mt_operation.specs.Tables.{op_at as operation_at}
 use Rattle.mt_state.specs.Views.{Core}
+use Rattle.mt_state.specs.Invariant.{StateInvariant}
 use Rattle.mt_core.specs.Alone.{steps_to, IsStraight}
 
 -- a phase from which the remembered version is compared with the node's, at once or later
@@ -25,3 +26,8 @@ pub record IsFresh (c : Core) (op : Operation) : Type 0 where
 -- every operation is so
 abbrev pub AreFresh : Core → Type 0
 AreFresh c = (o : ℕ) (op : Operation) → operation_at c.table o ≡ Some op → IsFresh c op
+
+-- the invariant of a state by which no step leads an operation back that went straight
+pub record IsState (c : Core) : Type 0 where
+  pub state : StateInvariant c
+  pub fresh : AreFresh c

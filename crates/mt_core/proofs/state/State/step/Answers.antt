@@ -4,14 +4,18 @@ use Rattle.mt_state.specs.Ways.{IsDescent}
 use Rattle.mt_operation.specs.declared.walk.Phase.TheVariants.{Search, Load, Confirm, Lock, Judge, Store, Publish, Unlock}
 use Rattle.mt_core.specs.States.{core_of}
 use Rattle.mt_core.proofs.NextSteps.{next_left, next_at, next_is, descends}
+use Rattle.mt_core.proofs.StraightSteps.{unmoved_stays}
 use Rattle.mt_core.proofs.state.State.step.Goals as goal
 
 pub returns-then-self-ge-MAX_STEPS : goal.returns-then-self-ge-MAX_STEPS
-returns-then-self-ge-MAX_STEPS c = (
+returns-then-self-ge-MAX_STEPS c = record {
+  tells = (
   refl,
   next_left (core_of c.self.inside) c.args.self.now c.args.ticket.now.id c.self.view_is c.next_phase.result c.in-Some.phase c.next_phase.ensures c.in-Some.is,
   sym (ap (λ (v : StateView). v.steps) c.self.view_is) ∙ omega (arith, c.if-self-ge-MAX_STEPS.true, c.self.invariant.few),
-)
+);
+  straight = unmoved_stays c.args.self.now c.args.ticket.now.id;
+}
 
 pub descend-requires-clause-next : goal.descend-requires-clause-next
 descend-requires-clause-next c = next_at (core_of c.self.inside) c.args.self.now c.args.ticket.now.id c.self.view_is c.next_phase.result c.in-Some.phase c.next_phase.ensures c.in-Some.is IsDescent (descends c.in-Some.phase c.in-Enter.is)
