@@ -73,3 +73,9 @@ enter_never p q writes is arrives = leads_nowhere p q Enter (arrival writes) is 
 -- where no step was made
 pub unmoved_stays : (v : StateView) (o : ℕ) → StaysStraight v v o
 unmoved_stays v o s gone back = omega (arith, s.number)
+
+-- where the step that was made ended the operation
+pub done_stays : (old new : StateView) (o : ℕ) → IsStep old new o true → StaysStraight old new o
+done_stays old new o t s gone back =
+    let same : s.after ≡ t.after = same_Some s.after t.after (sym (stepped old new o false s) ∙ stepped old new o true t) in
+    absurd (let no = s.ends ∙ ap (λ (op : OperationView). is_done op.phase) same ∙ sym t.ends in cc)
