@@ -12,3 +12,10 @@ pub mod Causes
 pub mod Refusing
 pub mod Righting
 pub mod Texts
+pub mod EventNames
+pub mod EventRuns
+pub mod NextSteps
+pub mod AloneRuns
+pub mod FreshSteps
+pub mod StraightSteps
+pub mod FreshNode

@@ -1,13 +1,14 @@
 -- A run of steps of one operation, and how it ends where no other operation is in its way.
-use Rattle.std.specs.Prelude.{◌≡◌, ◌≢◌, ℕ, zero, suc, ◌+◌, ◌*◌, ◌^◌, ◌<◌, ◌≤◌, ◌⊎◌, true, false, Some, None, length}
+use Rattle.std.specs.Prelude.{◌≡◌, ◌≢◌, ℕ, zero, suc, ◌+◌, ◌*◌, ◌^◌, ◌<◌, ◌≤◌, ◌⊎◌, Bool, true, false, if◌then◌else◌, Option, Some, None, length}
 use Rattle.mt_rows.specs.declared.reply.Reply.{Reply}
-use Rattle.mt_rows.specs.declared.reply.Reply.TheVariants.{NoMemory}
+use Rattle.mt_rows.specs.declared.reply.Reply.TheVariants.{Absent, NoMemory}
 use Rattle.mt_rows.specs.Maps.{reply_of}
 use Rattle.mt_rows.specs.Tenants.{tenant_map}
 use Rattle.mt_runs.specs.Placings.{maps_after_one}
 use Rattle.mt_arena.specs.Accesses.{at}
 use Rattle.mt_operation.specs.declared.outcome.Outcome.{Outcome}
-use Rattle.mt_operation.specs.declared.walk.Phase.TheVariants.{Enter, Done}
+use Rattle.mt_operation.specs.declared.walk.Phase.{Phase}
+use Rattle.mt_operation.specs.declared.walk.Phase.TheVariants.{Enter, Pick, Search, Load, Confirm, Forward, Lock, Judge, Store, Publish, Unlock, Done}
 use Rattle.mt_operation.specs.Operations.{OperationView}
 use Rattle.mt_state.specs.declared.moves.Move.{Move}
 use Rattle.mt_state.specs.declared.moves.Move.TheVariants.{Moved, Done as DoneMove}
@@ -35,6 +36,51 @@ pub record Runs (old new : StateView) (o : ℕ) (answer : Move) : Type 0 where
   pub mid : StateView
   pub chain : IsChain made old mid o
   pub ends : RunEnds mid new o made answer
+
+-- whether a reply tells that the key is missing
+abbrev pub is_missing : Reply → Bool
+is_missing Absent = true
+is_missing _ = false
+
+-- the key was missing
+abbrev pub is_absent : Option Outcome → Bool
+is_absent None = false
+is_absent (Some told) = is_missing told.reply
+
+-- how many steps lead to this phase from the first one on, where there is one node alone and none leads back; 0 where none was made, one has led
+-- back, or none is left
+abbrev pub steps_to : Phase → Option Outcome → ℕ
+steps_to Search told = 1
+steps_to Load told = 2
+steps_to Confirm told = if is_absent told then 2 else 3
+steps_to Lock told = 1
+steps_to Judge told = 2
+steps_to Store told = 3
+steps_to Publish told = 3
+steps_to Unlock told = 4
+steps_to _ told = 0
+
+-- after so many steps of all operations, those since this one's first step were all its own, and none has led back
+abbrev pub IsStraight : ℕ → OperationView → Type 0
+IsStraight steps op = op.first + steps_to op.phase op.outcome ≡ steps + 1
+
+-- it has made no step, or went straight so far
+abbrev pub HasGoneStraight : ℕ → OperationView → Type 0
+HasGoneStraight steps op = ((op.first ≡ 0) × (op.phase ≡ Enter)) ⊎ ((0 < op.first) × IsStraight steps op)
+
+-- as long as there is one node alone: after this phase comes one in which the node is looked for anew, since it is another or has changed
+abbrev pub LeadsBack : Phase → Phase → Type 0
+LeadsBack Enter Enter = Unit {0}
+LeadsBack Enter Pick = Unit {0}
+LeadsBack Confirm Enter = Unit {0}
+LeadsBack Confirm Forward = Unit {0}
+LeadsBack Lock Enter = Unit {0}
+LeadsBack Lock Forward = Unit {0}
+LeadsBack _ _ = ⊥
+
+-- no step leads an operation back that went straight so far
+abbrev pub StaysStraight : StateView → StateView → ℕ → Type 0
+StaysStraight old new o = (s : IsStep old new o false) → HasGoneStraight old.steps s.before → LeadsBack s.before.phase s.after.phase → ⊥
 
 -- an operation that has not made a step, in a state in which nobody holds a node and numbers are left for a whole run
 pub record IsAlone (v : StateView) (o : ℕ) (op : OperationView) : Type 0 where

@@ -8,3 +8,4 @@ pub mod Looks
 pub mod Tidies
 pub mod Rights
 pub mod Alone
+pub mod Fresh

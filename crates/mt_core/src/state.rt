@@ -12,7 +12,7 @@ ghost use Rattle.mt_core.specs.Admitted.{MayAdmit, TellsAdmitted, RefusesOpening
 ghost use Rattle.mt_core.specs.Rights.{IsRightState};
 ghost use Rattle.mt_core.specs.Shapes.{shape_of};
 ghost use Rattle.mt_core.specs.Shows.{phase_at, noted_at};
-ghost use Rattle.mt_core.specs.Alone.{Runs, IsAlone, EndsAlone};
+ghost use Rattle.mt_core.specs.Alone.{Runs, IsAlone, EndsAlone, StaysStraight};
 ghost use Rattle.mt_core.specs.Tidies.{Tidies};
 ghost use Rattle.mt_core.specs.Nexts.{IsNext, ending};
 ghost use Rattle.mt_state.specs.Ways.{IsDescent};
@@ -223,7 +223,8 @@ impl State {
 
     /// Makes one step of an operation.
     pub fn step(&mut self, ticket: &Ticket) -> Move
-        ensures { Tells self.old self.new ticket.now.id result }
+        ensures tells { Tells self.old self.new ticket.now.id result }
+        ensures straight { StaysStraight self.old self.new ticket.now.id }
     {
         let id = ticket.id;
         let Some(phase) = next_phase(&self.operations, id) else {
@@ -267,7 +268,8 @@ impl State {
     fn descend(&mut self, id: usize) -> Move
         requires next { IsNext self.old id IsDescent }
         requires few { self.old.steps < 2 ^ 59 }
-        ensures { Tells self.old self.new id result }
+        ensures tells { Tells self.old self.new id result }
+        ensures straight { StaysStraight self.old self.new id }
     {
         match descended(&self.arena, open(&self.operations, id)) {
             Ok(walk) => {
@@ -324,7 +326,8 @@ impl State {
     fn confirm(&mut self, id: usize) -> Move
         requires next { IsNext self.old id (λ phase. phase ≡ Phase.Confirm) }
         requires few { self.old.steps < 2 ^ 59 }
-        ensures { Tells self.old self.new id result }
+        ensures tells { Tells self.old self.new id result }
+        ensures straight { StaysStraight self.old self.new id }
     {
         let operation = open(&self.operations, id);
         let mut walk = operation.walk;
@@ -344,7 +347,8 @@ impl State {
     fn lock(&mut self, id: usize) -> Move
         requires next { IsNext self.old id (λ phase. phase ≡ Phase.Lock) }
         requires few { self.old.steps < 2 ^ 59 }
-        ensures { Tells self.old self.new id result }
+        ensures tells { Tells self.old self.new id result }
+        ensures straight { StaysStraight self.old self.new id }
     {
         let operation = open(&self.operations, id);
         let mut walk = operation.walk;
