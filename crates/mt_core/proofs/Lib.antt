@@ -19,3 +19,4 @@ pub mod AloneRuns
 pub mod FreshSteps
 pub mod StraightSteps
 pub mod FreshNode
+pub mod FreshStates

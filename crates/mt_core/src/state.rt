@@ -1,6 +1,6 @@
 //! The state and its calls.
 //!
-//! Invariant: `StateInvariant` of `specs/Invariant.antt`. It owns its nodes, its tape and its operations. Errors:
+//! Invariant: `IsState` of `specs/Fresh.antt`. It owns its nodes, its tape and its operations. Errors:
 //! refusals of `begin`, which change nothing. Units: steps by their numbers, which begin at 1.
 
 ghost use Rattle.std.specs.Prelude.{◌≡◌, ◌≢◌, ◌+◌, ◌<◌, ◌≤◌, ◌^◌, ◌↔◌, ℕ, IsTrue, IsSome, IfOk, slice_set, Some, None};
@@ -58,14 +58,14 @@ pub struct State {
 
 impl Model for State {
     ghost use Rattle.mt_state.specs.Views.{StateView, shown};
-    ghost use Rattle.mt_state.specs.Invariant.{StateInvariant};
+    ghost use Rattle.mt_core.specs.Fresh.{IsState};
     ghost use Rattle.mt_core.specs.States.{core_of};
 
     ghost Value = { StateView };
 
     ghost view = { λ s. shown (core_of s) };
 
-    ghost invariant = { λ s. StateInvariant (core_of s) };
+    ghost invariant = { λ s. IsState (core_of s) };
 }
 
 impl State {
@@ -223,10 +223,31 @@ impl State {
 
     /// Makes one step of an operation.
     pub fn step(&mut self, ticket: &Ticket) -> Move
-        ensures tells { Tells self.old self.new ticket.now.id result }
-        ensures straight { StaysStraight self.old self.new ticket.now.id }
+        ensures { Tells self.old self.new ticket.now.id result }
     {
-        let id = ticket.id;
+        self.advance(ticket.id)
+    }
+
+    /// Makes steps of an operation as long as it moves, `MOST_STEPS` at most, and answers what the last
+    /// one answered. An operation that is alone from its first step on is done.
+    pub fn run_alone(&mut self, ticket: &Ticket) -> Move
+        ensures runs { Runs self.old self.new ticket.now.id result }
+        ensures alone { (op : OperationView) → IsAlone self.old ticket.now.id op → EndsAlone self.old self.new ticket.now.id op result }
+    {
+        for _ in 0..MOST_STEPS {
+            match self.advance(ticket.id) {
+                Move::Moved => {}
+                answer => return answer,
+            }
+        }
+        Move::Moved
+    }
+
+    // Makes one step of an operation. No step leads it back where all since its first were its own.
+    fn advance(&mut self, id: usize) -> Move
+        ensures tells { Tells self.old self.new id result }
+        ensures straight { StaysStraight self.old self.new id }
+    {
         let Some(phase) = next_phase(&self.operations, id) else {
             return Move::NoSuch;
         };
@@ -247,21 +268,6 @@ impl State {
             Phase::Unlock => self.unlock(id),
             Phase::Done => Move::NoSuch,
         }
-    }
-
-    /// Makes steps of an operation as long as it moves, `MOST_STEPS` at most, and answers what the last
-    /// one answered. An operation that is alone from its first step on is done.
-    pub fn run_alone(&mut self, ticket: &Ticket) -> Move
-        ensures runs { Runs self.old self.new ticket.now.id result }
-        ensures alone { (op : OperationView) → IsAlone self.old ticket.now.id op → EndsAlone self.old self.new ticket.now.id op result }
-    {
-        for _ in 0..MOST_STEPS {
-            match self.step(ticket) {
-                Move::Moved => {}
-                answer => return answer,
-            }
-        }
-        Move::Moved
     }
 
     // Goes down the tree, or on to the next node.

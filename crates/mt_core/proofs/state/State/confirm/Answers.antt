@@ -7,40 +7,40 @@ use Rattle.mt_core.proofs.state.State.confirm.Goals as goal
 
 pub confirm-requires : goal.confirm-requires
 confirm-requires c = record {
-  kept = confirm_kept (core_of c.self.inside) _ c.args.id c.self.view_is c.self.invariant c.requires.few c.open-operation.result.now c.open-operation.ensures
+  kept = confirm_kept (core_of c.self.inside) _ c.args.id c.self.view_is c.self.invariant.state c.requires.few c.open-operation.result.now c.open-operation.ensures
       (phase_is (core_of c.self.inside) _ c.args.id (λ p. p ≡ Confirm) c.self.view_is c.open-operation.result.now c.open-operation.ensures c.requires.next);
 }
 
 pub go_on-requires : goal.go_on-requires
-go_on-requires c = free_moves (core_of c.self.inside) _ c.args.id c.self.view_is c.self.invariant c.requires.few c.open-operation.result.now c.open-operation.ensures
+go_on-requires c = free_moves (core_of c.self.inside) _ c.args.id c.self.view_is c.self.invariant.state c.requires.few c.open-operation.result.now c.open-operation.ensures
     (confirm_hands _ (phase_is (core_of c.self.inside) _ c.args.id (λ p. p ≡ Confirm) c.self.view_is c.open-operation.result.now c.open-operation.ensures c.requires.next))
 
 pub returns-in-Some : goal.returns-in-Some
-returns-in-Some c = blocked (core_of c.self.inside) _ c.args.id c.self.view_is c.self.invariant c.requires.few c.open-operation.result.now c.open-operation.ensures
+returns-in-Some c = blocked (core_of c.self.inside) _ c.args.id c.self.view_is c.self.invariant.state c.requires.few c.open-operation.result.now c.open-operation.ensures
     (confirm_hands _ (phase_is (core_of c.self.inside) _ c.args.id (λ p. p ≡ Confirm) c.self.view_is c.open-operation.result.now c.open-operation.ensures c.requires.next)) c.in-Some.holder
-    (confirm_way (core_of c.self.inside) _ c.args.id c.self.view_is c.self.invariant c.requires.few c.open-operation.result.now c.open-operation.ensures
+    (confirm_way (core_of c.self.inside) _ c.args.id c.self.view_is c.self.invariant.state c.requires.few c.open-operation.result.now c.open-operation.ensures
     (phase_is (core_of c.self.inside) _ c.args.id (λ p. p ≡ Confirm) c.self.view_is c.open-operation.result.now c.open-operation.ensures c.requires.next) c.in-Some.holder c.in-Some.ensures.again.1) c.again.result c.again.ensures
 
 pub invariant_of-self : goal.invariant_of-self
-invariant_of-self c = (confirm_gives_done (core_of c.self.inside) _ c.args.id c.self.view_is c.self.invariant c.requires.few c.open-operation.result.now c.open-operation.ensures
+invariant_of-self c = (confirm_gives_done (core_of c.self.inside) _ c.args.id c.self.view_is c.self.invariant.state c.requires.few c.open-operation.result.now c.open-operation.ensures
     (phase_is (core_of c.self.inside) _ c.args.id (λ p. p ≡ Confirm) c.self.view_is c.open-operation.result.now c.open-operation.ensures c.requires.next)
     c.confirm.new.walk c.in_default.ensures.same c.in_default.ensures.is c.in_default.ensures.kept (done_if _ c.if-eq.ensures) c.go_on.new.self
     (c.go_on.ensures.moves _ c.open-operation.ensures)).0
 
 pub returns-then-eq : goal.returns-then-eq
-returns-then-eq c = (confirm_gives_done (core_of c.self.inside) _ c.args.id c.self.view_is c.self.invariant c.requires.few c.open-operation.result.now c.open-operation.ensures
+returns-then-eq c = (confirm_gives_done (core_of c.self.inside) _ c.args.id c.self.view_is c.self.invariant.state c.requires.few c.open-operation.result.now c.open-operation.ensures
     (phase_is (core_of c.self.inside) _ c.args.id (λ p. p ≡ Confirm) c.self.view_is c.open-operation.result.now c.open-operation.ensures c.requires.next)
     c.confirm.new.walk c.in_default.ensures.same c.in_default.ensures.is c.in_default.ensures.kept (done_if _ c.if-eq.ensures) c.go_on.new.self
     (c.go_on.ensures.moves _ c.open-operation.ensures)).1
 
 pub invariant_of-self-2 : goal.invariant_of-self-2
-invariant_of-self-2 c = (confirm_gives_back (core_of c.self.inside) _ c.args.id c.self.view_is c.self.invariant c.requires.few c.open-operation.result.now c.open-operation.ensures
+invariant_of-self-2 c = (confirm_gives_back (core_of c.self.inside) _ c.args.id c.self.view_is c.self.invariant.state c.requires.few c.open-operation.result.now c.open-operation.ensures
     (phase_is (core_of c.self.inside) _ c.args.id (λ p. p ≡ Confirm) c.self.view_is c.open-operation.result.now c.open-operation.ensures c.requires.next)
     c.confirm.new.walk c.in_default.ensures.same c.in_default.ensures.is c.in_default.ensures.kept (done_unless _ c.if-eq.ensures) c.note.new.self
     (noted_table c.self.inside.operations c.go_on.new.self c.note.new.self c.args.id c.open-operation.result.now _ _ c.open-operation.ensures (c.go_on.ensures.moves _ c.open-operation.ensures) c.note.ensures.notes)).0
 
 pub returns : goal.returns
-returns c = (confirm_gives_back (core_of c.self.inside) _ c.args.id c.self.view_is c.self.invariant c.requires.few c.open-operation.result.now c.open-operation.ensures
+returns c = (confirm_gives_back (core_of c.self.inside) _ c.args.id c.self.view_is c.self.invariant.state c.requires.few c.open-operation.result.now c.open-operation.ensures
     (phase_is (core_of c.self.inside) _ c.args.id (λ p. p ≡ Confirm) c.self.view_is c.open-operation.result.now c.open-operation.ensures c.requires.next)
     c.confirm.new.walk c.in_default.ensures.same c.in_default.ensures.is c.in_default.ensures.kept (done_unless _ c.if-eq.ensures) c.note.new.self
     (noted_table c.self.inside.operations c.go_on.new.self c.note.new.self c.args.id c.open-operation.result.now _ _ c.open-operation.ensures (c.go_on.ensures.moves _ c.open-operation.ensures) c.note.ensures.notes)).1

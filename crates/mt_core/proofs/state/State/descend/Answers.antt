@@ -9,22 +9,22 @@ use Rattle.mt_core.proofs.state.State.descend.Goals as goal
 pub descended-requires-clause-kept : goal.descended-requires-clause-kept
 descended-requires-clause-kept c = (
   past_of (core_of c.self.inside),
-  descent_kept (core_of c.self.inside) _ c.args.id c.self.view_is c.self.invariant c.requires.few c.open.result.now c.open.ensures
+  descent_kept (core_of c.self.inside) _ c.args.id c.self.view_is c.self.invariant.state c.requires.few c.open.result.now c.open.ensures
       (phase_is (core_of c.self.inside) _ c.args.id IsDescent c.self.view_is c.open.result.now c.open.ensures c.requires.next),
 )
 
 pub go_on-requires : goal.go_on-requires
-go_on-requires c = free_moves (core_of c.self.inside) _ c.args.id c.self.view_is c.self.invariant c.requires.few c.open.result.now c.open.ensures
+go_on-requires c = free_moves (core_of c.self.inside) _ c.args.id c.self.view_is c.self.invariant.state c.requires.few c.open.result.now c.open.ensures
     (descent_free _ (phase_is (core_of c.self.inside) _ c.args.id IsDescent c.self.view_is c.open.result.now c.open.ensures c.requires.next))
 
 pub invariant_of-self : goal.invariant_of-self
-invariant_of-self c = (descent_gives (core_of c.self.inside) _ c.args.id c.self.view_is c.self.invariant c.requires.few c.open.result.now c.open.ensures c.go_on.new.self c.in-Ok.walk
+invariant_of-self c = (descent_gives (core_of c.self.inside) _ c.args.id c.self.view_is c.self.invariant.state c.requires.few c.open.result.now c.open.ensures c.go_on.new.self c.in-Ok.walk
     (phase_is (core_of c.self.inside) _ c.args.id IsDescent c.self.view_is c.open.result.now c.open.ensures c.requires.next) c.in-Ok.ensures.goes c.in-Ok.ensures.kept (c.go_on.ensures.moves _ c.open.ensures)).0
 
 pub returns-in-Ok : goal.returns-in-Ok
-returns-in-Ok c = (descent_gives (core_of c.self.inside) _ c.args.id c.self.view_is c.self.invariant c.requires.few c.open.result.now c.open.ensures c.go_on.new.self c.in-Ok.walk
+returns-in-Ok c = (descent_gives (core_of c.self.inside) _ c.args.id c.self.view_is c.self.invariant.state c.requires.few c.open.result.now c.open.ensures c.go_on.new.self c.in-Ok.walk
     (phase_is (core_of c.self.inside) _ c.args.id IsDescent c.self.view_is c.open.result.now c.open.ensures c.requires.next) c.in-Ok.ensures.goes c.in-Ok.ensures.kept (c.go_on.ensures.moves _ c.open.ensures)).1
 
 pub returns-in-Err : goal.returns-in-Err
-returns-in-Err c = blocked (core_of c.self.inside) _ c.args.id c.self.view_is c.self.invariant c.requires.few c.open.result.now c.open.ensures
+returns-in-Err c = blocked (core_of c.self.inside) _ c.args.id c.self.view_is c.self.invariant.state c.requires.few c.open.result.now c.open.ensures
     (descent_free _ (phase_is (core_of c.self.inside) _ c.args.id IsDescent c.self.view_is c.open.result.now c.open.ensures c.requires.next)) c.in-Err.holder c.in-Err.ensures.again c.again.result c.again.ensures

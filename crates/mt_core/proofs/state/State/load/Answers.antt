@@ -6,36 +6,36 @@ use Rattle.mt_core.proofs.ReadSteps.{phase_is, free_moves, blocked, load_hands, 
 use Rattle.mt_core.proofs.state.State.load.Goals as goal
 
 pub load_row-requires-clause-get : goal.load_row-requires-clause-get
-load_row-requires-clause-get c = load_gets (core_of c.self.inside) _ c.args.id c.self.view_is c.self.invariant c.requires.few c.open.result.now c.open.ensures
+load_row-requires-clause-get c = load_gets (core_of c.self.inside) _ c.args.id c.self.view_is c.self.invariant.state c.requires.few c.open.result.now c.open.ensures
     (phase_is (core_of c.self.inside) _ c.args.id (λ p. p ≡ Load) c.self.view_is c.open.result.now c.open.ensures c.requires.next)
 
 pub load_row-requires-clause-columns : goal.load_row-requires-clause-columns
-load_row-requires-clause-columns c = asked_columns (core_of c.self.inside) _ c.args.id c.self.view_is c.self.invariant c.requires.few c.open.result.now c.open.ensures
+load_row-requires-clause-columns c = asked_columns (core_of c.self.inside) _ c.args.id c.self.view_is c.self.invariant.state c.requires.few c.open.result.now c.open.ensures
 
 pub load_row-requires-clause-kept : goal.load_row-requires-clause-kept
-load_row-requires-clause-kept c = load_kept (core_of c.self.inside) _ c.args.id c.self.view_is c.self.invariant c.requires.few c.open.result.now c.open.ensures
+load_row-requires-clause-kept c = load_kept (core_of c.self.inside) _ c.args.id c.self.view_is c.self.invariant.state c.requires.few c.open.result.now c.open.ensures
     (phase_is (core_of c.self.inside) _ c.args.id (λ p. p ≡ Load) c.self.view_is c.open.result.now c.open.ensures c.requires.next)
 
 pub go_on-requires : goal.go_on-requires
-go_on-requires c = free_moves (core_of c.self.inside) _ c.args.id c.self.view_is c.self.invariant c.requires.few c.open.result.now c.open.ensures
+go_on-requires c = free_moves (core_of c.self.inside) _ c.args.id c.self.view_is c.self.invariant.state c.requires.few c.open.result.now c.open.ensures
     (load_hands _ (phase_is (core_of c.self.inside) _ c.args.id (λ p. p ≡ Load) c.self.view_is c.open.result.now c.open.ensures c.requires.next))
 
 pub invariant_of-self : goal.invariant_of-self
-invariant_of-self c = (load_gives (core_of c.self.inside) _ c.args.id c.self.view_is c.self.invariant c.requires.few c.open.result.now c.open.ensures c.facts.ensures.arena
+invariant_of-self c = (load_gives (core_of c.self.inside) _ c.args.id c.self.view_is c.self.invariant.state c.requires.few c.open.result.now c.open.ensures c.facts.ensures.arena
     (phase_is (core_of c.self.inside) _ c.args.id (λ p. p ≡ Load) c.self.view_is c.open.result.now c.open.ensures c.requires.next)
     c.in-Ok.field-0.walk c.in-Ok.field-0.outcome c.in-Ok.ensures.is c.note.new.self
     (noted_table c.self.inside.operations c.go_on.new.self c.note.new.self c.args.id c.open.result.now _ _ c.open.ensures (c.go_on.ensures.moves _ c.open.ensures) c.note.ensures.notes)
     c.ending.result c.ending.ensures).0
 
 pub returns-in-Ok : goal.returns-in-Ok
-returns-in-Ok c = (load_gives (core_of c.self.inside) _ c.args.id c.self.view_is c.self.invariant c.requires.few c.open.result.now c.open.ensures c.facts.ensures.arena
+returns-in-Ok c = (load_gives (core_of c.self.inside) _ c.args.id c.self.view_is c.self.invariant.state c.requires.few c.open.result.now c.open.ensures c.facts.ensures.arena
     (phase_is (core_of c.self.inside) _ c.args.id (λ p. p ≡ Load) c.self.view_is c.open.result.now c.open.ensures c.requires.next)
     c.in-Ok.field-0.walk c.in-Ok.field-0.outcome c.in-Ok.ensures.is c.note.new.self
     (noted_table c.self.inside.operations c.go_on.new.self c.note.new.self c.args.id c.open.result.now _ _ c.open.ensures (c.go_on.ensures.moves _ c.open.ensures) c.note.ensures.notes)
     c.ending.result c.ending.ensures).1
 
 pub returns-in-Err : goal.returns-in-Err
-returns-in-Err c = blocked (core_of c.self.inside) _ c.args.id c.self.view_is c.self.invariant c.requires.few c.open.result.now c.open.ensures
+returns-in-Err c = blocked (core_of c.self.inside) _ c.args.id c.self.view_is c.self.invariant.state c.requires.few c.open.result.now c.open.ensures
     (load_hands _ (phase_is (core_of c.self.inside) _ c.args.id (λ p. p ≡ Load) c.self.view_is c.open.result.now c.open.ensures c.requires.next)) c.in-Err.holder
-    (load_way (core_of c.self.inside) _ c.args.id c.self.view_is c.self.invariant c.requires.few c.open.result.now c.open.ensures
+    (load_way (core_of c.self.inside) _ c.args.id c.self.view_is c.self.invariant.state c.requires.few c.open.result.now c.open.ensures
     (phase_is (core_of c.self.inside) _ c.args.id (λ p. p ≡ Load) c.self.view_is c.open.result.now c.open.ensures c.requires.next) c.in-Err.holder c.in-Err.ensures.again) c.again.result c.again.ensures

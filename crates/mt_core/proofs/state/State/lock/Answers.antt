@@ -4,23 +4,24 @@ use Rattle.mt_state.proofs.Needs.{lock_kept}
 use Rattle.mt_state.proofs.Telling.{Gives}
 use Rattle.mt_core.specs.States.{core_of}
 use Rattle.mt_core.proofs.PutSteps.{made, may_step, phase_is, lock_waits, lock_made}
+use Rattle.mt_core.proofs.FreshStates.{ended_state}
 use Rattle.mt_core.proofs.state.State.lock.Goals as goal
 
 pub lock-requires : goal.lock-requires
-lock-requires c = record { kept = lock_kept (core_of c.self.inside) c.args.id c.self.invariant _ c.open-operation.ensures (phase_is (core_of c.self.inside) _ c.args.id c.self.view_is c.self.invariant Lock c.requires.next _ c.open-operation.ensures) }
+lock-requires c = record { kept = lock_kept (core_of c.self.inside) c.args.id c.self.invariant.state _ c.open-operation.ensures (phase_is (core_of c.self.inside) _ c.args.id c.self.view_is c.self.invariant.state Lock c.requires.next _ c.open-operation.ensures) }
 
 pub returns-in-Some : goal.returns-in-Some
-returns-in-Some c = lock_waits (core_of c.self.inside) _ c.args.id c.self.view_is c.self.invariant c.requires.next _ c.open-operation.ensures _ c.in-Some.ensures.unchanged.0 c.in-Some.holder (sym c.in-Some.ensures.again) _ c.again.ensures
+returns-in-Some c = lock_waits (core_of c.self.inside) _ c.args.id c.self.view_is c.self.invariant.state c.requires.next _ c.open-operation.ensures _ c.in-Some.ensures.unchanged.0 c.in-Some.holder (sym c.in-Some.ensures.again) _ c.again.ensures
 
 pub go_on-requires : goal.go_on-requires
-go_on-requires c = may_step (core_of c.self.inside) _ c.args.id c.self.view_is c.self.invariant Lock refl c.requires.next
+go_on-requires c = may_step (core_of c.self.inside) _ c.args.id c.self.view_is c.self.invariant.state Lock refl c.requires.next
 
-gives : (c : goal.After-go_on) → Gives c.args.self.now (made (core_of c.self.inside) _ c.args.id c.self.view_is c.self.invariant c.lock.new.arena c.self.inside.tape c.self.inside.tenants c.go_on.new.self) c.args.id false
-gives c = let e = c.in_default.ensures in lock_made (core_of c.self.inside) _ c.args.id c.self.view_is c.self.invariant c.requires.few c.requires.next _ c.open-operation.ensures _ _ _
+gives : (c : goal.After-go_on) → Gives c.args.self.now (made (core_of c.self.inside) _ c.args.id c.self.view_is c.self.invariant.state c.lock.new.arena c.self.inside.tape c.self.inside.tenants c.go_on.new.self) c.args.id false
+gives c = let e = c.in_default.ensures in lock_made (core_of c.self.inside) _ c.args.id c.self.view_is c.self.invariant.state c.requires.few c.requires.next _ c.open-operation.ensures _ _ _
     (record { locks = e.is; same = e.same; leaves = record { guarantee = e.step; contents = e.contents }; kept = e.kept; judged = e.holds; settled = e.settled }) c.go_on.ensures.moves
 
 pub invariant_of-self-2 : goal.invariant_of-self-2
-invariant_of-self-2 c = (gives c).0
+invariant_of-self-2 c = ended_state c.args.self.now (core_of c.self.inside) _ c.args.id false Lock c.self.view_is c.self.invariant tt c.requires.next (gives c)
 
 pub returns : goal.returns
 returns c = (gives c).1

@@ -8,16 +8,16 @@ loop-init c = record { chain = refl; running = λ op alone. running_first c.args
 
 pub loop-preserved : goal.loop-preserved
 loop-preserved c =
-    let straight : StaysStraight c.loop.self c.step.new.self c.args.ticket.now.id = c.in-Moved.ensures.straight in
+    let straight : StaysStraight c.loop.self c.advance.new.self c.args.ticket.now.id = c.in-Moved.ensures.straight in
     record {
-      chain = chain_more c.args.self.now c.loop.self c.step.new.self c.args.ticket.now.id c.loop.counter c.loop.invariant.chain c.in-Moved.ensures.tells;
-      running = λ op alone. alone_goes_on c.args.self.now c.loop.self c.step.new.self c.args.ticket.now.id op c.loop.counter (c.loop.invariant.running op alone) straight c.in-Moved.ensures.tells;
+      chain = chain_more c.args.self.now c.loop.self c.advance.new.self c.args.ticket.now.id c.loop.counter c.loop.invariant.chain c.in-Moved.ensures.tells;
+      running = λ op alone. alone_goes_on c.args.self.now c.loop.self c.advance.new.self c.args.ticket.now.id op c.loop.counter (c.loop.invariant.running op alone) straight c.in-Moved.ensures.tells;
     }
 
 pub returns-in_default : goal.returns-in_default
 returns-in_default c = record {
-  runs = run_stops c.args.self.now c.loop.self c.step.new.self c.args.ticket.now.id c.loop.counter c.step.result c.loop-test.true c.loop.invariant.chain c.in_default.not-Moved c.step.ensures.tells;
-  alone = λ op alone. alone_stops c.args.self.now c.loop.self c.step.new.self c.args.ticket.now.id op c.loop.counter c.step.result c.loop-test.true alone (c.loop.invariant.running op alone) c.in_default.not-Moved c.step.ensures.tells;
+  runs = run_stops c.args.self.now c.loop.self c.advance.new.self c.args.ticket.now.id c.loop.counter c.advance.result c.loop-test.true c.loop.invariant.chain c.in_default.not-Moved c.advance.ensures.tells;
+  alone = λ op alone. alone_stops c.args.self.now c.loop.self c.advance.new.self c.args.ticket.now.id op c.loop.counter c.advance.result c.loop-test.true alone (c.loop.invariant.running op alone) c.in_default.not-Moved c.advance.ensures.tells;
 }
 
 pub returns-clause-runs : goal.returns-clause-runs

@@ -3,32 +3,33 @@ use Rattle.mt_operation.specs.declared.walk.Phase.TheVariants.{Store}
 use Rattle.mt_state.proofs.Telling.{Gives}
 use Rattle.mt_core.specs.States.{core_of}
 use Rattle.mt_core.proofs.PutSteps.{made, store_has, open_after, may_go_on, put_is, room_is, store_at, store_made}
+use Rattle.mt_core.proofs.FreshStates.{ended_state}
 use Rattle.mt_core.proofs.state.State.store.Goals as goal
 
 pub taken_out-prepared-requires : goal.taken_out-prepared-requires
-taken_out-prepared-requires c = store_has (core_of c.self.inside) _ c.args.id c.self.view_is c.self.invariant c.requires.next
+taken_out-prepared-requires c = store_has (core_of c.self.inside) _ c.args.id c.self.view_is c.self.invariant.state c.requires.next
 
 pub open-operation-requires : goal.open-operation-requires
-open-operation-requires c = open_after (core_of c.self.inside) _ c.args.id c.self.view_is c.self.invariant Store c.requires.next _ _ c.taken_out-prepared.ensures
+open-operation-requires c = open_after (core_of c.self.inside) _ c.args.id c.self.view_is c.self.invariant.state Store c.requires.next _ _ c.taken_out-prepared.ensures
 
 pub store-requires-clause-put : goal.store-requires-clause-put
-store-requires-clause-put c = put_is (core_of c.self.inside) _ c.args.id c.self.view_is c.self.invariant Store c.requires.next _ _ c.taken_out-prepared.ensures _ c.open-operation.ensures tt
+store-requires-clause-put c = put_is (core_of c.self.inside) _ c.args.id c.self.view_is c.self.invariant.state Store c.requires.next _ _ c.taken_out-prepared.ensures _ c.open-operation.ensures tt
 
 pub store-requires-clause-kept : goal.store-requires-clause-kept
-store-requires-clause-kept c = store_at (core_of c.self.inside) _ c.args.id c.self.view_is c.self.invariant c.requires.next _ _ c.taken_out-prepared.ensures _ c.open-operation.ensures
+store-requires-clause-kept c = store_at (core_of c.self.inside) _ c.args.id c.self.view_is c.self.invariant.state c.requires.next _ _ c.taken_out-prepared.ensures _ c.open-operation.ensures
 
 pub store-requires-clause-reserved : goal.store-requires-clause-reserved
-store-requires-clause-reserved c = room_is (core_of c.self.inside) _ c.args.id c.self.view_is c.self.invariant Store c.requires.next refl
+store-requires-clause-reserved c = room_is (core_of c.self.inside) _ c.args.id c.self.view_is c.self.invariant.state Store c.requires.next refl
 
 pub go_on-requires : goal.go_on-requires
-go_on-requires c = may_go_on (core_of c.self.inside) _ c.args.id c.self.view_is c.self.invariant Store c.requires.next _ _ c.taken_out-prepared.ensures refl
+go_on-requires c = may_go_on (core_of c.self.inside) _ c.args.id c.self.view_is c.self.invariant.state Store c.requires.next _ _ c.taken_out-prepared.ensures refl
 
-gives : (c : goal.After-note) → Gives c.args.self.now (made (core_of c.self.inside) _ c.args.id c.self.view_is c.self.invariant c.store.new.arena c.store.new.tape c.self.inside.tenants c.note.new.self) c.args.id false
-gives c = let e = c.store.ensures in store_made (core_of c.self.inside) _ c.args.id c.self.view_is c.self.invariant c.requires.next _ _ c.taken_out-prepared.ensures _ c.open-operation.ensures c.requires.few _ _ _ _ _ _ _ c.facts.ensures.arena
+gives : (c : goal.After-note) → Gives c.args.self.now (made (core_of c.self.inside) _ c.args.id c.self.view_is c.self.invariant.state c.store.new.arena c.store.new.tape c.self.inside.tenants c.note.new.self) c.args.id false
+gives c = let e = c.store.ensures in store_made (core_of c.self.inside) _ c.args.id c.self.view_is c.self.invariant.state c.requires.next _ _ c.taken_out-prepared.ensures _ c.open-operation.ensures c.requires.few _ _ _ _ _ _ _ c.facts.ensures.arena
     (record { is = e.is; before_is = e.before }) (record { places = e.places; walk = e.walk; same = e.same; guarantee = e.step; kept = e.kept }) c.placed.ensures c.go_on.ensures.moves c.note.ensures.notes
 
 pub invariant_of-self : goal.invariant_of-self
-invariant_of-self c = (gives c).0
+invariant_of-self c = ended_state c.args.self.now (core_of c.self.inside) _ c.args.id false Store c.self.view_is c.self.invariant tt c.requires.next (gives c)
 
 pub returns : goal.returns
 returns c = (gives c).1
