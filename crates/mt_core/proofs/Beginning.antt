@@ -32,6 +32,8 @@ use Rattle.mt_state.specs.Begins.{Begins, MayBegin, HasOpenPut}
 use Rattle.mt_state.proofs.Shown.{shown_table, shown_at, shown_there}
 use Rattle.mt_core.specs.declared.answers.Ticket.{Ticket}
 use Rattle.mt_core.specs.Admitted.{IsAdmitted, HasRoomFor, OpeningView, IsOpening, IsRightOpening, MayAdmit, TellsAdmitted}
+use Rattle.mt_core.specs.Fresh.{AreFresh}
+use Rattle.mt_core.proofs.FreshStates.{begun_fresh}
 use Rattle.mt_core.proofs.Tabling.{with_table, begun_sound}
 use Rattle.mt_core.proofs.Rooms.{found_some}
 
@@ -80,6 +82,10 @@ module _ (c : Core) (now : StateView) (opening : OpeningView) (tenant : ℕ) (ma
   -- a put that is begun is the only open one
   pub begun_alone : MayAdmit now opening.made → is_get (ask op.task) ≡ false → ¬ HasOpen c.table
   begun_alone may put = only_open c now (ask op.task) is (may_begin may) put
+
+  -- with it all operations are fresh
+  pub begun_all : (o : ℕ) (table : Table) → AreFresh c → operation_at table o ≡ Some op → ((q : ℕ) → q ≢ o → operation_at table q ≡ operation_at c.table q) → AreFresh (record c { table = table })
+  begun_all o table fresh there others = begun_fresh c o op table fresh there (ap (λ (w : Walk). w.first) opened.admitted.walk) (ap (λ (w : Walk). w.phase) opened.admitted.walk) others
 
   module _ (h : StateInvariant c) (arena : IsArena c.arena.nodes c.arena.trees) (o : ℕ) (table : Table) (vacant : operation_at c.table o ≡ None) (there : operation_at table o ≡ Some op)
       (others : (q : ℕ) → q ≢ o → operation_at table q ≡ operation_at c.table q) where

@@ -1,16 +1,16 @@
--- Each step leaves all operations fresh, by what it tells: for the method of each phase.
+-- Each step leaves all operations fresh, by what it tells: for the method of each phase; and so does what makes no step.
 use Rattle.std.proofs.Common.{◌≡◌, ◌≢◌, ℕ, ◌+◌, inl, inr, Bool, set, Option, Some, None, refl, sym, ap, subst, ◌∙◌, arith}
 use Rattle.std.proofs.lemmas.Bool.{cases_eq}
 use Rattle.std.proofs.lemmas.List.{get_or-set_other}
-use Rattle.std.proofs.lemmas.Option.{same_Some}
-use Rattle.mt_arena.specs.Arena.{ArenaView}
+use Rattle.std.proofs.lemmas.Option.{same_Some, none-some}
+use Rattle.mt_tape.specs.Tapes.{Kept}
 use Rattle.mt_arena.specs.Accesses.{at}
 use Rattle.mt_operation.specs.declared.walk.Phase.{Phase}
 use Rattle.mt_operation.specs.declared.walk.Phase.TheVariants.{Enter, Search, Load, Confirm, Lock, Judge, Store, Publish, Unlock}
 use Rattle.mt_operation.specs.declared.operation.Operation.{Operation}
 use Rattle.mt_operation.specs.Operations.{OperationView, view_of}
-use Rattle.mt_operation.specs.Tables.{op_at as operation_at}
-use Rattle.mt_operation.proofs.Tables.{set_there}
+use Rattle.mt_operation.specs.Tables.{Table, op_at as operation_at}
+use Rattle.mt_operation.proofs.Tables.{set_there, set_none}
 use Rattle.mt_state.specs.Views.{StateView, Shown, Core, shown, op_at}
 use Rattle.mt_state.specs.Steps.{MayFollow, HasMoved}
 use Rattle.mt_state.specs.Notes.{Notes}
@@ -142,3 +142,29 @@ at_ending now o p e next = (next.0, next.1, subst IsEnding (sym next.2) e)
 -- what the step of such a phase gives is the state's invariant
 pub ended_state : (now : StateView) (old new : Core) (o : ℕ) (done : Bool) (p : Phase) → shown old ≡ now → IsState old → IsEnding p → IsNext now o (λ q. q ≡ p) → Gives now new o done → IsState new
 ended_state now old new o done p is h e next g = record { state = g.0; fresh = ends_fresh now old new o is h done g.1 (at_ending now o p e next) }
+
+-- a state whose steps and nodes are the same has fresh operations, where each was one
+pub fresh_in : (c : Core) (answers : ℕ) (tape : Kept) (table : Table) → ((q : ℕ) (op : Operation) → operation_at table q ≡ Some op → IsFresh c op) → AreFresh (record c { answers = answers; tape = tape; table = table })
+fresh_in c answers tape table each q op there = let f = each q op there in record { behind = f.behind; stands = f.stands }
+
+-- an operation that has made no step is fresh
+pub still_fresh : (c : Core) (op : Operation) → op.walk.first ≡ 0 → op.walk.phase ≡ Enter → IsFresh c op
+still_fresh c op none enters = record {
+  behind = let at_enter = ap (λ p. steps_to p op.outcome) enters in omega (arith, none, at_enter);
+  stands = λ compares straight. absurd (subst IsComparing enters compares);
+}
+
+-- so are all, where one more is there that has made none
+pub begun_fresh : (c : Core) (o : ℕ) (op : Operation) (table : Table) → AreFresh c → operation_at table o ≡ Some op → op.walk.first ≡ 0 → op.walk.phase ≡ Enter
+    → ((q : ℕ) → q ≢ o → operation_at table q ≡ operation_at c.table q) → AreFresh (record c { table = table })
+begun_fresh c o op table fresh there none enters others = fresh_in c c.answers c.tape table (λ q x at_q. elim (cases_eq q o) [
+  | inl same ↦ subst (IsFresh c) (same_Some op x (sym there ∙ ap (operation_at table) (sym same) ∙ at_q)) (still_fresh c op none enters)
+  | inr other ↦ fresh q x (sym (others q other) ∙ at_q)
+])
+
+-- and where one is gone
+pub gone_fresh : (c : Core) (o answers : ℕ) (table : Table) → AreFresh c → table ≡ set c.table o None → AreFresh (record c { answers = answers; table = table })
+gone_fresh c o answers table fresh gone = fresh_in c answers c.tape table (λ q x at_q. elim (cases_eq q o) [
+  | inl same ↦ absurd (none-some x (sym (set_none c.table o) ∙ ap (operation_at (set c.table o None)) (sym same) ∙ ap (λ (t : Table). operation_at t q) (sym gone) ∙ at_q))
+  | inr other ↦ fresh q x (sym (set_there c.table o q None other) ∙ ap (λ (t : Table). operation_at t q) (sym gone) ∙ at_q)
+])

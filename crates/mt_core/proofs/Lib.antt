@@ -20,3 +20,4 @@ pub mod FreshSteps
 pub mod StraightSteps
 pub mod FreshNode
 pub mod FreshStates
+pub mod StraightStates

@@ -1,5 +1,5 @@
 -- A state in which nothing has happened keeps the invariant: for `State::new`.
-use Rattle.std.proofs.Common.{◌≡◌, ℕ, zero, suc, ◌<◌, [], sym, refl, ap, subst, ◌∙◌, arith}
+use Rattle.std.proofs.Common.{◌≡◌, ℕ, zero, suc, ◌<◌, [], Some, sym, refl, ap, subst, ◌∙◌, arith}
 use Rattle.std.specs.FinMap.{len, len-empty, get-empty}
 use Rattle.std.specs.FinMap as pairs
 use Rattle.std.specs.Ordering.{nat_cmp}
@@ -16,10 +16,12 @@ use Rattle.mt_arena.specs.Contents.{content}
 use Rattle.mt_arena.specs.Arena.{ArenaView, content_of}
 use Rattle.mt_arena.specs.Edits.{fresh_root}
 use Rattle.mt_arena.specs.Accesses.{new_arena}
-use Rattle.mt_operation.specs.Tables.{Table}
+use Rattle.mt_operation.specs.declared.operation.Operation.{Operation}
+use Rattle.mt_operation.specs.Tables.{Table, op_at as operation_at}
 use Rattle.mt_state.specs.Views.{Core}
 use Rattle.mt_state.specs.Invariant.{StateInvariant, AreStamps, AreVersions, AreHolders}
 use Rattle.mt_state.specs.Begins.{HaveNoPairs}
+use Rattle.mt_core.specs.Fresh.{IsState}
 
 -- the tape of a new state
 abbrev pub no_tape : Kept
@@ -73,10 +75,18 @@ start_sound logs accounts none = record {
     holders (suc k) o within held = absurd (omega (arith, within))
 
 -- the same of the values that the code has
-pub start_done : (logs : ℕ) (accounts : Accounts) (arena : ArenaView) (tape : Kept) (table : Table) → HaveNoPairs accounts → arena ≡ new_arena → tape ≡ no_tape → table ≡ []
+start_done : (logs : ℕ) (accounts : Accounts) (arena : ArenaView) (tape : Kept) (table : Table) → HaveNoPairs accounts → arena ≡ new_arena → tape ≡ no_tape → table ≡ []
     → StateInvariant (record (start logs accounts) { arena = arena; tape = tape; table = table })
 start_done logs accounts arena tape table none a t e =
     let P : Core → Type 0 = λ c. StateInvariant c in
     subst (λ x. P (record (start logs accounts) { arena = x; tape = tape; table = table })) (sym a)
     (subst (λ y. P (record (start logs accounts) { tape = y; table = table })) (sym t)
     (subst (λ z. P (record (start logs accounts) { table = z })) (sym e) (start_sound logs accounts none)))
+
+-- and no operation is there that could be led back
+pub start_state : (logs : ℕ) (accounts : Accounts) (arena : ArenaView) (tape : Kept) (table : Table) → HaveNoPairs accounts → arena ≡ new_arena → tape ≡ no_tape → table ≡ []
+    → IsState (record (start logs accounts) { arena = arena; tape = tape; table = table })
+start_state logs accounts arena tape table none a t e = record {
+  state = start_done logs accounts arena tape table none a t e;
+  fresh = λ o op there. absurd (let empty : operation_at [] o ≡ Some op = ap (λ (x : Table). operation_at x o) (sym e) ∙ there in cc);
+}

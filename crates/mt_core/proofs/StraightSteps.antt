@@ -38,7 +38,7 @@ step_stays old new o before after was is never s gone back =
     (subst (λ (op : OperationView). LeadsBack before.phase op.phase) last (subst (λ (op : OperationView). LeadsBack op.phase s.after.phase) first back))
 
 -- who has left Enter has gone straight by its steps
-gone_straight : (steps : ℕ) (op : OperationView) (p : Phase) → op.phase ≡ p → (p ≡ Enter → ⊥) → HasGoneStraight steps op → IsStraight steps op
+pub gone_straight : (steps : ℕ) (op : OperationView) (p : Phase) → op.phase ≡ p → (p ≡ Enter → ⊥) → HasGoneStraight steps op → IsStraight steps op
 gone_straight steps op p is other gone = elim gone [
   | inl (_, enters) ↦ absurd (other (sym is ∙ enters))
   | inr (_, straight) ↦ straight
@@ -73,6 +73,10 @@ enter_never p q writes is arrives = leads_nowhere p q Enter (arrival writes) is 
 -- where no step was made
 pub unmoved_stays : (v : StateView) (o : ℕ) → StaysStraight v v o
 unmoved_stays v o s gone back = omega (arith, s.number)
+
+-- where all is as it was
+pub same_stays : (old new : StateView) (o : ℕ) → new ≡ old → StaysStraight old new o
+same_stays old new o same s gone back = let steps = ap (λ (v : StateView). v.steps) same in omega (arith, s.number, steps)
 
 -- where the step that was made ended the operation
 pub done_stays : (old new : StateView) (o : ℕ) → IsStep old new o true → StaysStraight old new o

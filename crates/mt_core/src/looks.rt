@@ -13,7 +13,7 @@ ghost use Rattle.mt_descent.specs.Kept.{IsKept, IsAtLoad};
 ghost use Rattle.mt_state.specs.Promises.{IsInTheWay};
 ghost use Rattle.mt_state.specs.Notes.{columns_asked};
 ghost use Rattle.mt_state.specs.Ways.{IsDescent, Descends};
-ghost use Rattle.mt_core.specs.Looks.{TellsLoaded};
+ghost use Rattle.mt_core.specs.Looks.{Enters, TellsLoaded};
 
 use mt_arena::Arena;
 use mt_descent::{child, enter, forward, load, pick, verify};
@@ -29,6 +29,7 @@ pub(crate) fn descended(arena: &Arena, operation: &Operation) -> Result<Walk, us
     requires kept { (past : Past) × IsKept arena.now past operation.now.task.key None operation.now.walk }
     ensures again { IfErr result (λ holder. IsInTheWay arena.now operation.now.walk.phase holder) }
     ensures goes { IfOk result (λ walk. Descends operation.now.walk walk) }
+    ensures enters { operation.now.walk.phase ≡ Phase.Enter → IfOk result (λ walk. Enters arena.now operation.now.walk walk) }
     ensures kept { (past : Past) → IfOk result (λ walk. IsKept arena.now past operation.now.task.key None walk) }
 {
     let mut walk = operation.walk;
@@ -44,6 +45,7 @@ fn descend(arena: &Arena, key: &StoredKey, walk: &mut Walk) -> Option<usize>
     requires kept { (past : Past) × IsKept arena.now past key.now None walk.old }
     ensures again { IfSome result (λ holder. IsInTheWay arena.now walk.old.phase holder) }
     ensures goes { IfNone result (Descends walk.old walk.new) }
+    ensures enters { walk.old.phase ≡ Phase.Enter → IfNone result (Enters arena.now walk.old walk.new) }
     ensures kept { (past : Past) → IfNone result (IsKept arena.now past key.now None walk.new) }
 {
     match walk.phase {

@@ -277,6 +277,7 @@ impl State {
         ensures tells { Tells self.old self.new id result }
         ensures straight { StaysStraight self.old self.new id }
     {
+        self.arena.facts();
         match descended(&self.arena, open(&self.operations, id)) {
             Ok(walk) => {
                 self.steps += 1;
@@ -335,6 +336,7 @@ impl State {
         ensures tells { Tells self.old self.new id result }
         ensures straight { StaysStraight self.old self.new id }
     {
+        self.arena.facts();
         let operation = open(&self.operations, id);
         let mut walk = operation.walk;
         if let Some(holder) = confirm(&self.arena, &operation.task.key, &mut walk) {
@@ -356,6 +358,7 @@ impl State {
         ensures tells { Tells self.old self.new id result }
         ensures straight { StaysStraight self.old self.new id }
     {
+        self.arena.facts();
         let operation = open(&self.operations, id);
         let mut walk = operation.walk;
         if let Some(holder) = lock(&mut self.arena, &operation.task.key, &mut walk, id) {

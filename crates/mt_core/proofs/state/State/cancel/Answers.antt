@@ -3,7 +3,7 @@ use Rattle.std.proofs.Common.{rules, refl, ap, ◌∙◌}
 use Rattle.mt_state.specs.Views.{shown}
 use Rattle.mt_core.specs.States.{core_of}
 use Rattle.mt_core.proofs.Tabling.{with_table}
-use Rattle.mt_core.proofs.Taking.{cancelled_by, cancels_by, stays_by}
+use Rattle.mt_core.proofs.Taking.{cancelled_state, cancels_by, stays_by}
 use Rattle.mt_core.proofs.state.State.cancel.Goals as goal
 
 pub returns-then-not-give_back : goal.returns-then-not-give_back
@@ -12,7 +12,7 @@ returns-then-not-give_back c =
     (refl, ap (λ t. shown (with_table (core_of c.self.inside) c.self.inside.answers t)) kept.0 ∙ c.self.view_is, stays_by (core_of c.self.inside) _ c.args.ticket.id c.self.view_is kept.1)
 
 pub invariant_of-self-2 : goal.invariant_of-self-2
-invariant_of-self-2 c = cancelled_by (core_of c.self.inside) c.args.ticket.id _ c.self.invariant.state (c.give_back.ensures.gone (search (rules, c.if-not-give_back.false)))
+invariant_of-self-2 c = cancelled_state (core_of c.self.inside) c.args.ticket.id _ c.self.invariant (c.give_back.ensures.gone (search (rules, c.if-not-give_back.false)))
 
 pub returns : goal.returns
 returns c = cancels_by (core_of c.self.inside) _ c.args.ticket.id _ c.self.view_is (c.give_back.ensures.gone (search (rules, c.if-not-give_back.false)))

@@ -4,6 +4,8 @@ use Rattle.mt_state.specs.Ways.{IsDescent}
 use Rattle.mt_state.proofs.Reading.{descent_free}
 use Rattle.mt_core.specs.States.{core_of}
 use Rattle.mt_core.proofs.ReadSteps.{phase_is, free_moves, blocked, descent_kept, descent_gives}
+use Rattle.mt_core.proofs.StraightSteps.{unmoved_stays}
+use Rattle.mt_core.proofs.StraightStates.{descent_state, descent_stays}
 use Rattle.mt_core.proofs.state.State.descend.Goals as goal
 
 pub descended-requires-clause-kept : goal.descended-requires-clause-kept
@@ -18,13 +20,22 @@ go_on-requires c = free_moves (core_of c.self.inside) _ c.args.id c.self.view_is
     (descent_free _ (phase_is (core_of c.self.inside) _ c.args.id IsDescent c.self.view_is c.open.result.now c.open.ensures c.requires.next))
 
 pub invariant_of-self : goal.invariant_of-self
-invariant_of-self c = (descent_gives (core_of c.self.inside) _ c.args.id c.self.view_is c.self.invariant.state c.requires.few c.open.result.now c.open.ensures c.go_on.new.self c.in-Ok.walk
-    (phase_is (core_of c.self.inside) _ c.args.id IsDescent c.self.view_is c.open.result.now c.open.ensures c.requires.next) c.in-Ok.ensures.goes c.in-Ok.ensures.kept (c.go_on.ensures.moves _ c.open.ensures)).0
+invariant_of-self c = descent_state c.args.self.now (core_of c.self.inside) c.args.id c.self.view_is c.self.invariant c.open.result.now c.open.ensures c.facts.ensures.arena
+    (phase_is (core_of c.self.inside) _ c.args.id IsDescent c.self.view_is c.open.result.now c.open.ensures c.requires.next) c.in-Ok.walk c.in-Ok.ensures.enters c.go_on.new.self (c.go_on.ensures.moves _ c.open.ensures)
+    (descent_gives (core_of c.self.inside) _ c.args.id c.self.view_is c.self.invariant.state c.requires.few c.open.result.now c.open.ensures c.go_on.new.self c.in-Ok.walk
+    (phase_is (core_of c.self.inside) _ c.args.id IsDescent c.self.view_is c.open.result.now c.open.ensures c.requires.next) c.in-Ok.ensures.goes c.in-Ok.ensures.kept (c.go_on.ensures.moves _ c.open.ensures))
 
 pub returns-in-Ok : goal.returns-in-Ok
-returns-in-Ok c = (descent_gives (core_of c.self.inside) _ c.args.id c.self.view_is c.self.invariant.state c.requires.few c.open.result.now c.open.ensures c.go_on.new.self c.in-Ok.walk
-    (phase_is (core_of c.self.inside) _ c.args.id IsDescent c.self.view_is c.open.result.now c.open.ensures c.requires.next) c.in-Ok.ensures.goes c.in-Ok.ensures.kept (c.go_on.ensures.moves _ c.open.ensures)).1
+returns-in-Ok c = record {
+  tells = (descent_gives (core_of c.self.inside) _ c.args.id c.self.view_is c.self.invariant.state c.requires.few c.open.result.now c.open.ensures c.go_on.new.self c.in-Ok.walk
+      (phase_is (core_of c.self.inside) _ c.args.id IsDescent c.self.view_is c.open.result.now c.open.ensures c.requires.next) c.in-Ok.ensures.goes c.in-Ok.ensures.kept (c.go_on.ensures.moves _ c.open.ensures)).1;
+  straight = descent_stays c.args.self.now (core_of c.self.inside) c.args.id c.self.view_is c.self.invariant c.open.result.now c.open.ensures c.facts.ensures.arena
+      (phase_is (core_of c.self.inside) _ c.args.id IsDescent c.self.view_is c.open.result.now c.open.ensures c.requires.next) c.in-Ok.walk c.in-Ok.ensures.enters c.go_on.new.self (c.go_on.ensures.moves _ c.open.ensures);
+}
 
 pub returns-in-Err : goal.returns-in-Err
-returns-in-Err c = blocked (core_of c.self.inside) _ c.args.id c.self.view_is c.self.invariant.state c.requires.few c.open.result.now c.open.ensures
-    (descent_free _ (phase_is (core_of c.self.inside) _ c.args.id IsDescent c.self.view_is c.open.result.now c.open.ensures c.requires.next)) c.in-Err.holder c.in-Err.ensures.again c.again.result c.again.ensures
+returns-in-Err c = record {
+  tells = blocked (core_of c.self.inside) _ c.args.id c.self.view_is c.self.invariant.state c.requires.few c.open.result.now c.open.ensures
+      (descent_free _ (phase_is (core_of c.self.inside) _ c.args.id IsDescent c.self.view_is c.open.result.now c.open.ensures c.requires.next)) c.in-Err.holder c.in-Err.ensures.again c.again.result c.again.ensures;
+  straight = unmoved_stays _ _;
+}

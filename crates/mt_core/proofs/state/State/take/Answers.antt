@@ -1,14 +1,14 @@
 -- That a take keeps the invariant, and what it answers, for `State::take`.
 use Rattle.std.proofs.Common.{refl}
 use Rattle.mt_core.specs.States.{core_of}
-use Rattle.mt_core.proofs.Taking.{done_told, taken_by, left_by, takes_by, keeps_by}
+use Rattle.mt_core.proofs.Taking.{done_told, taken_state, takes_by, keeps_by}
 use Rattle.mt_core.proofs.state.State.take.Goals as goal
 
 pub give_up-requires : goal.give_up-requires
 give_up-requires c = done_told (core_of c.self.inside) c.args.ticket.id c.self.invariant.state
 
 pub invariant_of-self : goal.invariant_of-self
-invariant_of-self c = taken_by (core_of c.self.inside) c.args.ticket.id _ c.in-Some.answer c.self.invariant.state c.in-Some.ensures.taken
+invariant_of-self c = taken_state (core_of c.self.inside) c.args.ticket.id _ c.in-Some.answer c.self.invariant c.in-Some.ensures.taken
 
 pub returns-in-Some : goal.returns-in-Some
 returns-in-Some c = takes_by (core_of c.self.inside) _ c.args.ticket.id _ c.in-Some.answer c.self.view_is c.self.invariant.state c.in-Some.ensures.taken
