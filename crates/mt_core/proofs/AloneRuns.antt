@@ -1,5 +1,5 @@
 -- A run of steps of one operation, and how it ends where the operation is alone: for `State::run_alone`.
-use Rattle.std.proofs.Common.{◌≡◌, ◌≢◌, ℕ, zero, suc, ◌+◌, ◌<◌, ◌≤◌, ◌⊎◌, inl, inr, Bool, true, false, cond, eqb, Option, Some, None, length, refl, sym, ap, subst, ◌∙◌, arith}
+use Rattle.std.proofs.Common.{◌≡◌, ◌≢◌, ℕ, suc, ◌+◌, ◌<◌, ◌≤◌, ◌⊎◌, inl, inr, Bool, true, false, cond, eqb, Option, Some, None, length, refl, sym, ap, subst, ◌∙◌, arith}
 use Rattle.std.proofs.lemmas.Bool.{cases_lt, cases_eq, eqb-true}
 use Rattle.std.proofs.lemmas.Option.{same_Some}
 use Rattle.mt_rows.specs.declared.command.Command.{Command}
@@ -15,7 +15,7 @@ use Rattle.mt_operation.specs.declared.outcome.Outcome.{Outcome}
 use Rattle.mt_operation.specs.declared.walk.Phase.{Phase}
 use Rattle.mt_operation.specs.declared.walk.Phase.TheVariants.{Enter, Pick, Child, Verify, Search, Load, Confirm, Forward, Lock, Judge, Store, Publish, Unlock, Done}
 use Rattle.mt_operation.specs.Operations.{OperationView, is_done}
-use Rattle.mt_operation.proofs.Tables.{set_is, set_there}
+use Rattle.mt_operation.proofs.Tables.{set_is}
 use Rattle.mt_state.specs.declared.moves.Move.{Move}
 use Rattle.mt_state.specs.declared.moves.Move.TheVariants.{Moved, Again, NoMemory as NoMemoryMove, Done as DoneMove, Spent, NoSuch}
 use Rattle.mt_state.specs.Views.{StateView, Shown, contents_of, op_at, map_of, quota_of, KeepsPast}
@@ -23,7 +23,7 @@ use Rattle.mt_state.specs.Steps.{MayFollow, IsSameAsked, change_in, told_change}
 use Rattle.mt_state.specs.Notes.{Notes}
 use Rattle.mt_state.proofs.Moved.{first_is}
 use Rattle.mt_state.specs.Promises.{IsQuiet, IsPlacing, IsAnswer, IsStep, IsInTheWay, Tells}
-use Rattle.mt_core.specs.Alone.{most_steps, is_absent, IsChain, RunEnds, Runs, steps_to, IsStraight, HasGoneStraight, LeadsBack, StaysStraight, IsAlone, IsRun, EndsAlone}
+use Rattle.mt_core.specs.Alone.{most_steps, is_absent, IsChain, Runs, steps_to, IsStraight, HasGoneStraight, LeadsBack, StaysStraight, IsAlone, IsRun, EndsAlone}
 
 -- one step more is part of the run
 pub chain_more : (old v w : StateView) (o made : ℕ) → IsChain made old v o → IsStep v w o false → IsChain (made + 1) old w o

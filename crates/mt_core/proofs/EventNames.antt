@@ -10,7 +10,7 @@ use Rattle.std.specs.BTreeMap.{BTreeMap, get, Updates}
 use Rattle.std.proofs.lemmas.Bool.{cases_eq}
 use Rattle.mt_core.specs.declared.answers.Ticket.{Ticket}
 use Rattle.mt_state.specs.Views.{Shown, op_at}
-use Rattle.mt_state.specs.Histories.{Names, Renames, AreHeld, AreById, no_names}
+use Rattle.mt_state.specs.Histories.{Names, Renames, AreHeld, AreById}
 use Rattle.mt_core.specs.Tickets.{named}
 
 -- what a map has for a name is what the name stands for

@@ -1,14 +1,10 @@
 -- Where there is one border node alone, an operation that enters comes to it and remembers its version, and no link leads away from it.
-use Rattle.std.proofs.Common.{◌≡◌, ℕ, suc, ◌+◌, ◌*◌, ◌<◌, Bool, true, false, cond, List, [], ◌∷◌, length, take, refl, sym, ap, subst, ◌∙◌, arith}
+use Rattle.std.proofs.Common.{◌≡◌, ℕ, suc, ◌+◌, ◌*◌, ◌<◌, true, List, [], ◌∷◌, length, take, sym, ap, subst, ◌∙◌, arith}
 use Rattle.mt_rows.specs.Rows.{Bytes}
 use Rattle.mt_arena.specs.declared.tree.Tree.{Tree}
-use Rattle.mt_arena.specs.declared.tree.Standing.{Standing}
-use Rattle.mt_arena.specs.declared.tree.Standing.TheVariants.{Live, Dead}
-use Rattle.mt_arena.specs.NodeView.{NodeView}
 use Rattle.mt_arena.specs.Forests.{tree_at}
 use Rattle.mt_arena.specs.Arena.{ArenaView}
 use Rattle.mt_arena.specs.Accesses.{at, top_tree}
-use Rattle.mt_operation.specs.declared.walk.Phase.{Phase}
 use Rattle.mt_operation.specs.declared.walk.Walk.{Walk}
 use Rattle.mt_descent.specs.Moves.{arrival, arrival_at, after_enter, walk_onto}
 use Rattle.mt_descent.specs.Kept.{GoesThrough}

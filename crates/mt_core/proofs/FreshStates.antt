@@ -1,5 +1,5 @@
 -- Each step leaves all operations fresh, by what it tells: for the method of each phase; and so does what makes no step.
-use Rattle.std.proofs.Common.{◌≡◌, ◌≢◌, ℕ, ◌+◌, inl, inr, Bool, set, Option, Some, None, refl, sym, ap, subst, ◌∙◌, arith}
+use Rattle.std.proofs.Common.{◌≡◌, ◌≢◌, ℕ, ◌+◌, inl, inr, Bool, set, Some, None, sym, ap, subst, ◌∙◌, arith}
 use Rattle.std.proofs.lemmas.Bool.{cases_eq}
 use Rattle.std.proofs.lemmas.List.{get_or-set_other}
 use Rattle.std.proofs.lemmas.Option.{same_Some, none-some}
@@ -15,10 +15,9 @@ use Rattle.mt_state.specs.Views.{StateView, Shown, Core, shown, op_at}
 use Rattle.mt_state.specs.Steps.{MayFollow, HasMoved}
 use Rattle.mt_state.specs.Notes.{Notes}
 use Rattle.mt_state.specs.Promises.{IsStep}
-use Rattle.mt_state.specs.Invariant.{StateInvariant}
 use Rattle.mt_state.proofs.Shown.{shown_there, inside_of}
 use Rattle.mt_state.proofs.Telling.{Gives}
-use Rattle.mt_core.specs.Alone.{steps_to, IsStraight}
+use Rattle.mt_core.specs.Alone.{steps_to}
 use Rattle.mt_core.specs.Fresh.{IsComparing, IsFresh, AreFresh, IsState}
 use Rattle.mt_core.specs.Nexts.{IsNext}
 use Rattle.mt_core.proofs.AloneRuns.{stepped}

@@ -5,7 +5,7 @@ use Rattle.std.proofs.lemmas.Option.{same_Some}
 use Rattle.mt_operation.specs.declared.walk.Phase.{Phase}
 use Rattle.mt_operation.specs.declared.walk.Phase.TheVariants.{Enter, Pick, Child, Verify, Forward, Done}
 use Rattle.mt_operation.specs.Operations.{OperationView, view_of, is_done}
-use Rattle.mt_operation.specs.Tables.{Table, op_at as operation_at}
+use Rattle.mt_operation.specs.Tables.{op_at as operation_at}
 use Rattle.mt_state.specs.Views.{StateView, Core, shown, op_at}
 use Rattle.mt_state.specs.Promises.{HasStep}
 use Rattle.mt_state.specs.Ways.{IsDescent}

@@ -16,7 +16,6 @@ use Rattle.mt_arena.specs.Contents.{content}
 use Rattle.mt_arena.specs.Arena.{ArenaView, content_of}
 use Rattle.mt_arena.specs.Edits.{fresh_root}
 use Rattle.mt_arena.specs.Accesses.{new_arena}
-use Rattle.mt_operation.specs.declared.operation.Operation.{Operation}
 use Rattle.mt_operation.specs.Tables.{Table, op_at as operation_at}
 use Rattle.mt_state.specs.Views.{Core}
 use Rattle.mt_state.specs.Invariant.{StateInvariant, AreStamps, AreVersions, AreHolders}

@@ -2,7 +2,6 @@
 use Rattle.std.proofs.Common.{◌≡◌, ◌≢◌, ℕ, ◌+◌, ◌<◌, inl, inr, Bool, true, false, List, set, length, Option, None, Some, refl, sym, ap, subst, ◌∙◌, arith}
 use Rattle.std.proofs.lemmas.Option.{same_Some}
 use Rattle.mt_version.specs.Parts.{Parts}
-use Rattle.mt_rows.specs.Rows.{Bytes, Columns}
 use Rattle.mt_border.specs.declared.entry.Find.{Find}
 use Rattle.mt_border.specs.declared.entry.Find.TheVariants as finds
 use Rattle.mt_border.specs.declared.entry.FoundKind.TheVariants.{ThisKey, OtherLong, Link as ToTree}
@@ -12,11 +11,10 @@ use Rattle.mt_arena.specs.Accesses.{at}
 use Rattle.mt_operation.specs.declared.outcome.Outcome.{Outcome}
 use Rattle.mt_operation.specs.declared.walk.Phase.{Phase}
 use Rattle.mt_operation.specs.declared.walk.Phase.TheVariants.{Enter, Pick, Child, Verify, Search, Load, Confirm, Forward, Lock, Judge, Store, Publish, Unlock, Done}
-use Rattle.mt_operation.specs.declared.walk.Taken.{Taken}
 use Rattle.mt_operation.specs.declared.walk.Taken.TheVariants.{Link}
 use Rattle.mt_operation.specs.declared.walk.Walk.{Walk}
 use Rattle.mt_operation.specs.declared.operation.Operation.{Operation}
-use Rattle.mt_operation.specs.Operations.{OperationView, view_of, moved}
+use Rattle.mt_operation.specs.Operations.{view_of, moved}
 use Rattle.mt_operation.specs.Tables.{Table, op_at as operation_at}
 use Rattle.mt_operation.proofs.Tables.{set_is}
 use Rattle.mt_descent.specs.Moves.{Confirms, Locks, arrival, after_search}
@@ -154,8 +152,9 @@ look_state now c o done is h op after there table goes place other invariant s =
   fresh = all_fresh now c (stepped c table) o is h done s
       (λ x y at_x at_y at_enter compares. absurd (other (ap (λ (z : Operation). z.walk.phase) (same_Some op x (sym there ∙ at_x)) ∙ at_enter)))
       (λ x y at_x at_y comparing compares. (
-      ap (λ (z : Operation). z.walk.place) (same_Some y after (sym at_y ∙ there_after)) ∙ place ∙ ap (λ (z : Operation). z.walk.place) (same_Some op x (sym there ∙ at_x)),
-      refl));
+        ap (λ (z : Operation). z.walk.place) (same_Some y after (sym at_y ∙ there_after)) ∙ place ∙ ap (λ (z : Operation). z.walk.place) (same_Some op x (sym there ∙ at_x)),
+        refl,
+      ));
 }
   where
     there_after : operation_at table o ≡ Some after

@@ -1,11 +1,10 @@
 -- No step leads an operation back that went straight so far, phase by phase: what `run_alone` needs of each step, where all operations are fresh.
-use Rattle.std.proofs.Common.{◌≡◌, ℕ, ◌⊎◌, inl, inr, Bool, true, false, Some, refl, sym, ap, subst, ◌∙◌, arith}
+use Rattle.std.proofs.Common.{◌≡◌, ℕ, inl, inr, Bool, true, false, Some, sym, ap, subst, ◌∙◌, arith}
 use Rattle.std.proofs.lemmas.Option.{same_Some}
-use Rattle.mt_arena.specs.NodeView.{NodeView}
 use Rattle.mt_arena.specs.Arena.{ArenaView}
 use Rattle.mt_arena.specs.Accesses.{at}
 use Rattle.mt_operation.specs.declared.walk.Phase.{Phase}
-use Rattle.mt_operation.specs.declared.walk.Phase.TheVariants.{Enter, Pick, Confirm, Forward, Lock, Judge, Done}
+use Rattle.mt_operation.specs.declared.walk.Phase.TheVariants.{Enter, Confirm, Lock, Judge, Done}
 use Rattle.mt_operation.specs.declared.walk.Taken.TheVariants.{Link}
 use Rattle.mt_operation.specs.declared.operation.Operation.{Operation}
 use Rattle.mt_operation.specs.Operations.{OperationView, view_of, is_done}

@@ -1,5 +1,5 @@
 -- What a take and a cancelling make of a state, and what they tell: for `State::take` and `cancel`.
-use Rattle.std.proofs.Common.{◌≡◌, ◌≢◌, ℕ, ◌+◌, ◌<◌, true, false, set, Option, None, Some, refl, sym, ap, subst, ◌∙◌, arith}
+use Rattle.std.proofs.Common.{◌≡◌, ◌≢◌, ℕ, ◌+◌, ◌<◌, true, false, set, None, Some, refl, sym, ap, subst, ◌∙◌, arith}
 use Rattle.std.specs.Prelude.{not}
 use Rattle.std.proofs.lemmas.Option.{same_Some, none-some}
 use Rattle.mt_runs.specs.declared.event.Answer.{Answer}

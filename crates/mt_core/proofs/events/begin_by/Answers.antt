@@ -2,7 +2,7 @@ use Rattle.std.proofs.Common.{◌≡◌, Some, None, refl, sym, subst}
 use Rattle.std.specs.Ordering.{nat_cmp}
 use Rattle.std.specs.BTreeMap.{Updates}
 use Rattle.mt_core.specs.Tickets.{named}
-use Rattle.mt_state.specs.Begins.{MayBegin, Begins}
+use Rattle.mt_state.specs.Begins.{Begins}
 use Rattle.mt_state.specs.Refused.{first_fault, cause_of, IsRefusal}
 use Rattle.mt_core.proofs.EventNames.{named_none, renamed, by_id_begun}
 use Rattle.mt_core.proofs.events.begin_by.Goals as goal

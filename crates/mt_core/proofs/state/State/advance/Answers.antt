@@ -11,10 +11,10 @@ use Rattle.mt_core.proofs.state.State.advance.Goals as goal
 pub returns-then-self-ge-MAX_STEPS : goal.returns-then-self-ge-MAX_STEPS
 returns-then-self-ge-MAX_STEPS c = record {
   tells = (
-  refl,
-  next_left (core_of c.self.inside) c.args.self.now c.args.id c.self.view_is c.next_phase.result c.in-Some.phase c.next_phase.ensures c.in-Some.is,
-  sym (ap (λ (v : StateView). v.steps) c.self.view_is) ∙ omega (arith, c.if-self-ge-MAX_STEPS.true, c.self.invariant.state.few),
-);
+    refl,
+    next_left (core_of c.self.inside) c.args.self.now c.args.id c.self.view_is c.next_phase.result c.in-Some.phase c.next_phase.ensures c.in-Some.is,
+    sym (ap (λ (v : StateView). v.steps) c.self.view_is) ∙ omega (arith, c.if-self-ge-MAX_STEPS.true, c.self.invariant.state.few),
+  );
   straight = unmoved_stays c.args.self.now c.args.id;
 }
 
