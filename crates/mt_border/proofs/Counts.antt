@@ -1,9 +1,7 @@
 -- A search over the slices first and over the marks then ends at the place of a key: for the places of keys.
-use Rattle.std.proofs.Common.{◌≡◌, ◌≢◌, ℕ, zero, suc, ◌+◌, ◌<◌, ◌≤◌, List, [], ◌∷◌, length, get_or, refl, arith}
+use Rattle.std.proofs.Common.{◌≡◌, ◌≢◌, ℕ, zero, suc, ◌<◌, ◌≤◌, List, [], ◌∷◌, length, get_or, refl, arith}
 use Rattle.std.specs.List.{All}
-use Rattle.std.proofs.lemmas.List.{length-map}
 use Rattle.std.proofs.lemmas.List.Elements.{All-head, All-tail}
-use Rattle.mt_lists.specs.Rising.{IsRising}
 use Rattle.mt_slices.specs.declared.mark.Mark.{Mark}
 use Rattle.mt_slices.specs.Marks.{IsMark, mark_rank}
 use Rattle.mt_border.specs.declared.entry.Entry.{Entry}

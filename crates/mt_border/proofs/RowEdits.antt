@@ -1,7 +1,7 @@
 -- The entries of three rows are read and edited as the rows are: for the slots of a node.
-use Rattle.std.proofs.Common.{◌≡◌, ℕ, zero, suc, ◌<◌, ◌≤◌, List, [], ◌∷◌, ◌++◌, length, get_or, set, take, drop, refl, sym, ap, ◌∙◌, arith}
+use Rattle.std.proofs.Common.{◌≡◌, ℕ, zero, suc, ◌<◌, List, [], ◌∷◌, ◌++◌, length, get_or, set, take, drop, refl, sym, ap, ◌∙◌, arith}
 use Rattle.std.specs.List.{insert, remove}
-use Rattle.std.proofs.lemmas.List.{length-take, length-drop}
+use Rattle.std.proofs.lemmas.List.{length-take}
 use Rattle.mt_slices.specs.declared.mark.Mark.{Mark}
 use Rattle.mt_border.specs.declared.entry.Entry.{Entry}
 use Rattle.mt_border.specs.declared.entry.Held.{Held}
@@ -81,7 +81,7 @@ pub insert-rows : (ss : List ℕ) (ms : List Mark) (hs : List Held) (at : ℕ) (
     → entries_in (insert ss at e.slice) (insert ms at e.mark) (insert hs at e.held) ≡ insert (entries_in ss ms hs) at e
 insert-rows ss ms hs at e marks_are helds_are =
     append-rows (take at ss) (take at ms) (take at hs) (e.slice ∷ drop at ss) (e.mark ∷ drop at ms) (e.held ∷ drop at hs)
-        (same_takes at ss ms marks_are) (same_takes at ss hs helds_are)
+    (same_takes at ss ms marks_are) (same_takes at ss hs helds_are)
     ∙ rw (take-rows at ss ms hs, drop-rows at ss ms hs marks_are helds_are) refl
 
 -- to take one out is to take out its parts
@@ -89,7 +89,7 @@ pub remove-rows : (ss : List ℕ) (ms : List Mark) (hs : List Held) (at : ℕ) �
     → entries_in (remove ss at) (remove ms at) (remove hs at) ≡ remove (entries_in ss ms hs) at
 remove-rows ss ms hs at marks_are helds_are =
     append-rows (take at ss) (take at ms) (take at hs) (drop (suc at) ss) (drop (suc at) ms) (drop (suc at) hs)
-        (same_takes at ss ms marks_are) (same_takes at ss hs helds_are)
+    (same_takes at ss ms marks_are) (same_takes at ss hs helds_are)
     ∙ rw (take-rows at ss ms hs, drop-rows (suc at) ss ms hs marks_are helds_are) refl
 
 -- and to write over what one holds is to write it in the third row

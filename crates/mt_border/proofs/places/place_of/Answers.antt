@@ -1,10 +1,8 @@
 -- the first entry that is not before the key stands at its place
-use Rattle.std.proofs.Common.{◌≡◌, ◌≢◌, ◌<◌, ◌≤◌, length, get_or, arith, ap, ◌∙◌, below_more}
+use Rattle.std.proofs.Common.{◌<◌, length, arith, ap, below_more}
 use Rattle.std.proofs.lemmas.Bool.Decides.{nat_tests}
 use Rattle.std.proofs.lemmas.List.{length-map}
-use Rattle.mt_slices.specs.Marks.{mark_rank}
 use Rattle.mt_border.specs.declared.entry.Entry.{Entry}
-use Rattle.mt_border.specs.Entries.{slices}
 use Rattle.mt_border.proofs.Edits.{place_in-is}
 use Rattle.mt_border.proofs.Cuts.{marks_of}
 use Rattle.mt_border.proofs.Counts.{mark_read, lower_slices, other_slice, lower_mark, other_mark}

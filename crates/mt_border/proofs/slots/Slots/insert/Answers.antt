@@ -1,6 +1,5 @@
 -- the parts of the entry go to its place in each row
-use Rattle.std.proofs.Common.{◌<◌, ◌≤◌, length, refl, ap, sym, ◌∙◌, arith}
-use Rattle.std.specs.List.{insert}
+use Rattle.std.proofs.Common.{◌<◌, length, arith}
 use Rattle.mt_border.proofs.RowEdits.{sizes-rows, insert-rows}
 use Rattle.mt_border.proofs.slots.Slots.insert.Goals as goal
 

@@ -1,5 +1,5 @@
 -- the parts of the entry leave each row
-use Rattle.std.proofs.Common.{length, ap, sym, ◌∙◌, arith}
+use Rattle.std.proofs.Common.{arith}
 use Rattle.mt_border.proofs.RowEdits.{sizes-rows, read-rows, remove-rows}
 use Rattle.mt_border.proofs.slots.Slots.remove.Goals as goal
 
