@@ -12,7 +12,7 @@ use Rattle.mt_lines.specs.Sessions.{fresh}
 use Rattle.mt_lines.specs.Turns.{AnswersFront, Writes, TakesByte}
 use Rattle.mt_lines.proofs.CutLemmas.{last_tells}
 use Rattle.mt_lines.proofs.ScriptLemmas.{Progress, AreLinesAnswered-more, front_answered, feed_cut, feed_answered, other_cut}
-use Rattle.mt_streams.proofs.StreamLemmas.{Appends-trans, Consumes-trans, Consumes-kept}
+use Rattle.mt_streams.proofs.StreamLemmas.{Appends-nil, Appends-trans, Consumes-nil, Consumes-trans, Consumes-kept}
 
 -- the reader failed, or gave as many bytes as can be counted
 pub read_fails : (before a b held h : Option Bytes) (session : Session) (front : Front) (count : ℕ) (reader_failed writer_failed : Type 0) (error : _) → Progress before a held h session front count → Keeps a b
@@ -147,3 +147,9 @@ ends before a b held h k old new front count reader_failed writer_failed failing
 }
 ends before a b held h k old new front count reader_failed writer_failed failing (Err fault) since p kept done w =
     line_fails before b held h k old new (cut_of p.read).last [] front reader_failed writer_failed failing fault since (inl refl) (at_end before a b held h old front count p kept) (λ text says. last_answered p.read front old new text p.front_is says) w
+
+-- nothing was read or written, since a growth was refused before
+pub none_begun : (before held : Option Bytes) (reader_failed writer_failed : Type 0) → RunsScript before before held held reader_failed writer_failed (Err Memory)
+none_begun before held reader_failed writer_failed =
+    memory_fails before before held held held fresh [] [] reader_failed writer_failed (inl refl)
+    (record { read = []; text = []; lines_before = []; consumed = Consumes-nil before; appended = Appends-nil held; answered = (refl, refl); lines = refl }) (Appends-nil held)

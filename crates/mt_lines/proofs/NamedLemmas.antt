@@ -11,7 +11,9 @@ use Rattle.mt_operation.specs.declared.walk.Phase.{Phase}
 use Rattle.mt_operation.specs.Operations.{OperationView}
 use Rattle.mt_state.specs.Views.{StateView, Shown, op_at}
 use Rattle.mt_state.specs.Promises.{IsStep}
-use Rattle.mt_state.specs.Begins.{Takes}
+use Rattle.mt_rows.specs.declared.command.Command.{Command}
+use Rattle.mt_state.specs.Begins.{Begins, Takes}
+use Rattle.mt_core.specs.Tickets.{Cancels}
 use Rattle.mt_core.specs.Tidies.{Tidies}
 use Rattle.mt_lines.specs.Names.{Tickets, operation_of, FreesName}
 use Rattle.mt_lines.specs.Stores.{HaveOneName, IsInTable, TellsMove, Walks, EndsWalk, IsWalk}
@@ -110,3 +112,17 @@ taken_named old mid new before after name o answer t d f held a = record {
     each_case q there (inr apart) =
         let (n, e) = a.each q (sym (ap (λ k. is_some (op_at k q)) table ∙ ap is_some (get_or-set_other old.table o q None None apart)) ∙ there) in
         (n, f.others n (λ same. apart (same_Some q o (sym e ∙ ap (operation_of before) same ∙ held))) ∙ e)
+
+-- an operation that was begun and cancelled leaves each id as it was
+pub cancelled_same : (old mid new : StateView) (o worker tenant : ℕ) (command : Command) → Begins old mid o worker tenant command → Cancels mid new o → (q : ℕ) → op_at new.table q ≡ op_at old.table q
+cancelled_same old mid new o worker tenant command b c q = ap (λ (v : StateView). op_at v.table q) c.gone ∙ by (cases_eq q o)
+  where
+    by : ((q ≡ o) ⊎ (q ≢ o)) → op_at (set mid.table o None) q ≡ op_at old.table q
+    by (inl here) = ap (op_at (set mid.table o None)) here ∙ gone_is mid.table o ∙ sym (ap (op_at old.table) here ∙ b.free)
+    by (inr apart) = get_or-set_other mid.table o q None None apart ∙ b.others q apart
+
+-- and nothing else has changed
+pub cancelled_stands : (old mid new : StateView) (o worker tenant : ℕ) (command : Command) → Begins old mid o worker tenant command → Cancels mid new o → new ≡ record old { table = new.table }
+cancelled_stands old mid new o worker tenant command b c =
+    let table : new.table ≡ set mid.table o None = ap (λ (v : StateView). v.table) c.gone in
+    c.gone ∙ ap (λ (v : StateView). record v { table = set mid.table o None }) b.stands ∙ ap (λ t. record old { table = t }) (sym table)

@@ -6,6 +6,8 @@
 
 ghost use Rattle.std.specs.Prelude.{◌≡◌, ◌≢◌, ◌<◌, ◌↔◌, ℕ, [], length, slice_index_or, OnOk, IfErr, Some, None};
 ghost use Rattle.std.specs.Option.{option_map};
+ghost use Rattle.std.specs.Ordering.{nat_cmp};
+ghost use Rattle.std.specs.BTreeMap.{get, Updates};
 ghost use Rattle.mt_lines.specs.Names.{ticket_of, operation_of, TakesName, FreesName};
 
 use mt_core::Ticket;
@@ -68,13 +70,7 @@ impl Names {
         if make_room(&mut self.row, id).is_err() {
             return Err(ticket);
         }
-        match self.tickets.entry(name) {
-            Ok(Entry::Vacant(entry)) => {
-                entry.insert(ticket);
-            }
-            Ok(Entry::Occupied(_)) => unreachable!(),
-            Err(_) => return Err(ticket),
-        }
+        insert_new(&mut self.tickets, name, ticket)?;
         self.row[id] = Some(name);
         Ok(())
     }
@@ -88,6 +84,22 @@ impl Names {
         let id = ticket.id() as usize;
         self.row[id] = None;
         Some(ticket)
+    }
+}
+
+// Lets a name that stands for nothing stand for a ticket, which comes back where memory is refused.
+fn insert_new(tickets: &mut BTreeMap<u32, Ticket>, name: u32, ticket: Ticket) -> Result<(), Ticket>
+    requires { get nat_cmp tickets.old name ≡ None }
+    ensures updates { OnOk result (Updates nat_cmp tickets.old tickets.new name (Some ticket)) }
+    ensures back { IfErr result (λ back. (back ≡ ticket) × (tickets.new.entries ≡ tickets.old.entries)) }
+{
+    match tickets.entry(name) {
+        Ok(Entry::Vacant(entry)) => {
+            entry.insert(ticket);
+            Ok(())
+        }
+        Ok(Entry::Occupied(_)) => unreachable!(),
+        Err(_) => Err(ticket),
     }
 }
 
