@@ -1,5 +1,5 @@
 -- The names in use are exactly those of the open operations: what keeps it, for `NamedStore`.
-use Rattle.std.proofs.Common.{◌≡◌, ◌≢◌, ◌⊎◌, ℕ, zero, suc, ◌+◌, set, Bool, true, false, [], ◌∷◌, Option, Some, None, refl, sym, ◌∙◌, ap, inl, inr}
+use Rattle.std.proofs.Common.{◌≡◌, ◌≢◌, ◌⊎◌, ℕ, zero, suc, set, Bool, true, false, [], ◌∷◌, Option, Some, None, refl, sym, ◌∙◌, ap, inl, inr}
 use Rattle.std.specs.Prelude.{is_some}
 use Rattle.std.proofs.lemmas.Bool.{cases_eq}
 use Rattle.std.proofs.lemmas.List.{get_or-set_other}

@@ -1,5 +1,5 @@
 -- What a store hands on of the steps of an operation: for `NamedStore::step`, `until` and `run`.
-use Rattle.std.proofs.Common.{◌≡◌, ◌≢◌, ℕ, ◌+◌, Bool, true, false, not, Option, Some, None, refl, sym, ◌∙◌, ap, subst, arith}
+use Rattle.std.proofs.Common.{◌≡◌, ◌≢◌, ℕ, true, Option, Some, None, refl, sym, ◌∙◌, ap, subst, arith}
 use Rattle.std.specs.Prelude.{is_some}
 use Rattle.mt_state.specs.declared.moves.Move.{Move}
 use Rattle.mt_state.specs.declared.moves.Move.TheVariants.{Moved, Again, NoMemory, Done, Spent, NoSuch}

@@ -5,7 +5,7 @@ use Rattle.mt_core.specs.declared.answers.Ticket.{Ticket}
 use Rattle.mt_core.specs.Tickets.{IsStill, Cancels}
 use Rattle.mt_lines.specs.Names.{Tickets}
 use Rattle.mt_lines.specs.Stores.{HaveOneName}
-use Rattle.mt_lines.proofs.NamedLemmas.{named_same, cancelled_same, cancelled_stands}
+use Rattle.mt_lines.proofs.NamedLemmas.{named_same, cancelled_same}
 use Rattle.mt_lines.proofs.store.NamedStore.begin.Goals as goal
 
 pub cancel-requires : goal.cancel-requires
