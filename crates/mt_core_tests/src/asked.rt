@@ -1,12 +1,12 @@
 //! What tests ask of a store.
 
-ghost use Rattle.std.specs.Prelude.{◌≡◌, IfOk};
-ghost use Rattle.mt_rows.specs.Maps.{is_get};
+ghost use Rattle.std.specs.Prelude.{◌≡◌};
 ghost use Rattle.mt_state.specs.Begins.{HaveNoPairs};
 ghost use Rattle.mt_core.specs.Admitted.{IsPoint};
 
 use mt_rows::{Column, ColumnIndexes, Command, Key, NamedColumns, Tenants};
-use std::alloc::{AllocError, Global};
+use std::alloc::Global;
+use std::process::Abort;
 
 /// Tenant 7, which may have 2 pairs.
 pub(crate) fn one_tenant(alloc: Global) -> Tenants
@@ -18,22 +18,27 @@ pub(crate) fn one_tenant(alloc: Global) -> Tenants
 }
 
 /// A put of column 0.
-pub(crate) fn put(alloc: Global, key: &str, value: &str) -> Result<Command, AllocError>
-    ensures { IfOk result IsPoint }
+pub(crate) fn put(rt: &impl Abort, alloc: Global, key: &str, value: &str) -> Command
+    ensures { IsPoint result }
 {
-    let key = Key::new(Vec::from_slice(alloc, key.as_bytes())?);
-    let value = Column::new(Vec::from_slice(alloc, value.as_bytes())?);
+    let value = Vec::from_slice(alloc, value.as_bytes()).expect(rt, "memory");
     let mut columns = Vec::new(alloc);
-    columns.push((0, value))?;
+    assert!(rt; columns.push((0, Column::new(value))).is_ok());
     let change = NamedColumns::new(columns);
-    Ok(Command::Put { key, change })
+    let key = key_of(rt, alloc, key);
+    Command::Put { key, change }
 }
 
 /// A get of these columns, of all where none is named.
-pub(crate) fn get(alloc: Global, key: &str, columns: &[u8]) -> Result<Command, AllocError>
-    ensures { IfOk result (λ command. is_get command ≡ true) }
+pub(crate) fn get(rt: &impl Abort, alloc: Global, key: &str, columns: &[u8]) -> Command
+    ensures { IsPoint result }
 {
-    let key = Key::new(Vec::from_slice(alloc, key.as_bytes())?);
-    let columns = ColumnIndexes::new(Vec::from_slice(alloc, columns)?);
-    Ok(Command::Get { key, columns })
+    let key = key_of(rt, alloc, key);
+    let columns = Vec::from_slice(alloc, columns).expect(rt, "memory");
+    let columns = ColumnIndexes::new(columns);
+    Command::Get { key, columns }
+}
+
+fn key_of(rt: &impl Abort, alloc: Global, key: &str) -> Key {
+    Key::new(Vec::from_slice(alloc, key.as_bytes()).expect(rt, "memory"))
 }

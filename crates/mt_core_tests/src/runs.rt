@@ -1,6 +1,5 @@
 //! Runs of events, with what each event is told.
 
-ghost use Rattle.std.specs.Prelude.{IfOk};
 ghost use Rattle.std.specs.List.{All};
 ghost use Rattle.mt_state.specs.Histories.{IsServed};
 
@@ -8,8 +7,8 @@ use crate::asked::{get, one_tenant, put};
 use mt_core::run_events;
 use mt_rows::Reply;
 use mt_runs::{Event, Told};
-use std::alloc::{AllocError, Global};
-use std::test::Fail;
+use std::alloc::Global;
+use std::process::Abort;
 
 // An operation's name, what happens to it, and what it is told: a get of a key, a put of a key, `=` and
 // a value, or a step where nothing stands.
@@ -79,33 +78,43 @@ const IN_ANY_ORDER: [Row; 36] = [
 ];
 
 // The events of a run, by the only worker, for tenant 7.
-fn events_of(alloc: Global, rows: &[Row]) -> Result<Vec<Event>, AllocError>
-    ensures { IfOk result (λ events. All (IsServed 0) events.items) }
+fn events_of(rt: &impl Abort, alloc: Global, rows: &[Row]) -> Vec<Event>
+    ensures { All (IsServed 0) result.items }
 {
     let mut events = Vec::new(alloc);
     for row in rows {
-        events.push(event_of(alloc, row)?)?;
+        let event = event_of(rt, alloc, row);
+        assert!(rt; events.push(event).is_ok());
     }
-    Ok(events)
+    events
 }
 
-fn event_of(alloc: Global, row: &Row) -> Result<Event, AllocError>
-    ensures { IfOk result (IsServed 0) }
+fn event_of(rt: &impl Abort, alloc: Global, row: &Row) -> Event
+    ensures { IsServed 0 result }
 {
     let op = row.0;
     if row.1.is_empty() {
-        return Ok(Event::Step { op });
+        return Event::Step { op };
     }
     let command = match row.1.split_once('=') {
-        Some((key, value)) => put(alloc, key, value)?,
-        None => get(alloc, row.1, &[])?,
+        Some((key, value)) => put(rt, alloc, key, value),
+        None => get(rt, alloc, row.1, &[]),
     };
-    Ok(Event::Begin {
+    Event::Begin {
         op,
         worker: 0,
         tenant: 7,
         command,
-    })
+    }
+}
+
+// Lets the events of the rows happen to a new store, and compares what each is told.
+fn expect_run(rt: &impl Abort, alloc: Global, rows: &[Row]) {
+    let events = events_of(rt, alloc, rows);
+    let (_, told) = run_events(alloc, 0, one_tenant(alloc), &events).expect(rt, "memory");
+    for (row, told) in rows.iter().zip(told.as_slice()) {
+        assert_eq!(rt; text_of(told), row.2);
+    }
 }
 
 // What an event is told, as a row says it.
@@ -128,15 +137,8 @@ fn text_of(told: &Told) -> &'static str {
 }
 
 #[test]
-fn each_event_is_told_what_its_row_says(rt: HostRuntime) -> Result<(), Fail> {
+fn each_event_is_told_what_its_row_says(rt: HostRuntime) {
     let alloc = rt.alloc();
-    let runs: [&[Row]; 2] = [&A_GET_LOOKS_AGAIN, &IN_ANY_ORDER];
-    for rows in runs {
-        let events = events_of(alloc, rows)?;
-        let (_, told) = run_events(alloc, 0, one_tenant(alloc), &events)?;
-        for (row, told) in rows.iter().zip(told.as_slice()) {
-            assert_eq!(rt; text_of(told), row.2);
-        }
-    }
-    Ok(())
+    expect_run(&rt, alloc, &A_GET_LOOKS_AGAIN);
+    expect_run(&rt, alloc, &IN_ANY_ORDER);
 }
