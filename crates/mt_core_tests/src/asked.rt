@@ -1,7 +1,8 @@
 //! What tests ask of a store.
 
 ghost use Rattle.std.specs.Prelude.{◌≡◌};
-ghost use Rattle.mt_state.specs.Begins.{HaveNoPairs};
+ghost use Rattle.mt_state.specs.Views.{Shown};
+ghost use Rattle.mt_state.specs.Begins.{HaveNoPairs, MayBegin};
 ghost use Rattle.mt_core.specs.Admitted.{IsPoint};
 
 use mt_rows::{Column, ColumnIndexes, Command, Key, NamedColumns, Tenants};
@@ -31,7 +32,8 @@ pub(crate) fn put(rt: &impl Abort, alloc: Global, key: &str, value: &str) -> Com
 
 /// A get of these columns, of all where none is named.
 pub(crate) fn get(rt: &impl Abort, alloc: Global, key: &str, columns: &[u8]) -> Command
-    ensures { IsPoint result }
+    ensures point { IsPoint result }
+    ensures get { (table : Shown) → MayBegin table result }
 {
     let key = key_of(rt, alloc, key);
     let columns = Vec::from_slice(alloc, columns).expect(rt, "memory");

@@ -1,7 +1,7 @@
 //! One store, call by call.
 
 use crate::asked::{get, one_tenant, put};
-use mt_core::{State, Ticket};
+use mt_core::{State, Ticket, prepare};
 use mt_operation::Phase;
 use mt_rows::{Command, Refusal};
 use mt_runs::Answer;
@@ -39,9 +39,14 @@ fn expect_line(rt: &impl Abort, alloc: Global, state: &State, text: &str) {
 // The answer of an operation that is finished: its numbers are these.
 fn expect_end(rt: &impl Abort, state: &mut State, ticket: Ticket, numbers: (u64, u64, u64)) {
     match state.take(ticket) {
-        Ok(Answer {
-            first, at, last, ..
-        }) => assert_eq!(rt; (first, at, last), numbers),
+        Ok(
+            Answer {
+                first,
+                at,
+                last,
+                ..
+            },
+        ) => assert_eq!(rt; (first, at, last), numbers),
         Err(_) => panic!(rt; "the operation isn't finished"),
     }
 }
@@ -54,7 +59,8 @@ fn a_put_runs_alone(rt: &impl Abort, alloc: Global, state: &mut State) {
 }
 
 fn a_get_goes_by_steps(rt: &impl Abort, alloc: Global, state: &mut State) {
-    let ticket = begin(state, 7, get(rt, alloc, "k", &[])).expect(rt, "the get is taken");
+    let opening = prepare(alloc, 0, 7, get(rt, alloc, "k", &[]));
+    let ticket = state.admit(opening).expect(rt, "the get is taken");
     for phase in [Phase::Enter, Phase::Search, Phase::Load] {
         assert!(rt; state.phase(&ticket) == Some(phase));
         assert!(rt; state.step(&ticket) == Move::Moved);
@@ -70,7 +76,12 @@ fn a_put_and_a_get_of_it(rt: HostRuntime) {
     let mut state = new_store(&rt, alloc);
     expect_line(&rt, alloc, &state, "  border 0");
     a_put_runs_alone(&rt, alloc, &mut state);
-    expect_line(&rt, alloc, &state, "  border 1 000000076b000000:5 000000076b000000:5");
+    expect_line(
+        &rt,
+        alloc,
+        &state,
+        "  border 1 000000076b000000:5 000000076b000000:5",
+    );
     a_get_goes_by_steps(&rt, alloc, &mut state);
     state.tidy();
     state.facts();
@@ -102,7 +113,13 @@ fn the_first_cause_is_told_and_a_begin_is_cancelled(rt: HostRuntime) {
         (7, "long", &[0, 1], Refusal::Column),
     ];
     for (tenant, key, columns, cause) in rows {
-        expect_refusal(&rt, &mut state, tenant, get(&rt, alloc, key, columns), cause);
+        expect_refusal(
+            &rt,
+            &mut state,
+            tenant,
+            get(&rt, alloc, key, columns),
+            cause,
+        );
     }
     let ticket = begin(&mut state, 7, get(&rt, alloc, "k", &[0])).expect(&rt, "the get is taken");
     let cancelled = state.cancel(ticket).is_ok();
