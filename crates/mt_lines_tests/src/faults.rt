@@ -1,8 +1,9 @@
 //! Readers and writers that fail, and what the program is given: how it ends, and what it prints.
 
 use mt_lines::{Ending, run_program};
+use std::alloc::{AllocError, Global};
 use std::io::{self, ErrorKind, Read, Write};
-use std::test::Fail;
+use std::process::Abort;
 
 // A reader of a text that gives a byte at a time and fails at the read of this number.
 #[derive(Drop)]
@@ -57,45 +58,96 @@ impl Write for FailingWriter {
 
 const SCRIPT: &str = "tenant 7 100\nbegin 1 7 put 6b 0=76\nrun 1\nbegin 2 7 get 6b\nrun 2";
 
+const NO_FAULT: &str = "nothing failed; the answers printed stand";
+
 const ANSWERS: &str = "ok\nbegun 1\ndone new\nbegun 2\ndone found 0=76\n";
 
-// Whether the program ends with this status, and says this.
-fn ends_with(rt: &HostRuntime, ending: &Ending, status: u8, said: &str) -> Result<bool, Fail> {
-    let line = format!(in rt.alloc(); "{ending}")?;
-    Ok(ending.status() == status && line.as_str() == said)
+// The program ends with this status, and says this.
+fn expect_ending(rt: &impl Abort, alloc: Global, ending: &Ending, status: u8, said: &str) {
+    let line = ending.to_string(alloc).expect(rt, "memory");
+    assert_eq!(rt; (ending.status(), line.as_str()), (status, said));
 }
 
-#[test]
-fn each_read_fails_in_turn(rt: HostRuntime) -> Result<(), Fail> {
-    for count in 0..SCRIPT.len() + 2 {
-        let mut reader = FailingReader {
-            left: SCRIPT.as_bytes(),
-            until_fault: count,
-        };
-        let mut written = Vec::new(rt.alloc());
-        let ending = run_program(rt.alloc(), &[], &mut reader, &mut written);
-        if count > SCRIPT.len() {
-            assert!(rt; ending.status() == 0);
-            assert!(rt; written.as_slice() == ANSWERS.as_bytes());
-            return Ok(());
-        }
-        let said = "reading failed: other error; the answers printed stand";
-        assert!(rt; ends_with(&rt, &ending, 1, said)?, "read {count}");
-        // All lines that were read to their end are answered, and no other.
-        let (read, _) = SCRIPT.as_bytes().split_at(count);
-        assert!(rt; lines_in(read) == lines_in(&written), "read {count}");
-        assert!(rt; ANSWERS.as_bytes().starts_with(&written), "read {count}");
-    }
-    Ok(())
+// The answers that are printed are the first ones, as many whole lines as this.
+fn expect_front(rt: &impl Abort, written: &[u8], lines: usize) {
+    assert!(rt; ANSWERS.as_bytes().starts_with(written));
+    assert_eq!(rt; lines_in(written), lines);
 }
 
 // How many lines end in these bytes.
 fn lines_in(bytes: &[u8]) -> usize {
-    bytes.iter().filter(|byte| **byte == b'\n').count()
+    let mut count: usize = 0;
+    for byte in bytes {
+        if *byte == b'\n' {
+            count = count.saturating_add(1);
+        }
+    }
+    count
+}
+
+// Runs the script where so many reads succeed.
+fn run_reads(alloc: Global, reads: usize, written: &mut Vec<u8>) -> Ending {
+    let mut reader = FailingReader {
+        left: SCRIPT.as_bytes(),
+        until_fault: reads,
+    };
+    run_program(alloc, &[], &mut reader, written)
+}
+
+// All lines that were read to their end are answered, and no other.
+fn expect_read_fault(rt: &impl Abort, alloc: Global, reads: usize) {
+    let said = "reading failed: other error; the answers printed stand";
+    assert!(rt; reads <= SCRIPT.len());
+    let (read, _) = SCRIPT.as_bytes().split_at(reads);
+    let mut written = Vec::new(alloc);
+    let ending = run_reads(alloc, reads, &mut written);
+    expect_ending(rt, alloc, &ending, 1, said);
+    expect_front(rt, &written, lines_in(read));
+}
+
+fn expect_no_read_fault(rt: &impl Abort, alloc: Global, reads: usize) {
+    let mut written = Vec::new(alloc);
+    let ending = run_reads(alloc, reads, &mut written);
+    expect_ending(rt, alloc, &ending, 0, NO_FAULT);
+    assert!(rt; written.as_slice() == ANSWERS.as_bytes());
 }
 
 #[test]
-fn each_write_fails_in_turn(rt: HostRuntime) -> Result<(), Fail> {
+fn each_read_fails_in_turn(rt: HostRuntime) {
+    for reads in 0..SCRIPT.len() + 1 {
+        expect_read_fault(&rt, rt.alloc(), reads);
+    }
+    expect_no_read_fault(&rt, rt.alloc(), SCRIPT.len() + 1);
+}
+
+// What is printed where so many writes succeed, of at most so many bytes each: one write is a byte, or a
+// line.
+fn expect_write_fault(rt: &impl Abort, alloc: Global, most: usize, writes: usize) {
+    let said =
+        "writing failed: other error; what was printed stands, and its last answer may be cut";
+    let mut reader = SCRIPT.as_bytes();
+    let mut writer = FailingWriter {
+        written: Vec::new(alloc),
+        most,
+        until_fault: writes,
+    };
+    let ending = run_program(alloc, &[], &mut reader, &mut writer);
+    expect_ending(rt, alloc, &ending, 1, said);
+    expect_writes(rt, &writer.written, most, writes);
+}
+
+fn expect_writes(rt: &impl Abort, written: &[u8], most: usize, writes: usize) {
+    let count = if most == 1 {
+        written.len()
+    } else {
+        lines_in(written)
+    };
+    assert!(rt; ANSWERS.as_bytes().starts_with(written));
+    assert_eq!(rt; count, writes);
+}
+
+#[test]
+fn each_write_fails_in_turn(rt: HostRuntime) {
     // (bytes that are taken at a time, writes that succeed)
     let cases: [(usize, usize); 7] = [
         (100, 0),
@@ -106,55 +158,50 @@ fn each_write_fails_in_turn(rt: HostRuntime) -> Result<(), Fail> {
         (1, 5),
         (1, 43),
     ];
-    for (most, count) in cases {
-        let mut reader = SCRIPT.as_bytes();
-        let mut writer = FailingWriter {
-            written: Vec::new(rt.alloc()),
-            most,
-            until_fault: count,
-        };
-        let ending = run_program(rt.alloc(), &[], &mut reader, &mut writer);
-        let said =
-            "writing failed: other error; what was printed stands, and its last answer may be cut";
-        assert!(rt; ends_with(&rt, &ending, 1, said)?, "{most} {count}");
-        assert!(rt;
-            ANSWERS.as_bytes().starts_with(&writer.written),
-            "{most} {count}"
-        );
-        if most == 1 {
-            assert!(rt; writer.written.len() == count);
-        } else {
-            assert!(rt; lines_in(&writer.written) == count);
-        }
+    for (most, writes) in cases {
+        expect_write_fault(&rt, rt.alloc(), most, writes);
+    }
+}
+
+fn push_words(
+    words: &mut Vec<String>,
+    alloc: Global,
+    arguments: &[&str],
+) -> Result<(), AllocError> {
+    for argument in arguments {
+        words.push(String::from_str(alloc, *argument)?)?;
     }
     Ok(())
 }
 
+// What the program does with the arguments: its status, what it says, and what it prints.
+fn expect_program(
+    rt: &impl Abort,
+    alloc: Global,
+    arguments: &[&str],
+    (status, said, printed): (u8, &str, &str),
+) {
+    let mut words = Vec::new(alloc);
+    push_words(&mut words, alloc, arguments).expect(rt, "memory");
+    let mut reader = SCRIPT.as_bytes();
+    let mut written = Vec::new(alloc);
+    let ending = run_program(alloc, &words, &mut reader, &mut written);
+    expect_ending(rt, alloc, &ending, status, said);
+    assert!(rt; written.as_slice() == printed.as_bytes(), "{printed}");
+}
+
 #[test]
-fn arguments(rt: HostRuntime) -> Result<(), Fail> {
-    // (the arguments, the status, what is printed)
-    let none: &[&str] = &[];
-    let cases: [(&[&str], u8, &str); 5] = [
-        (none, 0, ANSWERS),
-        (&["--help"], 0, "usage: mt_script < SCRIPT\n"),
-        (&["-h"], 2, ""),
-        (&["script.in"], 2, ""),
-        (&["--help", "--help"], 2, ""),
+fn arguments(rt: HostRuntime) {
+    let refused = "no argument is taken but --help; usage: mt_script < SCRIPT";
+    // (the arguments, the status, what is said, what is printed)
+    let cases: [(&[&str], u8, &str, &str); 5] = [
+        (&[], 0, NO_FAULT, ANSWERS),
+        (&["--help"], 0, NO_FAULT, "usage: mt_script < SCRIPT\n"),
+        (&["-h"], 2, refused, ""),
+        (&["script.in"], 2, refused, ""),
+        (&["--help", "--help"], 2, refused, ""),
     ];
-    for (arguments, status, printed) in cases {
-        let mut words = Vec::new(rt.alloc());
-        for argument in arguments {
-            words.push(String::from_str(rt.alloc(), *argument)?)?;
-        }
-        let mut reader = SCRIPT.as_bytes();
-        let mut written = Vec::new(rt.alloc());
-        let ending = run_program(rt.alloc(), &words, &mut reader, &mut written);
-        assert!(rt; ending.status() == status, "{status}");
-        assert!(rt; written.as_slice() == printed.as_bytes(), "{printed}");
-        if status == 2 {
-            let said = "no argument is taken but --help; usage: mt_script < SCRIPT";
-            assert!(rt; ends_with(&rt, &ending, 2, said)?);
-        }
+    for (arguments, status, said, printed) in cases {
+        expect_program(&rt, rt.alloc(), arguments, (status, said, printed));
     }
-    Ok(())
 }

@@ -1,18 +1,23 @@
 //! Scripts with what each must be answered.
 
 use mt_lines::run_script;
-use std::test::Fail;
+use std::alloc::{AllocError, Global};
+use std::process::Abort;
 
-// What a script is answered, in a session of its own.
-fn answers(rt: &HostRuntime, script: &[u8]) -> Result<Vec<u8>, Fail> {
+// A script is answered like this, in a session of its own.
+fn expect_answers(rt: &impl Abort, alloc: Global, what: &str, script: &[u8], wanted: &str) {
     let mut reader = script;
-    let mut written = Vec::new(rt.alloc());
-    run_script(rt.alloc(), &mut reader, &mut written)?;
-    Ok(written)
+    let mut written = Vec::new(alloc);
+    let is_whole = run_script(alloc, &mut reader, &mut written).is_ok();
+    expect_bytes(rt, what, is_whole, &written, wanted);
+}
+
+fn expect_bytes(rt: &impl Abort, what: &str, is_whole: bool, written: &[u8], wanted: &str) {
+    assert!(rt; is_whole && written == wanted.as_bytes(), "{what}");
 }
 
 #[test]
-fn whole_scripts(rt: HostRuntime) -> Result<(), Fail> {
+fn whole_scripts(rt: HostRuntime) {
     // (what it shows, the script, its answers)
     let cases: [(&str, &str, &str); 11] = [
         (
@@ -68,10 +73,8 @@ fn whole_scripts(rt: HostRuntime) -> Result<(), Fail> {
         ("fifteen pairs and no more", FIFTEEN_PAIRS, FIFTEEN_ANSWERS),
     ];
     for (what, script, wanted) in cases {
-        let written = answers(&rt, script.as_bytes())?;
-        assert!(rt; written.as_slice() == wanted.as_bytes(), "{what}");
+        expect_answers(&rt, rt.alloc(), what, script.as_bytes(), wanted);
     }
-    Ok(())
 }
 
 const FIFTEEN_PAIRS: &str =
@@ -81,7 +84,7 @@ const FIFTEEN_ANSWERS: &str =
     "ok\nbegun 1\ndone new\nbegun 1\ndone new\nbegun 1\ndone new\nbegun 1\ndone new\nbegun 1\ndone new\nbegun 1\ndone new\nbegun 1\ndone new\nbegun 1\ndone new\nbegun 1\ndone new\nbegun 1\ndone new\nbegun 1\ndone new\nbegun 1\ndone new\nbegun 1\ndone new\nbegun 1\ndone new\nbegun 1\ndone new\nrefused E19\nbegun 1\ndone replaced\n";
 
 #[test]
-fn single_lines(rt: HostRuntime) -> Result<(), Fail> {
+fn single_lines(rt: HostRuntime) {
     // (the script, its answers)
     let cases: [(&str, &str); 49] = [
         ("", ""),
@@ -171,53 +174,104 @@ fn single_lines(rt: HostRuntime) -> Result<(), Fail> {
         ),
     ];
     for (script, wanted) in cases {
-        let written = answers(&rt, script.as_bytes())?;
-        assert!(rt; written.as_slice() == wanted.as_bytes(), "{script:?}");
+        expect_answers(&rt, rt.alloc(), script, script.as_bytes(), wanted);
     }
-    Ok(())
 }
 
+// Adds a byte, others up to so many bytes in all, and an end.
+fn push_long(
+    script: &mut Vec<u8>,
+    first: u8,
+    other: u8,
+    count: usize,
+    end: &str,
+) -> Result<(), AllocError> {
+    script.push(first)?;
+    for _ in 1..count {
+        script.push(other)?;
+    }
+    script.extend_from_slice(end.as_bytes())
+}
+
+// Such a script is answered like this.
+fn expect_long(rt: &impl Abort, alloc: Global, row: &LongRow) {
+    let (what, first, other, count, end, wanted) = *row;
+    let mut script = Vec::new(alloc);
+    push_long(&mut script, first, other, count, end).expect(rt, "memory");
+    expect_answers(rt, alloc, what, &script, wanted);
+}
+
+// What it shows, the first byte, the others, how many they are in all, what follows them, and what is
+// answered.
+type LongRow = (&'static str, u8, u8, usize, &'static str, &'static str);
+
+const EMPTY_TREE: &str = "tree - layer 0\n  border 0\n";
+
+// In the last four, of the longest line that is one, spaces count, and the line's end doesn't.
 #[test]
-fn long_lines(rt: HostRuntime) -> Result<(), Fail> {
-    // (bytes of the line, its first byte, its end, what is answered)
-    let cases: [(usize, u8, &str, &str); 6] = [
-        (65_536, b' ', "\n", "bad line\n"),
-        (65_537, b' ', "\r\n", "bad line\n"),
+fn long_lines(rt: HostRuntime) {
+    let rows: [LongRow; 10] = [
         (
-            200_000,
+            "as long as a line may be",
             b' ',
+            b'x',
+            65_536,
+            "\n",
+            "bad line\n",
+        ),
+        ("a byte too long", b' ', b'x', 65_537, "\r\n", "bad line\n"),
+        (
+            "a line behind a long one",
+            b' ',
+            b'x',
+            200_000,
             "\nshape\n",
             "bad line\ntree - layer 0\n  border 0\n",
         ),
-        (65_537, b'#', "\n", ""),
-        (200_000, b'#', "\r\nshape\n", "tree - layer 0\n  border 0\n"),
-        (200_000, b'#', "", ""),
+        ("a comment a byte too long", b'#', b'x', 65_537, "\n", ""),
+        (
+            "a line behind a long comment",
+            b'#',
+            b'x',
+            200_000,
+            "\r\nshape\n",
+            EMPTY_TREE,
+        ),
+        ("a long comment without an end", b'#', b'x', 200_000, "", ""),
+        (
+            "the longest line",
+            b' ',
+            b' ',
+            65_531,
+            "shape\r\n",
+            EMPTY_TREE,
+        ),
+        (
+            "a space more",
+            b' ',
+            b' ',
+            65_532,
+            "shape\r\n",
+            "bad line\n",
+        ),
+        (
+            "the longest line without an end",
+            b' ',
+            b' ',
+            65_531,
+            "shape",
+            EMPTY_TREE,
+        ),
+        (
+            "a space more without an end",
+            b' ',
+            b' ',
+            65_532,
+            "shape",
+            "bad line\n",
+        ),
     ];
-    for (count, first, end, wanted) in cases {
-        let mut script = Vec::new(rt.alloc());
-        script.push(first)?;
-        for _ in 1..count {
-            script.push(b'x')?;
-        }
-        script.extend_from_slice(end.as_bytes())?;
-        let written = answers(&rt, &script)?;
-        assert!(rt; written.as_slice() == wanted.as_bytes(), "{count} bytes");
+    for row in &rows {
+        expect_long(&rt, rt.alloc(), row);
     }
-    // The longest line that is one: spaces count, the line's end doesn't.
-    for (spaces, end, wanted) in [
-        (65_531, "\r\n", "tree - layer 0\n  border 0\n"),
-        (65_532, "\r\n", "bad line\n"),
-        (65_531, "", "tree - layer 0\n  border 0\n"),
-        (65_532, "", "bad line\n"),
-    ] {
-        let mut script = Vec::new(rt.alloc());
-        for _ in 0..spaces {
-            script.push(b' ')?;
-        }
-        script.extend_from_slice(b"shape")?;
-        script.extend_from_slice(end.as_bytes())?;
-        let written = answers(&rt, &script)?;
-        assert!(rt; written.as_slice() == wanted.as_bytes(), "{spaces} spaces");
-    }
-    Ok(())
 }
