@@ -1,12 +1,12 @@
 //! The arena: the calls that change one node, in two stories of an arena whose root one operation
 //! holds. `tree.rt` has the others.
 
-ghost use Rattle.std.specs.Prelude.{◌≡◌, ◌<◌, [], ◌∷◌, length, IfOk, OnOk};
+ghost use Rattle.std.specs.Prelude.{◌≡◌, ◌<◌, [], ◌∷◌, length};
 ghost use Rattle.mt_border.specs.declared.entry.Entry.{Entry as Slot};
 ghost use Rattle.mt_border.specs.Entry.{IsEntry, IsStablePair};
 ghost use Rattle.mt_border.specs.Contents.{HasKey};
 ghost use Rattle.mt_arena.specs.Edits.{unlocked};
-ghost use Rattle.mt_arena.specs.Accesses.{at, with_node, with_tree};
+ghost use Rattle.mt_arena.specs.Accesses.{at, with_node};
 ghost use Rattle.mt_arena_tests.specs.ArenaStory.{held_root, of_nodes, holding};
 
 use mt_arena::{Arena, Prefix, Standing};
@@ -14,29 +14,29 @@ use mt_border::laws::suffix_fits_mark;
 use mt_border::{Entry, Find, FoundKind, Held, Pair, Suffix};
 use mt_rows::{Column, Row};
 use mt_slices::StoredKey;
-use std::alloc::{AllocError, Global};
+use std::alloc::Global;
 use std::process::Abort;
-use std::test::Fail;
 
 // A row of one column.
-pub fn row_of(rt: &impl Abort, alloc: Global, column: &[u8]) -> Result<Row, AllocError> {
+pub fn row_of(rt: &impl Abort, alloc: Global, column: &[u8]) -> Row {
+    let column = Column::new(Vec::from_slice(alloc, column).expect(rt, "memory"));
     let mut columns = Vec::new(alloc);
-    columns.push(Column::new(Vec::from_slice(alloc, column)?))?;
+    columns.push(column).expect(rt, "memory");
     assert!(rt; Row::fits(&columns));
-    Row::new(alloc, columns)
+    Row::new(alloc, columns).expect(rt, "memory")
 }
 
 // The entry of a key's pair in the top tree, placed by step 6.
-pub fn entry_of(rt: &impl Abort, alloc: Global, key: &StoredKey) -> Result<Entry, AllocError>
-    ensures entry { IfOk result (λ entry. IsEntry entry) }
-    ensures has { IfOk result (λ entry. HasKey [] 0 entry key.now) }
-    ensures stable { IfOk result (λ entry. IsStablePair entry.held) }
+pub fn entry_of(rt: &impl Abort, alloc: Global, key: &StoredKey) -> Entry
+    ensures entry { IsEntry result }
+    ensures has { HasKey [] 0 result key.now }
+    ensures stable { IsStablePair result.held }
 {
     suffix_fits_mark();
-    let row = row_of(rt, alloc, b"v")?;
-    let suffix = Suffix::new(Vec::from_slice(alloc, key.suffix(0))?);
     assert!(rt; key.as_bytes().len() > 0);
-    Ok(Entry {
+    let suffix = Suffix::new(Vec::from_slice(alloc, key.suffix(0)).expect(rt, "memory"));
+    let row = row_of(rt, alloc, b"v");
+    Entry {
         slice: key.slice(0),
         mark: key.mark(0),
         held: Held::Stable(Pair {
@@ -44,16 +44,16 @@ pub fn entry_of(rt: &impl Abort, alloc: Global, key: &StoredKey) -> Result<Entry
             row,
             stamp: 6,
         }),
-    })
+    }
 }
 
 // A new arena whose root operation 5 holds.
-fn held_arena(alloc: Global) -> Result<Arena, AllocError>
-    ensures { IfOk result (λ arena. arena ≡ of_nodes (held_root ∷ [])) }
+fn held_arena(rt: &impl Abort, alloc: Global) -> Arena
+    ensures { result ≡ of_nodes (held_root ∷ []) }
 {
-    let mut arena = Arena::new(alloc)?;
+    let mut arena = Arena::new(alloc).expect(rt, "memory");
     arena.lock(0, 5);
-    Ok(arena)
+    arena
 }
 
 // Puts in the pair of a key.
@@ -91,66 +91,75 @@ fn give_back(arena: &mut Arena)
     arena.unlock(0, 5);
 }
 
-// The stamp of the key's pair in node 0, if it has one.
-fn stamp_of(arena: &Arena, key: &StoredKey) -> Option<u64>
+// The key's pair in node 0 has this stamp, or there is none.
+fn expect_stamp(rt: &impl Abort, arena: &Arena, key: &StoredKey, stamp: Option<u64>)
     requires there { 0 < length arena.now.nodes }
     requires border { (at arena.now 0).level ≡ 0 }
 {
     suffix_fits_mark();
     let border = arena.border(0);
-    match border.find(key.slice(0), key.mark(0), key.suffix(0)) {
-        Find::Slot(slot, FoundKind::ThisKey) => match border.load(slot)? {
-            Held::Stable(pair) => Some(pair.stamp),
-            Held::Unstable(..) | Held::Link(_) => None,
+    let found = match border.find(key.slice(0), key.mark(0), key.suffix(0)) {
+        Find::Slot(slot, FoundKind::ThisKey) => match border.load(slot) {
+            Some(Held::Stable(pair)) => Some(pair.stamp),
+            _ => None,
         },
         _ => None,
-    }
+    };
+    assert_eq!(rt; found, stamp);
 }
 
-#[test]
-fn a_key_is_put_in_changed_and_taken_out(rt: HostRuntime) -> Result<(), Fail> {
-    let alloc = rt.alloc();
-    let key = StoredKey::new(alloc, 7, b"k")?;
-    let entry = entry_of(&rt, alloc, &key)?;
-    let row = row_of(&rt, alloc, b"w")?;
-    let mut arena = held_arena(alloc)?;
-    assert_eq!(rt; stamp_of(&arena, &key), None);
-    put(&mut arena, &key, entry);
-    assert_eq!(rt; stamp_of(&arena, &key), Some(6));
-    let old = replace(&mut arena, &key, row);
-    assert_eq!(rt; old.columns().len(), 1);
-    assert_eq!(rt; stamp_of(&arena, &key), Some(8));
-    let entry = drop_out(&mut arena, &key);
-    assert_eq!(rt; entry.slice, 0x0000_0007_6b00_0000);
-    assert_eq!(rt; stamp_of(&arena, &key), None);
-    assert!(rt; arena.node(0).version().is_inserting());
-    give_back(&mut arena);
-    assert_eq!(rt; arena.node(0).version().inserts(), 1);
-    Ok(())
-}
-
-// A tree of the second layer, which operation 5 begins to make.
-fn second_tree(arena: &mut Arena, prefix: Prefix) -> Result<usize, AllocError>
-    requires arena { arena.old ≡ of_nodes (held_root ∷ []) }
-    requires prefix { length prefix ≡ 8 }
-    ensures number { IfOk result (λ tree. tree ≡ 1) }
-    ensures is { OnOk result (arena.new ≡ with_tree (of_nodes (held_root ∷ [])) prefix 5) }
+// The key is put in with one row, and gets another.
+fn put_and_change(rt: &impl Abort, alloc: Global, arena: &mut Arena, key: &StoredKey)
+    requires { arena.old ≡ of_nodes (held_root ∷ []) }
+    ensures { (entry : Slot) × (arena.new ≡ holding (entry ∷ [])) × HasKey [] 0 entry key.now × IsStablePair entry.held }
 {
-    arena.new_tree(prefix, 5)
+    expect_stamp(rt, arena, key, None);
+    put(arena, key, entry_of(rt, alloc, key));
+    expect_stamp(rt, arena, key, Some(6));
+    let old = replace(arena, key, row_of(rt, alloc, b"w"));
+    assert_eq!(rt; old.columns().len(), 1);
+    expect_stamp(rt, arena, key, Some(8));
+}
+
+// The key is taken out, and then the lock is given back.
+fn take_out(rt: &impl Abort, arena: &mut Arena, key: &StoredKey)
+    requires { (entry : Slot) × (arena.old ≡ holding (entry ∷ [])) × HasKey [] 0 entry key.now × IsStablePair entry.held }
+{
+    let slice = drop_out(arena, key).slice;
+    assert_eq!(rt; slice, 0x0000_0007_6b00_0000);
+    expect_stamp(rt, arena, key, None);
+    assert!(rt; arena.node(0).version().is_inserting());
+    give_back(arena);
+    assert_eq!(rt; arena.node(0).version().inserts(), 1);
 }
 
 #[test]
-fn a_new_tree_is_being_made(rt: HostRuntime) -> Result<(), Fail> {
+fn a_key_is_put_in_changed_and_taken_out(rt: HostRuntime) {
     let alloc = rt.alloc();
-    let mut arena = held_arena(alloc)?;
+    let key = StoredKey::new(alloc, 7, b"k").expect(&rt, "memory");
+    let mut arena = held_arena(&rt, alloc);
+    put_and_change(&rt, alloc, &mut arena, &key);
+    take_out(&rt, &mut arena, &key);
+}
+
+// Operation 5 begins to make a tree of the second layer.
+fn make_tree(rt: &impl Abort, alloc: Global, arena: &mut Arena)
+    requires { arena.old ≡ of_nodes (held_root ∷ []) }
+{
     assert!(rt; arena.tree(0).standing == Standing::Live);
-    let prefix = Vec::from_slice(alloc, b"pppppppp")?;
+    let prefix = Vec::from_slice(alloc, b"pppppppp").expect(rt, "memory");
     assert_eq!(rt; prefix.len(), 8);
-    let tree = second_tree(&mut arena, Prefix::new(prefix))?;
+    let tree = arena.new_tree(Prefix::new(prefix), 5).expect(rt, "memory");
     assert_eq!(rt; tree, 1);
-    assert_eq!(rt; arena.tree(1).root, 1);
-    assert!(rt; arena.tree(1).standing == Standing::Made { by: 5 });
-    assert_eq!(rt; arena.tree(1).prefix.as_bytes().len(), 8);
+    let made = arena.tree(1);
+    assert_eq!(rt; (made.root, made.prefix.as_bytes().len()), (1, 8));
+    assert!(rt; made.standing == Standing::Made { by: 5 });
     assert!(rt; arena.node(1).version().is_root());
-    Ok(())
+}
+
+#[test]
+fn a_new_tree_is_being_made(rt: HostRuntime) {
+    let alloc = rt.alloc();
+    let mut arena = held_arena(&rt, alloc);
+    make_tree(&rt, alloc, &mut arena);
 }

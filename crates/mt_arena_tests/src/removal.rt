@@ -1,19 +1,18 @@
 //! A tree that shrinks: border nodes are emptied and taken out, each a child behind the first one of its
 //! parent, and then the root, once one child is left of it. Between two such steps nobody holds a node.
 
-ghost use Rattle.std.specs.Prelude.{◌≡◌, ◌+◌, ◌<◌, [], ◌∷◌, length, Some, IfSome, IsTrue, OnOk, false};
+ghost use Rattle.std.specs.Prelude.{◌≡◌, ◌+◌, ◌<◌, [], ◌∷◌, length, Some, IsTrue, false};
 ghost use Rattle.mt_arena.specs.Accesses.{at};
 ghost use Rattle.mt_arena.specs.Removals.{AreBeside};
 ghost use Rattle.mt_arena.specs.Forests.{tree_at};
 ghost use Rattle.mt_arena_tests.specs.TreeStory.{IsAtRest, MayCount};
 ghost use Rattle.mt_arena_tests.specs.RemovalStory.{IsHeldAlone, IsTakenOut};
 
-use crate::tree::{border_of, has_all, may_count, put_until, release, release_all};
+use crate::tree::{border_of, expect_all, key_of, may_count, put_until, release, release_all};
 use mt_arena::Arena;
 use mt_slices::StoredKey;
 use std::alloc::Global;
 use std::process::Abort;
-use std::test::Fail;
 
 // Takes the first key of a node out.
 fn drop_first(arena: &mut Arena, node: usize)
@@ -105,22 +104,6 @@ fn take_out(rt: &impl Abort, arena: &mut Arena, key: &StoredKey)
     settle(arena, parent, left, node);
 }
 
-// The only child of a node, if it has one alone.
-fn only_child(arena: &Arena, node: usize) -> Option<usize>
-    requires there { node < length arena.now.nodes }
-    ensures { IfSome result (λ child. (at arena.now node).children ≡ child ∷ []) }
-{
-    if arena.node(node).level() == 0 {
-        return None;
-    }
-    let children = arena.interior(node).children();
-    if children.len() == 1 {
-        Some(children[0])
-    } else {
-        None
-    }
-}
-
 // Takes the root out: its only child is the root from now on.
 fn collapse(arena: &mut Arena, root: usize, child: usize)
     requires rest { IsAtRest arena.old }
@@ -144,35 +127,32 @@ fn shrink(rt: &impl Abort, arena: &mut Arena)
 {
     arena.facts();
     let root = arena.tree(0).root;
-    match only_child(arena, root) {
-        Some(child) => collapse(arena, root, child),
-        None => panic!(rt; "the root has no only child"),
-    }
+    assert!(rt; arena.node(root).level() > 0);
+    let children = arena.interior(root).children();
+    assert!(rt; children.len() == 1);
+    let child = children[0];
+    collapse(arena, root, child);
 }
 
 // A tree of three border nodes loses the second one and the last one, and then the root above.
-fn shrink_tree(rt: &impl Abort, alloc: Global, arena: &mut Arena) -> Result<(), Fail>
+fn shrink_tree(rt: &impl Abort, alloc: Global, arena: &mut Arena)
     requires { IsAtRest arena.old }
-    ensures { OnOk result (IsAtRest arena.new) }
 {
-    put_until(rt, alloc, arena, 0, 15)?;
-    put_until(rt, alloc, arena, 15, 23)?;
-    for name in [10, 20] {
-        let key = StoredKey::new(alloc, 7, &[name])?;
-        take_out(rt, arena, &key);
-    }
+    put_until(rt, alloc, arena, 0, 15);
+    put_until(rt, alloc, arena, 15, 23);
+    take_out(rt, arena, &key_of(rt, alloc, 10));
+    take_out(rt, arena, &key_of(rt, alloc, 20));
     shrink(rt, arena);
-    assert!(rt; has_all(alloc, arena, 8)?);
-    Ok(())
-}
-
-#[test]
-fn a_tree_shrinks_to_its_first_node(rt: HostRuntime) -> Result<(), Fail> {
-    let alloc = rt.alloc();
-    let mut arena = Arena::new(alloc)?;
-    shrink_tree(&rt, alloc, &mut arena)?;
+    expect_all(rt, alloc, arena, 8);
+    arena.facts();
     assert_eq!(rt; arena.tree(0).root, 0);
     let root = arena.node(0);
     assert!(rt; root.level() == 0 && root.high().is_none() && root.next().is_none());
-    Ok(())
+}
+
+#[test]
+fn a_tree_shrinks_to_its_first_node(rt: HostRuntime) {
+    let alloc = rt.alloc();
+    let mut arena = Arena::new(alloc).expect(&rt, "memory");
+    shrink_tree(&rt, alloc, &mut arena);
 }

@@ -1,7 +1,7 @@
 //! A tree that grows: keys come to border nodes, full ones are split, their right halves come to their
 //! parents, and these are split in turn. Between two keys nobody holds a node.
 
-ghost use Rattle.std.specs.Prelude.{◌≡◌, ◌≢◌, ℕ, ◌+◌, ◌<◌, [], length, None, Some, IfOk, IfSome, IsTrue, OnOk};
+ghost use Rattle.std.specs.Prelude.{◌≡◌, ◌≢◌, ℕ, ◌+◌, ◌<◌, [], length, None, Some, IfOk, IsTrue, OnOk};
 ghost use Rattle.mt_slices.specs.Slices.{slice_of, mark_of};
 ghost use Rattle.mt_border.specs.Entries.{IsMissing};
 ghost use Rattle.mt_border.specs.Entry.{IsEntry, IsStablePair};
@@ -20,7 +20,6 @@ use mt_border::{Entry, Find, FoundKind};
 use mt_slices::StoredKey;
 use std::alloc::{AllocError, Global};
 use std::process::Abort;
-use std::test::Fail;
 
 // The largest count that a version counts on from.
 const LAST_COUNT: u64 = (1 << 60) - 2;
@@ -41,20 +40,6 @@ pub fn border_of(arena: &Arena, key: &StoredKey) -> usize
     node
 }
 
-// Whether a border node misses the key.
-fn misses(arena: &Arena, node: usize, key: &StoredKey) -> bool
-    requires there { node < length arena.now.nodes }
-    requires border { (at arena.now node).level ≡ 0 }
-    ensures { IsTrue result → IsMissing (at arena.now node).slots (slice_of key.now 0) (mark_of key.now 0) }
-{
-    suffix_fits_mark();
-    let border = arena.border(node);
-    match border.find(key.slice(0), key.mark(0), key.suffix(0)) {
-        Find::Missing => true,
-        Find::Slot(..) => false,
-    }
-}
-
 // Whether a node's version may count one more insert or split.
 pub fn may_count(arena: &Arena, node: usize) -> bool
     requires { node < length arena.now.nodes }
@@ -62,6 +47,26 @@ pub fn may_count(arena: &Arena, node: usize) -> bool
 {
     let version = arena.node(node).version();
     version.inserts() <= LAST_COUNT && version.splits() <= LAST_COUNT
+}
+
+// The border node in which a key belongs that is missing.
+fn border_without(rt: &impl Abort, arena: &Arena, key: &StoredKey) -> usize
+    requires { IsAtRest arena.now }
+    ensures belongs { BelongsIn arena.now.nodes arena.now.trees key.now 0 result }
+    ensures missing { IsMissing (at arena.now result).slots (slice_of key.now 0) (mark_of key.now 0) }
+    ensures count { MayCount (at arena.now result).version }
+{
+    suffix_fits_mark();
+    let node = border_of(arena, key);
+    match arena
+        .border(node)
+        .find(key.slice(0), key.mark(0), key.suffix(0))
+    {
+        Find::Missing => {}
+        Find::Slot(..) => panic!(rt; "the key is there"),
+    }
+    assert!(rt; may_count(arena, node));
+    node
 }
 
 // Gives the lock of a node back.
@@ -211,64 +216,58 @@ fn split_up(
 }
 
 // Has the halves of a node join the tree: in their parent, or under a new root.
-fn join(
-    rt: &impl Abort,
-    arena: &mut Arena,
-    mut left: usize,
-    mut right: usize,
-) -> Result<(), AllocError>
+fn join(rt: &impl Abort, arena: &mut Arena, mut left: usize, mut right: usize)
     requires { AreHalves arena.old left right }
-    ensures { OnOk result (IsAtRest arena.new) }
+    ensures { IsAtRest arena.new }
 {
     for _level in 0..8 {
         arena.facts();
         let parent = match arena.node(left).parent() {
             Some(parent) => parent,
-            None => return grow(arena, left, right),
+            None => {
+                grow(arena, left, right).expect(rt, "memory");
+                return;
+            }
         };
         assert!(rt; may_count(arena, parent));
         if !arena.interior(parent).is_full() {
             link_up(arena, parent, left, right);
-            return Ok(());
+            return;
         }
-        right = split_up(arena, parent, left, right)?;
+        right = split_up(arena, parent, left, right).expect(rt, "memory");
         left = parent;
     }
     panic!(rt; "the tree is too high")
 }
 
 // Puts in the pair of a missing key, and splits what is full.
-fn put(rt: &impl Abort, arena: &mut Arena, key: &StoredKey, entry: Entry) -> Result<(), AllocError>
+fn put(rt: &impl Abort, arena: &mut Arena, key: &StoredKey, entry: Entry)
     requires rest { IsAtRest arena.old }
     requires entry { IsEntry entry }
     requires has { HasKey [] 0 entry key.now }
     requires stable { IsStablePair entry.held }
-    ensures { OnOk result (IsAtRest arena.new) }
+    ensures { IsAtRest arena.new }
 {
-    let node = border_of(arena, key);
-    assert!(rt; misses(arena, node, key));
-    assert!(rt; may_count(arena, node));
+    let node = border_without(rt, arena, key);
     if !arena.border(node).is_full() {
         publish(arena, node, key, entry);
-        return Ok(());
+        return;
     }
     assert!(rt; arena.border(node).next().is_none());
-    let half = split(arena, node, key, entry)?;
-    join(rt, arena, node, half)
+    let half = split(arena, node, key, entry).expect(rt, "memory");
+    join(rt, arena, node, half);
 }
 
 // Splits the full node in which a missing key belongs, and leaves the key out.
-fn put_aside(rt: &impl Abort, arena: &mut Arena, key: &StoredKey) -> Result<(), AllocError>
+fn put_aside(rt: &impl Abort, arena: &mut Arena, key: &StoredKey)
     requires rest { IsAtRest arena.old }
-    ensures { OnOk result (IsAtRest arena.new) }
+    ensures { IsAtRest arena.new }
 {
-    let node = border_of(arena, key);
-    assert!(rt; misses(arena, node, key));
-    assert!(rt; may_count(arena, node));
-    assert!(rt; arena.border(node).is_full());
-    assert!(rt; arena.border(node).next().is_none());
-    let half = split_without(arena, node, key)?;
-    join(rt, arena, node, half)
+    let node = border_without(rt, arena, key);
+    let border = arena.border(node);
+    assert!(rt; border.is_full() && border.next().is_none());
+    let half = split_without(arena, node, key).expect(rt, "memory");
+    join(rt, arena, node, half);
 }
 
 // Whether the key's pair stands in the border node in which it belongs.
@@ -284,72 +283,51 @@ fn stands(arena: &Arena, key: &StoredKey) -> bool
     )
 }
 
-// Puts in so many keys of one byte, from the lowest on.
-fn put_all(
-    rt: &impl Abort,
-    alloc: Global,
-    arena: &mut Arena,
-    from: u8,
-    until: u8,
-) -> Result<(), Fail>
-    requires { IsAtRest arena.old }
-    ensures { OnOk result (IsAtRest arena.new) }
-{
-    for name in from..until {
-        let key = StoredKey::new(alloc, 7, &[name])?;
-        let entry = entry_of(rt, alloc, &key)?;
-        put(rt, arena, &key, entry)?;
-    }
-    Ok(())
+// The key of one byte.
+pub fn key_of(rt: &impl Abort, alloc: Global, name: u8) -> StoredKey {
+    StoredKey::new(alloc, 7, &[name]).expect(rt, "memory")
 }
 
-// Whether the keys below this one stand where they belong, and this one does not.
-pub fn has_all(alloc: Global, arena: &Arena, until: u8) -> Result<bool, Fail>
+// The keys below this one stand where they belong, and this one does not.
+pub fn expect_all(rt: &impl Abort, alloc: Global, arena: &Arena, until: u8)
     requires { IsAtRest arena.now }
 {
     for name in 0..=until {
-        let key = StoredKey::new(alloc, 7, &[name])?;
-        if stands(arena, &key) != (name < until) {
-            return Ok(false);
-        }
+        let stands = stands(arena, &key_of(rt, alloc, name));
+        assert_eq!(rt; stands, name < until);
     }
-    Ok(true)
 }
 
-// Keys come until this one, which is left out where the last border node is split without it.
-pub fn put_until(
-    rt: &impl Abort,
-    alloc: Global,
-    arena: &mut Arena,
-    from: u8,
-    until: u8,
-) -> Result<(), Fail>
+// Keys of one byte come, from the lowest on, until this one, which is left out where the last border
+// node is split without it.
+pub fn put_until(rt: &impl Abort, alloc: Global, arena: &mut Arena, from: u8, until: u8)
     requires { IsAtRest arena.old }
-    ensures { OnOk result (IsAtRest arena.new) }
+    ensures { IsAtRest arena.new }
 {
-    put_all(rt, alloc, arena, from, until)?;
-    let key = StoredKey::new(alloc, 7, &[until])?;
-    put_aside(rt, arena, &key)?;
-    assert!(rt; has_all(alloc, arena, until)?);
-    Ok(())
+    for name in from..until {
+        let key = key_of(rt, alloc, name);
+        put(rt, arena, &key, entry_of(rt, alloc, &key));
+    }
+    put_aside(rt, arena, &key_of(rt, alloc, until));
+    expect_all(rt, alloc, arena, until);
 }
 
 // The root is split first, then every eighth key splits the last border node: the halves come to their
 // parent, until it has 16 children and is split itself.
-fn grow_tree(rt: &impl Abort, alloc: Global, arena: &mut Arena) -> Result<(), Fail>
+fn grow_tree(rt: &impl Abort, alloc: Global, arena: &mut Arena)
     requires { IsAtRest arena.old }
 {
-    put_until(rt, alloc, arena, 0, 15)?;
-    put_until(rt, alloc, arena, 15, 23)?;
-    put_until(rt, alloc, arena, 23, 151)
+    put_until(rt, alloc, arena, 0, 15);
+    put_until(rt, alloc, arena, 15, 23);
+    put_until(rt, alloc, arena, 23, 151);
+    arena.facts();
+    let top = arena.tree(0).root;
+    assert_eq!(rt; arena.node(top).level(), 2);
 }
 
 #[test]
-fn a_tree_grows_to_three_levels(rt: HostRuntime) -> Result<(), Fail> {
+fn a_tree_grows_to_three_levels(rt: HostRuntime) {
     let alloc = rt.alloc();
-    let mut arena = Arena::new(alloc)?;
-    grow_tree(&rt, alloc, &mut arena)?;
-    let top = arena.tree(0).root;
-    assert_eq!(rt; arena.node(top).level(), 2);
-    Ok(())
+    let mut arena = Arena::new(alloc).expect(&rt, "memory");
+    grow_tree(&rt, alloc, &mut arena);
 }
