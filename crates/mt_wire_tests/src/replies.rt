@@ -10,9 +10,13 @@ use std::process::Abort;
 // the bytes of its frame.
 fn expect_front(rt: &impl Abort, alloc: Global, bytes: &[u8], text: &str) {
     let front = decode_reply(alloc, bytes).expect(rt, "memory");
+    expect_read(rt, alloc, &front, bytes, text);
+}
+
+fn expect_read(rt: &impl Abort, alloc: Global, front: &ReplyFront, bytes: &[u8], text: &str) {
     let shown = format!(in alloc; "{front:?}").expect(rt, "memory");
     assert_eq!(rt; shown.as_str(), text);
-    if let ReplyFront::Whole(reply, len) = &front {
+    if let ReplyFront::Whole(reply, len) = front {
         let mut again = Vec::new(alloc);
         assert!(rt; encode(reply, &mut again).is_ok());
         assert!(rt; again.len() == *len && bytes.starts_with(again.as_slice()));

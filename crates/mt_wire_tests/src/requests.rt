@@ -10,9 +10,13 @@ use std::process::Abort;
 // the bytes of its frame.
 fn expect_front(rt: &impl Abort, alloc: Global, bytes: &[u8], text: &str) {
     let front = decode(alloc, bytes).expect(rt, "memory");
+    expect_read(rt, alloc, &front, bytes, text);
+}
+
+fn expect_read(rt: &impl Abort, alloc: Global, front: &Front, bytes: &[u8], text: &str) {
     let shown = format!(in alloc; "{front:?}").expect(rt, "memory");
     assert_eq!(rt; shown.as_str(), text);
-    if let Front::Whole(request, len) = &front {
+    if let Front::Whole(request, len) = front {
         let mut again = Vec::new(alloc);
         assert!(rt; encode_request(request, &mut again).is_ok());
         assert!(rt; again.len() == *len && bytes.starts_with(again.as_slice()));
@@ -138,16 +142,24 @@ fn requests(rt: &impl Abort, alloc: Global, columns: u32, key: u32, column: u32)
     ]
 }
 
+fn expect_none_written(rt: &impl Abort, requests: &[Request], out: &mut Vec<u8>) {
+    for request in requests {
+        assert!(rt; matches!(encode_request(request, out), Err(EncodeFault::Long)));
+        assert_eq!(rt; out.as_slice(), b"before".as_slice());
+    }
+}
+
+fn expect_all_written(rt: &impl Abort, requests: &[Request], out: &mut Vec<u8>) {
+    for request in requests {
+        assert!(rt; encode_request(request, out).is_ok());
+    }
+}
+
 #[test]
 fn a_request_without_a_spelling_is_not_written(rt: HostRuntime) {
     let alloc = rt.alloc();
     let mut out = Vec::from_slice(alloc, b"before").expect(&rt, "memory");
-    for request in &requests(&rt, alloc, 256, 32_766, 65_536) {
-        assert!(rt; matches!(encode_request(request, &mut out), Err(EncodeFault::Long)));
-        assert_eq!(rt; out.as_slice(), b"before".as_slice());
-    }
-    for request in &requests(&rt, alloc, 255, 32_765, 32_761) {
-        assert!(rt; encode_request(request, &mut out).is_ok());
-    }
+    expect_none_written(&rt, &requests(&rt, alloc, 256, 32_766, 65_536), &mut out);
+    expect_all_written(&rt, &requests(&rt, alloc, 255, 32_765, 32_761), &mut out);
     assert_eq!(rt; out.len(), 6 + (4 + 259) + (4 + 32_768) + (4 + 32_768));
 }
