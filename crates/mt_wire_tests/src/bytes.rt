@@ -1,9 +1,10 @@
-//! Bytes written as hex digits with spaces between them.
+//! Frames written as hex digits with spaces between them, and frames of many bytes.
 
-use std::alloc::{AllocError, Global};
+use std::alloc::Global;
+use std::process::Abort;
 
 /// The bytes of these digits, whatever stands between them.
-pub fn bytes_of(alloc: Global, hex: &str) -> Result<Vec<u8>, AllocError> {
+pub fn bytes_of(rt: &impl Abort, alloc: Global, hex: &str) -> Vec<u8> {
     let mut bytes = Vec::new(alloc);
     let mut high = None;
     for byte in hex.as_bytes() {
@@ -15,28 +16,29 @@ pub fn bytes_of(alloc: Global, hex: &str) -> Result<Vec<u8>, AllocError> {
         match high {
             None => high = Some(digit % 16 * 16),
             Some(high_digit) => {
-                bytes.push(high_digit | digit)?;
+                bytes.push(high_digit | digit).expect(rt, "memory");
                 high = None;
             }
         }
     }
-    Ok(bytes)
+    bytes
 }
 
-/// A frame of these bytes, the first of them, and then so many times the second.
-pub fn frame_of(alloc: Global, front: &[u8], times: u32, byte: u8) -> Result<Vec<u8>, AllocError> {
-    let mut body = Vec::from_slice(alloc, front)?;
-    for _ in 0..times {
-        body.push(byte)?;
+/// So many times this byte.
+pub fn many(rt: &impl Abort, alloc: Global, count: u32, byte: u8) -> Vec<u8> {
+    let mut bytes = Vec::new(alloc);
+    for _ in 0..count {
+        bytes.push(byte).expect(rt, "memory");
     }
-    framed(alloc, &body)
+    bytes
 }
 
-/// The frame of a body.
-pub fn framed(alloc: Global, body: &[u8]) -> Result<Vec<u8>, AllocError> {
+/// The frame of a body, which is given in two parts.
+pub fn framed(rt: &impl Abort, alloc: Global, front: &[u8], rest: &[u8]) -> Vec<u8> {
+    let len = u32::try_from(front.len().saturating_add(rest.len())).unwrap_or(u32::MAX);
     let mut frame = Vec::new(alloc);
-    let len = u32::try_from(body.len()).unwrap_or(u32::MAX);
-    frame.extend_from_slice(&len.to_be_bytes())?;
-    frame.extend_from_slice(body)?;
-    Ok(frame)
+    for part in [len.to_be_bytes().as_slice(), front, rest] {
+        frame.extend_from_slice(part).expect(rt, "memory");
+    }
+    frame
 }

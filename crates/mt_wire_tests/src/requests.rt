@@ -1,95 +1,89 @@
 //! Requests.
 
-use crate::bytes::{bytes_of, frame_of};
+use crate::bytes::{bytes_of, framed, many};
 use mt_rows::{Column, ColumnIndexes, Command, Key, NamedColumns};
 use mt_wire::{EncodeFault, Front, Request, decode, encode_request};
-use std::alloc::{AllocError, Global};
-use std::test::Fail;
+use std::alloc::Global;
+use std::process::Abort;
 
-// What decode tells of these bytes.
-fn told(alloc: Global, bytes: &[u8]) -> Result<String, AllocError> {
-    match decode(alloc, bytes)? {
-        Front::Whole(request, len) => format!(in alloc; "{len} {request:?}"),
-        Front::Partial => "partial".to_string(alloc),
-        Front::Bad => "bad".to_string(alloc),
-    }
+// What stands at the front of these bytes is shown as this text, and a request that is read is written as
+// the bytes of its frame.
+fn expect_front(rt: &impl Abort, alloc: Global, bytes: &[u8], text: &str) {
+    let front = decode(alloc, bytes).expect(rt, "memory");
+    expect_read(rt, alloc, &front, bytes, text);
 }
 
-#[test]
-fn each_request_is_read_and_written_as_its_bytes(rt: HostRuntime) -> Result<(), Fail> {
-    for (hex, text) in [
-        ("00000005 01 00000007", "9 Open(7)"),
-        (
-            "00000005 02 0001 61 00",
-            "9 Call(Get { key: Key { bytes: [97] }, columns: ColumnIndexes { indexes: [] } })",
-        ),
-        (
-            "00000007 02 0001 6b 02 00 03",
-            "11 Call(Get { key: Key { bytes: [107] }, columns: ColumnIndexes { indexes: [0, 3] } })",
-        ),
-        (
-            "00000009 03 0001 6b 01 00 0001 76",
-            "13 Call(Put { key: Key { bytes: [107] }, change: NamedColumns { columns: [(0, Column { bytes: [118] })] } })",
-        ),
-        (
-            "00000004 04 0001 6b",
-            "8 Call(Remove { key: Key { bytes: [107] } })",
-        ),
-        (
-            "00000006 05 00 0000 02 00",
-            "10 Call(Scan { from: Key { bytes: [] }, after: false, count: 2, columns: ColumnIndexes { indexes: [] } })",
-        ),
-        (
-            "00000008 05 01 0001 6b 40 01 0f",
-            "12 Call(Scan { from: Key { bytes: [107] }, after: true, count: 64, columns: ColumnIndexes { indexes: [15] } })",
-        ),
-        ("00000001 06", "5 Settle"),
-        // Past their limits and yet in the grammar: no columns, an index of 16, no pairs.
-        (
-            "00000005 03 0001 61 00",
-            "9 Call(Put { key: Key { bytes: [97] }, change: NamedColumns { columns: [] } })",
-        ),
-        (
-            "00000006 02 0001 61 01 10",
-            "10 Call(Get { key: Key { bytes: [97] }, columns: ColumnIndexes { indexes: [16] } })",
-        ),
-        (
-            "00000006 05 00 0000 00 00",
-            "10 Call(Scan { from: Key { bytes: [] }, after: false, count: 0, columns: ColumnIndexes { indexes: [] } })",
-        ),
-    ] {
-        assert_eq!(rt; told_of_whole(rt.alloc(), hex)?.as_str(), text);
+fn expect_read(rt: &impl Abort, alloc: Global, front: &Front, bytes: &[u8], text: &str) {
+    let shown = format!(in alloc; "{front:?}").expect(rt, "memory");
+    assert_eq!(rt; shown.as_str(), text);
+    if let Front::Whole(request, len) = front {
+        let mut again = Vec::new(alloc);
+        assert!(rt; encode_request(request, &mut again).is_ok());
+        assert!(rt; again.len() == *len && bytes.starts_with(again.as_slice()));
     }
-    Ok(())
 }
 
 // What is told of these bytes, with and without a byte behind them; each front of them is less than a
-// frame, and a message that is read is written as the same bytes.
-fn told_of_whole(alloc: Global, hex: &str) -> Result<String, AllocError> {
-    let mut bytes = bytes_of(alloc, hex)?;
-    let text = told(alloc, &bytes)?;
+// frame.
+fn expect_frame(rt: &impl Abort, alloc: Global, hex: &str, text: &str) {
+    let mut bytes = bytes_of(rt, alloc, hex);
     for cut in 0..bytes.len() {
-        if told(alloc, &bytes[..cut])?.as_str() != "partial" {
-            return "a front is more than a part".to_string(alloc);
-        }
+        expect_front(rt, alloc, &bytes[..cut], "Partial");
     }
-    if let Front::Whole(request, _) = decode(alloc, &bytes)? {
-        let mut again = Vec::new(alloc);
-        if encode_request(&request, &mut again).is_err() || again.as_slice() != bytes.as_slice() {
-            return "it is written otherwise".to_string(alloc);
-        }
-    }
-    bytes.push(0xff)?;
-    if told(alloc, &bytes)?.as_str() != text.as_str() {
-        return "a byte behind it changes it".to_string(alloc);
-    }
-    Ok(text)
+    expect_front(rt, alloc, &bytes, text);
+    bytes.push(0xff).expect(rt, "memory");
+    expect_front(rt, alloc, &bytes, text);
 }
 
 #[test]
-fn a_bad_length_is_refused_at_once_and_a_bad_body_when_it_is_whole(
-    rt: HostRuntime,
-) -> Result<(), Fail> {
+fn each_request_is_read_and_written_as_its_bytes(rt: HostRuntime) {
+    for (hex, text) in [
+        ("00000005 01 00000007", "Whole(Open(7), 9)"),
+        (
+            "00000005 02 0001 61 00",
+            "Whole(Call(Get { key: Key { bytes: [97] }, columns: ColumnIndexes { indexes: [] } }), 9)",
+        ),
+        (
+            "00000007 02 0001 6b 02 00 03",
+            "Whole(Call(Get { key: Key { bytes: [107] }, columns: ColumnIndexes { indexes: [0, 3] } }), 11)",
+        ),
+        (
+            "00000009 03 0001 6b 01 00 0001 76",
+            "Whole(Call(Put { key: Key { bytes: [107] }, change: NamedColumns { columns: [(0, Column { bytes: [118] })] } }), 13)",
+        ),
+        (
+            "00000004 04 0001 6b",
+            "Whole(Call(Remove { key: Key { bytes: [107] } }), 8)",
+        ),
+        (
+            "00000006 05 00 0000 02 00",
+            "Whole(Call(Scan { from: Key { bytes: [] }, after: false, count: 2, columns: ColumnIndexes { indexes: [] } }), 10)",
+        ),
+        (
+            "00000008 05 01 0001 6b 40 01 0f",
+            "Whole(Call(Scan { from: Key { bytes: [107] }, after: true, count: 64, columns: ColumnIndexes { indexes: [15] } }), 12)",
+        ),
+        ("00000001 06", "Whole(Settle, 5)"),
+        // Past their limits and yet in the grammar: no columns, an index of 16, no pairs.
+        (
+            "00000005 03 0001 61 00",
+            "Whole(Call(Put { key: Key { bytes: [97] }, change: NamedColumns { columns: [] } }), 9)",
+        ),
+        (
+            "00000006 02 0001 61 01 10",
+            "Whole(Call(Get { key: Key { bytes: [97] }, columns: ColumnIndexes { indexes: [16] } }), 10)",
+        ),
+        (
+            "00000006 05 00 0000 00 00",
+            "Whole(Call(Scan { from: Key { bytes: [] }, after: false, count: 0, columns: ColumnIndexes { indexes: [] } }), 10)",
+        ),
+    ] {
+        expect_frame(&rt, rt.alloc(), hex, text);
+    }
+}
+
+#[test]
+fn a_bad_length_is_refused_at_once_and_a_bad_body_when_it_is_whole(rt: HostRuntime) {
     for hex in [
         "00000000",
         "00008001",
@@ -104,66 +98,68 @@ fn a_bad_length_is_refused_at_once_and_a_bad_body_when_it_is_whole(
         "00000008 03 0001 6b 02 00 0000",
         "00000002 06 00",
     ] {
-        assert_eq!(rt; told_of_whole(rt.alloc(), hex)?.as_str(), "bad");
+        expect_frame(&rt, rt.alloc(), hex, "Bad");
     }
-    Ok(())
 }
 
 #[test]
-fn a_request_of_32_768_bytes_is_the_longest(rt: HostRuntime) -> Result<(), Fail> {
+fn a_request_of_32_768_bytes_is_the_longest(rt: HostRuntime) {
     let alloc = rt.alloc();
-    let longest = frame_of(alloc, &[4, 0x7f, 0xfd], 32_765, b'k')?;
-    assert!(rt; matches!(decode(alloc, &longest)?, Front::Whole(_, 32_772)));
-    let longer = frame_of(alloc, &[4, 0x7f, 0xfe], 32_766, b'k')?;
-    assert!(rt; matches!(decode(alloc, &longer)?, Front::Bad));
-    Ok(())
+    let longest = framed(
+        &rt,
+        alloc,
+        &[4, 0x7f, 0xfd],
+        &many(&rt, alloc, 32_765, b'k'),
+    );
+    let front = decode(alloc, &longest).expect(&rt, "memory");
+    assert!(rt; matches!(front, Front::Whole(_, 32_772)));
+    let longer = framed(
+        &rt,
+        alloc,
+        &[4, 0x7f, 0xfe],
+        &many(&rt, alloc, 32_766, b'k'),
+    );
+    expect_front(&rt, alloc, &longer, "Bad");
 }
 
-// So many bytes.
-fn many(alloc: Global, count: u32) -> Result<Vec<u8>, AllocError> {
-    let mut bytes = Vec::new(alloc);
-    for _ in 0..count {
-        bytes.push(b'b')?;
-    }
-    Ok(bytes)
-}
-
-// A get of this many columns, a remove of a key of this many bytes, and a put of a column of so many.
-fn requests(
-    alloc: Global,
-    columns: u32,
-    key: u32,
-    column: u32,
-) -> Result<[Request; 3], AllocError> {
-    let indexes = ColumnIndexes::new(many(alloc, columns)?);
-    let mut named = Vec::new(alloc);
-    named.push((0, Column::new(many(alloc, column)?)))?;
-    Ok([
+// Calls that get this many columns, remove a key of this many bytes, and put a column of so many.
+fn requests(rt: &impl Abort, alloc: Global, columns: u32, key: u32, column: u32) -> [Request; 3] {
+    let columns = ColumnIndexes::new(many(rt, alloc, columns, 0));
+    let key = Key::new(many(rt, alloc, key, b'k'));
+    let mut change = Vec::new(alloc);
+    let column = Column::new(many(rt, alloc, column, b'v'));
+    assert!(rt; change.push((0, column)).is_ok());
+    [
         Request::Call(Command::Get {
             key: Key::new(Vec::new(alloc)),
-            columns: indexes,
+            columns,
         }),
-        Request::Call(Command::Remove {
-            key: Key::new(many(alloc, key)?),
-        }),
+        Request::Call(Command::Remove { key }),
         Request::Call(Command::Put {
             key: Key::new(Vec::new(alloc)),
-            change: NamedColumns::new(named),
+            change: NamedColumns::new(change),
         }),
-    ])
+    ]
+}
+
+fn expect_none_written(rt: &impl Abort, requests: &[Request], out: &mut Vec<u8>) {
+    for request in requests {
+        assert!(rt; matches!(encode_request(request, out), Err(EncodeFault::Long)));
+        assert_eq!(rt; out.as_slice(), b"before".as_slice());
+    }
+}
+
+fn expect_all_written(rt: &impl Abort, requests: &[Request], out: &mut Vec<u8>) {
+    for request in requests {
+        assert!(rt; encode_request(request, out).is_ok());
+    }
 }
 
 #[test]
-fn a_request_without_a_spelling_is_not_written(rt: HostRuntime) -> Result<(), Fail> {
+fn a_request_without_a_spelling_is_not_written(rt: HostRuntime) {
     let alloc = rt.alloc();
-    let mut out = Vec::from_slice(alloc, b"before")?;
-    for request in &requests(alloc, 256, 32_766, 65_536)? {
-        assert!(rt; matches!(encode_request(request, &mut out), Err(EncodeFault::Long)));
-        assert_eq!(rt; out.as_slice(), b"before".as_slice());
-    }
-    for request in &requests(alloc, 255, 32_765, 32_761)? {
-        assert!(rt; encode_request(request, &mut out).is_ok());
-    }
+    let mut out = Vec::from_slice(alloc, b"before").expect(&rt, "memory");
+    expect_none_written(&rt, &requests(&rt, alloc, 256, 32_766, 65_536), &mut out);
+    expect_all_written(&rt, &requests(&rt, alloc, 255, 32_765, 32_761), &mut out);
     assert_eq!(rt; out.len(), 6 + (4 + 259) + (4 + 32_768) + (4 + 32_768));
-    Ok(())
 }
