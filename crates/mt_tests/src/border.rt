@@ -74,6 +74,7 @@ fn put_key(rt: &impl Abort, alloc: Global, border: &mut Border, user_key: &[u8],
 fn spans(rt: &impl Abort, border: &Border, first: u64, last: u64, count: usize) {
     assert!(rt; matches!(border.first(), Some(entry) if entry.slice == first));
     assert!(rt; matches!(border.last(), Some(entry) if entry.slice == last));
+    assert_eq!(rt; border.len(), count);
     assert_eq!(rt; border.entries().count(), count);
 }
 
