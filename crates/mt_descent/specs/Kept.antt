@@ -16,7 +16,7 @@ use Rattle.mt_arena.specs.Layers.{slot_at}
 use Rattle.mt_arena.specs.Arena.{ArenaView}
 use Rattle.mt_arena.specs.Accesses.{at, IsHeld}
 use Rattle.mt_operation.specs.declared.walk.Phase.{Phase}
-use Rattle.mt_operation.specs.declared.walk.Phase.TheVariants.{Enter, Pick, Child, Verify, Search, Load, Confirm, Forward, Lock, Judge, Store, Publish, Unlock, Done}
+use Rattle.mt_operation.specs.declared.walk.Phase.TheVariants.{Enter, Pick, Child, Verify, Search, Load, Confirm, Forward, Lock, Done}
 use Rattle.mt_operation.specs.declared.walk.Taken.{Taken}
 use Rattle.mt_operation.specs.declared.walk.Taken.TheVariants.{Missing, Row, Link, Nothing}
 use Rattle.mt_operation.specs.declared.walk.Walk.{Walk}
@@ -134,11 +134,8 @@ KeptAt Load v past key row w = IsAtLoad v key w
 KeptAt Confirm v past key row w = IsAtConfirm v past key row w
 KeptAt Forward v past key row w = IsAtForward v key w
 KeptAt Lock v past key row w = IsAtBorder v key w
-KeptAt Judge v past key row w = Unit {0}
-KeptAt Store v past key row w = Unit {0}
-KeptAt Publish v past key row w = Unit {0}
-KeptAt Unlock v past key row w = Unit {0}
 KeptAt Done v past key row w = TakenWasRight past key row w w.taken
+KeptAt _ v past key row w = Unit {0}
 
 -- what is kept of a walk by its next phase
 abbrev pub IsKept : ArenaView → Past → Bytes → Option Columns → Walk → Type 0

@@ -20,7 +20,7 @@ use Rattle.mt_arena.specs.Accesses.{at}
 use Rattle.mt_arena.specs.Guarantee.{TreeChanges}
 use Rattle.mt_arena.proofs.Settled.{settled_stays}
 use Rattle.mt_operation.specs.declared.walk.Phase.{Phase}
-use Rattle.mt_operation.specs.declared.walk.Phase.TheVariants.{Enter, Pick, Child, Verify, Search, Load, Confirm, Forward, Lock, Judge, Store, Publish, Unlock, Done}
+use Rattle.mt_operation.specs.declared.walk.Phase.TheVariants.{Store, Publish}
 use Rattle.mt_operation.specs.declared.walk.Walk.{Walk}
 use Rattle.mt_operation.specs.declared.task.Task.{Task}
 use Rattle.mt_operation.specs.declared.prepared.Prepared.{Prepared}
@@ -87,18 +87,7 @@ module _ (op o : ℕ) (old new : ArenaView) (g : Guarantee op old new) (other : 
   pub ready : (task : Task) (prepared : Prepared) (w : Walk) (phase : Phase) → KeptReady phase old o task prepared w → KeptReady phase new o task prepared w
   ready task prepared w Store h = store task prepared w h
   ready task prepared w Publish h = publish task prepared w h
-  ready task prepared w Enter h = absurd h
-  ready task prepared w Pick h = absurd h
-  ready task prepared w Child h = absurd h
-  ready task prepared w Verify h = absurd h
-  ready task prepared w Search h = absurd h
-  ready task prepared w Load h = absurd h
-  ready task prepared w Confirm h = absurd h
-  ready task prepared w Forward h = absurd h
-  ready task prepared w Lock h = absurd h
-  ready task prepared w Judge h = absurd h
-  ready task prepared w Unlock h = absurd h
-  ready task prepared w Done h = absurd h
+  ready task prepared w _ h = absurd h
 
   -- at Unlock
   pub unlock : (w : Walk) → IsAtUnlock old o w → IsAtUnlock new o w

@@ -1,5 +1,5 @@
 -- Where each phase of a split leads, and what it makes of the nodes.
-use Rattle.std.specs.Prelude.{◌≡◌, ℕ, ◌+◌, ◌-◌, ◌<◌, ◌==◌, ¬◌, if◌then◌else◌, nat_le, length, Option, Some, None, slice_index, slice_set, ◌++◌, ◌∷◌, []}
+use Rattle.std.specs.Prelude.{◌≡◌, ℕ, ◌+◌, ◌-◌, ◌<◌, ◌==◌, if◌then◌else◌, nat_le, length, Option, Some, None, slice_index, slice_set, ◌++◌, ◌∷◌, []}
 use Rattle.mt_slices.specs.Slices.{slice_of, mark_of}
 use Rattle.mt_border.specs.Split.{IsSeparator, slices_with}
 use Rattle.mt_arena.specs.NodeView.{NodeView}
@@ -53,6 +53,10 @@ after_reparent right moved = if moved + 1 == length right.children then LockPare
 -- a child of this number names the node as its parent
 abbrev pub with_named_parent : ArenaView → ℕ → ℕ → ArenaView
 with_named_parent v child parent = with_node v child (pointed (at v child) (at v child).previous (Some parent))
+
+-- the node behind a right half names it as the one before
+abbrev pub with_named_previous : ArenaView → ℕ → ℕ → ArenaView
+with_named_previous v behind right = with_node v behind (pointed (at v behind) (Some right) (at v behind).parent)
 
 -- after Unlock: the locks of the splits' nodes were given back, and nothing else was done
 pub record Returns (old new : ArenaView) (s : Splits) : Type 0 where

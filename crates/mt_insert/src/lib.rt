@@ -8,5 +8,10 @@
 pub mod laws;
 pub mod phases;
 mod prepare;
+pub mod splits;
 
 pub use phases::{judge, publish, store, unlock};
+pub use splits::{
+    grow_root, insert_child, lock_parent, reparent, split_interior, split_move, split_prev,
+    split_start, unlock_all,
+};

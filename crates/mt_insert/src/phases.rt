@@ -123,7 +123,7 @@ pub fn store(
 }
 
 // Puts a write that the step of this number placed on the tape.
-fn push_write(tape: &mut Tape, mut write: mt_tape::Entry, step: u64)
+pub(crate) fn push_write(tape: &mut Tape, mut write: mt_tape::Entry, step: u64)
     requires reserved { 0 < tape.old.reserved }
     requires later { last_write tape.old < step }
     ensures { tape.new ≡ pushed tape.old (record write { step = step }) }
@@ -201,7 +201,7 @@ fn add_pair(
 }
 
 // The entry of a key's pair with this row, placed by the step of this number.
-fn new_entry(key: &StoredKey, layer: usize, suffix: Suffix, row: Row, step: u64) -> Entry
+pub(crate) fn new_entry(key: &StoredKey, layer: usize, suffix: Suffix, row: Row, step: u64) -> Entry
     requires reaches { HasLayer key.now layer }
     requires suffix { suffix ≡ suffix_of key.now layer }
     ensures { result ≡ entry_of key.now layer row step }

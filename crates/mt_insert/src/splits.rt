@@ -21,13 +21,15 @@ ghost use Rattle.mt_arena.specs.Edits.{unlocked};
 ghost use Rattle.mt_arena.specs.Arena.{content_of, Guarantee};
 ghost use Rattle.mt_arena.specs.Accesses.{at, with_node};
 ghost use Rattle.mt_arena.specs.Several.{AreHalved, with_root, with_right, with_parts};
-ghost use Rattle.mt_operation.specs.declared.splits.Halves.{Halves as AnyHalves};
+ghost use Rattle.mt_operation.specs.declared.task.Task.{Task as AnyTask};
+ghost use Rattle.mt_operation.specs.declared.prepared.Prepared.{Prepared as AnyPrepared};
+ghost use Rattle.mt_descent.specs.Kept.{HoldsNothing};
 ghost use Rattle.mt_descent.specs.Moves.{Continues};
 ghost use Rattle.mt_insert.specs.Puts.{IsPut};
 ghost use Rattle.mt_insert.specs.Kept.{HoldsOnly};
 ghost use Rattle.mt_insert.specs.Moves.{walk_done, entry_of, released, Places};
 ghost use Rattle.mt_insert.specs.Splitting.{last_of, IsUnsplit, IsAmong, HoldsSplits, IsAtSplitStart, IsAtSplitMove, IsAtSplitPrev, IsAtLockParent, IsAtInsertChild, IsAtInteriorSplit, IsAtReparent, IsAtRootGrow, IsAtUnlockAll, KeptSplit};
-ghost use Rattle.mt_insert.specs.SplitMoves.{walk_at, Starts, HasOneMore, after_parting, for_parent, with_parent, moved_on, after_reparent, with_named_parent, Returns};
+ghost use Rattle.mt_insert.specs.SplitMoves.{walk_at, Starts, HasOneMore, after_parting, for_parent, with_parent, moved_on, after_reparent, with_named_parent, with_named_previous, Returns};
 
 use crate::phases::{new_entry, push_write, unlock};
 use mt_arena::Arena;
@@ -35,7 +37,7 @@ use mt_operation::{Halves, Phase, Prepared, Splits, Task, Walk};
 use mt_rows::Tenants;
 use mt_slices::StoredKey;
 use mt_tape::Tape;
-use std::alloc::{AllocError, Global};
+use std::alloc::AllocError;
 
 /// Makes the right half of the full border node, marks both for readers of their range, and holds
 /// both. Where there is no memory the lock and the room on the tape are given back in this step, and
@@ -153,6 +155,54 @@ pub fn split_move(
         part_without(arena, &task.key, walk, splits, operation);
     }
     is_new
+}
+
+// Parts the keys and the new pair among the halves, and puts its write on the tape.
+fn part_with(
+    arena: &mut Arena,
+    tape: &mut Tape,
+    task: &Task,
+    walk: &Walk,
+    splits: &Splits,
+    prepared: Prepared,
+    step: u64,
+    operation: usize,
+)
+    requires put { IsPut task.now }
+    requires kept { IsAtSplitMove arena.old operation task.now prepared walk.now splits.now }
+    requires reserved { 0 < tape.old.reserved }
+    requires later { last_write tape.old < step }
+    ensures is { AreHalved (with_entry (at arena.old walk.now.place.node).slots (entry_of task.now.key walk.now.layer prepared.row step))
+        arena.old.nodes arena.new.nodes walk.now.place.node (last_of splits.now).right }
+    ensures nodes_alone { arena.new ≡ record arena.old { nodes = arena.new.nodes } }
+    ensures places { Places task.now step arena.old arena.new tape.old tape.new }
+    ensures step { Guarantee operation arena.old arena.new }
+{
+    arena.facts();
+    let Halves { left, right } = last(splits);
+    let Prepared { suffix, row, write } = prepared;
+    let entry = new_entry(&task.key, walk.layer, suffix, row, step);
+    arena.split_border(left, right, entry, operation);
+    push_write(tape, write, step);
+}
+
+// Parts the keys among the halves without the new pair.
+fn part_without(arena: &mut Arena, key: &StoredKey, walk: &Walk, splits: &Splits, operation: usize)
+    requires kept { (task : AnyTask) × (prepared : AnyPrepared) × (task.key ≡ key.now) × IsAtSplitMove arena.old operation task prepared walk.now splits.now }
+    ensures is { AreHalved (at arena.old walk.now.place.node).slots arena.old.nodes arena.new.nodes walk.now.place.node (last_of splits.now).right }
+    ensures nodes_alone { arena.new ≡ record arena.old { nodes = arena.new.nodes } }
+    ensures step { Guarantee operation arena.old arena.new }
+    ensures contents { content_of arena.new ≡ content_of arena.old }
+{
+    arena.facts();
+    let Halves { left, right } = last(splits);
+    arena.split_border_without(
+        left,
+        right,
+        key.slice(walk.layer),
+        key.mark(walk.layer),
+        operation,
+    );
 }
 
 // What comes next once the keys are parted.
@@ -373,13 +423,14 @@ pub fn unlock_all(arena: &mut Arena, walk: &mut Walk, splits: &mut Splits, opera
     ensures nothing { HoldsSplits arena.old operation splits.old → HoldsNothing arena.new operation }
 {
     arena.facts();
-    for halves in splits.halves.drain(..) {
-        arena.unlock(halves.left, operation);
-        arena.unlock(halves.right, operation);
-    }
     if let Some(above) = splits.above.take() {
         arena.unlock(above, operation);
     }
+    for halves in &splits.halves {
+        arena.unlock(halves.left, operation);
+        arena.unlock(halves.right, operation);
+    }
+    splits.halves.clear();
     splits.moved = 0;
     walk.phase = Phase::Done;
 }
