@@ -1,5 +1,6 @@
 -- What a put finds in the border node that it holds, and what it makes ready of that: for `judge`.
-use Rattle.std.proofs.Common.{◌≡◌, ℕ, Bool, true, false, List, Option, Some, None, refl, sym, ap, subst, ◌∙◌}
+use Rattle.std.proofs.Common.{◌≡◌, ℕ, ◌==◌, ◌<◌, ◌≤◌, Bool, true, false, List, length, Option, Some, None, refl, sym, ap, subst, ◌∙◌, arith}
+use Rattle.std.proofs.lemmas.Bool.{cond_both, eqb-true, eqb-false}
 use Rattle.std.specs.Prelude.{IsSomeAnd, IfSome, IfNone, if◌then◌else◌}
 use Rattle.std.specs.Option.{option_map}
 use Rattle.mt_slices.specs.Slices.{slice_of, mark_of, suffix_of}
@@ -14,15 +15,17 @@ use Rattle.mt_border.specs.Entry.{pair_of}
 use Rattle.mt_border.specs.Entries.{IsMissing}
 use Rattle.mt_border.proofs.Edits.{any_entry}
 use Rattle.mt_border.specs.Node.{Node as BorderNode, IsFound, entries_of, entry_at}
-use Rattle.mt_arena.specs.NodeView.{NodeView}
+use Rattle.mt_arena.specs.declared.tree.Tree.{Tree}
+use Rattle.mt_arena.specs.NodeView.{NodeView, node_at}
 use Rattle.mt_arena.specs.NodeFacts.{IsUnstable}
 use Rattle.mt_arena.specs.Layers.{slot_at}
-use Rattle.mt_arena.specs.Arena.{ArenaView}
+use Rattle.mt_arena.specs.Arena.{ArenaView, IsArena}
 use Rattle.mt_arena.specs.Accesses.{at}
+use Rattle.mt_operation.specs.declared.walk.Phase.{Phase}
 use Rattle.mt_operation.specs.declared.walk.Walk.{Walk}
 use Rattle.mt_operation.specs.declared.task.Task.{Task}
 use Rattle.mt_operation.specs.declared.prepared.Prepared.{Prepared}
-use Rattle.mt_operation.specs.declared.walk.Phase.TheVariants.{Forward, Judge}
+use Rattle.mt_operation.specs.declared.walk.Phase.TheVariants.{Forward, Judge, Store, Publish, SplitStart}
 use Rattle.mt_version.specs.Parts.{Parts}
 use Rattle.mt_arena.specs.Settled.{IsSettled}
 use Rattle.mt_descent.specs.Seen.{IsOutdated}
@@ -31,7 +34,7 @@ use Rattle.mt_descent.specs.Moves.{Locks, after_change, walk_anew}
 use Rattle.mt_descent.proofs.Looks.{finds_in}
 use Rattle.mt_insert.specs.Puts.{IsReady}
 use Rattle.mt_insert.specs.Kept.{HoldsBorder, KeptReady}
-use Rattle.mt_insert.specs.Moves.{FitsIn, StandsIn, ReadyFor, after_judge}
+use Rattle.mt_insert.specs.Moves.{StandsIn, ReadyFor, after_judge}
 
 -- what a border node tells of the key, its view tells
 pub stands_in : (n : NodeView) (b : BorderNode) (key : Bytes) (layer : ℕ) (slot : Option ℕ) → n.slots ≡ b.slots
@@ -51,35 +54,50 @@ stable_pair (Stable pair) P stable some = (pair, refl)
 stable_pair (Unstable pair tree) P stable some = absurd (stable tt)
 stable_pair (Link tree) P stable some = absurd some
 
--- what is kept where the put goes on to place its row
-pub kept_ready : (v : ArenaView) (op : ℕ) (task : Task) (prepared : Prepared) (w : Walk) (slot : Option ℕ) → HoldsBorder v op task.key w → FitsIn (at v w.place.node) task.key w.layer
-    → StandsIn (at v w.place.node) task.key w.layer slot → ReadyFor (at v w.place.node) task w.layer slot prepared → KeptReady (after_judge slot w).phase v op task prepared (after_judge slot w)
-kept_ready v op task prepared w (Some slot) h fits stands ready =
-    let n = at v w.place.node in
+-- a node has at most fifteen slots
+pub border_within : (nodes : List NodeView) (trees : List Tree) → IsArena nodes trees → (k : ℕ) → k < length nodes → length (node_at nodes k).slots ≤ 15
+border_within nodes trees arena k there = (arena.nodes.each k there).slots.border.within
+
+-- the walk's phase says nothing of the node that it holds
+holds_on : (v : ArenaView) (op : ℕ) (task : Task) (w : Walk) (phase : Phase) (slot : ℕ) → HoldsBorder v op task.key w → HoldsBorder v op task.key (record w { phase = phase; slot = slot })
+holds_on v op task w phase slot h =
     let j = h.judged in
+    record {
+      judged = record { at_border = record { through = j.at_border.through; covers = j.at_border.covers; border = j.at_border.border }; held = j.held; still = j.still; stands = j.stands };
+      settled = h.settled;
+    }
+
+-- what is kept where the put goes on to place its row
+pub kept_ready : (v : ArenaView) (op : ℕ) (task : Task) (prepared : Prepared) (w : Walk) (slot : Option ℕ) → HoldsBorder v op task.key w → length (at v w.place.node).slots ≤ 15
+    → StandsIn (at v w.place.node) task.key w.layer slot → ReadyFor (at v w.place.node) task w.layer slot prepared
+    → KeptReady (after_judge (at v w.place.node) slot w).phase v op task prepared (after_judge (at v w.place.node) slot w)
+kept_ready v op task prepared w (Some slot) h within stands ready =
+    let n = at v w.place.node in
     let found = stable_pair (slot_at n slot).held (λ pair. pair.suffix ≡ suffix_of task.key w.layer) (h.settled.stable slot any_entry stands.in_range) stands.kind_is in
     record {
-      holds = record {
-        judged = record { at_border = record { through = j.at_border.through; covers = j.at_border.covers; border = j.at_border.border }; held = j.held; still = j.still; stands = j.stands };
-        settled = h.settled;
-      };
+      holds = holds_on v op task w Store slot h;
       in_slot = stands;
       pair = found.0;
       stable = found.1;
       ready = ready found.0 (ap pair_of found.1);
     }
-kept_ready v op task prepared w None h fits stands ready =
-    let j = h.judged in
-    record {
-      holds = record {
-        judged = record { at_border = record { through = j.at_border.through; covers = j.at_border.covers; border = j.at_border.border }; held = j.held; still = j.still; stands = j.stands };
-        settled = h.settled;
-      };
+kept_ready v op task prepared w None h within stands ready =
+    let full = length (at v w.place.node).slots == 15 in
+    cond_both full SplitStart Publish (λ (phase : Phase). KeptReady phase v op task prepared (record w { phase = phase }))
+    (λ yes. record {
+      holds = holds_on v op task w SplitStart w.slot h;
       missing = stands;
-      room = fits.room stands;
+      full = eqb-true _ _ yes;
       suffix = ready.1;
       ready = ready.0;
-    }
+    })
+    (λ no. record {
+      holds = holds_on v op task w Publish w.slot h;
+      missing = stands;
+      room = let differ = eqb-false _ _ no in omega (arith, within, differ);
+      suffix = ready.1;
+      ready = ready.0;
+    })
 
 -- a node that was deleted or split since it was remembered was not locked
 not_judging : (w : Walk) (now : Parts) (next : Option ℕ) → (after_change w now next).phase ≡ Judge → ⊥

@@ -20,13 +20,13 @@ use Rattle.mt_arena.specs.Accesses.{at}
 use Rattle.mt_arena.specs.Guarantee.{TreeChanges}
 use Rattle.mt_arena.proofs.Settled.{settled_stays}
 use Rattle.mt_operation.specs.declared.walk.Phase.{Phase}
-use Rattle.mt_operation.specs.declared.walk.Phase.TheVariants.{Store, Publish}
+use Rattle.mt_operation.specs.declared.walk.Phase.TheVariants.{Store, Publish, SplitStart}
 use Rattle.mt_operation.specs.declared.walk.Walk.{Walk}
 use Rattle.mt_operation.specs.declared.task.Task.{Task}
 use Rattle.mt_operation.specs.declared.prepared.Prepared.{Prepared}
 use Rattle.mt_descent.specs.Kept.{IsInSlot}
 use Rattle.mt_descent.proofs.Rely.{judge_stays}
-use Rattle.mt_insert.specs.Kept.{HoldsBorder, IsAtStore, IsAtPublish, KeptReady, IsAtUnlock}
+use Rattle.mt_insert.specs.Kept.{HoldsBorder, IsAtStore, IsAtPublish, IsAtSplitStart, KeptReady, IsAtUnlock}
 
 -- a slot stays while the slots do
 in_slot_stays : (n m : NodeView) (slot : ℕ) (key : Bytes) (layer : ℕ) (kind : FoundKind) → n.slots ≡ m.slots → IsInSlot n slot key layer kind → IsInSlot m slot key layer kind
@@ -83,10 +83,23 @@ module _ (op o : ℕ) (old new : ArenaView) (g : Guarantee op old new) (other : 
         ready = h.ready;
       }
 
-  -- at either
+  -- at SplitStart
+  pub split_start : (task : Task) (prepared : Prepared) (w : Walk) → IsAtSplitStart old o task prepared w → IsAtSplitStart new o task prepared w
+  split_start task prepared w h =
+      let same = same_slots task.key w h.holds in
+      record {
+        holds = held task.key w h.holds;
+        missing = subst (λ (s : List Entry). IsMissing s (slice_of task.key w.layer) (mark_of task.key w.layer)) same h.missing;
+        full = subst (λ (s : List Entry). length s ≡ 15) same h.full;
+        suffix = h.suffix;
+        ready = h.ready;
+      }
+
+  -- at each of them
   pub ready : (task : Task) (prepared : Prepared) (w : Walk) (phase : Phase) → KeptReady phase old o task prepared w → KeptReady phase new o task prepared w
   ready task prepared w Store h = store task prepared w h
   ready task prepared w Publish h = publish task prepared w h
+  ready task prepared w SplitStart h = split_start task prepared w h
   ready task prepared w _ h = absurd h
 
   -- at Unlock

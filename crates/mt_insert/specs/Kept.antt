@@ -11,7 +11,7 @@ use Rattle.mt_arena.specs.Settled.{IsSettled}
 use Rattle.mt_arena.specs.Arena.{ArenaView}
 use Rattle.mt_arena.specs.Accesses.{at, IsHeld, IsOpen}
 use Rattle.mt_operation.specs.declared.walk.Phase.{Phase}
-use Rattle.mt_operation.specs.declared.walk.Phase.TheVariants.{Store, Publish}
+use Rattle.mt_operation.specs.declared.walk.Phase.TheVariants.{Store, Publish, SplitStart}
 use Rattle.mt_operation.specs.declared.walk.Walk.{Walk}
 use Rattle.mt_operation.specs.declared.task.Task.{Task}
 use Rattle.mt_operation.specs.declared.prepared.Prepared.{Prepared}
@@ -39,10 +39,19 @@ pub record IsAtPublish (v : ArenaView) (op : ℕ) (task : Task) (prepared : Prep
   pub suffix : prepared.suffix ≡ suffix_of task.key w.layer
   pub ready : IsReady task None prepared
 
--- at the phase that places the put
+-- at SplitStart: the full border node misses the key, and what was made ready is the put over no row
+pub record IsAtSplitStart (v : ArenaView) (op : ℕ) (task : Task) (prepared : Prepared) (w : Walk) : Type 0 where
+  pub holds : HoldsBorder v op task.key w
+  pub missing : IsMissing (at v w.place.node).slots (slice_of task.key w.layer) (mark_of task.key w.layer)
+  pub full : length (at v w.place.node).slots ≡ 15
+  pub suffix : prepared.suffix ≡ suffix_of task.key w.layer
+  pub ready : IsReady task None prepared
+
+-- at the phase that places the put, or begins the split of its node
 abbrev pub KeptReady : Phase → ArenaView → ℕ → Task → Prepared → Walk → Type 0
 KeptReady Store v op task prepared w = IsAtStore v op task prepared w
 KeptReady Publish v op task prepared w = IsAtPublish v op task prepared w
+KeptReady SplitStart v op task prepared w = IsAtSplitStart v op task prepared w
 KeptReady _ v op task prepared w = ⊥
 
 -- at Unlock: the operation holds the node, nobody else is making its tree, and nothing lags behind it

@@ -1,5 +1,5 @@
 -- Where each phase of a put that holds its border node leads, and what it leaves of contents and tape.
-use Rattle.std.specs.Prelude.{◌≡◌, ℕ, ◌+◌, ◌*◌, ◌-◌, ◌<◌, ◌≤◌, [], ◌∷◌, ◌++◌, length, Option, Some, None}
+use Rattle.std.specs.Prelude.{◌≡◌, ℕ, ◌+◌, ◌-◌, ◌==◌, if◌then◌else◌, [], ◌∷◌, ◌++◌, length, Option, Some, None}
 use Rattle.mt_slices.specs.Slices.{slice_of, mark_of, suffix_of}
 use Rattle.mt_rows.specs.Rows.{Bytes, Columns}
 use Rattle.mt_border.specs.declared.entry.Entry.{Entry}
@@ -14,17 +14,13 @@ use Rattle.mt_tape.specs.Histories.{with_write}
 use Rattle.mt_arena.specs.NodeView.{NodeView}
 use Rattle.mt_arena.specs.Layers.{slot_at}
 use Rattle.mt_arena.specs.Arena.{ArenaView, content_of}
-use Rattle.mt_operation.specs.declared.walk.Phase.TheVariants.{Store, Publish, Unlock, Done}
+use Rattle.mt_operation.specs.declared.walk.Phase.{Phase}
+use Rattle.mt_operation.specs.declared.walk.Phase.TheVariants.{Store, Publish, SplitStart, Unlock, Done}
 use Rattle.mt_operation.specs.declared.walk.Walk.{Walk}
 use Rattle.mt_operation.specs.declared.task.Task.{Task}
 use Rattle.mt_operation.specs.declared.prepared.Prepared.{Prepared}
 use Rattle.mt_descent.specs.Kept.{IsInSlot}
 use Rattle.mt_insert.specs.Puts.{IsReady, write_of}
-
--- the key ends in this layer, and the node has it or has room for it
-pub record FitsIn (n : NodeView) (key : Bytes) (layer : ℕ) : Type 0 where
-  pub ends : length key ≤ 8 * (layer + 1)
-  pub room : IsMissing n.slots (slice_of key layer) (mark_of key layer) → length n.slots < 15
 
 -- the slot that has the key; none where the node misses it
 abbrev pub StandsIn : NodeView → Bytes → ℕ → Option ℕ → Type 0
@@ -36,10 +32,13 @@ abbrev pub ReadyFor : NodeView → Task → ℕ → Option ℕ → Prepared → 
 ReadyFor n task layer (Some slot) prepared = (pair : Pair) → pair_of (slot_at n slot).held ≡ Some pair → IsReady task (Some pair.row) prepared
 ReadyFor n task layer None prepared = IsReady task None prepared × (prepared.suffix ≡ suffix_of task.key layer)
 
--- after Judge: to store in the slot that has the key, or to publish where it is missing
-abbrev pub after_judge : Option ℕ → Walk → Walk
-after_judge (Some slot) w = record w { slot = slot; phase = Store }
-after_judge None w = record w { phase = Publish }
+-- after Judge: to store in the slot that has the key; where it is missing, to publish, or to split a full node
+abbrev pub for_missing : NodeView → Phase
+for_missing n = if length n.slots == 15 then SplitStart else Publish
+
+abbrev pub after_judge : NodeView → Option ℕ → Walk → Walk
+after_judge n (Some slot) w = record w { slot = slot; phase = Store }
+after_judge n None w = record w { phase = for_missing n }
 
 -- after Store and Publish, and after Unlock
 abbrev pub walk_placed : Walk → Walk

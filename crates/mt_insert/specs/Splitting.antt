@@ -21,7 +21,6 @@ use Rattle.mt_operation.specs.declared.splits.Halves.{Halves}
 use Rattle.mt_operation.specs.declared.splits.Splits.{Splits}
 use Rattle.mt_descent.specs.Kept.{GoesThrough}
 use Rattle.mt_insert.specs.Puts.{IsReady}
-use Rattle.mt_insert.specs.Kept.{HoldsBorder}
 
 -- the halves at a place of the list, and the last ones
 abbrev pub halves_at : List Halves → ℕ → Halves
@@ -107,14 +106,6 @@ pub record HasSplitsNamed (v : ArenaView) (op : ℕ) (s : Splits) : Type 0 where
   pub splits : HasSplits v op s
   pub left : NothingLags v.nodes (last_of s).left
   pub right : NothingLags v.nodes (last_of s).right
-
--- at SplitStart: the full border node misses the key, and what was made ready is the put over no row
-pub record IsAtSplitStart (v : ArenaView) (op : ℕ) (task : Task) (prepared : Prepared) (w : Walk) : Type 0 where
-  pub holds : HoldsBorder v op task.key w
-  pub missing : IsMissing (at v w.place.node).slots (slice_of task.key w.layer) (mark_of task.key w.layer)
-  pub full : length (at v w.place.node).slots ≡ 15
-  pub suffix : prepared.suffix ≡ suffix_of task.key w.layer
-  pub ready : IsReady task None prepared
 
 -- a border node before its keys are parted: only its next one and the right half name it as the one before, nobody names the right half, and
 -- its range in its parent ends at its high fence

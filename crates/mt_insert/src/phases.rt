@@ -4,7 +4,7 @@
 //! Each changes at most the node that the operation holds. Placing takes no memory, and neither it nor
 //! giving the lock back can fail. Units: steps by their numbers.
 
-ghost use Rattle.std.specs.Prelude.{◌≡◌, ◌<◌, ◌↔◌, ℕ, Option, Some, None, IsTrue, IfSome, IfNone, false, true};
+ghost use Rattle.std.specs.Prelude.{◌≡◌, ◌<◌, ◌≤◌, ◌+◌, ◌*◌, ◌==◌, ◌↔◌, ℕ, if◌then◌else◌, length, Option, Some, None, IsTrue, IfSome, IfNone, false, true};
 ghost use Rattle.std.specs.Option.{option_map};
 ghost use Rattle.std.specs.FinMap.{get};
 ghost use Rattle.mt_version.specs.Changes.{CanUnlock};
@@ -14,6 +14,7 @@ ghost use Rattle.mt_rows.specs.Rows.{Bytes};
 ghost use Rattle.mt_border.specs.declared.entry.Pair.{Pair as AnyPair};
 ghost use Rattle.mt_border.specs.Entries.{with_entry, replaced};
 ghost use Rattle.mt_border.specs.Contents.{owned};
+ghost use Rattle.mt_border.specs.Node.{entries_of};
 ghost use Rattle.mt_tape.specs.Tapes.{last_write};
 ghost use Rattle.mt_arena.specs.Layers.{slot_at};
 ghost use Rattle.mt_arena.specs.Edits.{with_slots, unlocked};
@@ -22,11 +23,11 @@ ghost use Rattle.mt_arena.specs.Accesses.{at, with_node, with_row};
 ghost use Rattle.mt_descent.specs.Moves.{Continues};
 ghost use Rattle.mt_insert.specs.Puts.{IsPut};
 ghost use Rattle.mt_insert.specs.Kept.{HoldsBorder, IsAtStore, IsAtPublish, KeptReady, IsAtUnlock};
-ghost use Rattle.mt_insert.specs.Moves.{FitsIn, StandsIn, after_judge, walk_placed, walk_done, entry_of, reserving, released, pushed, Places};
+ghost use Rattle.mt_insert.specs.Moves.{StandsIn, after_judge, walk_placed, walk_done, entry_of, reserving, released, pushed, Places};
 
 use crate::prepare::{prepare, slot_here};
 use mt_arena::Arena;
-use mt_border::{Entry, Held, Pair, Suffix};
+use mt_border::{Border, Entry, Held, Pair, Suffix};
 use mt_operation::{Phase, Prepared, Task, Walk};
 use mt_rows::{Row, Tenants};
 use mt_slices::StoredKey;
@@ -34,8 +35,9 @@ use mt_tape::Tape;
 use std::alloc::Global;
 
 /// Looks for the key in the border node that the operation holds, and makes all growths of the step
-/// that will place the row: `store` where the node has the key, `publish` where it has not. Where there
-/// is no memory the lock is given back in this step, and the walk is done.
+/// that will place the row: `store` where the node has the key, `publish` where it has not, or
+/// `split_move`, behind `split_start`, where it is full too. Where there is no memory the lock is given
+/// back in this step, and the walk is done.
 pub fn judge(
     alloc: Global,
     arena: &mut Arena,
@@ -46,8 +48,8 @@ pub fn judge(
 ) -> Option<Prepared>
     requires put { IsPut task.now }
     requires kept { HoldsBorder arena.old operation task.now.key walk.old }
-    requires fits { FitsIn (at arena.old walk.old.place.node) task.now.key walk.old.layer }
-    ensures is { IfSome result (λ prepared. (slot : Option ℕ) × StandsIn (at arena.old walk.old.place.node) task.now.key walk.old.layer slot × (walk.new ≡ after_judge slot walk.old)) }
+    requires ends { length task.now.key ≤ 8 * (walk.old.layer + 1) }
+    ensures is { IfSome result (λ prepared. (slot : Option ℕ) × StandsIn (at arena.old walk.old.place.node) task.now.key walk.old.layer slot × (walk.new ≡ after_judge (at arena.old walk.old.place.node) slot walk.old)) }
     ensures unchanged { IfSome result (λ prepared. arena.new ≡ arena.old) }
     ensures reserved { IfSome result (λ prepared. tape.new ≡ reserving tape.old) }
     ensures done { IfNone result (walk.new ≡ walk_done walk.old) }
@@ -62,7 +64,7 @@ pub fn judge(
     let slot = slot_here(arena, &task.key, walk);
     match prepare(alloc, arena, tape, task, walk, slot) {
         Ok(prepared) => {
-            go_on(walk, slot);
+            go_on(arena, walk, slot);
             Some(prepared)
         }
         Err(_) => {
@@ -73,15 +75,28 @@ pub fn judge(
 }
 
 // Goes on to place the row, by the slot that has the key.
-fn go_on(walk: &mut Walk, slot: Option<usize>)
-    ensures { walk.new ≡ after_judge slot walk.old }
+fn go_on(arena: &Arena, walk: &mut Walk, slot: Option<usize>)
+    requires there { walk.old.place.node < length arena.now.nodes }
+    requires border { (at arena.now walk.old.place.node).level ≡ 0 }
+    ensures { walk.new ≡ after_judge (at arena.now walk.old.place.node) slot walk.old }
 {
     match slot {
         Some(slot) => {
             walk.slot = slot;
             walk.phase = Phase::Store;
         }
-        None => walk.phase = Phase::Publish,
+        None => walk.phase = for_missing(arena.border(walk.place.node)),
+    }
+}
+
+// What comes next where the node misses the key.
+fn for_missing(border: &Border) -> Phase
+    ensures { result ≡ (if length (entries_of border.now) == 15 then Phase.SplitStart else Phase.Publish) }
+{
+    if border.is_full() {
+        Phase::SplitStart
+    } else {
+        Phase::Publish
     }
 }
 

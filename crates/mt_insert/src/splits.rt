@@ -26,9 +26,9 @@ ghost use Rattle.mt_operation.specs.declared.prepared.Prepared.{Prepared as AnyP
 ghost use Rattle.mt_descent.specs.Kept.{HoldsNothing};
 ghost use Rattle.mt_descent.specs.Moves.{Continues};
 ghost use Rattle.mt_insert.specs.Puts.{IsPut};
-ghost use Rattle.mt_insert.specs.Kept.{HoldsOnly};
+ghost use Rattle.mt_insert.specs.Kept.{HoldsOnly, IsAtSplitStart};
 ghost use Rattle.mt_insert.specs.Moves.{walk_done, entry_of, released, Places};
-ghost use Rattle.mt_insert.specs.Splitting.{last_of, IsUnsplit, IsAmong, HoldsSplits, IsAtSplitStart, IsAtSplitMove, IsAtSplitPrev, IsAtLockParent, IsAtInsertChild, IsAtInteriorSplit, IsAtReparent, IsAtRootGrow, IsAtUnlockAll, KeptSplit};
+ghost use Rattle.mt_insert.specs.Splitting.{last_of, IsUnsplit, IsAmong, HoldsSplits, IsAtSplitMove, IsAtSplitPrev, IsAtLockParent, IsAtInsertChild, IsAtInteriorSplit, IsAtReparent, IsAtRootGrow, IsAtUnlockAll, KeptSplit};
 ghost use Rattle.mt_insert.specs.SplitMoves.{walk_at, Starts, HasOneMore, after_parting, for_parent, with_parent, moved_on, after_reparent, with_named_parent, with_named_previous, Returns};
 
 use crate::phases::{new_entry, push_write, unlock};
