@@ -5,7 +5,7 @@ use Rattle.mt_border.specs.Contents.{owned}
 use Rattle.mt_tape.specs.declared.entry.Entry.{Entry as Write}
 use Rattle.mt_arena.specs.Arena.{ArenaView, IsArena, content_of}
 use Rattle.mt_operation.specs.declared.walk.Phase.{Phase}
-use Rattle.mt_operation.specs.declared.walk.Phase.TheVariants.{Enter, Pick, Child, Verify, Search, Load, Confirm, Forward, Lock, Judge, Store, Publish, Unlock, Done}
+use Rattle.mt_operation.specs.declared.walk.Phase.TheVariants.{Store, Publish}
 use Rattle.mt_operation.specs.declared.walk.Walk.{Walk}
 use Rattle.mt_operation.specs.declared.task.Task.{Task}
 use Rattle.mt_operation.specs.declared.prepared.Prepared.{Prepared}
@@ -22,18 +22,7 @@ returns-clause-publish c = λ v op task prepared w arena kept. none_here v op ta
 by_phase : (v : ArenaView) (op : ℕ) (task : Task) (prepared : Prepared) (w : Walk) (phase : Phase) → IsArena v.nodes v.trees → KeptReady phase v op task prepared w → get (content_of v) (owned task.key) ≡ prepared.write.before
 by_phase v op task prepared w Store arena kept = row_here v op task.key w arena kept.holds w.slot kept.pair kept.in_slot kept.stable ∙ sym (ap (λ (e : Write). e.before) kept.ready.write)
 by_phase v op task prepared w Publish arena kept = none_here v op task.key w arena kept.holds kept.missing ∙ sym (ap (λ (e : Write). e.before) kept.ready.write)
-by_phase v op task prepared w Enter arena kept = absurd kept
-by_phase v op task prepared w Pick arena kept = absurd kept
-by_phase v op task prepared w Child arena kept = absurd kept
-by_phase v op task prepared w Verify arena kept = absurd kept
-by_phase v op task prepared w Search arena kept = absurd kept
-by_phase v op task prepared w Load arena kept = absurd kept
-by_phase v op task prepared w Confirm arena kept = absurd kept
-by_phase v op task prepared w Forward arena kept = absurd kept
-by_phase v op task prepared w Lock arena kept = absurd kept
-by_phase v op task prepared w Judge arena kept = absurd kept
-by_phase v op task prepared w Unlock arena kept = absurd kept
-by_phase v op task prepared w Done arena kept = absurd kept
+by_phase v op task prepared w _ arena kept = absurd kept
 
 pub returns-clause-write : goal.returns-clause-write
 returns-clause-write c = by_phase
