@@ -4,3 +4,5 @@ pub mod Places
 pub mod Puts
 pub mod Commands
 pub mod Holders
+pub mod SplitRely
+pub mod SplitKeys
