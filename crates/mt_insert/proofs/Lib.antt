@@ -5,3 +5,5 @@ pub mod Puts
 pub mod Commands
 pub mod Holders
 pub mod Returns
+pub mod SplitRely
+pub mod SplitKeys
