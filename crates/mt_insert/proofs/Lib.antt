@@ -4,3 +4,4 @@ pub mod Places
 pub mod Puts
 pub mod Commands
 pub mod Holders
+pub mod PartingKeys
