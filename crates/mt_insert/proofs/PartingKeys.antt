@@ -1,11 +1,11 @@
 -- A put that parts the keys of its full border node may do so, and what it keeps then: for `part_with`, `part_without` and `split_move`.
-use Rattle.std.proofs.Common.{◌≡◌, ◌≢◌, ◌⊎◌, ℕ, ◌-◌, ◌<◌, List, ◌++◌, length, set, Option, Some, None, false, refl, sym, ap, subst, ◌∙◌, inl, inr, arith}
+use Rattle.std.proofs.Common.{◌≡◌, ◌≢◌, ◌⊎◌, ℕ, ◌-◌, ◌<◌, List, ◌++◌, length, set, Option, Some, None, refl, sym, ap, subst, ◌∙◌, inl, inr, arith}
 use Rattle.std.specs.List.{All}
 use Rattle.std.specs.FinMap.{get}
 use Rattle.std.proofs.lemmas.Bool.{cases_eq}
 use Rattle.std.proofs.lemmas.Option.{same_Some}
 use Rattle.std.proofs.lemmas.List.{length-set}
-use Rattle.mt_slices.specs.Slices.{slice_of, mark_of}
+use Rattle.mt_slices.specs.Slices.{slice_of}
 use Rattle.mt_rows.specs.Rows.{Columns}
 use Rattle.mt_border.specs.declared.entry.Entry.{Entry}
 use Rattle.mt_border.specs.Entries.{with_entry}
@@ -18,10 +18,10 @@ use Rattle.mt_border.proofs.ContentsEdits.{each-publish}
 use Rattle.mt_interior.specs.Fences.{end_of}
 use Rattle.mt_arena.specs.declared.tree.Standing.TheVariants.{Live}
 use Rattle.mt_arena.specs.NodeView.{NodeView, node_at}
-use Rattle.mt_arena.specs.Nodes.{Holds, HasChild, HasRange}
+use Rattle.mt_arena.specs.Nodes.{Holds}
 use Rattle.mt_arena.specs.NodeFacts.{IsUnstable}
 use Rattle.mt_arena.specs.Forests.{layer_of}
-use Rattle.mt_arena.specs.Lags.{Follows, IsUnder, AreFollowers, AreChildren}
+use Rattle.mt_arena.specs.Lags.{Follows, IsUnder, AreChildren}
 use Rattle.mt_arena.specs.Ways.{BelongsIn}
 use Rattle.mt_arena.specs.Splits.{left_half, right_half}
 use Rattle.mt_arena.specs.Several.{AreHalved, MayPlace}

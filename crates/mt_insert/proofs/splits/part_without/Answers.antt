@@ -1,5 +1,4 @@
 -- That the keys may be parted without the pair: the tree is live.
-use Rattle.std.proofs.Common.{sym, ap}
 use Rattle.mt_insert.proofs.PartingKeys.{live_here}
 use Rattle.mt_insert.proofs.splits.part_without.Goals as goal
 
