@@ -7,3 +7,5 @@ pub mod Holders
 pub mod Returns
 pub mod SplitRely
 pub mod SplitKeys
+pub mod PartingKeys
+pub mod Starting
