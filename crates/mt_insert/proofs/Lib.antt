@@ -6,3 +6,4 @@ pub mod Commands
 pub mod Holders
 pub mod Returns
 pub mod InsertingChildren
+pub mod SplittingParents
