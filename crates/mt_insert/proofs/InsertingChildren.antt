@@ -109,31 +109,31 @@ module _ (v : ArenaView) (op : ℕ) (s : Splits) (p : ℕ) (nodes : AreNodes v.n
   abbrev count : ℕ
   count = length s.halves.items
 
-  pub parted_is : AreParted v op (count - 1) l q
+  parted_is : AreParted v op (count - 1) l q
   parted_is = h.named.splits.parted
 
   some : 0 < count
   some = h.named.splits.some
 
-  pub li : p < length v.nodes
-  li = h.parent.held.there
+  parent_is_there : p < length v.nodes
+  parent_is_there = h.parent.held.there
 
-  pub lj : l < length v.nodes
-  lj = parted_is.left.held.there
+  left_is_there : l < length v.nodes
+  left_is_there = parted_is.left.held.there
 
-  lq : q < length v.nodes
-  lq = parted_is.right.held.there
+  right_is_there : q < length v.nodes
+  right_is_there = parted_is.right.held.there
 
   -- the left half is a child, and so it is in the parent's tree
   left_below : IsChild (at v p) h.parent.child.place (at v l)
-  left_below = (nodes.pairs p l li lj).child h.parent.child.place h.parent.child.in_range h.parent.child.is h.parent.live
+  left_below = (nodes.pairs p l parent_is_there left_is_there).child h.parent.child.place h.parent.child.in_range h.parent.child.is h.parent.live
 
   -- the right half may come to stand in it
   pub inserts : Inserts v.nodes p l q
   inserts = record {
-    parent_there = li;
-    left_there = lj;
-    right_there = lq;
+    parent_there = parent_is_there;
+    left_there = left_is_there;
+    right_there = right_is_there;
     parent_held = λ none. absurd (let held = sym none ∙ h.parent.held.holder in cc);
     parent_live = h.parent.live;
     child = h.parent.child;
@@ -155,15 +155,15 @@ module _ (v : ArenaView) (op : ℕ) (s : Splits) (p : ℕ) (nodes : AreNodes v.n
   pub tree_there : (at v p).tree < length v.trees
   tree_there = subst (λ t. t < length v.trees) left_below.tree parted_is.tree_there
 
-  pub pl : p ≢ l
-  pl = apart_j v.nodes p l q nodes inserts
+  apart_left : p ≢ l
+  apart_left = apart_j v.nodes p l q nodes inserts
 
-  pub pq : p ≢ q
-  pq e = omega (arith, inserts.right_level, ap (λ k. (at v k).level) e)
+  apart_right : p ≢ q
+  apart_right e = omega (arith, inserts.right_level, ap (λ k. (at v k).level) e)
 
   -- the parent is an interior node, so none of its slots is unstable
   pub stable : All (λ (e : Entry). ¬ IsUnstable e.held) (at v p).slots
-  stable = rw ((nodes.each p li).slots.slotless (is_interior v.nodes p l q nodes inserts)) (λ k d lt. absurd (omega arith))
+  stable = rw ((nodes.each p parent_is_there).slots.slotless (is_interior v.nodes p l q nodes inserts)) (λ k d lt. absurd (omega arith))
 
   -- the nodes with another parent y, and the left half
   module _ (y : NodeView) (keeps : KeepsNames (at v p) y) where
@@ -173,11 +173,12 @@ module _ (v : ArenaView) (op : ℕ) (s : Splits) (p : ℕ) (nodes : AreNodes v.n
     pub size : length zs ≡ length v.nodes
     size = length-set (set v.nodes p y) l (exact (at v l)) ∙ length-set v.nodes p y
 
+    -- which are read so, and all others as they were
     pub at_p : node_at zs p ≡ y
-    at_p = there (set v.nodes p y) l p (exact (at v l)) pl ∙ here v.nodes p y li
+    at_p = there (set v.nodes p y) l p (exact (at v l)) apart_left ∙ here v.nodes p y parent_is_there
 
     pub at_l : node_at zs l ≡ exact (at v l)
-    at_l = here (set v.nodes p y) l (exact (at v l)) (omega (arith, lj, length-set v.nodes p y))
+    at_l = here (set v.nodes p y) l (exact (at v l)) (omega (arith, left_is_there, length-set v.nodes p y))
 
     pub at_other : (k : ℕ) → k ≢ p → k ≢ l → node_at zs k ≡ at v k
     at_other k np nl = there (set v.nodes p y) l k (exact (at v l)) nl ∙ there v.nodes p k y np
@@ -185,7 +186,7 @@ module _ (v : ArenaView) (op : ℕ) (s : Splits) (p : ℕ) (nodes : AreNodes v.n
     pub names : KeepNames v.nodes zs
     names = record {
       more = omega (arith, size);
-      each = each_set2 (λ k n. KeepsNames (at v k) n) v.nodes p l y (exact (at v l)) li lj pl keeps (record { previous = refl; parent = refl; deleted = refl; holder = refl })
+      each = each_set2 (λ k n. KeepsNames (at v k) n) v.nodes p l y (exact (at v l)) parent_is_there left_is_there apart_left keeps (record { previous = refl; parent = refl; deleted = refl; holder = refl })
           (λ k lt np nl. record { previous = refl; parent = refl; deleted = refl; holder = refl });
       fresh = λ k from lt. absurd (omega (arith, from, lt, size));
     }
@@ -213,7 +214,7 @@ module _ (v : ArenaView) (op : ℕ) (s : Splits) (p : ℕ) (nodes : AreNodes v.n
     | inr high ↦
         let is : count - 1 ≡ i = omega (arith, high, lt) in
         subst (λ j. MayReturnBoth (record v { nodes = ys }) op j (halves_at s.halves.items j)) is
-        (both_return v op (count - 1) l q ys names parted_is left_is (other q lq (λ e. pq (sym e)) (λ e. parted_is.differ (sym e))) h.named.left h.named.right h.parent.knows)
+        (both_return v op (count - 1) l q ys names parted_is left_is (other q right_is_there (λ e. apart_right (sym e)) (λ e. parted_is.differ (sym e))) h.named.left h.named.right h.parent.knows)
   ]
 
 -- at InsertChild
