@@ -9,3 +9,5 @@ pub mod SplitRely
 pub mod SplitKeys
 pub mod PartingKeys
 pub mod Starting
+pub mod InsertingChildren
+pub mod SplittingParents

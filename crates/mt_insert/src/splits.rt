@@ -349,6 +349,8 @@ pub fn split_interior(
     arena.facts();
     let Halves { left, right } = last(splits);
     let parent = above(splits);
+    // For the proof: an interior node has no next one.
+    let _ = arena.interior(parent);
     splits.halves.reserve(1)?;
     let half = arena.split_interior(parent, left, right, operation)?;
     splits.halves.push_reserved(Halves {
