@@ -11,3 +11,5 @@ pub mod PartingKeys
 pub mod Starting
 pub mod InsertingChildren
 pub mod SplittingParents
+pub mod GrowingRoots
+pub mod Unlocking
