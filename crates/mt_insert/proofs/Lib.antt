@@ -5,3 +5,4 @@ pub mod Puts
 pub mod Commands
 pub mod Holders
 pub mod Returns
+pub mod Behind
