@@ -6,3 +6,4 @@ pub mod Commands
 pub mod Holders
 pub mod Returns
 pub mod Behind
+pub mod LockingParents
