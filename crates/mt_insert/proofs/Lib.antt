@@ -13,3 +13,5 @@ pub mod InsertingChildren
 pub mod SplittingParents
 pub mod GrowingRoots
 pub mod Unlocking
+pub mod Behind
+pub mod LockingParents
