@@ -7,3 +7,4 @@ pub mod Holders
 pub mod Returns
 pub mod Behind
 pub mod LockingParents
+pub mod Reparenting
