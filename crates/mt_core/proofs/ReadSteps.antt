@@ -45,10 +45,6 @@ use Rattle.mt_core.specs.Looks.{TellsLoaded}
 
 -- who holds nothing has a step left
 free_unfinished : (p : Phase) → IsFree p → is_done p ≡ false
-free_unfinished Judge f = absurd f
-free_unfinished Store f = absurd f
-free_unfinished Publish f = absurd f
-free_unfinished Unlock f = absurd f
 free_unfinished Done f = absurd f
 free_unfinished _ f = refl
 

@@ -7,7 +7,7 @@ use Rattle.mt_arena.specs.Arena.{ArenaView, Guarantee}
 use Rattle.mt_arena.specs.Accesses.{at}
 use Rattle.mt_arena.proofs.Guarantees.{guarantee_none}
 use Rattle.mt_operation.specs.declared.walk.Phase.{Phase}
-use Rattle.mt_operation.specs.declared.walk.Phase.TheVariants.{Enter, Pick, Child, Verify, Search, Load, Confirm, Forward, Lock, Store, Publish, SplitStart, SplitMove}
+use Rattle.mt_operation.specs.declared.walk.Phase.TheVariants.{Enter, Pick, Child, Verify, Search, Load, Confirm, Forward, Lock, Judge, Store, Publish, SplitStart, SplitMove, Unlock, Done}
 use Rattle.mt_operation.specs.declared.walk.Walk.{Walk}
 use Rattle.mt_operation.specs.declared.outcome.Outcome.{Outcome}
 use Rattle.mt_operation.specs.declared.operation.Operation.{Operation}
@@ -62,28 +62,15 @@ IsFree Lock = Unit {0}
 IsFree _ = ⊥
 
 free_open : (p : Phase) → IsFree p → is_done p ≡ false
-free_open Enter f = refl
-free_open Pick f = refl
-free_open Child f = refl
-free_open Verify f = refl
-free_open Search f = refl
-free_open Load f = refl
-free_open Confirm f = refl
-free_open Forward f = refl
-free_open Lock f = refl
-free_open _ f = absurd f
+free_open Done f = absurd f
+free_open _ f = refl
 
 free_holds : (p : Phase) (node k : ℕ) → IsFree p → HoldsAt p node k → ⊥
-free_holds Enter node k f holds = holds
-free_holds Pick node k f holds = holds
-free_holds Child node k f holds = holds
-free_holds Verify node k f holds = holds
-free_holds Search node k f holds = holds
-free_holds Load node k f holds = holds
-free_holds Confirm node k f holds = holds
-free_holds Forward node k f holds = holds
-free_holds Lock node k f holds = holds
-free_holds _ node k f holds = absurd f
+free_holds Judge node k f holds = absurd f
+free_holds Store node k f holds = absurd f
+free_holds Publish node k f holds = absurd f
+free_holds Unlock node k f holds = absurd f
+free_holds _ node k f holds = holds
 
 free_unplaced : (p : Phase) → IsFree p → is_unplaced p ≡ true
 free_unplaced Enter f = refl
@@ -113,16 +100,11 @@ unready_none op SplitMove is u = absurd u
 unready_none op _ is u = ap (λ p. one_if_prepared (Some (record op { walk = record op.walk { phase = p } }))) is
 
 pub free_unready : (p : Phase) → IsFree p → IsUnready p
-free_unready Enter f = tt
-free_unready Pick f = tt
-free_unready Child f = tt
-free_unready Verify f = tt
-free_unready Search f = tt
-free_unready Load f = tt
-free_unready Confirm f = tt
-free_unready Forward f = tt
-free_unready Lock f = tt
-free_unready _ f = absurd f
+free_unready Store f = absurd f
+free_unready Publish f = absurd f
+free_unready SplitStart f = absurd f
+free_unready SplitMove f = absurd f
+free_unready _ f = tt
 
 module _ (c : Core) (now : StateView) (o : ℕ) (is : shown c ≡ now) (h : StateInvariant c) (room : now.steps < 2 ^ 59) (op : Operation) (there : operation_at c.table o ≡ Some op) (free : IsFree op.walk.phase) where
   few : c.steps < 2 ^ 59
