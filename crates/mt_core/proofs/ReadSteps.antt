@@ -14,7 +14,7 @@ use Rattle.mt_border.specs.declared.entry.FoundKind.TheVariants.{ThisKey, OtherL
 use Rattle.mt_arena.specs.Arena.{ArenaView, IsArena}
 use Rattle.mt_arena.specs.Accesses.{at}
 use Rattle.mt_operation.specs.declared.walk.Phase.{Phase}
-use Rattle.mt_operation.specs.declared.walk.Phase.TheVariants.{Search, Load, Confirm, Lock, Judge, Store, Publish, Unlock, Done}
+use Rattle.mt_operation.specs.declared.walk.Phase.TheVariants.{Search, Load, Confirm, Lock, Done}
 use Rattle.mt_operation.specs.declared.walk.Walk.{Walk}
 use Rattle.mt_operation.specs.declared.outcome.Outcome.{Outcome}
 use Rattle.mt_operation.specs.declared.operation.Operation.{Operation}
