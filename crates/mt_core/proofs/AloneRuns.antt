@@ -55,18 +55,7 @@ stepped v w o done s = ap (λ (t : Shown). op_at t o) s.table ∙ set_is v.table
 in_the_way : (v : StateView) (p : Phase) (q : ℕ) → IsInTheWay v.arena p q → (k : ℕ) × (k < length v.arena.nodes) × ((at v.arena k).holder ≡ Some q)
 in_the_way v Lock q h = h
 in_the_way v Load q h = (h.0, h.2, h.3.by)
-in_the_way v Enter q h = (h.0, h.1, h.2.by)
-in_the_way v Pick q h = (h.0, h.1, h.2.by)
-in_the_way v Child q h = (h.0, h.1, h.2.by)
-in_the_way v Verify q h = (h.0, h.1, h.2.by)
-in_the_way v Search q h = (h.0, h.1, h.2.by)
-in_the_way v Confirm q h = (h.0, h.1, h.2.by)
-in_the_way v Forward q h = (h.0, h.1, h.2.by)
-in_the_way v Judge q h = (h.0, h.1, h.2.by)
-in_the_way v Store q h = (h.0, h.1, h.2.by)
-in_the_way v Publish q h = (h.0, h.1, h.2.by)
-in_the_way v Unlock q h = (h.0, h.1, h.2.by)
-in_the_way v Done q h = (h.0, h.1, h.2.by)
+in_the_way v _ q h = (h.0, h.1, h.2.by)
 
 -- what is asked of the same map is the same, and so is what it makes
 module _ (v old : StateView) (a op : OperationView) (same : IsSameAsked op a) (quotas : (t : ℕ) → quota_of v t ≡ quota_of old t) (x : Contents) where
@@ -145,19 +134,7 @@ steps_upto Confirm told = by (is_absent told)
     by : (b : Bool) → cond b 2 3 ≤ 4
     by true = omega arith
     by false = omega arith
-steps_upto Search told = omega arith
-steps_upto Load told = omega arith
-steps_upto Lock told = omega arith
-steps_upto Judge told = omega arith
-steps_upto Store told = omega arith
-steps_upto Publish told = omega arith
-steps_upto Unlock told = omega arith
-steps_upto Enter told = omega arith
-steps_upto Pick told = omega arith
-steps_upto Child told = omega arith
-steps_upto Verify told = omega arith
-steps_upto Forward told = omega arith
-steps_upto Done told = omega arith
+steps_upto _ told = omega arith
 
 no_told : (b : Bool) (m : ℕ) → cond b (Some m) None ≡ None → b ≡ false
 no_told false m e = refl
@@ -178,19 +155,7 @@ after_unlock _ follows = absurd follows
 -- an operation is at Enter, or not
 pub enters_or : (p : Phase) → (p ≡ Enter) ⊎ (p ≢ Enter)
 enters_or Enter = inl refl
-enters_or Pick = inr (λ e. cc)
-enters_or Child = inr (λ e. cc)
-enters_or Verify = inr (λ e. cc)
-enters_or Search = inr (λ e. cc)
-enters_or Load = inr (λ e. cc)
-enters_or Confirm = inr (λ e. cc)
-enters_or Forward = inr (λ e. cc)
-enters_or Lock = inr (λ e. cc)
-enters_or Judge = inr (λ e. cc)
-enters_or Store = inr (λ e. cc)
-enters_or Publish = inr (λ e. cc)
-enters_or Unlock = inr (λ e. cc)
-enters_or Done = inr (λ e. cc)
+enters_or _ = inr (λ e. cc)
 
 -- the first step leaves no outcome
 from_enter : (old : StateView) (op : OperationView) (p q : Phase) (told : Option Outcome) → p ≡ Enter → Notes old op p q told → told ≡ None
@@ -239,7 +204,7 @@ unlocks old op Publish Unlock told o follows notes is changes = inl refl
 unlocks old op Publish _ told o follows notes is changes = absurd follows
 unlocks old op Unlock Done told o follows notes is changes = inr notes
 unlocks old op Unlock _ told o follows notes is changes = absurd follows
-unlocks old op Done q told o follows notes is changes = absurd follows
+unlocks old op _ q told o follows notes is changes = absurd follows
 
 nowhere : (p : Phase) {n : ℕ} → (p ≡ Enter) ⊎ (0 < n) → (p ≡ Enter → ⊥) → n ≡ 0 → ⊥
 nowhere p some other none = elim some [
@@ -286,7 +251,7 @@ ahead old op Pick q told follows notes left stays some = absurd (nowhere Pick so
 ahead old op Child q told follows notes left stays some = absurd (nowhere Child some (λ e. cc) (omega arith))
 ahead old op Verify q told follows notes left stays some = absurd (nowhere Verify some (λ e. cc) (omega arith))
 ahead old op Forward q told follows notes left stays some = absurd (nowhere Forward some (λ e. cc) (omega arith))
-ahead old op Done q told follows notes left stays some = absurd follows
+ahead old op _ q told follows notes left stays some = absurd follows
 
 same_told : (old : StateView) (op : OperationView) (told : Option Outcome) (p q : Phase) → p ≡ Unlock → q ≡ Done → Notes old op p q told → told ≡ op.outcome
 same_told old op told p q unlocking ends notes = subst (λ x. Notes old op Unlock x told) ends (subst (λ x. Notes old op x q told) unlocking notes)

@@ -93,7 +93,7 @@ one_further old op Publish Unlock told follows notes = omega arith
 one_further old op Publish _ told follows notes = absurd follows
 one_further old op Unlock Done told follows notes = omega arith
 one_further old op Unlock _ told follows notes = absurd follows
-one_further old op Done _ told follows notes = absurd follows
+one_further old op _ q told follows notes = absurd follows
 
 -- who holds its node, or is done, compares no more
 abbrev IsAtEnd : Phase → Type 0
@@ -188,7 +188,7 @@ module _ (old new : Core) (before after : Operation) (moves : HasMoved (view_of 
         by Store e some is = absurd (not_after Store after.walk.phase tt (subst (λ p. MayFollow p after.walk.phase) e moves.follows) compares)
         by Publish e some is = absurd (not_after Publish after.walk.phase tt (subst (λ p. MayFollow p after.walk.phase) e moves.follows) compares)
         by Unlock e some is = absurd (not_after Unlock after.walk.phase tt (subst (λ p. MayFollow p after.walk.phase) e moves.follows) compares)
-        by Done e some is = absurd (not_after Done after.walk.phase tt (subst (λ p. MayFollow p after.walk.phase) e moves.follows) compares)
+        by _ e some is = absurd (subst (λ p. MayFollow p after.walk.phase) e moves.follows)
 
     -- the operation that made the step is fresh again
     pub fresh_own : IsFresh new after

@@ -1,5 +1,5 @@
 -- Where the steps of an operation that holds nothing lead, and what a load shows: for `descend` and `load_row`.
-use Rattle.std.proofs.Common.{◌≡◌, ℕ, true, List, Option, Some, None, IfNone, inl, refl, sym, ap, subst, ◌∙◌}
+use Rattle.std.proofs.Common.{◌≡◌, ℕ, true, List, Option, Some, None, IsNone, IfNone, inl, refl, sym, ap, subst, ◌∙◌}
 use Rattle.std.specs.Option.{option_map}
 use Rattle.std.proofs.lemmas.Option.{same_Some}
 use Rattle.mt_rows.specs.declared.reply.Reply.{Reply}
@@ -7,15 +7,16 @@ use Rattle.mt_rows.specs.declared.reply.Reply.TheVariants.{Found}
 use Rattle.mt_rows.specs.Rows.{Columns, shown}
 use Rattle.mt_rows.specs.Maps.{is_get}
 use Rattle.mt_arena.specs.NodeView.{NodeView}
-use Rattle.mt_operation.specs.declared.walk.Phase.TheVariants.{Verify}
+use Rattle.mt_operation.specs.declared.walk.Phase.{Phase}
+use Rattle.mt_operation.specs.declared.walk.Phase.TheVariants.{Verify, Forward}
 use Rattle.mt_operation.specs.declared.walk.Walk.{Walk}
 use Rattle.mt_operation.specs.declared.outcome.Outcome.{Outcome}
 use Rattle.mt_operation.specs.declared.operation.Operation.{Operation}
 use Rattle.mt_operation.specs.Tasks.{ask}
-use Rattle.mt_descent.specs.Moves.{Continues, Verifies, Loads}
+use Rattle.mt_descent.specs.Moves.{Continues, Verifies, Loads, walk_here, after_forward}
 use Rattle.mt_state.specs.Notes.{columns_asked}
 use Rattle.mt_state.specs.Ways.{Descends, ShowsTaken}
-use Rattle.mt_state.proofs.Descents.{descends, verified}
+use Rattle.mt_state.proofs.Descents.{Leads, descends, verified, forwarded, stayed}
 use Rattle.mt_state.proofs.Replies.{get_asks}
 use Rattle.mt_core.specs.Looks.{TellsLoaded}
 
@@ -23,6 +24,16 @@ use Rattle.mt_core.specs.Looks.{TellsLoaded}
 pub verify_goes : (r : Option ℕ) (n : NodeView) (before after : Walk) → before.phase ≡ Verify → IfNone r (Verifies n before after) → Continues before after → IfNone r (Descends before after)
 verify_goes None n before after at_verify v same = descends before after same (verified n before after at_verify v)
 verify_goes (Some holder) n before after at_verify v same = tt
+
+-- one that reads the next border node, if there is one, goes on there or stays
+pub forward_goes : (r : Option ℕ) (slice : ℕ) (nodes : ℕ → NodeView) (before after : Walk) → before.phase ≡ Forward → (before.next ≡ None → IsNone r × (after ≡ walk_here before))
+    → ((j : ℕ) → before.next ≡ Some j → IfNone r (after ≡ after_forward before slice j (nodes j))) → Continues before after → IfNone r (Descends before after)
+forward_goes None slice nodes before after at_forward last is same = descends before after same (subst (λ (p : Phase). Leads p after.phase after.writes) (sym at_forward) (by before.next refl))
+  where
+    by : (next : Option ℕ) → before.next ≡ next → Leads Forward after.phase after.writes
+    by None e = subst (λ (x : Walk). Leads Forward x.phase x.writes) (sym (last e).1) (stayed before)
+    by (Some j) e = subst (λ (x : Walk). Leads Forward x.phase x.writes) (sym (is j e)) (forwarded before slice j (nodes j))
+forward_goes (Some holder) slice nodes before after at_forward last is same = tt
 
 -- the outcome of a reply that is right at a number
 abbrev pub placed_at : ℕ → Reply → Outcome

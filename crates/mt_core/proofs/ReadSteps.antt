@@ -14,7 +14,7 @@ use Rattle.mt_border.specs.declared.entry.FoundKind.TheVariants.{ThisKey, OtherL
 use Rattle.mt_arena.specs.Arena.{ArenaView, IsArena}
 use Rattle.mt_arena.specs.Accesses.{at}
 use Rattle.mt_operation.specs.declared.walk.Phase.{Phase}
-use Rattle.mt_operation.specs.declared.walk.Phase.TheVariants.{Search, Load, Confirm, Lock, Judge, Store, Publish, Unlock, Done}
+use Rattle.mt_operation.specs.declared.walk.Phase.TheVariants.{Search, Load, Confirm, Lock, Done}
 use Rattle.mt_operation.specs.declared.walk.Walk.{Walk}
 use Rattle.mt_operation.specs.declared.outcome.Outcome.{Outcome}
 use Rattle.mt_operation.specs.declared.operation.Operation.{Operation}
@@ -45,10 +45,6 @@ use Rattle.mt_core.specs.Looks.{TellsLoaded}
 
 -- who holds nothing has a step left
 free_unfinished : (p : Phase) → IsFree p → is_done p ≡ false
-free_unfinished Judge f = absurd f
-free_unfinished Store f = absurd f
-free_unfinished Publish f = absurd f
-free_unfinished Unlock f = absurd f
 free_unfinished Done f = absurd f
 free_unfinished _ f = refl
 

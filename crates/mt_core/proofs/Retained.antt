@@ -42,20 +42,9 @@ pub record TellsOf (c : Core) (tape : Kept) (op : Operation) : Type 0 where
 
 -- a walk that has begun goes on by a past that tells the same from its first step on
 kept_past : (v : ArenaView) (old new : Past) (key : Bytes) (row : Option Columns) (w : Walk) (p : Phase) → (p ≢ Enter → ExtendsPast w.first old new) → KeptAt p v old key row w → KeptAt p v new key row w
-kept_past v old new key row w Enter past h = h
-kept_past v old new key row w Pick past h = h
-kept_past v old new key row w Child past h = h
-kept_past v old new key row w Verify past h = h
-kept_past v old new key row w Search past h = h
-kept_past v old new key row w Load past h = h
 kept_past v old new key row w Confirm past h = descent.kept_stays 0 v v (nothing_changes 0 v).nodes old new key row w Confirm (past (λ e. cc)) h
-kept_past v old new key row w Forward past h = h
-kept_past v old new key row w Lock past h = h
-kept_past v old new key row w Judge past h = h
-kept_past v old new key row w Store past h = h
-kept_past v old new key row w Publish past h = h
-kept_past v old new key row w Unlock past h = h
 kept_past v old new key row w Done past h = descent.kept_stays 0 v v (nothing_changes 0 v).nodes old new key row w Done (past (λ e. cc)) h
+kept_past v old new key row w _ past h = h
 
 -- a change that was made is told with the reply
 module _ (c : Core) (o : ℕ) (op : Operation) where
@@ -99,6 +88,7 @@ module _ (c : Core) (o : ℕ) (op : Operation) where
   change_since Publish h m is = absurd (no_change h.untold m is)
   change_since Unlock h m is = answered h.answer m is
   change_since Done h m is = answered h m is
+  change_since _ h m is = absurd h
 
 module _ (c : Core) (answers : ℕ) (tape : Kept) (table : Table) (q : ℕ) (op : Operation) (t : TellsOf c tape op) (k : IsOpenOperation c op) where
   abbrev new : Core
@@ -150,6 +140,7 @@ module _ (c : Core) (answers : ℕ) (tape : Kept) (table : Table) (q : ℕ) (op 
   kept_stays Publish h = record { prepared = h.prepared; has = h.has; publishes = h.publishes; untold = h.untold }
   kept_stays Unlock h = record { unlocks = h.unlocks; answer = told_stays h.answer }
   kept_stays Done h = told_stays h
+  kept_stays _ h = absurd h
 
   pub open_retained : IsOpenOperation new op
   open_retained = record {

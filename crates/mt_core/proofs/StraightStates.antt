@@ -10,7 +10,7 @@ use Rattle.mt_arena.specs.Arena.{ArenaView, IsArena}
 use Rattle.mt_arena.specs.Accesses.{at}
 use Rattle.mt_operation.specs.declared.outcome.Outcome.{Outcome}
 use Rattle.mt_operation.specs.declared.walk.Phase.{Phase}
-use Rattle.mt_operation.specs.declared.walk.Phase.TheVariants.{Enter, Pick, Child, Verify, Search, Load, Confirm, Forward, Lock, Judge, Store, Publish, Unlock, Done}
+use Rattle.mt_operation.specs.declared.walk.Phase.TheVariants.{Enter, Pick, Child, Verify, Confirm, Forward, Lock, Done}
 use Rattle.mt_operation.specs.declared.walk.Taken.TheVariants.{Link}
 use Rattle.mt_operation.specs.declared.walk.Walk.{Walk}
 use Rattle.mt_operation.specs.declared.operation.Operation.{Operation}
@@ -165,20 +165,8 @@ pub told_step : (now new : StateView) (o : ℕ) (p : Phase) (answer : Move) → 
 told_step now new o p answer is t = by p (subst (λ (a : Move). Tells now new o a) is t)
   where
     by : (q : Phase) → Tells now new o (ending q) → (done : Bool) × IsStep now new o done
-    by Enter s = (false, s)
-    by Pick s = (false, s)
-    by Child s = (false, s)
-    by Verify s = (false, s)
-    by Search s = (false, s)
-    by Load s = (false, s)
-    by Confirm s = (false, s)
-    by Forward s = (false, s)
-    by Lock s = (false, s)
-    by Judge s = (false, s)
-    by Store s = (false, s)
-    by Publish s = (false, s)
-    by Unlock s = (false, s)
     by Done s = (true, s)
+    by _ s = (false, s)
 
 -- a load leaves its walk at the node
 pub load_place : (n : NodeView) (op : Operation) (step : ℕ) (w : Walk) (told : Option Outcome) → TellsLoaded n op step (record { walk = w; outcome = told }) → w.place ≡ op.walk.place

@@ -267,6 +267,7 @@ impl State {
             Phase::Publish => self.publish(id),
             Phase::Unlock => self.unlock(id),
             Phase::Done => Move::NoSuch,
+            _ => unreachable!(),
         }
     }
 

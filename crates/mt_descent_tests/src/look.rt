@@ -112,8 +112,7 @@ pub fn step<'a>(
         Phase::Load => return loaded(arena, key, walk),
         Phase::Confirm => confirm(arena, key, walk),
         Phase::Forward => forward(arena, key, walk),
-        Phase::Lock | Phase::Judge | Phase::Store | Phase::Publish | Phase::Unlock | Phase::Done =>
-            return None,
+        _ => return None,
     };
     match blocked {
         None => Some(row),

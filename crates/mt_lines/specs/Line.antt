@@ -3,7 +3,7 @@ use Rattle.std.specs.Prelude.{ℕ, if◌then◌else◌, List, codes, Option, Som
 use Rattle.mt_rows.specs.declared.command.Command.{Command}
 use Rattle.mt_rows.specs.declared.command.Command.TheVariants.{Get, Put}
 use Rattle.mt_operation.specs.declared.walk.Phase.{Phase}
-use Rattle.mt_operation.specs.declared.walk.Phase.TheVariants.{Enter, Search, Load, Confirm, Forward, Lock, Judge, Store, Publish, Unlock}
+use Rattle.mt_operation.specs.declared.walk.Phase.TheVariants.{Enter, Search, Load, Confirm, Forward, Lock, Judge, Store, Publish, SplitStart, SplitMove, SplitPrev, LockParent, InsertChild, InteriorSplit, Reparent, RootGrow, Unlock}
 use Rattle.mt_operation.specs.Names as phases
 use Rattle.mt_lines.specs.declared.line.Line.{Line}
 use Rattle.mt_lines.specs.declared.line.Line.TheVariants.{Tenant, Begin, Step, Until, Run, Shape}
@@ -28,6 +28,14 @@ phase_word word =
     else if is_text word (phases.name_of Judge) then Some Judge
     else if is_text word (phases.name_of Store) then Some Store
     else if is_text word (phases.name_of Publish) then Some Publish
+    else if is_text word (phases.name_of SplitStart) then Some SplitStart
+    else if is_text word (phases.name_of SplitMove) then Some SplitMove
+    else if is_text word (phases.name_of SplitPrev) then Some SplitPrev
+    else if is_text word (phases.name_of LockParent) then Some LockParent
+    else if is_text word (phases.name_of InsertChild) then Some InsertChild
+    else if is_text word (phases.name_of InteriorSplit) then Some InteriorSplit
+    else if is_text word (phases.name_of Reparent) then Some Reparent
+    else if is_text word (phases.name_of RootGrow) then Some RootGrow
     else if is_text word (phases.name_of Unlock) then Some Unlock
     else None
 

@@ -232,6 +232,22 @@ fn phase(word: &[u8]) -> Result<Phase, LineFault>
         Ok(Phase::Store)
     } else if words::is_text(word, "publish") {
         Ok(Phase::Publish)
+    } else if words::is_text(word, "splitstart") {
+        Ok(Phase::SplitStart)
+    } else if words::is_text(word, "splitmove") {
+        Ok(Phase::SplitMove)
+    } else if words::is_text(word, "splitprev") {
+        Ok(Phase::SplitPrev)
+    } else if words::is_text(word, "lockparent") {
+        Ok(Phase::LockParent)
+    } else if words::is_text(word, "insertchild") {
+        Ok(Phase::InsertChild)
+    } else if words::is_text(word, "interiorsplit") {
+        Ok(Phase::InteriorSplit)
+    } else if words::is_text(word, "reparent") {
+        Ok(Phase::Reparent)
+    } else if words::is_text(word, "rootgrow") {
+        Ok(Phase::RootGrow)
     } else if words::is_text(word, "unlock") {
         Ok(Phase::Unlock)
     } else {

@@ -5,7 +5,7 @@ use Rattle.mt_rows.specs.declared.reply.Reply.{Reply}
 use Rattle.mt_rows.specs.declared.reply.Reply.TheVariants as replies
 use Rattle.mt_rows.specs.Maps.{is_change}
 use Rattle.mt_operation.specs.declared.walk.Phase.{Phase}
-use Rattle.mt_operation.specs.declared.walk.Phase.TheVariants.{Search, Load, Confirm, Judge, Unlock, Done}
+use Rattle.mt_operation.specs.declared.walk.Phase.TheVariants.{Search, Load, Confirm, Judge, SplitPrev, LockParent, InsertChild, InteriorSplit, Reparent, RootGrow, Unlock, Done}
 use Rattle.mt_operation.specs.declared.outcome.Outcome.{Outcome}
 use Rattle.mt_operation.specs.Operations.{OperationView, is_done}
 use Rattle.mt_state.specs.Views.{StateView}
@@ -52,4 +52,10 @@ same_at_end old op _ told m n e = absurd (unnoted told m n e)
 pub same_when_placed : (old : StateView) (op : OperationView) (p q : Phase) (told : Option Outcome) → is_unplaced p ≡ false → is_done p ≡ false → MayFollow p q → Notes old op p q told → told ≡ op.outcome
 same_when_placed old op Unlock Done told placed left follows n = n
 same_when_placed old op Unlock q told placed left follows n = absurd (follows)
+same_when_placed old op SplitPrev q told placed left follows n = absurd follows
+same_when_placed old op LockParent q told placed left follows n = absurd follows
+same_when_placed old op InsertChild q told placed left follows n = absurd follows
+same_when_placed old op InteriorSplit q told placed left follows n = absurd follows
+same_when_placed old op Reparent q told placed left follows n = absurd follows
+same_when_placed old op RootGrow q told placed left follows n = absurd follows
 same_when_placed old op _ q told placed left follows n = absurd (cc)

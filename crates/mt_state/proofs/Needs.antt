@@ -7,7 +7,7 @@ use Rattle.mt_tape.specs.Tapes.{last_write}
 use Rattle.mt_arena.specs.Arena.{IsArena}
 use Rattle.mt_arena.specs.Accesses.{at}
 use Rattle.mt_operation.specs.declared.walk.Phase.{Phase}
-use Rattle.mt_operation.specs.declared.walk.Phase.TheVariants.{Lock, Judge, Store, Publish, Unlock, Done}
+use Rattle.mt_operation.specs.declared.walk.Phase.TheVariants.{Enter, Pick, Child, Verify, Search, Load, Confirm, Forward, Lock, Judge, Store, Publish, Unlock, Done}
 use Rattle.mt_operation.specs.declared.prepared.Prepared.{Prepared}
 use Rattle.mt_operation.specs.declared.operation.Operation.{Operation}
 use Rattle.mt_operation.specs.Tasks.{ask}
@@ -28,20 +28,28 @@ use Rattle.mt_state.proofs.Locking.{may_unlock, room_for}
 
 -- a phase of writes alone
 abbrev pub IsOfWrites : Phase → Type 0
-IsOfWrites Lock = Unit {0}
-IsOfWrites Judge = Unit {0}
-IsOfWrites Store = Unit {0}
-IsOfWrites Publish = Unit {0}
-IsOfWrites Unlock = Unit {0}
-IsOfWrites _ = ⊥
+IsOfWrites Enter = ⊥
+IsOfWrites Pick = ⊥
+IsOfWrites Child = ⊥
+IsOfWrites Verify = ⊥
+IsOfWrites Search = ⊥
+IsOfWrites Load = ⊥
+IsOfWrites Confirm = ⊥
+IsOfWrites Forward = ⊥
+IsOfWrites Done = ⊥
+IsOfWrites _ = Unit {0}
 
 writes_of : (p : Phase) (writes : Bool) → IsOfWrites p → IsOfKind p writes → writes ≡ true
-writes_of Lock writes of_writes kind = kind
-writes_of Judge writes of_writes kind = kind
-writes_of Store writes of_writes kind = kind
-writes_of Publish writes of_writes kind = kind
-writes_of Unlock writes of_writes kind = kind
-writes_of _ writes of_writes kind = absurd of_writes
+writes_of Enter writes of_writes kind = absurd of_writes
+writes_of Pick writes of_writes kind = absurd of_writes
+writes_of Child writes of_writes kind = absurd of_writes
+writes_of Verify writes of_writes kind = absurd of_writes
+writes_of Search writes of_writes kind = absurd of_writes
+writes_of Load writes of_writes kind = absurd of_writes
+writes_of Confirm writes of_writes kind = absurd of_writes
+writes_of Forward writes of_writes kind = absurd of_writes
+writes_of Done writes of_writes kind = absurd of_writes
+writes_of _ writes of_writes kind = kind
 
 -- an operation that writes is no get
 no_get : (b writes : Bool) → writes ≡ not b → writes ≡ true → b ≡ false

@@ -92,6 +92,7 @@ module _ (old new : Core) (o q : ℕ) (g : StateGuarantee old new o) (other : q 
   }
   kept_stays Unlock k h = record { unlocks = insert.unlock o q old.arena new.arena g.arena other op.walk h.unlocks; answer = told_stays k h.answer }
   kept_stays Done k h = told_stays k h
+  kept_stays _ k h = absurd h
 
   -- what is kept of every operation
   pub open_stays : IsOpenOperation old op → IsOpenOperation new op

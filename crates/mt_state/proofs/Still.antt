@@ -7,7 +7,7 @@ use Rattle.mt_arena.specs.Arena.{ArenaView, Guarantee}
 use Rattle.mt_arena.specs.Accesses.{at}
 use Rattle.mt_arena.proofs.Guarantees.{guarantee_none}
 use Rattle.mt_operation.specs.declared.walk.Phase.{Phase}
-use Rattle.mt_operation.specs.declared.walk.Phase.TheVariants.{Judge, Store, Publish, Unlock, Done}
+use Rattle.mt_operation.specs.declared.walk.Phase.TheVariants.{Enter, Pick, Child, Verify, Search, Load, Confirm, Forward, Lock, Judge, Store, Publish, SplitStart, SplitMove, Unlock, Done}
 use Rattle.mt_operation.specs.declared.walk.Walk.{Walk}
 use Rattle.mt_operation.specs.declared.outcome.Outcome.{Outcome}
 use Rattle.mt_operation.specs.declared.operation.Operation.{Operation}
@@ -48,20 +48,20 @@ leaves_all c o h = record {
   slots = refl;
 }
 
--- an operation at this phase holds nothing, and has nothing made ready
+-- an operation at this phase holds nothing, has nothing made ready, and has a step left
 abbrev pub IsFree : Phase → Type 0
-IsFree Judge = ⊥
-IsFree Store = ⊥
-IsFree Publish = ⊥
-IsFree Unlock = ⊥
-IsFree Done = ⊥
-IsFree _ = Unit {0}
+IsFree Enter = Unit {0}
+IsFree Pick = Unit {0}
+IsFree Child = Unit {0}
+IsFree Verify = Unit {0}
+IsFree Search = Unit {0}
+IsFree Load = Unit {0}
+IsFree Confirm = Unit {0}
+IsFree Forward = Unit {0}
+IsFree Lock = Unit {0}
+IsFree _ = ⊥
 
 free_open : (p : Phase) → IsFree p → is_done p ≡ false
-free_open Judge f = absurd f
-free_open Store f = absurd f
-free_open Publish f = absurd f
-free_open Unlock f = absurd f
 free_open Done f = absurd f
 free_open _ f = refl
 
@@ -70,34 +70,40 @@ free_holds Judge node k f holds = absurd f
 free_holds Store node k f holds = absurd f
 free_holds Publish node k f holds = absurd f
 free_holds Unlock node k f holds = absurd f
-free_holds Done node k f holds = absurd f
 free_holds _ node k f holds = holds
 
 free_unplaced : (p : Phase) → IsFree p → is_unplaced p ≡ true
-free_unplaced Judge f = absurd f
-free_unplaced Store f = absurd f
-free_unplaced Publish f = absurd f
-free_unplaced Unlock f = absurd f
-free_unplaced Done f = absurd f
-free_unplaced _ f = refl
+free_unplaced Enter f = refl
+free_unplaced Pick f = refl
+free_unplaced Child f = refl
+free_unplaced Verify f = refl
+free_unplaced Search f = refl
+free_unplaced Load f = refl
+free_unplaced Confirm f = refl
+free_unplaced Forward f = refl
+free_unplaced Lock f = refl
+free_unplaced _ f = absurd f
 
--- who is free, or done, or is to judge, has nothing made ready
+-- who is free, or done, or is to judge, or has placed its change, has nothing made ready
 abbrev pub IsUnready : Phase → Type 0
 IsUnready Store = ⊥
 IsUnready Publish = ⊥
+IsUnready SplitStart = ⊥
+IsUnready SplitMove = ⊥
 IsUnready _ = Unit {0}
 
 pub unready_none : (op : Operation) (p : Phase) → op.walk.phase ≡ p → IsUnready p → one_if_prepared (Some op) ≡ 0
 unready_none op Store is u = absurd u
 unready_none op Publish is u = absurd u
+unready_none op SplitStart is u = absurd u
+unready_none op SplitMove is u = absurd u
 unready_none op _ is u = ap (λ p. one_if_prepared (Some (record op { walk = record op.walk { phase = p } }))) is
 
 pub free_unready : (p : Phase) → IsFree p → IsUnready p
-free_unready Judge f = absurd f
 free_unready Store f = absurd f
 free_unready Publish f = absurd f
-free_unready Unlock f = absurd f
-free_unready Done f = absurd f
+free_unready SplitStart f = absurd f
+free_unready SplitMove f = absurd f
 free_unready _ f = tt
 
 module _ (c : Core) (now : StateView) (o : ℕ) (is : shown c ≡ now) (h : StateInvariant c) (room : now.steps < 2 ^ 59) (op : Operation) (there : operation_at c.table o ≡ Some op) (free : IsFree op.walk.phase) where

@@ -16,7 +16,7 @@ use Rattle.mt_arena.specs.Arena.{ArenaView, content_of, Guarantee}
 use Rattle.mt_arena.specs.Contents.{counts}
 use Rattle.mt_arena.specs.Accesses.{at, tree_of, top_tree}
 use Rattle.mt_operation.specs.declared.walk.Phase.{Phase}
-use Rattle.mt_operation.specs.declared.walk.Phase.TheVariants.{Judge, Store, Publish, Unlock, Done}
+use Rattle.mt_operation.specs.declared.walk.Phase.TheVariants.{Judge, Store, Publish, SplitStart, SplitMove, SplitPrev, LockParent, InsertChild, InteriorSplit, Reparent, RootGrow, Unlock, Done}
 use Rattle.mt_operation.specs.declared.operation.Operation.{Operation}
 use Rattle.mt_operation.specs.Tasks.{ask}
 use Rattle.mt_operation.specs.Tables.{Table, op_at as operation_at}
@@ -64,6 +64,8 @@ AreHolders c = (k o : ℕ) → k < length c.arena.nodes → (at c.arena k).holde
 abbrev pub is_prepared : Phase → Bool
 is_prepared Store = true
 is_prepared Publish = true
+is_prepared SplitStart = true
+is_prepared SplitMove = true
 is_prepared _ = false
 
 -- how many operations have
@@ -95,6 +97,12 @@ AreKept c = (o : ℕ) (op : Operation) → operation_at c.table o ≡ Some op �
 
 -- an operation at this phase may still place its change
 abbrev pub is_unplaced : Phase → Bool
+is_unplaced SplitPrev = false
+is_unplaced LockParent = false
+is_unplaced InsertChild = false
+is_unplaced InteriorSplit = false
+is_unplaced Reparent = false
+is_unplaced RootGrow = false
 is_unplaced Unlock = false
 is_unplaced Done = false
 is_unplaced _ = true

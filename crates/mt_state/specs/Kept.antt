@@ -12,7 +12,7 @@ use Rattle.mt_border.specs.Contents.{owned}
 use Rattle.mt_tape.specs.declared.entry.Entry.{Entry as TapeEntry}
 use Rattle.mt_arena.specs.Accesses.{at}
 use Rattle.mt_operation.specs.declared.walk.Phase.{Phase}
-use Rattle.mt_operation.specs.declared.walk.Phase.TheVariants.{Enter, Search, Load, Confirm, Lock, Judge, Store, Publish, Unlock, Done}
+use Rattle.mt_operation.specs.declared.walk.Phase.TheVariants.{Enter, Pick, Child, Verify, Search, Load, Confirm, Forward, Lock, Judge, Store, Publish, Unlock, Done}
 use Rattle.mt_operation.specs.declared.walk.Taken.{Taken}
 use Rattle.mt_operation.specs.declared.walk.Taken.TheVariants.{Missing, Row, Link, Nothing}
 use Rattle.mt_operation.specs.declared.outcome.Outcome.{Outcome}
@@ -33,12 +33,13 @@ abbrev pub IsOfKind : Phase → Bool → Type 0
 IsOfKind Search writes = writes ≡ false
 IsOfKind Load writes = writes ≡ false
 IsOfKind Confirm writes = writes ≡ false
-IsOfKind Lock writes = writes ≡ true
-IsOfKind Judge writes = writes ≡ true
-IsOfKind Store writes = writes ≡ true
-IsOfKind Publish writes = writes ≡ true
-IsOfKind Unlock writes = writes ≡ true
-IsOfKind _ writes = Unit {0}
+IsOfKind Enter writes = Unit {0}
+IsOfKind Pick writes = Unit {0}
+IsOfKind Child writes = Unit {0}
+IsOfKind Verify writes = Unit {0}
+IsOfKind Forward writes = Unit {0}
+IsOfKind Done writes = Unit {0}
+IsOfKind _ writes = writes ≡ true
 
 -- what is kept of every operation: its key is its command's, of a tenant that is there and short enough for one slice; its numbers are those of
 -- steps made; and it has made one where it isn't at its beginning
@@ -111,16 +112,23 @@ pub record IsUnlocking (c : Core) (o : ℕ) (op : Operation) : Type 0 where
   pub unlocks : IsAtUnlock c.arena o op.walk
   pub answer : HasAnswer c op
 
--- what is kept of an operation by its phase
+-- what is kept of an operation by its phase; no operation comes to the phases of a split yet
 abbrev pub IsKeptAt : Phase → Core → ℕ → Operation → Type 0
+IsKeptAt Enter c o op = IsOnItsWay c op
+IsKeptAt Pick c o op = IsOnItsWay c op
+IsKeptAt Child c o op = IsOnItsWay c op
+IsKeptAt Verify c o op = IsOnItsWay c op
+IsKeptAt Search c o op = IsOnItsWay c op
 IsKeptAt Load c o op = IsAtLoad c op
 IsKeptAt Confirm c o op = IsAtConfirm c op
+IsKeptAt Forward c o op = IsOnItsWay c op
+IsKeptAt Lock c o op = IsOnItsWay c op
 IsKeptAt Judge c o op = IsJudging c o op
 IsKeptAt Store c o op = IsStoring c o op
 IsKeptAt Publish c o op = IsPublishing c o op
 IsKeptAt Unlock c o op = IsUnlocking c o op
 IsKeptAt Done c o op = HasAnswer c op
-IsKeptAt phase c o op = IsOnItsWay c op
+IsKeptAt _ c o op = ⊥
 
 -- a change that an operation has made has its entry in the tape, of its step, worker, tenant and key, with the row that the command makes of the one
 -- before

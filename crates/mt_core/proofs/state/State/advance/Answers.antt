@@ -4,7 +4,7 @@ use Rattle.mt_state.specs.Views.{StateView}
 use Rattle.mt_state.specs.Ways.{IsDescent}
 use Rattle.mt_operation.specs.declared.walk.Phase.TheVariants.{Search, Load, Confirm, Lock, Judge, Store, Publish, Unlock}
 use Rattle.mt_core.specs.States.{core_of}
-use Rattle.mt_core.proofs.NextSteps.{next_left, next_at, next_is, descends}
+use Rattle.mt_core.proofs.NextSteps.{next_left, next_at, next_is, next_kept, descends}
 use Rattle.mt_core.proofs.StraightSteps.{unmoved_stays}
 use Rattle.mt_core.proofs.state.State.advance.Goals as goal
 
@@ -44,3 +44,6 @@ publish-requires-clause-next c = next_is (core_of c.self.inside) c.args.self.now
 
 pub unlock-requires-clause-next : goal.unlock-requires-clause-next
 unlock-requires-clause-next c = next_is (core_of c.self.inside) c.args.self.now c.args.id c.self.view_is c.next_phase.result c.in-Some.phase c.next_phase.ensures c.in-Some.is Unlock c.in-Unlock.is
+
+pub unreachable-requires : goal.unreachable-requires
+unreachable-requires c = next_kept (core_of c.self.inside) c.args.self.now c.args.id c.self.view_is c.next_phase.result c.in-Some.phase c.next_phase.ensures c.in-Some.is c.self.invariant.state c.in_default-phase.not-Enter c.in_default-phase.not-Pick c.in_default-phase.not-Child c.in_default-phase.not-Verify c.in_default-phase.not-Search c.in_default-phase.not-Load c.in_default-phase.not-Confirm c.in_default-phase.not-Forward c.in_default-phase.not-Lock c.in_default-phase.not-Judge c.in_default-phase.not-Store c.in_default-phase.not-Publish c.in_default-phase.not-Unlock c.in_default-phase.not-Done
