@@ -49,7 +49,7 @@ pub mod Several
 pub mod Topping
 pub mod Inserting
 pub mod Parting
-pub mod Levels
+pub mod Heights
 pub mod TakenOut
 pub mod Unlinking
 pub mod Collapsing

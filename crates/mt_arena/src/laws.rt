@@ -23,7 +23,7 @@ ghost use Rattle.mt_arena.specs.Nodes.{Holds, HasRange};
 ghost use Rattle.mt_arena.specs.Forests.{tree_at};
 ghost use Rattle.mt_arena.specs.Layers.{slot_at};
 ghost use Rattle.mt_arena.specs.Contents.{content};
-ghost use Rattle.mt_arena.specs.Arena.{IsArena, ArenaView};
+ghost use Rattle.mt_arena.specs.Arena.{IsArena, ArenaView, live_count};
 ghost use Rattle.mt_arena.specs.Guarantee.{NodesGuarantee, PointsOnly};
 ghost use Rattle.mt_arena.specs.Settled.{IsSettled};
 ghost use Rattle.mt_arena.specs.Lags.{IsFollowedBy};
@@ -187,6 +187,16 @@ pub fn alone_in_its_tree()
     ensures { (nodes : List NodeView) (trees : List Tree) (r k : ℕ) → IsArena nodes trees → IsFreeRoot nodes trees r →
         k < length nodes → k ≢ r → (node_at nodes k).tree ≡ (node_at nodes r).tree →
         (node_at nodes k).version.deleted ≡ true }
+{}
+
+/// A live node that has a range stands above fewer levels than nodes are live: on each level below it
+/// a live node stands. So does the root of a live tree.
+pub fn a_level_needs_a_node()
+    ensures node { (nodes : List NodeView) (trees : List Tree) (k : ℕ) → IsArena nodes trees → k < length nodes →
+        (node_at nodes k).version.deleted ≡ false → HasRange (node_at nodes k) → (node_at nodes k).level < live_count nodes }
+    ensures root { (nodes : List NodeView) (trees : List Tree) (t : ℕ) → IsArena nodes trees → t < length trees →
+        (tree_at trees t).standing ≡ Live →
+        let r = (tree_at trees t).root in (r < length nodes) × ((node_at nodes r).level < live_count nodes) }
 {}
 
 /// A child stands in its parent at the place where its low fence belongs among the separators.

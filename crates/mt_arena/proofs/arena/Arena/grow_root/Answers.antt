@@ -4,7 +4,7 @@ use Rattle.mt_arena.specs.Arena.{ArenaView}
 use Rattle.mt_arena.specs.Accesses.{at, tree_of}
 use Rattle.mt_interior.specs.Fences.{end_of}
 use Rattle.mt_arena.proofs.Pairs.{read}
-use Rattle.mt_arena.proofs.Levels.{level_few}
+use Rattle.mt_arena.proofs.Heights.{level_few}
 use Rattle.mt_arena.proofs.Topping.{read_tree, sound_grown, step_grown, content_grown, settled_grown}
 use Rattle.mt_arena.proofs.arena.Arena.grow_root.Goals as goal
 
