@@ -1,9 +1,13 @@
 -- The phases of a put by the ensures of the calls that they make: for `State::lock`, `judge`, `store`, `publish` and `unlock`.
-use Rattle.std.proofs.Common.{◌≡◌, ◌≢◌, ℕ, zero, suc, ◌+◌, ◌<◌, inl, inr, true, false, not, [], ◌∷◌, set, Option, Some, None, IsSome, is_some, refl, sym, ap, subst, ◌∙◌, arith}
+use Rattle.std.proofs.Common.{◌≡◌, ◌≢◌, ℕ, zero, suc, ◌+◌, ◌<◌, inl, inr, true, false, not, [], ◌∷◌, length, set, Option, Some, None, IsSome, is_some, refl, sym, ap, subst, ◌∙◌, arith}
 use Rattle.std.specs.Prelude.{◌^◌}
 use Rattle.std.proofs.lemmas.Bool.{cases_eq}
 use Rattle.std.proofs.lemmas.Option.{same_Some}
 use Rattle.std.specs.FinMap.{get}
+use Rattle.mt_slices.specs.Slices.{slice_of, mark_of}
+use Rattle.mt_border.specs.Entries.{IsMissing}
+use Rattle.mt_arena.specs.NodeView.{NodeView}
+use Rattle.mt_rows.specs.Rows.{Bytes}
 use Rattle.mt_rows.specs.Accounts.{Accounts, account_of, HasRoom}
 use Rattle.mt_border.specs.Contents.{owned}
 use Rattle.mt_rows.specs.declared.reply.Reply.{Reply}
@@ -59,12 +63,19 @@ writes_both old mid new o f g first second x there =
 pub outcome_is : (told : Outcome) (reply of : Reply) (step : ℕ) → told ≡ record { reply = reply; at = step } → reply ≡ of → told ≡ record { reply = of; at = step }
 outcome_is told reply of step says same = says ∙ ap (λ (r : Reply). record { reply = r; at = step }) same
 
+-- there is room where the judged node misses the key
+room_of : (n : NodeView) (key : Bytes) (layer : ℕ) (slot : Option ℕ) → (IsMissing n.slots (slice_of key layer) (mark_of key layer) → length n.slots < 15) → StandsIn n key layer slot → slot ≡ None → length n.slots < 15
+room_of n key layer (Some i) fits stands none = absurd (cc)
+room_of n key layer None fits stands none = fits stands
+
 -- what a judgement that made all ready ensures
-pub ready_for : (c : Core) (o : ℕ) (x : Operation) (arena : ArenaView) (tape : Kept) (w : Walk) (prepared : Prepared) → (slot : Option ℕ) × StandsIn (at c.arena x.walk.place.node) x.task.key x.walk.layer slot × (w ≡ after_judge slot x.walk)
+pub ready_for : (c : Core) (o : ℕ) (x : Operation) (arena : ArenaView) (tape : Kept) (w : Walk) (prepared : Prepared) → (slot : Option ℕ) × StandsIn (at c.arena x.walk.place.node) x.task.key x.walk.layer slot × (w ≡ after_judge (at c.arena x.walk.place.node) slot x.walk)
+    → (IsMissing (at c.arena x.walk.place.node).slots (slice_of x.task.key x.walk.layer) (mark_of x.task.key x.walk.layer) → length (at c.arena x.walk.place.node).slots < 15)
     → Continues x.walk w → tape ≡ reserving c.tape → arena ≡ c.arena → KeptReady w.phase arena o x.task prepared w → MakesReady c o x tape w prepared
-ready_for c o x arena tape w prepared judged same reserves stays kept = record {
+ready_for c o x arena tape w prepared judged fits same reserves stays kept = record {
   slot = judged.0;
   walk = judged.2;
+  room = room_of (at c.arena x.walk.place.node) x.task.key x.walk.layer judged.0 fits judged.1;
   same = same;
   tape_is = reserves;
   kept = subst (λ (v : ArenaView). KeptReady w.phase v o x.task prepared w) stays kept;
@@ -151,7 +162,7 @@ module _ (c : Core) (now : StateView) (o : ℕ) (is : shown c ≡ now) (h : Stat
         → Writes c.table mid o (λ y. moved y (c.steps + 1) w) → Writes mid table o (λ y. made_ready y prepared) → Gives now (made arena tape c.accounts table) o false
     ready_made next x there arena tape w prepared mid table stays t moves readies =
         subst (λ (all : Table). Gives now (made arena tape c.accounts all) o false) (sym (writes_both c.table mid table o (λ y. moved y (c.steps + 1) w) (λ y. made_ready y prepared) moves readies x there))
-        (judge_ready c now o is h few x there (phase_is Judge next x there) arena tape w prepared t.slot stays t.tape_is t.walk t.same (subst (λ (v : ArenaView). KeptReady w.phase v o x.task prepared w) (sym stays) t.kept))
+        (judge_ready c now o is h few x there (phase_is Judge next x there) arena tape w prepared t.slot stays t.tape_is t.walk t.room t.same (subst (λ (v : ArenaView). KeptReady w.phase v o x.task prepared w) (sym stays) t.kept))
 
     -- no memory for it
     pub refused_made : IsNext now o (λ q. q ≡ Judge) → (x : Operation) → operation_at c.table o ≡ Some x → (arena : ArenaView) (tape : Kept) (w : Walk) (told : Outcome) (mid table : Table) → tape ≡ c.tape → GivesBack c o x arena w

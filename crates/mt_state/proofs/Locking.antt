@@ -1,7 +1,7 @@
 -- The steps of a put that change no pair: it locks its border node, judges it, finds its quota full, and gives the lock back.
 use Rattle.std.proofs.Common.{◌≡◌, ℕ, zero, suc, ◌+◌, ◌-◌, ◌<◌, ◌≤◌, inl, inr, true, false, cond, [], ◌∷◌, length, Option, Some, None, refl, sym, ap, subst, ◌∙◌, arith}
 use Rattle.std.specs.Prelude.{◌^◌}
-use Rattle.std.proofs.lemmas.Bool.{cases_lt}
+use Rattle.std.proofs.lemmas.Bool.{cases_lt, cond-false, ne_eqb}
 use Rattle.std.proofs.lemmas.Option.{same_Some}
 use Rattle.std.specs.FinMap.{get, len}
 use Rattle.mt_version.specs.Changes.{CanUnlock}
@@ -232,18 +232,18 @@ module _ (c : Core) (now : StateView) (o : ℕ) (is : shown c ≡ now) (h : Stat
     to_place (Some slot) = Store
     to_place None = Publish
 
-    judged_to : (slot : Option ℕ) → (after_judge slot op.walk).phase ≡ to_place slot
-    judged_to (Some slot) = refl
-    judged_to None = refl
+    judged_to : (slot : Option ℕ) → (slot ≡ None → length n.slots < 15) → (after_judge n slot op.walk).phase ≡ to_place slot
+    judged_to (Some slot) few = refl
+    judged_to None few = cond-false _ _ _ (ne_eqb (length n.slots) 15 (λ is. omega (arith, few refl, is)))
 
-    judged_place : (slot : Option ℕ) → (after_judge slot op.walk).place.node ≡ k
+    judged_place : (slot : Option ℕ) → (after_judge n slot op.walk).place.node ≡ k
     judged_place (Some slot) = refl
     judged_place None = refl
 
     -- a put that has made all ready for its write
-    pub judge_ready : (arena : ArenaView) (tape : Kept) (w : Walk) (prepared : Prepared) (slot : Option ℕ) → arena ≡ c.arena → tape ≡ reserving c.tape → w ≡ after_judge slot op.walk → Continues op.walk w → KeptReady w.phase arena o op.task prepared w
+    pub judge_ready : (arena : ArenaView) (tape : Kept) (w : Walk) (prepared : Prepared) (slot : Option ℕ) → arena ≡ c.arena → tape ≡ reserving c.tape → w ≡ after_judge n slot op.walk → (slot ≡ None → length n.slots < 15) → Continues op.walk w → KeptReady w.phase arena o op.task prepared w
         → Gives now (stepped c arena tape c.accounts o (went op (c.steps + 1) w op.outcome (Some prepared))) o false
-    judge_ready arena tape w prepared slot stays reserves goes same kept =
+    judge_ready arena tape w prepared slot stays reserves goes few same kept =
         subst (λ (v : ArenaView). Gives now (stepped c v tape c.accounts o after) o false) (sym stays)
         (subst (λ (t : Kept). Gives now (stepped c c.arena t c.accounts o after) o false) (sym reserves)
         (quiet_gives c now o is h room op there c.arena (c.tape.reserved + 1) w op.outcome (Some prepared)
@@ -265,7 +265,7 @@ module _ (c : Core) (now : StateView) (o : ℕ) (is : shown c ≡ now) (h : Stat
         new = stepped c c.arena (reserving c.tape) c.accounts o after
 
         phase : w.phase ≡ to_place slot
-        phase = ap (λ (x : Walk). x.phase) goes ∙ judged_to slot
+        phase = ap (λ (x : Walk). x.phase) goes ∙ judged_to slot few
 
         place : w.place.node ≡ k
         place = ap (λ (x : Walk). x.place.node) goes ∙ judged_place slot

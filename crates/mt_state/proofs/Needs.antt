@@ -1,8 +1,10 @@
 -- What the calls of a put's phases ask, by the invariant: for `State::lock`, `judge`, `store`, `publish` and `unlock`.
-use Rattle.std.proofs.Common.{◌≡◌, ℕ, ◌+◌, ◌<◌, inl, inr, Bool, true, false, not, length, Some, None, IsSome, is_some, refl, sym, ap, subst, ◌∙◌, arith}
+use Rattle.std.proofs.Common.{◌≡◌, ℕ, ◌+◌, ◌*◌, ◌<◌, ◌≤◌, inl, inr, Bool, true, false, not, length, Some, None, IsSome, is_some, refl, sym, ap, subst, ◌∙◌, arith}
 use Rattle.std.proofs.lemmas.Option.{same_Some}
 use Rattle.mt_version.specs.Changes.{CanUnlock}
+use Rattle.mt_slices.specs.Slices.{slice_of, mark_of}
 use Rattle.mt_rows.specs.Maps.{is_get}
+use Rattle.mt_border.specs.Entries.{IsMissing}
 use Rattle.mt_tape.specs.Tapes.{last_write}
 use Rattle.mt_arena.specs.Arena.{IsArena}
 use Rattle.mt_arena.specs.Accesses.{at}
@@ -16,7 +18,6 @@ use Rattle.mt_operation.specs.Tables.{op_at as operation_at}
 use Rattle.mt_descent.specs.Kept.{IsAtBorder, KeptAt, HoldsNothing}
 use Rattle.mt_insert.specs.Puts.{IsPut}
 use Rattle.mt_insert.specs.Kept.{HoldsBorder, IsAtStore, IsAtPublish, IsAtUnlock}
-use Rattle.mt_insert.specs.Moves.{FitsIn}
 use Rattle.mt_insert.proofs.Places.{none_here}
 use Rattle.mt_state.specs.Views.{Core, shown, past_of}
 use Rattle.mt_state.specs.Promises.{IsInTheWay, IsHeldByOther}
@@ -105,15 +106,17 @@ module _ (c : Core) (o : ℕ) (h : StateInvariant c) (op : Operation) (there : o
   pub judge_kept : op.walk.phase ≡ Judge → HoldsBorder c.arena o op.task.key op.walk
   judge_kept at_judge = let k : IsJudging c o op = subst (λ (p : Phase). IsKeptAt p c o op) at_judge (h.ops o op there).kept in k.judges
 
-  -- in which its key ends, and has room where it is missing
-  pub judge_fits : op.walk.phase ≡ Judge → IsArena c.arena.nodes c.arena.trees → FitsIn (at c.arena op.walk.place.node) op.task.key op.walk.layer
-  judge_fits at_judge arena = record {
-    ends = let short = always.short in omega (arith, short);
-    room = λ missing. elim (h.one_put.room o op there (put_at Judge at_judge tt).put_is (ap is_unplaced at_judge)) [
-      | inl few ↦ subst (λ k. length (at c.arena k).slots < 15) (sym (only_number c.arena h.one_border op.walk.place.node (judge_kept at_judge).judged.held.there)) few
-      | inr some ↦ absurd (let no = sym (ap is_some (none_here c.arena o op.task.key op.walk arena (judge_kept at_judge) missing)) ∙ some in cc)
-    ];
-  }
+  -- its key ends in its layer
+  pub judge_ends : length op.task.key ≤ 8 * (op.walk.layer + 1)
+  judge_ends = let short = always.short in omega (arith, short)
+
+  -- and its border node has room where the key is missing
+  pub judge_room : op.walk.phase ≡ Judge → IsArena c.arena.nodes c.arena.trees
+      → IsMissing (at c.arena op.walk.place.node).slots (slice_of op.task.key op.walk.layer) (mark_of op.task.key op.walk.layer) → length (at c.arena op.walk.place.node).slots < 15
+  judge_room at_judge arena missing = elim (h.one_put.room o op there (put_at Judge at_judge tt).put_is (ap is_unplaced at_judge)) [
+    | inl few ↦ subst (λ k. length (at c.arena k).slots < 15) (sym (only_number c.arena h.one_border op.walk.place.node (judge_kept at_judge).judged.held.there)) few
+    | inr some ↦ absurd (let no = sym (ap is_some (none_here c.arena o op.task.key op.walk arena (judge_kept at_judge) missing)) ∙ some in cc)
+  ]
 
   -- what it has made ready is the put over its key's row
   pub store_kept : op.walk.phase ≡ Store → (prepared : Prepared) → op.prepared ≡ Some prepared → IsAtStore c.arena o op.task prepared op.walk

@@ -1,5 +1,5 @@
 -- What the calls of a put's phases ensure of a state's operation, from its lock on.
-use Rattle.std.specs.Prelude.{◌≡◌, ℕ, ◌+◌, Option, Some, None, slice_set}
+use Rattle.std.specs.Prelude.{◌≡◌, ℕ, ◌+◌, ◌<◌, length, Option, Some, None, slice_set}
 use Rattle.std.specs.Option.{option_map}
 use Rattle.std.specs.FinMap.{get}
 use Rattle.mt_rows.specs.Rows.{Columns}
@@ -61,7 +61,8 @@ pub record GivesBack (c : Core) (o : ℕ) (op : Operation) (arena : ArenaView) (
 -- all was made ready, with room on the tape
 pub record MakesReady (c : Core) (o : ℕ) (op : Operation) (tape : Kept) (w : Walk) (prepared : Prepared) : Type 0 where
   pub slot : Option ℕ
-  pub walk : w ≡ after_judge slot op.walk
+  pub walk : w ≡ after_judge (at c.arena op.walk.place.node) slot op.walk
+  pub room : slot ≡ None → length (at c.arena op.walk.place.node).slots < 15
   pub same : Continues op.walk w
   pub tape_is : tape ≡ reserving c.tape
   pub kept : KeptReady w.phase c.arena o op.task prepared w

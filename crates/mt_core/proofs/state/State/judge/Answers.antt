@@ -1,6 +1,6 @@
 use Rattle.std.proofs.Common.{true, false, refl}
 use Rattle.mt_operation.specs.declared.walk.Phase.TheVariants.{Judge}
-use Rattle.mt_state.proofs.Needs.{put_at, judge_kept, judge_fits}
+use Rattle.mt_state.proofs.Needs.{put_at, judge_kept, judge_ends, judge_room}
 use Rattle.mt_state.proofs.Telling.{Gives}
 use Rattle.mt_core.specs.States.{core_of}
 use Rattle.mt_core.proofs.PutSteps.{made, may_step, phase_is, ready_made, refused_made, ready_for}
@@ -13,15 +13,15 @@ judge-prepared-requires-clause-put c = put_at (core_of c.self.inside) c.args.id 
 pub judge-prepared-requires-clause-kept : goal.judge-prepared-requires-clause-kept
 judge-prepared-requires-clause-kept c = judge_kept (core_of c.self.inside) c.args.id c.self.invariant.state _ c.open-operation.ensures (phase_is (core_of c.self.inside) _ c.args.id c.self.view_is c.self.invariant.state Judge c.requires.next _ c.open-operation.ensures)
 
-pub judge-prepared-requires-clause-fits : goal.judge-prepared-requires-clause-fits
-judge-prepared-requires-clause-fits c = judge_fits (core_of c.self.inside) c.args.id c.self.invariant.state _ c.open-operation.ensures (phase_is (core_of c.self.inside) _ c.args.id c.self.view_is c.self.invariant.state Judge c.requires.next _ c.open-operation.ensures) c.facts.ensures.arena
+pub judge-prepared-requires-clause-ends : goal.judge-prepared-requires-clause-ends
+judge-prepared-requires-clause-ends c = judge_ends (core_of c.self.inside) c.args.id c.self.invariant.state _ c.open-operation.ensures
 
 pub go_on-requires : goal.go_on-requires
 go_on-requires c = may_step (core_of c.self.inside) _ c.args.id c.self.view_is c.self.invariant.state Judge refl c.requires.next
 
 gives_some : (c : goal.After-make_ready) → Gives c.args.self.now (made (core_of c.self.inside) _ c.args.id c.self.view_is c.self.invariant.state c.judge-prepared.new.arena c.judge-prepared.new.tape c.self.inside.tenants c.make_ready.new.self) c.args.id false
 gives_some c = let e = c.in-Some.ensures in ready_made (core_of c.self.inside) _ c.args.id c.self.view_is c.self.invariant.state c.requires.few c.requires.next _ c.open-operation.ensures _ _ _ _ _ _ e.unchanged
-    (ready_for (core_of c.self.inside) c.args.id _ _ _ _ _ e.is e.same e.reserved e.unchanged e.kept) c.go_on.ensures.moves c.make_ready.ensures.readies
+    (ready_for (core_of c.self.inside) c.args.id _ _ _ _ _ e.is (judge_room (core_of c.self.inside) c.args.id c.self.invariant.state _ c.open-operation.ensures (phase_is (core_of c.self.inside) _ c.args.id c.self.view_is c.self.invariant.state Judge c.requires.next _ c.open-operation.ensures) c.facts.ensures.arena) e.same e.reserved e.unchanged e.kept) c.go_on.ensures.moves c.make_ready.ensures.readies
 
 pub invariant_of-self : goal.invariant_of-self
 invariant_of-self c = ended_state c.args.self.now (core_of c.self.inside) _ c.args.id false Judge c.self.view_is c.self.invariant tt c.requires.next (gives_some c)
