@@ -281,7 +281,7 @@ impl State {
         match descended(&self.arena, open(&self.operations, id)) {
             Ok(walk) => {
                 self.steps += 1;
-                self.operations.go_on(id, self.steps, walk);
+                self.operations.go_on(id, self.steps, &walk);
                 Move::Moved
             }
             Err(holder) => again(holder),
@@ -299,7 +299,7 @@ impl State {
         let operation = open(&self.operations, id);
         let mut walk = operation.walk;
         search(&self.arena, &operation.task.key, &mut walk, self.steps);
-        self.operations.go_on(id, self.steps, walk);
+        self.operations.go_on(id, self.steps, &walk);
         if walk.phase == Phase::Confirm {
             self.operations.note(id, Some(absent(self.steps)));
         }
@@ -321,7 +321,7 @@ impl State {
         ) {
             Ok(Loaded { walk, outcome }) => {
                 self.steps += 1;
-                self.operations.go_on(id, self.steps, walk);
+                self.operations.go_on(id, self.steps, &walk);
                 self.operations.note(id, outcome);
                 ending(&walk)
             }
@@ -343,7 +343,7 @@ impl State {
             return again(holder);
         }
         self.steps += 1;
-        self.operations.go_on(id, self.steps, walk);
+        self.operations.go_on(id, self.steps, &walk);
         if walk.phase == Phase::Done {
             return Move::Done;
         }
@@ -365,7 +365,7 @@ impl State {
             return again(holder);
         }
         self.steps += 1;
-        self.operations.go_on(id, self.steps, walk);
+        self.operations.go_on(id, self.steps, &walk);
         Move::Moved
     }
 
@@ -387,7 +387,7 @@ impl State {
             &mut walk,
             id,
         );
-        self.operations.go_on(id, self.steps, walk);
+        self.operations.go_on(id, self.steps, &walk);
         match prepared {
             Some(prepared) => {
                 self.operations.make_ready(id, prepared);
@@ -420,7 +420,7 @@ impl State {
             self.steps,
             id,
         );
-        self.operations.go_on(id, self.steps, walk);
+        self.operations.go_on(id, self.steps, &walk);
         self.operations
             .note(id, Some(placed(Reply::Replaced, self.steps)));
         Move::Moved
@@ -447,7 +447,7 @@ impl State {
             self.steps,
             id,
         );
-        self.operations.go_on(id, self.steps, walk);
+        self.operations.go_on(id, self.steps, &walk);
         let reply = if is_new { Reply::New } else { Reply::Full };
         self.operations.note(id, Some(placed(reply, self.steps)));
         Move::Moved
@@ -462,7 +462,7 @@ impl State {
         self.steps += 1;
         let mut walk = open(&self.operations, id).walk;
         unlock(&mut self.arena, &mut walk, id);
-        self.operations.go_on(id, self.steps, walk);
+        self.operations.go_on(id, self.steps, &walk);
         Move::Done
     }
 }

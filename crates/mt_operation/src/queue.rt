@@ -30,23 +30,20 @@ pub(crate) struct Ends {
     pub last: Option<usize>,
 }
 
-// Whether the operation of an id has made no step.
-fn is_still(seats: &Slab<Seat>, id: usize) -> bool
-    ensures { result ≡ is_still (seat_at seats.now.slots id) }
-{
-    match seats.get(id) {
-        Some(seat) => seat.operation.walk.first == 0,
-        None => false,
-    }
-}
-
-/// An operation makes the step of this number, and walks on so.
-pub(crate) fn move_at(seats: &mut Slab<Seat>, id: usize, step: u64, walk: Walk)
-    ensures becomes { Becomes seats.old.slots seats.new.slots id (λ op. moved op step walk) }
+/// An operation makes the step of this number, and walks on so; whether it is there, and this step is
+/// its first.
+pub(crate) fn move_at(seats: &mut Slab<Seat>, id: usize, step: u64, walk: &Walk) -> bool
+    ensures first { result ≡ is_still (seat_at seats.old.slots id) }
+    ensures becomes { Becomes seats.old.slots seats.new.slots id (λ op. moved op step walk.now) }
     ensures none { seat_at seats.old.slots id ≡ None → seats.new.slots ≡ seats.old.slots }
 {
-    if let Some(seat) = seats.get_mut(id) {
-        seat.operation.go_on(step, walk);
+    match seats.get_mut(id) {
+        Some(seat) => {
+            let is_first = seat.operation.walk.first == 0;
+            seat.operation.go_on(step, walk);
+            is_first
+        }
+        None => false,
     }
 }
 
@@ -82,18 +79,6 @@ pub(crate) fn take_prepared_at(seats: &mut Slab<Seat>, id: usize) -> Option<Prep
     }
 }
 
-/// Puts an operation behind all others of the queue, where it has made no step.
-pub(crate) fn link_still(seats: &mut Slab<Seat>, ends: &mut Ends, id: usize)
-    requires last { IsEndOrSeat seats.old.slots ends.old.last }
-    requires new { is_still (seat_at seats.old.slots id) ≡ true → ends.old.last ≢ Some id }
-    ensures links { is_still (seat_at seats.old.slots id) ≡ true → LinksLast seats.old.slots ends.old seats.new.slots ends.new id }
-    ensures same { is_still (seat_at seats.old.slots id) ≡ false → (seats.new.slots ≡ seats.old.slots) × (ends.new ≡ ends.old) }
-{
-    if is_still(seats, id) {
-        link_last(seats, ends, id);
-    }
-}
-
 /// Makes neighbours of the two between which a seat was, where its operation has made a step.
 pub(crate) fn cut(seats: &mut Slab<Seat>, ends: &mut Ends, seat: &Seat)
     requires before { 0 < seat.now.operation.walk.first → IsEndOrSeat seats.old.slots seat.now.before }
@@ -106,8 +91,8 @@ pub(crate) fn cut(seats: &mut Slab<Seat>, ends: &mut Ends, seat: &Seat)
     }
 }
 
-// Puts an operation behind all others of the queue.
-fn link_last(seats: &mut Slab<Seat>, ends: &mut Ends, id: usize)
+/// Puts an operation behind all others of the queue.
+pub(crate) fn link_last(seats: &mut Slab<Seat>, ends: &mut Ends, id: usize)
     requires there { IsEndOrSeat seats.old.slots (Some id) }
     requires last { IsEndOrSeat seats.old.slots ends.old.last }
     requires new { ends.old.last ≢ Some id }

@@ -13,9 +13,7 @@ ghost use Rattle.mt_operation.specs.declared.operation.Operation.{Operation as A
 use crate::operation::Operation;
 use crate::outcome::Outcome;
 use crate::prepared::Prepared;
-use crate::queue::{
-    Ends, Seat, cut, link_still, make_ready_at, move_at, note_at, take_prepared_at,
-};
+use crate::queue::{Ends, Seat, cut, link_last, make_ready_at, move_at, note_at, take_prepared_at};
 use crate::walk::Walk;
 use mt_rows::Refusal;
 use slab::Slab;
@@ -107,13 +105,14 @@ impl Operations {
 
     /// An operation makes the step of this number, and walks on so; its first step stays the one that
     /// it was. Nothing happens where no operation has the id.
-    pub fn go_on(&mut self, id: usize, step: u64, walk: Walk)
+    pub fn go_on(&mut self, id: usize, step: u64, walk: &Walk)
         requires { MayMove self.old id step }
-        ensures moves { (op : AnyOperation) → op_at self.old id ≡ Some op → self.new ≡ slice_set self.old id (Some (moved op step walk)) }
+        ensures moves { (op : AnyOperation) → op_at self.old id ≡ Some op → self.new ≡ slice_set self.old id (Some (moved op step walk.now)) }
         ensures absent { op_at self.old id ≡ None → self.new ≡ self.old }
     {
-        link_still(&mut self.seats, &mut self.ends, id);
-        move_at(&mut self.seats, id, step, walk);
+        if move_at(&mut self.seats, id, step, walk) {
+            link_last(&mut self.seats, &mut self.ends, id);
+        }
     }
 
     /// An operation has this outcome or none, in the place of any that it had. Nothing happens where no

@@ -79,7 +79,7 @@ fn go_to(table: &mut Operations, id: usize, step: u64, phase: Phase)
 {
     let mut walk = Walk::new(false, 0);
     walk.phase = phase;
-    table.go_on(id, step, walk);
+    table.go_on(id, step, &walk);
 }
 
 // The floor that is needed after so many steps.
