@@ -299,9 +299,11 @@ impl State {
         let operation = open(&self.operations, id);
         let mut walk = operation.walk;
         search(&self.arena, &operation.task.key, &mut walk, self.steps);
-        self.operations.go_on(id, self.steps, &walk);
         if walk.phase == Phase::Confirm {
-            self.operations.note(id, Some(absent(self.steps)));
+            self.operations
+                .go_on_with(id, self.steps, &walk, Some(absent(self.steps)));
+        } else {
+            self.operations.go_on(id, self.steps, &walk);
         }
         Move::Moved
     }
@@ -321,8 +323,7 @@ impl State {
         ) {
             Ok(Loaded { walk, outcome }) => {
                 self.steps += 1;
-                self.operations.go_on(id, self.steps, &walk);
-                self.operations.note(id, outcome);
+                self.operations.go_on_with(id, self.steps, &walk, outcome);
                 ending(&walk)
             }
             Err(holder) => again(holder),
@@ -343,11 +344,11 @@ impl State {
             return again(holder);
         }
         self.steps += 1;
-        self.operations.go_on(id, self.steps, &walk);
         if walk.phase == Phase::Done {
+            self.operations.go_on(id, self.steps, &walk);
             return Move::Done;
         }
-        self.operations.note(id, None);
+        self.operations.go_on_with(id, self.steps, &walk, None);
         Move::Moved
     }
 
@@ -387,14 +388,15 @@ impl State {
             &mut walk,
             id,
         );
-        self.operations.go_on(id, self.steps, &walk);
         match prepared {
             Some(prepared) => {
+                self.operations.go_on(id, self.steps, &walk);
                 self.operations.make_ready(id, prepared);
                 Move::Moved
             }
             None => {
-                self.operations.note(id, Some(no_memory(self.steps)));
+                self.operations
+                    .go_on_with(id, self.steps, &walk, Some(no_memory(self.steps)));
                 Move::Done
             }
         }
@@ -420,9 +422,9 @@ impl State {
             self.steps,
             id,
         );
-        self.operations.go_on(id, self.steps, &walk);
+        let told = placed(Reply::Replaced, self.steps);
         self.operations
-            .note(id, Some(placed(Reply::Replaced, self.steps)));
+            .go_on_with(id, self.steps, &walk, Some(told));
         Move::Moved
     }
 
@@ -447,9 +449,10 @@ impl State {
             self.steps,
             id,
         );
-        self.operations.go_on(id, self.steps, &walk);
         let reply = if is_new { Reply::New } else { Reply::Full };
-        self.operations.note(id, Some(placed(reply, self.steps)));
+        let told = placed(reply, self.steps);
+        self.operations
+            .go_on_with(id, self.steps, &walk, Some(told));
         Move::Moved
     }
 

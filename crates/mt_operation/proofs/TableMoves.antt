@@ -129,26 +129,26 @@ module _ (p0 p1 : Seats) (ends : Ends) (put : Option ℕ) (o : ℕ) (f : Operati
 pub ready_table : (seats : Seats) (now : Table) (o : ℕ) → table_of seats ≡ now → prepared_in (operation_in (seat_at seats o)) ≡ prepared_in (op_at now o)
 ready_table seats now o is = ap prepared_in (sym (op_seat seats o) ∙ ap (λ t. op_at t o) is)
 
--- a put that has moved was open before, since it had a step left
-was_open : (op : Operation) (step : ℕ) (walk : Walk) → is_unfinished op ≡ true → is_open_put (moved op step walk) ≡ true → is_open_put op ≡ true
-was_open op step walk left e = open_joins op (open_parts (moved op step walk) e).0 left
-
--- the operation of an id moves
+-- the operation of an id moves, and may have another outcome
 module _ (p0 p1 : Seats) (e0 : Ends) (put : Option ℕ) (now : Table) (o step : ℕ) (walk : Walk) (is : table_of p0 ≡ now) (h : IsTable p0 e0 put) (may : MayMove now o step)
-    (becomes : Becomes p0 p1 o (λ op. moved op step walk)) where
+    (f : Operation → Operation) (same_task : (op : Operation) → (f op).task ≡ op.task) (same_walk : (op : Operation) → (f op).walk ≡ (moved op step walk).walk) (becomes : Becomes p0 p1 o f) where
   there_at : (seat : Seat) → seat_at p0 o ≡ Some seat → op_at (table_of p0) o ≡ Some seat.operation
   there_at seat at = op_seat p0 o ∙ ap operation_in at
 
   early_at : (seat : Seat) → seat_at p0 o ≡ Some seat → seat.operation.walk.first < step
   early_at seat at = may.later o seat.operation (ap (λ t. op_at t o) (sym is) ∙ there_at seat at)
 
-  table_at : (seat : Seat) → seat_at p0 o ≡ Some seat → table_of p1 ≡ set (table_of p0) o (Some (moved seat.operation step walk))
-  table_at seat at = became_table p0 p1 o (λ op. moved op step walk) becomes p0 (table_of p0) seat.operation refl refl (there_at seat at)
+  table_at : (seat : Seat) → seat_at p0 o ≡ Some seat → table_of p1 ≡ set (table_of p0) o (Some (f seat.operation))
+  table_at seat at = became_table p0 p1 o f becomes p0 (table_of p0) seat.operation refl refl (there_at seat at)
 
-  put_at : (seat : Seat) → seat_at p0 o ≡ Some seat → IsLastPut (set (table_of p0) o (Some (moved seat.operation step walk))) put
+  -- a put that has moved was open before, since it had a step left
+  was_open : (op : Operation) → is_unfinished op ≡ true → is_open_put (f op) ≡ true → is_open_put op ≡ true
+  was_open op left e = open_joins op (sym (ap (λ (t : Task). is_get (ask t)) (same_task op)) ∙ (open_parts (f op) e).0) left
+
+  put_at : (seat : Seat) → seat_at p0 o ≡ Some seat → IsLastPut (set (table_of p0) o (Some (f seat.operation))) put
   put_at seat at =
       let left = may.unfinished seat.operation (ap (λ t. op_at t o) (sym is) ∙ there_at seat at) in
-      put_became (table_of p0) o seat.operation (moved seat.operation step walk) put (there_at seat at) (was_open seat.operation step walk left) h.last_put
+      put_became (table_of p0) o seat.operation (f seat.operation) put (there_at seat at) (was_open seat.operation left) h.last_put
 
   seat_in : (x : Option Seat) → seat_at p0 o ≡ x → is_still x ≡ true → (seat : Seat) × (seat_at p0 o ≡ Some seat) × ((seat.operation.walk.first == 0) ≡ true)
   seat_in None at still = absurd (cc)
@@ -162,7 +162,7 @@ module _ (p0 p1 : Seats) (e0 : Ends) (put : Option ℕ) (now : Table) (o step : 
   moved_there still = let s = still_seat still in seat_here s.0 s.1
     where
       seat_here : (seat : Seat) → seat_at p0 o ≡ Some seat → IsEndOrSeat p1 (Some o)
-      seat_here seat at = ap (λ p. is_some (seat_at p o)) (becomes seat at) ∙ ap is_some (set_is p0 o (record seat { operation = moved seat.operation step walk }) seat at)
+      seat_here seat at = ap (λ p. is_some (seat_at p o)) (becomes seat at) ∙ ap is_some (set_is p0 o (record seat { operation = f seat.operation }) seat at)
 
   -- and so is the queue's last
   pub moved_last : is_still (seat_at p0 o) ≡ true → IsEndOrSeat p1 e0.last
@@ -170,30 +170,30 @@ module _ (p0 p1 : Seats) (e0 : Ends) (put : Option ℕ) (now : Table) (o step : 
     where
       seat_last : (seat : Seat) → seat_at p0 o ≡ Some seat → (s : Option ℕ) → IsEndOrSeat p0 s → IsEndOrSeat p1 s
       seat_last seat at None here = tt
-      seat_last seat at (Some q) here = ap (λ p. is_some (seat_at p q)) (becomes seat at) ∙ written_in is_some p0 o q seat (record seat { operation = moved seat.operation step walk }) at refl ∙ here
+      seat_last seat at (Some q) here = ap (λ p. is_some (seat_at p q)) (becomes seat at) ∙ written_in is_some p0 o q seat (record seat { operation = f seat.operation }) at refl ∙ here
 
   -- where this is its first step, and it is put behind all others, the table stays one
   pub moved_first : (p2 : Seats) (e1 : Ends) → is_still (seat_at p0 o) ≡ true → LinksLast p1 e0 p2 e1 o → IsTable p2 e1 put
   moved_first p2 e1 still l = let s = still_seat still in first_by s.0 s.1 s.2
     where
-      first_step : (op : Operation) → (op.walk.first == 0) ≡ true → (moved op step walk).walk.first ≡ step
-      first_step op e = rw e refl
+      first_step : (op : Operation) → (op.walk.first == 0) ≡ true → (f op).walk.first ≡ step
+      first_step op e = ap (λ (w : Walk). w.first) (same_walk op) ∙ rw e refl
 
       first_by : (seat : Seat) → seat_at p0 o ≡ Some seat → (seat.operation.walk.first == 0) ≡ true → IsTable p2 e1 put
       first_by seat at still =
           let there = there_at seat at in
-          let table : table_of p2 ≡ set (table_of p0) o (Some (moved seat.operation step walk)) = l.table ∙ table_at seat at in
+          let table : table_of p2 ≡ set (table_of p0) o (Some (f seat.operation)) = l.table ∙ table_at seat at in
           let first : first_at (table_of p2) o ≡ step =
-          ap (λ t. first_at t o) table ∙ ap first_in (set_is (table_of p0) o (moved seat.operation step walk) seat.operation there) ∙ first_step seat.operation still in
+          ap (λ t. first_at t o) table ∙ ap first_in (set_is (table_of p0) o (f seat.operation) seat.operation there) ∙ first_step seat.operation still in
           record {
             queue = behind_queue (first_at (table_of p0)) (first_at (table_of p2)) (after_of p0 e0) (after_of p2 e1) (before_of p0 e0) (before_of p2 e1) o h.queue
                 (ap first_in there ∙ eqb-true seat.operation.walk.first 0 still)
                 (omega (arith, first, early_at seat at))
                 (λ q. omega (arith, first, below q (op_at (table_of p0) q) refl))
-                (λ q ne. other_first (table_of p0) (table_of p2) o (moved seat.operation step walk) table q ne)
+                (λ q ne. other_first (table_of p0) (table_of p2) o (f seat.operation) table q ne)
                 l.after l.ends l.before l.last
-                (λ s ne other. l.afters s ne other ∙ afters_became p0 p1 o (λ op. moved op step walk) becomes e0 seat at s)
-                (λ s ne other. l.befores s ne other ∙ befores_became p0 p1 o (λ op. moved op step walk) becomes e0 seat at s);
+                (λ s ne other. l.afters s ne other ∙ afters_became p0 p1 o f becomes e0 seat at s)
+                (λ s ne other. l.befores s ne other ∙ befores_became p0 p1 o f becomes e0 seat at s);
             last_put = subst (λ t. IsLastPut t put) (sym table) (put_at seat at);
           }
         where
@@ -206,8 +206,8 @@ module _ (p0 p1 : Seats) (e0 : Ends) (put : Option ℕ) (now : Table) (o step : 
   pub moved_later : (seat_at p0 o ≡ None → p1 ≡ p0) → is_still (seat_at p0 o) ≡ false → IsTable p1 e0 put
   moved_later none begun = later_by (seat_at p0 o) refl begun
     where
-      first_stays : (op : Operation) → (op.walk.first == 0) ≡ false → (moved op step walk).walk.first ≡ op.walk.first
-      first_stays op e = rw e refl
+      first_stays : (op : Operation) → (op.walk.first == 0) ≡ false → (f op).walk.first ≡ op.walk.first
+      first_stays op e = ap (λ (w : Walk). w.first) (same_walk op) ∙ rw e refl
 
       later_by : (x : Option Seat) → seat_at p0 o ≡ x → is_still x ≡ false → IsTable p1 e0 put
       later_by None at begun = subst (λ p. IsTable p e0 put) (sym (none at)) h
@@ -215,9 +215,9 @@ module _ (p0 p1 : Seats) (e0 : Ends) (put : Option ℕ) (now : Table) (o step : 
           let table = table_at seat at in
           record {
             queue = same_queue (first_at (table_of p0)) (first_at (table_of p1)) (after_of p0 e0) (after_of p1 e0) (before_of p0 e0) (before_of p1 e0)
-                (first_kept (table_of p0) (table_of p1) o seat.operation (moved seat.operation step walk) (there_at seat at) (first_stays seat.operation begun) table)
-                (λ t here. afters_became p0 p1 o (λ op. moved op step walk) becomes e0 seat at t)
-                (λ t here. befores_became p0 p1 o (λ op. moved op step walk) becomes e0 seat at t)
+                (first_kept (table_of p0) (table_of p1) o seat.operation (f seat.operation) (there_at seat at) (first_stays seat.operation begun) table)
+                (λ t here. afters_became p0 p1 o f becomes e0 seat at t)
+                (λ t here. befores_became p0 p1 o f becomes e0 seat at t)
                 h.queue;
             last_put = subst (λ t. IsLastPut t put) (sym table) (put_at seat at);
           }

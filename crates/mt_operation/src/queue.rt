@@ -47,13 +47,26 @@ pub(crate) fn move_at(seats: &mut Slab<Seat>, id: usize, step: u64, walk: &Walk)
     }
 }
 
-/// An operation has this outcome, or none.
-pub(crate) fn note_at(seats: &mut Slab<Seat>, id: usize, outcome: Option<Outcome>)
-    ensures becomes { Becomes seats.old.slots seats.new.slots id (λ op. noted op outcome) }
+/// The same, and it has this outcome then, or none.
+pub(crate) fn move_with_at(
+    seats: &mut Slab<Seat>,
+    id: usize,
+    step: u64,
+    walk: &Walk,
+    outcome: Option<Outcome>,
+) -> bool
+    ensures first { result ≡ is_still (seat_at seats.old.slots id) }
+    ensures becomes { Becomes seats.old.slots seats.new.slots id (λ op. noted (moved op step walk.now) outcome) }
     ensures none { seat_at seats.old.slots id ≡ None → seats.new.slots ≡ seats.old.slots }
 {
-    if let Some(seat) = seats.get_mut(id) {
-        seat.operation.outcome = outcome;
+    match seats.get_mut(id) {
+        Some(seat) => {
+            let is_first = seat.operation.walk.first == 0;
+            seat.operation.go_on(step, walk);
+            seat.operation.outcome = outcome;
+            is_first
+        }
+        None => false,
     }
 }
 
@@ -92,6 +105,7 @@ pub(crate) fn cut(seats: &mut Slab<Seat>, ends: &mut Ends, seat: &Seat)
 }
 
 /// Puts an operation behind all others of the queue.
+#[inline(never)]
 pub(crate) fn link_last(seats: &mut Slab<Seat>, ends: &mut Ends, id: usize)
     requires there { IsEndOrSeat seats.old.slots (Some id) }
     requires last { IsEndOrSeat seats.old.slots ends.old.last }
