@@ -210,7 +210,7 @@ module _ (c : Core) (now : StateView) (o : ℕ) (is : shown c ≡ now) (h : Stat
   abbrev pub LoadGives : Table → Move → Type 0
   LoadGives table answer = StateInvariant (stepped c table) × Tells now (shown (stepped c table)) o answer
 
-  pub load_gives : IsArena c.arena.nodes c.arena.trees → (at_load : op.walk.phase ≡ Load) → (w : Walk) (told : Option Outcome) → TellsLoaded (at c.arena op.walk.place.node) op (c.steps + 1) (record { walk = w; outcome = told })
+  pub load_gives : IsArena c.arena.nodes c.arena.trees → (at_load : op.walk.phase ≡ Load) → (w : Walk) (told : Option Outcome) → TellsLoaded (at c.arena op.walk.place.node) op (c.steps + 1) w told
       → (table : Table) → table ≡ set c.table o (Some (noted (moved op (c.steps + 1) w) told)) → (answer : Move) → answer ≡ ending w.phase → LoadGives table answer
   load_gives arena at_load w told t table e answer ends = elim t.told [
     | inl (same, shows) ↦ taken same shows

@@ -22,7 +22,7 @@ ghost use Rattle.mt_operation.specs.Operations.{OperationView, view_of};
 ghost use Rattle.mt_operation.specs.Tables.{op_at as operation_at};
 
 use crate::answers::Ticket;
-use crate::looks::{Loaded, absent, descended, load_row, no_memory};
+use crate::looks::{absent, descend, load_row, no_memory};
 use crate::openings::{Opening, give_back, give_up, has_room, prepare};
 use crate::shape::{ShapeLine, root_line};
 use mt_arena::Arena;
@@ -278,14 +278,14 @@ impl State {
         ensures straight { StaysStraight self.old self.new id }
     {
         self.arena.facts();
-        match descended(&self.arena, open(&self.operations, id)) {
-            Ok(walk) => {
-                self.steps += 1;
-                self.operations.go_on(id, self.steps, &walk);
-                Move::Moved
-            }
-            Err(holder) => again(holder),
+        let operation = open(&self.operations, id);
+        let mut walk = operation.walk;
+        if let Some(holder) = descend(&self.arena, &operation.task.key, &mut walk) {
+            return again(holder);
         }
+        self.steps += 1;
+        self.operations.go_on(id, self.steps, &walk);
+        Move::Moved
     }
 
     // Looks for the key.
@@ -315,13 +315,16 @@ impl State {
         ensures { Tells self.old self.new id result }
     {
         self.arena.facts();
+        let operation = open(&self.operations, id);
+        let mut walk = operation.walk;
         match load_row(
             self.alloc,
             &self.arena,
-            open(&self.operations, id),
+            operation,
+            &mut walk,
             self.steps + 1,
         ) {
-            Ok(Loaded { walk, outcome }) => {
+            Ok(outcome) => {
                 self.steps += 1;
                 self.operations.go_on_with(id, self.steps, &walk, outcome);
                 ending(&walk)
