@@ -55,7 +55,7 @@ shows_taken f (Some r) reply op after gets is = record {
 -- what a load tells that had memory for the row that it shows
 pub tells_shown : {R : Type 0} (f : R → Columns) (taken : Option R) (reply : Option Reply) (n : NodeView) (op : Operation) (step : ℕ) (after : Walk) (told : Option Outcome) → is_get (ask op.task) ≡ true → Loads n op.walk after (option_map f taken)
     → ((asked : List ℕ) → columns_asked (ask op.task) ≡ Some asked → reply ≡ option_map (λ r. Found (shown asked (f r))) taken) → told ≡ option_map (placed_at after.right_at) reply
-    → TellsLoaded n op step (record { walk = after; outcome = told })
+    → TellsLoaded n op step after told
 tells_shown f taken reply n op step after told gets loads is says = record {
   row = option_map f taken;
   after = after;

@@ -165,10 +165,10 @@ module _ (c : Core) (now : StateView) (o : ℕ) (is : shown c ≡ now) (h : Stat
         (judge_ready c now o is h few x there (phase_is Judge next x there) arena tape w prepared t.slot stays t.tape_is t.walk t.room t.same (subst (λ (v : ArenaView). KeptReady w.phase v o x.task prepared w) (sym stays) t.kept))
 
     -- no memory for it
-    pub refused_made : IsNext now o (λ q. q ≡ Judge) → (x : Operation) → operation_at c.table o ≡ Some x → (arena : ArenaView) (tape : Kept) (w : Walk) (told : Outcome) (mid table : Table) → tape ≡ c.tape → GivesBack c o x arena w
-        → told ≡ record { reply = NoMemory; at = c.steps + 1 } → Writes c.table mid o (λ y. moved y (c.steps + 1) w) → Writes mid table o (λ y. noted y (Some told)) → Gives now (made arena tape c.accounts table) o true
-    refused_made next x there arena tape w told mid table keeps t says moves notes =
-        subst (λ (all : Table). Gives now (made arena tape c.accounts all) o true) (sym (writes_both c.table mid table o (λ y. moved y (c.steps + 1) w) (λ y. noted y (Some told)) moves notes x there))
+    pub refused_made : IsNext now o (λ q. q ≡ Judge) → (x : Operation) → operation_at c.table o ≡ Some x → (arena : ArenaView) (tape : Kept) (w : Walk) (told : Outcome) (table : Table) → tape ≡ c.tape → GivesBack c o x arena w
+        → told ≡ record { reply = NoMemory; at = c.steps + 1 } → Writes c.table table o (λ y. noted (moved y (c.steps + 1) w) (Some told)) → Gives now (made arena tape c.accounts table) o true
+    refused_made next x there arena tape w told table keeps t says moves =
+        subst (λ (all : Table). Gives now (made arena tape c.accounts all) o true) (sym (moves x there))
         (subst (λ (r : Outcome). Gives now (made arena tape c.accounts (set c.table o (Some (noted (moved x (c.steps + 1) w) (Some r))))) o true) (sym says)
         (judge_refused c now o is h few x there (phase_is Judge next x there) arena tape w t.is keeps t.walk t.same t.leaves.guarantee t.leaves.contents))
 
@@ -232,16 +232,16 @@ module _ (c : Core) (now : StateView) (o : ℕ) (is : shown c ≡ now) (h : Stat
         (let s = standing Store next in store_kept c o h s.0 s.1 s.2 prepared (has Store next table prepared takes))
 
     -- a row that was written over the one of its key
-    pub store_made : (few : now.steps < 2 ^ 59) (arena : ArenaView) (tape : Kept) (w : Walk) (before : Columns) (told : Outcome) (mid last : Table) → IsArena c.arena.nodes c.arena.trees → Stores c x arena prepared.row before → PlacesChange c o x arena tape w
-        → told ≡ record { reply = Replaced; at = c.steps + 1 } → Writes table mid o (λ y. moved y (c.steps + 1) w) → Writes mid last o (λ y. noted y (Some told)) → Gives now (made arena tape c.accounts last) o false
-    store_made few arena tape w before told mid last is_arena stores places says moves notes =
+    pub store_made : (few : now.steps < 2 ^ 59) (arena : ArenaView) (tape : Kept) (w : Walk) (before : Columns) (told : Outcome) (last : Table) → IsArena c.arena.nodes c.arena.trees → Stores c x arena prepared.row before → PlacesChange c o x arena tape w
+        → told ≡ record { reply = Replaced; at = c.steps + 1 } → Writes table last o (λ y. noted (moved y (c.steps + 1) w) (Some told)) → Gives now (made arena tape c.accounts last) o false
+    store_made few arena tape w before told last is_arena stores places says moves =
         let s = standing Store next in
         let y = with_nothing_ready s.0 in
         let back = sym (opened Store next table prepared takes x there_x) in
         let st = subst (λ (z : Operation). Stores c z arena prepared.row before) back stores in
         let pl = subst (λ (z : Operation). PlacesChange c o z arena tape w) back places in
         let f : Operation → Operation = λ z. moved z (c.steps + 1) w in
-        let table_is = writes_both c.table table last o with_nothing_ready (λ z. noted (f z) (Some told)) (takes_it Store next table prepared takes) (writes_both table mid last o f (λ z. noted z (Some told)) moves notes) s.0 s.1 in
+        let table_is = writes_both c.table table last o with_nothing_ready (λ z. noted (f z) (Some told)) (takes_it Store next table prepared takes) moves s.0 s.1 in
         subst (λ (all : Table). Gives now (made arena tape c.accounts all) o false) (sym table_is)
         (subst (λ (r : Outcome). Gives now (made arena tape c.accounts (set c.table o (Some (noted (f y) (Some r))))) o false) (sym says)
         (store_done c now o is h few s.0 s.1 (put_at c o h s.0 s.1 Store s.2 tt) s.2 arena tape w prepared.row before is_arena st.is st.before_is pl.places pl.walk pl.same pl.guarantee pl.kept))
@@ -252,14 +252,14 @@ module _ (c : Core) (now : StateView) (o : ℕ) (is : shown c ≡ now) (h : Stat
     publish_at = subst (λ (y : Operation). IsAtPublish c.arena o y.task prepared y.walk) (opened Publish next table prepared takes x there_x)
         (let s = standing Publish next in publish_kept c o h s.0 s.1 s.2 prepared (has Publish next table prepared takes))
 
-    module _ (few : now.steps < 2 ^ 59) (arena : ArenaView) (tape : Kept) (accounts : Accounts) (w : Walk) (told : Outcome) (mid last : Table) (moves : Writes table mid o (λ y. moved y (c.steps + 1) w)) (notes : Writes mid last o (λ y. noted y (Some told))) where
+    module _ (few : now.steps < 2 ^ 59) (arena : ArenaView) (tape : Kept) (accounts : Accounts) (w : Walk) (told : Outcome) (last : Table) (moves : Writes table last o (λ y. noted (moved y (c.steps + 1) w) (Some told))) where
       by_outcome : (reply : Reply) → told ≡ record { reply = reply; at = c.steps + 1 }
           → Gives now (made arena tape accounts (set c.table o (Some (noted (moved (with_nothing_ready (standing Publish next).0) (c.steps + 1) w) (Some (record { reply = reply; at = c.steps + 1 })))))) o false
           → Gives now (made arena tape accounts last) o false
       by_outcome reply says gives =
           let s = standing Publish next in
           let f : Operation → Operation = λ z. moved z (c.steps + 1) w in
-          let table_is = writes_both c.table table last o with_nothing_ready (λ z. noted (f z) (Some told)) (takes_it Publish next table prepared takes) (writes_both table mid last o f (λ z. noted z (Some told)) moves notes) s.0 s.1 in
+          let table_is = writes_both c.table table last o with_nothing_ready (λ z. noted (f z) (Some told)) (takes_it Publish next table prepared takes) moves s.0 s.1 in
           subst (λ (all : Table). Gives now (made arena tape accounts all) o false) (sym table_is)
           (subst (λ (r : Outcome). Gives now (made arena tape accounts (set c.table o (Some (noted (f (with_nothing_ready s.0)) (Some r))))) o false) (sym says) gives)
 

@@ -1,7 +1,7 @@
 -- What the steps of an operation that holds nothing ask of the invariant, and what they tell: for `State::descend`, `search`, `load` and `confirm`.
 use denote.Enum.Bare.{sameb, same_true}
 use Rattle.mt_operation.specs.contracts.walk.Phase.{the_type}
-use Rattle.std.proofs.Common.{rules, ◌≡◌, ◌≢◌, ℕ, zero, suc, ◌+◌, ◌<◌, ◌≤◌, inl, inr, Bool, true, false, not, List, [], ◌∷◌, length, set, Option, Some, None, refl, sym, ap, subst, ◌∙◌, arith}
+use Rattle.std.proofs.Common.{rules, ◌≡◌, ◌≢◌, ℕ, ◌+◌, ◌<◌, ◌≤◌, inl, inr, Bool, true, false, not, length, set, Option, Some, None, refl, sym, ap, subst, ◌∙◌, arith}
 use Rattle.std.specs.Prelude.{◌^◌}
 use Rattle.std.proofs.lemmas.Option.{same_Some}
 use Rattle.mt_rows.specs.declared.reply.Reply.TheVariants.{Absent, NoMemory}
@@ -21,7 +21,6 @@ use Rattle.mt_operation.specs.declared.operation.Operation.{Operation}
 use Rattle.mt_operation.specs.Tasks.{ask}
 use Rattle.mt_operation.specs.Operations.{OperationView, view_of, is_done, moved, noted}
 use Rattle.mt_operation.specs.Tables.{Table, MayMove, op_at as operation_at}
-use Rattle.mt_operation.proofs.Tables.{set_is}
 use Rattle.mt_descent.specs.Pasts.{Past, IsNow}
 use Rattle.mt_descent.specs.Kept.{IsAtBorder, IsAtLoad as WalksLoad, IsAtConfirm as WalksConfirm, KeptAt, IsKept}
 use Rattle.mt_descent.specs.Moves.{IsBlocked, IsBlockedAt, Continues, FindsIn, after_search, Confirms}
@@ -87,20 +86,6 @@ pub phase_is : (c : Core) (now : StateView) (o : ℕ) (P : Phase → Type 0) →
 phase_is c now o P is op there next =
     let same : next.0 ≡ view_of op = same_Some next.0 (view_of op) (sym next.1 ∙ ap (λ (v : StateView). op_at v.table o) (sym is) ∙ shown_there c.table o op there) in
     subst (λ (v : OperationView). P v.phase) same next.2
-
--- what is written twice at one id is written once
-set_twice : {X : Type 0} (table : List X) (o : ℕ) (a b : X) → set (set table o a) o b ≡ set table o b
-set_twice [] o a b = refl
-set_twice (x ∷ table) zero a b = refl
-set_twice (x ∷ table) (suc o) a b = ap (λ t. x ∷ t) (set_twice table o a b)
-
--- an operation that has walked on, and then has another outcome
-pub noted_table : (old mid new : Table) (o : ℕ) (op after : Operation) (told : Option Outcome) → operation_at old o ≡ Some op → mid ≡ set old o (Some after)
-    → ((x : Operation) → operation_at mid o ≡ Some x → new ≡ set mid o (Some (noted x told))) → new ≡ set old o (Some (noted after told))
-noted_table old mid new o op after told there goes notes =
-    notes after (ap (λ (t : Table). operation_at t o) goes ∙ set_is old o after op there)
-    ∙ ap (λ (t : Table). set t o (Some (noted after told))) goes
-    ∙ set_twice old o (Some after) (Some (noted after told))
 
 -- a state that has made one more step, with this table
 abbrev pub stepped : Core → Table → Core
@@ -221,7 +206,7 @@ module _ (c : Core) (now : StateView) (o : ℕ) (is : shown c ≡ now) (h : Stat
   abbrev pub LoadGives : Table → Move → Type 0
   LoadGives table answer = StateInvariant (stepped c table) × Tells now (shown (stepped c table)) o answer
 
-  pub load_gives : IsArena c.arena.nodes c.arena.trees → (at_load : op.walk.phase ≡ Load) → (w : Walk) (told : Option Outcome) → TellsLoaded (at c.arena op.walk.place.node) op (c.steps + 1) (record { walk = w; outcome = told })
+  pub load_gives : IsArena c.arena.nodes c.arena.trees → (at_load : op.walk.phase ≡ Load) → (w : Walk) (told : Option Outcome) → TellsLoaded (at c.arena op.walk.place.node) op (c.steps + 1) w told
       → (table : Table) → table ≡ set c.table o (Some (noted (moved op (c.steps + 1) w) told)) → (answer : Move) → answer ≡ ending w.phase → LoadGives table answer
   load_gives arena at_load w told t table e answer ends = elim t.told [
     | inl (same, shows) ↦ taken same shows

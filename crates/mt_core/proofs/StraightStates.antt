@@ -169,7 +169,7 @@ told_step now new o p answer is t = by p (subst (λ (a : Move). Tells now new o 
     by _ s = (false, s)
 
 -- a load leaves its walk at the node
-pub load_place : (n : NodeView) (op : Operation) (step : ℕ) (w : Walk) (told : Option Outcome) → TellsLoaded n op step (record { walk = w; outcome = told }) → w.place ≡ op.walk.place
+pub load_place : (n : NodeView) (op : Operation) (step : ℕ) (w : Walk) (told : Option Outcome) → TellsLoaded n op step w told → w.place ≡ op.walk.place
 load_place n op step w told t =
     let stays : t.after.place ≡ op.walk.place = ap (λ (x : Walk). x.place) t.loads.is in
     elim t.told [

@@ -8,9 +8,9 @@ use Rattle.mt_arena.specs.Arena.{ArenaView}
 use Rattle.mt_arena.specs.Accesses.{at}
 use Rattle.mt_operation.specs.declared.walk.Phase.TheVariants.{Done}
 use Rattle.mt_operation.specs.declared.walk.Walk.{Walk}
+use Rattle.mt_operation.specs.declared.outcome.Outcome.{Outcome}
 use Rattle.mt_operation.specs.declared.operation.Operation.{Operation}
 use Rattle.mt_descent.specs.Moves.{Loads, after_enter}
-use Rattle.mt_core.specs.declared.looks.Loaded.{Loaded}
 use Rattle.mt_state.specs.Notes.{Says}
 use Rattle.mt_state.specs.Ways.{ShowsTaken}
 
@@ -19,8 +19,8 @@ abbrev pub Enters : ArenaView → Walk → Walk → Type 0
 Enters v before after = let tree = tree_at v.trees before.place.tree in after ≡ after_enter tree.standing before tree.root (at v tree.root).version
 
 -- a load by the step of this number: what it took is shown, and is to be confirmed; or there was no memory for it
-pub record TellsLoaded (n : NodeView) (op : Operation) (step : ℕ) (loaded : Loaded) : Type 0 where
+pub record TellsLoaded (n : NodeView) (op : Operation) (step : ℕ) (walk : Walk) (outcome : Option Outcome) : Type 0 where
   pub row : Option Columns
   pub after : Walk
   pub loads : Loads n op.walk after row
-  pub told : ((loaded.walk ≡ after) × ShowsTaken op row after loaded.outcome) ⊎ ((loaded.walk ≡ record after { phase = Done }) × Says loaded.outcome NoMemory step)
+  pub told : ((walk ≡ after) × ShowsTaken op row after outcome) ⊎ ((walk ≡ record after { phase = Done }) × Says outcome NoMemory step)

@@ -22,25 +22,9 @@ use mt_rows::{Reply, Row};
 use mt_slices::StoredKey;
 use std::alloc::{AllocError, Global};
 
-/// The walk of an operation that goes down the tree, or on to the next node, after its step; an error
-/// tells who is in its way.
-pub(crate) fn descended(arena: &Arena, operation: &Operation) -> Result<Walk, usize>
-    requires phase { IsDescent operation.now.walk.phase }
-    requires kept { (past : Past) × IsKept arena.now past operation.now.task.key None operation.now.walk }
-    ensures again { IfErr result (λ holder. IsInTheWay arena.now operation.now.walk.phase holder) }
-    ensures goes { IfOk result (λ walk. Descends operation.now.walk walk) }
-    ensures enters { operation.now.walk.phase ≡ Phase.Enter → IfOk result (λ walk. Enters arena.now operation.now.walk walk) }
-    ensures kept { (past : Past) → IfOk result (λ walk. IsKept arena.now past operation.now.task.key None walk) }
-{
-    let mut walk = operation.walk;
-    match descend(arena, &operation.task.key, &mut walk) {
-        Some(holder) => Err(holder),
-        None => Ok(walk),
-    }
-}
-
-// Makes the step of the walk's phase.
-fn descend(arena: &Arena, key: &StoredKey, walk: &mut Walk) -> Option<usize>
+/// Goes down the tree, or on to the next node, by the walk's phase. A number is that of the operation
+/// that is in the way: then no step is made.
+pub(crate) fn descend(arena: &Arena, key: &StoredKey, walk: &mut Walk) -> Option<usize>
     requires phase { IsDescent walk.old.phase }
     requires kept { (past : Past) × IsKept arena.now past key.now None walk.old }
     ensures again { IfSome result (λ holder. IsInTheWay arena.now walk.old.phase holder) }
@@ -61,40 +45,28 @@ fn descend(arena: &Arena, key: &StoredKey, walk: &mut Walk) -> Option<usize>
     }
 }
 
-/// What a get goes on with, and what it answers where nothing changes till it has confirmed it.
-#[derive(Drop)]
-pub(crate) struct Loaded {
-    pub(crate) walk: Walk,
-    pub(crate) outcome: Option<Outcome>,
-}
-
-/// What a get takes out of its slot by the step of this number. Where there is no memory for the row
-/// that it shows, it is done. An error tells who is in its way.
+/// What a get takes out of its slot by the step of this number, and what it answers where nothing
+/// changes till it has confirmed it. Where there is no memory for the row that it shows, it is done.
+/// An error tells who is in its way.
 pub(crate) fn load_row(
     alloc: Global,
     arena: &Arena,
     operation: &Operation,
+    walk: &mut Walk,
     step: u64,
-) -> Result<Loaded, usize>
+) -> Result<Option<Outcome>, usize>
     requires get { is_get (ask operation.now.task) ≡ true }
     requires columns { HasColumns (ask operation.now.task) }
-    requires kept { IsAtLoad arena.now operation.now.task.key operation.now.walk }
-    ensures again { IfErr result (λ holder. IsBlockedAt (at arena.now operation.now.walk.place.node) operation.now.walk.slot holder) }
-    ensures is { IfOk result (λ loaded. TellsLoaded (at arena.now operation.now.walk.place.node) operation.now step loaded) }
+    requires kept { IsAtLoad arena.now operation.now.task.key walk.old }
+    ensures again { IfErr result (λ holder. IsBlockedAt (at arena.now walk.old.place.node) walk.old.slot holder) }
+    ensures is { IfOk result (λ told. TellsLoaded (at arena.now walk.old.place.node) (record operation.now { walk = walk.old }) step walk.new told) }
 {
-    let mut walk = operation.walk;
-    let row = load(arena, &operation.task.key, &mut walk)?;
+    let row = load(arena, &operation.task.key, walk)?;
     match shown(alloc, row, &operation.task.request) {
-        Ok(reply) => {
-            let outcome = told(reply, walk.right_at);
-            Ok(Loaded { walk, outcome })
-        }
+        Ok(reply) => Ok(told(reply, walk.right_at)),
         Err(_) => {
             walk.phase = Phase::Done;
-            Ok(Loaded {
-                walk,
-                outcome: Some(no_memory(step)),
-            })
+            Ok(Some(no_memory(step)))
         }
     }
 }

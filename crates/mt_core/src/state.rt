@@ -22,7 +22,7 @@ ghost use Rattle.mt_operation.specs.Operations.{OperationView, view_of};
 ghost use Rattle.mt_operation.specs.Tables.{op_at as operation_at};
 
 use crate::answers::Ticket;
-use crate::looks::{Loaded, absent, descended, load_row, no_memory};
+use crate::looks::{absent, descend, load_row, no_memory};
 use crate::openings::{Opening, give_back, give_up, has_room, prepare};
 use crate::shape::{ShapeLine, root_line};
 use mt_arena::Arena;
@@ -279,14 +279,14 @@ impl State {
         ensures straight { StaysStraight self.old self.new id }
     {
         self.arena.facts();
-        match descended(&self.arena, open(&self.operations, id)) {
-            Ok(walk) => {
-                self.steps += 1;
-                self.operations.go_on(id, self.steps, walk);
-                Move::Moved
-            }
-            Err(holder) => again(holder),
+        let operation = open(&self.operations, id);
+        let mut walk = operation.walk;
+        if let Some(holder) = descend(&self.arena, &operation.task.key, &mut walk) {
+            return again(holder);
         }
+        self.steps += 1;
+        self.operations.go_on(id, self.steps, &walk);
+        Move::Moved
     }
 
     // Looks for the key.
@@ -300,9 +300,11 @@ impl State {
         let operation = open(&self.operations, id);
         let mut walk = operation.walk;
         search(&self.arena, &operation.task.key, &mut walk, self.steps);
-        self.operations.go_on(id, self.steps, walk);
         if walk.phase == Phase::Confirm {
-            self.operations.note(id, Some(absent(self.steps)));
+            self.operations
+                .go_on_with(id, self.steps, &walk, Some(absent(self.steps)));
+        } else {
+            self.operations.go_on(id, self.steps, &walk);
         }
         Move::Moved
     }
@@ -314,16 +316,18 @@ impl State {
         ensures { Tells self.old self.new id result }
     {
         self.arena.facts();
+        let operation = open(&self.operations, id);
+        let mut walk = operation.walk;
         match load_row(
             self.alloc,
             &self.arena,
-            open(&self.operations, id),
+            operation,
+            &mut walk,
             self.steps + 1,
         ) {
-            Ok(Loaded { walk, outcome }) => {
+            Ok(outcome) => {
                 self.steps += 1;
-                self.operations.go_on(id, self.steps, walk);
-                self.operations.note(id, outcome);
+                self.operations.go_on_with(id, self.steps, &walk, outcome);
                 ending(&walk)
             }
             Err(holder) => again(holder),
@@ -344,11 +348,11 @@ impl State {
             return again(holder);
         }
         self.steps += 1;
-        self.operations.go_on(id, self.steps, walk);
         if walk.phase == Phase::Done {
+            self.operations.go_on(id, self.steps, &walk);
             return Move::Done;
         }
-        self.operations.note(id, None);
+        self.operations.go_on_with(id, self.steps, &walk, None);
         Move::Moved
     }
 
@@ -366,7 +370,7 @@ impl State {
             return again(holder);
         }
         self.steps += 1;
-        self.operations.go_on(id, self.steps, walk);
+        self.operations.go_on(id, self.steps, &walk);
         Move::Moved
     }
 
@@ -388,14 +392,15 @@ impl State {
             &mut walk,
             id,
         );
-        self.operations.go_on(id, self.steps, walk);
         match prepared {
             Some(prepared) => {
+                self.operations.go_on(id, self.steps, &walk);
                 self.operations.make_ready(id, prepared);
                 Move::Moved
             }
             None => {
-                self.operations.note(id, Some(no_memory(self.steps)));
+                self.operations
+                    .go_on_with(id, self.steps, &walk, Some(no_memory(self.steps)));
                 Move::Done
             }
         }
@@ -421,9 +426,9 @@ impl State {
             self.steps,
             id,
         );
-        self.operations.go_on(id, self.steps, walk);
+        let told = placed(Reply::Replaced, self.steps);
         self.operations
-            .note(id, Some(placed(Reply::Replaced, self.steps)));
+            .go_on_with(id, self.steps, &walk, Some(told));
         Move::Moved
     }
 
@@ -448,9 +453,10 @@ impl State {
             self.steps,
             id,
         );
-        self.operations.go_on(id, self.steps, walk);
         let reply = if is_new { Reply::New } else { Reply::Full };
-        self.operations.note(id, Some(placed(reply, self.steps)));
+        let told = placed(reply, self.steps);
+        self.operations
+            .go_on_with(id, self.steps, &walk, Some(told));
         Move::Moved
     }
 
@@ -463,7 +469,7 @@ impl State {
         self.steps += 1;
         let mut walk = open(&self.operations, id).walk;
         unlock(&mut self.arena, &mut walk, id);
-        self.operations.go_on(id, self.steps, walk);
+        self.operations.go_on(id, self.steps, &walk);
         Move::Done
     }
 }

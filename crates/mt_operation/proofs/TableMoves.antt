@@ -1,5 +1,5 @@
 -- A table stays one, and shows what it is to show: for the calls of table.rt.
-use Rattle.std.proofs.Common.{◌≡◌, ◌≢◌, ℕ, zero, suc, ◌-◌, ◌<◌, ◌≤◌, ◌⊎◌, inl, inr, Bool, true, false, not, ◌&&◌, ◌==◌, set, Option, Some, None, is_some, refl, sym, ap, subst, ◌∙◌, arith}
+use Rattle.std.proofs.Common.{◌≡◌, ◌≢◌, ℕ, zero, suc, ◌-◌, ◌<◌, ◌≤◌, ◌⊎◌, inl, inr, true, false, not, ◌&&◌, ◌==◌, set, Option, Some, None, is_some, refl, sym, ap, subst, ◌∙◌, arith}
 use Rattle.slab.specs.Slab.{Slab, Updates}
 use Rattle.std.proofs.lemmas.Bool.{both_ways, cases_eq, eqb-true}
 use Rattle.std.proofs.lemmas.Option.{same_Some}
@@ -56,14 +56,6 @@ opened (Some seat) op e = (seat, refl, same_Some seat.operation op e)
 closed : (x : Option Seat) → operation_in x ≡ None → x ≡ None
 closed None e = refl
 closed (Some seat) e = absurd (none_op (sym e))
-
--- a new link is no new operation
-pub linked_table : (p0 p1 : Seats) (e0 e1 : Ends) (o : ℕ) → (is_still (seat_at p0 o) ≡ true → LinksLast p0 e0 p1 e1 o) → (is_still (seat_at p0 o) ≡ false → (p1 ≡ p0) × (e1 ≡ e0)) → table_of p1 ≡ table_of p0
-linked_table p0 p1 e0 e1 o links same = by (is_still (seat_at p0 o)) refl
-  where
-    by : (b : Bool) → is_still (seat_at p0 o) ≡ b → table_of p1 ≡ table_of p0
-    by true e = (links e).table
-    by false e = ap table_of (same e).0
 
 -- one operation becomes what f makes of it
 module _ (mid new : Seats) (o : ℕ) (f : Operation → Operation) (becomes : Becomes mid new o f) where
@@ -137,78 +129,98 @@ module _ (p0 p1 : Seats) (ends : Ends) (put : Option ℕ) (o : ℕ) (f : Operati
 pub ready_table : (seats : Seats) (now : Table) (o : ℕ) → table_of seats ≡ now → prepared_in (operation_in (seat_at seats o)) ≡ prepared_in (op_at now o)
 ready_table seats now o is = ap prepared_in (sym (op_seat seats o) ∙ ap (λ t. op_at t o) is)
 
--- a put that has moved was open before, since it had a step left
-was_open : (op : Operation) (step : ℕ) (walk : Walk) → is_unfinished op ≡ true → is_open_put (moved op step walk) ≡ true → is_open_put op ≡ true
-was_open op step walk left e = open_joins op (open_parts (moved op step walk) e).0 left
+-- the operation of an id moves, and may have another outcome
+module _ (p0 p1 : Seats) (e0 : Ends) (put : Option ℕ) (now : Table) (o step : ℕ) (walk : Walk) (is : table_of p0 ≡ now) (h : IsTable p0 e0 put) (may : MayMove now o step)
+    (f : Operation → Operation) (same_task : (op : Operation) → (f op).task ≡ op.task) (same_walk : (op : Operation) → (f op).walk ≡ (moved op step walk).walk) (becomes : Becomes p0 p1 o f) where
+  there_at : (seat : Seat) → seat_at p0 o ≡ Some seat → op_at (table_of p0) o ≡ Some seat.operation
+  there_at seat at = op_seat p0 o ∙ ap operation_in at
 
--- the operation of an id moves, and is behind all others if this is its first step
-module _ (p0 p1 p2 : Seats) (e0 e1 : Ends) (put : Option ℕ) (now : Table) (o step : ℕ) (walk : Walk) (is : table_of p0 ≡ now) (h : IsTable p0 e0 put) (may : MayMove now o step)
-    (links : is_still (seat_at p0 o) ≡ true → LinksLast p0 e0 p1 e1 o) (same : is_still (seat_at p0 o) ≡ false → (p1 ≡ p0) × (e1 ≡ e0))
-    (becomes : Becomes p1 p2 o (λ op. moved op step walk)) (none : seat_at p1 o ≡ None → p2 ≡ p1) where
-  left_one : (op : Operation) → op_at (table_of p0) o ≡ Some op → is_unfinished op ≡ true
-  left_one op there = may.unfinished op (ap (λ t. op_at t o) (sym is) ∙ there)
+  early_at : (seat : Seat) → seat_at p0 o ≡ Some seat → seat.operation.walk.first < step
+  early_at seat at = may.later o seat.operation (ap (λ t. op_at t o) (sym is) ∙ there_at seat at)
 
-  moved_at : (seat : Seat) (b : Bool) → seat_at p0 o ≡ Some seat → is_still (Some seat) ≡ b → IsTable p2 e1 put
-  moved_at seat true at still =
-      let there : op_at (table_of p0) o ≡ Some seat.operation = op_seat p0 o ∙ ap operation_in at in
-      let l = links (ap is_still at ∙ still) in
-      let table = became_table p1 p2 o (λ op. moved op step walk) becomes p0 (table_of p0) seat.operation refl l.table there in
-      let first : first_at (table_of p2) o ≡ step =
-      ap (λ t. first_at t o) table ∙ ap first_in (set_is (table_of p0) o (moved seat.operation step walk) seat.operation there) ∙ first_step seat.operation still in
-      record {
-        queue = behind_queue (first_at (table_of p0)) (first_at (table_of p2)) (after_of p0 e0) (after_of p2 e1) (before_of p0 e0) (before_of p2 e1) o h.queue
-            (ap first_in there ∙ still_first (Some seat) still)
-            (omega (arith, first, may.later o seat.operation (ap (λ t. op_at t o) (sym is) ∙ there)))
-            (λ q. omega (arith, first, below q (op_at (table_of p0) q) refl))
-            (λ q ne. other_first (table_of p0) (table_of p2) o (moved seat.operation step walk) table q ne)
-            (goes e0.last ∙ l.after) (goes (Some o) ∙ l.ends) (comes (Some o) ∙ l.before) (comes None ∙ l.last)
-            (λ s ne other. goes s ∙ l.afters s ne other) (λ s ne other. comes s ∙ l.befores s ne other);
-        last_put = subst (λ t. IsLastPut t put) (sym table) (put_became (table_of p0) o seat.operation (moved seat.operation step walk) put there (was_open seat.operation step walk (left_one seat.operation there)) h.last_put);
-      }
+  table_at : (seat : Seat) → seat_at p0 o ≡ Some seat → table_of p1 ≡ set (table_of p0) o (Some (f seat.operation))
+  table_at seat at = became_table p0 p1 o f becomes p0 (table_of p0) seat.operation refl refl (there_at seat at)
+
+  -- a put that has moved was open before, since it had a step left
+  was_open : (op : Operation) → is_unfinished op ≡ true → is_open_put (f op) ≡ true → is_open_put op ≡ true
+  was_open op left e = open_joins op (sym (ap (λ (t : Task). is_get (ask t)) (same_task op)) ∙ (open_parts (f op) e).0) left
+
+  put_at : (seat : Seat) → seat_at p0 o ≡ Some seat → IsLastPut (set (table_of p0) o (Some (f seat.operation))) put
+  put_at seat at =
+      let left = may.unfinished seat.operation (ap (λ t. op_at t o) (sym is) ∙ there_at seat at) in
+      put_became (table_of p0) o seat.operation (f seat.operation) put (there_at seat at) (was_open seat.operation left) h.last_put
+
+  seat_in : (x : Option Seat) → seat_at p0 o ≡ x → is_still x ≡ true → (seat : Seat) × (seat_at p0 o ≡ Some seat) × ((seat.operation.walk.first == 0) ≡ true)
+  seat_in None at still = absurd (cc)
+  seat_in (Some seat) at still = (seat, at, still)
+
+  still_seat : is_still (seat_at p0 o) ≡ true → (seat : Seat) × (seat_at p0 o ≡ Some seat) × ((seat.operation.walk.first == 0) ≡ true)
+  still_seat still = seat_in (seat_at p0 o) refl still
+
+  -- it is there still
+  pub moved_there : is_still (seat_at p0 o) ≡ true → IsEndOrSeat p1 (Some o)
+  moved_there still = let s = still_seat still in seat_here s.0 s.1
     where
-      at_p1 : (x : Seat) × (seat_at p1 o ≡ Some x) × (x.operation ≡ seat.operation)
-      at_p1 = opened (seat_at p1 o) seat.operation (sym (op_seat p1 o) ∙ ap (λ t. op_at t o) (links (ap is_still at ∙ still)).table ∙ op_seat p0 o ∙ ap operation_in at)
+      seat_here : (seat : Seat) → seat_at p0 o ≡ Some seat → IsEndOrSeat p1 (Some o)
+      seat_here seat at = ap (λ p. is_some (seat_at p o)) (becomes seat at) ∙ ap is_some (set_is p0 o (record seat { operation = f seat.operation }) seat at)
 
-      goes : (s : Option ℕ) → after_of p2 e1 s ≡ after_of p1 e1 s
-      goes s = afters_became p1 p2 o (λ op. moved op step walk) becomes e1 at_p1.0 at_p1.1 s
-
-      comes : (s : Option ℕ) → before_of p2 e1 s ≡ before_of p1 e1 s
-      comes s = befores_became p1 p2 o (λ op. moved op step walk) becomes e1 at_p1.0 at_p1.1 s
-
-      first_step : (op : Operation) → (op.walk.first == 0) ≡ true → (moved op step walk).walk.first ≡ step
-      first_step op e = rw e refl
-
-      -- every first step of before is earlier
-      below : (q : ℕ) (x : Option Operation) → op_at (table_of p0) q ≡ x → first_in (op_at (table_of p0) q) < step
-      below q None e = let early = may.later o seat.operation (ap (λ t. op_at t o) (sym is) ∙ op_seat p0 o ∙ ap operation_in at) in omega (arith, ap first_in e, early)
-      below q (Some op) e = omega (arith, ap first_in e, may.later q op (ap (λ t. op_at t q) (sym is) ∙ e))
-  moved_at seat false at still =
-      let there : op_at (table_of p0) o ≡ Some seat.operation = op_seat p0 o ∙ ap operation_in at in
-      let s = same (ap is_still at ∙ still) in
-      let at_1 : seat_at p1 o ≡ Some seat = ap (λ p. seat_at p o) s.0 ∙ at in
-      let table = became_table p1 p2 o (λ op. moved op step walk) becomes p0 (table_of p0) seat.operation refl (ap table_of s.0) there in
-      record {
-        queue = same_queue (first_at (table_of p0)) (first_at (table_of p2)) (after_of p0 e0) (after_of p2 e1) (before_of p0 e0) (before_of p2 e1)
-            (first_kept (table_of p0) (table_of p2) o seat.operation (moved seat.operation step walk) there (first_stays seat.operation still) table)
-            (λ t here. afters_became p1 p2 o (λ op. moved op step walk) becomes e1 seat at_1 t ∙ ap (λ p. after_of p e1 t) s.0 ∙ ap (λ e. after_of p0 e t) s.1)
-            (λ t here. befores_became p1 p2 o (λ op. moved op step walk) becomes e1 seat at_1 t ∙ ap (λ p. before_of p e1 t) s.0 ∙ ap (λ e. before_of p0 e t) s.1)
-            h.queue;
-        last_put = subst (λ t. IsLastPut t put) (sym table) (put_became (table_of p0) o seat.operation (moved seat.operation step walk) put there (was_open seat.operation step walk (left_one seat.operation there)) h.last_put);
-      }
+  -- and so is the queue's last
+  pub moved_last : is_still (seat_at p0 o) ≡ true → IsEndOrSeat p1 e0.last
+  moved_last still = let s = still_seat still in seat_last s.0 s.1 e0.last (last_seat p0 e0 put h)
     where
-      first_stays : (op : Operation) → (op.walk.first == 0) ≡ false → (moved op step walk).walk.first ≡ op.walk.first
-      first_stays op e = rw e refl
+      seat_last : (seat : Seat) → seat_at p0 o ≡ Some seat → (s : Option ℕ) → IsEndOrSeat p0 s → IsEndOrSeat p1 s
+      seat_last seat at None here = tt
+      seat_last seat at (Some q) here = ap (λ p. is_some (seat_at p q)) (becomes seat at) ∙ written_in is_some p0 o q seat (record seat { operation = f seat.operation }) at refl ∙ here
 
-  moved_by : (x : Option Seat) → seat_at p0 o ≡ x → IsTable p2 e1 put
-  moved_by None at =
-      let s = same (ap is_still at) in
-      let p = none (ap (λ p. seat_at p o) s.0 ∙ at) ∙ s.0 in
-      subst (λ e. IsTable p2 e put) (sym s.1) (subst (λ p. IsTable p e0 put) (sym p) h)
-  moved_by (Some seat) at = moved_at seat (is_still (Some seat)) at refl
+  -- where this is its first step, and it is put behind all others, the table stays one
+  pub moved_first : (p2 : Seats) (e1 : Ends) → is_still (seat_at p0 o) ≡ true → LinksLast p1 e0 p2 e1 o → IsTable p2 e1 put
+  moved_first p2 e1 still l = let s = still_seat still in first_by s.0 s.1 s.2
+    where
+      first_step : (op : Operation) → (op.walk.first == 0) ≡ true → (f op).walk.first ≡ step
+      first_step op e = ap (λ (w : Walk). w.first) (same_walk op) ∙ rw e refl
 
-  -- the table with the operation moved
-  pub moved_sound : IsTable p2 e1 put
-  moved_sound = moved_by (seat_at p0 o) refl
+      first_by : (seat : Seat) → seat_at p0 o ≡ Some seat → (seat.operation.walk.first == 0) ≡ true → IsTable p2 e1 put
+      first_by seat at still =
+          let there = there_at seat at in
+          let table : table_of p2 ≡ set (table_of p0) o (Some (f seat.operation)) = l.table ∙ table_at seat at in
+          let first : first_at (table_of p2) o ≡ step =
+          ap (λ t. first_at t o) table ∙ ap first_in (set_is (table_of p0) o (f seat.operation) seat.operation there) ∙ first_step seat.operation still in
+          record {
+            queue = behind_queue (first_at (table_of p0)) (first_at (table_of p2)) (after_of p0 e0) (after_of p2 e1) (before_of p0 e0) (before_of p2 e1) o h.queue
+                (ap first_in there ∙ eqb-true seat.operation.walk.first 0 still)
+                (omega (arith, first, early_at seat at))
+                (λ q. omega (arith, first, below q (op_at (table_of p0) q) refl))
+                (λ q ne. other_first (table_of p0) (table_of p2) o (f seat.operation) table q ne)
+                l.after l.ends l.before l.last
+                (λ s ne other. l.afters s ne other ∙ afters_became p0 p1 o f becomes e0 seat at s)
+                (λ s ne other. l.befores s ne other ∙ befores_became p0 p1 o f becomes e0 seat at s);
+            last_put = subst (λ t. IsLastPut t put) (sym table) (put_at seat at);
+          }
+        where
+          -- every first step of before is earlier
+          below : (q : ℕ) (x : Option Operation) → op_at (table_of p0) q ≡ x → first_in (op_at (table_of p0) q) < step
+          below q None e = omega (arith, ap first_in e, early_at seat at)
+          below q (Some op) e = omega (arith, ap first_in e, may.later q op (ap (λ t. op_at t q) (sym is) ∙ e))
+
+  -- and where it has made one, and no link is another
+  pub moved_later : (seat_at p0 o ≡ None → p1 ≡ p0) → is_still (seat_at p0 o) ≡ false → IsTable p1 e0 put
+  moved_later none begun = later_by (seat_at p0 o) refl begun
+    where
+      first_stays : (op : Operation) → (op.walk.first == 0) ≡ false → (f op).walk.first ≡ op.walk.first
+      first_stays op e = ap (λ (w : Walk). w.first) (same_walk op) ∙ rw e refl
+
+      later_by : (x : Option Seat) → seat_at p0 o ≡ x → is_still x ≡ false → IsTable p1 e0 put
+      later_by None at begun = subst (λ p. IsTable p e0 put) (sym (none at)) h
+      later_by (Some seat) at begun =
+          let table = table_at seat at in
+          record {
+            queue = same_queue (first_at (table_of p0)) (first_at (table_of p1)) (after_of p0 e0) (after_of p1 e0) (before_of p0 e0) (before_of p1 e0)
+                (first_kept (table_of p0) (table_of p1) o seat.operation (f seat.operation) (there_at seat at) (first_stays seat.operation begun) table)
+                (λ t here. afters_became p0 p1 o f becomes e0 seat at t)
+                (λ t here. befores_became p0 p1 o f becomes e0 seat at t)
+                h.queue;
+            last_put = subst (λ t. IsLastPut t put) (sym table) (put_at seat at);
+          }
 
 -- an operation more, which has made no step
 module _ (old new : Slab Seat) (ends : Ends) (put : Option ℕ) (o : ℕ) (op : Operation) (h : IsTable old.slots ends put) (vacant : seat_at old.slots o ≡ None)

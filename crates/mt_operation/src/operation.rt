@@ -56,11 +56,11 @@ impl Operation {
     }
 
     /// Makes the step of this number, and walks on so. The first step stays the one that it was.
-    pub fn go_on(&mut self, step: u64, walk: Walk)
-        ensures { self.new ≡ moved self.old step walk }
+    pub fn go_on(&mut self, step: u64, walk: &Walk)
+        ensures { self.new ≡ moved self.old step walk.now }
     {
         let first = self.walk.first;
-        self.walk = walk;
+        self.walk = *walk;
         self.walk.first = if first == 0 { step } else { first };
         self.last = step;
     }

@@ -30,33 +30,43 @@ pub(crate) struct Ends {
     pub last: Option<usize>,
 }
 
-// Whether the operation of an id has made no step.
-fn is_still(seats: &Slab<Seat>, id: usize) -> bool
-    ensures { result ≡ is_still (seat_at seats.now.slots id) }
+/// An operation makes the step of this number, and walks on so; whether it is there, and this step is
+/// its first.
+pub(crate) fn move_at(seats: &mut Slab<Seat>, id: usize, step: u64, walk: &Walk) -> bool
+    ensures first { result ≡ is_still (seat_at seats.old.slots id) }
+    ensures becomes { Becomes seats.old.slots seats.new.slots id (λ op. moved op step walk.now) }
+    ensures none { seat_at seats.old.slots id ≡ None → seats.new.slots ≡ seats.old.slots }
 {
-    match seats.get(id) {
-        Some(seat) => seat.operation.walk.first == 0,
+    match seats.get_mut(id) {
+        Some(seat) => {
+            let is_first = seat.operation.walk.first == 0;
+            seat.operation.go_on(step, walk);
+            is_first
+        }
         None => false,
     }
 }
 
-/// An operation makes the step of this number, and walks on so.
-pub(crate) fn move_at(seats: &mut Slab<Seat>, id: usize, step: u64, walk: Walk)
-    ensures becomes { Becomes seats.old.slots seats.new.slots id (λ op. moved op step walk) }
+/// The same, and it has this outcome then, or none.
+pub(crate) fn move_with_at(
+    seats: &mut Slab<Seat>,
+    id: usize,
+    step: u64,
+    walk: &Walk,
+    outcome: Option<Outcome>,
+) -> bool
+    ensures first { result ≡ is_still (seat_at seats.old.slots id) }
+    ensures becomes { Becomes seats.old.slots seats.new.slots id (λ op. noted (moved op step walk.now) outcome) }
     ensures none { seat_at seats.old.slots id ≡ None → seats.new.slots ≡ seats.old.slots }
 {
-    if let Some(seat) = seats.get_mut(id) {
-        seat.operation.go_on(step, walk);
-    }
-}
-
-/// An operation has this outcome, or none.
-pub(crate) fn note_at(seats: &mut Slab<Seat>, id: usize, outcome: Option<Outcome>)
-    ensures becomes { Becomes seats.old.slots seats.new.slots id (λ op. noted op outcome) }
-    ensures none { seat_at seats.old.slots id ≡ None → seats.new.slots ≡ seats.old.slots }
-{
-    if let Some(seat) = seats.get_mut(id) {
-        seat.operation.outcome = outcome;
+    match seats.get_mut(id) {
+        Some(seat) => {
+            let is_first = seat.operation.walk.first == 0;
+            seat.operation.go_on(step, walk);
+            seat.operation.outcome = outcome;
+            is_first
+        }
+        None => false,
     }
 }
 
@@ -82,18 +92,6 @@ pub(crate) fn take_prepared_at(seats: &mut Slab<Seat>, id: usize) -> Option<Prep
     }
 }
 
-/// Puts an operation behind all others of the queue, where it has made no step.
-pub(crate) fn link_still(seats: &mut Slab<Seat>, ends: &mut Ends, id: usize)
-    requires last { IsEndOrSeat seats.old.slots ends.old.last }
-    requires new { is_still (seat_at seats.old.slots id) ≡ true → ends.old.last ≢ Some id }
-    ensures links { is_still (seat_at seats.old.slots id) ≡ true → LinksLast seats.old.slots ends.old seats.new.slots ends.new id }
-    ensures same { is_still (seat_at seats.old.slots id) ≡ false → (seats.new.slots ≡ seats.old.slots) × (ends.new ≡ ends.old) }
-{
-    if is_still(seats, id) {
-        link_last(seats, ends, id);
-    }
-}
-
 /// Makes neighbours of the two between which a seat was, where its operation has made a step.
 pub(crate) fn cut(seats: &mut Slab<Seat>, ends: &mut Ends, seat: &Seat)
     requires before { 0 < seat.now.operation.walk.first → IsEndOrSeat seats.old.slots seat.now.before }
@@ -106,8 +104,9 @@ pub(crate) fn cut(seats: &mut Slab<Seat>, ends: &mut Ends, seat: &Seat)
     }
 }
 
-// Puts an operation behind all others of the queue.
-fn link_last(seats: &mut Slab<Seat>, ends: &mut Ends, id: usize)
+/// Puts an operation behind all others of the queue.
+#[inline(never)]
+pub(crate) fn link_last(seats: &mut Slab<Seat>, ends: &mut Ends, id: usize)
     requires there { IsEndOrSeat seats.old.slots (Some id) }
     requires last { IsEndOrSeat seats.old.slots ends.old.last }
     requires new { ends.old.last ≢ Some id }

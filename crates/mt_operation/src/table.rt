@@ -14,7 +14,7 @@ use crate::operation::Operation;
 use crate::outcome::Outcome;
 use crate::prepared::Prepared;
 use crate::queue::{
-    Ends, Seat, cut, link_still, make_ready_at, move_at, note_at, take_prepared_at,
+    Ends, Seat, cut, link_last, make_ready_at, move_at, move_with_at, take_prepared_at,
 };
 use crate::walk::Walk;
 use mt_rows::Refusal;
@@ -107,22 +107,27 @@ impl Operations {
 
     /// An operation makes the step of this number, and walks on so; its first step stays the one that
     /// it was. Nothing happens where no operation has the id.
-    pub fn go_on(&mut self, id: usize, step: u64, walk: Walk)
+    #[inline]
+    pub fn go_on(&mut self, id: usize, step: u64, walk: &Walk)
         requires { MayMove self.old id step }
-        ensures moves { (op : AnyOperation) → op_at self.old id ≡ Some op → self.new ≡ slice_set self.old id (Some (moved op step walk)) }
+        ensures moves { (op : AnyOperation) → op_at self.old id ≡ Some op → self.new ≡ slice_set self.old id (Some (moved op step walk.now)) }
         ensures absent { op_at self.old id ≡ None → self.new ≡ self.old }
     {
-        link_still(&mut self.seats, &mut self.ends, id);
-        move_at(&mut self.seats, id, step, walk);
+        if move_at(&mut self.seats, id, step, walk) {
+            link_last(&mut self.seats, &mut self.ends, id);
+        }
     }
 
-    /// An operation has this outcome or none, in the place of any that it had. Nothing happens where no
-    /// operation has the id.
-    pub fn note(&mut self, id: usize, outcome: Option<Outcome>)
-        ensures notes { (op : AnyOperation) → op_at self.old id ≡ Some op → self.new ≡ slice_set self.old id (Some (noted op outcome)) }
+    /// The same, and the operation has this outcome or none, in the place of any that it had.
+    #[inline]
+    pub fn go_on_with(&mut self, id: usize, step: u64, walk: &Walk, outcome: Option<Outcome>)
+        requires { MayMove self.old id step }
+        ensures moves { (op : AnyOperation) → op_at self.old id ≡ Some op → self.new ≡ slice_set self.old id (Some (noted (moved op step walk.now) outcome)) }
         ensures absent { op_at self.old id ≡ None → self.new ≡ self.old }
     {
-        note_at(&mut self.seats, id, outcome);
+        if move_with_at(&mut self.seats, id, step, walk, outcome) {
+            link_last(&mut self.seats, &mut self.ends, id);
+        }
     }
 
     /// An operation has made this ready. Nothing happens where no operation has the id.

@@ -5,7 +5,8 @@ use Rattle.std.proofs.lemmas.Option.{same_Some}
 use Rattle.mt_operation.specs.declared.operation.Operation.{Operation}
 use Rattle.mt_operation.specs.declared.task.Task.{Task}
 use Rattle.mt_operation.specs.declared.walk.Walk.{Walk}
-use Rattle.mt_operation.specs.Operations.{begun, moved, is_done, is_unfinished}
+use Rattle.mt_operation.specs.declared.outcome.Outcome.{Outcome}
+use Rattle.mt_operation.specs.Operations.{begun, moved, noted, is_done, is_unfinished}
 use Rattle.mt_operation.specs.Tables.{Table, op_at, HasOpenPut, MayMove}
 use Rattle.mt_operation.proofs.Tables.{set_is, set_there}
 use Rattle.mt_operation_tests.specs.Alone.{HasOnly}
@@ -50,6 +51,18 @@ goes_on table new id step walk h unended moves = record {
   early = early_moved h.op step walk (h.op.walk.first == 0) refl h.early;
   left = ap not unended;
 }
+
+-- also where it has this outcome then
+pub goes_with : (table new : Table) (id step : ℕ) (walk : Walk) (told : Option Outcome) → HasOnly table id step → is_done walk.phase ≡ false → ((op : Operation) → op_at table id ≡ Some op → new ≡ set table id (Some (noted (moved op step walk) told))) → HasOnly new id (step + 1)
+goes_with table new id step walk told h unended moves =
+    let after : Operation = noted (moved h.op step walk) told in
+    record {
+      op = after;
+      there = ap (λ t. op_at t id) (moves h.op h.there) ∙ set_is table id after h.op h.there;
+      others = λ q ne. ap (λ t. op_at t q) (moves h.op h.there) ∙ set_there table id q (Some after) ne ∙ h.others q ne;
+      early = early_moved h.op step walk (h.op.walk.first == 0) refl h.early;
+      left = ap not unended;
+    }
 
 -- its first step was made
 pub was_made : (table : Table) (id steps : ℕ) → HasOnly table id (steps + 1) → (q : ℕ) (op : Operation) → op_at table q ≡ Some op → op.walk.first ≤ steps

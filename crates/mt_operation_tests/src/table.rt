@@ -79,7 +79,19 @@ fn go_to(table: &mut Operations, id: usize, step: u64, phase: Phase)
 {
     let mut walk = Walk::new(false, 0);
     walk.phase = phase;
-    table.go_on(id, step, walk);
+    table.go_on(id, step, &walk);
+}
+
+// The same, and it answers that the key was missing at this step.
+fn miss_at(table: &mut Operations, id: usize, step: u64, phase: Phase)
+    requires only { HasOnly table.old id step }
+    requires unended { is_done phase ≡ false }
+    ensures { HasOnly table.new id (step + 1) }
+{
+    let mut walk = Walk::new(false, 0);
+    walk.phase = phase;
+    let reply = Reply::Absent;
+    table.go_on_with(id, step, &walk, Some(Outcome { reply, at: step }));
 }
 
 // The floor that is needed after so many steps.
@@ -108,10 +120,8 @@ fn a_get_walks_and_is_answered(rt: HostRuntime) -> Result<(), Fail> {
     assert!(rt; !table.has_open_put());
     assert_eq!(rt; floor_of(&table, id, 4), 4);
     go_to(&mut table, id, 5, Phase::Search);
-    go_to(&mut table, id, 6, Phase::Confirm);
+    miss_at(&mut table, id, 6, Phase::Confirm);
     assert_eq!(rt; floor_of(&table, id, 6), 4);
-    let reply = Reply::Absent;
-    table.note(id, Some(Outcome { reply, at: 6 }));
     assert!(rt;
         table
             .get(id)

@@ -2,7 +2,7 @@
 use Rattle.std.proofs.Common.{◌≡◌, true, false, refl}
 use Rattle.mt_operation.specs.declared.walk.Phase.TheVariants.{Confirm}
 use Rattle.mt_core.specs.States.{core_of}
-use Rattle.mt_core.proofs.ReadSteps.{phase_is, free_moves, blocked, confirm_hands, confirm_kept, confirm_way, done_if, done_unless, confirm_gives_done, confirm_gives_back, noted_table}
+use Rattle.mt_core.proofs.ReadSteps.{phase_is, free_moves, blocked, confirm_hands, confirm_kept, confirm_way, done_if, done_unless, confirm_gives_done, confirm_gives_back}
 use Rattle.mt_core.proofs.FreshStates.{ended_state}
 use Rattle.mt_core.proofs.StraightSteps.{unmoved_stays, done_stays}
 use Rattle.mt_core.proofs.StraightStates.{confirm_stays}
@@ -16,6 +16,10 @@ confirm-requires c = record {
 
 pub go_on-requires : goal.go_on-requires
 go_on-requires c = free_moves (core_of c.self.inside) _ c.args.id c.self.view_is c.self.invariant.state c.requires.few c.open-operation.result.now c.open-operation.ensures
+    (confirm_hands _ (phase_is (core_of c.self.inside) _ c.args.id (λ p. p ≡ Confirm) c.self.view_is c.open-operation.result.now c.open-operation.ensures c.requires.next))
+
+pub go_on_with-requires : goal.go_on_with-requires
+go_on_with-requires c = free_moves (core_of c.self.inside) _ c.args.id c.self.view_is c.self.invariant.state c.requires.few c.open-operation.result.now c.open-operation.ensures
     (confirm_hands _ (phase_is (core_of c.self.inside) _ c.args.id (λ p. p ≡ Confirm) c.self.view_is c.open-operation.result.now c.open-operation.ensures c.requires.next))
 
 pub returns-in-Some : goal.returns-in-Some
@@ -42,16 +46,16 @@ returns-then-eq c = let s = (confirm_gives_done (core_of c.self.inside) _ c.args
 pub invariant_of-self-2 : goal.invariant_of-self-2
 invariant_of-self-2 c = ended_state c.args.self.now (core_of c.self.inside) _ c.args.id false Confirm c.self.view_is c.self.invariant tt c.requires.next (confirm_gives_back (core_of c.self.inside) _ c.args.id c.self.view_is c.self.invariant.state c.requires.few c.open-operation.result.now c.open-operation.ensures
     (phase_is (core_of c.self.inside) _ c.args.id (λ p. p ≡ Confirm) c.self.view_is c.open-operation.result.now c.open-operation.ensures c.requires.next)
-    c.confirm.new.walk c.in_default.ensures.same c.in_default.ensures.is c.in_default.ensures.kept (done_unless _ c.if-eq.ensures) c.note.new.self
-    (noted_table c.self.inside.operations c.go_on.new.self c.note.new.self c.args.id c.open-operation.result.now _ _ c.open-operation.ensures (c.go_on.ensures.moves _ c.open-operation.ensures) c.note.ensures.notes))
+    c.confirm.new.walk c.in_default.ensures.same c.in_default.ensures.is c.in_default.ensures.kept (done_unless _ c.if-eq.ensures) c.go_on_with.new.self
+    (c.go_on_with.ensures.moves _ c.open-operation.ensures))
 
 pub returns : goal.returns
 returns c = record {
   tells = (confirm_gives_back (core_of c.self.inside) _ c.args.id c.self.view_is c.self.invariant.state c.requires.few c.open-operation.result.now c.open-operation.ensures
       (phase_is (core_of c.self.inside) _ c.args.id (λ p. p ≡ Confirm) c.self.view_is c.open-operation.result.now c.open-operation.ensures c.requires.next)
-      c.confirm.new.walk c.in_default.ensures.same c.in_default.ensures.is c.in_default.ensures.kept (done_unless _ c.if-eq.ensures) c.note.new.self
-      (noted_table c.self.inside.operations c.go_on.new.self c.note.new.self c.args.id c.open-operation.result.now _ _ c.open-operation.ensures (c.go_on.ensures.moves _ c.open-operation.ensures) c.note.ensures.notes)).1;
+      c.confirm.new.walk c.in_default.ensures.same c.in_default.ensures.is c.in_default.ensures.kept (done_unless _ c.if-eq.ensures) c.go_on_with.new.self
+      (c.go_on_with.ensures.moves _ c.open-operation.ensures)).1;
   straight = confirm_stays c.args.self.now (core_of c.self.inside) _ c.args.id c.self.view_is c.self.invariant c.open-operation.result.now _ c.open-operation.ensures
-      (noted_table c.self.inside.operations c.go_on.new.self c.note.new.self c.args.id c.open-operation.result.now _ _ c.open-operation.ensures (c.go_on.ensures.moves _ c.open-operation.ensures) c.note.ensures.notes)
+      (c.go_on_with.ensures.moves _ c.open-operation.ensures)
       c.confirm.new.walk refl (phase_is (core_of c.self.inside) _ c.args.id (λ p. p ≡ Confirm) c.self.view_is c.open-operation.result.now c.open-operation.ensures c.requires.next) c.in_default.ensures.is;
 }

@@ -2,46 +2,46 @@
 use Rattle.std.proofs.Common.{◌≡◌}
 use Rattle.mt_operation.specs.declared.walk.Phase.TheVariants.{Load}
 use Rattle.mt_core.specs.States.{core_of}
-use Rattle.mt_core.proofs.ReadSteps.{phase_is, free_moves, blocked, load_hands, load_kept, load_gets, asked_columns, load_way, load_gives, noted_table}
+use Rattle.mt_core.proofs.ReadSteps.{phase_is, free_moves, blocked, load_hands, load_kept, load_gets, asked_columns, load_way, load_gives}
 use Rattle.mt_core.proofs.StraightStates.{look_state, told_step, load_place, no_beginning}
 use Rattle.mt_core.proofs.state.State.load.Goals as goal
 
 pub load_row-requires-clause-get : goal.load_row-requires-clause-get
-load_row-requires-clause-get c = load_gets (core_of c.self.inside) _ c.args.id c.self.view_is c.self.invariant.state c.requires.few c.open.result.now c.open.ensures
-    (phase_is (core_of c.self.inside) _ c.args.id (λ p. p ≡ Load) c.self.view_is c.open.result.now c.open.ensures c.requires.next)
+load_row-requires-clause-get c = load_gets (core_of c.self.inside) _ c.args.id c.self.view_is c.self.invariant.state c.requires.few c.open-operation.result.now c.open-operation.ensures
+    (phase_is (core_of c.self.inside) _ c.args.id (λ p. p ≡ Load) c.self.view_is c.open-operation.result.now c.open-operation.ensures c.requires.next)
 
 pub load_row-requires-clause-columns : goal.load_row-requires-clause-columns
-load_row-requires-clause-columns c = asked_columns (core_of c.self.inside) _ c.args.id c.self.view_is c.self.invariant.state c.requires.few c.open.result.now c.open.ensures
+load_row-requires-clause-columns c = asked_columns (core_of c.self.inside) _ c.args.id c.self.view_is c.self.invariant.state c.requires.few c.open-operation.result.now c.open-operation.ensures
 
 pub load_row-requires-clause-kept : goal.load_row-requires-clause-kept
-load_row-requires-clause-kept c = load_kept (core_of c.self.inside) _ c.args.id c.self.view_is c.self.invariant.state c.requires.few c.open.result.now c.open.ensures
-    (phase_is (core_of c.self.inside) _ c.args.id (λ p. p ≡ Load) c.self.view_is c.open.result.now c.open.ensures c.requires.next)
+load_row-requires-clause-kept c = load_kept (core_of c.self.inside) _ c.args.id c.self.view_is c.self.invariant.state c.requires.few c.open-operation.result.now c.open-operation.ensures
+    (phase_is (core_of c.self.inside) _ c.args.id (λ p. p ≡ Load) c.self.view_is c.open-operation.result.now c.open-operation.ensures c.requires.next)
 
-pub go_on-requires : goal.go_on-requires
-go_on-requires c = free_moves (core_of c.self.inside) _ c.args.id c.self.view_is c.self.invariant.state c.requires.few c.open.result.now c.open.ensures
-    (load_hands _ (phase_is (core_of c.self.inside) _ c.args.id (λ p. p ≡ Load) c.self.view_is c.open.result.now c.open.ensures c.requires.next))
+pub go_on_with-requires : goal.go_on_with-requires
+go_on_with-requires c = free_moves (core_of c.self.inside) _ c.args.id c.self.view_is c.self.invariant.state c.requires.few c.open-operation.result.now c.open-operation.ensures
+    (load_hands _ (phase_is (core_of c.self.inside) _ c.args.id (λ p. p ≡ Load) c.self.view_is c.open-operation.result.now c.open-operation.ensures c.requires.next))
 
 pub invariant_of-self : goal.invariant_of-self
 invariant_of-self c =
-    let g = (load_gives (core_of c.self.inside) _ c.args.id c.self.view_is c.self.invariant.state c.requires.few c.open.result.now c.open.ensures c.facts.ensures.arena
-    (phase_is (core_of c.self.inside) _ c.args.id (λ p. p ≡ Load) c.self.view_is c.open.result.now c.open.ensures c.requires.next)
-    c.in-Ok.field-0.walk c.in-Ok.field-0.outcome c.in-Ok.ensures.is c.note.new.self
-    (noted_table c.self.inside.operations c.go_on.new.self c.note.new.self c.args.id c.open.result.now _ _ c.open.ensures (c.go_on.ensures.moves _ c.open.ensures) c.note.ensures.notes)
+    let g = (load_gives (core_of c.self.inside) _ c.args.id c.self.view_is c.self.invariant.state c.requires.few c.open-operation.result.now c.open-operation.ensures c.facts.ensures.arena
+    (phase_is (core_of c.self.inside) _ c.args.id (λ p. p ≡ Load) c.self.view_is c.open-operation.result.now c.open-operation.ensures c.requires.next)
+    c.load_row.new.walk c.in-Ok.outcome c.in-Ok.ensures.is c.go_on_with.new.self
+    (c.go_on_with.ensures.moves _ c.open-operation.ensures)
     c.ending.result c.ending.ensures) in
-    let s = told_step c.args.self.now _ c.args.id c.in-Ok.field-0.walk.phase c.ending.result c.ending.ensures g.1 in
-    look_state c.args.self.now (core_of c.self.inside) c.args.id s.0 c.self.view_is c.self.invariant c.open.result.now _ c.open.ensures c.note.new.self
-    (noted_table c.self.inside.operations c.go_on.new.self c.note.new.self c.args.id c.open.result.now _ _ c.open.ensures (c.go_on.ensures.moves _ c.open.ensures) c.note.ensures.notes)
-    (load_place _ c.open.result.now _ c.in-Ok.field-0.walk c.in-Ok.field-0.outcome c.in-Ok.ensures.is) (no_beginning _ Load (phase_is (core_of c.self.inside) _ c.args.id (λ p. p ≡ Load) c.self.view_is c.open.result.now c.open.ensures c.requires.next) (λ e. cc)) g.0 s.1
+    let s = told_step c.args.self.now _ c.args.id c.load_row.new.walk.phase c.ending.result c.ending.ensures g.1 in
+    look_state c.args.self.now (core_of c.self.inside) c.args.id s.0 c.self.view_is c.self.invariant c.open-operation.result.now _ c.open-operation.ensures c.go_on_with.new.self
+    (c.go_on_with.ensures.moves _ c.open-operation.ensures)
+    (load_place _ c.open-operation.result.now _ c.load_row.new.walk c.in-Ok.outcome c.in-Ok.ensures.is) (no_beginning _ Load (phase_is (core_of c.self.inside) _ c.args.id (λ p. p ≡ Load) c.self.view_is c.open-operation.result.now c.open-operation.ensures c.requires.next) (λ e. cc)) g.0 s.1
 
 pub returns-in-Ok : goal.returns-in-Ok
-returns-in-Ok c = (load_gives (core_of c.self.inside) _ c.args.id c.self.view_is c.self.invariant.state c.requires.few c.open.result.now c.open.ensures c.facts.ensures.arena
-    (phase_is (core_of c.self.inside) _ c.args.id (λ p. p ≡ Load) c.self.view_is c.open.result.now c.open.ensures c.requires.next)
-    c.in-Ok.field-0.walk c.in-Ok.field-0.outcome c.in-Ok.ensures.is c.note.new.self
-    (noted_table c.self.inside.operations c.go_on.new.self c.note.new.self c.args.id c.open.result.now _ _ c.open.ensures (c.go_on.ensures.moves _ c.open.ensures) c.note.ensures.notes)
+returns-in-Ok c = (load_gives (core_of c.self.inside) _ c.args.id c.self.view_is c.self.invariant.state c.requires.few c.open-operation.result.now c.open-operation.ensures c.facts.ensures.arena
+    (phase_is (core_of c.self.inside) _ c.args.id (λ p. p ≡ Load) c.self.view_is c.open-operation.result.now c.open-operation.ensures c.requires.next)
+    c.load_row.new.walk c.in-Ok.outcome c.in-Ok.ensures.is c.go_on_with.new.self
+    (c.go_on_with.ensures.moves _ c.open-operation.ensures)
     c.ending.result c.ending.ensures).1
 
 pub returns-in-Err : goal.returns-in-Err
-returns-in-Err c = blocked (core_of c.self.inside) _ c.args.id c.self.view_is c.self.invariant.state c.requires.few c.open.result.now c.open.ensures
-    (load_hands _ (phase_is (core_of c.self.inside) _ c.args.id (λ p. p ≡ Load) c.self.view_is c.open.result.now c.open.ensures c.requires.next)) c.in-Err.holder
-    (load_way (core_of c.self.inside) _ c.args.id c.self.view_is c.self.invariant.state c.requires.few c.open.result.now c.open.ensures
-    (phase_is (core_of c.self.inside) _ c.args.id (λ p. p ≡ Load) c.self.view_is c.open.result.now c.open.ensures c.requires.next) c.in-Err.holder c.in-Err.ensures.again) c.again.result c.again.ensures
+returns-in-Err c = blocked (core_of c.self.inside) _ c.args.id c.self.view_is c.self.invariant.state c.requires.few c.open-operation.result.now c.open-operation.ensures
+    (load_hands _ (phase_is (core_of c.self.inside) _ c.args.id (λ p. p ≡ Load) c.self.view_is c.open-operation.result.now c.open-operation.ensures c.requires.next)) c.in-Err.holder
+    (load_way (core_of c.self.inside) _ c.args.id c.self.view_is c.self.invariant.state c.requires.few c.open-operation.result.now c.open-operation.ensures
+    (phase_is (core_of c.self.inside) _ c.args.id (λ p. p ≡ Load) c.self.view_is c.open-operation.result.now c.open-operation.ensures c.requires.next) c.in-Err.holder c.in-Err.ensures.again) c.again.result c.again.ensures

@@ -22,18 +22,18 @@ publish-is_new-requires-clause-kept c = publish_at (core_of c.self.inside) _ c.a
 pub publish-is_new-requires-clause-reserved : goal.publish-is_new-requires-clause-reserved
 publish-is_new-requires-clause-reserved c = room_is (core_of c.self.inside) _ c.args.id c.self.view_is c.self.invariant.state Publish c.requires.next refl
 
-pub go_on-requires : goal.go_on-requires
-go_on-requires c = may_go_on (core_of c.self.inside) _ c.args.id c.self.view_is c.self.invariant.state Publish c.requires.next _ _ c.taken_out-prepared.ensures refl
+pub go_on_with-requires : goal.go_on_with-requires
+go_on_with-requires c = may_go_on (core_of c.self.inside) _ c.args.id c.self.view_is c.self.invariant.state Publish c.requires.next _ _ c.taken_out-prepared.ensures refl
 
-gives : (c : goal.After-note) → Gives c.args.self.now (made (core_of c.self.inside) _ c.args.id c.self.view_is c.self.invariant.state c.publish-is_new.new.arena c.publish-is_new.new.tape c.publish-is_new.new.tenants c.note.new.self) c.args.id false
+gives : (c : goal.After-go_on_with) → Gives c.args.self.now (made (core_of c.self.inside) _ c.args.id c.self.view_is c.self.invariant.state c.publish-is_new.new.arena c.publish-is_new.new.tape c.publish-is_new.new.tenants c.go_on_with.new.self) c.args.id false
 gives c = let e = c.publish-is_new.ensures in elim c.if-is_new.branch [
-  | then-is_new w ↦ publish_made (core_of c.self.inside) _ c.args.id c.self.view_is c.self.invariant.state c.requires.next _ _ c.taken_out-prepared.ensures _ c.open-operation.ensures c.requires.few _ _ _ _ _ _ _ c.go_on.ensures.moves c.note.ensures.notes c.facts.ensures.arena
+  | then-is_new w ↦ publish_made (core_of c.self.inside) _ c.args.id c.self.view_is c.self.invariant.state c.requires.next _ _ c.taken_out-prepared.ensures _ c.open-operation.ensures c.requires.few _ _ _ _ _ _ c.go_on_with.ensures.moves c.facts.ensures.arena
       (record { is = e.is w.if-is_new.true; missing = e.before; room = e.room.0 w.if-is_new.true; counted = e.counted w.if-is_new.true; others = e.others })
       (record { places = e.places w.if-is_new.true; walk = e.walk; same = e.same; guarantee = e.step; kept = e.kept })
-      (outcome_is _ _ _ _ c.placed.ensures w.reply-is)
-  | else-is_new w ↦ let f = e.full w.if-is_new.false in full_made (core_of c.self.inside) _ c.args.id c.self.view_is c.self.invariant.state c.requires.next _ _ c.taken_out-prepared.ensures _ c.open-operation.ensures c.requires.few _ _ _ _ _ _ _ c.go_on.ensures.moves c.note.ensures.notes f.0 f.1
+      (outcome_is _ _ _ _ c.placed-told.ensures w.reply-is)
+  | else-is_new w ↦ let f = e.full w.if-is_new.false in full_made (core_of c.self.inside) _ c.args.id c.self.view_is c.self.invariant.state c.requires.next _ _ c.taken_out-prepared.ensures _ c.open-operation.ensures c.requires.few _ _ _ _ _ _ c.go_on_with.ensures.moves f.0 f.1
       (full_for (core_of c.self.inside) c.args.id _ _ _ _ e.walk e.same f.2 f.0 e.kept e.before (λ has. absurd (let no = sym w.if-is_new.false ∙ e.room.1 has in cc)))
-      (outcome_is _ _ _ _ c.placed.ensures w.reply-is)
+      (outcome_is _ _ _ _ c.placed-told.ensures w.reply-is)
 ]
 
 pub invariant_of-self : goal.invariant_of-self

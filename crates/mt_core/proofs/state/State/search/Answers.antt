@@ -2,7 +2,7 @@
 use Rattle.std.proofs.Common.{◌≡◌, false}
 use Rattle.mt_operation.specs.declared.walk.Phase.TheVariants.{Search}
 use Rattle.mt_core.specs.States.{core_of}
-use Rattle.mt_core.proofs.ReadSteps.{phase_is, free_moves, search_hands, search_kept, confirm_if, confirm_unless, search_gives_missing, search_gives_found, noted_table}
+use Rattle.mt_core.proofs.ReadSteps.{phase_is, free_moves, search_hands, search_kept, confirm_if, confirm_unless, search_gives_missing, search_gives_found}
 use Rattle.mt_core.proofs.StraightStates.{look_state, search_place, no_beginning}
 use Rattle.mt_core.proofs.state.State.search.Goals as goal
 
@@ -16,21 +16,25 @@ pub go_on-requires : goal.go_on-requires
 go_on-requires c = free_moves (core_of c.self.inside) _ c.args.id c.self.view_is c.self.invariant.state c.requires.few c.open-operation.result.now c.open-operation.ensures
     (search_hands _ (phase_is (core_of c.self.inside) _ c.args.id (λ p. p ≡ Search) c.self.view_is c.open-operation.result.now c.open-operation.ensures c.requires.next))
 
+pub go_on_with-requires : goal.go_on_with-requires
+go_on_with-requires c = free_moves (core_of c.self.inside) _ c.args.id c.self.view_is c.self.invariant.state c.requires.few c.open-operation.result.now c.open-operation.ensures
+    (search_hands _ (phase_is (core_of c.self.inside) _ c.args.id (λ p. p ≡ Search) c.self.view_is c.open-operation.result.now c.open-operation.ensures c.requires.next))
+
 pub invariant_of-self : goal.invariant_of-self
 invariant_of-self c =
     let g = (search_gives_missing (core_of c.self.inside) _ c.args.id c.self.view_is c.self.invariant.state c.requires.few c.open-operation.result.now c.open-operation.ensures c.facts.ensures.arena
     (phase_is (core_of c.self.inside) _ c.args.id (λ p. p ≡ Search) c.self.view_is c.open-operation.result.now c.open-operation.ensures c.requires.next)
-    c.search.new.walk c.search.ensures.is c.search.ensures.kept (confirm_if _ c.if-eq.ensures) c.absent.result c.absent.ensures c.note.new.self
-    (noted_table c.self.inside.operations c.go_on.new.self c.note.new.self c.args.id c.open-operation.result.now _ _ c.open-operation.ensures (c.go_on.ensures.moves _ c.open-operation.ensures) c.note.ensures.notes)) in
-    look_state c.args.self.now (core_of c.self.inside) c.args.id false c.self.view_is c.self.invariant c.open-operation.result.now _ c.open-operation.ensures c.note.new.self
-    (noted_table c.self.inside.operations c.go_on.new.self c.note.new.self c.args.id c.open-operation.result.now _ _ c.open-operation.ensures (c.go_on.ensures.moves _ c.open-operation.ensures) c.note.ensures.notes)
+    c.search.new.walk c.search.ensures.is c.search.ensures.kept (confirm_if _ c.if-eq.ensures) c.absent.result c.absent.ensures c.go_on_with.new.self
+    (c.go_on_with.ensures.moves _ c.open-operation.ensures)) in
+    look_state c.args.self.now (core_of c.self.inside) c.args.id false c.self.view_is c.self.invariant c.open-operation.result.now _ c.open-operation.ensures c.go_on_with.new.self
+    (c.go_on_with.ensures.moves _ c.open-operation.ensures)
     (search_place c.search.ensures.is.0 c.open-operation.result.now.walk c.search.new.walk _ c.search.ensures.is.2) (no_beginning _ Search (phase_is (core_of c.self.inside) _ c.args.id (λ p. p ≡ Search) c.self.view_is c.open-operation.result.now c.open-operation.ensures c.requires.next) (λ e. cc)) g.0 g.1
 
 pub returns-then-eq : goal.returns-then-eq
 returns-then-eq c = (search_gives_missing (core_of c.self.inside) _ c.args.id c.self.view_is c.self.invariant.state c.requires.few c.open-operation.result.now c.open-operation.ensures c.facts.ensures.arena
     (phase_is (core_of c.self.inside) _ c.args.id (λ p. p ≡ Search) c.self.view_is c.open-operation.result.now c.open-operation.ensures c.requires.next)
-    c.search.new.walk c.search.ensures.is c.search.ensures.kept (confirm_if _ c.if-eq.ensures) c.absent.result c.absent.ensures c.note.new.self
-    (noted_table c.self.inside.operations c.go_on.new.self c.note.new.self c.args.id c.open-operation.result.now _ _ c.open-operation.ensures (c.go_on.ensures.moves _ c.open-operation.ensures) c.note.ensures.notes)).1
+    c.search.new.walk c.search.ensures.is c.search.ensures.kept (confirm_if _ c.if-eq.ensures) c.absent.result c.absent.ensures c.go_on_with.new.self
+    (c.go_on_with.ensures.moves _ c.open-operation.ensures)).1
 
 pub invariant_of-self-else-eq : goal.invariant_of-self-else-eq
 invariant_of-self-else-eq c =

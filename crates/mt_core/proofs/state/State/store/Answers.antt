@@ -21,12 +21,12 @@ store-requires-clause-kept c = store_at (core_of c.self.inside) _ c.args.id c.se
 pub store-requires-clause-reserved : goal.store-requires-clause-reserved
 store-requires-clause-reserved c = room_is (core_of c.self.inside) _ c.args.id c.self.view_is c.self.invariant.state Store c.requires.next refl
 
-pub go_on-requires : goal.go_on-requires
-go_on-requires c = may_go_on (core_of c.self.inside) _ c.args.id c.self.view_is c.self.invariant.state Store c.requires.next _ _ c.taken_out-prepared.ensures refl
+pub go_on_with-requires : goal.go_on_with-requires
+go_on_with-requires c = may_go_on (core_of c.self.inside) _ c.args.id c.self.view_is c.self.invariant.state Store c.requires.next _ _ c.taken_out-prepared.ensures refl
 
-gives : (c : goal.After-note) → Gives c.args.self.now (made (core_of c.self.inside) _ c.args.id c.self.view_is c.self.invariant.state c.store.new.arena c.store.new.tape c.self.inside.tenants c.note.new.self) c.args.id false
-gives c = let e = c.store.ensures in store_made (core_of c.self.inside) _ c.args.id c.self.view_is c.self.invariant.state c.requires.next _ _ c.taken_out-prepared.ensures _ c.open-operation.ensures c.requires.few _ _ _ _ _ _ _ c.facts.ensures.arena
-    (record { is = e.is; before_is = e.before }) (record { places = e.places; walk = e.walk; same = e.same; guarantee = e.step; kept = e.kept }) c.placed.ensures c.go_on.ensures.moves c.note.ensures.notes
+gives : (c : goal.After-go_on_with) → Gives c.args.self.now (made (core_of c.self.inside) _ c.args.id c.self.view_is c.self.invariant.state c.store.new.arena c.store.new.tape c.self.inside.tenants c.go_on_with.new.self) c.args.id false
+gives c = let e = c.store.ensures in store_made (core_of c.self.inside) _ c.args.id c.self.view_is c.self.invariant.state c.requires.next _ _ c.taken_out-prepared.ensures _ c.open-operation.ensures c.requires.few _ _ _ _ _ _ c.facts.ensures.arena
+    (record { is = e.is; before_is = e.before }) (record { places = e.places; walk = e.walk; same = e.same; guarantee = e.step; kept = e.kept }) c.placed-told.ensures c.go_on_with.ensures.moves
 
 pub invariant_of-self : goal.invariant_of-self
 invariant_of-self c = ended_state c.args.self.now (core_of c.self.inside) _ c.args.id false Store c.self.view_is c.self.invariant tt c.requires.next (gives c)
