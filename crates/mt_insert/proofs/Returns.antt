@@ -1,20 +1,19 @@
 -- What may be given back may still be given back after an edit that leaves the node as it is, but for the one before it and its parent, and
 -- by which nobody comes to name it: for the phases of a split.
-use Rattle.std.proofs.Common.{◌≡◌, ◌≢◌, ℕ, ◌<◌, ◌≤◌, ◌⊎◌, List, length, get_or, Some, None, Option, false, true, refl, sym, ap, subst, ◌∙◌, arith}
+use Rattle.std.proofs.Common.{◌≡◌, ℕ, ◌<◌, ◌≤◌, List, length, get_or, None, refl, sym, ap, subst, ◌∙◌, arith}
 use Rattle.std.specs.List.{All}
 use Rattle.mt_border.specs.declared.entry.Entry.{Entry}
 use Rattle.mt_arena.specs.declared.tree.Tree.{Tree}
-use Rattle.mt_arena.specs.declared.tree.Standing.TheVariants.{Made}
 use Rattle.mt_arena.specs.NodeView.{NodeView, node_at}
 use Rattle.mt_arena.specs.Nodes.{HasChild}
 use Rattle.mt_arena.specs.NodeFacts.{IsUnstable}
 use Rattle.mt_arena.specs.Forests.{tree_at}
-use Rattle.mt_arena.specs.Lags.{Follows, IsUnder, AreFollowers, AreChildren}
+use Rattle.mt_arena.specs.Lags.{Follows, IsUnder}
 use Rattle.mt_arena.specs.Settled.{IsSettled}
 use Rattle.mt_arena.specs.Arena.{ArenaView}
 use Rattle.mt_arena.specs.Accesses.{at, IsHeld, IsOpen}
 use Rattle.mt_operation.specs.declared.splits.Halves.{Halves}
-use Rattle.mt_insert.specs.Splitting.{halves_at, MayReturn, MayReturnBoth, AreReturnable, NothingLags}
+use Rattle.mt_insert.specs.Splitting.{halves_at, MayReturn, AreReturnable, NothingLags}
 
 -- a node that stays as it is, but for the one before it and its parent; it has a parent still where it had one
 pub record StaysButNames (x y : NodeView) : Type 0 where

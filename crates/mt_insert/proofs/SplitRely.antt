@@ -34,7 +34,7 @@ use Rattle.mt_operation.specs.declared.splits.Halves.{Halves}
 use Rattle.mt_operation.specs.declared.splits.Splits.{Splits}
 use Rattle.mt_descent.specs.Kept.{GoesThrough}
 use Rattle.mt_insert.specs.Splitting.{halves_at, last_of, HoldsSplits, MayReturn, AreReturnable, IsSplitting, AreParted, NothingLags, HasSplits, HasSplitsNamed, IsUnparted, IsAtSplitMove, IsAtSplitPrev, IsAtLockParent, IsAtRootGrow, IsParent, IsAtParent, IsAtInsertChild, IsAtInteriorSplit, IsChildFrom, IsAtReparent, IsAtUnlockAll, KeptSplit}
-use Rattle.mt_insert.proofs.Rely.{held, settled_here, tree_there_stays, open_here}
+use Rattle.mt_insert.proofs.Rely.{settled_here, tree_there_stays, open_here}
 
 -- a child of a node that is untouched stays one
 child_stays : (n m : NodeView) (k : ℕ) → IsUntouched n m → HasChild n k → HasChild m k

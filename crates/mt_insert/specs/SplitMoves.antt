@@ -1,5 +1,5 @@
 -- Where each phase of a split leads, and what it makes of the nodes.
-use Rattle.std.specs.Prelude.{◌≡◌, ℕ, ◌+◌, ◌-◌, ◌<◌, ◌==◌, if◌then◌else◌, nat_le, length, Option, Some, None, slice_index, slice_set, ◌++◌, ◌∷◌, []}
+use Rattle.std.specs.Prelude.{◌≡◌, ℕ, ◌+◌, ◌==◌, if◌then◌else◌, length, Option, Some, None, ◌++◌, ◌∷◌, []}
 use Rattle.mt_slices.specs.Slices.{slice_of, mark_of}
 use Rattle.mt_border.specs.Split.{IsSeparator, slices_with}
 use Rattle.mt_arena.specs.NodeView.{NodeView}
@@ -7,9 +7,8 @@ use Rattle.mt_arena.specs.Edits.{locked, unlocked, pointed}
 use Rattle.mt_arena.specs.Arena.{ArenaView}
 use Rattle.mt_arena.specs.Accesses.{at, with_node, with_half}
 use Rattle.mt_operation.specs.declared.walk.Phase.{Phase}
-use Rattle.mt_operation.specs.declared.walk.Phase.TheVariants.{SplitMove, SplitPrev, LockParent, InsertChild, InteriorSplit, Reparent}
+use Rattle.mt_operation.specs.declared.walk.Phase.TheVariants.{SplitPrev, LockParent, InsertChild, InteriorSplit, Reparent}
 use Rattle.mt_operation.specs.declared.walk.Walk.{Walk}
-use Rattle.mt_operation.specs.declared.splits.Halves.{Halves}
 use Rattle.mt_operation.specs.declared.splits.Splits.{Splits}
 use Rattle.mt_rows.specs.Rows.{Bytes}
 use Rattle.mt_insert.specs.Splitting.{IsAmong}
