@@ -5,3 +5,13 @@ pub mod Puts
 pub mod Commands
 pub mod Holders
 pub mod Returns
+pub mod SplitRely
+pub mod SplitKeys
+pub mod PartingKeys
+pub mod Starting
+pub mod InsertingChildren
+pub mod SplittingParents
+pub mod GrowingRoots
+pub mod Unlocking
+pub mod Behind
+pub mod LockingParents

@@ -16,7 +16,7 @@ use Rattle.mt_arena.specs.Forests.{tree_at}
 use Rattle.mt_arena.specs.Layers.{slot_at}
 use Rattle.mt_arena.specs.Settled.{IsSettled}
 use Rattle.mt_arena.specs.Arena.{ArenaView, Guarantee}
-use Rattle.mt_arena.specs.Accesses.{at}
+use Rattle.mt_arena.specs.Accesses.{at, IsOpen}
 use Rattle.mt_arena.specs.Guarantee.{TreeChanges}
 use Rattle.mt_arena.proofs.Settled.{settled_stays}
 use Rattle.mt_operation.specs.declared.walk.Phase.{Phase}
@@ -38,13 +38,13 @@ in_slot_stays n m slot key layer kind same h = record {
 }
 
 -- a tree that no other operation is making, none but this one comes to make
-open_stays : (op o : ℕ) (tree after : Tree) → TreeChanges op tree after → o ≢ op → ((q : ℕ) → tree.standing ≡ Made q → q ≡ o) → (s : Standing) → tree.standing ≡ s → (q : ℕ) → after.standing ≡ Made q → q ≡ o
+pub open_stays : (op o : ℕ) (tree after : Tree) → TreeChanges op tree after → o ≢ op → ((q : ℕ) → tree.standing ≡ Made q → q ≡ o) → (s : Standing) → tree.standing ≡ s → (q : ℕ) → after.standing ≡ Made q → q ≡ o
 open_stays op o tree after c other mine (Made by) is q e = mine q (ap (λ (t : Tree). t.standing) (sym (c.made o other (is ∙ ap Made (mine by is)))) ∙ e)
 open_stays op o tree after c other mine Live is q e = absurd (c.live is q e)
 open_stays op o tree after c other mine Dead is q e = mine q (ap (λ (t : Tree). t.standing) (sym (c.dead is)) ∙ e)
 
 module _ (op o : ℕ) (old new : ArenaView) (g : Guarantee op old new) (other : o ≢ op) where
-  settled_here : (k : ℕ) → k < length old.nodes → (at old k).holder ≡ Some o → IsSettled old.nodes k (at old k) → IsSettled new.nodes k (at new k)
+  pub settled_here : (k : ℕ) → k < length old.nodes → (at old k).holder ≡ Some o → IsSettled old.nodes k (at old k) → IsSettled new.nodes k (at new k)
   settled_here k there holder settled = settled_stays op o old.nodes new.nodes old.trees new.trees k g.nodes g.points other there holder settled
 
   -- at Judge
@@ -102,16 +102,24 @@ module _ (op o : ℕ) (old new : ArenaView) (g : Guarantee op old new) (other : 
   ready task prepared w SplitStart h = split_start task prepared w h
   ready task prepared w _ h = absurd h
 
+  -- the tree of a node is there
+  pub tree_there_stays : (k : ℕ) → k < length old.nodes → (at old k).tree < length old.trees → (at new k).tree < length new.trees
+  tree_there_stays k within there = subst (λ u. u < length new.trees) (sym (g.nodes.nodes k within).tree) (omega (arith, there, g.nodes.tree_count))
+
+  -- and no other operation comes to make it
+  pub open_here : (k : ℕ) → k < length old.nodes → (at old k).tree < length old.trees → IsOpen old k o → IsOpen new k o
+  open_here k within there mine =
+      let t = (at old k).tree in
+      subst (λ u. (q : ℕ) → (tree_at new.trees u).standing ≡ Made q → q ≡ o) (sym (g.nodes.nodes k within).tree)
+      (open_stays op o (tree_at old.trees t) (tree_at new.trees t) (g.nodes.trees t there) other mine (tree_at old.trees t).standing refl)
+
   -- at Unlock
   pub unlock : (w : Walk) → IsAtUnlock old o w → IsAtUnlock new o w
   unlock w h =
-      let t = (at old w.place.node).tree in
-      let c = g.nodes.nodes w.place.node h.held.there in
-      let kept = c.held o other h.held.holder in
+      let k = w.place.node in
       record {
-        held = record { there = omega (arith, h.held.there, g.nodes.count); holder = kept.holder ∙ h.held.holder };
-        tree_there = subst (λ u. u < length new.trees) (sym c.tree) (omega (arith, h.tree_there, g.nodes.tree_count));
-        mine = subst (λ u. (q : ℕ) → (tree_at new.trees u).standing ≡ Made q → q ≡ o) (sym c.tree)
-            (open_stays op o (tree_at old.trees t) (tree_at new.trees t) (g.nodes.trees t h.tree_there) other h.mine (tree_at old.trees t).standing refl);
-        settled = settled_here w.place.node h.held.there h.held.holder h.settled;
+        held = record { there = omega (arith, h.held.there, g.nodes.count); holder = ((g.nodes.nodes k h.held.there).held o other h.held.holder).holder ∙ h.held.holder };
+        tree_there = tree_there_stays k h.held.there h.tree_there;
+        mine = open_here k h.held.there h.tree_there h.mine;
+        settled = settled_here k h.held.there h.held.holder h.settled;
       }

@@ -58,6 +58,10 @@ with_named_parent v child parent = with_node v child (pointed (at v child) (at v
 abbrev pub with_named_previous : ArenaView → ℕ → ℕ → ArenaView
 with_named_previous v behind right = with_node v behind (pointed (at v behind) (Some right) (at v behind).parent)
 
+-- a node whose lock was given back among the others
+abbrev pub given_back : ArenaView → ℕ → ArenaView
+given_back v k = with_node v k (unlocked (at v k))
+
 -- after Unlock: the locks of the splits' nodes were given back, and nothing else was done
 pub record Returns (old new : ArenaView) (s : Splits) : Type 0 where
   pub count : length new.nodes ≡ length old.nodes

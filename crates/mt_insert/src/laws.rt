@@ -21,11 +21,13 @@ ghost use Rattle.mt_operation.specs.declared.walk.Phase.TheVariants.{Judge};
 ghost use Rattle.mt_operation.specs.declared.walk.Walk.{Walk};
 ghost use Rattle.mt_operation.specs.declared.task.Task.{Task};
 ghost use Rattle.mt_operation.specs.declared.prepared.Prepared.{Prepared};
+ghost use Rattle.mt_operation.specs.declared.splits.Splits.{Splits};
 ghost use Rattle.mt_operation.specs.Tasks.{ask};
 ghost use Rattle.mt_descent.specs.Kept.{HoldsNothing, IsAtJudge};
 ghost use Rattle.mt_descent.specs.Moves.{Locks};
 ghost use Rattle.mt_insert.specs.Puts.{IsPut, write_of};
-ghost use Rattle.mt_insert.specs.Kept.{HoldsBorder, IsAtStore, IsAtPublish, KeptReady, IsAtUnlock, HoldsOnly};
+ghost use Rattle.mt_insert.specs.Kept.{HoldsBorder, IsAtStore, IsAtPublish, KeptReady, IsAtUnlock, HoldsOnly, IsAtSplitStart};
+ghost use Rattle.mt_insert.specs.Splitting.{HoldsSplits, IsAtSplitMove, KeptSplit};
 
 /// An operation that has locked its border node holds it as `judge` asks.
 pub fn holds_once_locked()
@@ -106,4 +108,36 @@ pub fn one_node_is_held()
     ensures unlocked { (v : ArenaView) (op k : ℕ) → k < length v.nodes → HoldsOnly v op k →
         HoldsNothing (with_node v k (unlocked (at v k))) op }
     ensures stays { (op o k : ℕ) (old new : ArenaView) → Guarantee op old new → o ≢ op → HoldsOnly old o k → HoldsOnly new o k }
+{}
+
+/// What a put keeps at SplitStart, each step of another operation leaves.
+pub fn split_start_stays()
+    ensures { (op o : ℕ) (old new : ArenaView) (task : Task) (prepared : Prepared) (w : Walk) → Guarantee op old new → o ≢ op →
+        IsAtSplitStart old o task prepared w → IsAtSplitStart new o task prepared w }
+{}
+
+/// What a put keeps at SplitMove, each step of another operation leaves.
+pub fn split_move_stays()
+    ensures { (op o : ℕ) (old new : ArenaView) (task : Task) (prepared : Prepared) (w : Walk) (s : Splits) → Guarantee op old new → o ≢ op →
+        IsAtSplitMove old o task prepared w s → IsAtSplitMove new o task prepared w s }
+{}
+
+/// So does what an operation keeps of its splits once the keys are parted, by its phase.
+pub fn split_stays()
+    ensures { (op o : ℕ) (old new : ArenaView) (phase : Phase) (s : Splits) → Guarantee op old new → o ≢ op →
+        KeptSplit phase old o s → KeptSplit phase new o s }
+{}
+
+/// While another operation takes a step, a splitting one comes to hold no node beside its splits.
+pub fn splits_are_held()
+    ensures { (op o : ℕ) (old new : ArenaView) (s : Splits) → HoldsSplits old o s → Guarantee op old new → o ≢ op → HoldsSplits new o s }
+{}
+
+/// The contents have no row at the key of a put that is about to split its full border node, and none
+/// until its keys are parted.
+pub fn no_row_before_a_split()
+    ensures at_start { (v : ArenaView) (op : ℕ) (task : Task) (prepared : Prepared) (w : Walk) → IsArena v.nodes v.trees → IsAtSplitStart v op task prepared w →
+        get (content_of v) (owned task.key) ≡ None }
+    ensures at_move { (v : ArenaView) (op : ℕ) (task : Task) (prepared : Prepared) (w : Walk) (s : Splits) → IsArena v.nodes v.trees → IsAtSplitMove v op task prepared w s →
+        get (content_of v) (owned task.key) ≡ None }
 {}

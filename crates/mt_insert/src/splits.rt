@@ -28,8 +28,8 @@ ghost use Rattle.mt_descent.specs.Moves.{Continues};
 ghost use Rattle.mt_insert.specs.Puts.{IsPut};
 ghost use Rattle.mt_insert.specs.Kept.{HoldsOnly, IsAtSplitStart};
 ghost use Rattle.mt_insert.specs.Moves.{walk_done, entry_of, released, Places};
-ghost use Rattle.mt_insert.specs.Splitting.{last_of, IsUnsplit, IsAmong, HoldsSplits, IsAtSplitMove, IsAtSplitPrev, IsAtLockParent, IsAtInsertChild, IsAtInteriorSplit, IsAtReparent, IsAtRootGrow, IsAtUnlockAll, KeptSplit};
-ghost use Rattle.mt_insert.specs.SplitMoves.{walk_at, Starts, HasOneMore, after_parting, for_parent, with_parent, moved_on, after_reparent, with_named_parent, with_named_previous, Returns};
+ghost use Rattle.mt_insert.specs.Splitting.{last_of, IsUnsplit, IsAmong, HoldsSplits, IsAtSplitMove, IsAtSplitPrev, IsAtLockParent, IsAtInsertChild, IsAtInteriorSplit, IsAtReparent, IsAtRootGrow, IsAtUnlockAll, KeptSplit, MayReturnBoth};
+ghost use Rattle.mt_insert.specs.SplitMoves.{walk_at, Starts, HasOneMore, after_parting, for_parent, with_parent, moved_on, after_reparent, with_named_parent, with_named_previous, given_back, Returns};
 
 use crate::phases::{new_entry, push_write, unlock};
 use mt_arena::Arena;
@@ -349,6 +349,8 @@ pub fn split_interior(
     arena.facts();
     let Halves { left, right } = last(splits);
     let parent = above(splits);
+    // For the proof: an interior node has no next one.
+    let _ = arena.interior(parent);
     splits.halves.reserve(1)?;
     let half = arena.split_interior(parent, left, right, operation)?;
     splits.halves.push_reserved(Halves {
@@ -423,14 +425,53 @@ pub fn unlock_all(arena: &mut Arena, walk: &mut Walk, splits: &mut Splits, opera
     ensures nothing { HoldsSplits arena.old operation splits.old → HoldsNothing arena.new operation }
 {
     arena.facts();
-    if let Some(above) = splits.above.take() {
-        arena.unlock(above, operation);
-    }
-    for halves in &splits.halves {
-        arena.unlock(halves.left, operation);
-        arena.unlock(halves.right, operation);
-    }
+    unlock_above(arena, splits, operation);
+    unlock_halves(arena, splits, operation);
     splits.halves.clear();
     splits.moved = 0;
     walk.phase = Phase::Done;
+}
+
+// Gives the lock of the node above the halves back, where the operation holds one.
+fn unlock_above(arena: &mut Arena, splits: &mut Splits, operation: usize)
+    requires kept { IsAtUnlockAll arena.old operation splits.old }
+    requires room { (k : ℕ) → splits.old.above ≡ Some k → CanUnlock (at arena.old k).version }
+    ensures is { (k : ℕ) → splits.old.above ≡ Some k → arena.new ≡ given_back arena.old k }
+    ensures none { splits.old.above ≡ None → arena.new ≡ arena.old }
+    ensures splits { splits.new ≡ record splits.old { above = None } }
+    ensures step { Guarantee operation arena.old arena.new }
+    ensures contents { content_of arena.new ≡ content_of arena.old }
+{
+    if let Some(above) = splits.above.take() {
+        arena.unlock(above, operation);
+    }
+}
+
+// Gives the locks of the halves of all splits back.
+fn unlock_halves(arena: &mut Arena, splits: &Splits, operation: usize)
+    requires kept { IsAtUnlockAll arena.old operation splits.now }
+    requires none { splits.now.above ≡ None }
+    requires room { (k : ℕ) → IsAmong splits.now k → CanUnlock (at arena.old k).version }
+    ensures is { Returns arena.old arena.new splits.now }
+    ensures step { Guarantee operation arena.old arena.new }
+    ensures contents { content_of arena.new ≡ content_of arena.old }
+{
+    arena.facts();
+    for halves in splits.halves.as_slice() {
+        unlock_both(arena, *halves, operation);
+    }
+}
+
+// Gives the locks of a node and its right half back.
+fn unlock_both(arena: &mut Arena, halves: Halves, operation: usize)
+    requires kept { (level : ℕ) × MayReturnBoth arena.old operation level halves }
+    requires left_room { CanUnlock (at arena.old halves.left).version }
+    requires right_room { CanUnlock (at arena.old halves.right).version }
+    ensures is { arena.new ≡ given_back (given_back arena.old halves.left) halves.right }
+    ensures step { Guarantee operation arena.old arena.new }
+    ensures contents { content_of arena.new ≡ content_of arena.old }
+{
+    arena.facts();
+    arena.unlock(halves.left, operation);
+    arena.unlock(halves.right, operation);
 }
