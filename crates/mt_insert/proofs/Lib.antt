@@ -15,3 +15,4 @@ pub mod GrowingRoots
 pub mod Unlocking
 pub mod Behind
 pub mod LockingParents
+pub mod Reparenting
