@@ -7,6 +7,8 @@
 #[cfg(test)]
 mod growth;
 #[cfg(test)]
+mod meetings;
+#[cfg(test)]
 mod puts;
 #[cfg(test)]
 mod split;
@@ -14,3 +16,5 @@ mod split;
 mod stores;
 #[cfg(test)]
 mod story;
+#[cfg(test)]
+mod tales;

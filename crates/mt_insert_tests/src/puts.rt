@@ -11,7 +11,7 @@ ghost use Rattle.mt_insert.specs.Splitting.{IsUnsplit, IsAtSplitMove};
 ghost use Rattle.mt_insert_tests.specs.Ways.{IsComing};
 
 use crate::split::{split_up, start};
-use crate::stores::{Placed, Store, assert_may_count, assert_may_write};
+use crate::stores::{Placed, Store, assert_may_count, assert_may_write, key_of, put_of};
 use mt_arena::Arena;
 use mt_border::laws::suffix_fits_mark;
 use mt_border::{Find, FoundKind, Held};
@@ -65,8 +65,8 @@ pub fn walk_down(rt: &impl Abort, arena: &Arena, key: &StoredKey) -> Walk
     panic!(rt; "the way down has no end")
 }
 
-/// The stamp of a key's pair, and the first byte of its row.
-pub fn pair_of(rt: &impl Abort, arena: &Arena, key: &StoredKey) -> Option<(u64, u8)> {
+// The stamp of a key's pair, and the first byte of its row.
+fn pair_of(rt: &impl Abort, arena: &Arena, key: &StoredKey) -> Option<(u64, u8)> {
     suffix_fits_mark();
     let walk = walk_down(rt, arena, key);
     let border = arena.border(walk.place.node);
@@ -81,6 +81,11 @@ pub fn pair_of(rt: &impl Abort, arena: &Arena, key: &StoredKey) -> Option<(u64, 
         }
         _ => None,
     }
+}
+
+/// The stamp of the pair of a key of this name, and the first byte of its row.
+pub fn pair_named(rt: &impl Abort, alloc: Global, arena: &Arena, name: &[u8]) -> Option<(u64, u8)> {
+    pair_of(rt, arena, &key_of(rt, alloc, name))
 }
 
 /// Takes the lock of the border node of a key. Who has come to a border node is still there.
@@ -198,9 +203,9 @@ pub fn begin(
     (walk, prepared)
 }
 
-/// Makes a whole put, placed by the step of this number. These are the phases of its split, from the
-/// one on that comes after the keys are parted; none where the node has the key or room for it.
-pub fn put(
+// Makes a whole put, placed by the step of this number. These are the phases of its split, from the
+// one on that comes after the keys are parted; none where the node has the key or room for it.
+fn put(
     rt: &impl Abort,
     alloc: Global,
     on: &mut Store,
@@ -226,4 +231,18 @@ pub fn put(
     assert!(rt; phases.is_empty());
     give_back(rt, &mut on.arena, &mut walk);
     placed
+}
+
+/// Puts this value under a key of this name.
+pub fn put_named(
+    rt: &impl Abort,
+    alloc: Global,
+    on: &mut Store,
+    name: &[u8],
+    value: &[u8],
+    step: u64,
+    phases: &[Phase],
+) -> Placed {
+    let task = put_of(rt, alloc, name, value);
+    put(rt, alloc, on, &task, step, phases)
 }

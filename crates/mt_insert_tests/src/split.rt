@@ -1,7 +1,7 @@
 //! The split of a put whose border node is full: the start, the parting of the keys, the climb from
 //! level to level, and all locks given back.
 
-ghost use Rattle.std.specs.Prelude.{◌≡◌, ◌<◌, ℕ, IfNone, length};
+ghost use Rattle.std.specs.Prelude.{◌≡◌, ℕ, IfNone, Some};
 ghost use Rattle.mt_version.specs.Changes.{CanUnlock};
 ghost use Rattle.mt_rows.specs.Rows.{Bytes};
 ghost use Rattle.mt_arena.specs.Accesses.{at};
@@ -9,7 +9,7 @@ ghost use Rattle.mt_operation.specs.declared.walk.Walk.{Walk as AnyWalk};
 ghost use Rattle.mt_descent.specs.Kept.{IsAtBorder};
 ghost use Rattle.mt_insert.specs.Puts.{IsPut};
 ghost use Rattle.mt_insert.specs.Kept.{IsAtSplitStart};
-ghost use Rattle.mt_insert.specs.Splitting.{IsUnsplit, IsAmong, IsAtSplitMove, IsAtUnlockAll, KeptSplit};
+ghost use Rattle.mt_insert.specs.Splitting.{IsUnsplit, IsHalf, IsAtSplitMove, IsAtUnlockAll, KeptSplit};
 
 use crate::stores::{Placed, Store, assert_may_count, assert_may_write};
 use mt_arena::Arena;
@@ -40,7 +40,10 @@ pub fn start(
     kept_stays();
     assert!(rt; on.tape.reserved() > 0);
     let Store { arena, tape, .. } = on;
-    split_start(arena, tape, &task.key, walk, splits, operation).expect(rt, "memory");
+    match split_start(arena, tape, &task.key, walk, splits, operation) {
+        Ok(()) => {}
+        Err(_) => panic!(rt; "out of memory"),
+    }
 }
 
 /// Parts the keys and the new pair, by the step of this number, where the quota has room for it.
@@ -119,17 +122,24 @@ pub fn climb(
     }
 }
 
-// The versions of all nodes of the splits may count one more change.
-fn assert_may_count_all(rt: &impl Abort, arena: &Arena, splits: &Splits)
+// The versions of the halves may count one more change.
+fn assert_halves_may_count(rt: &impl Abort, arena: &Arena, splits: &Splits)
     requires { IsAtUnlockAll arena.now 5 splits.now }
-    ensures { (k : ℕ) → IsAmong splits.now k → CanUnlock (at arena.now k).version }
+    ensures { (k : ℕ) → IsHalf splits.now.halves.items k → CanUnlock (at arena.now k).version }
+{
+    for halves in splits.halves.as_slice() {
+        assert_may_count(rt, arena, halves.left);
+        assert_may_count(rt, arena, halves.right);
+    }
+}
+
+// And so that of the node above them.
+fn assert_above_may_count(rt: &impl Abort, arena: &Arena, splits: &Splits)
+    requires { IsAtUnlockAll arena.now 5 splits.now }
+    ensures { (k : ℕ) → splits.now.above ≡ Some k → CanUnlock (at arena.now k).version }
 {
     if let Some(above) = splits.above {
         assert_may_count(rt, arena, above);
-    }
-    for halves in &splits.halves {
-        assert_may_count(rt, arena, halves.left);
-        assert_may_count(rt, arena, halves.right);
     }
 }
 
@@ -141,7 +151,8 @@ fn give_back(rt: &impl Abort, arena: &mut Arena, walk: &mut Walk, splits: &mut S
         Phase::Unlock => {}
         _ => panic!(rt; "the climb goes on"),
     }
-    assert_may_count_all(rt, arena, splits);
+    assert_halves_may_count(rt, arena, splits);
+    assert_above_may_count(rt, arena, splits);
     unlock_all(arena, walk, splits, 5);
     assert!(rt; walk.phase == Phase::Done);
     assert!(rt; splits.halves.is_empty() && splits.above.is_none());

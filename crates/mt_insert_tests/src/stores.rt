@@ -17,7 +17,7 @@ use std::alloc::Global;
 use std::process::Abort;
 
 /// What a put did.
-#[derive(Clone, Copy, PartialEq, Eq, Debug)]
+#[derive(Clone, Copy, PartialEq, Eq)]
 pub enum Placed {
     New,
     Replaced,

@@ -1,8 +1,8 @@
 //! One story of an index of one border node and a tenant of one pair: a put places the pair, another
 //! one writes over it, and a third one finds the quota full.
 
-use crate::puts::{pair_of, put};
-use crate::stores::{Placed, Store, empty_store, key_of, put_of};
+use crate::puts::{pair_named, put_named};
+use crate::stores::{Placed, Store};
 use std::alloc::Global;
 use std::process::Abort;
 
@@ -46,20 +46,16 @@ const STORY: [Line; 3] = [
 
 // Makes one put of the story.
 fn tell(rt: &impl Abort, alloc: Global, on: &mut Store, line: &Line) {
-    let task = put_of(rt, alloc, line.name, line.value);
-    let placed = put(rt, alloc, on, &task, line.step, &[]);
+    let placed = put_named(rt, alloc, on, line.name, line.value, line.step, &[]);
     assert!(rt; placed == line.placed);
-    let pair = pair_of(rt, &on.arena, &key_of(rt, alloc, b"k"));
-    assert!(rt; pair == Some(line.pair));
+    assert!(rt; pair_named(rt, alloc, &on.arena, b"k") == Some(line.pair));
     assert!(rt; on.tape.len() == line.writes && on.tape.reserved() == 0);
     assert!(rt; on.tenants.count(7) == Ok(1));
 }
 
-#[test]
-fn a_put_places_a_pair_writes_over_it_and_finds_the_quota_full(rt: HostRuntime) {
-    let alloc = rt.alloc();
-    let mut on = empty_store(&rt, alloc, 1);
+/// Tells the story on an empty store, in which tenant 7 may have one pair.
+pub fn tell_all(rt: &impl Abort, alloc: Global, on: &mut Store) {
     for line in &STORY {
-        tell(&rt, alloc, &mut on, line);
+        tell(rt, alloc, on, line);
     }
 }

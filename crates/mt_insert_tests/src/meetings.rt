@@ -1,0 +1,107 @@
+//! Two operations in an index whose root has two full children: one comes to a border node that the
+//! other splits, or to a parent that the other holds.
+
+ghost use Rattle.mt_descent.specs.Kept.{IsAtBorder};
+ghost use Rattle.mt_insert.specs.Splitting.{IsUnsplit, KeptSplit};
+
+use crate::growth::{ROOT_SPLIT, put_byte};
+use crate::puts::{begin, walk_down};
+use crate::split::{climb, climb_step, part};
+use crate::stores::{Placed, Store, key_of, put_of};
+use mt_arena::Arena;
+use mt_descent::lock;
+use mt_operation::{Phase, Splits, Walk};
+use mt_slices::StoredKey;
+use std::alloc::Global;
+use std::process::Abort;
+
+// The first keys of an index whose root has two children, both full.
+const TWO_FULL: [u8; 30] = [
+    0, 2, 4, 6, 8, 10, 12, 14, 16, 18, 20, 22, 24, 26, 28, 30, 1, 3, 5, 7, 9, 11, 13, 17, 19, 21,
+    23, 25, 27, 29,
+];
+
+// Puts the keys of two full border nodes.
+fn fill_two(rt: &impl Abort, alloc: Global, on: &mut Store) {
+    let mut count = 0;
+    for byte in TWO_FULL {
+        count += 1;
+        let phases: &[Phase] = if count == 16 { &ROOT_SPLIT } else { &[] };
+        let placed = put_byte(rt, alloc, on, byte, phases);
+        assert!(rt; placed == Placed::New);
+    }
+}
+
+// Operation 6 has come to a node that operation 5 holds.
+fn assert_held(rt: &impl Abort, arena: &mut Arena, key: &StoredKey, walk: &mut Walk)
+    requires { IsAtBorder arena.old key.now walk.old }
+{
+    assert!(rt; lock(arena, key, walk, 6) == Some(5));
+    assert!(rt; walk.phase == Phase::Lock);
+}
+
+// Splits the full border node of a key, up to its climb.
+fn climb_for(
+    rt: &impl Abort,
+    alloc: Global,
+    on: &mut Store,
+    byte: u8,
+    splits: &mut Splits,
+    operation: usize,
+) -> Walk
+    requires { IsUnsplit splits.old }
+    ensures { KeptSplit result.phase on.new.arena operation splits.new }
+{
+    let task = put_of(rt, alloc, &[byte], &[byte]);
+    let (mut walk, prepared) = begin(rt, alloc, on, &task, splits, operation);
+    let step = on.tape.len() as u64 + 1;
+    part(rt, on, &task, &mut walk, splits, prepared, step, operation);
+    walk
+}
+
+// Operation 6 has come to a border node when operation 5 locks it and begins to split it.
+fn come_to_a_split(rt: &impl Abort, alloc: Global, on: &mut Store, splits: &mut Splits)
+    requires { IsUnsplit splits.old }
+{
+    let key = key_of(rt, alloc, &[9]);
+    let mut walk = walk_down(rt, &on.arena, &key);
+    let task = put_of(rt, alloc, &[15], &[15]);
+    begin(rt, alloc, on, &task, splits, 5);
+    assert_held(rt, &mut on.arena, &key, &mut walk);
+}
+
+/// A node that is split has the lock of its operation.
+pub fn meet_at_a_node(rt: &impl Abort, alloc: Global, on: &mut Store) {
+    fill_two(rt, alloc, on);
+    let mut splits = Splits::new(alloc);
+    come_to_a_split(rt, alloc, on, &mut splits);
+}
+
+// Operation 5 holds the parent of two border nodes when operation 6 has split the other one.
+fn come_to_a_parent(
+    rt: &impl Abort,
+    alloc: Global,
+    on: &mut Store,
+    splits: &mut Splits,
+    others: &mut Splits,
+)
+    requires first { IsUnsplit splits.old }
+    requires second { IsUnsplit others.old }
+{
+    let mut walk = climb_for(rt, alloc, on, 15, splits, 5);
+    let phases = [Phase::SplitPrev, Phase::LockParent];
+    climb(rt, &mut on.arena, &mut walk, splits, &phases, 5);
+    assert!(rt; walk.phase == Phase::InsertChild);
+    let mut other = climb_for(rt, alloc, on, 31, others, 6);
+    let holder = climb_step(rt, &mut on.arena, &mut other, others, 6);
+    assert!(rt; holder == Some(5) && other.phase == Phase::LockParent);
+    assert!(rt; others.above.is_none());
+}
+
+/// A parent that one split has locked is in the way of another split.
+pub fn meet_at_a_parent(rt: &impl Abort, alloc: Global, on: &mut Store) {
+    fill_two(rt, alloc, on);
+    let mut splits = Splits::new(alloc);
+    let mut others = Splits::new(alloc);
+    come_to_a_parent(rt, alloc, on, &mut splits, &mut others);
+}
