@@ -2,7 +2,7 @@
 //! their parents, and these are split in turn.
 
 use crate::puts::{pair_named, put_named};
-use crate::stores::{Placed, Store};
+use crate::stores::{Placed, Store, next_step};
 use mt_arena::Arena;
 use mt_operation::Phase;
 use std::alloc::Global;
@@ -78,7 +78,7 @@ fn phases_of(count: usize) -> &'static [Phase] {
     }
 }
 
-/// Puts the key of one byte, and a row of that byte. Its step is the number of writes with it.
+/// Puts the key of one byte, and a row of that byte. Its step is the one behind the last write.
 pub fn put_byte(
     rt: &impl Abort,
     alloc: Global,
@@ -86,7 +86,7 @@ pub fn put_byte(
     byte: u8,
     phases: &[Phase],
 ) -> Placed {
-    let step = on.tape.len() as u64 + 1;
+    let step = next_step(rt, &on.tape);
     put_named(rt, alloc, on, &[byte], &[byte], step, phases)
 }
 

@@ -7,7 +7,7 @@ ghost use Rattle.mt_insert.specs.Splitting.{IsUnsplit, KeptSplit};
 use crate::growth::{ROOT_SPLIT, put_byte};
 use crate::puts::{begin, walk_down};
 use crate::split::{climb, climb_step, part};
-use crate::stores::{Placed, Store, key_of, put_of};
+use crate::stores::{Placed, Store, key_of, next_step, put_of};
 use mt_arena::Arena;
 use mt_descent::lock;
 use mt_operation::{Phase, Splits, Walk};
@@ -23,10 +23,12 @@ const TWO_FULL: [u8; 30] = [
 
 // Puts the keys of two full border nodes.
 fn fill_two(rt: &impl Abort, alloc: Global, on: &mut Store) {
-    let mut count = 0;
     for byte in TWO_FULL {
-        count += 1;
-        let phases: &[Phase] = if count == 16 { &ROOT_SPLIT } else { &[] };
+        let phases: &[Phase] = if on.tape.len() == 15 {
+            &ROOT_SPLIT
+        } else {
+            &[]
+        };
         let placed = put_byte(rt, alloc, on, byte, phases);
         assert!(rt; placed == Placed::New);
     }
@@ -54,7 +56,7 @@ fn climb_for(
 {
     let task = put_of(rt, alloc, &[byte], &[byte]);
     let (mut walk, prepared) = begin(rt, alloc, on, &task, splits, operation);
-    let step = on.tape.len() as u64 + 1;
+    let step = next_step(rt, &on.tape);
     part(rt, on, &task, &mut walk, splits, prepared, step, operation);
     walk
 }

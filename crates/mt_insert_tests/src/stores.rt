@@ -73,6 +73,11 @@ pub fn key_of(rt: &impl Abort, alloc: Global, name: &[u8]) -> StoredKey
     StoredKey::new(alloc, 7, name).expect(rt, "memory")
 }
 
+/// The step behind that of the last write.
+pub fn next_step(rt: &impl Abort, tape: &Tape) -> u64 {
+    tape.last_write().checked_add(1).expect(rt, "a step")
+}
+
 /// The step of this number may place a write.
 pub fn assert_may_write(rt: &impl Abort, tape: &Tape, step: u64)
     ensures reserved { 0 < tape.now.reserved }
