@@ -1,5 +1,5 @@
 -- That each half of the splits may count one more change, once all were asked, for the tests that give their locks back.
-use Rattle.std.proofs.Common.{◌≡◌, ℕ, ◌+◌, ◌<◌, List, length, subst, inl, inr, arith}
+use Rattle.std.proofs.Common.{ℕ, ◌+◌, ◌<◌, List, length, subst, inl, inr, arith}
 use Rattle.std.proofs.lemmas.Bool.{cases_eq}
 use Rattle.mt_version.specs.Changes.{CanUnlock}
 use Rattle.mt_arena.specs.Arena.{ArenaView}
