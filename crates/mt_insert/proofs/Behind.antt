@@ -1,6 +1,6 @@
 -- What is kept of a split as a node names another one before it or another parent, and what is kept once the node behind names the right
 -- half: for `split_prev`, `lock_parent` and `reparent`.
-use Rattle.std.proofs.Common.{◌≡◌, ◌≢◌, ℕ, ◌-◌, ◌<◌, ◌≤◌, List, length, get_or, Option, Some, None, false, set, refl, sym, ap, subst, ◌∙◌, inl, inr, arith}
+use Rattle.std.proofs.Common.{◌≡◌, ◌≢◌, ℕ, ◌-◌, ◌<◌, ◌≤◌, List, length, Option, Some, None, false, set, refl, sym, ap, subst, ◌∙◌, inl, inr, arith}
 use Rattle.std.specs.List.{All}
 use Rattle.std.proofs.lemmas.Bool.{cases_eq}
 use Rattle.std.proofs.lemmas.Option.{same_Some}
@@ -21,7 +21,7 @@ use Rattle.mt_arena.proofs.Lags.{follows_in, under_in}
 use Rattle.mt_operation.specs.declared.splits.Splits.{Splits}
 use Rattle.mt_insert.specs.Splitting.{last_of, HoldsSplits, MayReturn, IsSplitting, AreParted, NothingLags, HasSplits, IsAtSplitPrev, IsAtLockParent}
 use Rattle.mt_insert.specs.SplitMoves.{with_named_previous}
-use Rattle.mt_insert.proofs.Returns.{StaysButNames, NamesNoMoreOf, TreesStand, trees_same, held_still, open_still, all_returnable_still}
+use Rattle.mt_insert.proofs.Returns.{child_stays, StaysButNames, NamesNoMoreOf, TreesStand, trees_same, held_still, open_still, all_returnable_still}
 
 -- a node that stays as it is but for the names of the one before it and of its parent, and has a parent still where it had one
 pub record KeepsButNames (x y : NodeView) : Type 0 where
@@ -47,6 +47,10 @@ stays_so x y k = record {
   slots = ap (λ (n : NodeView). n.slots) k.is;
   parented = k.parented;
 }
+
+-- its children stay
+pub keeps_child : (x y : NodeView) (k : ℕ) → KeepsButNames x y → HasChild x k → HasChild y k
+keeps_child x y k keeps c = let stays = stays_so x y keeps in child_stays x y k stays.children stays.deleted c
 
 -- each node keeps all but its names where one does
 pub keeps_each : (xs : List NodeView) (b : ℕ) (y : NodeView) → b < length xs → KeepsButNames (node_at xs b) y → (k : ℕ) → KeepsButNames (node_at xs k) (node_at (set xs b y) k)
@@ -167,9 +171,6 @@ module _ (v : ArenaView) (op behind : ℕ) (s : Splits) (arena : IsArena v.nodes
   keeps : (k : ℕ) → KeepsButNames (at v k) (at u k)
   keeps = keeps_each v.nodes behind y behind_there (record { is = refl; parented = λ none. none })
 
-  no_more : (k : ℕ) → k ≢ q → NamesNoMoreOf v.nodes u.nodes k
-  no_more k other = names_no_more v.nodes behind k y behind_there (λ live. live) (λ e. absurd (other (sym (same_Some _ _ e)))) (λ e. e)
-
   more : length v.nodes ≤ length u.nodes
   more = omega (arith, length-set v.nodes behind y)
 
@@ -182,17 +183,6 @@ module _ (v : ArenaView) (op behind : ℕ) (s : Splits) (arena : IsArena v.nodes
   differ : l ≢ q
   differ = kept.splits.parted.differ
 
-  -- a child is one still
-  child_stays : (i k : ℕ) → HasChild (at v i) k → HasChild (at u i) k
-  child_stays i k c =
-      let stays = stays_so (at v i) (at u i) (keeps i) in
-      record {
-        live = stays.deleted ∙ c.live;
-        place = c.place;
-        in_range = subst (λ (cs : List ℕ). c.place < length cs) (sym stays.children) c.in_range;
-        is = ap (λ (cs : List ℕ). get_or cs c.place 0) stays.children ∙ c.is;
-      }
-
   -- once it names the right half, the right half alone names the left one
   lags_left : NothingLags u.nodes l
   lags_left = record {
@@ -203,7 +193,7 @@ module _ (v : ArenaView) (op behind : ℕ) (s : Splits) (arena : IsArena v.nodes
         | inr back ↦ absurd (old.0 (same_Some _ _ (sym back ∙ next)))
       ]
     ];
-    children = λ k is. child_stays l k (kept.children k (under_before l k is));
+    children = λ k is. keeps_child (at v l) (at u l) k (keeps l) (kept.children k (under_before l k is));
   }
 
   -- and it alone names the right half
@@ -213,15 +203,17 @@ module _ (v : ArenaView) (op behind : ℕ) (s : Splits) (arena : IsArena v.nodes
       | inl own ↦ ap (λ (n : NodeView). n.next) (keeps q).is ∙ next ∙ ap (λ (c : ℕ). Some c) (sym own.0)
       | inr old ↦ ap (λ (n : NodeView). n.next) (keeps q).is ∙ kept.right.followers k old.1
     ];
-    children = λ k is. child_stays q k (kept.right.children k (under_before q k is));
+    children = λ k is. keeps_child (at v q) (at u q) k (keeps q) (kept.right.children k (under_before q k is));
   }
 
+  -- which has no parent yet
   orphan_still : (at u q).parent ≡ None
   orphan_still = elim (cases_eq q behind) [
     | inl same ↦ ap (λ (k : ℕ). (at u k).parent) same ∙ ap (λ (n : NodeView). n.parent) (here v.nodes behind y behind_there) ∙ ap (λ (k : ℕ). (at v k).parent) (sym same) ∙ kept.orphan
     | inr other ↦ ap (λ (n : NodeView). n.parent) (there v.nodes behind q y other) ∙ kept.orphan
   ]
 
+  -- so the parent's lock comes next
   pub behind_kept : IsAtLockParent u op s
   behind_kept = record {
     named = record {

@@ -32,6 +32,7 @@ pub parent_made : (v mid u : ArenaView) (p op : ℕ) (last halves : Halves) → 
 parent_made v mid u p op last halves same first second =
     second ∙ ap (λ (m : ArenaView). with_node m halves.right (pointed (at m halves.right) (at m halves.right).previous (Some p))) first ∙ ap (λ (h : Halves). with_parent v p h.right op) same
 
+-- the parent that the left half names
 module _ (v : ArenaView) (op p : ℕ) (s : Splits) (arena : IsArena v.nodes v.trees) (kept : IsAtLockParent v op s) (parent : (at v (last_of s).left).parent ≡ Some p) where
   abbrev l : ℕ
   l = (last_of s).left
@@ -55,7 +56,7 @@ module _ (v : ArenaView) (op p : ℕ) (s : Splits) (arena : IsArena v.nodes v.tr
   no_child : (k : ℕ) → k < length v.nodes → (at v k).level < length s.halves.items → ¬ HasChild (at v k) l
   no_child k within low c = let below = child_below v.nodes k l arena.nodes within left_there c in omega (arith, below.level, kept.named.splits.parted.left.level_is, kept.named.splits.some, low)
 
-  -- the operation does not hold the parent
+  -- the operation does not hold the parent: all that it holds are halves
   not_held : (at v p).holder ≡ Some op → HoldsSplits v op s → ⊥
   not_held holder holds = elim (holds p parent_there holder) [
     | inr above ↦ absurd (let none = kept.above in cc)
@@ -79,6 +80,7 @@ module _ (v : ArenaView) (op p : ℕ) (s : Splits) (arena : IsArena v.nodes v.tr
     ]
   ]
 
+  -- so it is another one that holds it
   pub another_holds : (holder : ℕ) → (at v p).holder ≡ Some holder → HoldsSplits v op s → holder ≢ op
   another_holds holder is holds mine = not_held (is ∙ ap (λ (o : ℕ). Some o) mine) holds
 
@@ -97,9 +99,10 @@ module _ (v : ArenaView) (op p : ℕ) (s : Splits) (arena : IsArena v.nodes v.tr
     parent_level : (at v p).level ≡ length s.halves.items
     parent_level = omega (arith, below.level, kept.named.splits.parted.left.level_is, kept.named.splits.some)
 
-    pub parent_interior : 0 < (at v p).level
+    parent_interior : 0 < (at v p).level
     parent_interior = omega (arith, parent_level, kept.named.splits.some)
 
+    -- nobody else is making its tree
     pub parent_open : IsOpen v p op
     parent_open by making = kept.named.splits.parted.mine by (ap (λ t. (tree_at v.trees t).standing) below.tree ∙ making)
 

@@ -16,8 +16,9 @@ use Rattle.mt_operation.specs.declared.splits.Splits.{Splits}
 use Rattle.mt_insert.specs.Splitting.{last_of, HoldsSplits, NothingLags, IsChildFrom, IsAtReparent, IsAtLockParent}
 use Rattle.mt_insert.specs.SplitMoves.{with_named_parent}
 use Rattle.mt_insert.proofs.Returns.{NamesNoMoreOf, trees_same}
-use Rattle.mt_insert.proofs.Behind.{KeepsButNames, stays_so, keeps_each, names_no_more, splits_still}
+use Rattle.mt_insert.proofs.Behind.{KeepsButNames, keeps_child, keeps_each, names_no_more, splits_still}
 
+-- the child whose turn it is
 module _ (v : ArenaView) (op : ℕ) (s : Splits) (arena : IsArena v.nodes v.trees) (kept : IsAtReparent v op s) where
   abbrev l : ℕ
   l = (last_of s).left
@@ -25,7 +26,6 @@ module _ (v : ArenaView) (op : ℕ) (s : Splits) (arena : IsArena v.nodes v.tree
   abbrev q : ℕ
   q = (last_of s).right
 
-  -- the child
   abbrev b : ℕ
   b = get_or (at v q).children s.moved 0
 
@@ -88,17 +88,6 @@ module _ (v : ArenaView) (op : ℕ) (s : Splits) (arena : IsArena v.nodes v.tree
     | inr old ↦ old.1
   ]
 
-  -- a child is one still
-  child_stays : (i k : ℕ) → HasChild (at v i) k → HasChild (at u i) k
-  child_stays i k c =
-      let stays = stays_so (at v i) (at u i) (keeps i) in
-      record {
-        live = stays.deleted ∙ c.live;
-        place = c.place;
-        in_range = subst (λ (cs : List ℕ). c.place < length cs) (sym stays.children) c.in_range;
-        is = ap (λ (cs : List ℕ). get_or cs c.place 0) stays.children ∙ c.is;
-      }
-
   right_same : at u q ≡ at v q
   right_same = there v.nodes b q y not_right
 
@@ -107,8 +96,8 @@ module _ (v : ArenaView) (op : ℕ) (s : Splits) (arena : IsArena v.nodes v.tree
   lags_right = record {
     followers = λ k is. ap (λ (n : NodeView). n.next) (keeps q).is ∙ kept.right.followers k (follows_before q k is);
     children = λ k is. elim (under_in v.nodes q k b y child_there is) [
-      | inl own ↦ child_stays q k (subst (λ (j : ℕ). HasChild (at v q) j) (sym own.0) child)
-      | inr old ↦ child_stays q k (kept.right.children k old.1)
+      | inl own ↦ keeps_child (at v q) (at u q) k (keeps q) (subst (λ (j : ℕ). HasChild (at v q) j) (sym own.0) child)
+      | inr old ↦ keeps_child (at v q) (at u q) k (keeps q) (kept.right.children k old.1)
     ];
   }
 
@@ -120,7 +109,7 @@ module _ (v : ArenaView) (op : ℕ) (s : Splits) (arena : IsArena v.nodes v.tree
   left_children k is = elim (under_in v.nodes l k b y child_there is) [
     | inl own ↦ absurd (kept.splits.parted.differ (sym (same_Some _ _ own.1)))
     | inr old ↦ elim (kept.children k old.1) [
-      | inr own ↦ inr (child_stays l k own)
+      | inr own ↦ inr (keeps_child (at v l) (at u l) k (keeps l) own)
       | inl from ↦
           let later : from.place ≢ s.moved = λ same. absurd (old.0 (sym from.is ∙ ap (λ (i : ℕ). get_or (at v q).children i 0) same)) in
           inl (record { place = from.place; since = omega (arith, later, from.since); in_range = from.in_range; is = from.is })

@@ -384,6 +384,7 @@ pub fn reparent(arena: &mut Arena, walk: &mut Walk, splits: &mut Splits, operati
         walk.phase = Phase::LockParent;
     } else {
         splits.moved += 1;
+        walk.phase = Phase::Reparent;
     }
 }
 

@@ -7,7 +7,7 @@ use Rattle.mt_arena.specs.Accesses.{at, with_node}
 use Rattle.mt_operation.specs.declared.splits.Halves.{Halves}
 use Rattle.mt_insert.specs.Splitting.{last_of}
 use Rattle.mt_insert.specs.SplitMoves.{with_named_parent}
-use Rattle.mt_insert.proofs.Reparenting.{child_no_root, child_range, child_knows, child_open, last_kept, child_holds}
+use Rattle.mt_insert.proofs.Reparenting.{child_no_root, child_range, child_knows, child_open, last_kept, more_kept, child_holds}
 use Rattle.mt_insert.proofs.splits.reparent.Goals as goal
 
 -- the list that was read is that of the right half's children
@@ -52,6 +52,12 @@ returns-then-splits-count-clause-holds c =
     let of = listed c.args.arena.now (last_of c.args.splits.now) c.last-right.result _ c.children-children.result.now c.last-right.ensures c.interior.ensures c.children-children.ensures.value in
     rw (made c.args.arena.now c.set_parent.new.self (last_of c.args.splits.now) c.last-right.result c.children-children.result.now c.args.splits.now.moved c.last-right.ensures of c.set_parent.ensures.is)
     (child_holds c.args.arena.now c.args.operation c.args.splits.now c.facts.ensures.arena c.requires.kept 0)
+
+pub returns-else-splits-count-clause-kept : goal.returns-else-splits-count-clause-kept
+returns-else-splits-count-clause-kept c =
+    let of = listed c.args.arena.now (last_of c.args.splits.now) c.last-right.result _ c.children-children.result.now c.last-right.ensures c.interior.ensures c.children-children.ensures.value in
+    rw (made c.args.arena.now c.set_parent.new.self (last_of c.args.splits.now) c.last-right.result c.children-children.result.now c.args.splits.now.moved c.last-right.ensures of c.set_parent.ensures.is)
+    (more_kept c.args.arena.now c.args.operation c.args.splits.now c.facts.ensures.arena c.requires.kept (λ same. c.if-splits-count.false (same ∙ ap (λ (cs : List ℕ). length cs) (sym of))))
 
 pub returns-else-splits-count-clause-holds : goal.returns-else-splits-count-clause-holds
 returns-else-splits-count-clause-holds c =
