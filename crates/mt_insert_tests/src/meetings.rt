@@ -1,12 +1,13 @@
 //! Two operations in an index whose root has two full children: one comes to a border node that the
 //! other splits, or to a parent that the other holds.
 
+ghost use Rattle.std.specs.Prelude.{◌≡◌};
 ghost use Rattle.mt_descent.specs.Kept.{IsAtBorder};
 ghost use Rattle.mt_insert.specs.Splitting.{IsUnsplit, KeptSplit};
 
 use crate::growth::{ROOT_SPLIT, put_byte};
-use crate::puts::{begin, walk_down};
-use crate::split::{climb, climb_step, part};
+use crate::puts::{begin, lock_border, pair_named, walk_down};
+use crate::split::{climb, climb_step, give_back, part};
 use crate::stores::{Placed, Store, key_of, next_step, put_of};
 use mt_arena::Arena;
 use mt_descent::lock;
@@ -21,6 +22,9 @@ const TWO_FULL: [u8; 30] = [
     23, 25, 27, 29,
 ];
 
+// How a border node is split that has another one behind it.
+const BEHIND_SPLIT: [Phase; 3] = [Phase::SplitPrev, Phase::LockParent, Phase::InsertChild];
+
 // Puts the keys of two full border nodes.
 fn fill_two(rt: &impl Abort, alloc: Global, on: &mut Store) {
     for byte in TWO_FULL {
@@ -34,12 +38,15 @@ fn fill_two(rt: &impl Abort, alloc: Global, on: &mut Store) {
     }
 }
 
-// Operation 6 has come to a node that operation 5 holds.
+// Operation 6 has come to a node that operation 5 holds, and changes nothing.
 fn assert_held(rt: &impl Abort, arena: &mut Arena, key: &StoredKey, walk: &mut Walk)
     requires { IsAtBorder arena.old key.now walk.old }
+    ensures { arena.new ≡ arena.old }
 {
-    assert!(rt; lock(arena, key, walk, 6) == Some(5));
-    assert!(rt; walk.phase == Phase::Lock);
+    match lock(arena, key, walk, 6) {
+        Some(holder) => assert!(rt; holder == 5),
+        None => panic!(rt; "the node is free"),
+    }
 }
 
 // Splits the full border node of a key, up to its climb.
@@ -61,22 +68,29 @@ fn climb_for(
     walk
 }
 
-// Operation 6 has come to a border node when operation 5 locks it and begins to split it.
+// Operation 6 has come to a border node when operation 5 locks it and begins to split it; the split goes
+// on, and the node is free once it is done.
 fn come_to_a_split(rt: &impl Abort, alloc: Global, on: &mut Store, splits: &mut Splits)
     requires { IsUnsplit splits.old }
 {
     let key = key_of(rt, alloc, &[9]);
-    let mut walk = walk_down(rt, &on.arena, &key);
+    let mut coming = walk_down(rt, &on.arena, &key);
     let task = put_of(rt, alloc, &[15], &[15]);
-    begin(rt, alloc, on, &task, splits, 5);
-    assert_held(rt, &mut on.arena, &key, &mut walk);
+    let (mut walk, prepared) = begin(rt, alloc, on, &task, splits, 5);
+    assert_held(rt, &mut on.arena, &key, &mut coming);
+    let step = next_step(rt, &on.tape);
+    part(rt, on, &task, &mut walk, splits, prepared, step, 5);
+    climb(rt, &mut on.arena, &mut walk, splits, &BEHIND_SPLIT, 5);
+    give_back(rt, &mut on.arena, &mut walk, splits);
+    lock_border(rt, &mut on.arena, &key, 6);
 }
 
-/// A node that is split has the lock of its operation.
+/// A node that is split has the lock of its operation, until the split is done.
 pub fn meet_at_a_node(rt: &impl Abort, alloc: Global, on: &mut Store) {
     fill_two(rt, alloc, on);
     let mut splits = Splits::new(alloc);
     come_to_a_split(rt, alloc, on, &mut splits);
+    assert!(rt; pair_named(rt, alloc, &on.arena, &[15]) == Some((31, 15)));
 }
 
 // Operation 5 holds the parent of two border nodes when operation 6 has split the other one.
@@ -91,8 +105,7 @@ fn come_to_a_parent(
     requires second { IsUnsplit others.old }
 {
     let mut walk = climb_for(rt, alloc, on, 15, splits, 5);
-    let phases = [Phase::SplitPrev, Phase::LockParent];
-    climb(rt, &mut on.arena, &mut walk, splits, &phases, 5);
+    climb(rt, &mut on.arena, &mut walk, splits, &BEHIND_SPLIT[..2], 5);
     assert!(rt; walk.phase == Phase::InsertChild);
     let mut other = climb_for(rt, alloc, on, 31, others, 6);
     let holder = climb_step(rt, &mut on.arena, &mut other, others, 6);

@@ -143,8 +143,8 @@ fn assert_above_may_count(rt: &impl Abort, arena: &Arena, splits: &Splits)
     }
 }
 
-// Gives all locks back.
-fn give_back(rt: &impl Abort, arena: &mut Arena, walk: &mut Walk, splits: &mut Splits)
+/// Gives all locks back.
+pub fn give_back(rt: &impl Abort, arena: &mut Arena, walk: &mut Walk, splits: &mut Splits)
     requires { KeptSplit walk.old.phase arena.old 5 splits.old }
 {
     match walk.phase {
