@@ -93,30 +93,29 @@ pub fn meet_at_a_node(rt: &impl Abort, alloc: Global, on: &mut Store) {
     assert!(rt; pair_named(rt, alloc, &on.arena, &[15]) == Some((31, 15)));
 }
 
-// Operation 5 holds the parent of two border nodes when operation 6 has split the other one.
-fn come_to_a_parent(
-    rt: &impl Abort,
-    alloc: Global,
-    on: &mut Store,
-    splits: &mut Splits,
-    others: &mut Splits,
-)
-    requires first { IsUnsplit splits.old }
-    requires second { IsUnsplit others.old }
+// Operation 5 has split a border node, and holds its parent.
+fn hold_parent(rt: &impl Abort, alloc: Global, on: &mut Store, splits: &mut Splits)
+    requires { IsUnsplit splits.old }
 {
     let mut walk = climb_for(rt, alloc, on, 15, splits, 5);
     climb(rt, &mut on.arena, &mut walk, splits, &BEHIND_SPLIT[..2], 5);
     assert!(rt; walk.phase == Phase::InsertChild);
-    let mut other = climb_for(rt, alloc, on, 31, others, 6);
-    let holder = climb_step(rt, &mut on.arena, &mut other, others, 6);
-    assert!(rt; holder == Some(5) && other.phase == Phase::LockParent);
-    assert!(rt; others.above.is_none());
+}
+
+// Operation 6 has split the other child of that parent, and comes to lock it.
+fn come_to_a_parent(rt: &impl Abort, alloc: Global, on: &mut Store, splits: &mut Splits)
+    requires { IsUnsplit splits.old }
+{
+    let mut walk = climb_for(rt, alloc, on, 31, splits, 6);
+    let holder = climb_step(rt, &mut on.arena, &mut walk, splits, 6);
+    assert!(rt; holder == Some(5) && walk.phase == Phase::LockParent);
 }
 
 /// A parent that one split has locked is in the way of another split.
 pub fn meet_at_a_parent(rt: &impl Abort, alloc: Global, on: &mut Store) {
     fill_two(rt, alloc, on);
     let mut splits = Splits::new(alloc);
+    hold_parent(rt, alloc, on, &mut splits);
     let mut others = Splits::new(alloc);
-    come_to_a_parent(rt, alloc, on, &mut splits, &mut others);
+    come_to_a_parent(rt, alloc, on, &mut others);
 }
