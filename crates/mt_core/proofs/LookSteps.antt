@@ -7,18 +7,29 @@ use Rattle.mt_rows.specs.declared.reply.Reply.TheVariants.{Found}
 use Rattle.mt_rows.specs.Rows.{Columns, shown}
 use Rattle.mt_rows.specs.Maps.{is_get}
 use Rattle.mt_arena.specs.NodeView.{NodeView}
+use Rattle.mt_arena.specs.Forests.{tree_at}
+use Rattle.mt_arena.specs.Arena.{ArenaView}
+use Rattle.mt_arena.specs.Accesses.{at}
 use Rattle.mt_operation.specs.declared.walk.Phase.{Phase}
-use Rattle.mt_operation.specs.declared.walk.Phase.TheVariants.{Verify, Forward}
+use Rattle.mt_operation.specs.declared.walk.Phase.TheVariants.{Enter, Verify, Forward}
 use Rattle.mt_operation.specs.declared.walk.Walk.{Walk}
 use Rattle.mt_operation.specs.declared.outcome.Outcome.{Outcome}
 use Rattle.mt_operation.specs.declared.operation.Operation.{Operation}
 use Rattle.mt_operation.specs.Tasks.{ask}
-use Rattle.mt_descent.specs.Moves.{Continues, Verifies, Loads, walk_here, after_forward}
+use Rattle.mt_descent.specs.Moves.{Continues, Verifies, Loads, walk_here, after_enter, after_forward}
 use Rattle.mt_state.specs.Notes.{columns_asked}
 use Rattle.mt_state.specs.Ways.{Descends, ShowsTaken}
-use Rattle.mt_state.proofs.Descents.{Leads, descends, verified, forwarded, stayed}
+use Rattle.mt_state.proofs.Descents.{Leads, descends, entered, verified, forwarded, stayed}
 use Rattle.mt_state.proofs.Replies.{get_asks}
 use Rattle.mt_core.specs.Looks.{TellsLoaded}
+
+-- a walk that enters a tree goes on so
+pub enter_goes : (r : Option ℕ) (v : ArenaView) (before after : Walk) → before.phase ≡ Enter → IfNone r (after ≡ after_enter (tree_at v.trees before.place.tree).standing before (tree_at v.trees before.place.tree).root (at v (tree_at v.trees before.place.tree).root).version)
+    → Continues before after → IfNone r (Descends before after)
+enter_goes None v before after at_enter is same =
+    let tree = tree_at v.trees before.place.tree in
+    descends before after same (entered before.phase at_enter tree.standing before tree.root (at v tree.root).version after is)
+enter_goes (Some holder) v before after at_enter is same = tt
 
 -- a walk that compared the version of its interior node goes on so
 pub verify_goes : (r : Option ℕ) (n : NodeView) (before after : Walk) → before.phase ≡ Verify → IfNone r (Verifies n before after) → Continues before after → IfNone r (Descends before after)
@@ -36,7 +47,7 @@ forward_goes None slice nodes before after at_forward last is same = descends be
 forward_goes (Some holder) slice nodes before after at_forward last is same = tt
 
 -- the outcome of a reply that is right at a number
-abbrev pub placed_at : ℕ → Reply → Outcome
+abbrev placed_at : ℕ → Reply → Outcome
 placed_at m reply = record { reply = reply; at = m }
 
 -- the row that a get took is shown as it asks

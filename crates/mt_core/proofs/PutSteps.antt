@@ -1,81 +1,54 @@
--- The phases of a put by the ensures of the calls that they make: for `State::lock`, `judge`, `store`, `publish` and `unlock`.
-use Rattle.std.proofs.Common.{◌≡◌, ◌≢◌, ℕ, zero, suc, ◌+◌, ◌<◌, inl, inr, true, false, not, [], ◌∷◌, length, set, Option, Some, None, IsSome, is_some, refl, sym, ap, subst, ◌∙◌, arith}
-use Rattle.std.specs.Prelude.{◌^◌}
-use Rattle.std.proofs.lemmas.Bool.{cases_eq}
-use Rattle.std.proofs.lemmas.Option.{same_Some}
+-- The phases of a put by the ensures of the calls that they make: for `Inner::lock`, `judge`, `store`, `publish` and `unlock_one`.
+use Rattle.std.proofs.Common.{◌≡◌, ◌≢◌, ℕ, ◌+◌, ◌<◌, inl, inr, Bool, true, false, cond, eqb, [], length, set, Option, Some, None, IsSome, is_some, refl, sym, ap, subst, ◌∙◌, arith}
+use Rattle.std.specs.Prelude.{◌*◌, ◌^◌}
 use Rattle.std.specs.FinMap.{get}
-use Rattle.mt_slices.specs.Slices.{slice_of, mark_of}
-use Rattle.mt_border.specs.Entries.{IsMissing}
-use Rattle.mt_arena.specs.NodeView.{NodeView}
-use Rattle.mt_rows.specs.Rows.{Bytes}
-use Rattle.mt_rows.specs.Accounts.{Accounts, account_of, HasRoom}
-use Rattle.mt_border.specs.Contents.{owned}
 use Rattle.mt_rows.specs.declared.reply.Reply.{Reply}
 use Rattle.mt_rows.specs.declared.reply.Reply.TheVariants.{NoMemory, New, Full, Replaced}
 use Rattle.mt_rows.specs.Rows.{Columns}
+use Rattle.mt_rows.specs.Accounts.{Accounts, account_of, HasRoom}
+use Rattle.mt_border.specs.Contents.{owned}
 use Rattle.mt_tape.specs.Tapes.{Kept}
-use Rattle.mt_arena.specs.Arena.{ArenaView, IsArena, content_of}
+use Rattle.mt_arena.specs.NodeView.{NodeView}
+use Rattle.mt_arena.specs.Edits.{locked}
+use Rattle.mt_arena.specs.Arena.{ArenaView, IsArena, Guarantee, content_of}
 use Rattle.mt_arena.specs.Accesses.{at}
 use Rattle.mt_operation.specs.declared.walk.Phase.{Phase}
-use Rattle.mt_operation.specs.declared.walk.Phase.TheVariants.{Lock, Judge, Store, Publish, Unlock}
+use Rattle.mt_operation.specs.declared.walk.Phase.TheVariants.{Lock, Judge, Store, Publish, SplitStart, Unlock}
 use Rattle.mt_operation.specs.declared.walk.Walk.{Walk}
+use Rattle.mt_operation.specs.declared.splits.Splits.{Splits}
 use Rattle.mt_operation.specs.declared.outcome.Outcome.{Outcome}
 use Rattle.mt_operation.specs.declared.prepared.Prepared.{Prepared}
 use Rattle.mt_operation.specs.declared.operation.Operation.{Operation}
-use Rattle.mt_operation.specs.Operations.{OperationView, is_done, moved, noted, made_ready, with_nothing_ready}
+use Rattle.mt_operation.specs.Operations.{is_done, moved, noted, made_ready, with_nothing_ready}
 use Rattle.mt_operation.specs.Tables.{Table, op_at as operation_at, MayMove}
-use Rattle.mt_operation.proofs.Tables.{set_is, set_here, set_there}
-use Rattle.mt_descent.specs.Moves.{Continues}
+use Rattle.mt_descent.specs.Seen.{IsOutdated}
+use Rattle.mt_descent.specs.Moves.{Continues, Locks}
 use Rattle.mt_insert.specs.Puts.{IsPut}
-use Rattle.mt_insert.specs.Moves.{StandsIn, after_judge, walk_placed, reserving, released}
+use Rattle.mt_insert.specs.Moves.{StandsIn, after_judge, walk_placed, released, reserving}
 use Rattle.mt_insert.specs.Kept.{KeptReady, IsAtStore, IsAtPublish, IsAtUnlock}
 use Rattle.mt_state.specs.declared.moves.Move.{Move}
-use Rattle.mt_state.specs.declared.moves.Move.TheVariants.{Again}
-use Rattle.mt_state.specs.Views.{StateView, Core, shown, op_at}
-use Rattle.mt_state.specs.Promises.{Tells, IsHeldByOther}
+use Rattle.mt_state.specs.declared.moves.Move.TheVariants.{Moved, Again}
+use Rattle.mt_state.specs.Views.{Core, shown, StateView}
+use Rattle.mt_state.specs.Promises.{IsHeldByOther}
 use Rattle.mt_state.specs.Writes.{TakesLock, GivesBack, MakesReady, PlacesChange, Stores, Publishes, FindsFull}
 use Rattle.mt_state.specs.Invariant.{StateInvariant, is_prepared}
-use Rattle.mt_state.proofs.Shown.{inside_of}
+use Rattle.mt_state.proofs.Shown.{shown_there}
 use Rattle.mt_state.proofs.Telling.{Gives}
+use Rattle.mt_state.proofs.OneNode.{replaced_all}
 use Rattle.mt_state.proofs.Locking.{lock_done, unlock_done, judge_ready, judge_refused, publish_full}
 use Rattle.mt_state.proofs.Putting.{store_done, publish_done}
-use Rattle.mt_state.proofs.Needs.{IsOfWrites, put_at, lock_blocked, store_kept, publish_kept, store_ready, publish_ready, write_room}
+use Rattle.mt_state.proofs.Needs.{IsOfWrites, put_at, lock_kept, lock_blocked, store_kept, publish_kept, store_ready, publish_ready, write_room}
 use Rattle.mt_core.specs.Nexts.{IsNext}
-
--- what was written last is what stays
-set_again : (table : Table) (o : ℕ) (a b : Option Operation) → set (set table o a) o b ≡ set table o b
-set_again [] o a b = refl
-set_again (x ∷ table) zero a b = refl
-set_again (x ∷ table) (suc o) a b = ap (λ (t : Table). x ∷ t) (set_again table o a b)
-
--- what a call ensures that writes an operation over itself
-abbrev pub Writes : Table → Table → ℕ → (Operation → Operation) → Type 0
-Writes old new o f = (x : Operation) → operation_at old o ≡ Some x → new ≡ set old o (Some (f x))
-
--- of two such calls, one after the other
-pub writes_both : (old mid new : Table) (o : ℕ) (f g : Operation → Operation) → Writes old mid o f → Writes mid new o g → Writes old new o (λ x. g (f x))
-writes_both old mid new o f g first second x there =
-    let is : mid ≡ set old o (Some (f x)) = first x there in
-    second (f x) (ap (λ (t : Table). operation_at t o) is ∙ set_is old o (f x) x there)
-    ∙ ap (λ (t : Table). set t o (Some (g (f x)))) is ∙ set_again old o (Some (f x)) (Some (g (f x)))
-
--- an outcome of this reply
-pub outcome_is : (told : Outcome) (reply of : Reply) (step : ℕ) → told ≡ record { reply = reply; at = step } → reply ≡ of → told ≡ record { reply = of; at = step }
-outcome_is told reply of step says same = says ∙ ap (λ (r : Reply). record { reply = r; at = step }) same
-
--- there is room where the judged node misses the key
-room_of : (n : NodeView) (key : Bytes) (layer : ℕ) (slot : Option ℕ) → (IsMissing n.slots (slice_of key layer) (mark_of key layer) → length n.slots < 15) → StandsIn n key layer slot → slot ≡ None → length n.slots < 15
-room_of n key layer (Some i) fits stands none = absurd (cc)
-room_of n key layer None fits stands none = fits stands
+use Rattle.mt_core.specs.Points.{AreBelow, HasMade, IsAtPoint, Nears, StepsOn}
+use Rattle.mt_core.proofs.Points.{point_first, point_at, below_at, fresh_at, few_at, nears_by}
+use Rattle.mt_core.proofs.Following.{Writes, IsOver, over_first, over_next, opened, may_over, may_move, next_here, phase_is, made}
 
 -- what a judgement that made all ready ensures
 pub ready_for : (c : Core) (o : ℕ) (x : Operation) (arena : ArenaView) (tape : Kept) (w : Walk) (prepared : Prepared) → (slot : Option ℕ) × StandsIn (at c.arena x.walk.place.node) x.task.key x.walk.layer slot × (w ≡ after_judge (at c.arena x.walk.place.node) slot x.walk)
-    → (IsMissing (at c.arena x.walk.place.node).slots (slice_of x.task.key x.walk.layer) (mark_of x.task.key x.walk.layer) → length (at c.arena x.walk.place.node).slots < 15)
     → Continues x.walk w → tape ≡ reserving c.tape → arena ≡ c.arena → KeptReady w.phase arena o x.task prepared w → MakesReady c o x tape w prepared
-ready_for c o x arena tape w prepared judged fits same reserves stays kept = record {
+ready_for c o x arena tape w prepared judged same reserves stays kept = record {
   slot = judged.0;
   walk = judged.2;
-  room = room_of (at c.arena x.walk.place.node) x.task.key x.walk.layer judged.0 fits judged.1;
   same = same;
   tape_is = reserves;
   kept = subst (λ (v : ArenaView). KeptReady w.phase v o x.task prepared w) stays kept;
@@ -93,87 +66,127 @@ full_for c o x arena tape w goes same releases stays kept missing full = record 
   full = full;
 }
 
-module _ (c : Core) (now : StateView) (o : ℕ) (is : shown c ≡ now) (h : StateInvariant c) where
-  -- the operation that is to make its step, at its phase
-  pub standing : (p : Phase) → IsNext now o (λ q. q ≡ p) → (op : Operation) × (operation_at c.table o ≡ Some op) × (op.walk.phase ≡ p)
-  standing p next =
-      let found = inside_of c.table o next.0 (ap (λ (v : StateView). op_at v.table o) is ∙ next.1) in
-      (found.0, found.1, ap (λ (v : OperationView). v.phase) found.2 ∙ next.2)
+-- the walk of a put that takes its lock, in a live tree
+lock_brings : (o : ℕ) (v arena : ArenaView) (w x : Walk) (s : Splits) → Locks o v arena x w → x.phase ≡ Lock → x.place.node < length v.nodes → (at v x.place.node).version.deleted ≡ false
+    → (height n : ℕ) → IsAtPoint height n v x s → IsAtPoint height (n + 1) arena w s
+lock_brings o v arena w x s locks at_lock within live height n point =
+    let k = x.place.node in
+    let sees : x.place.seen ≡ (at v x.place.node).version = fresh_at height n v x s Lock at_lock point in
+    let stands : ¬ IsOutdated (at v x.place.node) x.place.seen = λ outdated. elim outdated [
+      | inl deleted ↦ absurd (let no = sym live ∙ deleted in cc)
+      | inr split ↦ split (ap (λ p. p.splits) (sym sees))
+    ] in
+    let below = below_at height n v x s Lock at_lock (λ e. absurd (cc)) point in
+    let few : HasMade Lock height n v x s = few_at height n v x s Lock at_lock point in
+    subst (λ (a : ArenaView). IsAtPoint height (n + 1) a w s) (sym (locks.takes stands)) (point_at height (n + 1) _ w s Judge (ap (λ (y : Walk). y.phase) (locks.judges stands))
+    (λ other. replaced_all v k within (locked (at v k) o) (λ (m : NodeView). m.level < height) (below k within) below)
+    tt (omega (arith, few)))
 
-  -- whichever operation is found at the id
-  pub phase_is : (p : Phase) → IsNext now o (λ q. q ≡ p) → (x : Operation) → operation_at c.table o ≡ Some x → x.walk.phase ≡ p
-  phase_is p next x there =
-      let s = standing p next in
-      ap (λ (y : Operation). y.walk.phase) (same_Some x s.0 (sym there ∙ s.1)) ∙ s.2
+-- of one that has made all ready
+judge_brings : (v : ArenaView) (m : NodeView) (slot : Option ℕ) (w x : Walk) (s : Splits) → w ≡ after_judge m slot x → x.phase ≡ Judge → (height n : ℕ) → IsAtPoint height n v x s → IsAtPoint height (n + 1) v w s
+judge_brings v m slot w x s goes at_judge height n point = subst (λ (y : Walk). IsAtPoint height (n + 1) v y s) (sym goes) (by_slot slot)
+  where
+    few : HasMade Judge height n v x s
+    few = few_at height n v x s Judge at_judge point
+
+    below : AreBelow v height
+    below = below_at height n v x s Judge at_judge (λ e. absurd (cc)) point
+
+    by_full : (full : Bool) → IsAtPoint height (n + 1) v (record x { phase = cond full SplitStart Publish }) s
+    by_full true = point_at height (n + 1) v _ s SplitStart refl (λ other. below) tt (omega (arith, few))
+    by_full false = point_at height (n + 1) v _ s Publish refl (λ other. below) tt (omega (arith, few))
+
+    by_slot : (slot : Option ℕ) → IsAtPoint height (n + 1) v (after_judge m slot x) s
+    by_slot (Some i) = point_at height (n + 1) v _ s Store refl (λ other. below) tt (omega (arith, few))
+    by_slot None = by_full (eqb (length m.slots) 15)
+
+-- of one that has placed its change, or found its quota full
+place_brings : (v arena : ArenaView) (w x : Walk) (s : Splits) → w ≡ walk_placed x → ((height n : ℕ) → IsAtPoint height n v x s → n < 3 * height + 3) → (height n : ℕ) → IsAtPoint height n v x s → IsAtPoint height (n + 1) arena w s
+place_brings v arena w x s goes least height n point =
+    let few = least height n point in
+    point_at height (n + 1) arena w s Unlock (ap (λ (y : Walk). y.phase) goes) (λ other. absurd (other refl)) tt (omega (arith, few))
+
+-- the splits of an operation have no halves, nor have they where it is found inside
+pub splits_none : (c now : Core) (o : ℕ) → c ≡ now → ((op : Operation) → operation_at now.table o ≡ Some op → op.splits.halves.items ≡ []) → (x : Operation) → operation_at c.table o ≡ Some x → x.splits.halves.items ≡ []
+splits_none c now o is none x there = none x (ap (λ (v : Core). operation_at v.table o) (sym is) ∙ there)
+
+module _ (c now : Core) (o : ℕ) (is : c ≡ now) (h : StateInvariant c) where
+  -- the operation that is to make its step, at its phase
+  standing : (p : Phase) → IsNext now o (λ q. q ≡ p) → IsNext c o (λ q. q ≡ p)
+  standing p next = next_here c now o (λ q. q ≡ p) is next
 
   -- the next step may be made by it
   pub may_step : (p : Phase) → is_done p ≡ false → IsNext now o (λ q. q ≡ p) → MayMove c.table o (c.steps + 1)
-  may_step p left next = record {
-    later = λ q x there. let k = (h.ops q x there).always in omega (arith, k.order, k.made);
-    unfinished = λ x there. ap (λ q. not (is_done q)) (phase_is p next x there) ∙ ap not left;
-  }
+  may_step p left next = let s = standing p next in may_move c o h s.0 s.1 (ap is_done s.2 ∙ left)
 
-  -- also once what it had ready is taken out
-  pub may_step_after : (p : Phase) → is_done p ≡ false → IsNext now o (λ q. q ≡ p) → (table : Table) → Writes c.table table o with_nothing_ready → MayMove table o (c.steps + 1)
-  may_step_after p left next table takes =
-      let s = standing p next in
-      let may = may_step p left next in
-      let y : Operation = with_nothing_ready s.0 in
-      let table_is = takes s.0 s.1 in
-      record {
-        later = λ q x there. let here = ap (λ (t : Table). operation_at t q) (sym table_is) ∙ there in elim (cases_eq q o) [
-          | inl same ↦ let it : y ≡ x = set_here c.table o y x (subst (λ k. operation_at (set c.table o (Some y)) k ≡ Some x) same here) in subst (λ (z : Operation). z.walk.first < c.steps + 1) it (may.later o s.0 s.1)
-          | inr other ↦ may.later q x (sym (set_there c.table o q (Some y) other) ∙ here)
-        ];
-        unfinished = λ x there. let here = ap (λ (t : Table). operation_at t o) (sym table_is) ∙ there in
-            let it : y ≡ x = set_here c.table o y x here in subst (λ (z : Operation). not (is_done z.walk.phase) ≡ true) it (may.unfinished s.0 s.1);
-      }
+  -- a step that moves the operation brings it on, by the point to which its walk came
+  nears_made : (x after : Operation) → operation_at c.table o ≡ Some x → (arena : ArenaView) (tape : Kept) (accounts : Accounts) (table : Table) → IsOver c.table table o after → Guarantee o c.arena arena
+      → ((height n : ℕ) → IsAtPoint height n c.arena x.walk x.splits → IsAtPoint height (n + 1) arena after.walk after.splits) → Nears now (made c arena tape accounts table) o Moved
+  nears_made x after there arena tape accounts table over guarantee brings = subst (λ (v : Core). Nears v (made c arena tape accounts table) o Moved) is
+      (nears_by c (made c arena tape accounts table) o x after there over.there guarantee brings)
 
-  -- the state after the step, by what is left of it
-  abbrev pub made : ArenaView → Kept → Accounts → Table → Core
-  made arena tape accounts table = record c { steps = c.steps + 1; accounts = accounts; arena = arena; tape = tape; table = table }
+  -- what is told of it, and that
+  steps_on : (new : Core) → Gives (shown now) new o false → Nears now new o Moved → StateInvariant new × StepsOn now new o Moved
+  steps_on new g nears = (g.0, record { tells = g.1; nears = nears })
 
   -- another operation holds the border node that is to be locked
   pub lock_waits : IsNext now o (λ q. q ≡ Lock) → (x : Operation) → operation_at c.table o ≡ Some x → (arena : ArenaView) → arena ≡ c.arena → (holder : ℕ) → (at c.arena x.walk.place.node).holder ≡ Some holder
-      → (answer : Move) → answer ≡ Again holder → Tells now (shown (record c { arena = arena })) o answer
-  lock_waits next x there arena stays holder held answer answers = subst (Tells now (shown (record c { arena = arena })) o) (sym answers) (
-    ap (λ (v : ArenaView). shown (record c { arena = v })) stays ∙ is,
-    (next.0, next.1, ap is_done next.2),
-    subst (λ (v : StateView). IsHeldByOther v o holder) is (lock_blocked c o h x there (phase_is Lock next x there) holder held),
-  )
+      → (answer : Move) → answer ≡ Again holder → StepsOn now (record c { arena = arena }) o answer
+  lock_waits next x there arena stays holder held answer answers = subst (StepsOn now (record c { arena = arena }) o) (sym answers) (record {
+    tells = (
+      ap (λ (v : ArenaView). shown (record c { arena = v })) stays ∙ ap shown is,
+      (_, shown_there now.table o next.0 next.1, ap is_done next.2),
+      subst (λ (v : StateView). IsHeldByOther v o holder) (ap shown is) (lock_blocked c o h x there (phase_is c now o (λ q. q ≡ Lock) is x there next) holder held),
+    );
+    nears = tt;
+  })
 
   module _ (few : now.steps < 2 ^ 59) where
     -- a lock that was taken, or not because the node was deleted or split
     pub lock_made : IsNext now o (λ q. q ≡ Lock) → (x : Operation) → operation_at c.table o ≡ Some x → (arena : ArenaView) (w : Walk) (table : Table) → TakesLock c o x arena w → Writes c.table table o (λ y. moved y (c.steps + 1) w)
-        → Gives now (made arena c.tape c.accounts table) o false
+        → StateInvariant (made c arena c.tape c.accounts table) × StepsOn now (made c arena c.tape c.accounts table) o Moved
     lock_made next x there arena w table t writes =
-        subst (λ (all : Table). Gives now (made arena c.tape c.accounts all) o false) (sym (writes x there))
-        (lock_done c now o is h few x there (phase_is Lock next x there) arena w t.locks t.same t.leaves.guarantee t.leaves.contents t.kept t.judged t.settled)
+        let at_lock = phase_is c now o (λ q. q ≡ Lock) is x there next in
+        let within = (lock_kept c o h x there at_lock).covers.remembered.there in
+        let after = moved x (c.steps + 1) w in
+        let over = over_first c.table table o (λ y. moved y (c.steps + 1) w) x there writes in
+        steps_on (made c arena c.tape c.accounts table)
+        (subst (λ (all : Table). Gives (shown now) (made c arena c.tape c.accounts all) o false) (sym over.is)
+        (lock_done c (shown now) o (ap shown is) h few x there at_lock arena w t.locks t.same t.leaves.guarantee t.leaves.contents t.kept t.judged t.settled))
+        (nears_made x after there arena c.tape c.accounts table over t.leaves.guarantee
+        (λ height n point. point_first height (n + 1) arena w x.splits after.walk.first (lock_brings o c.arena arena w x.walk x.splits t.locks at_lock within (h.one_tree.live x.walk.place.node within) height n point)))
 
     -- a lock that was given back
-    pub unlock_made : IsNext now o (λ q. q ≡ Unlock) → (x : Operation) → operation_at c.table o ≡ Some x → (arena : ArenaView) (w : Walk) (table : Table) → GivesBack c o x arena w → Writes c.table table o (λ y. moved y (c.steps + 1) w)
-        → Gives now (made arena c.tape c.accounts table) o true
-    unlock_made next x there arena w table t writes =
-        subst (λ (all : Table). Gives now (made arena c.tape c.accounts all) o true) (sym (writes x there))
-        (unlock_done c now o is h few x there (phase_is Unlock next x there) arena w t.is t.walk t.same t.leaves.guarantee t.leaves.contents)
+    pub unlock_made : IsNext now o (λ q. q ≡ Unlock) → (x : Operation) → operation_at c.table o ≡ Some x → x.splits.halves.items ≡ [] → (arena : ArenaView) (w : Walk) (table : Table) → GivesBack c o x arena w → Writes c.table table o (λ y. moved y (c.steps + 1) w)
+        → Gives (shown now) (made c arena c.tape c.accounts table) o true
+    unlock_made next x there none arena w table t writes =
+        subst (λ (all : Table). Gives (shown now) (made c arena c.tape c.accounts all) o true) (sym (writes x there))
+        (unlock_done c (shown now) o (ap shown is) h few x there (phase_is c now o (λ q. q ≡ Unlock) is x there next) none arena w t.is t.walk t.same t.leaves.guarantee t.leaves.contents)
 
     -- all that was made ready
-    pub ready_made : IsNext now o (λ q. q ≡ Judge) → (x : Operation) → operation_at c.table o ≡ Some x → (arena : ArenaView) (tape : Kept) (w : Walk) (prepared : Prepared) (mid table : Table) → arena ≡ c.arena → MakesReady c o x tape w prepared
-        → Writes c.table mid o (λ y. moved y (c.steps + 1) w) → Writes mid table o (λ y. made_ready y prepared) → Gives now (made arena tape c.accounts table) o false
-    ready_made next x there arena tape w prepared mid table stays t moves readies =
-        subst (λ (all : Table). Gives now (made arena tape c.accounts all) o false) (sym (writes_both c.table mid table o (λ y. moved y (c.steps + 1) w) (λ y. made_ready y prepared) moves readies x there))
-        (judge_ready c now o is h few x there (phase_is Judge next x there) arena tape w prepared t.slot stays t.tape_is t.walk t.room t.same (subst (λ (v : ArenaView). KeptReady w.phase v o x.task prepared w) (sym stays) t.kept))
+    pub ready_made : IsNext now o (λ q. q ≡ Judge) → (x : Operation) → operation_at c.table o ≡ Some x → (arena : ArenaView) (tape : Kept) (w : Walk) (prepared : Prepared) (mid table : Table) → arena ≡ c.arena → Guarantee o c.arena arena → MakesReady c o x tape w prepared
+        → Writes c.table mid o (λ y. moved y (c.steps + 1) w) → Writes mid table o (λ y. made_ready y prepared) → StateInvariant (made c arena tape c.accounts table) × StepsOn now (made c arena tape c.accounts table) o Moved
+    ready_made next x there arena tape w prepared mid table stays guarantee t moves readies =
+        let at_judge = phase_is c now o (λ q. q ≡ Judge) is x there next in
+        let after = made_ready (moved x (c.steps + 1) w) prepared in
+        let over = over_next c.table mid table o (λ y. made_ready y prepared) (moved x (c.steps + 1) w) (over_first c.table mid o (λ y. moved y (c.steps + 1) w) x there moves) readies in
+        steps_on (made c arena tape c.accounts table)
+        (subst (λ (all : Table). Gives (shown now) (made c arena tape c.accounts all) o false) (sym over.is)
+        (judge_ready c (shown now) o (ap shown is) h few x there at_judge arena tape w prepared t.slot stays t.tape_is t.walk t.same (subst (λ (v : ArenaView). KeptReady w.phase v o x.task prepared w) (sym stays) t.kept)))
+        (nears_made x after there arena tape c.accounts table over guarantee
+        (λ height n point. point_first height (n + 1) arena w x.splits after.walk.first
+        (subst (λ (v : ArenaView). IsAtPoint height (n + 1) v w x.splits) (sym stays) (judge_brings c.arena (at c.arena x.walk.place.node) t.slot w x.walk x.splits t.walk at_judge height n point))))
 
     -- no memory for it
     pub refused_made : IsNext now o (λ q. q ≡ Judge) → (x : Operation) → operation_at c.table o ≡ Some x → (arena : ArenaView) (tape : Kept) (w : Walk) (told : Outcome) (table : Table) → tape ≡ c.tape → GivesBack c o x arena w
-        → told ≡ record { reply = NoMemory; at = c.steps + 1 } → Writes c.table table o (λ y. noted (moved y (c.steps + 1) w) (Some told)) → Gives now (made arena tape c.accounts table) o true
+        → told ≡ record { reply = NoMemory; at = c.steps + 1 } → Writes c.table table o (λ y. noted (moved y (c.steps + 1) w) (Some told)) → Gives (shown now) (made c arena tape c.accounts table) o true
     refused_made next x there arena tape w told table keeps t says moves =
-        subst (λ (all : Table). Gives now (made arena tape c.accounts all) o true) (sym (moves x there))
-        (subst (λ (r : Outcome). Gives now (made arena tape c.accounts (set c.table o (Some (noted (moved x (c.steps + 1) w) (Some r))))) o true) (sym says)
-        (judge_refused c now o is h few x there (phase_is Judge next x there) arena tape w t.is keeps t.walk t.same t.leaves.guarantee t.leaves.contents))
+        subst (λ (all : Table). Gives (shown now) (made c arena tape c.accounts all) o true) (sym (moves x there))
+        (subst (λ (r : Outcome). Gives (shown now) (made c arena tape c.accounts (set c.table o (Some (noted (moved x (c.steps + 1) w) (Some r))))) o true) (sym says)
+        (judge_refused c (shown now) o (ap shown is) h few x there (phase_is c now o (λ q. q ≡ Judge) is x there next) arena tape w t.is keeps t.walk t.same t.leaves.guarantee t.leaves.contents))
 
   -- what taking out what an operation has ready ensures
-  abbrev pub TakesOut : Table → Prepared → Type 0
+  abbrev TakesOut : Table → Prepared → Type 0
   TakesOut table prepared = (y : Operation) → operation_at c.table o ≡ Some y → (y.prepared ≡ Some prepared) × (table ≡ set c.table o (Some (record y { prepared = None })))
 
   -- what is there is not none
@@ -198,28 +211,36 @@ module _ (c : Core) (now : StateView) (o : ℕ) (is : shown c ≡ now) (h : Stat
     has : op.prepared ≡ Some prepared
     has = (takes op there).0
 
-    there_now : operation_at table o ≡ Some (with_nothing_ready op)
-    there_now = ap (λ (t : Table). operation_at t o) (takes op there).1 ∙ set_is c.table o (with_nothing_ready op) op there
+    over : IsOver c.table table o (with_nothing_ready op)
+    over = over_first c.table table o with_nothing_ready op there (λ y at_y. (takes y at_y).1)
 
     -- it is still there
     pub open_after : IsSome (operation_at table o)
-    open_after = ap is_some there_now
-
-    -- nothing but what it had ready is gone
-    takes_it : Writes c.table table o with_nothing_ready
-    takes_it y at_y = (takes y at_y).1
+    open_after = ap is_some over.there
 
     -- it may make its step
     pub may_go_on : is_done p ≡ false → MayMove table o (c.steps + 1)
-    may_go_on left = may_step_after p left next table takes_it
+    may_go_on left = may_over c o h op there (ap is_done (standing p next).2 ∙ left) table (with_nothing_ready op) over refl
+
+    -- after the step
+    over_last : (w : Walk) (told : Option Outcome) (last : Table) → Writes table last o (λ y. noted (moved y (c.steps + 1) w) told) → IsOver c.table last o (noted (moved (with_nothing_ready op) (c.steps + 1) w) told)
+    over_last w told last moves = over_next c.table table last o (λ y. noted (moved y (c.steps + 1) w) told) (with_nothing_ready op) over moves
+
+    -- it comes to give its lock back
+    nears_placed : (arena : ArenaView) (tape : Kept) (accounts : Accounts) (w : Walk) (told : Option Outcome) (last : Table) → Writes table last o (λ y. noted (moved y (c.steps + 1) w) told) → Guarantee o c.arena arena → w ≡ walk_placed op.walk
+        → ((height n : ℕ) → IsAtPoint height n c.arena op.walk op.splits → n < 3 * height + 3) → Nears now (made c arena tape accounts last) o Moved
+    nears_placed arena tape accounts w told last moves guarantee goes least =
+        let after = noted (moved (with_nothing_ready op) (c.steps + 1) w) told in
+        nears_made op after there arena tape accounts last (over_last w told last moves) guarantee
+        (λ height n point. point_first height (n + 1) arena w op.splits after.walk.first (place_brings c.arena arena w op.walk op.splits goes least height n point))
 
     -- whichever operation is found at the id then
     module _ (x : Operation) (there_x : operation_at table o ≡ Some x) where
-      opened : with_nothing_ready op ≡ x
-      opened = same_Some (with_nothing_ready op) x (sym there_now ∙ there_x)
+      it_is : with_nothing_ready op ≡ x
+      it_is = opened c.table table o (with_nothing_ready op) x over there_x
 
       pub put_is : IsOfWrites p → IsPut x.task
-      put_is writes = subst (λ (y : Operation). IsPut y.task) opened (put_at c o h op there p (standing p next).2 writes)
+      put_is writes = subst (λ (y : Operation). IsPut y.task) it_is (put_at c o h op there p (standing p next).2 writes)
 
   -- the room on the tape is there
   pub room_is : (p : Phase) → IsNext now o (λ q. q ≡ p) → is_prepared p ≡ true → 0 < c.tape.reserved
@@ -228,55 +249,58 @@ module _ (c : Core) (now : StateView) (o : ℕ) (is : shown c ≡ now) (h : Stat
   module _ (next : IsNext now o (λ q. q ≡ Store)) (table : Table) (prepared : Prepared) (takes : TakesOut table prepared) (x : Operation) (there_x : operation_at table o ≡ Some x) where
     -- what is kept of it is what `store` asks
     pub store_at : IsAtStore c.arena o x.task prepared x.walk
-    store_at = subst (λ (y : Operation). IsAtStore c.arena o y.task prepared y.walk) (opened Store next table prepared takes x there_x)
+    store_at = subst (λ (y : Operation). IsAtStore c.arena o y.task prepared y.walk) (it_is Store next table prepared takes x there_x)
         (let s = standing Store next in store_kept c o h s.0 s.1 s.2 prepared (has Store next table prepared takes))
 
     -- a row that was written over the one of its key
     pub store_made : (few : now.steps < 2 ^ 59) (arena : ArenaView) (tape : Kept) (w : Walk) (before : Columns) (told : Outcome) (last : Table) → IsArena c.arena.nodes c.arena.trees → Stores c x arena prepared.row before → PlacesChange c o x arena tape w
-        → told ≡ record { reply = Replaced; at = c.steps + 1 } → Writes table last o (λ y. noted (moved y (c.steps + 1) w) (Some told)) → Gives now (made arena tape c.accounts last) o false
+        → told ≡ record { reply = Replaced; at = c.steps + 1 } → Writes table last o (λ y. noted (moved y (c.steps + 1) w) (Some told)) → StateInvariant (made c arena tape c.accounts last) × StepsOn now (made c arena tape c.accounts last) o Moved
     store_made few arena tape w before told last is_arena stores places says moves =
         let s = standing Store next in
         let y = with_nothing_ready s.0 in
-        let back = sym (opened Store next table prepared takes x there_x) in
+        let back = sym (it_is Store next table prepared takes x there_x) in
         let st = subst (λ (z : Operation). Stores c z arena prepared.row before) back stores in
         let pl = subst (λ (z : Operation). PlacesChange c o z arena tape w) back places in
         let f : Operation → Operation = λ z. moved z (c.steps + 1) w in
-        let table_is = writes_both c.table table last o with_nothing_ready (λ z. noted (f z) (Some told)) (takes_it Store next table prepared takes) moves s.0 s.1 in
-        subst (λ (all : Table). Gives now (made arena tape c.accounts all) o false) (sym table_is)
-        (subst (λ (r : Outcome). Gives now (made arena tape c.accounts (set c.table o (Some (noted (f y) (Some r))))) o false) (sym says)
-        (store_done c now o is h few s.0 s.1 (put_at c o h s.0 s.1 Store s.2 tt) s.2 arena tape w prepared.row before is_arena st.is st.before_is pl.places pl.walk pl.same pl.guarantee pl.kept))
+        steps_on (made c arena tape c.accounts last)
+        (subst (λ (all : Table). Gives (shown now) (made c arena tape c.accounts all) o false) (sym (over_last Store next table prepared takes w (Some told) last moves).is)
+        (subst (λ (r : Outcome). Gives (shown now) (made c arena tape c.accounts (set c.table o (Some (noted (f y) (Some r))))) o false) (sym says)
+        (store_done c (shown now) o (ap shown is) h few s.0 s.1 (put_at c o h s.0 s.1 Store s.2 tt) s.2 arena tape w prepared.row before is_arena st.is st.before_is pl.places pl.walk pl.same pl.guarantee pl.kept)))
+        (nears_placed Store next table prepared takes arena tape c.accounts w (Some told) last moves pl.guarantee pl.walk (λ height n point. let few = few_at height n c.arena s.0.walk s.0.splits Store s.2 point in omega (arith, few)))
 
   module _ (next : IsNext now o (λ q. q ≡ Publish)) (table : Table) (prepared : Prepared) (takes : TakesOut table prepared) (x : Operation) (there_x : operation_at table o ≡ Some x) where
     -- what is kept of it is what `publish` asks
     pub publish_at : IsAtPublish c.arena o x.task prepared x.walk
-    publish_at = subst (λ (y : Operation). IsAtPublish c.arena o y.task prepared y.walk) (opened Publish next table prepared takes x there_x)
+    publish_at = subst (λ (y : Operation). IsAtPublish c.arena o y.task prepared y.walk) (it_is Publish next table prepared takes x there_x)
         (let s = standing Publish next in publish_kept c o h s.0 s.1 s.2 prepared (has Publish next table prepared takes))
 
-    module _ (few : now.steps < 2 ^ 59) (arena : ArenaView) (tape : Kept) (accounts : Accounts) (w : Walk) (told : Outcome) (last : Table) (moves : Writes table last o (λ y. noted (moved y (c.steps + 1) w) (Some told))) where
-      by_outcome : (reply : Reply) → told ≡ record { reply = reply; at = c.steps + 1 }
-          → Gives now (made arena tape accounts (set c.table o (Some (noted (moved (with_nothing_ready (standing Publish next).0) (c.steps + 1) w) (Some (record { reply = reply; at = c.steps + 1 })))))) o false
-          → Gives now (made arena tape accounts last) o false
-      by_outcome reply says gives =
+    module _ (few : now.steps < 2 ^ 59) (arena : ArenaView) (tape : Kept) (accounts : Accounts) (w : Walk) (told : Outcome) (last : Table) (moves : Writes table last o (λ y. noted (moved y (c.steps + 1) w) (Some told))) (guarantee : Guarantee o c.arena arena) where
+      by_outcome : (reply : Reply) → told ≡ record { reply = reply; at = c.steps + 1 } → w ≡ walk_placed (standing Publish next).0.walk
+          → Gives (shown now) (made c arena tape accounts (set c.table o (Some (noted (moved (with_nothing_ready (standing Publish next).0) (c.steps + 1) w) (Some (record { reply = reply; at = c.steps + 1 })))))) o false
+          → StateInvariant (made c arena tape accounts last) × StepsOn now (made c arena tape accounts last) o Moved
+      by_outcome reply says goes gives =
           let s = standing Publish next in
           let f : Operation → Operation = λ z. moved z (c.steps + 1) w in
-          let table_is = writes_both c.table table last o with_nothing_ready (λ z. noted (f z) (Some told)) (takes_it Publish next table prepared takes) moves s.0 s.1 in
-          subst (λ (all : Table). Gives now (made arena tape accounts all) o false) (sym table_is)
-          (subst (λ (r : Outcome). Gives now (made arena tape accounts (set c.table o (Some (noted (f (with_nothing_ready s.0)) (Some r))))) o false) (sym says) gives)
+          steps_on (made c arena tape accounts last)
+          (subst (λ (all : Table). Gives (shown now) (made c arena tape accounts all) o false) (sym (over_last Publish next table prepared takes w (Some told) last moves).is)
+          (subst (λ (r : Outcome). Gives (shown now) (made c arena tape accounts (set c.table o (Some (noted (f (with_nothing_ready s.0)) (Some r))))) o false) (sym says) gives))
+          (nears_placed Publish next table prepared takes arena tape accounts w (Some told) last moves guarantee goes (λ height n point. let few = few_at height n c.arena s.0.walk s.0.splits Publish s.2 point in omega (arith, few)))
 
       -- a pair that was made live
-      pub publish_made : IsArena c.arena.nodes c.arena.trees → Publishes c x arena accounts prepared.row → PlacesChange c o x arena tape w → told ≡ record { reply = New; at = c.steps + 1 } → Gives now (made arena tape accounts last) o false
+      pub publish_made : IsArena c.arena.nodes c.arena.trees → Publishes c x arena accounts prepared.row → PlacesChange c o x arena tape w → told ≡ record { reply = New; at = c.steps + 1 }
+          → StateInvariant (made c arena tape accounts last) × StepsOn now (made c arena tape accounts last) o Moved
       publish_made is_arena publishes places says =
           let s = standing Publish next in
-          let back = sym (opened Publish next table prepared takes x there_x) in
+          let back = sym (it_is Publish next table prepared takes x there_x) in
           let pb = subst (λ (z : Operation). Publishes c z arena accounts prepared.row) back publishes in
           let pl = subst (λ (z : Operation). PlacesChange c o z arena tape w) back places in
-          by_outcome New says
-          (publish_done c now o is h few s.0 s.1 (put_at c o h s.0 s.1 Publish s.2 tt) s.2 arena tape accounts w prepared.row is_arena pb.is pb.missing pb.room pb.counted pb.others pl.places pl.walk pl.same pl.guarantee pl.kept)
+          by_outcome New says pl.walk
+          (publish_done c (shown now) o (ap shown is) h few s.0 s.1 (put_at c o h s.0 s.1 Publish s.2 tt) s.2 arena tape accounts w prepared.row is_arena pb.is pb.missing pb.room pb.counted pb.others pl.places pl.walk pl.same pl.guarantee pl.kept)
 
       -- a quota that had no room
-      pub full_made : arena ≡ c.arena → accounts ≡ c.accounts → FindsFull c o x tape w → told ≡ record { reply = Full; at = c.steps + 1 } → Gives now (made arena tape accounts last) o false
+      pub full_made : arena ≡ c.arena → accounts ≡ c.accounts → FindsFull c o x tape w → told ≡ record { reply = Full; at = c.steps + 1 } → StateInvariant (made c arena tape accounts last) × StepsOn now (made c arena tape accounts last) o Moved
       full_made stays same_accounts full says =
           let s = standing Publish next in
-          let ff = subst (λ (z : Operation). FindsFull c o z tape w) (sym (opened Publish next table prepared takes x there_x)) full in
-          by_outcome Full says
-          (publish_full c now o is h few s.0 s.1 s.2 (put_at c o h s.0 s.1 Publish s.2 tt) arena tape accounts w stays same_accounts ff.tape_is ff.walk ff.same (subst (λ (v : ArenaView). IsAtUnlock v o w) (sym stays) ff.kept) ff.missing ff.full)
+          let ff = subst (λ (z : Operation). FindsFull c o z tape w) (sym (it_is Publish next table prepared takes x there_x)) full in
+          by_outcome Full says ff.walk
+          (publish_full c (shown now) o (ap shown is) h few s.0 s.1 s.2 (put_at c o h s.0 s.1 Publish s.2 tt) arena tape accounts w stays same_accounts ff.tape_is ff.walk ff.same (subst (λ (v : ArenaView). IsAtUnlock v o w) (sym stays) ff.kept) ff.missing ff.full)

@@ -1,9 +1,8 @@
--- What the steps of an operation that holds nothing ask of the invariant, and what they tell: for `State::descend`, `search`, `load` and `confirm`.
+-- What the steps of an operation that holds nothing ask of the invariant, and what they tell: for `Inner::descend`, `search`, `load` and `confirm`.
 use denote.Enum.Bare.{sameb, same_true}
 use Rattle.mt_operation.specs.contracts.walk.Phase.{the_type}
-use Rattle.std.proofs.Common.{rules, ◌≡◌, ◌≢◌, ℕ, ◌+◌, ◌<◌, ◌≤◌, inl, inr, Bool, true, false, not, length, set, Option, Some, None, refl, sym, ap, subst, ◌∙◌, arith}
+use Rattle.std.proofs.Common.{rules, ◌≡◌, ◌≢◌, ℕ, ◌+◌, ◌<◌, ◌≤◌, inl, inr, true, false, set, Option, Some, None, refl, sym, ap, subst, ◌∙◌}
 use Rattle.std.specs.Prelude.{◌^◌}
-use Rattle.std.proofs.lemmas.Option.{same_Some}
 use Rattle.mt_rows.specs.declared.reply.Reply.TheVariants.{Absent, NoMemory}
 use Rattle.mt_rows.specs.Rows.{Columns}
 use Rattle.mt_rows.specs.Commands.{HasColumns}
@@ -11,46 +10,46 @@ use Rattle.mt_rows.specs.Maps.{is_get}
 use Rattle.mt_border.specs.declared.entry.Find.{Find}
 use Rattle.mt_border.specs.declared.entry.Find.TheVariants as finds
 use Rattle.mt_border.specs.declared.entry.FoundKind.TheVariants.{ThisKey, OtherLong, Link as ToTree}
-use Rattle.mt_arena.specs.Arena.{ArenaView, IsArena}
+use Rattle.mt_arena.specs.Arena.{IsArena}
 use Rattle.mt_arena.specs.Accesses.{at}
 use Rattle.mt_operation.specs.declared.walk.Phase.{Phase}
-use Rattle.mt_operation.specs.declared.walk.Phase.TheVariants.{Search, Load, Confirm, Lock, Done}
+use Rattle.mt_operation.specs.declared.walk.Phase.TheVariants.{Search, Load, Confirm, Done}
 use Rattle.mt_operation.specs.declared.walk.Walk.{Walk}
 use Rattle.mt_operation.specs.declared.outcome.Outcome.{Outcome}
 use Rattle.mt_operation.specs.declared.operation.Operation.{Operation}
 use Rattle.mt_operation.specs.Tasks.{ask}
-use Rattle.mt_operation.specs.Operations.{OperationView, view_of, is_done, moved, noted}
+use Rattle.mt_operation.specs.Operations.{view_of, is_done, moved, noted}
 use Rattle.mt_operation.specs.Tables.{Table, MayMove, op_at as operation_at}
+use Rattle.mt_operation.proofs.Tables.{set_is}
 use Rattle.mt_descent.specs.Pasts.{Past, IsNow}
 use Rattle.mt_descent.specs.Kept.{IsAtBorder, IsAtLoad as WalksLoad, IsAtConfirm as WalksConfirm, KeptAt, IsKept}
 use Rattle.mt_descent.specs.Moves.{IsBlocked, IsBlockedAt, Continues, FindsIn, after_search, Confirms}
 use Rattle.mt_descent.proofs.Looks.{kept_loads}
 use Rattle.mt_state.specs.declared.moves.Move.{Move}
-use Rattle.mt_state.specs.declared.moves.Move.TheVariants.{Again}
-use Rattle.mt_state.specs.Views.{StateView, Core, shown, past_of, op_at}
+use Rattle.mt_state.specs.declared.moves.Move.TheVariants.{Moved, Again, Done as DoneMove}
+use Rattle.mt_state.specs.Views.{Core, shown, past_of}
 use Rattle.mt_state.specs.Promises.{Tells, IsInTheWay}
 use Rattle.mt_state.specs.Notes.{Says}
 use Rattle.mt_state.specs.Ways.{IsDescent, Descends, ShowsTaken}
 use Rattle.mt_state.specs.Kept.{IsOfKind, IsOnItsWay, IsAtLoad, IsAtConfirm, IsKeptAt}
-use Rattle.mt_state.specs.Invariant.{HoldsAt, StateInvariant}
+use Rattle.mt_state.specs.Invariant.{StateInvariant}
 use Rattle.mt_state.proofs.Shown.{shown_there}
 use Rattle.mt_state.proofs.Telling.{Gives}
-use Rattle.mt_state.proofs.Still.{IsFree, holds_nothing}
+use Rattle.mt_state.proofs.Still.{IsFree, holds_nothing, nothing_changes}
 use Rattle.mt_state.proofs.Reading.{way_of, descend_done, search_missing, search_found}
 use Rattle.mt_state.proofs.Loading.{load_taken, load_stopped}
 use Rattle.mt_state.proofs.Confirming.{get_of, confirm_done, confirm_back}
-use Rattle.mt_core.specs.Nexts.{IsNext, ending}
+use Rattle.mt_core.specs.Nexts.{ending}
 use Rattle.mt_core.specs.Looks.{TellsLoaded}
+use Rattle.mt_core.specs.Points.{IsAtPoint, Nears, StepsOn}
+use Rattle.mt_core.proofs.Points.{point_first, nears_by}
+use Rattle.mt_core.proofs.Following.{may_move, holder_open, in_the_way}
+use Rattle.mt_core.proofs.LookPoints.{search_nears, load_nears, confirm_nears}
 
 -- who holds nothing has a step left
 free_unfinished : (p : Phase) → IsFree p → is_done p ≡ false
 free_unfinished Done f = absurd f
 free_unfinished _ f = refl
-
--- and so has who holds a node
-holder_unfinished : (p : Phase) (node k : ℕ) → HoldsAt p node k → is_done p ≡ false
-holder_unfinished Done node k holds = absurd holds
-holder_unfinished _ node k holds = refl
 
 -- by the phase
 pub search_hands : (p : Phase) → p ≡ Search → IsFree p
@@ -75,60 +74,64 @@ done_if p e = same_true the_type (search rules) _ _ (sym e)
 pub done_unless : (p : Phase) → false ≡ sameb the_type p Done → p ≢ Done
 done_unless p e is = absurd (let no : false ≡ true = e ∙ ap (λ (q : Phase). sameb the_type q Done) is in cc)
 
--- who is in the way holds a node
-way_held : (v : ArenaView) (p : Phase) (holder : ℕ) → IsInTheWay v p holder → (k : ℕ) × (k < length v.nodes) × ((at v k).holder ≡ Some holder)
-way_held v Lock holder way = way
-way_held v Load holder way = (way.0, way.2, way.3.by)
-way_held v _ holder way = (way.0, way.1, way.2.by)
-
--- the phase of an operation whose step is next
-pub phase_is : (c : Core) (now : StateView) (o : ℕ) (P : Phase → Type 0) → shown c ≡ now → (op : Operation) → operation_at c.table o ≡ Some op → IsNext now o P → P op.walk.phase
-phase_is c now o P is op there next =
-    let same : next.0 ≡ view_of op = same_Some next.0 (view_of op) (sym next.1 ∙ ap (λ (v : StateView). op_at v.table o) (sym is) ∙ shown_there c.table o op there) in
-    subst (λ (v : OperationView). P v.phase) same next.2
-
 -- a state that has made one more step, with this table
-abbrev pub stepped : Core → Table → Core
+abbrev stepped : Core → Table → Core
 stepped c table = record c { steps = c.steps + 1; table = table }
 
-with_table : (c : Core) (now : StateView) (o : ℕ) (done : Bool) (table was : Table) → table ≡ was → Gives now (stepped c was) o done → Gives now (stepped c table) o done
-with_table c now o done table was e g = subst (λ (t : Table). Gives now (stepped c t) o done) (sym e) g
-
-module _ (c : Core) (now : StateView) (o : ℕ) (is : shown c ≡ now) (h : StateInvariant c) (room : now.steps < 2 ^ 59) (op : Operation) (there : operation_at c.table o ≡ Some op) where
+module _ (c now : Core) (o : ℕ) (is : c ≡ now) (h : StateInvariant c) (room : now.steps < 2 ^ 59) (op : Operation) (there : operation_at c.table o ≡ Some op) where
   -- the next step may be made by an operation that holds nothing
   pub free_moves : IsFree op.walk.phase → MayMove c.table o (c.steps + 1)
-  free_moves free = record {
-    later = λ q other at_q. let k = (h.ops q other at_q).always in omega (arith, k.order, k.made);
-    unfinished = λ other at_o. ap not (ap (λ (x : Operation). is_done x.walk.phase) (same_Some other op (sym at_o ∙ there)) ∙ free_unfinished op.walk.phase free);
-  }
+  free_moves free = may_move c o h op there (free_unfinished op.walk.phase free)
 
   -- where another operation is in the way, nothing happens
-  pub blocked : IsFree op.walk.phase → (holder : ℕ) → IsInTheWay c.arena op.walk.phase holder → (answer : Move) → answer ≡ Again holder → Tells now now o answer
+  pub blocked : IsFree op.walk.phase → (holder : ℕ) → IsInTheWay c.arena op.walk.phase holder → (answer : Move) → answer ≡ Again holder → StepsOn now now o answer
   blocked free holder way answer again =
-      let held = way_held c.arena op.walk.phase holder way in
+      let held = in_the_way c.arena op.walk.phase holder way in
       let by = h.holders held.0 holder held.1 held.2 in
       let tells : Tells (shown c) (shown c) o (Again holder) = (
         refl,
         (view_of op, shown_there c.table o op there, free_unfinished op.walk.phase free),
         record {
-          other = λ same. holds_nothing c now o is h room op there free held.0 held.1 (held.2 ∙ ap Some same);
-          unfinished = (view_of by.0, shown_there c.table holder by.0 by.1, holder_unfinished by.0.walk.phase by.0.walk.place.node held.0 by.2);
+          other = λ same. holds_nothing c (shown now) o (ap shown is) h room op there free held.0 held.1 (held.2 ∙ ap Some same);
+          unfinished = (view_of by.0, shown_there c.table holder by.0 by.1, holder_open by.0.walk.phase by.0.walk by.0.splits held.0 by.2);
           op = view_of op;
           there = shown_there c.table o op there;
           holds = way;
         },
       ) in
-      subst (λ (a : Move). Tells now now o a) (sym again) (subst (λ (v : StateView). Tells v v o (Again holder)) is tells)
+      subst (λ (a : Move). StepsOn now now o a) (sym again) (record { tells = subst (λ (x : Core). Tells (shown x) (shown x) o (Again holder)) is tells; nears = tt })
+
+  -- the table with the operation's walk and its outcome
+  abbrev led : Walk → Option Outcome → Table
+  led w told = set c.table o (Some (noted (moved op (c.steps + 1) w) told))
+
+  -- what a step gives that leaves all nodes as they were: the invariant, and what it answers
+  abbrev StepGives : Table → Move → Type 0
+  StepGives table answer = StateInvariant (stepped c table) × StepsOn now (stepped c table) o answer
+
+  -- the walk comes to the next point
+  abbrev BringsOn : Walk → Type 0
+  BringsOn w = (height made : ℕ) → IsAtPoint height made c.arena op.walk op.splits → IsAtPoint height (made + 1) c.arena w op.splits
+
+  moved_gives : (w : Walk) (told : Option Outcome) → Gives (shown now) (stepped c (led w told)) o false → BringsOn w → (table : Table) → table ≡ led w told → StepGives table Moved
+  moved_gives w told g brings table e = subst (λ (t : Table). StepGives t Moved) (sym e) (g.0, record { tells = g.1; nears = subst (λ (x : Core). Nears x (stepped c (led w told)) o Moved) is nears })
+    where
+      nears : Nears c (stepped c (led w told)) o Moved
+      nears =
+          let after = noted (moved op (c.steps + 1) w) told in
+          nears_by c (stepped c (led w told)) o op after there (set_is c.table o after op there) (nothing_changes o c.arena)
+          (λ height made point. point_first height (made + 1) c.arena w op.splits after.walk.first (brings height made point))
+
+  done_gives : (w : Walk) (told : Option Outcome) → Gives (shown now) (stepped c (led w told)) o true → (table : Table) → table ≡ led w told → StepGives table DoneMove
+  done_gives w told g table e = subst (λ (t : Table). StepGives t DoneMove) (sym e) (g.0, record { tells = g.1; nears = tt })
 
   -- what is kept of an operation that goes down
   pub descent_kept : IsDescent op.walk.phase → IsKept c.arena (past_of c) op.task.key None op.walk
   descent_kept descent = (way_of op.walk.phase descent c o op (h.ops o op there).kept).kept
 
   -- a step down
-  pub descent_gives : (table : Table) (w : Walk) → IsDescent op.walk.phase → Descends op.walk w → ((past : Past) → IsKept c.arena past op.task.key None w) → table ≡ set c.table o (Some (moved op (c.steps + 1) w))
-      → Gives now (stepped c table) o false
-  descent_gives table w descent goes kept e =
-      with_table c now o false table (set c.table o (Some (moved op (c.steps + 1) w))) e (descend_done c now o is h room op there w descent goes kept)
+  pub descent_gives : (w : Walk) → IsDescent op.walk.phase → Descends op.walk w → ((past : Past) → IsKept c.arena past op.task.key None w) → BringsOn w → (table : Table) → table ≡ set c.table o (Some (moved op (c.steps + 1) w)) → StepGives table Moved
+  descent_gives w descent goes kept brings = moved_gives w op.outcome (descend_done c (shown now) o (ap shown is) h room op there w descent goes kept) brings
 
   -- what is kept of an operation that is to search
   pub search_kept : op.walk.phase ≡ Search → IsAtBorder c.arena op.task.key op.walk
@@ -150,12 +153,14 @@ module _ (c : Core) (now : StateView) (o : ℕ) (is : shown c ≡ now) (h : Stat
   pub asked_columns : HasColumns (ask op.task)
   asked_columns = (h.ops o op there).always.columns
 
-  -- and of one that is to confirm
+  -- and of one that is to confirm what it took
+  confirming : op.walk.phase ≡ Confirm → (row : Option Columns) × WalksConfirm c.arena (past_of c) op.task.key row op.walk
+  confirming at_confirm =
+      let k : IsAtConfirm c op = subst (λ (p : Phase). IsKeptAt p c o op) at_confirm (h.ops o op there).kept in
+      (k.row, subst (λ (p : Phase). KeptAt p c.arena (past_of c) op.task.key k.row op.walk) at_confirm k.kept)
+
   pub confirm_kept : op.walk.phase ≡ Confirm → IsAtBorder c.arena op.task.key op.walk
-  confirm_kept at_confirm =
-      let confirming : IsAtConfirm c op = subst (λ (p : Phase). IsKeptAt p c o op) at_confirm (h.ops o op there).kept in
-      let kept : WalksConfirm c.arena (past_of c) op.task.key confirming.row op.walk = subst (λ (p : Phase). KeptAt p c.arena (past_of c) op.task.key confirming.row op.walk) at_confirm confirming.kept in
-      kept.at_border
+  confirm_kept at_confirm = (confirming at_confirm).1.at_border
 
   -- who is in the way of a load, and of a confirmation
   pub load_way : op.walk.phase ≡ Load → (holder : ℕ) → IsBlockedAt (at c.arena op.walk.place.node) op.walk.slot holder → IsInTheWay c.arena op.walk.phase holder
@@ -169,18 +174,19 @@ module _ (c : Core) (now : StateView) (o : ℕ) (is : shown c ≡ now) (h : Stat
   -- a search that found nothing
   pub search_gives_missing : IsArena c.arena.nodes c.arena.trees → (at_search : op.walk.phase ≡ Search) → (w : Walk) → (found : (f : Find) × FindsIn (at c.arena op.walk.place.node) op.task.key op.walk.layer f × (w ≡ after_search f op.walk (c.steps + 1)))
       → ((past : Past) (row : Option Columns) → IsNow past (c.steps + 1) c.arena → op.walk.first ≤ c.steps + 1 → IsKept c.arena past op.task.key row w) → w.phase ≡ Confirm
-      → (told : Outcome) → told ≡ record { reply = Absent; at = c.steps + 1 } → (table : Table) → table ≡ set c.table o (Some (noted (moved op (c.steps + 1) w) (Some told))) → Gives now (stepped c table) o false
+      → (told : Outcome) → told ≡ record { reply = Absent; at = c.steps + 1 } → (table : Table) → table ≡ led w (Some told) → StepGives table Moved
   search_gives_missing arena at_search w found kept confirms told says table e =
-      with_table c now o false table (set c.table o (Some (noted (moved op (c.steps + 1) w) (Some (record { reply = Absent; at = c.steps + 1 })))))
-      (e ∙ ap (λ (x : Outcome). set c.table o (Some (noted (moved op (c.steps + 1) w) (Some x)))) says)
-      (search_missing c now o is h room arena op there at_search w found.0 found.1 found.2 kept confirms)
+      moved_gives w (Some (record { reply = Absent; at = c.steps + 1 })) (search_missing c (shown now) o (ap shown is) h room arena op there at_search w found.0 found.1 found.2 kept confirms)
+      (λ height made point. search_nears c.arena op.walk w found.0 (c.steps + 1) at_search found.2 height made op.splits point)
+      table (e ∙ ap (λ (x : Outcome). led w (Some x)) says)
 
   -- a search that found a slot
   pub search_gives_found : IsArena c.arena.nodes c.arena.trees → (at_search : op.walk.phase ≡ Search) → (w : Walk) → (found : (f : Find) × FindsIn (at c.arena op.walk.place.node) op.task.key op.walk.layer f × (w ≡ after_search f op.walk (c.steps + 1)))
       → ((past : Past) (row : Option Columns) → IsNow past (c.steps + 1) c.arena → op.walk.first ≤ c.steps + 1 → IsKept c.arena past op.task.key row w) → w.phase ≢ Confirm
-      → (table : Table) → table ≡ set c.table o (Some (moved op (c.steps + 1) w)) → Gives now (stepped c table) o false
-  search_gives_found arena at_search w found kept other table e =
-      with_table c now o false table (set c.table o (Some (moved op (c.steps + 1) w))) e (search_found c now o is h room arena op there at_search w found.0 found.1 found.2 kept (loads found.0 found.2))
+      → (table : Table) → table ≡ set c.table o (Some (moved op (c.steps + 1) w)) → StepGives table Moved
+  search_gives_found arena at_search w found kept other =
+      moved_gives w op.outcome (search_found c (shown now) o (ap shown is) h room arena op there at_search w found.0 found.1 found.2 kept (loads found.0 found.2))
+      (λ height made point. search_nears c.arena op.walk w found.0 (c.steps + 1) at_search found.2 height made op.splits point)
     where
       loads : (f : Find) → w ≡ after_search f op.walk (c.steps + 1) → w.phase ≡ Load
       loads finds.Missing is_after = absurd (other (ap (λ (x : Walk). x.phase) is_after))
@@ -191,23 +197,20 @@ module _ (c : Core) (now : StateView) (o : ℕ) (is : shown c ≡ now) (h : Stat
   -- a get that has confirmed what it took
   pub confirm_gives_done : (at_confirm : op.walk.phase ≡ Confirm) → (w : Walk) → Continues op.walk w → Confirms (at c.arena op.walk.place.node) op.walk w
       → ((past : Past) (row : Option Columns) → WalksConfirm c.arena past op.task.key row op.walk → IsKept c.arena past op.task.key row w) → w.phase ≡ Done
-      → (table : Table) → table ≡ set c.table o (Some (moved op (c.steps + 1) w)) → Gives now (stepped c table) o true
-  confirm_gives_done at_confirm w same confirms kept done table e =
-      with_table c now o true table (set c.table o (Some (moved op (c.steps + 1) w))) e (confirm_done c now o is h room op there at_confirm w same confirms kept done)
+      → (table : Table) → table ≡ set c.table o (Some (moved op (c.steps + 1) w)) → StepGives table DoneMove
+  confirm_gives_done at_confirm w same confirms kept done = done_gives w op.outcome (confirm_done c (shown now) o (ap shown is) h room op there at_confirm w same confirms kept done)
 
   -- or goes on its way
   pub confirm_gives_back : (at_confirm : op.walk.phase ≡ Confirm) → (w : Walk) → Continues op.walk w → Confirms (at c.arena op.walk.place.node) op.walk w
       → ((past : Past) (row : Option Columns) → WalksConfirm c.arena past op.task.key row op.walk → IsKept c.arena past op.task.key row w) → w.phase ≢ Done
-      → (table : Table) → table ≡ set c.table o (Some (noted (moved op (c.steps + 1) w) None)) → Gives now (stepped c table) o false
-  confirm_gives_back at_confirm w same confirms kept other table e =
-      with_table c now o false table (set c.table o (Some (noted (moved op (c.steps + 1) w) None))) e (confirm_back c now o is h room op there at_confirm w same confirms kept other)
+      → (table : Table) → table ≡ led w None → StepGives table Moved
+  confirm_gives_back at_confirm w same confirms kept other =
+      moved_gives w None (confirm_back c (shown now) o (ap shown is) h room op there at_confirm w same confirms kept other)
+      (λ height made point. let k = confirming at_confirm in confirm_nears c.arena h.one_tree (past_of c) op.task.key k.0 op.walk w at_confirm k.1 confirms other height made op.splits point)
 
-  -- what a load gives: the invariant, and what the step tells
-  abbrev pub LoadGives : Table → Move → Type 0
-  LoadGives table answer = StateInvariant (stepped c table) × Tells now (shown (stepped c table)) o answer
-
+  -- a load
   pub load_gives : IsArena c.arena.nodes c.arena.trees → (at_load : op.walk.phase ≡ Load) → (w : Walk) (told : Option Outcome) → TellsLoaded (at c.arena op.walk.place.node) op (c.steps + 1) w told
-      → (table : Table) → table ≡ set c.table o (Some (noted (moved op (c.steps + 1) w) told)) → (answer : Move) → answer ≡ ending w.phase → LoadGives table answer
+      → (table : Table) → table ≡ led w told → (answer : Move) → answer ≡ ending w.phase → StepGives table answer
   load_gives arena at_load w told t table e answer ends = elim t.told [
     | inl (same, shows) ↦ taken same shows
     | inr (same, says) ↦ stopped same says
@@ -216,18 +219,19 @@ module _ (c : Core) (now : StateView) (o : ℕ) (is : shown c ≡ now) (h : Stat
       same_now : Continues op.walk t.after
       same_now = record { writes = ap (λ (x : Walk). x.writes) t.loads.is; first = ap (λ (x : Walk). x.first) t.loads.is }
 
-      taken : w ≡ t.after → ShowsTaken op t.row t.after told → LoadGives table answer
+      taken : w ≡ t.after → ShowsTaken op t.row t.after told → StepGives table answer
       taken same shows =
-          let g = with_table c now o false table (set c.table o (Some (noted (moved op (c.steps + 1) t.after) told))) (e ∙ ap (λ (x : Walk). set c.table o (Some (noted (moved op (c.steps + 1) x) told))) same)
-          (load_taken c now o is h room arena op there at_load t.after t.row told t.loads shows same_now
-          (λ past stamped since. kept_loads c.arena op.task.key op.walk t.after past t.row arena (load_kept at_load) stamped since t.loads)) in
-          (g.0, subst (λ (a : Move). Tells now (shown (stepped c table)) o a) (sym (ends ∙ ap (λ (x : Walk). ending x.phase) same ∙ ap (λ (x : Walk). ending x.phase) t.loads.is)) g.1)
+          subst (StepGives table) (sym (ends ∙ ap (λ (x : Walk). ending x.phase) same ∙ ap (λ (x : Walk). ending x.phase) t.loads.is))
+          (moved_gives t.after told
+          (load_taken c (shown now) o (ap shown is) h room arena op there at_load t.after t.row told t.loads shows same_now
+          (λ past stamped since. kept_loads c.arena op.task.key op.walk t.after past t.row arena (load_kept at_load) stamped since t.loads))
+          (λ height made point. load_nears c.arena op.walk t.after t.after.taken t.after.right_at at_load t.loads.is height made op.splits point)
+          table (e ∙ ap (λ (x : Walk). led x told) same))
 
-      stopped : w ≡ record t.after { phase = Done } → Says told NoMemory (c.steps + 1) → LoadGives table answer
+      stopped : w ≡ record t.after { phase = Done } → Says told NoMemory (c.steps + 1) → StepGives table answer
       stopped same says =
           let after : Walk = record t.after { phase = Done } in
-          let none : Option Outcome = Some (record { reply = NoMemory; at = c.steps + 1 }) in
-          let g = with_table c now o true table (set c.table o (Some (noted (moved op (c.steps + 1) after) none)))
-          (e ∙ ap (λ (x : Walk). set c.table o (Some (noted (moved op (c.steps + 1) x) told))) same ∙ ap (λ (x : Option Outcome). set c.table o (Some (noted (moved op (c.steps + 1) after) x))) says)
-          (load_stopped c now o is h room arena op there at_load after refl (record { writes = same_now.writes; first = same_now.first })) in
-          (g.0, subst (λ (a : Move). Tells now (shown (stepped c table)) o a) (sym (ends ∙ ap (λ (x : Walk). ending x.phase) same)) g.1)
+          subst (StepGives table) (sym (ends ∙ ap (λ (x : Walk). ending x.phase) same))
+          (done_gives after (Some (record { reply = NoMemory; at = c.steps + 1 }))
+          (load_stopped c (shown now) o (ap shown is) h room arena op there at_load after refl (record { writes = same_now.writes; first = same_now.first }))
+          table (e ∙ ap (λ (x : Walk). led x told) same ∙ ap (led after) says))

@@ -30,17 +30,16 @@ module _ (fault lack : Option Refusal) where
 
 module _ (v : StateView) (worker tenant : ℕ) (command : Command) (told : Result Ticket Refusal) where
   of_err : (refusal : Refusal) (r : Result Ticket Refusal) → IsRefusal (fault_of command) (fault_of command) refusal → Refuses (fault_made (Err refusal)) (Some refusal) r
-      → Refuses (fault_of command) (option_or (fault_of command) (first_lack v tenant command)) r
+      → Refuses (fault_of command) (option_or (fault_of command) (first_lack v)) r
   of_err refusal (Ok ticket) is h = absurd (none-some refusal (sym h))
-  of_err refusal (Err other) is h = of_refusal (fault_of command) (first_lack v tenant command) refusal other is h
+  of_err refusal (Err other) is h = of_refusal (fault_of command) (first_lack v) refusal other is h
 
   by_made : (b : Bool) (made : Result OperationView Refusal) → IsMadeOf made worker tenant command → Refuses (fault_of command) (fault_of command) made
       → Refuses (if b then Some NoTenant else fault_made made) (if b then Some NoTenant else cause_made v made) told
-      → Refuses (if b then Some NoTenant else fault_of command) (option_or (if b then Some NoTenant else fault_of command) (first_lack v tenant command)) told
+      → Refuses (if b then Some NoTenant else fault_of command) (option_or (if b then Some NoTenant else fault_of command) (first_lack v)) told
   by_made true made is refused h = h
   by_made false (Ok op) is refused h =
-      subst (λ f. Refuses f (option_or f (first_lack v tenant command)) told) (sym refused)
-      (subst (λ (w : OperationView). Refuses None (first_lack v w.tenant w.command) told) is h)
+      subst (λ f. Refuses f (option_or f (first_lack v)) told) (sym refused) h
   by_made false (Err refusal) is refused h = of_err refusal told is_refused h
     where
       is_refused : IsRefusal (fault_of command) (fault_of command) refusal

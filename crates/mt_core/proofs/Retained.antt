@@ -1,4 +1,4 @@
--- What is kept of an operation stays where only the table and the count of answers are others, and the tape goes back as far as the operation needs: for `State::admit`, `take` and `tidy`.
+-- What is kept of an operation stays where only the table and the count of answers are others, and the tape goes back as far as the operation needs: for `Inner::admit`, `take` and `tidy`.
 use Rattle.std.proofs.Common.{◌≡◌, ◌≢◌, ℕ, ◌+◌, ◌-◌, ◌<◌, ◌≤◌, Bool, true, false, Option, None, Some, sym, refl, ap, ◌∙◌, arith}
 use Rattle.std.specs.Prelude.{if◌then◌else◌}
 use Rattle.std.specs.List.{Contains}
@@ -15,7 +15,7 @@ use Rattle.mt_arena.specs.Arena.{ArenaView, content_of}
 use Rattle.mt_operation.specs.declared.outcome.Outcome.{Outcome}
 use Rattle.mt_operation.specs.declared.operation.Operation.{Operation}
 use Rattle.mt_operation.specs.declared.walk.Phase.{Phase}
-use Rattle.mt_operation.specs.declared.walk.Phase.TheVariants.{Enter, Pick, Child, Verify, Search, Load, Confirm, Forward, Lock, Judge, Store, Publish, Unlock, Done}
+use Rattle.mt_operation.specs.declared.walk.Phase.TheVariants.{Enter, Pick, Child, Verify, Search, Load, Confirm, Forward, Lock, Judge, Store, Publish, SplitStart, SplitMove, SplitPrev, LockParent, InsertChild, InteriorSplit, Reparent, RootGrow, Unlock, Done}
 use Rattle.mt_operation.specs.declared.walk.Walk.{Walk}
 use Rattle.mt_operation.specs.declared.walk.Taken.{Taken}
 use Rattle.mt_operation.specs.declared.walk.Taken.TheVariants.{Missing, Row, Link, Nothing}
@@ -30,7 +30,7 @@ use Rattle.mt_state.specs.Kept.{IsOpenOperation, IsOnItsWay, HasAnswer, TellsTak
 use Rattle.mt_state.proofs.Still.{nothing_changes}
 
 -- the same state with another count of answers, another tape and another table
-abbrev pub retaped : Core → ℕ → Kept → Table → Core
+abbrev retaped : Core → ℕ → Kept → Table → Core
 retaped c answers tape table = record c { answers = answers; tape = tape; table = table }
 
 -- a tape that tells of an operation that has begun what the state's own one tells: the contents from just before its first step on, and the writes from that step on
@@ -73,7 +73,7 @@ module _ (c : Core) (o : ℕ) (op : Operation) where
       (h.right.begun, omega (arith, h.right.since, same))
 
   -- a change was made by the first step or a later one
-  pub change_since : (p : Phase) → IsKeptAt p c o op → (m : ℕ) → change_in (view_of op) ≡ Some m → (0 < op.walk.first) × (op.walk.first ≤ m)
+  change_since : (p : Phase) → IsKeptAt p c o op → (m : ℕ) → change_in (view_of op) ≡ Some m → (0 < op.walk.first) × (op.walk.first ≤ m)
   change_since Enter h m is = absurd (no_change h.untold m is)
   change_since Pick h m is = absurd (no_change h.untold m is)
   change_since Child h m is = absurd (no_change h.untold m is)
@@ -86,9 +86,16 @@ module _ (c : Core) (o : ℕ) (op : Operation) where
   change_since Judge h m is = absurd (no_change h.untold m is)
   change_since Store h m is = absurd (no_change h.untold m is)
   change_since Publish h m is = absurd (no_change h.untold m is)
+  change_since SplitStart h m is = absurd (no_change h.untold m is)
+  change_since SplitMove h m is = absurd (no_change h.untold m is)
+  change_since SplitPrev h m is = answered h.answer m is
+  change_since LockParent h m is = answered h.answer m is
+  change_since InsertChild h m is = answered h.answer m is
+  change_since InteriorSplit h m is = answered h.answer m is
+  change_since Reparent h m is = answered h.answer m is
+  change_since RootGrow h m is = answered h.answer m is
   change_since Unlock h m is = answered h.answer m is
   change_since Done h m is = answered h m is
-  change_since _ h m is = absurd h
 
 module _ (c : Core) (answers : ℕ) (tape : Kept) (table : Table) (q : ℕ) (op : Operation) (t : TellsOf c tape op) (k : IsOpenOperation c op) where
   abbrev new : Core
@@ -138,11 +145,18 @@ module _ (c : Core) (answers : ℕ) (tape : Kept) (table : Table) (q : ℕ) (op 
   kept_stays Judge h = record { judges = h.judges; untold = h.untold; unprepared = h.unprepared }
   kept_stays Store h = record { prepared = h.prepared; has = h.has; stores = h.stores; untold = h.untold }
   kept_stays Publish h = record { prepared = h.prepared; has = h.has; publishes = h.publishes; untold = h.untold }
+  kept_stays SplitStart h = record { prepared = h.prepared; has = h.has; starts = h.starts; untold = h.untold }
+  kept_stays SplitMove h = record { prepared = h.prepared; has = h.has; moves = h.moves; untold = h.untold }
+  kept_stays SplitPrev h = record { climbs = h.climbs; answer = told_stays h.answer }
+  kept_stays LockParent h = record { climbs = h.climbs; answer = told_stays h.answer }
+  kept_stays InsertChild h = record { climbs = h.climbs; answer = told_stays h.answer }
+  kept_stays InteriorSplit h = record { climbs = h.climbs; answer = told_stays h.answer }
+  kept_stays Reparent h = record { climbs = h.climbs; answer = told_stays h.answer }
+  kept_stays RootGrow h = record { climbs = h.climbs; answer = told_stays h.answer }
   kept_stays Unlock h = record { unlocks = h.unlocks; answer = told_stays h.answer }
   kept_stays Done h = told_stays h
-  kept_stays _ h = absurd h
 
-  pub open_retained : IsOpenOperation new op
+  open_retained : IsOpenOperation new op
   open_retained = record {
     stored = k.stored;
     owner = k.owner;
@@ -162,6 +176,7 @@ module _ (c : Core) (answers : ℕ) (tape : Kept) (table : Table) (q : ℕ) (op 
   retained h = record {
     always = open_retained;
     kept = kept_stays op.walk.phase h.kept;
+    unsplit = h.unsplit;
     placed = λ m is.
         let once = h.placed m is in
         let since = change_since c q op op.walk.phase h.kept m is in

@@ -1,22 +1,17 @@
--- The invariant of a state with another table: one operation more, or one that holds nothing less: for `State::admit`, `take` and `cancel`.
-use Rattle.std.proofs.Common.{◌≡◌, ◌≢◌, ℕ, suc, ◌+◌, ◌<◌, ◌≤◌, ◌⊎◌, inl, inr, true, false, [], ◌∷◌, length, set, zero, Some, None, IsSome, refl, sym, ap, subst, ◌∙◌, arith}
+-- The invariant of a state with another table: one operation more, or one that holds nothing less: for `Inner::admit`, `take` and `cancel`.
+use Rattle.std.proofs.Common.{◌≡◌, ◌≢◌, ℕ, suc, ◌+◌, ◌<◌, ◌≤◌, inl, inr, false, [], ◌∷◌, length, set, zero, Some, None, refl, sym, ap, subst, ◌∙◌, arith}
 use Rattle.std.specs.Prelude.{if◌then◌else◌}
 use Rattle.std.specs.Option.{option_map}
 use Rattle.std.proofs.lemmas.Bool.{cases_eq}
 use Rattle.std.proofs.lemmas.Option.{same_Some, none-some}
-use Rattle.std.specs.FinMap.{get}
-use Rattle.mt_rows.specs.Maps.{is_get}
-use Rattle.mt_border.specs.Contents.{owned}
-use Rattle.mt_arena.specs.Arena.{content_of}
 use Rattle.mt_arena.specs.Accesses.{at}
 use Rattle.mt_operation.specs.declared.operation.Operation.{Operation}
-use Rattle.mt_operation.specs.Tasks.{ask}
-use Rattle.mt_operation.specs.Operations.{view_of, is_done, is_unfinished}
-use Rattle.mt_operation.specs.Tables.{Table, HasOpenPut, op_at as operation_at}
+use Rattle.mt_operation.specs.Operations.{view_of}
+use Rattle.mt_operation.specs.Tables.{Table, op_at as operation_at}
 use Rattle.mt_operation.proofs.Tables.{set_there, set_none}
 use Rattle.mt_state.specs.Views.{Core, Shown}
 use Rattle.mt_state.specs.Kept.{IsKeptOf}
-use Rattle.mt_state.specs.Invariant.{HoldsAt, IsOnePut, StateInvariant, is_prepared, one_if_prepared, prepared_count, made_count, is_unplaced}
+use Rattle.mt_state.specs.Invariant.{HoldsAt, StateInvariant, is_prepared, one_if_prepared, prepared_count, made_count}
 use Rattle.mt_state.proofs.Shown.{shown_table, shown_at, shown_there, shown_set}
 use Rattle.mt_state.proofs.Answered.{answered_begun}
 use Rattle.mt_core.proofs.Retained.{retained, own_tape}
@@ -26,7 +21,7 @@ abbrev pub with_table : Core → ℕ → Table → Core
 with_table c answers table = record c { answers = answers; table = table }
 
 -- two tables have as many operations that are ready where each id has as many
-pub same_count : (t u : Table) → ((q : ℕ) → one_if_prepared (operation_at t q) ≡ one_if_prepared (operation_at u q)) → prepared_count t ≡ prepared_count u
+same_count : (t u : Table) → ((q : ℕ) → one_if_prepared (operation_at t q) ≡ one_if_prepared (operation_at u q)) → prepared_count t ≡ prepared_count u
 same_count [] [] h = refl
 same_count [] (y ∷ u) h = let rest = same_count [] u (λ q. h (suc q)) in let here = h 0 in omega (arith, rest, here)
 same_count (x ∷ t) [] h = let rest = same_count t [] (λ q. h (suc q)) in let here = h 0 in omega (arith, rest, here)
@@ -34,9 +29,9 @@ same_count (x ∷ t) (y ∷ u) h = let rest = same_count t u (λ q. h (suc q)) i
 
 module _ (c : Core) (o answers : ℕ) (table : Table) (h : StateInvariant c) (others : (q : ℕ) → q ≢ o → operation_at table q ≡ operation_at c.table q) where
   -- the invariant stays where it holds of that one operation
-  pub table_sound : ((k : ℕ) → k < length c.arena.nodes → (at c.arena k).holder ≡ Some o → ⊥) → ((op : Operation) → operation_at table o ≡ Some op → IsKeptOf (with_table c answers table) o op)
-      → one_if_prepared (operation_at table o) ≡ one_if_prepared (operation_at c.table o) → answers + made_count (shown_table table) ≤ c.steps → IsOnePut (with_table c answers table) → StateInvariant (with_table c answers table)
-  table_sound free own weight bound one_put = record {
+  table_sound : ((k : ℕ) → k < length c.arena.nodes → (at c.arena k).holder ≡ Some o → ⊥) → ((op : Operation) → operation_at table o ≡ Some op → IsKeptOf (with_table c answers table) o op)
+      → one_if_prepared (operation_at table o) ≡ one_if_prepared (operation_at c.table o) → answers + made_count (shown_table table) ≤ c.steps → StateInvariant (with_table c answers table)
+  table_sound free own weight bound = record {
     tape = record { rises = h.tape.rises; made = h.tape.made; legal = h.tape.legal };
     stamps = h.stamps;
     versions = h.versions;
@@ -53,8 +48,7 @@ module _ (c : Core) (o answers : ℕ) (table : Table) (h : StateInvariant c) (ot
       | inr other ↦ ap one_if_prepared (others q other)
     ]));
     answered = bound;
-    one_border = h.one_border;
-    one_put = one_put;
+    one_tree = h.one_tree;
     few = h.few;
   }
 
@@ -68,65 +62,25 @@ pub made_inside : (table : Table) (o : ℕ) → made_count (shown_table (set tab
 made_inside table o = let is = ap made_count (shown_set table o None) in let less = made_without (shown_table table) o in omega (arith, is, less)
 
 -- an operation less, which held nothing and had nothing ready
-pub removed_sound : (c : Core) (o answers : ℕ) (op : Operation) → StateInvariant c → operation_at c.table o ≡ Some op → ((node k : ℕ) → HoldsAt op.walk.phase node k → ⊥) → is_prepared op.walk.phase ≡ false
+pub removed_sound : (c : Core) (o answers : ℕ) (op : Operation) → StateInvariant c → operation_at c.table o ≡ Some op → ((k : ℕ) → HoldsAt op.walk.phase op.walk op.splits k → ⊥) → is_prepared op.walk.phase ≡ false
     → answers + made_count (shown_table (set c.table o None)) ≤ c.steps → StateInvariant (with_table c answers (set c.table o None))
 removed_sound c o answers op h there free unready bound =
     table_sound c o answers (set c.table o None) h (λ q ne. set_there c.table o q None ne)
     (λ k within held.
     let w = h.holders k o within held in
     let same = same_Some w.0 op (sym w.1 ∙ there) in
-    free w.0.walk.place.node k (subst (λ p. HoldsAt p w.0.walk.place.node k) (ap (λ (x : Operation). x.walk.phase) same) w.2))
+    free k (subst (λ (x : Operation). HoldsAt x.walk.phase x.walk x.splits k) same w.2))
     (λ x is. absurd (none-some x (sym (set_none c.table o) ∙ is)))
     (ap one_if_prepared (set_none c.table o) ∙ sym (ap one_if_prepared there ∙ ap (λ b. if b then 1 else 0) unready))
     bound
-    (record {
-      one = λ p q a b at_a at_b. h.one_put.one p q a b (was p a at_a) (was q b at_b);
-      room = λ q x is. h.one_put.room q x (was q x is);
-    })
-  where
-    was : (q : ℕ) (x : Operation) → operation_at (set c.table o None) q ≡ Some x → operation_at c.table q ≡ Some x
-    was q x is = elim (cases_eq q o) [
-      | inl same ↦ absurd (none-some x (sym (set_none c.table o) ∙ ap (operation_at (set c.table o None)) (sym same) ∙ is))
-      | inr other ↦ sym (set_there c.table o q None other) ∙ is
-    ]
 
 -- an operation more
 module _ (c : Core) (o : ℕ) (op : Operation) (table : Table) (h : StateInvariant c) (vacant : operation_at c.table o ≡ None) (there : operation_at table o ≡ Some op) (others : (q : ℕ) → q ≢ o → operation_at table q ≡ operation_at c.table q) where
   -- the invariant with an operation more
-  pub begun_sound : op.walk.first ≡ 0 → one_if_prepared (Some op) ≡ 0 → IsKeptOf (with_table c c.answers table) o op → (is_get (ask op.task) ≡ false → ¬ HasOpenPut c.table)
-      → (is_get (ask op.task) ≡ false → (length (at c.arena 0).slots < 15) ⊎ IsSome (get (content_of c.arena) (owned op.task.key))) → StateInvariant (with_table c c.answers table)
-  begun_sound still unready kept alone room = table_sound c o c.answers table h others
+  pub begun_sound : op.walk.first ≡ 0 → one_if_prepared (Some op) ≡ 0 → IsKeptOf (with_table c c.answers table) o op → StateInvariant (with_table c c.answers table)
+  begun_sound still unready kept = table_sound c o c.answers table h others
       (λ k within held. let w = h.holders k o within held in none-some w.0 (sym vacant ∙ w.1))
       (λ x is. subst (IsKeptOf (with_table c c.answers table) o) (same_Some op x (sym there ∙ is)) kept)
       (ap one_if_prepared there ∙ unready ∙ sym (ap one_if_prepared vacant))
       (answered_begun c.answers c.steps (shown_table c.table) (shown_table table) o (view_of op) (shown_at c.table o ∙ ap (option_map view_of) vacant) (shown_there table o op there) still
       (λ q other. shown_at table q ∙ ap (option_map view_of) (others q other) ∙ sym (shown_at c.table q)) h.answered)
-      (record { one = one; room = rooms })
-    where
-      -- each put that is open was so before, or is the new one
-      was : (q : ℕ) (x : Operation) → operation_at table q ≡ Some x → ((q ≡ o) × (op ≡ x)) ⊎ ((q ≢ o) × (operation_at c.table q ≡ Some x))
-      was q x is = elim (cases_eq q o) [
-        | inl same ↦ inl (same, same_Some op x (sym there ∙ ap (operation_at table) (sym same) ∙ is))
-        | inr other ↦ inr (other, sym (others q other) ∙ is)
-      ]
-
-      unfinished : (x : Operation) → is_done x.walk.phase ≡ false → is_unfinished x ≡ true
-      unfinished x left = cc
-
-      one : (p q : ℕ) (a b : Operation) → operation_at table p ≡ Some a → operation_at table q ≡ Some b → is_get (ask a.task) ≡ false → is_get (ask b.task) ≡ false → is_done a.walk.phase ≡ false → is_done b.walk.phase ≡ false → p ≡ q
-      one p q a b at_a at_b put_a put_b left_a left_b = elim (was p a at_a) [
-        | inl (p_is, a_is) ↦ elim (was q b at_b) [
-          | inl (q_is, b_is) ↦ p_is ∙ sym q_is
-          | inr (other, there_b) ↦ absurd (alone (ap (λ (w : Operation). is_get (ask w.task)) a_is ∙ put_a) (q, b, there_b, put_b, unfinished b left_b))
-        ]
-        | inr (other, there_a) ↦ elim (was q b at_b) [
-          | inl (q_is, b_is) ↦ absurd (alone (ap (λ (w : Operation). is_get (ask w.task)) b_is ∙ put_b) (p, a, there_a, put_a, unfinished a left_a))
-          | inr (beside, there_b) ↦ h.one_put.one p q a b there_a there_b put_a put_b left_a left_b
-        ]
-      ]
-
-      rooms : (q : ℕ) (x : Operation) → operation_at table q ≡ Some x → is_get (ask x.task) ≡ false → is_unplaced x.walk.phase ≡ true → (length (at c.arena 0).slots < 15) ⊎ IsSome (get (content_of c.arena) (owned x.task.key))
-      rooms q x is put waits = elim (was q x is) [
-        | inl (same, it) ↦ subst (λ (w : Operation). (length (at c.arena 0).slots < 15) ⊎ IsSome (get (content_of c.arena) (owned w.task.key))) it (room (ap (λ (w : Operation). is_get (ask w.task)) it ∙ put))
-        | inr (other, before) ↦ h.one_put.room q x before put waits
-      ]

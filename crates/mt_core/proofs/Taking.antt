@@ -1,4 +1,4 @@
--- What a take and a cancelling make of a state, and what they tell: for `State::take` and `cancel`.
+-- What a take and a cancelling make of a state, and what they tell: for `Inner::take` and `cancel`.
 use Rattle.std.proofs.Common.{◌≡◌, ◌≢◌, ℕ, ◌+◌, ◌<◌, true, false, set, None, Some, refl, sym, ap, subst, ◌∙◌, arith}
 use Rattle.std.specs.Prelude.{not}
 use Rattle.std.proofs.lemmas.Option.{same_Some, none-some}
@@ -16,8 +16,6 @@ use Rattle.mt_state.specs.Begins.{IsAnswerOf, Takes, IsEnded}
 use Rattle.mt_state.proofs.Shown.{shown_there, shown_set, inside_of}
 use Rattle.mt_state.proofs.Answered.{answered_out}
 use Rattle.mt_core.specs.Tickets.{IsStill, Cancels}
-use Rattle.mt_core.specs.Fresh.{IsState}
-use Rattle.mt_core.proofs.FreshStates.{gone_fresh}
 use Rattle.mt_core.proofs.Tabling.{with_table, removed_sound, made_inside}
 
 -- an operation that is finished has its answer
@@ -37,23 +35,20 @@ pub done_told : (c : Core) (o : ℕ) → StateInvariant c → (op : Operation) �
 done_told c o h op there ended none = let a = done_answer c o op h there (ended_done op ended) in none-some a.outcome (sym none ∙ a.told)
 
 -- what a give-up leaves where it has an answer
-abbrev pub GaveUp : Core → ℕ → Table → Answer → Type 0
+abbrev GaveUp : Core → ℕ → Table → Answer → Type 0
 GaveUp c o table answer = (op : Operation) × (operation_at c.table o ≡ Some op) × IsAnswerOf (view_of op) answer × (table ≡ set c.table o None)
 
 -- and where it has none
-abbrev pub GaveNone : Core → ℕ → Table → Type 0
+abbrev GaveNone : Core → ℕ → Table → Type 0
 GaveNone c o table = (table ≡ c.table) × ((op : Operation) → operation_at c.table o ≡ Some op → is_unfinished op ≡ true)
 
 -- a take leaves the invariant, with one answer more
-taken_by : (c : Core) (o : ℕ) (table : Table) (answer : Answer) → StateInvariant c → GaveUp c o table answer → StateInvariant (with_table c (c.answers + 1) table)
-taken_by c o table answer h took =
+pub taken_state : (c : Core) (o : ℕ) (table : Table) (answer : Answer) → StateInvariant c → GaveUp c o table answer → StateInvariant (with_table c (c.answers + 1) table)
+taken_state c o table answer h took =
     let a = done_answer c o took.0 h took.1 took.2.finished in
     subst (λ t. StateInvariant (with_table c (c.answers + 1) t)) (sym took.3)
-    (removed_sound c o (c.answers + 1) took.0 h took.1 (λ node k held. subst (λ p. HoldsAt p node k) took.2.finished held) (ap is_prepared took.2.finished)
+    (removed_sound c o (c.answers + 1) took.0 h took.1 (λ k held. subst (λ p. HoldsAt p took.0.walk took.0.splits k) took.2.finished held) (ap is_prepared took.2.finished)
     (answered_out c.answers c.steps c.table o took.0 took.1 a.right.begun h.answered))
-
-pub taken_state : (c : Core) (o : ℕ) (table : Table) (answer : Answer) → IsState c → GaveUp c o table answer → IsState (with_table c (c.answers + 1) table)
-taken_state c o table answer h took = record { state = taken_by c o table answer h.state took; fresh = gone_fresh c o (c.answers + 1) table h.fresh took.3 }
 
 -- what a take tells
 pub takes_by : (c : Core) (now : StateView) (o : ℕ) (table : Table) (answer : Answer) → shown c ≡ now → StateInvariant c → GaveUp c o table answer → Takes now (shown (with_table c (c.answers + 1) table)) o answer
@@ -89,19 +84,16 @@ still_enters : (c : Core) (o : ℕ) (op : Operation) → StateInvariant c → op
 still_enters c o op h there none = enters op.walk.phase (λ other. let begun = (h.ops o op there).always.begun other in omega (arith, begun, none))
 
 -- what is left where an operation is given back
-abbrev pub GaveBack : Core → ℕ → Table → Type 0
+abbrev GaveBack : Core → ℕ → Table → Type 0
 GaveBack c o table = (op : Operation) × (operation_at c.table o ≡ Some op) × (op.walk.first ≡ 0) × (table ≡ set c.table o None)
 
 -- a cancelling leaves the invariant
-cancelled_by : (c : Core) (o : ℕ) (table : Table) → StateInvariant c → GaveBack c o table → StateInvariant (with_table c c.answers table)
-cancelled_by c o table h gave =
+pub cancelled_state : (c : Core) (o : ℕ) (table : Table) → StateInvariant c → GaveBack c o table → StateInvariant (with_table c c.answers table)
+cancelled_state c o table h gave =
     let at = still_enters c o gave.0 h gave.1 gave.2 in
     subst (λ t. StateInvariant (with_table c c.answers t)) (sym gave.3)
-    (removed_sound c o c.answers gave.0 h gave.1 (λ node k held. subst (λ p. HoldsAt p node k) at held) (ap is_prepared at)
+    (removed_sound c o c.answers gave.0 h gave.1 (λ k held. subst (λ p. HoldsAt p gave.0.walk gave.0.splits k) at held) (ap is_prepared at)
     (let less = made_inside c.table o in let bound = h.answered in omega (arith, less, bound)))
-
-pub cancelled_state : (c : Core) (o : ℕ) (table : Table) → IsState c → GaveBack c o table → IsState (with_table c c.answers table)
-cancelled_state c o table h gave = record { state = cancelled_by c o table h.state gave; fresh = gone_fresh c o c.answers table h.fresh gave.3 }
 
 -- what it tells
 pub cancels_by : (c : Core) (now : StateView) (o : ℕ) (table : Table) → shown c ≡ now → GaveBack c o table → Cancels now (shown (with_table c c.answers table)) o

@@ -1,8 +1,8 @@
--- How an edge is printed: for the `Display` of an edge.
-use Rattle.std.proofs.Common.{◌≡◌, ℕ, ◌-◌, ◌^◌, true, false, List, [], ◌++◌, length, replicate, Option, Some, sym, ap, ◌∙◌, arith}
+-- How what stands in a line is printed: for the `Display`s of edges, separators and indents.
+use Rattle.std.proofs.Common.{◌≡◌, ℕ, ◌+◌, ◌-◌, ◌*◌, ◌^◌, true, false, List, [], ◌++◌, length, replicate, Option, Some, sym, ap, ◌∙◌, arith}
 use Rattle.std.specs.Prelude.{codes}
 use Rattle.std.specs.Fmt.{digits, decimal, padded_integral, format_spec, char_count, ◌++?◌}
-use Rattle.std.proofs.lemmas.List.{append-nil}
+use Rattle.std.proofs.lemmas.List.{append-nil, replicate-append-replicate}
 use Rattle.mt_slices.specs.declared.mark.Mark.TheVariants.{Short, Long}
 use Rattle.mt_core.specs.declared.shape.Edge.{Edge}
 use Rattle.mt_core.specs.Shapes.{sixteen_digits, mark_text, edge_text}
@@ -37,3 +37,10 @@ module _ (e : Edge) (slice : Option (List ℕ)) (written : slice ≡ Some (sixte
       ap (λ o. o ++? Some (codes ":L")) written
       ∙ ap (λ b. Some (sixteen_digits e.slice ++ (codes ":" ++ mark_text Long b))) (sym link)
       ∙ ap (λ m. Some (sixteen_digits e.slice ++ (codes ":" ++ mark_text m e.is_link))) (sym is)
+
+-- two spaces more
+pub two_more : (n : ℕ) → replicate (2 * n) 32 ++ codes "  " ≡ replicate (2 * (n + 1)) 32
+two_more n =
+    let space : ℕ = 32 in
+    let even : 2 * n + 2 ≡ 2 * (n + 1) = omega arith in
+    replicate-append-replicate (2 * n) 2 space ∙ ap (λ k. replicate k space) even

@@ -1,4 +1,4 @@
--- A trim to the floor that a tape needs keeps the invariant, and all that a tidying promises: for `State::tidy`.
+-- A trim to the floor that a tape needs keeps the invariant, and all that a tidying promises: for `Inner::tidy`.
 use Rattle.std.proofs.Common.{◌≡◌, ℕ, ◌<◌, ◌≤◌, inl, inr, List, [], ◌∷◌, Some, sym, refl, ap, subst, arith}
 use Rattle.std.specs.List.{Contains}
 use Rattle.std.proofs.lemmas.Bool.{cases_lt}
@@ -20,7 +20,7 @@ use Rattle.mt_core.specs.Tidies.{Tidies, IsBeforeFirsts as IsBeforeAll, IsFloorN
 use Rattle.mt_core.proofs.Retained.{TellsOf, retained}
 
 -- an entry of a step after a floor is one of those that are kept
-pub later_has : (floor : ℕ) (entries : List TapeEntry) (e : TapeEntry) → Contains entries e → floor < e.step → Contains (later_entries floor entries) e
+later_has : (floor : ℕ) (entries : List TapeEntry) (e : TapeEntry) → Contains entries e → floor < e.step → Contains (later_entries floor entries) e
 later_has floor [] e has lt = has
 later_has floor (x ∷ entries) e has lt = elim (Contains-append_cases (x ∷ []) entries e has) [
   | inl here ↦
@@ -44,7 +44,7 @@ pub firsts_made : (c : Core) → StateInvariant c → (q : ℕ) (op : Operation)
 firsts_made c h q op there = let k = (h.ops q op there).always in omega (arith, k.order, k.made)
 
 -- the tape that begins at a later floor
-abbrev pub trimmed : Core → ℕ → Kept
+abbrev trimmed : Core → ℕ → Kept
 trimmed c floor = record c.tape { entries = later_entries floor c.tape.entries; floor = floor }
 
 module _ (c : Core) (floor : ℕ) (h : StateInvariant c) (rises : c.tape.floor ≤ floor) (made : floor ≤ c.steps) (before : IsBeforeFirsts c.table floor) where
@@ -60,7 +60,7 @@ module _ (c : Core) (floor : ℕ) (h : StateInvariant c) (rises : c.tape.floor �
   }
 
   -- a trim to a floor before the first step of each operation leaves the invariant
-  pub trimmed_sound : StateInvariant new
+  trimmed_sound : StateInvariant new
   trimmed_sound = record {
     tape = record {
       rises = rises-later_entries c.tape.floor floor c.tape.entries h.tape.rises rises;
@@ -82,8 +82,7 @@ module _ (c : Core) (floor : ℕ) (h : StateInvariant c) (rises : c.tape.floor �
     ops = λ o op there. let k = h.ops o op there in retained c c.answers (trimmed c floor) c.table o op (tells o op there) k.always k;
     reserved = h.reserved;
     answered = h.answered;
-    one_border = h.one_border;
-    one_put = record { one = h.one_put.one; room = h.one_put.room };
+    one_tree = h.one_tree;
     few = h.few;
   }
 

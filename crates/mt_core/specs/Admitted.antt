@@ -1,36 +1,23 @@
 -- What is made of a command before its operation is begun, and which refusals a begin of it answers.
-use Rattle.std.specs.Prelude.{◌≡◌, ℕ, ◌<◌, ◌≤◌, ◌⊎◌, not, false, if◌then◌else◌, length, Option, Some, None, Result, Ok, Err}
+use Rattle.std.specs.Prelude.{◌≡◌, ℕ, ◌≤◌, not, if◌then◌else◌, length, Option, Some, None, Result, Ok, Err}
 use Rattle.std.specs.Option.{is_none}
 use Rattle.mt_slices.specs.Keys.{IsStoredKey}
 use Rattle.mt_rows.specs.declared.command.Command.{Command}
-use Rattle.mt_rows.specs.declared.command.Command.TheVariants.{Get, Put}
 use Rattle.mt_rows.specs.declared.refusal.Refusal.{Refusal}
 use Rattle.mt_rows.specs.declared.refusal.Refusal.TheVariants.{Memory, NoTenant}
 use Rattle.mt_rows.specs.Accounts.{account_of}
 use Rattle.mt_rows.specs.Commands.{key_of, HasColumns}
 use Rattle.mt_rows.specs.Maps.{is_get}
-use Rattle.mt_slices.specs.Slices.{slice_of, mark_of}
 use Rattle.mt_border.specs.Contents.{owned}
-use Rattle.mt_border.specs.Entries.{IsMissing}
-use Rattle.mt_border.specs.declared.entry.FoundKind.TheVariants.{ThisKey}
-use Rattle.mt_arena.specs.NodeView.{NodeView}
 use Rattle.mt_operation.specs.declared.task.Request.{Request}
-use Rattle.mt_operation.specs.declared.task.Task.{Task}
 use Rattle.mt_operation.specs.declared.operation.Operation.{Operation}
 use Rattle.mt_operation.specs.Tasks.{command_of, ask}
-use Rattle.mt_operation.specs.Operations.{OperationView, view_of}
+use Rattle.mt_operation.specs.Operations.{OperationView, view_of, IsUnsplit}
 use Rattle.mt_operation.specs.Walks.{walk_from_top}
-use Rattle.mt_descent.specs.Kept.{IsInSlot}
 use Rattle.mt_state.specs.Views.{StateView}
 use Rattle.mt_state.specs.Begins.{begun, Begins, IsWorker, MayBegin}
 use Rattle.mt_state.specs.Refused.{first_lack, Refuses}
 use Rattle.mt_core.specs.declared.answers.Ticket.{Ticket}
-
--- a get or a put
-abbrev pub IsPoint : Command → Type 0
-IsPoint (Get key columns) = Unit {0}
-IsPoint (Put key change) = Unit {0}
-IsPoint _ = ⊥
 
 -- a request of a command: of a short key, and of columns that may be named
 pub record IsRequest (request : Request) (command : Command) : Type 0 where
@@ -43,20 +30,11 @@ pub record IsAdmitted (op : Operation) : Type 0 where
   pub is_begun : view_of op ≡ begun op.task.worker op.task.tenant (ask op.task)
   pub walk : op.walk ≡ walk_from_top (not (is_get (ask op.task))) 0
   pub unprepared : op.prepared ≡ None
+  pub unsplit : IsUnsplit op.splits
   pub stored : IsStoredKey op.task.key
   pub owner : owned op.task.key ≡ (op.task.tenant, key_of (ask op.task))
   pub short : length op.task.key ≤ 8
   pub columns : HasColumns (ask op.task)
-
--- a get, or a put that finds its key or room in the node
-abbrev pub HasRoomFor : NodeView → Task → Type 0
-HasRoomFor node task = is_get (ask task) ≡ false → (length node.slots < 15) ⊎ ((slot : ℕ) × IsInSlot node slot task.key 0 ThisKey)
-
--- a put whose key is missing in a full node
-pub record LacksRoom (node : NodeView) (task : Task) : Type 0 where
-  pub put : is_get (ask task) ≡ false
-  pub full : 15 ≤ length node.slots
-  pub missing : IsMissing node.slots (slice_of task.key 0) (mark_of task.key 0)
 
 -- what a begin would begin, as it is shown, or for which fault it is refused; and for which tenant
 pub record OpeningView : Type 0 where
@@ -77,9 +55,9 @@ abbrev pub IsMadeOf : Result OperationView Refusal → ℕ → ℕ → Command �
 IsMadeOf (Ok op) worker tenant command = op ≡ begun worker tenant command
 IsMadeOf (Err refusal) worker tenant command = Unit {0}
 
--- the operation of an opening is of a worker of the state, and may be begun in it
+-- the operation of an opening is of a worker of the state, and may be begun
 abbrev pub MayAdmit : StateView → Result OperationView Refusal → Type 0
-MayAdmit v (Ok op) = IsWorker v.logs op.worker × MayBegin v.table op.command
+MayAdmit v (Ok op) = IsWorker v.logs op.worker × MayBegin op.command
 MayAdmit v (Err refusal) = Unit {0}
 
 -- what an opening may answer: a refused one changes nothing
@@ -94,7 +72,7 @@ fault_made (Err Memory) = None
 fault_made (Err refusal) = Some refusal
 
 abbrev pub cause_made : StateView → Result OperationView Refusal → Option Refusal
-cause_made v (Ok op) = first_lack v op.tenant op.command
+cause_made v (Ok op) = first_lack v
 cause_made v (Err refusal) = Some refusal
 
 abbrev pub first_fault_of : StateView → OpeningView → Option Refusal

@@ -5,7 +5,8 @@ pub mod Admitted
 pub mod Tickets
 pub mod Nexts
 pub mod Looks
+pub mod Climbs
 pub mod Tidies
 pub mod Rights
 pub mod Alone
-pub mod Fresh
+pub mod Points

@@ -1,22 +1,15 @@
--- An entry into a tree; a load, and what it shows.
+-- A load, and what it shows.
 use Rattle.std.specs.Prelude.{◌≡◌, ℕ, ◌⊎◌, Option}
 use Rattle.mt_rows.specs.Rows.{Columns}
 use Rattle.mt_rows.specs.declared.reply.Reply.TheVariants.{NoMemory}
 use Rattle.mt_arena.specs.NodeView.{NodeView}
-use Rattle.mt_arena.specs.Forests.{tree_at}
-use Rattle.mt_arena.specs.Arena.{ArenaView}
-use Rattle.mt_arena.specs.Accesses.{at}
 use Rattle.mt_operation.specs.declared.walk.Phase.TheVariants.{Done}
 use Rattle.mt_operation.specs.declared.walk.Walk.{Walk}
 use Rattle.mt_operation.specs.declared.outcome.Outcome.{Outcome}
 use Rattle.mt_operation.specs.declared.operation.Operation.{Operation}
-use Rattle.mt_descent.specs.Moves.{Loads, after_enter}
+use Rattle.mt_descent.specs.Moves.{Loads}
 use Rattle.mt_state.specs.Notes.{Says}
 use Rattle.mt_state.specs.Ways.{ShowsTaken}
-
--- who enters comes to the root of its tree, and remembers its version
-abbrev pub Enters : ArenaView → Walk → Walk → Type 0
-Enters v before after = let tree = tree_at v.trees before.place.tree in after ≡ after_enter tree.standing before tree.root (at v tree.root).version
 
 -- a load by the step of this number: what it took is shown, and is to be confirmed; or there was no memory for it
 pub record TellsLoaded (n : NodeView) (op : Operation) (step : ℕ) (walk : Walk) (outcome : Option Outcome) : Type 0 where

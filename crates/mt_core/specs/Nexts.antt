@@ -2,14 +2,15 @@
 use Rattle.std.specs.Prelude.{◌≡◌, ℕ, Some}
 use Rattle.mt_operation.specs.declared.walk.Phase.{Phase}
 use Rattle.mt_operation.specs.declared.walk.Phase.TheVariants.{Done}
-use Rattle.mt_operation.specs.Operations.{OperationView}
+use Rattle.mt_operation.specs.declared.operation.Operation.{Operation}
+use Rattle.mt_operation.specs.Tables.{op_at as operation_at}
 use Rattle.mt_state.specs.declared.moves.Move.{Move}
 use Rattle.mt_state.specs.declared.moves.Move.TheVariants.{Moved, Done as DoneMove}
-use Rattle.mt_state.specs.Views.{StateView, op_at}
+use Rattle.mt_state.specs.Views.{Core}
 
 -- the operation is there, and P holds of its phase
-abbrev pub IsNext : StateView → ℕ → (Phase → Type 0) → Type 0
-IsNext v o P = (op : OperationView) × (op_at v.table o ≡ Some op) × P op.phase
+abbrev pub IsNext : Core → ℕ → (Phase → Type 0) → Type 0
+IsNext c o P = (op : Operation) × (operation_at c.table o ≡ Some op) × P op.walk.phase
 
 -- what a step answers that leads to this phase
 abbrev pub ending : Phase → Move

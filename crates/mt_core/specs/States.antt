@@ -1,5 +1,5 @@
 -- What is inside a state, as its invariant sees it.
-use Rattle.mt_core.specs.declared.state.State.TheInside.{Inside}
+use Rattle.mt_core.specs.declared.inner.Inner.TheInside.{Inside}
 use Rattle.mt_state.specs.Views.{Core}
 
 -- what is inside

@@ -37,7 +37,7 @@ abbrev pub TellsCancel : StateView → StateView → Ticket → Result (Unit {0}
 TellsCancel old new ticket (Ok done) = Cancels old new ticket.id
 TellsCancel old new ticket (Err back) = (back ≡ ticket) × (new ≡ old) × ¬ IsStill old.table ticket.id
 
--- Memory may stand in place of NoRoom, of Spent and of a success, and never of a fault
+-- Memory may stand in place of Spent and of a success, and never of a fault
 abbrev pub TellsRefusal : StateView → ℕ → Command → Result Ticket Refusal → Type 0
 TellsRefusal v tenant command result = Refuses (first_fault v tenant command) (cause_of v tenant command) result
 

@@ -60,8 +60,7 @@ struct Roster {
 /// Lets events happen to a new state, and gives it back with what each answered.
 ///
 /// A begin by a name by which one was begun before, and a step by a name whose operation is not open,
-/// answer `NoSuch`; so does a begin that the state can't take: a remove, a scan, or a put while another
-/// has a step left. A begin that is refused leaves its name free. The answer of an operation is taken
+/// answer `NoSuch`; so does a begin that the state can't take: a remove or a scan. A begin that is refused leaves its name free. The answer of an operation is taken
 /// with its last step.
 pub fn run_events(
     alloc: Global,
@@ -126,7 +125,7 @@ fn begin_by(
     ensures by_id { OnOk result (AreById roster.new.names (named roster.new.tickets)) }
     ensures tells { IfOk result (λ told. TellsEvent (named roster.old.tickets) state.old (named roster.new.tickets) state.new (Begin op worker tenant command.now) told) }
 {
-    if roster.tickets.contains_key(&op) || !may_begin(state, command) {
+    if roster.tickets.contains_key(&op) || !may_begin(command) {
         return Ok(Told::NoSuch);
     }
     match state.begin(worker, tenant, command.copied()?) {
@@ -139,15 +138,11 @@ fn begin_by(
     }
 }
 
-// Whether the state takes the command now.
-fn may_begin(state: &State, command: &Command) -> bool
-    ensures { IsTrue result ↔ MayBegin state.now.table command.now }
+// Whether the state takes the command.
+fn may_begin(command: &Command) -> bool
+    ensures { IsTrue result ↔ MayBegin command.now }
 {
-    match command {
-        Command::Get { .. } => true,
-        Command::Put { .. } => !state.has_open_put(),
-        Command::Remove { .. } | Command::Scan { .. } => false,
-    }
+    matches!(command, Command::Get { .. } | Command::Put { .. })
 }
 
 // Makes one step of the operation of a name, and takes its answer with its last one.

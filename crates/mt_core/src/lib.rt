@@ -7,7 +7,9 @@
 #![tactic(auto)]
 
 pub mod answers;
+mod climbs;
 pub mod events;
+mod inner;
 mod looks;
 pub mod openings;
 pub mod shape;
@@ -15,6 +17,7 @@ pub mod state;
 
 pub use answers::Ticket;
 pub use events::{ToldList, run_events};
+pub use inner::MAX_STEPS;
 pub use openings::{Opening, prepare};
-pub use shape::{Edge, ShapeLine};
+pub use shape::{Edge, Separators, ShapeLine};
 pub use state::State;

@@ -1,6 +1,6 @@
 //! The steps of an operation that holds nothing: where it goes down, and what a get takes.
 
-ghost use Rattle.std.specs.Prelude.{◌≡◌, ℕ, true, List, Option, None, IfOk, IfErr, IfSome, IfNone};
+ghost use Rattle.std.specs.Prelude.{◌≡◌, ◌+◌, ℕ, true, List, Option, None, IfOk, IfErr, IfSome, IfNone};
 ghost use Rattle.std.specs.Option.{option_map};
 ghost use Rattle.mt_rows.specs.Rows.{shown as columns_shown};
 ghost use Rattle.mt_rows.specs.Commands.{HasColumns};
@@ -13,7 +13,10 @@ ghost use Rattle.mt_descent.specs.Kept.{IsKept, IsAtLoad};
 ghost use Rattle.mt_state.specs.Promises.{IsInTheWay};
 ghost use Rattle.mt_state.specs.Notes.{columns_asked};
 ghost use Rattle.mt_state.specs.Ways.{IsDescent, Descends};
-ghost use Rattle.mt_core.specs.Looks.{Enters, TellsLoaded};
+ghost use Rattle.mt_state.specs.Invariant.{IsOneTree};
+ghost use Rattle.mt_operation.specs.declared.splits.Splits.{Splits as AnySplits};
+ghost use Rattle.mt_core.specs.Looks.{TellsLoaded};
+ghost use Rattle.mt_core.specs.Points.{IsAtPoint};
 
 use mt_arena::Arena;
 use mt_descent::{child, enter, forward, load, pick, verify};
@@ -27,11 +30,13 @@ use std::alloc::{AllocError, Global};
 pub(crate) fn descend(arena: &Arena, key: &StoredKey, walk: &mut Walk) -> Option<usize>
     requires phase { IsDescent walk.old.phase }
     requires kept { (past : Past) × IsKept arena.now past key.now None walk.old }
+    requires one_tree { IsOneTree arena.now }
     ensures again { IfSome result (λ holder. IsInTheWay arena.now walk.old.phase holder) }
     ensures goes { IfNone result (Descends walk.old walk.new) }
-    ensures enters { walk.old.phase ≡ Phase.Enter → IfNone result (Enters arena.now walk.old walk.new) }
+    ensures nears { (height made : ℕ) (splits : AnySplits) → IfNone result (IsAtPoint height made arena.now walk.old splits → IsAtPoint height (made + 1) arena.now walk.new splits) }
     ensures kept { (past : Past) → IfNone result (IsKept arena.now past key.now None walk.new) }
 {
+    arena.facts();
     match walk.phase {
         Phase::Enter => enter(arena, key, walk),
         Phase::Pick => {

@@ -2,20 +2,13 @@
 
 ghost use Rattle.std.specs.Prelude.{◌≡◌, ◌≢◌, ◌<◌, ◌≤◌, ℕ, true, false, IsTrue, IfSome, IfNone, IfOk, length, slice_set, Some, None};
 ghost use Rattle.std.specs.Result.{result_err};
-ghost use Rattle.mt_slices.specs.Slices.{slice_of, mark_of, suffix_of};
-ghost use Rattle.mt_border.specs.Entries.{IsMissing};
-ghost use Rattle.mt_border.specs.Node.{IsFound, entries_of};
-ghost use Rattle.mt_arena.specs.Accesses.{at};
 ghost use Rattle.mt_operation.specs.declared.operation.Operation.{Operation as AnyOperation};
 ghost use Rattle.mt_operation.specs.Operations.{view_of, is_unfinished};
 ghost use Rattle.mt_operation.specs.Tables.{op_at as operation_at};
-ghost use Rattle.mt_state.specs.Begins.{begun, IsAnswerOf};
-ghost use Rattle.mt_state.specs.Invariant.{IsOneBorder};
+ghost use Rattle.mt_state.specs.Begins.{begun, IsAnswerOf, MayBegin};
 ghost use Rattle.mt_state.specs.Refused.{asks_first, names_first, fault_of, Refuses};
-ghost use Rattle.mt_core.specs.Admitted.{IsPoint, IsRequest, IsAdmitted, IsMadeOf, HasRoomFor, LacksRoom};
+ghost use Rattle.mt_core.specs.Admitted.{IsRequest, IsAdmitted, IsMadeOf};
 
-use mt_arena::Arena;
-use mt_border::{Border, Find, FoundKind};
 use mt_operation::{Operation, Operations, Outcome, Request, Task};
 use mt_rows::{Change, ColumnIndexes, Command, Key, NamedColumns, Refusal};
 use mt_runs::Answer;
@@ -29,7 +22,7 @@ const SHORT_KEY_BYTES: usize = 4;
 // The request of a command, as far as one border node takes it: `KeyLong` for a key of over 4 bytes,
 // then `Column` for any column but 0, then `ColumnLong`.
 fn request_of(command: Command) -> Result<Request, Refusal>
-    requires { IsPoint command }
+    requires { MayBegin command }
     ensures request { IfOk result (λ request. IsRequest request command) }
     ensures fault { result_err result ≡ fault_of command }
 {
@@ -107,7 +100,7 @@ impl Model for Opening {
 ///
 /// What refuses the command stays in the opening, and is answered where it is begun.
 pub fn prepare(alloc: Global, worker: u8, tenant: u32, command: Command) -> Opening
-    requires { IsPoint command }
+    requires { MayBegin command }
     ensures tenant { result.tenant ≡ tenant }
     ensures made { IsMadeOf result.made worker tenant command }
     ensures refused { Refuses (fault_of command) (fault_of command) result.made }
@@ -120,7 +113,7 @@ pub fn prepare(alloc: Global, worker: u8, tenant: u32, command: Command) -> Open
 
 // An operation before its first step.
 fn admitted(alloc: Global, worker: u8, tenant: u32, command: Command) -> Result<Operation, Refusal>
-    requires { IsPoint command }
+    requires { MayBegin command }
     ensures admitted { IfOk result IsAdmitted }
     ensures is { IfOk result (λ op. view_of op ≡ begun worker tenant command) }
     ensures fault { Refuses (fault_of command) (fault_of command) result }
@@ -131,40 +124,13 @@ fn admitted(alloc: Global, worker: u8, tenant: u32, command: Command) -> Result<
         Err(KeyRefusal::KeyLong) => return Err(Refusal::KeyLong),
         Err(KeyRefusal::Memory) => return Err(Refusal::Memory),
     };
-    Ok(Operation::new(Task {
+    let task = Task {
         worker,
         tenant,
         request,
         key,
-    }))
-}
-
-/// Whether the one node has room for the task: a get needs none, and a put none where its key is
-/// there.
-pub(crate) fn has_room(arena: &Arena, task: &Task) -> bool
-    requires short { length task.now.key ≤ 8 }
-    requires one { IsOneBorder arena.now }
-    ensures room { IsTrue result → HasRoomFor (at arena.now 0) task.now }
-    ensures full { result ≡ false → LacksRoom (at arena.now 0) task.now }
-{
-    if task.request.is_get() {
-        return true;
-    }
-    let root = arena.border(0);
-    !root.is_full() || has_key(root, &task.key)
-}
-
-// Whether a node has a short key.
-fn has_key(root: &Border, key: &StoredKey) -> bool
-    requires { length key.now ≤ 8 }
-    ensures found { IsTrue result → (slot : ℕ) × IsFound root.now (slice_of key.now 0) (mark_of key.now 0) (suffix_of key.now 0) slot FoundKind.ThisKey }
-    ensures missing { result ≡ false → IsMissing (entries_of root.now) (slice_of key.now 0) (mark_of key.now 0) }
-{
-    match root.find(key.slice(0), key.mark(0), key.suffix(0)) {
-        Find::Slot(_, FoundKind::ThisKey) => true,
-        Find::Slot(_, FoundKind::OtherLong | FoundKind::Link) => unreachable!(),
-        Find::Missing => false,
-    }
+    };
+    Ok(Operation::new(alloc, task))
 }
 
 /// Takes an operation that is finished out of the table, and tells its answer.

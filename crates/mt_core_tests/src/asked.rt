@@ -1,26 +1,24 @@
 //! What tests ask of a store.
 
 ghost use Rattle.std.specs.Prelude.{◌≡◌};
-ghost use Rattle.mt_state.specs.Views.{Shown};
 ghost use Rattle.mt_state.specs.Begins.{HaveNoPairs, MayBegin};
-ghost use Rattle.mt_core.specs.Admitted.{IsPoint};
 
 use mt_rows::{Column, ColumnIndexes, Command, Key, NamedColumns, Tenants};
 use std::alloc::Global;
 use std::process::Abort;
 
-/// Tenant 7, which may have 2 pairs.
-pub(crate) fn one_tenant(alloc: Global) -> Tenants
+/// Tenant 7, which may have so many pairs.
+pub(crate) fn one_tenant(alloc: Global, quota: u32) -> Tenants
     ensures { HaveNoPairs result }
 {
     let mut tenants = Tenants::new(alloc);
-    let _ = tenants.add(7, 2);
+    let _ = tenants.add(7, quota);
     tenants
 }
 
 /// A put of column 0.
 pub(crate) fn put(rt: &impl Abort, alloc: Global, key: &str, value: &str) -> Command
-    ensures { IsPoint result }
+    ensures { MayBegin result }
 {
     let value = Vec::from_slice(alloc, value.as_bytes()).expect(rt, "memory");
     let mut columns = Vec::new(alloc);
@@ -32,8 +30,7 @@ pub(crate) fn put(rt: &impl Abort, alloc: Global, key: &str, value: &str) -> Com
 
 /// A get of these columns, of all where none is named.
 pub(crate) fn get(rt: &impl Abort, alloc: Global, key: &str, columns: &[u8]) -> Command
-    ensures point { IsPoint result }
-    ensures get { (table : Shown) → MayBegin table result }
+    ensures { MayBegin result }
 {
     let key = key_of(rt, alloc, key);
     let columns = Vec::from_slice(alloc, columns).expect(rt, "memory");

@@ -15,26 +15,32 @@ use std::process::Abort;
 type Row = (u64, &'static str, &'static str);
 
 // A get finds no pair, and before it compares the version a put makes the pair. It meets the mark, looks
-// again, and finds what the put wrote.
-const A_GET_LOOKS_AGAIN: [Row; 18] = [
+// again, and finds what the put wrote. A second put of another key waits for the lock of the first.
+const A_GET_LOOKS_AGAIN: [Row; 24] = [
     (1, "k", "begun"),
     (1, "", "moved"),
     (1, "", "moved"),
     (2, "k=v", "begun"),
-    (3, "l=w", "no such"),
+    (3, "l=w", "begun"),
     (2, "", "moved"),
     (2, "", "moved"),
     (2, "", "moved"),
+    (3, "", "moved"),
+    (3, "", "again 2"),
     (1, "k", "no such"),
     (2, "", "moved"),
     (1, "", "again 2"),
     (2, "", "new"),
     (2, "", "no such"),
     (1, "", "moved"),
+    (3, "", "moved"),
     (1, "", "moved"),
     (1, "", "moved"),
+    (3, "", "moved"),
     (1, "", "moved"),
     (1, "", "found"),
+    (3, "", "moved"),
+    (3, "", "new"),
 ];
 
 // Three gets end in another order than they began, and a put that is full changes nothing.
@@ -111,7 +117,7 @@ fn event_of(rt: &impl Abort, alloc: Global, row: &Row) -> Event
 // Lets the events of the rows happen to a new store, and compares what each is told.
 fn expect_run(rt: &impl Abort, alloc: Global, rows: &[Row]) {
     let events = events_of(rt, alloc, rows);
-    let (_, told) = run_events(alloc, 0, one_tenant(alloc), &events).expect(rt, "memory");
+    let (_, told) = run_events(alloc, 0, one_tenant(alloc, 2), &events).expect(rt, "memory");
     for (row, told) in rows.iter().zip(told.as_slice()) {
         assert_eq!(rt; text_of(told), row.2);
     }

@@ -1,5 +1,7 @@
 //! One store, call by call.
 
+ghost use Rattle.mt_state.specs.Begins.{MayBegin};
+
 use crate::asked::{get, one_tenant, put};
 use mt_core::{State, Ticket, prepare};
 use mt_operation::Phase;
@@ -9,30 +11,18 @@ use mt_state::Move;
 use std::alloc::Global;
 use std::process::Abort;
 
-// A store without logs.
-fn new_store(rt: &impl Abort, alloc: Global) -> State {
-    State::new(alloc, 0, one_tenant(alloc)).expect(rt, "memory")
+// A store without logs, whose tenant may have so many pairs.
+fn new_store(rt: &impl Abort, alloc: Global, quota: u32) -> State {
+    State::new(alloc, 0, one_tenant(alloc, quota)).expect(rt, "memory")
 }
 
-// Begins an operation by the only worker: a get, or a put where no other is open.
-fn begin(state: &mut State, tenant: u32, command: Command) -> Result<Ticket, Refusal> {
-    let may = match &command {
-        Command::Get { .. } => true,
-        Command::Put { .. } => !state.has_open_put(),
-        _ => false,
-    };
-    if !may {
-        return Err(Refusal::NoRoom);
-    }
-    state.begin(0, tenant, command)
-}
-
-// The line of the node.
-fn expect_line(rt: &impl Abort, alloc: Global, state: &State, text: &str) {
+// The lines of the tree.
+fn expect_lines(rt: &impl Abort, alloc: Global, state: &State, texts: &[&str]) {
     let lines = state.shape(alloc).expect(rt, "memory");
-    for (line, text) in lines.iter().zip(["tree - layer 0", text]) {
+    assert_eq!(rt; lines.len(), texts.len());
+    for (line, text) in lines.iter().zip(texts) {
         let line = line.to_string(alloc).expect(rt, "memory");
-        assert_eq!(rt; line.as_str(), text);
+        assert_eq!(rt; line.as_str(), *text);
     }
 }
 
@@ -51,11 +41,13 @@ fn expect_end(rt: &impl Abort, state: &mut State, ticket: Ticket, numbers: (u64,
     }
 }
 
-fn a_put_runs_alone(rt: &impl Abort, alloc: Global, state: &mut State) {
-    let ticket = begin(state, 7, put(rt, alloc, "k", "v")).expect(rt, "the put is taken");
-    let answer = state.run_alone(&ticket);
-    assert!(rt; answer == Move::Done);
-    expect_end(rt, state, ticket, (1, 4, 5));
+// A put that nobody is in the way of, by the only worker.
+fn put_alone(rt: &impl Abort, alloc: Global, state: &mut State, key: &str) -> Ticket {
+    let ticket = state
+        .begin(0, 7, put(rt, alloc, key, "v"))
+        .expect(rt, "the put is taken");
+    assert!(rt; state.run_alone(&ticket) == Move::Done);
+    ticket
 }
 
 fn a_get_goes_by_steps(rt: &impl Abort, alloc: Global, state: &mut State) {
@@ -73,14 +65,18 @@ fn a_get_goes_by_steps(rt: &impl Abort, alloc: Global, state: &mut State) {
 #[test]
 fn a_put_and_a_get_of_it(rt: HostRuntime) {
     let alloc = rt.alloc();
-    let mut state = new_store(&rt, alloc);
-    expect_line(&rt, alloc, &state, "  border 0");
-    a_put_runs_alone(&rt, alloc, &mut state);
-    expect_line(
+    let mut state = new_store(&rt, alloc, 2);
+    expect_lines(&rt, alloc, &state, &["tree - layer 0", "  border 0"]);
+    let ticket = put_alone(&rt, alloc, &mut state, "k");
+    expect_end(&rt, &mut state, ticket, (1, 4, 5));
+    expect_lines(
         &rt,
         alloc,
         &state,
-        "  border 1 000000076b000000:5 000000076b000000:5",
+        &[
+            "tree - layer 0",
+            "  border 1 000000076b000000:5 000000076b000000:5",
+        ],
     );
     a_get_goes_by_steps(&rt, alloc, &mut state);
     state.tidy();
@@ -89,15 +85,36 @@ fn a_put_and_a_get_of_it(rt: HostRuntime) {
     assert_eq!(rt; numbers, (9, 2, 0));
 }
 
+const SIXTEEN_KEYS: [&str; 16] = [
+    "a", "b", "c", "d", "e", "f", "g", "h", "i", "j", "k", "l", "m", "n", "o", "p",
+];
+
+#[test]
+fn sixteen_puts_make_a_root_over_two_nodes(rt: HostRuntime) {
+    let alloc = rt.alloc();
+    let mut state = new_store(&rt, alloc, 100);
+    for key in SIXTEEN_KEYS {
+        let ticket = put_alone(&rt, alloc, &mut state, key);
+        assert!(rt; state.take(ticket).is_ok());
+    }
+    expect_lines(
+        &rt,
+        alloc,
+        &state,
+        &[
+            "tree - layer 0",
+            "  interior 0000000769000000",
+            "    border 8 0000000761000000:5 0000000768000000:5",
+            "    border 8 0000000769000000:5 0000000770000000:5",
+        ],
+    );
+}
+
 // A get of these columns is refused for this cause.
-fn expect_refusal(
-    rt: &impl Abort,
-    state: &mut State,
-    tenant: u32,
-    command: Command,
-    cause: Refusal,
-) {
-    match begin(state, tenant, command) {
+fn expect_refusal(rt: &impl Abort, state: &mut State, tenant: u32, command: Command, cause: Refusal)
+    requires { MayBegin command }
+{
+    match state.begin(0, tenant, command) {
         Ok(_) => panic!(rt; "the get is begun"),
         Err(refusal) => assert_eq!(rt; refusal, cause),
     }
@@ -106,7 +123,7 @@ fn expect_refusal(
 #[test]
 fn the_first_cause_is_told_and_a_begin_is_cancelled(rt: HostRuntime) {
     let alloc = rt.alloc();
-    let mut state = new_store(&rt, alloc);
+    let mut state = new_store(&rt, alloc, 2);
     let rows: [(u32, &str, &[u8], Refusal); 3] = [
         (8, "long1", &[1], Refusal::NoTenant),
         (7, "long1", &[1], Refusal::KeyLong),
@@ -121,7 +138,9 @@ fn the_first_cause_is_told_and_a_begin_is_cancelled(rt: HostRuntime) {
             cause,
         );
     }
-    let ticket = begin(&mut state, 7, get(&rt, alloc, "k", &[0])).expect(&rt, "the get is taken");
+    let ticket = state
+        .begin(0, 7, get(&rt, alloc, "k", &[0]))
+        .expect(&rt, "the get is taken");
     let cancelled = state.cancel(ticket).is_ok();
     assert!(rt; cancelled);
 }

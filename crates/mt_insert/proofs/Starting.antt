@@ -27,7 +27,8 @@ use Rattle.mt_operation.specs.declared.splits.Halves.{Halves}
 use Rattle.mt_operation.specs.declared.splits.Splits.{Splits}
 use Rattle.mt_descent.specs.Kept.{GoesThrough}
 use Rattle.mt_insert.specs.Kept.{HoldsOnly, IsAtSplitStart}
-use Rattle.mt_insert.specs.Splitting.{halves_at, last_of, IsUnsplit, HoldsSplits, IsUnparted, IsAtSplitMove, NothingLags}
+use Rattle.mt_operation.specs.Operations.{IsUnsplit}
+use Rattle.mt_insert.specs.Splitting.{halves_at, last_of, HoldsSplits, IsUnparted, IsAtSplitMove, NothingLags}
 use Rattle.mt_insert.specs.SplitMoves.{walk_at, Starts, HasOneMore}
 
 -- the first split is the one of its list

@@ -1,5 +1,5 @@
 -- What is kept of a put that splits nodes, by its next phase. Each fact speaks of nodes that the operation holds, from the lowest level up.
-use Rattle.std.specs.Prelude.{◌≡◌, ◌≢◌, ℕ, ◌-◌, ◌<◌, ◌≤◌, ◌⊎◌, true, false, List, [], length, Some, None, slice_index, slice_index_or}
+use Rattle.std.specs.Prelude.{◌≡◌, ◌≢◌, ℕ, ◌-◌, ◌<◌, ◌≤◌, ◌⊎◌, true, false, List, length, Some, None, slice_index, slice_index_or}
 use Rattle.std.specs.List.{All}
 use Rattle.mt_slices.specs.Slices.{slice_of, mark_of, suffix_of}
 use Rattle.mt_interior.specs.Fences.{end_of}
@@ -27,12 +27,6 @@ halves_at halves i = slice_index_or halves i (record { left = 0; right = 0 })
 
 abbrev pub last_of : Splits → Halves
 last_of s = halves_at s.halves.items (length s.halves.items - 1)
-
--- the operation has split nothing yet
-pub record IsUnsplit (s : Splits) : Type 0 where
-  pub halves : s.halves.items ≡ []
-  pub above : s.above ≡ None
-  pub moved : s.moved ≡ 0
 
 -- the node is a half of one of these splits, and it is one of all nodes that the operation holds
 pub record IsHalf (halves : List Halves) (k : ℕ) : Type 0 where

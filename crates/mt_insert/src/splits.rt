@@ -28,7 +28,8 @@ ghost use Rattle.mt_descent.specs.Moves.{Continues};
 ghost use Rattle.mt_insert.specs.Puts.{IsPut};
 ghost use Rattle.mt_insert.specs.Kept.{HoldsOnly, IsAtSplitStart};
 ghost use Rattle.mt_insert.specs.Moves.{walk_done, entry_of, released, Places};
-ghost use Rattle.mt_insert.specs.Splitting.{last_of, IsUnsplit, IsAmong, HoldsSplits, IsAtSplitMove, IsAtSplitPrev, IsAtLockParent, IsAtInsertChild, IsAtInteriorSplit, IsAtReparent, IsAtRootGrow, IsAtUnlockAll, KeptSplit, MayReturnBoth};
+ghost use Rattle.mt_operation.specs.Operations.{IsUnsplit};
+ghost use Rattle.mt_insert.specs.Splitting.{last_of, IsAmong, HoldsSplits, IsAtSplitMove, IsAtSplitPrev, IsAtLockParent, IsAtInsertChild, IsAtInteriorSplit, IsAtReparent, IsAtRootGrow, IsAtUnlockAll, KeptSplit, MayReturnBoth};
 ghost use Rattle.mt_insert.specs.SplitMoves.{walk_at, Starts, HasOneMore, after_parting, for_parent, with_parent, moved_on, after_reparent, with_named_parent, with_named_previous, given_back, Returns};
 
 use crate::phases::{new_entry, push_write, unlock};

@@ -3,7 +3,8 @@
 
 ghost use Rattle.std.specs.Prelude.{◌≡◌};
 ghost use Rattle.mt_descent.specs.Kept.{IsAtBorder};
-ghost use Rattle.mt_insert.specs.Splitting.{IsUnsplit, KeptSplit};
+ghost use Rattle.mt_operation.specs.Operations.{IsUnsplit};
+ghost use Rattle.mt_insert.specs.Splitting.{KeptSplit};
 
 use crate::growth::{ROOT_SPLIT, put_byte};
 use crate::puts::{begin, lock_border, pair_named, walk_down};

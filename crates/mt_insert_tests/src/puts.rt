@@ -7,7 +7,8 @@ ghost use Rattle.mt_operation.specs.declared.walk.Walk.{Walk as AnyWalk};
 ghost use Rattle.mt_descent.specs.Kept.{IsAtBorder};
 ghost use Rattle.mt_insert.specs.Puts.{IsPut};
 ghost use Rattle.mt_insert.specs.Kept.{HoldsBorder, IsAtStore, IsAtPublish, KeptReady, IsAtUnlock};
-ghost use Rattle.mt_insert.specs.Splitting.{IsUnsplit, IsAtSplitMove};
+ghost use Rattle.mt_operation.specs.Operations.{IsUnsplit};
+ghost use Rattle.mt_insert.specs.Splitting.{IsAtSplitMove};
 ghost use Rattle.mt_insert_tests.specs.Ways.{IsComing};
 
 use crate::split::{split_up, start};

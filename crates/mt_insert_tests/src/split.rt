@@ -9,7 +9,8 @@ ghost use Rattle.mt_operation.specs.declared.walk.Walk.{Walk as AnyWalk};
 ghost use Rattle.mt_descent.specs.Kept.{IsAtBorder};
 ghost use Rattle.mt_insert.specs.Puts.{IsPut};
 ghost use Rattle.mt_insert.specs.Kept.{IsAtSplitStart};
-ghost use Rattle.mt_insert.specs.Splitting.{IsUnsplit, IsHalf, IsAtSplitMove, IsAtUnlockAll, KeptSplit};
+ghost use Rattle.mt_operation.specs.Operations.{IsUnsplit};
+ghost use Rattle.mt_insert.specs.Splitting.{IsHalf, IsAtSplitMove, IsAtUnlockAll, KeptSplit};
 
 use crate::stores::{Placed, Store, assert_may_count, assert_may_write};
 use mt_arena::Arena;

@@ -56,7 +56,7 @@ equal_same old new e q = ap (λ (v : StateView). is_some (op_at v.table q)) e
 pub move_same : (old new : StateView) (o : ℕ) (move : Move) → TellsMove old new o move → SameOpen old.table new.table
 move_same old new o Moved t = step_same old new o false t
 move_same old new o (Again holder) t = equal_same old new t.0
-move_same old new o NoMemory t = absurd t
+move_same old new o NoMemory t = equal_same old new t.0
 move_same old new o Done t = step_same old new o true t
 move_same old new o Spent t = equal_same old new t.0
 move_same old new o NoSuch t = equal_same old new t.0
@@ -68,7 +68,7 @@ walks_same stop (suc n) old new o w = λ q. step_same w.0 new o false w.3 q ∙ 
 end_same : (stop : Option Phase) (mid new : StateView) (o : ℕ) (move : Move) → EndsWalk stop mid new o move → SameOpen mid.table new.table
 end_same stop mid new o Moved e = equal_same mid new e.0
 end_same stop mid new o (Again holder) e = move_same mid new o (Again holder) e
-end_same stop mid new o NoMemory e = absurd e
+end_same stop mid new o NoMemory e = equal_same mid new e.0
 end_same stop mid new o Done e = move_same mid new o Done e
 end_same stop mid new o Spent e = move_same mid new o Spent e
 end_same stop mid new o NoSuch e = move_same mid new o NoSuch e

@@ -3,7 +3,7 @@ use Rattle.std.specs.Prelude.{ℕ, if◌then◌else◌, List, codes, Option, Som
 use Rattle.mt_rows.specs.declared.command.Command.{Command}
 use Rattle.mt_rows.specs.declared.command.Command.TheVariants.{Get, Put}
 use Rattle.mt_operation.specs.declared.walk.Phase.{Phase}
-use Rattle.mt_operation.specs.declared.walk.Phase.TheVariants.{Enter, Search, Load, Confirm, Forward, Lock, Judge, Store, Publish, SplitStart, SplitMove, SplitPrev, LockParent, InsertChild, InteriorSplit, Reparent, RootGrow, Unlock}
+use Rattle.mt_operation.specs.declared.walk.Phase.TheVariants.{Enter, Pick, Child, Verify, Search, Load, Confirm, Forward, Lock, Judge, Store, Publish, SplitStart, SplitMove, SplitPrev, LockParent, InsertChild, InteriorSplit, Reparent, RootGrow, Unlock}
 use Rattle.mt_operation.specs.Names as phases
 use Rattle.mt_lines.specs.declared.line.Line.{Line}
 use Rattle.mt_lines.specs.declared.line.Line.TheVariants.{Tenant, Begin, Step, Until, Run, Shape}
@@ -20,6 +20,9 @@ index_word word = number_up_to 255 word
 unfoldable pub phase_word : List ℕ → Option Phase
 phase_word word =
     if is_text word (phases.name_of Enter) then Some Enter
+    else if is_text word (phases.name_of Pick) then Some Pick
+    else if is_text word (phases.name_of Child) then Some Child
+    else if is_text word (phases.name_of Verify) then Some Verify
     else if is_text word (phases.name_of Search) then Some Search
     else if is_text word (phases.name_of Load) then Some Load
     else if is_text word (phases.name_of Confirm) then Some Confirm

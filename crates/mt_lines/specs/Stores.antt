@@ -102,9 +102,9 @@ abbrev pub TellsNamed : Option ℕ → StoreView → StoreView → Response → 
 TellsNamed None old new response told = (response ≡ NoSuch) × (new ≡ old)
 TellsNamed (Some o) old new response told = told o
 
--- a begin may stand here: its name is free, and the store takes its command now
+-- a begin may stand here: its name is free, and the store takes its command
 abbrev pub MayBeginAs : StoreView → ℕ → Command → Type 0
-MayBeginAs store name command = (operation_of store.named name ≡ None) × MayBegin store.state.table command
+MayBeginAs store name command = (operation_of store.named name ≡ None) × MayBegin command
 
 -- the operation that is said of is there: for `done` it has ended, and for `again` its holder is open
 abbrev pub CanSay : StateView → ℕ → Move → Type 0

@@ -216,6 +216,12 @@ fn phase(word: &[u8]) -> Result<Phase, LineFault>
 {
     if words::is_text(word, "enter") {
         Ok(Phase::Enter)
+    } else if words::is_text(word, "pick") {
+        Ok(Phase::Pick)
+    } else if words::is_text(word, "child") {
+        Ok(Phase::Child)
+    } else if words::is_text(word, "verify") {
+        Ok(Phase::Verify)
     } else if words::is_text(word, "search") {
         Ok(Phase::Search)
     } else if words::is_text(word, "load") {

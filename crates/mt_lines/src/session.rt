@@ -66,7 +66,7 @@ impl Session {
         }
     }
 
-    // A name in use can't be begun, nor what the store doesn't take now.
+    // A name in use can't be begun, nor what the store doesn't take.
     fn begin(&mut self, name: u32, tenant: u32, command: Command) -> Result<Response, AllocError>
         ensures { IfOk result (TellsBeginLine self.old self.new name tenant command) }
     {

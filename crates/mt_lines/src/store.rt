@@ -17,8 +17,7 @@ ghost use Rattle.mt_lines.specs.Stores.{IsAsBefore, HaveOneName, StopsAt, IsWalk
 
 use crate::names::Names;
 use crate::response::Response;
-use mt_core::state::MAX_STEPS;
-use mt_core::{ShapeLine, State, Ticket};
+use mt_core::{MAX_STEPS, ShapeLine, State, Ticket};
 use mt_operation::Phase;
 use mt_rows::{Command, Tenants};
 use mt_runs::Answer;
@@ -55,19 +54,14 @@ impl NamedStore {
         })
     }
 
-    /// Whether a begin may stand here: its name is free, and the store takes its command now: a get
-    /// at any time, a put where no other put is open.
+    /// Whether a begin may stand here: its name is free, and its command is a get or a put.
     pub fn may_begin(&self, name: u32, command: &Command) -> bool
         ensures { IsTrue result ↔ MayBeginAs self.now name command.now }
     {
         if let Some(_) = self.names.ticket(name) {
             return false;
         }
-        match command {
-            Command::Get { .. } => true,
-            Command::Put { .. } => !self.state.has_open_put(),
-            Command::Remove { .. } | Command::Scan { .. } => false,
-        }
+        matches!(command, Command::Get { .. } | Command::Put { .. })
     }
 
     /// Begins an operation by a free name, for worker 0.

@@ -7,3 +7,5 @@
 mod faults;
 #[cfg(test)]
 mod scripts;
+#[cfg(test)]
+mod trees;

@@ -70,18 +70,16 @@ fn whole_scripts(rt: HostRuntime) {
             "tenant 7 1\nbegin 1 7 put 61 0=76\nrun 1\ntenant 7 5\nbegin 1 7 get 61\nrun 1\n",
             "ok\nbegun 1\ndone new\nbad line\nbegun 1\ndone found 0=76\n",
         ),
-        ("fifteen pairs and no more", FIFTEEN_PAIRS, FIFTEEN_ANSWERS),
+        (
+            "a put waits for the lock of another, and a get for nobody",
+            "tenant 7 100\nbegin 1 7 put 6b 0=76\nuntil 1 publish\nbegin 2 7 put 6c 0=76\nrun 2\nbegin 3 7 get 6b\nrun 3\nrun 1\nrun 2\n",
+            "ok\nbegun 1\nat publish\nbegun 2\nagain 1\nbegun 3\ndone absent\ndone new\ndone new\n",
+        ),
     ];
     for (what, script, wanted) in cases {
         expect_answers(&rt, rt.alloc(), what, script.as_bytes(), wanted);
     }
 }
-
-const FIFTEEN_PAIRS: &str =
-    "tenant 7 100\nbegin 1 7 put 61 0=76\nrun 1\nbegin 1 7 put 62 0=76\nrun 1\nbegin 1 7 put 63 0=76\nrun 1\nbegin 1 7 put 64 0=76\nrun 1\nbegin 1 7 put 65 0=76\nrun 1\nbegin 1 7 put 66 0=76\nrun 1\nbegin 1 7 put 67 0=76\nrun 1\nbegin 1 7 put 68 0=76\nrun 1\nbegin 1 7 put 69 0=76\nrun 1\nbegin 1 7 put 6a 0=76\nrun 1\nbegin 1 7 put 6b 0=76\nrun 1\nbegin 1 7 put 6c 0=76\nrun 1\nbegin 1 7 put 6d 0=76\nrun 1\nbegin 1 7 put 6e 0=76\nrun 1\nbegin 1 7 put 6f 0=76\nrun 1\nbegin 16 7 put 70 0=76\nbegin 1 7 put 61 0=77\nrun 1\n";
-
-const FIFTEEN_ANSWERS: &str =
-    "ok\nbegun 1\ndone new\nbegun 1\ndone new\nbegun 1\ndone new\nbegun 1\ndone new\nbegun 1\ndone new\nbegun 1\ndone new\nbegun 1\ndone new\nbegun 1\ndone new\nbegun 1\ndone new\nbegun 1\ndone new\nbegun 1\ndone new\nbegun 1\ndone new\nbegun 1\ndone new\nbegun 1\ndone new\nbegun 1\ndone new\nrefused E19\nbegun 1\ndone replaced\n";
 
 #[test]
 fn single_lines(rt: HostRuntime) {
@@ -160,7 +158,7 @@ fn single_lines(rt: HostRuntime) {
         ),
         (
             "tenant 7 5\nbegin 1 7 put 61 0=\nbegin 2 7 put 62 0=\nbegin 2 9 put 62 0=\nrun 1\nbegin 2 7 put 62 0=\nrun 2\n",
-            "ok\nbegun 1\nbad line\nbad line\ndone new\nbegun 2\ndone new\n",
+            "ok\nbegun 1\nbegun 2\nbad line\ndone new\nbad line\ndone new\n",
         ),
         (
             "tenant 7 5\nbegin 1 9 put 61 0=\nbegin 1 7 put 61 0=\nrun 1\n",

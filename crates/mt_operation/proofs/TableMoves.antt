@@ -1,23 +1,19 @@
 -- A table stays one, and shows what it is to show: for the calls of table.rt.
-use Rattle.std.proofs.Common.{◌≡◌, ◌≢◌, ℕ, zero, suc, ◌-◌, ◌<◌, ◌≤◌, ◌⊎◌, inl, inr, true, false, not, ◌&&◌, ◌==◌, set, Option, Some, None, is_some, refl, sym, ap, subst, ◌∙◌, arith}
+use Rattle.std.proofs.Common.{◌≡◌, ◌≢◌, ℕ, zero, suc, ◌-◌, ◌<◌, ◌≤◌, ◌⊎◌, inl, inr, true, false, ◌==◌, set, Option, Some, None, is_some, refl, sym, ap, subst, ◌∙◌, arith}
 use Rattle.slab.specs.Slab.{Slab, Updates}
-use Rattle.std.proofs.lemmas.Bool.{both_ways, cases_eq, eqb-true}
+use Rattle.std.proofs.lemmas.Bool.{cases_eq, eqb-true}
 use Rattle.std.proofs.lemmas.Option.{same_Some}
-use Rattle.mt_rows.specs.Maps.{is_get}
-use Rattle.mt_operation.specs.declared.task.Task.{Task}
 use Rattle.mt_operation.specs.declared.walk.Walk.{Walk}
 use Rattle.mt_operation.specs.declared.operation.Operation.{Operation}
 use Rattle.mt_operation.specs.declared.queue.Seat.{Seat}
 use Rattle.mt_operation.specs.declared.queue.Ends.{Ends}
-use Rattle.mt_operation.specs.Tasks.{ask}
-use Rattle.mt_operation.specs.Operations.{moved, is_done, is_unfinished, is_open_put}
-use Rattle.mt_operation.specs.Tables.{Table, op_at, prepared_in, HasOpenPut, MayMove, IsFloorNeeded}
+use Rattle.mt_operation.specs.Operations.{moved}
+use Rattle.mt_operation.specs.Tables.{Table, op_at, prepared_in, MayMove, IsFloorNeeded}
 use Rattle.mt_operation.specs.Seats.{Seats, seat_at, operation_in, table_of, first_in, first_at, is_still, after_in, before_in, after_of, before_of, IsEndOrSeat}
-use Rattle.mt_operation.specs.Queues.{IsInQueue, queue_number, ComesNext, IsQueue, IsLastPut, IsTable, CutsOut, LinksLast, Becomes}
+use Rattle.mt_operation.specs.Queues.{IsInQueue, queue_number, ComesNext, IsTable, CutsOut, LinksLast, Becomes}
 use Rattle.mt_operation.proofs.Tables.{set_is, set_there, set_none}
 use Rattle.mt_operation.proofs.Links.{op_seat, table_set, seat_there, written_in}
 use Rattle.mt_operation.proofs.QueueLaws.{some_none, in_follows, same_queue, cut_queue, behind_queue}
-use Rattle.mt_operation.proofs.OpenPuts.{open_parts, open_joins}
 
 none_op : {op : Operation} → ◌≡◌ {A = Option Operation} None (Some op) → ⊥
 none_op e = cc
@@ -35,17 +31,17 @@ queue_seat seats None here = tt
 queue_seat seats (Some o) here = sym (seat_there seats o) ∙ first_some (op_at (table_of seats) o) here
 
 -- the queue's last operation is there, and is none that has made no step
-pub last_seat : (seats : Seats) (ends : Ends) (put : Option ℕ) → IsTable seats ends put → IsEndOrSeat seats ends.last
-last_seat seats ends put h = queue_seat seats ends.last ((h.queue.befores None tt).0)
+pub last_seat : (seats : Seats) (ends : Ends) → IsTable seats ends → IsEndOrSeat seats ends.last
+last_seat seats ends h = queue_seat seats ends.last ((h.befores None tt).0)
 
 still_first : (x : Option Seat) → is_still x ≡ true → first_in (operation_in x) ≡ 0
 still_first None e = absurd (cc)
 still_first (Some seat) e = eqb-true seat.operation.walk.first 0 e
 
 -- an operation that has made no step is not the queue's last
-pub last_new : (seats : Seats) (ends : Ends) (put : Option ℕ) (o : ℕ) → IsTable seats ends put → is_still (seat_at seats o) ≡ true → ends.last ≢ Some o
-last_new seats ends put o h still is =
-    let here = subst (IsInQueue (first_at (table_of seats))) is ((h.queue.befores None tt).0) in
+pub last_new : (seats : Seats) (ends : Ends) (o : ℕ) → IsTable seats ends → is_still (seat_at seats o) ≡ true → ends.last ≢ Some o
+last_new seats ends o h still is =
+    let here = subst (IsInQueue (first_at (table_of seats))) is ((h.befores None tt).0) in
     absurd (omega (arith, here, ap first_in (op_seat seats o), still_first (seat_at seats o) still))
 
 -- the seat of an operation that is there
@@ -81,15 +77,6 @@ module _ (mid new : Seats) (o : ℕ) (f : Operation → Operation) (becomes : Be
   befores_became ends seat at None = refl
   befores_became ends seat at (Some q) = ap (λ p. before_in (seat_at p q)) (becomes seat at) ∙ written_in before_in mid o q seat (record seat { operation = f seat.operation }) at refl
 
--- a table in which one operation is another, which is an open put only if it was one
-put_became : (table : Table) (o : ℕ) (op now : Operation) (put : Option ℕ) → op_at table o ≡ Some op → (is_open_put now ≡ true → is_open_put op ≡ true) → IsLastPut table put → IsLastPut (set table o (Some now)) put
-put_became table o op now put there was last q x at is_open = elim (cases_eq q o) [
-  | inl is ↦
-      let same : now ≡ x = same_Some now x (sym (set_is table o now op there) ∙ ap (op_at (set table o (Some now))) (sym is) ∙ at) in
-      last o op there (was (ap is_open_put same ∙ is_open)) ∙ ap (λ n. Some n) (sym is)
-  | inr other ↦ last q x (sym (set_there table o q (Some now) other) ∙ at) is_open
-]
-
 -- the first steps of all others stay
 other_first : (table new : Table) (o : ℕ) (op : Operation) → new ≡ set table o (Some op) → (q : ℕ) → q ≢ o → first_at new q ≡ first_at table q
 other_first table new o op e q ne = ap (λ u. first_at u q) e ∙ ap first_in (set_there table o q (Some op) ne)
@@ -101,37 +88,39 @@ first_kept table new o op now there same e q = elim (cases_eq q o) [
   | inr other ↦ other_first table new o now e q other
 ]
 
--- a change that leaves an operation its task and its walk keeps the table one
-module _ (p0 p1 : Seats) (ends : Ends) (put : Option ℕ) (o : ℕ) (f : Operation → Operation) (h : IsTable p0 ends put) (same_task : (op : Operation) → (f op).task ≡ op.task) (same_walk : (op : Operation) → (f op).walk ≡ op.walk)
+-- a change that leaves an operation its walk keeps the table one
+module _ (p0 p1 : Seats) (ends : Ends) (o : ℕ) (f : Operation → Operation) (h : IsTable p0 ends) (same_walk : (op : Operation) → (f op).walk ≡ op.walk)
     (becomes : Becomes p0 p1 o f) (none : seat_at p0 o ≡ None → p1 ≡ p0) where
-  same_open : (op : Operation) → is_open_put (f op) ≡ is_open_put op
-  same_open op = ap (λ (t : Task). not (is_get (ask t)) && not (is_done (f op).walk.phase)) (same_task op) ∙ ap (λ (w : Walk). not (is_get (ask op.task)) && not (is_done w.phase)) (same_walk op)
-
-  changed_by : (x : Option Seat) → seat_at p0 o ≡ x → IsTable p1 ends put
-  changed_by None at = subst (λ p. IsTable p ends put) (sym (none at)) h
+  changed_by : (x : Option Seat) → seat_at p0 o ≡ x → IsTable p1 ends
+  changed_by None at = subst (λ p. IsTable p ends) (sym (none at)) h
   changed_by (Some seat) at =
       let there : op_at (table_of p0) o ≡ Some seat.operation = op_seat p0 o ∙ ap operation_in at in
       let table = became_table p0 p1 o f becomes p0 (table_of p0) seat.operation refl refl there in
-      record {
-        queue = same_queue (first_at (table_of p0)) (first_at (table_of p1)) (after_of p0 ends) (after_of p1 ends) (before_of p0 ends) (before_of p1 ends)
-            (first_kept (table_of p0) (table_of p1) o seat.operation (f seat.operation) there (ap (λ (w : Walk). w.first) (same_walk seat.operation)) table)
-            (λ t here. afters_became p0 p1 o f becomes ends seat at t)
-            (λ t here. befores_became p0 p1 o f becomes ends seat at t)
-            h.queue;
-        last_put = subst (λ t. IsLastPut t put) (sym table) (put_became (table_of p0) o seat.operation (f seat.operation) put there (λ e. sym (same_open seat.operation) ∙ e) h.last_put);
-      }
+      same_queue (first_at (table_of p0)) (first_at (table_of p1)) (after_of p0 ends) (after_of p1 ends) (before_of p0 ends) (before_of p1 ends)
+      (first_kept (table_of p0) (table_of p1) o seat.operation (f seat.operation) there (ap (λ (w : Walk). w.first) (same_walk seat.operation)) table)
+      (λ t here. afters_became p0 p1 o f becomes ends seat at t)
+      (λ t here. befores_became p0 p1 o f becomes ends seat at t)
+      h
 
   -- the table with the operation changed
-  pub changed_sound : IsTable p1 ends put
+  pub changed_sound : IsTable p1 ends
   changed_sound = changed_by (seat_at p0 o) refl
 
 -- what an operation of a seat has made ready, by the table
 pub ready_table : (seats : Seats) (now : Table) (o : ℕ) → table_of seats ≡ now → prepared_in (operation_in (seat_at seats o)) ≡ prepared_in (op_at now o)
 ready_table seats now o is = ap prepared_in (sym (op_seat seats o) ∙ ap (λ t. op_at t o) is)
 
+-- an operation of the table is that of its seat
+pub seat_shown : (seats : Seats) (now : Table) (o : ℕ) (op : Operation) → table_of seats ≡ now → op_at now o ≡ Some op → (seat : Seat) × (seat_at seats o ≡ Some seat) × (seat.operation ≡ op)
+seat_shown seats now o op is there = opened (seat_at seats o) op (sym (op_seat seats o) ∙ ap (λ t. op_at t o) is ∙ there)
+
+-- and where there is none, there is no seat
+pub no_seat_shown : (seats : Seats) (now : Table) (o : ℕ) → table_of seats ≡ now → op_at now o ≡ None → seat_at seats o ≡ None
+no_seat_shown seats now o is vacant = closed (seat_at seats o) (sym (op_seat seats o) ∙ ap (λ t. op_at t o) is ∙ vacant)
+
 -- the operation of an id moves, and may have another outcome
-module _ (p0 p1 : Seats) (e0 : Ends) (put : Option ℕ) (now : Table) (o step : ℕ) (walk : Walk) (is : table_of p0 ≡ now) (h : IsTable p0 e0 put) (may : MayMove now o step)
-    (f : Operation → Operation) (same_task : (op : Operation) → (f op).task ≡ op.task) (same_walk : (op : Operation) → (f op).walk ≡ (moved op step walk).walk) (becomes : Becomes p0 p1 o f) where
+module _ (p0 p1 : Seats) (e0 : Ends) (now : Table) (o step : ℕ) (walk : Walk) (is : table_of p0 ≡ now) (h : IsTable p0 e0) (may : MayMove now o step)
+    (f : Operation → Operation) (same_walk : (op : Operation) → (f op).walk ≡ (moved op step walk).walk) (becomes : Becomes p0 p1 o f) where
   there_at : (seat : Seat) → seat_at p0 o ≡ Some seat → op_at (table_of p0) o ≡ Some seat.operation
   there_at seat at = op_seat p0 o ∙ ap operation_in at
 
@@ -140,15 +129,6 @@ module _ (p0 p1 : Seats) (e0 : Ends) (put : Option ℕ) (now : Table) (o step : 
 
   table_at : (seat : Seat) → seat_at p0 o ≡ Some seat → table_of p1 ≡ set (table_of p0) o (Some (f seat.operation))
   table_at seat at = became_table p0 p1 o f becomes p0 (table_of p0) seat.operation refl refl (there_at seat at)
-
-  -- a put that has moved was open before, since it had a step left
-  was_open : (op : Operation) → is_unfinished op ≡ true → is_open_put (f op) ≡ true → is_open_put op ≡ true
-  was_open op left e = open_joins op (sym (ap (λ (t : Task). is_get (ask t)) (same_task op)) ∙ (open_parts (f op) e).0) left
-
-  put_at : (seat : Seat) → seat_at p0 o ≡ Some seat → IsLastPut (set (table_of p0) o (Some (f seat.operation))) put
-  put_at seat at =
-      let left = may.unfinished seat.operation (ap (λ t. op_at t o) (sym is) ∙ there_at seat at) in
-      put_became (table_of p0) o seat.operation (f seat.operation) put (there_at seat at) (was_open seat.operation left) h.last_put
 
   seat_in : (x : Option Seat) → seat_at p0 o ≡ x → is_still x ≡ true → (seat : Seat) × (seat_at p0 o ≡ Some seat) × ((seat.operation.walk.first == 0) ≡ true)
   seat_in None at still = absurd (cc)
@@ -166,36 +146,33 @@ module _ (p0 p1 : Seats) (e0 : Ends) (put : Option ℕ) (now : Table) (o step : 
 
   -- and so is the queue's last
   pub moved_last : is_still (seat_at p0 o) ≡ true → IsEndOrSeat p1 e0.last
-  moved_last still = let s = still_seat still in seat_last s.0 s.1 e0.last (last_seat p0 e0 put h)
+  moved_last still = let s = still_seat still in seat_last s.0 s.1 e0.last (last_seat p0 e0 h)
     where
       seat_last : (seat : Seat) → seat_at p0 o ≡ Some seat → (s : Option ℕ) → IsEndOrSeat p0 s → IsEndOrSeat p1 s
       seat_last seat at None here = tt
       seat_last seat at (Some q) here = ap (λ p. is_some (seat_at p q)) (becomes seat at) ∙ written_in is_some p0 o q seat (record seat { operation = f seat.operation }) at refl ∙ here
 
   -- where this is its first step, and it is put behind all others, the table stays one
-  pub moved_first : (p2 : Seats) (e1 : Ends) → is_still (seat_at p0 o) ≡ true → LinksLast p1 e0 p2 e1 o → IsTable p2 e1 put
+  pub moved_first : (p2 : Seats) (e1 : Ends) → is_still (seat_at p0 o) ≡ true → LinksLast p1 e0 p2 e1 o → IsTable p2 e1
   moved_first p2 e1 still l = let s = still_seat still in first_by s.0 s.1 s.2
     where
       first_step : (op : Operation) → (op.walk.first == 0) ≡ true → (f op).walk.first ≡ step
       first_step op e = ap (λ (w : Walk). w.first) (same_walk op) ∙ rw e refl
 
-      first_by : (seat : Seat) → seat_at p0 o ≡ Some seat → (seat.operation.walk.first == 0) ≡ true → IsTable p2 e1 put
+      first_by : (seat : Seat) → seat_at p0 o ≡ Some seat → (seat.operation.walk.first == 0) ≡ true → IsTable p2 e1
       first_by seat at still =
           let there = there_at seat at in
           let table : table_of p2 ≡ set (table_of p0) o (Some (f seat.operation)) = l.table ∙ table_at seat at in
           let first : first_at (table_of p2) o ≡ step =
           ap (λ t. first_at t o) table ∙ ap first_in (set_is (table_of p0) o (f seat.operation) seat.operation there) ∙ first_step seat.operation still in
-          record {
-            queue = behind_queue (first_at (table_of p0)) (first_at (table_of p2)) (after_of p0 e0) (after_of p2 e1) (before_of p0 e0) (before_of p2 e1) o h.queue
-                (ap first_in there ∙ eqb-true seat.operation.walk.first 0 still)
-                (omega (arith, first, early_at seat at))
-                (λ q. omega (arith, first, below q (op_at (table_of p0) q) refl))
-                (λ q ne. other_first (table_of p0) (table_of p2) o (f seat.operation) table q ne)
-                l.after l.ends l.before l.last
-                (λ s ne other. l.afters s ne other ∙ afters_became p0 p1 o f becomes e0 seat at s)
-                (λ s ne other. l.befores s ne other ∙ befores_became p0 p1 o f becomes e0 seat at s);
-            last_put = subst (λ t. IsLastPut t put) (sym table) (put_at seat at);
-          }
+          behind_queue (first_at (table_of p0)) (first_at (table_of p2)) (after_of p0 e0) (after_of p2 e1) (before_of p0 e0) (before_of p2 e1) o h
+          (ap first_in there ∙ eqb-true seat.operation.walk.first 0 still)
+          (omega (arith, first, early_at seat at))
+          (λ q. omega (arith, first, below q (op_at (table_of p0) q) refl))
+          (λ q ne. other_first (table_of p0) (table_of p2) o (f seat.operation) table q ne)
+          l.after l.ends l.before l.last
+          (λ s ne other. l.afters s ne other ∙ afters_became p0 p1 o f becomes e0 seat at s)
+          (λ s ne other. l.befores s ne other ∙ befores_became p0 p1 o f becomes e0 seat at s)
         where
           -- every first step of before is earlier
           below : (q : ℕ) (x : Option Operation) → op_at (table_of p0) q ≡ x → first_in (op_at (table_of p0) q) < step
@@ -203,37 +180,35 @@ module _ (p0 p1 : Seats) (e0 : Ends) (put : Option ℕ) (now : Table) (o step : 
           below q (Some op) e = omega (arith, ap first_in e, may.later q op (ap (λ t. op_at t q) (sym is) ∙ e))
 
   -- and where it has made one, and no link is another
-  pub moved_later : (seat_at p0 o ≡ None → p1 ≡ p0) → is_still (seat_at p0 o) ≡ false → IsTable p1 e0 put
+  pub moved_later : (seat_at p0 o ≡ None → p1 ≡ p0) → is_still (seat_at p0 o) ≡ false → IsTable p1 e0
   moved_later none begun = later_by (seat_at p0 o) refl begun
     where
       first_stays : (op : Operation) → (op.walk.first == 0) ≡ false → (f op).walk.first ≡ op.walk.first
       first_stays op e = ap (λ (w : Walk). w.first) (same_walk op) ∙ rw e refl
 
-      later_by : (x : Option Seat) → seat_at p0 o ≡ x → is_still x ≡ false → IsTable p1 e0 put
-      later_by None at begun = subst (λ p. IsTable p e0 put) (sym (none at)) h
+      later_by : (x : Option Seat) → seat_at p0 o ≡ x → is_still x ≡ false → IsTable p1 e0
+      later_by None at begun = subst (λ p. IsTable p e0) (sym (none at)) h
       later_by (Some seat) at begun =
           let table = table_at seat at in
-          record {
-            queue = same_queue (first_at (table_of p0)) (first_at (table_of p1)) (after_of p0 e0) (after_of p1 e0) (before_of p0 e0) (before_of p1 e0)
-                (first_kept (table_of p0) (table_of p1) o seat.operation (f seat.operation) (there_at seat at) (first_stays seat.operation begun) table)
-                (λ t here. afters_became p0 p1 o f becomes e0 seat at t)
-                (λ t here. befores_became p0 p1 o f becomes e0 seat at t)
-                h.queue;
-            last_put = subst (λ t. IsLastPut t put) (sym table) (put_at seat at);
-          }
+          same_queue (first_at (table_of p0)) (first_at (table_of p1)) (after_of p0 e0) (after_of p1 e0) (before_of p0 e0) (before_of p1 e0)
+          (first_kept (table_of p0) (table_of p1) o seat.operation (f seat.operation) (there_at seat at) (first_stays seat.operation begun) table)
+          (λ t here. afters_became p0 p1 o f becomes e0 seat at t)
+          (λ t here. befores_became p0 p1 o f becomes e0 seat at t)
+          h
 
 -- an operation more, which has made no step
-module _ (old new : Slab Seat) (ends : Ends) (put : Option ℕ) (o : ℕ) (op : Operation) (h : IsTable old.slots ends put) (vacant : seat_at old.slots o ≡ None)
+module _ (old new : Slab Seat) (ends : Ends) (o : ℕ) (op : Operation) (h : IsTable old.slots ends) (vacant : seat_at old.slots o ≡ None)
     (updates : Updates old new o (Some (record { operation = op; before = None; after = None }))) (still : op.walk.first ≡ 0) where
-  kept_queue : IsQueue (first_at (table_of new.slots)) (after_of new.slots ends) (before_of new.slots ends)
-  kept_queue = same_queue (first_at (table_of old.slots)) (first_at (table_of new.slots)) (after_of old.slots ends) (after_of new.slots ends) (before_of old.slots ends) (before_of new.slots ends)
+  -- the table stays one
+  pub kept_sound : IsTable new.slots ends
+  kept_sound = same_queue (first_at (table_of old.slots)) (first_at (table_of new.slots)) (after_of old.slots ends) (after_of new.slots ends) (before_of old.slots ends) (before_of new.slots ends)
       (λ q. elim (cases_eq q o) [
         | inl is ↦ ap (λ n. first_at (table_of new.slots) n) is ∙ ap first_in (op_seat new.slots o ∙ ap operation_in updates.changed) ∙ still ∙ sym (ap first_in (op_seat old.slots o ∙ ap operation_in vacant)) ∙ ap (λ n. first_at (table_of old.slots) n) (sym is)
         | inr other ↦ ap first_in (op_seat new.slots q ∙ ap operation_in (updates.others q other) ∙ sym (op_seat old.slots q))
       ])
       afters
       befores
-      h.queue
+      h
     where
       new_here : (q : ℕ) → IsInQueue (first_at (table_of old.slots)) (Some q) → q ≢ o
       new_here q here is = absurd (omega (arith, here, ap (first_at (table_of old.slots)) is, ap first_in (op_seat old.slots o ∙ ap operation_in vacant)))
@@ -254,30 +229,8 @@ module _ (old new : Slab Seat) (ends : Ends) (put : Option ℕ) (o : ℕ) (op : 
   pub kept_others : (now : Table) → table_of old.slots ≡ now → (q : ℕ) → q ≢ o → op_at (table_of new.slots) q ≡ op_at now q
   kept_others now is q ne = op_seat new.slots q ∙ ap operation_in (updates.others q ne) ∙ sym (op_seat old.slots q) ∙ ap (λ t. op_at t q) is
 
-  -- a put is the only open one
-  pub kept_put : (now : Table) → table_of old.slots ≡ now → ¬ HasOpenPut now → IsTable new.slots ends (Some o)
-  kept_put now is alone = record {
-    queue = kept_queue;
-    last_put = λ q x at is_open. elim (cases_eq q o) [
-      | inl here ↦ ap (λ n. Some n) (sym here)
-      | inr other ↦ let w = open_parts x is_open in absurd (alone (q, x, sym (kept_others now is q other) ∙ at, w.0, w.1))
-    ];
-  }
-
-  -- and a get is no put
-  pub kept_get : is_get (ask op.task) ≡ true → IsTable new.slots ends put
-  kept_get get = record {
-    queue = kept_queue;
-    last_put = λ q x at is_open. elim (cases_eq q o) [
-      | inl here ↦
-          let same : op ≡ x = same_Some op x (sym kept_there ∙ ap (op_at (table_of new.slots)) (sym here) ∙ at) in
-          absurd (both_ways _ (ap (λ (w : Operation). is_get (ask w.task)) same ∙ (open_parts x is_open).0) get)
-      | inr other ↦ h.last_put q x (sym (kept_others (table_of old.slots) refl q other) ∙ at) is_open
-    ];
-  }
-
 -- an operation less
-module _ (p0 p1 : Seats) (e0 : Ends) (put : Option ℕ) (o : ℕ) (seat : Seat) (h : IsTable p0 e0 put) (at : seat_at p0 o ≡ Some seat) (gone : p1 ≡ set p0 o None) where
+module _ (p0 p1 : Seats) (e0 : Ends) (o : ℕ) (seat : Seat) (h : IsTable p0 e0) (at : seat_at p0 o ≡ Some seat) (gone : p1 ≡ set p0 o None) where
   there : op_at (table_of p0) o ≡ Some seat.operation
   there = op_seat p0 o ∙ ap operation_in at
 
@@ -294,10 +247,10 @@ module _ (p0 p1 : Seats) (e0 : Ends) (put : Option ℕ) (o : ℕ) (seat : Seat) 
   still_there (Some q) here ne = ap (λ p. is_some (seat_at p q)) gone ∙ ap is_some (set_there p0 o q None (λ is. ne (ap (λ n. Some n) is))) ∙ queue_seat p0 (Some q) here
 
   ahead : 0 < seat.operation.walk.first → ComesNext (first_at (table_of p0)) seat.before (Some o)
-  ahead begun = subst (λ x. ComesNext (first_at (table_of p0)) (before_in x) (Some o)) at (h.queue.befores (Some o) (omega (arith, begun, ap first_in there)))
+  ahead begun = subst (λ x. ComesNext (first_at (table_of p0)) (before_in x) (Some o)) at (h.befores (Some o) (omega (arith, begun, ap first_in there)))
 
   behind : 0 < seat.operation.walk.first → ComesNext (first_at (table_of p0)) (Some o) seat.after
-  behind begun = subst (λ x. ComesNext (first_at (table_of p0)) (Some o) (after_in x)) at (h.queue.afters (Some o) (omega (arith, begun, ap first_in there)))
+  behind begun = subst (λ x. ComesNext (first_at (table_of p0)) (Some o) (after_in x)) at (h.afters (Some o) (omega (arith, begun, ap first_in there)))
 
   -- the operation before it in the queue is there
   pub before_there : 0 < seat.operation.walk.first → IsEndOrSeat p1 seat.before
@@ -310,13 +263,6 @@ module _ (p0 p1 : Seats) (e0 : Ends) (put : Option ℕ) (o : ℕ) (seat : Seat) 
   -- and so is the one after it
   pub after_there : 0 < seat.operation.walk.first → IsEndOrSeat p1 seat.after
   after_there begun = still_there seat.after (in_follows (first_at (table_of p0)) (Some o) seat.after (behind begun)) (not_behind seat.after (behind begun))
-
-  -- the put that is kept in mind may be gone
-  put_gone : IsLastPut (set (table_of p0) o None) put
-  put_gone q x at_q is_open = elim (cases_eq q o) [
-    | inl is ↦ absurd (none_op (sym (set_none (table_of p0) o) ∙ ap (op_at (set (table_of p0) o None)) (sym is) ∙ at_q))
-    | inr other ↦ h.last_put q x (sym (set_there (table_of p0) o q None other) ∙ at_q) is_open
-  ]
 
   none_first : (p2 : Seats) → table_of p2 ≡ table_of p1 → first_at (table_of p2) o ≡ 0
   none_first p2 same = ap (λ t. first_at t o) (same ∙ table_gone) ∙ ap first_in (set_none (table_of p0) o)
@@ -332,28 +278,23 @@ module _ (p0 p1 : Seats) (e0 : Ends) (put : Option ℕ) (o : ℕ) (seat : Seat) 
   befores_gone None ne = refl
   befores_gone (Some q) ne = ap (λ p. before_in (seat_at p q)) gone ∙ ap before_in (set_there p0 o q None (λ is. ne (ap (λ n. Some n) is)))
 
-  cut_by : (p2 : Seats) (e2 : Ends) → 0 < seat.operation.walk.first → CutsOut p1 e0 p2 e2 seat.before seat.after → IsTable p2 e2 put
+  cut_by : (p2 : Seats) (e2 : Ends) → 0 < seat.operation.walk.first → CutsOut p1 e0 p2 e2 seat.before seat.after → IsTable p2 e2
   cut_by p2 e2 begun u =
       let before_is : before_of p0 e0 (Some o) ≡ seat.before = ap before_in at in
       let after_is : after_of p0 e0 (Some o) ≡ seat.after = ap after_in at in
-      record {
-        queue = cut_queue (first_at (table_of p0)) (first_at (table_of p2)) (after_of p0 e0) (after_of p2 e2) (before_of p0 e0) (before_of p2 e2) o h.queue
-            (omega (arith, begun, ap first_in there)) (none_first p2 u.table) (others_first p2 u.table)
-            (ap (after_of p2 e2) before_is ∙ u.after ∙ sym after_is) (ap (before_of p2 e2) after_is ∙ u.before ∙ sym before_is)
-            (λ s ne other. u.afters s (λ is. ne (is ∙ sym before_is)) ∙ afters_gone s other) (λ s ne other. u.befores s (λ is. ne (is ∙ sym after_is)) ∙ befores_gone s other);
-        last_put = subst (λ t. IsLastPut t put) (sym (u.table ∙ table_gone)) put_gone;
-      }
+      cut_queue (first_at (table_of p0)) (first_at (table_of p2)) (after_of p0 e0) (after_of p2 e2) (before_of p0 e0) (before_of p2 e2) o h
+      (omega (arith, begun, ap first_in there)) (none_first p2 u.table) (others_first p2 u.table)
+      (ap (after_of p2 e2) before_is ∙ u.after ∙ sym after_is) (ap (before_of p2 e2) after_is ∙ u.before ∙ sym before_is)
+      (λ s ne other. u.afters s (λ is. ne (is ∙ sym before_is)) ∙ afters_gone s other) (λ s ne other. u.befores s (λ is. ne (is ∙ sym after_is)) ∙ befores_gone s other)
 
-  left_by : seat.operation.walk.first ≡ 0 → IsTable p1 e0 put
-  left_by still = record {
-    queue = same_queue (first_at (table_of p0)) (first_at (table_of p1)) (after_of p0 e0) (after_of p1 e0) (before_of p0 e0) (before_of p1 e0)
-        (λ q. elim (cases_eq q o) [
-          | inl is ↦ ap (first_at (table_of p1)) is ∙ none_first p1 refl ∙ sym still ∙ sym (ap first_in there) ∙ ap (first_at (table_of p0)) (sym is)
-          | inr other ↦ others_first p1 refl q other
-        ])
-        (λ s here. afters_gone s (not_here s here)) (λ s here. befores_gone s (not_here s here)) h.queue;
-    last_put = subst (λ t. IsLastPut t put) (sym table_gone) put_gone;
-  }
+  left_by : seat.operation.walk.first ≡ 0 → IsTable p1 e0
+  left_by still =
+      same_queue (first_at (table_of p0)) (first_at (table_of p1)) (after_of p0 e0) (after_of p1 e0) (before_of p0 e0) (before_of p1 e0)
+      (λ q. elim (cases_eq q o) [
+        | inl is ↦ ap (first_at (table_of p1)) is ∙ none_first p1 refl ∙ sym still ∙ sym (ap first_in there) ∙ ap (first_at (table_of p0)) (sym is)
+        | inr other ↦ others_first p1 refl q other
+      ])
+      (λ s here. afters_gone s (not_here s here)) (λ s here. befores_gone s (not_here s here)) h
     where
       not_here : (s : Option ℕ) → IsInQueue (first_at (table_of p0)) s → s ≢ Some o
       not_here None here is = some_none (sym is)
@@ -364,10 +305,10 @@ module _ (p0 p1 : Seats) (e0 : Ends) (put : Option ℕ) (o : ℕ) (seat : Seat) 
   cases_first (suc n) = inl (omega arith)
 
   -- what is left is a table
-  pub gone_sound : (p2 : Seats) (e2 : Ends) → (0 < seat.operation.walk.first → CutsOut p1 e0 p2 e2 seat.before seat.after) → (seat.operation.walk.first ≡ 0 → (p2 ≡ p1) × (e2 ≡ e0)) → IsTable p2 e2 put
+  pub gone_sound : (p2 : Seats) (e2 : Ends) → (0 < seat.operation.walk.first → CutsOut p1 e0 p2 e2 seat.before seat.after) → (seat.operation.walk.first ≡ 0 → (p2 ≡ p1) × (e2 ≡ e0)) → IsTable p2 e2
   gone_sound p2 e2 unlinks same = elim (cases_first seat.operation.walk.first) [
     | inl begun ↦ cut_by p2 e2 begun (unlinks begun)
-    | inr still ↦ let s = same still in subst (λ e. IsTable p2 e put) (sym s.1) (subst (λ p. IsTable p e0 put) (sym s.0) (left_by still))
+    | inr still ↦ let s = same still in subst (λ e. IsTable p2 e) (sym s.1) (subst (λ p. IsTable p e0) (sym s.0) (left_by still))
   ]
 
   -- cutting it out of the queue changes no operation
@@ -378,9 +319,9 @@ module _ (p0 p1 : Seats) (e0 : Ends) (put : Option ℕ) (o : ℕ) (seat : Seat) 
   ]
 
 -- the floor that is needed where no operation has made a step
-pub floor_none : (seats : Seats) (ends : Ends) (put : Option ℕ) (now : Table) (steps : ℕ) → table_of seats ≡ now → IsTable seats ends put → ends.first ≡ None → IsFloorNeeded now steps steps
-floor_none seats ends put now steps is h none =
-    let f = subst (ComesNext (first_at (table_of seats)) None) none (h.queue.afters None tt) in
+pub floor_none : (seats : Seats) (ends : Ends) (now : Table) (steps : ℕ) → table_of seats ≡ now → IsTable seats ends → ends.first ≡ None → IsFloorNeeded now steps steps
+floor_none seats ends now steps is h none =
+    let f = subst (ComesNext (first_at (table_of seats)) None) none (h.afters None tt) in
     record {
       made = omega arith;
       before = λ o op at begun. absurd (omega (arith, f.1 o, ap first_in (ap (λ t. op_at t o) is ∙ at), begun));
@@ -388,9 +329,9 @@ floor_none seats ends put now steps is h none =
     }
 
 -- and where one did so first
-module _ (seats : Seats) (ends : Ends) (put : Option ℕ) (o : ℕ) (h : IsTable seats ends put) (first : ends.first ≡ Some o) where
+module _ (seats : Seats) (ends : Ends) (o : ℕ) (h : IsTable seats ends) (first : ends.first ≡ Some o) where
   first_follows : ComesNext (first_at (table_of seats)) None (Some o)
-  first_follows = subst (ComesNext (first_at (table_of seats)) None) first (h.queue.afters None tt)
+  first_follows = subst (ComesNext (first_at (table_of seats)) None) first (h.afters None tt)
 
   -- the queue's first operation is there
   pub first_there : seat_at seats o ≡ None → ⊥
@@ -413,25 +354,3 @@ module _ (seats : Seats) (ends : Ends) (put : Option ℕ) (o : ℕ) (h : IsTable
         ];
         greatest = λ n le before. omega (arith, before o seat.operation there (first_begun seat at));
       }
-
--- an open put is the one that is kept in mind
-pub open_none : (seats : Seats) (ends : Ends) (put : Option ℕ) (now : Table) → table_of seats ≡ now → IsTable seats ends put → put ≡ None → ¬ HasOpenPut now
-open_none seats ends put now is h none (o, op, at, is_put, left) = some_none (sym (h.last_put o op (ap (λ t. op_at t o) is ∙ at) (open_joins op is_put left)) ∙ none)
-
--- no put is open where the one in mind is gone
-pub open_gone : (seats : Seats) (ends : Ends) (put : Option ℕ) (now : Table) (o : ℕ) → table_of seats ≡ now → IsTable seats ends put → put ≡ Some o → seat_at seats o ≡ None → ¬ HasOpenPut now
-open_gone seats ends put now o is h mind none (q, op, at, is_put, left) =
-    let same : q ≡ o = same_Some q o (sym (h.last_put q op (ap (λ t. op_at t q) is ∙ at) (open_joins op is_put left)) ∙ mind) in
-    none_op (sym (op_seat seats o ∙ ap operation_in none) ∙ ap (op_at (table_of seats)) (sym same) ∙ ap (λ t. op_at t q) is ∙ at)
-
--- one is open where it is there and open
-pub open_there : (seats : Seats) (ends : Ends) (put : Option ℕ) (now : Table) (o : ℕ) (seat : Seat) → table_of seats ≡ now → IsTable seats ends put → put ≡ Some o → seat_at seats o ≡ Some seat → is_open_put seat.operation ≡ true → HasOpenPut now
-open_there seats ends put now o seat is h mind there is_open =
-    let w = open_parts seat.operation is_open in (o, seat.operation, ap (λ t. op_at t o) (sym is) ∙ op_seat seats o ∙ ap operation_in there, w.0, w.1)
-
--- and no other can be
-pub there_open : (seats : Seats) (ends : Ends) (put : Option ℕ) (now : Table) (o : ℕ) (seat : Seat) → table_of seats ≡ now → IsTable seats ends put → put ≡ Some o → seat_at seats o ≡ Some seat → HasOpenPut now → is_open_put seat.operation ≡ true
-there_open seats ends put now o seat is h mind there (q, op, at, is_put, left) =
-    let is_open = open_joins op is_put left in
-    let same : q ≡ o = same_Some q o (sym (h.last_put q op (ap (λ t. op_at t q) is ∙ at) is_open) ∙ mind) in
-    ap is_open_put (same_Some seat.operation op (sym (op_seat seats o ∙ ap operation_in there) ∙ ap (op_at (table_of seats)) (sym same) ∙ ap (λ t. op_at t q) is ∙ at)) ∙ is_open

@@ -1,5 +1,5 @@
 -- An operation between its steps: what is shown of it, and what each change makes of it.
-use Rattle.std.specs.Prelude.{ℕ, Bool, true, false, not, ◌&&◌, ◌==◌, if◌then◌else◌, Option, Some, None}
+use Rattle.std.specs.Prelude.{◌≡◌, ℕ, [], Bool, true, false, not, ◌==◌, if◌then◌else◌, Option, Some, None}
 use Rattle.mt_rows.specs.declared.command.Command.{Command}
 use Rattle.mt_rows.specs.Maps.{is_get}
 use Rattle.mt_operation.specs.declared.walk.Phase.{Phase}
@@ -8,6 +8,7 @@ use Rattle.mt_operation.specs.declared.walk.Walk.{Walk}
 use Rattle.mt_operation.specs.declared.task.Task.{Task}
 use Rattle.mt_operation.specs.declared.outcome.Outcome.{Outcome}
 use Rattle.mt_operation.specs.declared.prepared.Prepared.{Prepared}
+use Rattle.mt_operation.specs.declared.splits.Splits.{Splits}
 use Rattle.mt_operation.specs.declared.operation.Operation.{Operation}
 use Rattle.mt_operation.specs.Tasks.{ask}
 use Rattle.mt_operation.specs.Walks.{walk_from_top}
@@ -43,13 +44,15 @@ is_done _ = false
 abbrev pub is_unfinished : Operation → Bool
 is_unfinished op = not (is_done op.walk.phase)
 
--- a put with a step left
-abbrev pub is_open_put : Operation → Bool
-is_open_put op = not (is_get (ask op.task)) && is_unfinished op
+-- the operation has split nothing, or has given all back
+pub record IsUnsplit (s : Splits) : Type 0 where
+  pub halves : s.halves.items ≡ []
+  pub above : s.above ≡ None
+  pub moved : s.moved ≡ 0
 
--- an operation before its first step
-abbrev pub begun : Task → Operation
-begun task = record { task = task; walk = walk_from_top (not (is_get (ask task))) 0; last = 0; outcome = None; prepared = None }
+-- an operation before its first step, with the splits of one that has split nothing
+abbrev pub begun : Task → Splits → Operation
+begun task splits = record { task = task; walk = walk_from_top (not (is_get (ask task))) 0; last = 0; outcome = None; prepared = None; splits = splits }
 
 -- an operation that has made the step of this number, which is its first where it had made none, and walks on so
 abbrev pub moved : Operation → ℕ → Walk → Operation
@@ -62,6 +65,10 @@ noted op outcome = record op { outcome = outcome }
 -- with this made ready
 abbrev pub made_ready : Operation → Prepared → Operation
 made_ready op prepared = record op { prepared = Some prepared }
+
+-- with these splits
+abbrev pub with_splits : Operation → Splits → Operation
+with_splits op splits = record op { splits = splits }
 
 -- and with nothing ready
 abbrev pub with_nothing_ready : Operation → Operation

@@ -1,10 +1,8 @@
 -- The queue of the operations that have made a step, in the order of their first steps, and what changes of one seat do to it.
-use Rattle.std.specs.Prelude.{◌≡◌, ◌≢◌, ℕ, ◌<◌, ◌≤◌, ◌⊎◌, true, Option, Some, None, slice_set}
+use Rattle.std.specs.Prelude.{◌≡◌, ◌≢◌, ℕ, ◌<◌, ◌≤◌, ◌⊎◌, Option, Some, None, slice_set}
 use Rattle.mt_operation.specs.declared.operation.Operation.{Operation}
 use Rattle.mt_operation.specs.declared.queue.Seat.{Seat}
 use Rattle.mt_operation.specs.declared.queue.Ends.{Ends}
-use Rattle.mt_operation.specs.Operations.{is_open_put}
-use Rattle.mt_operation.specs.Tables.{Table, op_at}
 use Rattle.mt_operation.specs.Seats.{Seats, seat_at, table_of, first_at, after_of, before_of}
 
 -- an operation that has made a step, or none
@@ -28,14 +26,9 @@ pub record IsQueue (firsts : ℕ → ℕ) (after before : Option ℕ → Option 
   pub afters : (s : Option ℕ) → IsInQueue firsts s → ComesNext firsts s (after s)
   pub befores : (s : Option ℕ) → IsInQueue firsts s → ComesNext firsts (before s) s
 
--- a put with a step left is the one that is kept in mind
-abbrev pub IsLastPut : Table → Option ℕ → Type 0
-IsLastPut table put = (o : ℕ) (op : Operation) → op_at table o ≡ Some op → is_open_put op ≡ true → put ≡ Some o
-
 -- what holds of a table at all times
-pub record IsTable (seats : Seats) (ends : Ends) (put : Option ℕ) : Type 0 where
-  pub queue : IsQueue (first_at (table_of seats)) (after_of seats ends) (before_of seats ends)
-  pub last_put : IsLastPut (table_of seats) put
+abbrev pub IsTable : Seats → Ends → Type 0
+IsTable seats ends = IsQueue (first_at (table_of seats)) (after_of seats ends) (before_of seats ends)
 
 -- one has a new neighbour after it; all other links and all operations are as they were
 pub record SetsAfter (old : Seats) (old_ends : Ends) (new : Seats) (new_ends : Ends) (s to : Option ℕ) : Type 0 where

@@ -1,9 +1,7 @@
 -- The table of operations, as it is shown.
-use Rattle.std.specs.Prelude.{◌≡◌, ℕ, ◌<◌, ◌≤◌, true, false, List, Option, Some, None, slice_index_or}
-use Rattle.mt_rows.specs.Maps.{is_get}
+use Rattle.std.specs.Prelude.{◌≡◌, ℕ, ◌<◌, ◌≤◌, true, List, Option, Some, None, slice_index_or}
 use Rattle.mt_operation.specs.declared.prepared.Prepared.{Prepared}
 use Rattle.mt_operation.specs.declared.operation.Operation.{Operation}
-use Rattle.mt_operation.specs.Tasks.{ask}
 use Rattle.mt_operation.specs.Operations.{is_unfinished}
 
 -- the operations by their ids: those that were begun and whose answer was not taken
@@ -18,10 +16,6 @@ op_at table o = slice_index_or table o None
 abbrev pub prepared_in : Option Operation → Option Prepared
 prepared_in None = None
 prepared_in (Some op) = op.prepared
-
--- a put has a step left
-abbrev pub HasOpenPut : Table → Type 0
-HasOpenPut table = (o : ℕ) × (op : Operation) × (op_at table o ≡ Some op) × (is_get (ask op.task) ≡ false) × (is_unfinished op ≡ true)
 
 -- the step may be made by the operation of an id: no first step of the table's operations has its number or a later one, and the operation has a
 -- step left

@@ -1,12 +1,14 @@
 //! One operation: its task, and what it remembers between its steps.
 
 ghost use Rattle.std.specs.Prelude.{◌≡◌};
-ghost use Rattle.mt_operation.specs.Operations.{begun, moved, is_unfinished, is_open_put};
+ghost use Rattle.mt_operation.specs.Operations.{begun, IsUnsplit, moved, is_unfinished};
 
 use crate::outcome::Outcome;
 use crate::prepared::Prepared;
+use crate::splits::Splits;
 use crate::task::Task;
 use crate::walk::{Phase, Walk};
+use std::alloc::Global;
 
 /// An operation that was begun and whose answer was not taken. Its first step has the number
 /// `walk.first`, and its last one so far the number `last`; both are 0 where it has made none.
@@ -17,12 +19,14 @@ pub struct Operation {
     pub last: u64,
     pub outcome: Option<Outcome>,
     pub prepared: Option<Prepared>,
+    pub splits: Splits,
 }
 
 impl Operation {
     /// An operation that has made no step: its walk begins at the top tree.
-    pub fn new(task: Task) -> Self
-        ensures { result ≡ begun task }
+    pub fn new(alloc: Global, task: Task) -> Self
+        ensures is { result ≡ begun task result.splits }
+        ensures unsplit { IsUnsplit result.splits }
     {
         let writes = !task.request.is_get();
         Operation {
@@ -31,6 +35,7 @@ impl Operation {
             last: 0,
             outcome: None,
             prepared: None,
+            splits: Splits::new(alloc),
         }
     }
 
@@ -46,13 +51,6 @@ impl Operation {
         ensures { result ≡ is_unfinished self.now }
     {
         !matches!(self.walk.phase, Phase::Done)
-    }
-
-    /// Whether it is a put with a step left.
-    pub fn is_open_put(&self) -> bool
-        ensures { result ≡ is_open_put self.now }
-    {
-        !self.task.request.is_get() && self.is_unfinished()
     }
 
     /// Makes the step of this number, and walks on so. The first step stays the one that it was.

@@ -4,7 +4,8 @@
 //! and to one operation is said seat by seat; `table.rt` keeps what holds of all of them.
 
 ghost use Rattle.std.specs.Prelude.{◌≡◌, ◌≢◌, ◌<◌, true, false, Some, None};
-ghost use Rattle.mt_operation.specs.Operations.{moved, noted, made_ready, with_nothing_ready};
+ghost use Rattle.mt_operation.specs.declared.queue.Seat.{Seat as AnySeat};
+ghost use Rattle.mt_operation.specs.Operations.{moved, noted, made_ready, with_splits, with_nothing_ready};
 ghost use Rattle.mt_operation.specs.Tables.{prepared_in};
 ghost use Rattle.mt_operation.specs.Seats.{seat_at, operation_in, is_still, IsEndOrSeat};
 ghost use Rattle.mt_operation.specs.Queues.{SetsAfter, SetsBefore, CutsOut, LinksLast, Becomes};
@@ -12,8 +13,10 @@ ghost use Rattle.mt_operation.specs.Queues.{SetsAfter, SetsBefore, CutsOut, Link
 use crate::operation::Operation;
 use crate::outcome::Outcome;
 use crate::prepared::Prepared;
+use crate::splits::Splits;
 use crate::walk::Walk;
 use slab::Slab;
+use std::mem;
 
 /// An operation, and its neighbours in the queue.
 #[derive(Drop)]
@@ -89,6 +92,17 @@ pub(crate) fn take_prepared_at(seats: &mut Slab<Seat>, id: usize) -> Option<Prep
     match seats.get_mut(id) {
         Some(seat) => seat.operation.prepared.take(),
         None => None,
+    }
+}
+
+/// Exchanges the splits of an operation with these.
+pub(crate) fn swap_splits_at(seats: &mut Slab<Seat>, id: usize, splits: &mut Splits)
+    ensures gives { (seat : AnySeat) → seat_at seats.old.slots id ≡ Some seat → splits.new ≡ seat.operation.splits }
+    ensures becomes { Becomes seats.old.slots seats.new.slots id (λ op. with_splits op splits.old) }
+    ensures none { seat_at seats.old.slots id ≡ None → (seats.new.slots ≡ seats.old.slots) × (splits.new ≡ splits.old) }
+{
+    if let Some(seat) = seats.get_mut(id) {
+        mem::swap(&mut seat.operation.splits, splits);
     }
 }
 

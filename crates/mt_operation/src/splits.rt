@@ -1,6 +1,6 @@
 //! What a splitting operation holds beside its border node.
 
-ghost use Rattle.std.specs.Prelude.{◌≡◌, [], None};
+ghost use Rattle.mt_operation.specs.Operations.{IsUnsplit};
 
 use std::alloc::Global;
 
@@ -24,9 +24,7 @@ pub struct Splits {
 impl Splits {
     /// Those of an operation that has split nothing.
     pub fn new(alloc: Global) -> Self
-        ensures halves { result.halves.items ≡ [] }
-        ensures above { result.above ≡ None }
-        ensures moved { result.moved ≡ 0 }
+        ensures { IsUnsplit result }
     {
         Splits {
             halves: Vec::new(alloc),

@@ -6,16 +6,17 @@
 //! out of it. Invariant: `IsTable` of `specs/Queues.antt`. Memory: one seat for each operation, as
 //! many as stood open at once.
 
-ghost use Rattle.std.specs.Prelude.{◌≡◌, ◌≢◌, ◌↔◌, ◌≤◌, ℕ, false, [], IsTrue, IfOk, IfErr, OnErr, OnSome, IfNone, Some, None, slice_set, option_copied};
-ghost use Rattle.mt_rows.specs.Maps.{is_get};
+ghost use Rattle.std.specs.Prelude.{◌≡◌, ◌≢◌, ◌≤◌, ℕ, [], IfOk, IfErr, OnErr, OnSome, IfNone, Some, None, slice_set, option_copied};
 ghost use Rattle.mt_operation.specs.declared.operation.Operation.{Operation as AnyOperation};
 
 use crate::operation::Operation;
 use crate::outcome::Outcome;
 use crate::prepared::Prepared;
 use crate::queue::{
-    Ends, Seat, cut, link_last, make_ready_at, move_at, move_with_at, take_prepared_at,
+    Ends, Seat, cut, link_last, make_ready_at, move_at, move_with_at, swap_splits_at,
+    take_prepared_at,
 };
+use crate::splits::Splits;
 use crate::walk::Walk;
 use mt_rows::Refusal;
 use slab::Slab;
@@ -27,8 +28,6 @@ use std::marker::Model;
 pub struct Operations {
     seats: Slab<Seat>,
     ends: Ends,
-    // The put that was begun last.
-    put: Option<usize>,
 }
 
 impl Model for Operations {
@@ -40,13 +39,12 @@ impl Model for Operations {
 
     ghost view = { λ t. table_of t.seats.slots };
 
-    ghost invariant = { λ t. IsTable t.seats.slots t.ends t.put };
+    ghost invariant = { λ t. IsTable t.seats.slots t.ends };
 }
 
 impl Operations {
-    ghost use Rattle.mt_operation.specs.Tasks.{ask};
-    ghost use Rattle.mt_operation.specs.Operations.{moved, noted, made_ready, with_nothing_ready};
-    ghost use Rattle.mt_operation.specs.Tables.{op_at, prepared_in, HasOpenPut, MayMove, IsFloorNeeded};
+    ghost use Rattle.mt_operation.specs.Operations.{moved, noted, made_ready, with_splits, with_nothing_ready};
+    ghost use Rattle.mt_operation.specs.Tables.{op_at, prepared_in, MayMove, IsFloorNeeded};
 
     /// A table of no operation.
     pub fn new(alloc: Global) -> Self
@@ -58,7 +56,6 @@ impl Operations {
                 first: None,
                 last: None,
             },
-            put: None,
         }
     }
 
@@ -75,22 +72,17 @@ impl Operations {
     /// Keeps an operation that has made no step, at an id that was free.
     pub fn keep(&mut self, operation: Operation) -> Result<usize, Refusal>
         requires new { operation.walk.first ≡ 0 }
-        requires one_put { is_get (ask operation.task) ≡ false → ¬ HasOpenPut self.old }
         ensures memory { IfErr result (λ refusal. refusal ≡ Refusal.Memory) }
         ensures vacant { IfOk result (λ id. op_at self.old id ≡ None) }
         ensures there { IfOk result (λ id. op_at self.new id ≡ Some operation) }
         ensures others { IfOk result (λ id. (q : ℕ) → q ≢ id → op_at self.new q ≡ op_at self.old q) }
         ensures unchanged_on_err { OnErr result (self.new ≡ self.old) }
     {
-        let is_put = !operation.task.request.is_get();
         let id = self.seats.insert(Seat {
             operation,
             before: None,
             after: None,
         })?;
-        if is_put {
-            self.put = Some(id);
-        }
         Ok(id)
     }
 
@@ -147,17 +139,13 @@ impl Operations {
         take_prepared_at(&mut self.seats, id)
     }
 
-    /// Whether a put has a step left.
-    pub fn has_open_put(&self) -> bool
-        ensures { IsTrue result ↔ HasOpenPut self.now }
+    /// Exchanges the splits of an operation with these. Nothing happens where no operation has the id.
+    pub fn swap_splits(&mut self, id: usize, splits: &mut Splits)
+        ensures gives { (op : AnyOperation) → op_at self.old id ≡ Some op → splits.new ≡ op.splits }
+        ensures takes { (op : AnyOperation) → op_at self.old id ≡ Some op → self.new ≡ slice_set self.old id (Some (with_splits op splits.old)) }
+        ensures absent { op_at self.old id ≡ None → (self.new ≡ self.old) × (splits.new ≡ splits.old) }
     {
-        match self.put {
-            Some(id) => match self.seats.get(id) {
-                Some(seat) => seat.operation.is_open_put(),
-                None => false,
-            },
-            None => false,
-        }
+        swap_splits_at(&mut self.seats, id, splits);
     }
 
     /// The floor that the tape needs after so many steps.

@@ -6,22 +6,19 @@ use Rattle.mt_operation.specs.declared.operation.Operation.{Operation}
 use Rattle.mt_operation.specs.declared.task.Task.{Task}
 use Rattle.mt_operation.specs.declared.walk.Walk.{Walk}
 use Rattle.mt_operation.specs.declared.outcome.Outcome.{Outcome}
+use Rattle.mt_operation.specs.declared.splits.Splits.{Splits}
 use Rattle.mt_operation.specs.Operations.{begun, moved, noted, is_done, is_unfinished}
-use Rattle.mt_operation.specs.Tables.{Table, op_at, HasOpenPut, MayMove}
+use Rattle.mt_operation.specs.Tables.{Table, op_at, MayMove}
 use Rattle.mt_operation.proofs.Tables.{set_is, set_there}
 use Rattle.mt_operation_tests.specs.Alone.{HasOnly}
 
 none_op : {op : Operation} → ◌≡◌ {A = Option Operation} None (Some op) → ⊥
 none_op e = cc
 
--- no put is open in an empty table
-pub none_open : (table : Table) → table ≡ [] → ¬ HasOpenPut table
-none_open table empty (o, op, at, is_put, left) = none_op (sym (ap (λ t. op_at t o) empty) ∙ at)
-
 -- the first operation of all is the only one
-pub begins : (old table : Table) (id first : ℕ) (task : Task) → old ≡ [] → 0 < first → op_at table id ≡ Some (begun task) → ((q : ℕ) → q ≢ id → op_at table q ≡ op_at old q) → HasOnly table id first
-begins old table id first task empty later there others = record {
-  op = begun task;
+pub begins : (old table : Table) (id first : ℕ) (task : Task) (splits : Splits) → old ≡ [] → 0 < first → op_at table id ≡ Some (begun task splits) → ((q : ℕ) → q ≢ id → op_at table q ≡ op_at old q) → HasOnly table id first
+begins old table id first task splits empty later there others = record {
+  op = begun task splits;
   there = there;
   others = λ q ne. others q ne ∙ ap (λ t. op_at t q) empty;
   early = later;

@@ -5,7 +5,9 @@ ghost use Rattle.mt_operation.specs.Operations.{is_done};
 ghost use Rattle.mt_operation_tests.specs.Alone.{HasOnly};
 
 use mt_border::Suffix;
-use mt_operation::{Operation, Operations, Outcome, Phase, Prepared, Request, Task, Walk};
+use mt_operation::{
+    Halves, Operation, Operations, Outcome, Phase, Prepared, Request, Splits, Task, Walk,
+};
 use mt_rows::{Change, Column, ColumnIndexes, Command, Key, NamedColumns, Refusal, Reply, Row};
 use mt_slices::StoredKey;
 use mt_tape::Entry;
@@ -67,7 +69,7 @@ fn table_of(alloc: Global, task: Task, first: u64) -> Result<(Operations, usize)
     ensures { IfOk result (λ made. HasOnly made.0 made.1 first) }
 {
     let mut table = Operations::new(alloc);
-    let id = table.keep(Operation::new(task))?;
+    let id = table.keep(Operation::new(alloc, task))?;
     Ok((table, id))
 }
 
@@ -117,7 +119,6 @@ fn a_get_walks_and_is_answered(rt: HostRuntime) -> Result<(), Fail> {
     let alloc = rt.alloc();
     let task = task_of(alloc, get_of_k(alloc)?)?;
     let (mut table, id) = table_of(alloc, task, 5)?;
-    assert!(rt; !table.has_open_put());
     assert_eq!(rt; floor_of(&table, id, 4), 4);
     go_to(&mut table, id, 5, Phase::Search);
     miss_at(&mut table, id, 6, Phase::Confirm);
@@ -136,21 +137,25 @@ fn a_get_walks_and_is_answered(rt: HostRuntime) -> Result<(), Fail> {
 }
 
 #[test]
-fn a_put_is_open_and_makes_ready(rt: HostRuntime) -> Result<(), Fail> {
+fn a_put_makes_ready_and_has_splits(rt: HostRuntime) -> Result<(), Fail> {
     let alloc = rt.alloc();
     let task = task_of(alloc, put_of_k(alloc)?)?;
     let (mut table, id) = table_of(alloc, task, 5)?;
-    assert!(rt; table.has_open_put());
     let prepared = ready(&rt, alloc)?;
     table.make_ready(id, prepared);
     for there in [true, false] {
         assert!(rt; table.take_prepared(id).is_some() == there);
     }
+    let mut splits = Splits::new(alloc);
+    splits.halves.push(Halves { left: 3, right: 8 })?;
+    for given in [0, 1] {
+        table.swap_splits(id, &mut splits);
+        assert_eq!(rt; splits.halves.len(), given);
+    }
     match table.remove(id) {
         Some(operation) => assert!(rt; is_put(operation)),
         None => panic!(rt; "the operation is gone"),
     }
-    assert!(rt; !table.has_open_put());
     Ok(())
 }
 

@@ -7,7 +7,7 @@ use Rattle.mt_runs.specs.declared.event.Answer.{Answer}
 use Rattle.mt_runs.specs.declared.event.Event.{Event}
 use Rattle.mt_runs.specs.declared.event.Event.TheVariants.{Begin, Step}
 use Rattle.mt_runs.specs.declared.event.Told.{Told}
-use Rattle.mt_runs.specs.declared.event.Told.TheVariants.{Begun, Refused, NoSuch, Moved, Again, Spent, Done}
+use Rattle.mt_runs.specs.declared.event.Told.TheVariants.{Begun, Refused, NoSuch, Moved, Again, NoMemory, Spent, Done}
 use Rattle.mt_runs.specs.Runs.{Run, numbered, asked_by, story_of}
 use Rattle.mt_runs.specs.Placings.{Quotas, Maps}
 use Rattle.mt_runs.proofs.Events.{story_begin, story_moved, story_done, story_quiet}
@@ -15,7 +15,7 @@ use Rattle.mt_rows.specs.declared.command.Command.TheVariants.{Get, Put}
 use Rattle.mt_rows.specs.Maps.{is_scan}
 use Rattle.mt_operation.specs.Operations.{OperationView}
 use Rattle.mt_operation.proofs.Tables.{set_here}
-use Rattle.mt_state.specs.Views.{StateView, Shown, op_at}
+use Rattle.mt_state.specs.Views.{StateView, op_at}
 use Rattle.mt_state.specs.Promises.{IsStep}
 use Rattle.mt_state.specs.Begins.{MayBegin, Begins, IsAnswerOf, Takes}
 use Rattle.mt_state.specs.Histories.{Names, Renames, History, TellsEvent, BringsTo}
@@ -34,17 +34,17 @@ keeps_quiet names now old new e t no_step no_ask still same = λ quotas first ba
     (subst (λ s. History quotas first s names new) (sym (story_quiet base run (e, t) no_step no_ask)) (subst (History quotas first (story_of base run) names) (sym same) h))
 
 -- who may be begun runs no scan
-begins_no_scan : (table : Shown) (command : Command) → MayBegin table command → is_scan command ≡ false
-begins_no_scan table (Get key columns) may = refl
-begins_no_scan table (Put key change) may = refl
-begins_no_scan table _ may = absurd (may)
+begins_no_scan : (command : Command) → MayBegin command → is_scan command ≡ false
+begins_no_scan (Get key columns) may = refl
+begins_no_scan (Put key change) may = refl
+begins_no_scan _ may = absurd (may)
 
 -- a begin
-keeps_begun : (names now : Names) (old new : StateView) (o n worker tenant : ℕ) (command : Command) → MayBegin old.table command → Begins old new n worker tenant command → names o ≡ None → Renames names now o (Some n)
+keeps_begun : (names now : Names) (old new : StateView) (o n worker tenant : ℕ) (command : Command) → MayBegin command → Begins old new n worker tenant command → names o ≡ None → Renames names now o (Some n)
     → Keeps names old now new (Begin o worker tenant command) Begun
 keeps_begun names now old new o n worker tenant command may b unknown r = λ quotas first base run h.
     subst (λ s. History quotas first s now new) (sym (story_begin base run o worker tenant command))
-    (history_begin quotas first (story_of base run) old new names now o n worker tenant command h b (begins_no_scan old.table command may) unknown r)
+    (history_begin quotas first (story_of base run) old new names now o n worker tenant command h b (begins_no_scan command may) unknown r)
 
 no_answer : (a : Answer) → ◌≡◌ {A = Option Answer} None (Some a) → ⊥
 no_answer a e = cc
@@ -76,6 +76,7 @@ keeps_event names now old new (Step o) Moved h =
     subst (λ (w : Names). Keeps names old w new (Step o) Moved) (sym h.2) (keeps_moved names old new o h.0 h.1 h.3)
 keeps_event names now old new (Step o) (Done a) h = keeps_done names now old h.1 new o h.0 a h.2 h.4 h.5 h.3
 keeps_event names now old new (Step o) (Again q) h = keeps_quiet names now old new _ _ refl (λ q. refl) h.5 h.6
+keeps_event names now old new (Step o) NoMemory h = keeps_quiet names now old new _ _ refl (λ q. refl) h.3 h.4
 keeps_event names now old new (Step o) Spent h = keeps_quiet names now old new _ _ refl (λ q. refl) h.3 h.4
 keeps_event names now old new (Step o) NoSuch h = keeps_quiet names now old new _ _ refl (λ q. refl) h.1 h.2
 keeps_event names now old new _ _ h = absurd h

@@ -256,7 +256,7 @@ module _ (quotas : Quotas) (first : Maps) (story : Story) (old new : StateView) 
           let both = told_change-is p.reply (old.steps + 1) m (sym (ap told_change p.outcome) ∙ e) in
           new_owner story o answer m (sym both.1 ∙ sym next)
     ];
-    placed = λ m e. placed_after old s.before s.before.phase s.after.phase s.after.outcome m s.notes e;
+    placed = λ m e. placed_after old s.before s.before.phase s.after.phase s.after.outcome m s.moves.follows s.notes e;
   }
     where
       same_asked : ◌≡◌ {A = Option Asked} (Some what) (Some (record { tenant = s.after.tenant; command = s.after.command }))

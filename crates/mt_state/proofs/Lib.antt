@@ -12,7 +12,7 @@ pub mod Still
 pub mod Descents
 pub mod Reading
 pub mod Confirming
-pub mod OneBorder
+pub mod OneTree
 pub mod Loading
 pub mod HistoryMaps
 pub mod HistoryStart
@@ -25,6 +25,8 @@ pub mod HistoryGets
 pub mod HistoryNew
 pub mod HistoryGet
 pub mod OneNode
+pub mod SplitSteps
 pub mod Locking
 pub mod Putting
+pub mod Parting
 pub mod Needs

@@ -57,7 +57,7 @@ use Rattle.mt_state.specs.Ways.{ShowsTaken}
 use Rattle.mt_state.specs.Kept.{IsOfKind, IsOpenOperation, TellsTaken, IsAtLoad, IsAtConfirm, HasAnswer, IsKeptAt}
 use Rattle.mt_state.specs.Invariant.{IsStampOf, StateInvariant}
 use Rattle.mt_state.proofs.Replies.{get_asks}
-use Rattle.mt_state.proofs.OneBorder.{only, slot_key}
+use Rattle.mt_state.proofs.OneTree.{slot_key}
 use Rattle.mt_state.proofs.Telling.{Gives}
 use Rattle.mt_state.proofs.Moved.{went, first_begun, first_upto}
 use Rattle.mt_state.proofs.Still.{IsFree, IsUnready, still, still_gives}
@@ -157,9 +157,8 @@ module _ (c : Core) (now : StateView) (o : ℕ) (is : shown c ≡ now) (h : Stat
     -- a pair in the slot stands for a key
     stands : (pair : Pair) → op.walk.slot < length node.slots → pair_of (slot_at node op.walk.slot).held ≡ Some pair → (key : Bytes) × (layer : ℕ) × StandsFor c.arena.nodes c.arena.trees key layer op.walk.place.node op.walk.slot pair
     stands pair in_range held =
-        let zero = only c.arena arena h.one_border op.walk.place.node within in
-        let s = slot_key c.arena arena h.one_border op.walk.slot pair (subst (λ k. op.walk.slot < length (at c.arena k).slots) zero in_range) (subst (λ k. pair_of (slot_at (at c.arena k) op.walk.slot).held ≡ Some pair) zero held) in
-        (s.0, layer_of (tree_of c.arena 0).prefix, subst (λ k. StandsFor c.arena.nodes c.arena.trees s.0 (layer_of (tree_of c.arena 0).prefix) k op.walk.slot pair) (sym zero) s.1)
+        let s = slot_key c.arena arena h.one_tree op.walk.place.node within op.walk.slot pair in_range held in
+        (s.0, layer_of (tree_of c.arena op.walk.place.node).prefix, s.1)
 
     -- where nobody made a step since the search, a pair in the slot is that of the get's own key
     own_suffix : (held : Held) (pair : Pair) → pair_of held ≡ Some pair → (kind : FoundKind) → kind ≢ OtherLong → IsKind (record { slice = (slot_at node op.walk.slot).slice; mark = (slot_at node op.walk.slot).mark; held = held }) (suffix_of op.task.key op.walk.layer) kind

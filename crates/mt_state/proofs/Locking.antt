@@ -1,8 +1,7 @@
 -- The steps of a put that change no pair: it locks its border node, judges it, finds its quota full, and gives the lock back.
-use Rattle.std.proofs.Common.{◌≡◌, ℕ, zero, suc, ◌+◌, ◌-◌, ◌<◌, ◌≤◌, inl, inr, true, false, cond, [], ◌∷◌, length, Option, Some, None, refl, sym, ap, subst, ◌∙◌, arith}
+use Rattle.std.proofs.Common.{◌≡◌, ℕ, zero, suc, ◌+◌, ◌-◌, ◌<◌, ◌≤◌, inl, inr, Bool, true, false, cond, eqb, List, [], ◌∷◌, length, Option, Some, None, refl, sym, ap, subst, ◌∙◌, arith}
 use Rattle.std.specs.Prelude.{◌^◌}
-use Rattle.std.proofs.lemmas.Bool.{cases_lt, cond-false, ne_eqb}
-use Rattle.std.proofs.lemmas.Option.{same_Some}
+use Rattle.std.proofs.lemmas.Bool.{cases_lt}
 use Rattle.std.specs.FinMap.{get, len}
 use Rattle.mt_version.specs.Changes.{CanUnlock}
 use Rattle.mt_rows.specs.declared.reply.Reply.TheVariants.{NoMemory, Full}
@@ -21,19 +20,20 @@ use Rattle.mt_arena.specs.Arena.{ArenaView, content_of, Guarantee}
 use Rattle.mt_arena.specs.Accesses.{at, with_node}
 use Rattle.mt_arena.specs.Settled.{IsSettled}
 use Rattle.mt_operation.specs.declared.walk.Phase.{Phase}
-use Rattle.mt_operation.specs.declared.walk.Phase.TheVariants.{Enter, Lock, Judge, Store, Publish, Unlock, Done}
+use Rattle.mt_operation.specs.declared.walk.Phase.TheVariants.{Enter, Lock, Judge, Store, Publish, SplitStart, Unlock, Done}
 use Rattle.mt_operation.specs.declared.walk.Walk.{Walk}
 use Rattle.mt_operation.specs.declared.outcome.Outcome.{Outcome}
 use Rattle.mt_operation.specs.declared.prepared.Prepared.{Prepared}
+use Rattle.mt_operation.specs.declared.splits.Halves.{Halves}
 use Rattle.mt_operation.specs.declared.operation.Operation.{Operation}
 use Rattle.mt_operation.specs.Tasks.{ask}
-use Rattle.mt_operation.specs.Operations.{view_of, is_done}
+use Rattle.mt_operation.specs.Operations.{view_of, is_done, IsUnsplit}
 use Rattle.mt_operation.specs.Tables.{Table, op_at as operation_at}
 use Rattle.mt_descent.specs.Pasts.{Past}
 use Rattle.mt_descent.specs.Kept.{IsAtBorder, IsAtJudge, KeptAt, IsKept}
 use Rattle.mt_descent.specs.Moves.{Continues, Locks, after_change}
 use Rattle.mt_insert.specs.Puts.{IsPut}
-use Rattle.mt_insert.specs.Kept.{HoldsBorder, KeptReady, IsAtUnlock}
+use Rattle.mt_insert.specs.Kept.{HoldsBorder, KeptReady, IsAtUnlock, HoldsOnly}
 use Rattle.mt_insert.specs.Moves.{after_judge, walk_placed, walk_done, reserving, released}
 use Rattle.mt_insert.proofs.Looks.{held_here}
 use Rattle.mt_state.specs.Views.{StateView, Core, shown, past_of, quota_of, quota_in}
@@ -41,8 +41,8 @@ use Rattle.mt_state.specs.Steps.{MayFollow, told_change}
 use Rattle.mt_state.specs.Notes.{Notes}
 use Rattle.mt_state.specs.Promises.{IsAnswer, Touches}
 use Rattle.mt_state.specs.Ways.{IsOnWay}
-use Rattle.mt_state.specs.Kept.{IsOfKind, IsOpenOperation, IsOnItsWay, IsJudging, IsPublishing, IsUnlocking, HasAnswer, IsKeptAt}
-use Rattle.mt_state.specs.Invariant.{IsCountedUpTo, HoldsAt, StateInvariant, one_if_prepared, is_prepared, prepared_count, is_unplaced}
+use Rattle.mt_state.specs.Kept.{IsOfKind, IsOpenOperation, IsOnItsWay, IsJudging, IsPublishing, MayUnlock, IsUnlocking, HasAnswer, IsKeptAt, has_splits}
+use Rattle.mt_state.specs.Invariant.{IsCountedUpTo, HoldsLast, HoldsAt, StateInvariant, one_if_prepared, is_prepared, prepared_count}
 use Rattle.mt_state.proofs.Decides.{outdated_or_not}
 use Rattle.mt_state.proofs.Descents.{Leads, first_aside, changed_leads}
 use Rattle.mt_state.proofs.Rely.{answer_stays}
@@ -52,7 +52,7 @@ use Rattle.mt_state.proofs.Quiet.{LeavesPairs}
 use Rattle.mt_state.proofs.Moved.{went, first_same, first_begun, first_upto}
 use Rattle.mt_state.proofs.Still.{IsFree, still, still_gives, leaves_all, unready_none}
 use Rattle.mt_state.proofs.Reading.{kept_on_way, on_way_unready, on_way_open, walk_same}
-use Rattle.mt_state.proofs.OneNode.{stepped, can_unlock, counted_unlocked, replaced_at, replaced_touches, replaced_leaves, quiet_grows, quiet_gives}
+use Rattle.mt_state.proofs.OneNode.{stepped, can_unlock, counted_unlocked, replaced_at, replaced_holds, replaced_touches, replaced_leaves, quiet_grows, holds_here, quiet_gives}
 
 -- an operation that has all ready for its write counts once
 pub ready_one : (op : Operation) (p : Phase) → op.walk.phase ≡ p → is_prepared p ≡ true → one_if_prepared (Some op) ≡ 1
@@ -90,11 +90,18 @@ module _ (c : Core) (now : StateView) (o : ℕ) (is : shown c ≡ now) (h : Stat
   given_back = with_node c.arena k (unlocked n)
 
   back_leaves : k < length c.arena.nodes → Guarantee o c.arena given_back → content_of given_back ≡ content_of c.arena → LeavesPairs c o given_back
-  back_leaves within guarantee contents = replaced_leaves c o h k within (unlocked n) refl refl refl refl (counted_unlocked n c.steps (counted_here within) (unlocked n) refl) guarantee contents
+  back_leaves within guarantee contents = replaced_leaves c o h k within (unlocked n) refl refl refl (counted_unlocked n c.steps (counted_here within) (unlocked n) refl) guarantee contents
 
-  -- nothing is held then
-  back_free : k < length c.arena.nodes → (j : ℕ) → j < length given_back.nodes → (at given_back j).holder ≡ Some o → ⊥
-  back_free within j inside holds = let free = ap (λ (m : NodeView). m.holder) (sym (replaced_at c.arena h.one_border k within (unlocked n) j inside).2) ∙ holds in cc
+  -- nothing is held then, where it held no other node
+  back_free : (within : k < length c.arena.nodes) → HoldsOnly c.arena o k → (j : ℕ) → j < length given_back.nodes → (at given_back j).holder ≡ Some o → ⊥
+  back_free within only j inside holds = elim (replaced_at c.arena k within (unlocked n) j inside).1 [
+    | inl same ↦ let free = ap (λ (m : NodeView). m.holder) (sym same.1) ∙ holds in absurd (cc)
+    | inr other ↦ absurd (other.0 (only j (replaced_at c.arena k within (unlocked n) j inside).0 (ap (λ (m : NodeView). m.holder) (sym other.1) ∙ holds)))
+  ]
+
+  -- an operation that has split nothing, by its phase
+  pub unsplit_at : (p : Phase) → op.walk.phase ≡ p → has_splits p ≡ false → IsUnsplit op.splits
+  unsplit_at p at_p none = (h.ops o op there).unsplit (ap has_splits at_p ∙ none)
 
   module _ (at_lock : op.walk.phase ≡ Lock) where
     locking : IsOnItsWay c op
@@ -148,7 +155,7 @@ module _ (c : Core) (now : StateView) (o : ℕ) (is : shown c ≡ now) (h : Stat
           let place : w.place.node ≡ k = ap (λ (x : Walk). x.place.node) goes in
           let whole = walk_same c op always w begun_lock same.first in
           let counted : IsCountedUpTo (c.steps + 1) (locked n o) = let was = counted_here within in record { inserts = omega (arith, was.inserts); splits = omega (arith, was.splits) } in
-          let leaves : LeavesPairs c o (with_node c.arena k (locked n o)) = replaced_leaves c o h k within (locked n o) refl refl refl refl counted
+          let leaves : LeavesPairs c o (with_node c.arena k (locked n o)) = replaced_leaves c o h k within (locked n o) refl refl refl counted
           (subst (Guarantee o c.arena) takes guarantee) (subst (λ (v : ArenaView). content_of v ≡ content_of c.arena) takes contents) in
           let own : IsJudging (locked_core arena) o after = record {
             judges = subst (HoldsBorder arena o op.task.key) (sym whole) (held_here o c.arena arena op.task.key op.walk w locks judges (judged judges) (settled judges));
@@ -160,13 +167,19 @@ module _ (c : Core) (now : StateView) (o : ℕ) (is : shown c ≡ now) (h : Stat
           (subst (λ (p : Phase). MayFollow p w.phase) (sym at_lock) (subst (MayFollow Lock) (sym judges) tt))
           same.writes (subst (λ (p : Phase). IsOfKind p w.writes) (sym judges) (same.writes ∙ locks_on)) refl
           (subst (λ (p : Phase). Notes (shown c) (view_of op) p w.phase op.outcome) (sym at_lock) (subst (λ (p : Phase). Notes (shown c) (view_of op) Lock p op.outcome) (sym judges) locking.untold))
-          (λ _. ap is_unplaced at_lock)
-          (λ j inside holds. subst (λ (p : Phase). HoldsAt p w.place.node j) (sym judges)
-          ((replaced_at c.arena h.one_border k within (locked n o) j (subst (λ (v : ArenaView). j < length v.nodes) takes inside)).0 ∙ sym place))
+          (λ j inside holds. subst (λ (p : Phase). HoldsAt p after.walk op.splits j) (sym judges) (locked_here within j (subst (λ (v : ArenaView). j < length v.nodes) takes inside) (subst (λ (v : ArenaView). (at v j).holder ≡ Some o) takes holds) ∙ sym place))
           (subst (λ (p : Phase). IsKeptAt p (locked_core arena) o after) (sym judges) own)
+          (unsplit_at Lock at_lock refl)
           (let none = unready_none op Lock at_lock tt in let no = unready_none after Judge judges tt in omega (arith, none, no))
-          (subst (Touches o c.arena) (sym takes) (replaced_touches c.arena h.one_border k within (locked n o) o (inr refl)))
+          (subst (Touches o c.arena) (sym takes) (replaced_touches c.arena k within (locked n o) o (inr refl)))
           false (sym (ap is_done judges))
+        where
+          -- it holds no node but that one
+          locked_here : k < length c.arena.nodes → HoldsOnly (with_node c.arena k (locked n o)) o k
+          locked_here within j inside holds = elim (replaced_holds c.arena k within (locked n o) o j inside holds) [
+            | inl same ↦ same.0
+            | inr was ↦ absurd (holds_here c now o is h room op there Lock at_lock j was.0 was.1)
+          ]
 
       -- a put that was to lock its border node
       pub lock_done : Gives now (stepped c arena c.tape c.accounts o (went op (c.steps + 1) w op.outcome op.prepared)) o false
@@ -175,9 +188,15 @@ module _ (c : Core) (now : StateView) (o : ℕ) (is : shown c ≡ now) (h : Stat
         | inr fresh ↦ lock_taken (locks.takes fresh) (locks.judges fresh)
       ]
 
-  module _ (at_unlock : op.walk.phase ≡ Unlock) where
+  module _ (at_unlock : op.walk.phase ≡ Unlock) (none : op.splits.halves.items ≡ []) where
     unlocking : IsUnlocking c o op
     unlocking = subst (λ (p : Phase). IsKeptAt p c o op) at_unlock (h.ops o op there).kept
+
+    unlocks : IsAtUnlock c.arena o op.walk × IsUnsplit op.splits
+    unlocks = subst (λ (halves : List Halves). MayUnlock halves c.arena o op) none unlocking.unlocks
+
+    holds_only : HoldsOnly c.arena o k
+    holds_only j inside holds = subst (λ (halves : List Halves). HoldsLast halves op.walk op.splits j) none (holds_here c now o is h room op there Unlock at_unlock j inside holds)
 
     begun_unlock : 0 < op.walk.first
     begun_unlock = always.begun (λ enters. absurd (let no : Unlock ≡ Enter = sym at_unlock ∙ enters in cc))
@@ -188,7 +207,7 @@ module _ (c : Core) (now : StateView) (o : ℕ) (is : shown c ≡ now) (h : Stat
     unlock_done arena w gives_back goes same guarantee contents =
         let after = went op (c.steps + 1) w op.outcome op.prepared in
         let new = stepped c arena c.tape c.accounts o after in
-        let within = unlocking.unlocks.held.there in
+        let within = unlocks.0.held.there in
         let ends : w.phase ≡ Done = ap (λ (x : Walk). x.phase) goes in
         let first = first_same c op always w begun_unlock in
         let answer = unlocking.answer in
@@ -210,11 +229,11 @@ module _ (c : Core) (now : StateView) (o : ℕ) (is : shown c ≡ now) (h : Stat
         (subst (λ (p : Phase). MayFollow p w.phase) (sym at_unlock) (subst (MayFollow Unlock) (sym ends) tt))
         same.writes (subst (λ (p : Phase). IsOfKind p w.writes) (sym ends) tt) refl
         (subst (λ (p : Phase). Notes (shown c) (view_of op) p w.phase op.outcome) (sym at_unlock) (subst (λ (p : Phase). Notes (shown c) (view_of op) Unlock p op.outcome) (sym ends) refl))
-        (λ unplaced. absurd (let no = sym (ap is_unplaced ends) ∙ unplaced in cc))
-        (λ j inside holds. absurd (back_free within j (subst (λ (v : ArenaView). j < length v.nodes) gives_back inside) (subst (λ (v : ArenaView). (at v j).holder ≡ Some o) gives_back holds)))
+        (λ j inside holds. absurd (back_free within holds_only j (subst (λ (v : ArenaView). j < length v.nodes) gives_back inside) (subst (λ (v : ArenaView). (at v j).holder ≡ Some o) gives_back holds)))
         (subst (λ (p : Phase). IsKeptAt p new o after) (sym ends) own)
+        unlocks.1
         (let none = unready_none op Unlock at_unlock tt in let no = unready_none after Done ends tt in omega (arith, none, no))
-        (subst (Touches o c.arena) (sym gives_back) (replaced_touches c.arena h.one_border k within (unlocked n) o (inl unlocking.unlocks.held.holder)))
+        (subst (Touches o c.arena) (sym gives_back) (replaced_touches c.arena k within (unlocked n) o (inl unlocks.0.held.holder)))
         true (sym (ap is_done ends))
 
   module _ (at_judge : op.walk.phase ≡ Judge) where
@@ -227,36 +246,42 @@ module _ (c : Core) (now : StateView) (o : ℕ) (is : shown c ≡ now) (h : Stat
     judges_on : op.walk.writes ≡ true
     judges_on = subst (λ (p : Phase). IsOfKind p op.walk.writes) at_judge always.kind
 
-    -- where it goes on with all ready, by the slot that has its key
-    abbrev to_place : Option ℕ → Phase
-    to_place (Some slot) = Store
-    to_place None = Publish
+    -- where it goes on with all ready
+    abbrev IsToPlace : Phase → Type 0
+    IsToPlace Store = Unit {0}
+    IsToPlace Publish = Unit {0}
+    IsToPlace SplitStart = Unit {0}
+    IsToPlace _ = ⊥
 
-    judged_to : (slot : Option ℕ) → (slot ≡ None → length n.slots < 15) → (after_judge n slot op.walk).phase ≡ to_place slot
-    judged_to (Some slot) few = refl
-    judged_to None few = cond-false _ _ _ (ne_eqb (length n.slots) 15 (λ is. omega (arith, few refl, is)))
+    missing_to : (full : Bool) → IsToPlace (cond full SplitStart Publish)
+    missing_to true = tt
+    missing_to false = tt
+
+    judged_to : (slot : Option ℕ) → IsToPlace (after_judge n slot op.walk).phase
+    judged_to (Some slot) = tt
+    judged_to None = missing_to (eqb (length n.slots) 15)
 
     judged_place : (slot : Option ℕ) → (after_judge n slot op.walk).place.node ≡ k
     judged_place (Some slot) = refl
     judged_place None = refl
 
     -- a put that has made all ready for its write
-    pub judge_ready : (arena : ArenaView) (tape : Kept) (w : Walk) (prepared : Prepared) (slot : Option ℕ) → arena ≡ c.arena → tape ≡ reserving c.tape → w ≡ after_judge n slot op.walk → (slot ≡ None → length n.slots < 15) → Continues op.walk w → KeptReady w.phase arena o op.task prepared w
+    pub judge_ready : (arena : ArenaView) (tape : Kept) (w : Walk) (prepared : Prepared) (slot : Option ℕ) → arena ≡ c.arena → tape ≡ reserving c.tape → w ≡ after_judge n slot op.walk → Continues op.walk w → KeptReady w.phase arena o op.task prepared w
         → Gives now (stepped c arena tape c.accounts o (went op (c.steps + 1) w op.outcome (Some prepared))) o false
-    judge_ready arena tape w prepared slot stays reserves goes few same kept =
+    judge_ready arena tape w prepared slot stays reserves goes same kept =
         subst (λ (v : ArenaView). Gives now (stepped c v tape c.accounts o after) o false) (sym stays)
         (subst (λ (t : Kept). Gives now (stepped c c.arena t c.accounts o after) o false) (sym reserves)
         (quiet_gives c now o is h room op there c.arena (c.tape.reserved + 1) w op.outcome (Some prepared)
         (leaves_all c o h) (ap is_done at_judge)
-        (subst (λ (p : Phase). MayFollow p w.phase) (sym at_judge) (subst (MayFollow Judge) (sym phase) (follows slot)))
-        same.writes (subst (λ (p : Phase). IsOfKind p w.writes) (sym phase) (kind slot)) refl
-        (subst (λ (p : Phase). Notes (shown c) (view_of op) p w.phase op.outcome) (sym at_judge) (subst (λ (p : Phase). Notes (shown c) (view_of op) Judge p op.outcome) (sym phase) (notes slot)))
-        (λ _. ap is_unplaced at_judge)
-        (λ j inside holds. subst (λ (p : Phase). HoldsAt p w.place.node j) (sym phase) (holds_on slot j (holds_node j inside holds ∙ sym place)))
-        (subst (λ (p : Phase). IsKeptAt p new o after) (sym phase) (own slot (subst (λ (p : Phase). KeptReady p c.arena o op.task prepared after.walk) phase (subst (λ (x : Walk). KeptReady w.phase c.arena o op.task prepared x) (sym whole) (subst (λ (v : ArenaView). KeptReady w.phase v o op.task prepared w) stays kept)))))
-        (let none = unready_none op Judge at_judge tt in let one = ready_one after (to_place slot) phase (ready slot) in omega (arith, none, one))
+        (subst (λ (p : Phase). MayFollow p w.phase) (sym at_judge) (follows w.phase to))
+        same.writes (kind w.phase to) refl
+        (subst (λ (p : Phase). Notes (shown c) (view_of op) p w.phase op.outcome) (sym at_judge) (notes w.phase to))
+        (λ j inside holds. holds_on w.phase to j (holds_here c now o is h room op there Judge at_judge j inside holds ∙ sym place))
+        (own w.phase to (subst (λ (x : Walk). KeptReady w.phase c.arena o op.task prepared x) (sym whole) (subst (λ (v : ArenaView). KeptReady w.phase v o op.task prepared w) stays kept)))
+        (unsplit_at Judge at_judge refl)
+        (let none = unready_none op Judge at_judge tt in let one = ready_one after w.phase refl (ready w.phase to) in omega (arith, none, one))
         (λ j inside. inl refl)
-        false (sym (ap is_done phase ∙ open_on slot))))
+        false (sym (open_on w.phase to))))
       where
         after : Operation
         after = went op (c.steps + 1) w op.outcome (Some prepared)
@@ -264,8 +289,8 @@ module _ (c : Core) (now : StateView) (o : ℕ) (is : shown c ≡ now) (h : Stat
         new : Core
         new = stepped c c.arena (reserving c.tape) c.accounts o after
 
-        phase : w.phase ≡ to_place slot
-        phase = ap (λ (x : Walk). x.phase) goes ∙ judged_to slot few
+        to : IsToPlace w.phase
+        to = subst (λ (x : Walk). IsToPlace x.phase) (sym goes) (judged_to slot)
 
         place : w.place.node ≡ k
         place = ap (λ (x : Walk). x.place.node) goes ∙ judged_place slot
@@ -273,39 +298,47 @@ module _ (c : Core) (now : StateView) (o : ℕ) (is : shown c ≡ now) (h : Stat
         whole : after.walk ≡ w
         whole = walk_same c op always w begun_judge same.first
 
-        holds_node : (j : ℕ) → j < length c.arena.nodes → (at c.arena j).holder ≡ Some o → j ≡ k
-        holds_node j inside holds =
-            let f = h.holders j o inside holds in
-            let it = same_Some f.0 op (sym f.1 ∙ there) in
-            subst (λ (p : Phase). HoldsAt p op.walk.place.node j) at_judge (subst (λ (x : Operation). HoldsAt x.walk.phase x.walk.place.node j) it f.2)
+        follows : (p : Phase) → IsToPlace p → MayFollow Judge p
+        follows Store t = tt
+        follows Publish t = tt
+        follows SplitStart t = tt
+        follows _ t = absurd t
 
-        follows : (slot : Option ℕ) → MayFollow Judge (to_place slot)
-        follows (Some i) = tt
-        follows None = tt
+        kind : (p : Phase) → IsToPlace p → IsOfKind p w.writes
+        kind Store t = same.writes ∙ judges_on
+        kind Publish t = same.writes ∙ judges_on
+        kind SplitStart t = same.writes ∙ judges_on
+        kind _ t = absurd t
 
-        kind : (slot : Option ℕ) → IsOfKind (to_place slot) w.writes
-        kind (Some i) = same.writes ∙ judges_on
-        kind None = same.writes ∙ judges_on
+        notes : (p : Phase) → IsToPlace p → Notes (shown c) (view_of op) Judge p op.outcome
+        notes Store t = judging.untold
+        notes Publish t = judging.untold
+        notes SplitStart t = judging.untold
+        notes _ t = absurd t
 
-        notes : (slot : Option ℕ) → Notes (shown c) (view_of op) Judge (to_place slot) op.outcome
-        notes (Some i) = judging.untold
-        notes None = judging.untold
+        holds_on : (p : Phase) → IsToPlace p → (j : ℕ) → j ≡ w.place.node → HoldsAt p after.walk op.splits j
+        holds_on Store t j e = e
+        holds_on Publish t j e = e
+        holds_on SplitStart t j e = e
+        holds_on _ t j e = absurd t
 
-        holds_on : (slot : Option ℕ) (j : ℕ) → j ≡ w.place.node → HoldsAt (to_place slot) w.place.node j
-        holds_on (Some i) j e = e
-        holds_on None j e = e
+        ready : (p : Phase) → IsToPlace p → is_prepared p ≡ true
+        ready Store t = refl
+        ready Publish t = refl
+        ready SplitStart t = refl
+        ready _ t = absurd t
 
-        ready : (slot : Option ℕ) → is_prepared (to_place slot) ≡ true
-        ready (Some i) = refl
-        ready None = refl
+        open_on : (p : Phase) → IsToPlace p → is_done p ≡ false
+        open_on Store t = refl
+        open_on Publish t = refl
+        open_on SplitStart t = refl
+        open_on _ t = absurd t
 
-        open_on : (slot : Option ℕ) → is_done (to_place slot) ≡ false
-        open_on (Some i) = refl
-        open_on None = refl
-
-        own : (slot : Option ℕ) → KeptReady (to_place slot) c.arena o op.task prepared after.walk → IsKeptAt (to_place slot) new o after
-        own (Some i) stores = record { prepared = prepared; has = refl; stores = stores; untold = judging.untold }
-        own None publishes = record { prepared = prepared; has = refl; publishes = publishes; untold = judging.untold }
+        own : (p : Phase) → IsToPlace p → KeptReady p c.arena o op.task prepared after.walk → IsKeptAt p new o after
+        own Store t stores = record { prepared = prepared; has = refl; stores = stores; untold = judging.untold }
+        own Publish t publishes = record { prepared = prepared; has = refl; publishes = publishes; untold = judging.untold }
+        own SplitStart t starts = record { prepared = prepared; has = refl; starts = starts; untold = judging.untold }
+        own _ t kept = absurd t
 
     -- a put that memory stops: its lock is given back in the same step
     pub judge_refused : (arena : ArenaView) (tape : Kept) (w : Walk) → arena ≡ with_node c.arena op.walk.place.node (unlocked (at c.arena op.walk.place.node)) → tape ≡ c.tape → w ≡ walk_done op.walk → Continues op.walk w
@@ -335,15 +368,15 @@ module _ (c : Core) (now : StateView) (o : ℕ) (is : shown c ≡ now) (h : Stat
         (subst (λ (p : Phase). MayFollow p w.phase) (sym at_judge) (subst (MayFollow Judge) (sym ends) tt))
         same.writes (subst (λ (p : Phase). IsOfKind p w.writes) (sym ends) tt) (sym (ap told_change judging.untold))
         (subst (λ (p : Phase). Notes (shown c) (view_of op) p w.phase told) (sym at_judge) (subst (λ (p : Phase). Notes (shown c) (view_of op) Judge p told) (sym ends) refl))
-        (λ _. ap is_unplaced at_judge)
-        (λ j inside holds. absurd (back_free within j (subst (λ (v : ArenaView). j < length v.nodes) gives_back inside) (subst (λ (v : ArenaView). (at v j).holder ≡ Some o) gives_back holds)))
+        (λ j inside holds. absurd (back_free within (holds_here c now o is h room op there Judge at_judge) j (subst (λ (v : ArenaView). j < length v.nodes) gives_back inside) (subst (λ (v : ArenaView). (at v j).holder ≡ Some o) gives_back holds)))
         (subst (λ (p : Phase). IsKeptAt p new o after) (sym ends) own)
+        (unsplit_at Judge at_judge refl)
         (let none = unready_none op Judge at_judge tt in let no = unready_none after Done ends tt in omega (arith, none, no))
-        (subst (Touches o c.arena) (sym gives_back) (replaced_touches c.arena h.one_border k within (unlocked n) o (inl judging.judges.judged.held.holder)))
+        (subst (Touches o c.arena) (sym gives_back) (replaced_touches c.arena k within (unlocked n) o (inl judging.judges.judged.held.holder)))
         true (sym (ap is_done ends)))
 
   -- where a tenant has no room, it has as many pairs as its quota
-  no_room_left : (t : ℕ) (a : Option Account) → account_of c.accounts t ≡ a → ¬ HasRoom a → quota_in a ≤ len (tenant_map t (content_of c.arena))
+  pub no_room_left : (t : ℕ) (a : Option Account) → account_of c.accounts t ≡ a → ¬ HasRoom a → quota_in a ≤ len (tenant_map t (content_of c.arena))
   no_room_left t None e never = omega arith
   no_room_left t (Some account) e never = let counted = h.counts t account e in elim (cases_lt account.count account.quota) [
     | inl lt ↦ absurd (never lt)
@@ -370,12 +403,13 @@ module _ (c : Core) (now : StateView) (o : ℕ) (is : shown c ≡ now) (h : Stat
         let ends : w.phase ≡ Unlock = ap (λ (x : Walk). x.phase) goes in
         let place : w.place.node ≡ k = ap (λ (x : Walk). x.place.node) goes in
         let whole = walk_same c op always w begun_publish same.first in
+        let unsplit = unsplit_at Publish at_publish refl in
         let full = no_room_left op.task.tenant (account_of c.accounts op.task.tenant) refl no_room in
         let none : get (tenant_map op.task.tenant (content_of c.arena)) (key_of (ask op.task)) ≡ None =
         get-tenant_map op.task.tenant (content_of c.arena) (key_of (ask op.task)) ∙ ap (get (content_of c.arena)) (sym put.owner) ∙ missing in
         let is_full = put_full (quota_of (shown c) op.task.tenant) op.task.request (tenant_map op.task.tenant (content_of c.arena)) put.put_is none full in
         let own : IsUnlocking new o after = record {
-          unlocks = subst (IsAtUnlock c.arena o) (sym whole) (subst (λ (v : ArenaView). IsAtUnlock v o w) stays unlocks);
+          unlocks = subst (λ (halves : List Halves). MayUnlock halves c.arena o after) (sym unsplit.halves) (subst (IsAtUnlock c.arena o) (sym whole) (subst (λ (v : ArenaView). IsAtUnlock v o w) stays unlocks), unsplit);
           answer = record {
             outcome = record { reply = Full; at = c.steps + 1 };
             told = refl;
@@ -399,15 +433,9 @@ module _ (c : Core) (now : StateView) (o : ℕ) (is : shown c ≡ now) (h : Stat
         (subst (λ (p : Phase). MayFollow p w.phase) (sym at_publish) (subst (MayFollow Publish) (sym ends) tt))
         same.writes (subst (λ (p : Phase). IsOfKind p w.writes) (sym ends) (same.writes ∙ publishes_on)) (sym (ap told_change publishing.untold))
         (subst (λ (p : Phase). Notes (shown c) (view_of op) p w.phase told) (sym at_publish) (subst (λ (p : Phase). Notes (shown c) (view_of op) Publish p told) (sym ends) (inr refl)))
-        (λ unplaced. absurd (let no = sym (ap is_unplaced ends) ∙ unplaced in cc))
-        (λ j inside holds. subst (λ (p : Phase). HoldsAt p w.place.node j) (sym ends) (holds_node j inside holds ∙ sym place))
+        (λ j inside holds. subst (λ (p : Phase). HoldsAt p after.walk op.splits j) (sym ends) (subst (λ (halves : List Halves). HoldsLast halves after.walk op.splits j) (sym unsplit.halves) (holds_here c now o is h room op there Publish at_publish j inside holds ∙ sym place)))
         (subst (λ (p : Phase). IsKeptAt p new o after) (sym ends) own)
+        unsplit
         (let one = ready_one op Publish at_publish refl in let no = unready_none after Unlock ends tt in let some = room_for c h o op Publish there at_publish refl in omega (arith, one, no, some))
         (λ j inside. inl refl)
         false (sym (ap is_done ends)))))
-      where
-        holds_node : (j : ℕ) → j < length c.arena.nodes → (at c.arena j).holder ≡ Some o → j ≡ k
-        holds_node j inside holds =
-            let f = h.holders j o inside holds in
-            let it = same_Some f.0 op (sym f.1 ∙ there) in
-            subst (λ (p : Phase). HoldsAt p op.walk.place.node j) at_publish (subst (λ (x : Operation). HoldsAt x.walk.phase x.walk.place.node j) it f.2)

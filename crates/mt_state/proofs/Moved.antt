@@ -5,6 +5,7 @@ use Rattle.mt_rows.specs.Accounts.{account_of}
 use Rattle.mt_operation.specs.declared.walk.Walk.{Walk}
 use Rattle.mt_operation.specs.declared.outcome.Outcome.{Outcome}
 use Rattle.mt_operation.specs.declared.prepared.Prepared.{Prepared}
+use Rattle.mt_operation.specs.declared.splits.Splits.{Splits}
 use Rattle.mt_operation.specs.declared.operation.Operation.{Operation}
 use Rattle.mt_operation.specs.Operations.{view_of, moved}
 use Rattle.mt_state.specs.Views.{Core}
@@ -19,6 +20,10 @@ first_is (suc n) step = inr (omega arith, ap (λ b. cond b step (suc n)) (ne_eqb
 -- an operation that has walked on by the step of this number, with an outcome or none, and with or without what it has made ready
 abbrev pub went : Operation → ℕ → Walk → Option Outcome → Option Prepared → Operation
 went op step w told prepared = record (moved op step w) { outcome = told; prepared = prepared }
+
+-- and with these splits
+abbrev pub went_with : Operation → ℕ → Walk → Option Outcome → Option Prepared → Splits → Operation
+went_with op step w told prepared s = record (moved op step w) { outcome = told; prepared = prepared; splits = s }
 
 module _ (c : Core) (op : Operation) (k : IsOpenOperation c op) (w : Walk) where
   -- an operation that made this step has a first one
@@ -43,9 +48,9 @@ module _ (c : Core) (op : Operation) (k : IsOpenOperation c op) (w : Walk) where
   ]
 
   -- what is kept of every operation
-  pub open_moved : (new : Core) (told : Option Outcome) (prepared : Option Prepared) → new.steps ≡ c.steps + 1 → new.tape.floor ≡ c.tape.floor → ((t : ℕ) → IsSome (account_of c.accounts t) → IsSome (account_of new.accounts t)) → c.tape.floor ≤ c.steps
-      → w.writes ≡ op.walk.writes → IsOfKind w.phase w.writes → IsOpenOperation new (went op (c.steps + 1) w told prepared)
-  open_moved new told prepared steps floor accounts upto writes kind = record {
+  pub open_moved_with : (new : Core) (told : Option Outcome) (prepared : Option Prepared) (s : Splits) → new.steps ≡ c.steps + 1 → new.tape.floor ≡ c.tape.floor → ((t : ℕ) → IsSome (account_of c.accounts t) → IsSome (account_of new.accounts t)) → c.tape.floor ≤ c.steps
+      → w.writes ≡ op.walk.writes → IsOfKind w.phase w.writes → IsOpenOperation new (went_with op (c.steps + 1) w told prepared s)
+  open_moved_with new told prepared s steps floor accounts upto writes kind = record {
     stored = k.stored;
     owner = k.owner;
     short = k.short;
@@ -61,6 +66,10 @@ module _ (c : Core) (op : Operation) (k : IsOpenOperation c op) (w : Walk) where
     ];
     begun = λ other. first_begun;
   }
+
+  pub open_moved : (new : Core) (told : Option Outcome) (prepared : Option Prepared) → new.steps ≡ c.steps + 1 → new.tape.floor ≡ c.tape.floor → ((t : ℕ) → IsSome (account_of c.accounts t) → IsSome (account_of new.accounts t)) → c.tape.floor ≤ c.steps
+      → w.writes ≡ op.walk.writes → IsOfKind w.phase w.writes → IsOpenOperation new (went op (c.steps + 1) w told prepared)
+  open_moved new told prepared = open_moved_with new told prepared op.splits
 
   -- what is shown of it
   pub has_moved : (told : Option Outcome) (prepared : Option Prepared) → MayFollow op.walk.phase w.phase → HasMoved (view_of op) (view_of (went op (c.steps + 1) w told prepared)) (c.steps + 1)

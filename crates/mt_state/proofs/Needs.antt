@@ -1,16 +1,16 @@
 -- What the calls of a put's phases ask, by the invariant: for `State::lock`, `judge`, `store`, `publish` and `unlock`.
-use Rattle.std.proofs.Common.{◌≡◌, ℕ, ◌+◌, ◌*◌, ◌<◌, ◌≤◌, inl, inr, Bool, true, false, not, length, Some, None, IsSome, is_some, refl, sym, ap, subst, ◌∙◌, arith}
+use Rattle.std.proofs.Common.{◌≡◌, ℕ, ◌+◌, ◌*◌, ◌<◌, ◌≤◌, Bool, true, false, not, List, [], length, Some, None, IsSome, is_some, refl, sym, ap, subst, ◌∙◌, arith}
 use Rattle.std.proofs.lemmas.Option.{same_Some}
 use Rattle.mt_version.specs.Changes.{CanUnlock}
-use Rattle.mt_slices.specs.Slices.{slice_of, mark_of}
 use Rattle.mt_rows.specs.Maps.{is_get}
-use Rattle.mt_border.specs.Entries.{IsMissing}
 use Rattle.mt_tape.specs.Tapes.{last_write}
-use Rattle.mt_arena.specs.Arena.{IsArena}
 use Rattle.mt_arena.specs.Accesses.{at}
 use Rattle.mt_operation.specs.declared.walk.Phase.{Phase}
 use Rattle.mt_operation.specs.declared.walk.Phase.TheVariants.{Enter, Pick, Child, Verify, Search, Load, Confirm, Forward, Lock, Judge, Store, Publish, Unlock, Done}
+use Rattle.mt_operation.specs.declared.walk.Walk.{Walk}
 use Rattle.mt_operation.specs.declared.prepared.Prepared.{Prepared}
+use Rattle.mt_operation.specs.declared.splits.Halves.{Halves}
+use Rattle.mt_operation.specs.declared.splits.Splits.{Splits}
 use Rattle.mt_operation.specs.declared.operation.Operation.{Operation}
 use Rattle.mt_operation.specs.Tasks.{ask}
 use Rattle.mt_operation.specs.Operations.{view_of, is_done}
@@ -18,13 +18,11 @@ use Rattle.mt_operation.specs.Tables.{op_at as operation_at}
 use Rattle.mt_descent.specs.Kept.{IsAtBorder, KeptAt, HoldsNothing}
 use Rattle.mt_insert.specs.Puts.{IsPut}
 use Rattle.mt_insert.specs.Kept.{HoldsBorder, IsAtStore, IsAtPublish, IsAtUnlock}
-use Rattle.mt_insert.proofs.Places.{none_here}
 use Rattle.mt_state.specs.Views.{Core, shown, past_of}
 use Rattle.mt_state.specs.Promises.{IsInTheWay, IsHeldByOther}
-use Rattle.mt_state.specs.Kept.{IsOfKind, IsOpenOperation, IsOnItsWay, IsJudging, IsStoring, IsPublishing, IsUnlocking, IsKeptAt}
-use Rattle.mt_state.specs.Invariant.{HoldsAt, StateInvariant, is_prepared, is_unplaced}
+use Rattle.mt_state.specs.Kept.{IsOfKind, IsOpenOperation, IsOnItsWay, IsJudging, IsStoring, IsPublishing, MayUnlock, IsUnlocking, IsKeptAt}
+use Rattle.mt_state.specs.Invariant.{HoldsAt, StateInvariant, is_prepared}
 use Rattle.mt_state.proofs.Shown.{shown_there}
-use Rattle.mt_state.proofs.OneNode.{only_number}
 use Rattle.mt_state.proofs.Locking.{may_unlock, room_for}
 
 -- a phase of writes alone
@@ -58,9 +56,9 @@ no_get true writes e f = absurd (let no = sym e ∙ f in cc)
 no_get false writes e f = refl
 
 -- who holds a node has a step left
-holder_open : (p : Phase) (node k : ℕ) → HoldsAt p node k → is_done p ≡ false
-holder_open Done node k holds = absurd holds
-holder_open _ node k holds = refl
+holder_open : (p : Phase) (w : Walk) (s : Splits) (k : ℕ) → HoldsAt p w s k → is_done p ≡ false
+holder_open Done w s k holds = absurd holds
+holder_open _ w s k holds = refl
 
 module _ (c : Core) (o : ℕ) (h : StateInvariant c) (op : Operation) (there : operation_at c.table o ≡ Some op) where
   always : IsOpenOperation c op
@@ -87,7 +85,7 @@ module _ (c : Core) (o : ℕ) (h : StateInvariant c) (op : Operation) (there : o
   lock_free_hands at_lock k within held =
       let f = h.holders k o within held in
       let same = same_Some f.0 op (sym f.1 ∙ there) in
-      subst (λ (p : Phase). HoldsAt p op.walk.place.node k) at_lock (subst (λ (x : Operation). HoldsAt x.walk.phase x.walk.place.node k) same f.2)
+      subst (λ (p : Phase). HoldsAt p op.walk op.splits k) at_lock (subst (λ (x : Operation). HoldsAt x.walk.phase x.walk x.splits k) same f.2)
 
   -- whoever holds the node is another operation, which has a step left
   pub lock_blocked : op.walk.phase ≡ Lock → (holder : ℕ) → (at c.arena op.walk.place.node).holder ≡ Some holder → IsHeldByOther (shown c) o holder
@@ -96,7 +94,7 @@ module _ (c : Core) (o : ℕ) (h : StateInvariant c) (op : Operation) (there : o
       let f = h.holders op.walk.place.node holder within held in
       record {
         other = λ same. lock_free_hands at_lock op.walk.place.node within (held ∙ ap Some same);
-        unfinished = (view_of f.0, shown_there c.table holder f.0 f.1, holder_open f.0.walk.phase f.0.walk.place.node op.walk.place.node f.2);
+        unfinished = (view_of f.0, shown_there c.table holder f.0 f.1, holder_open f.0.walk.phase f.0.walk f.0.splits op.walk.place.node f.2);
         op = view_of op;
         there = shown_there c.table o op there;
         holds = subst (λ (p : Phase). IsInTheWay c.arena p holder) (sym at_lock) (op.walk.place.node, within, held);
@@ -106,17 +104,9 @@ module _ (c : Core) (o : ℕ) (h : StateInvariant c) (op : Operation) (there : o
   pub judge_kept : op.walk.phase ≡ Judge → HoldsBorder c.arena o op.task.key op.walk
   judge_kept at_judge = let k : IsJudging c o op = subst (λ (p : Phase). IsKeptAt p c o op) at_judge (h.ops o op there).kept in k.judges
 
-  -- its key ends in its layer
+  -- in whose layer its key ends
   pub judge_ends : length op.task.key ≤ 8 * (op.walk.layer + 1)
   judge_ends = let short = always.short in omega (arith, short)
-
-  -- and its border node has room where the key is missing
-  pub judge_room : op.walk.phase ≡ Judge → IsArena c.arena.nodes c.arena.trees
-      → IsMissing (at c.arena op.walk.place.node).slots (slice_of op.task.key op.walk.layer) (mark_of op.task.key op.walk.layer) → length (at c.arena op.walk.place.node).slots < 15
-  judge_room at_judge arena missing = elim (h.one_put.room o op there (put_at Judge at_judge tt).put_is (ap is_unplaced at_judge)) [
-    | inl few ↦ subst (λ k. length (at c.arena k).slots < 15) (sym (only_number c.arena h.one_border op.walk.place.node (judge_kept at_judge).judged.held.there)) few
-    | inr some ↦ absurd (let no = sym (ap is_some (none_here c.arena o op.task.key op.walk arena (judge_kept at_judge) missing)) ∙ some in cc)
-  ]
 
   -- what it has made ready is the put over its key's row
   pub store_kept : op.walk.phase ≡ Store → (prepared : Prepared) → op.prepared ≡ Some prepared → IsAtStore c.arena o op.task prepared op.walk
@@ -141,9 +131,11 @@ module _ (c : Core) (o : ℕ) (h : StateInvariant c) (op : Operation) (there : o
   pub write_room : (p : Phase) → op.walk.phase ≡ p → is_prepared p ≡ true → 0 < c.tape.reserved
   write_room p at_p ready = room_for c h o op p there at_p ready
 
-  -- it may give its lock back
-  pub unlock_kept : op.walk.phase ≡ Unlock → IsAtUnlock c.arena o op.walk
-  unlock_kept at_unlock = let k : IsUnlocking c o op = subst (λ (p : Phase). IsKeptAt p c o op) at_unlock (h.ops o op there).kept in k.unlocks
+  -- it may give its lock back, where it has split nothing
+  pub unlock_kept : op.walk.phase ≡ Unlock → op.splits.halves.items ≡ [] → IsAtUnlock c.arena o op.walk
+  unlock_kept at_unlock none =
+      let k : IsUnlocking c o op = subst (λ (p : Phase). IsKeptAt p c o op) at_unlock (h.ops o op there).kept in
+      (subst (λ (halves : List Halves). MayUnlock halves c.arena o op) none k.unlocks).0
 
-  pub unlock_room : op.walk.phase ≡ Unlock → CanUnlock (at c.arena op.walk.place.node).version
-  unlock_room at_unlock = may_unlock c h op.walk.place.node (unlock_kept at_unlock).held.there
+  pub unlock_room : op.walk.phase ≡ Unlock → op.splits.halves.items ≡ [] → CanUnlock (at c.arena op.walk.place.node).version
+  unlock_room at_unlock none = may_unlock c h op.walk.place.node (unlock_kept at_unlock none).held.there

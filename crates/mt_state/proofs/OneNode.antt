@@ -1,6 +1,8 @@
--- A node that is replaced in an arena of one border node, and a step of the operation that holds it which changes no pair: for the phases of a put.
-use Rattle.std.proofs.Common.{◌≡◌, ℕ, ◌+◌, ◌<◌, ◌≤◌, ◌⊎◌, inl, inr, Bool, true, false, cond, List, length, set, Option, Some, refl, sym, ap, subst, ◌∙◌, arith}
+-- A node that is replaced in an arena, and a step of the operation that holds it which changes no pair: for the phases of a put.
+use Rattle.std.proofs.Common.{◌≡◌, ◌≢◌, ℕ, ◌+◌, ◌<◌, ◌≤◌, ◌⊎◌, inl, inr, Bool, true, false, cond, List, length, set, Option, Some, refl, sym, ap, subst, ◌∙◌, arith}
 use Rattle.std.specs.Prelude.{◌^◌}
+use Rattle.std.proofs.lemmas.Bool.{cases_eq}
+use Rattle.std.proofs.lemmas.Option.{same_Some}
 use Rattle.std.proofs.lemmas.List.{length-set}
 use Rattle.mt_version.specs.Parts.{Parts}
 use Rattle.mt_version.specs.Changes.{CanUnlock, unlocked_parts}
@@ -14,22 +16,25 @@ use Rattle.mt_arena.specs.Forests.{tree_at}
 use Rattle.mt_arena.specs.Contents.{counts, is_live}
 use Rattle.mt_arena.specs.Arena.{ArenaView, content_of, Guarantee}
 use Rattle.mt_arena.specs.Accesses.{at, with_node}
-use Rattle.mt_arena.proofs.Pairs.{here}
+use Rattle.mt_arena.proofs.Pairs.{here, there}
+use Rattle.mt_operation.specs.declared.walk.Phase.{Phase}
 use Rattle.mt_operation.specs.declared.walk.Walk.{Walk}
 use Rattle.mt_operation.specs.declared.outcome.Outcome.{Outcome}
 use Rattle.mt_operation.specs.declared.prepared.Prepared.{Prepared}
+use Rattle.mt_operation.specs.declared.splits.Splits.{Splits}
 use Rattle.mt_operation.specs.declared.operation.Operation.{Operation}
-use Rattle.mt_operation.specs.Operations.{view_of, is_done}
+use Rattle.mt_operation.specs.Operations.{view_of, is_done, IsUnsplit}
 use Rattle.mt_operation.specs.Tables.{op_at as operation_at}
 use Rattle.mt_state.specs.Views.{StateView, Core, shown, KeepsPast}
 use Rattle.mt_state.specs.Steps.{MayFollow, change_in}
 use Rattle.mt_state.specs.Notes.{Notes}
 use Rattle.mt_state.specs.Promises.{Touches}
-use Rattle.mt_state.specs.Kept.{IsOfKind, IsKeptAt, IsKeptOf}
-use Rattle.mt_state.specs.Invariant.{IsCountedUpTo, IsOneBorder, HoldsAt, StateInvariant, one_if_prepared, is_unplaced}
-use Rattle.mt_state.proofs.Quiet.{quiet, LeavesPairs, StoodSo, quiet_move, is_quiet}
+use Rattle.mt_state.specs.Kept.{IsOfKind, IsKeptAt, has_splits, IsKeptOf}
+use Rattle.mt_state.specs.Invariant.{IsCountedUpTo, IsOneTree, HoldsAt, StateInvariant, one_if_prepared}
+use Rattle.mt_state.specs.Writes.{HasPairsOf}
+use Rattle.mt_state.proofs.Quiet.{quiet, LeavesPairs, quiet_move, is_quiet}
 use Rattle.mt_state.proofs.Telling.{Gives, gives}
-use Rattle.mt_state.proofs.Moved.{went, open_moved, has_moved}
+use Rattle.mt_state.proofs.Moved.{went, went_with, open_moved_with, has_moved}
 use Rattle.mt_state.proofs.Still.{floor_made}
 
 -- what is left of a state by a step of operation o: another arena, tape, accounts, and the operation after it
@@ -43,10 +48,6 @@ stepped c arena tape accounts o after = record {
   tape = tape;
   table = set c.table o (Some after);
 }
-
--- the one node's number is 0
-pub only_number : (v : ArenaView) → IsOneBorder v → (k : ℕ) → k < length v.nodes → k ≡ 0
-only_number v b k within = let one = ap (λ (l : List NodeView). length l) b.nodes in omega (arith, within, one)
 
 -- a version whose lock may be given back after so many steps, and what it counts then
 pub can_unlock : (n : NodeView) (steps : ℕ) → IsCountedUpTo steps n → steps ≤ 2 ^ 59 → CanUnlock n.version
@@ -71,63 +72,94 @@ pub same_counts : (trees : List Tree) (m n : NodeView) → m.version.deleted ≡
 same_counts trees m n deleted tree =
     ap (λ d. cond d false (is_live (tree_at trees m.tree).standing)) deleted ∙ ap (λ t. cond n.version.deleted false (is_live (tree_at trees t).standing)) tree
 
-module _ (v : ArenaView) (b : IsOneBorder v) (k : ℕ) (within : k < length v.nodes) (n : NodeView) where
-  -- each node is the one that was put in
-  pub replaced_at : (j : ℕ) → j < length (with_node v k n).nodes → (j ≡ k) × (j < length v.nodes) × (at (with_node v k n) j ≡ n)
+-- one node of many is another
+module _ (v : ArenaView) (k : ℕ) (within : k < length v.nodes) (n : NodeView) where
+  -- each node is the one that was put in, or the one that it was
+  pub replaced_at : (j : ℕ) → j < length (with_node v k n).nodes → (j < length v.nodes) × (((j ≡ k) × (at (with_node v k n) j ≡ n)) ⊎ ((j ≢ k) × (at (with_node v k n) j ≡ at v j)))
   replaced_at j inside =
-      let there : j < length v.nodes = omega (arith, inside, length-set v.nodes k n) in
-      let same : j ≡ k = only_number v b j there ∙ sym (only_number v b k within) in
-      (same, there, ap (node_at (set v.nodes k n)) same ∙ here v.nodes k n within)
+      let is : j < length v.nodes = omega (arith, inside, length-set v.nodes k n) in (
+        is,
+        elim (cases_eq j k) [
+          | inl same ↦ inl (same, ap (node_at (set v.nodes k n)) same ∙ here v.nodes k n within)
+          | inr other ↦ inr (other, there v.nodes k j n other)
+        ],
+      )
 
-  -- it is one border node again
-  pub replaced_border : n.level ≡ 0 → IsOneBorder (with_node v k n)
-  replaced_border level = record {
-    node = n;
-    nodes = ap (λ i. set v.nodes i n) (only_number v b k within) ∙ ap (λ (l : List NodeView). set l 0 n) b.nodes;
-    trees = b.trees;
-    border = level;
+  -- so what is said of that one and of each that was there holds of each
+  pub replaced_all : (P : NodeView → Type 0) → P n → ((j : ℕ) → j < length v.nodes → P (at v j)) → (j : ℕ) → j < length (with_node v k n).nodes → P (at (with_node v k n) j)
+  replaced_all P new old j inside = let r = replaced_at j inside in elim r.1 [
+    | inl same ↦ subst P (sym same.1) new
+    | inr other ↦ subst P (sym other.1) (old j r.0)
+  ]
+
+  -- a node that an operation holds is that one, or it held it
+  pub replaced_holds : (o : ℕ) (j : ℕ) → j < length (with_node v k n).nodes → (at (with_node v k n) j).holder ≡ Some o → ((j ≡ k) × (n.holder ≡ Some o)) ⊎ ((j < length v.nodes) × ((at v j).holder ≡ Some o))
+  replaced_holds o j inside holds = let r = replaced_at j inside in elim r.1 [
+    | inl same ↦ inl (same.0, ap (λ (m : NodeView). m.holder) (sym same.1) ∙ holds)
+    | inr other ↦ inr (r.0, ap (λ (m : NodeView). m.holder) (sym other.1) ∙ holds)
+  ]
+
+  -- the tree is the one live tree, and each node is live
+  pub replaced_tree : IsOneTree v → n.version.deleted ≡ false → IsOneTree (with_node v k n)
+  replaced_tree one live = record {
+    count = one.count;
+    prefix = one.prefix;
+    standing = one.standing;
+    live = replaced_all (λ (m : NodeView). m.version.deleted ≡ false) live one.live;
   }
 
   -- whoever held it touches nothing else
   pub replaced_touches : (o : ℕ) → ((at v k).holder ≡ Some o) ⊎ (n.holder ≡ Some o) → Touches o v (with_node v k n)
-  replaced_touches o holds j there =
-      let same : j ≡ k = only_number v b j there ∙ sym (only_number v b k within) in
-      let is : at (with_node v k n) j ≡ n = ap (node_at (set v.nodes k n)) same ∙ here v.nodes k n within in
-      inr (inl (elim holds [
-        | inl before ↦ inl (ap (λ i. (at v i).holder) same ∙ before)
-        | inr now ↦ inr (ap (λ (m : NodeView). m.holder) is ∙ now)
-      ]))
+  replaced_touches o holds j inside = elim (cases_eq j k) [
+    | inl same ↦
+        let is : at (with_node v k n) j ≡ n = ap (node_at (set v.nodes k n)) same ∙ here v.nodes k n within in
+        inr (inl (elim holds [
+          | inl before ↦ inl (ap (λ i. (at v i).holder) same ∙ before)
+          | inr now ↦ inr (ap (λ (m : NodeView). m.holder) is ∙ now)
+        ]))
+    | inr other ↦ inl (there v.nodes k j n other)
+  ]
 
--- another node of the same slots, tree and level, in the place of the one
+-- a count of so many steps is one of more
+pub counted_later : (steps : ℕ) (n : NodeView) → IsCountedUpTo steps n → IsCountedUpTo (steps + 1) n
+counted_later steps n was = record { inserts = omega (arith, was.inserts); splits = omega (arith, was.splits) }
+
+-- another node of the same slots and tree, in the place of one
 module _ (c : Core) (o : ℕ) (h : StateInvariant c) (k : ℕ) (within : k < length c.arena.nodes) (n : NodeView) where
-  pub replaced_leaves : n.slots ≡ (at c.arena k).slots → n.tree ≡ (at c.arena k).tree → n.version.deleted ≡ (at c.arena k).version.deleted → n.level ≡ (at c.arena k).level → IsCountedUpTo (c.steps + 1) n
+  -- the versions count up to the next step
+  pub replaced_versions : IsCountedUpTo (c.steps + 1) n → (j : ℕ) → j < length (with_node c.arena k n).nodes → IsCountedUpTo (c.steps + 1) (at (with_node c.arena k n) j)
+  replaced_versions counted = replaced_all c.arena k within n (IsCountedUpTo (c.steps + 1)) counted (λ j inside. counted_later c.steps (at c.arena j) (h.versions j inside))
+
+  pub replaced_leaves : n.slots ≡ (at c.arena k).slots → n.tree ≡ (at c.arena k).tree → n.version.deleted ≡ (at c.arena k).version.deleted → IsCountedUpTo (c.steps + 1) n
       → Guarantee o c.arena (with_node c.arena k n) → content_of (with_node c.arena k n) ≡ content_of c.arena → LeavesPairs c o (with_node c.arena k n)
-  replaced_leaves slots tree deleted level counted guarantee contents = record {
+  replaced_leaves slots tree deleted counted guarantee contents = record {
     guarantee = guarantee;
     contents = contents;
-    stood = stood;
-    versions = λ j inside. subst (IsCountedUpTo (c.steps + 1)) (sym (replaced_at c.arena h.one_border k within n j inside).2) counted;
-    one_border = replaced_border c.arena h.one_border k within n (level ∙ is_border);
-    slots = ap (λ i. (at (with_node c.arena k n) i).slots) (sym first) ∙ ap (λ (m : NodeView). m.slots) (here c.arena.nodes k n within) ∙ slots ∙ ap (λ i. (at c.arena i).slots) first;
+    stood = λ j inside is_counted. inl (stood j inside is_counted);
+    versions = replaced_versions counted;
+    one_tree = replaced_tree c.arena k within n h.one_tree (deleted ∙ h.one_tree.live k within);
   }
     where
-      first : k ≡ 0
-      first = only_number c.arena h.one_border k within
-
-      is_border : (at c.arena k).level ≡ 0
-      is_border = ap (λ i. (at c.arena i).level) first ∙ ap (λ (l : List NodeView). (node_at l 0).level) h.one_border.nodes ∙ h.one_border.border
-
-      stood : (j : ℕ) → j < length (with_node c.arena k n).nodes → counts c.arena.trees (at (with_node c.arena k n) j) ≡ true → StoodSo c.arena (with_node c.arena k n) j
+      stood : (j : ℕ) → j < length (with_node c.arena k n).nodes → counts c.arena.trees (at (with_node c.arena k n) j) ≡ true → HasPairsOf c.arena (with_node c.arena k n) j
       stood j inside is_counted =
-          let r = replaced_at c.arena h.one_border k within n j inside in
-          let same = ap (λ i. at c.arena i) (sym r.0) in
-          record {
-            there = r.1;
-            counted = sym (same_counts c.arena.trees n (at c.arena j) (deleted ∙ ap (λ (m : NodeView). m.version.deleted) same) (tree ∙ ap (λ (m : NodeView). m.tree) same))
-                ∙ ap (counts c.arena.trees) (sym r.2) ∙ is_counted;
-            prefix = ap (λ (m : NodeView). (tree_at c.arena.trees m.tree).prefix) r.2 ∙ ap (λ t. (tree_at c.arena.trees t).prefix) (tree ∙ ap (λ (m : NodeView). m.tree) same);
-            slots = ap (λ (m : NodeView). m.slots) r.2 ∙ slots ∙ ap (λ (m : NodeView). m.slots) same;
-          }
+          let r = replaced_at c.arena k within n j inside in
+          elim r.1 [
+            | inl is ↦
+                let same = ap (λ i. at c.arena i) (sym is.0) in
+                record {
+                  there = r.0;
+                  counted = sym (same_counts c.arena.trees n (at c.arena j) (deleted ∙ ap (λ (m : NodeView). m.version.deleted) same) (tree ∙ ap (λ (m : NodeView). m.tree) same))
+                      ∙ ap (counts c.arena.trees) (sym is.1) ∙ is_counted;
+                  prefix = ap (λ (m : NodeView). (tree_at c.arena.trees m.tree).prefix) is.1 ∙ ap (λ t. (tree_at c.arena.trees t).prefix) (tree ∙ ap (λ (m : NodeView). m.tree) same);
+                  slots = ap (λ (m : NodeView). m.slots) is.1 ∙ slots ∙ ap (λ (m : NodeView). m.slots) same;
+                }
+            | inr other ↦ record {
+              there = r.0;
+              counted = ap (counts c.arena.trees) (sym other.1) ∙ is_counted;
+              prefix = ap (λ (m : NodeView). (tree_at c.arena.trees m.tree).prefix) other.1;
+              slots = ap (λ (m : NodeView). m.slots) other.1;
+            }
+          ]
 
 module _ (c : Core) (o : ℕ) (arena : ArenaView) (reserved : ℕ) (after : Operation) (same : content_of arena ≡ content_of c.arena) where
   -- the past stays where the pairs do
@@ -144,21 +176,30 @@ module _ (c : Core) (now : StateView) (o : ℕ) (is : shown c ≡ now) (h : Stat
   pub few_steps : c.steps < 2 ^ 59
   few_steps = subst (λ (v : StateView). v.steps < 2 ^ 59) (sym is) room
 
-  -- a step that changes no pair, by what it leaves and what is kept of its operation
-  pub quiet_gives : (arena : ArenaView) (reserved : ℕ) (w : Walk) (told : Option Outcome) (prepared : Option Prepared) → LeavesPairs c o arena → is_done op.walk.phase ≡ false → MayFollow op.walk.phase w.phase
-      → w.writes ≡ op.walk.writes → IsOfKind w.phase w.writes → change_in (view_of (went op (c.steps + 1) w told prepared)) ≡ change_in (view_of op)
-      → Notes (shown c) (view_of op) op.walk.phase w.phase told → (is_unplaced w.phase ≡ true → is_unplaced op.walk.phase ≡ true)
-      → ((k : ℕ) → k < length arena.nodes → (at arena k).holder ≡ Some o → HoldsAt w.phase w.place.node k)
-      → IsKeptAt w.phase (quiet c arena reserved o (went op (c.steps + 1) w told prepared)) o (went op (c.steps + 1) w told prepared)
-      → reserved + one_if_prepared (Some op) ≡ c.tape.reserved + one_if_prepared (Some (went op (c.steps + 1) w told prepared))
-      → Touches o c.arena arena → (done : Bool) → done ≡ is_done w.phase → Gives now (quiet c arena reserved o (went op (c.steps + 1) w told prepared)) o done
-  quiet_gives arena reserved w told prepared leaves unfinished follows writes kind same notes waits held kept reserves touches done ends =
-      let after = went op (c.steps + 1) w told prepared in
+  -- a node that it holds is one that it holds at its phase
+  pub holds_here : (p : Phase) → op.walk.phase ≡ p → (j : ℕ) → j < length c.arena.nodes → (at c.arena j).holder ≡ Some o → HoldsAt p op.walk op.splits j
+  holds_here p at_p j inside holds =
+      let f = h.holders j o inside holds in
+      let it = same_Some f.0 op (sym f.1 ∙ there) in
+      subst (λ (q : Phase). HoldsAt q op.walk op.splits j) at_p (subst (λ (x : Operation). HoldsAt x.walk.phase x.walk x.splits j) it f.2)
+
+  -- a step that changes no pair, by what it leaves and what is kept of its operation, which has these splits then
+  pub quiet_gives_with : (arena : ArenaView) (reserved : ℕ) (w : Walk) (told : Option Outcome) (prepared : Option Prepared) (s : Splits) → LeavesPairs c o arena → is_done op.walk.phase ≡ false → MayFollow op.walk.phase w.phase
+      → w.writes ≡ op.walk.writes → IsOfKind w.phase w.writes → change_in (view_of (went_with op (c.steps + 1) w told prepared s)) ≡ change_in (view_of op)
+      → Notes (shown c) (view_of op) op.walk.phase w.phase told
+      → ((k : ℕ) → k < length arena.nodes → (at arena k).holder ≡ Some o → HoldsAt w.phase (went_with op (c.steps + 1) w told prepared s).walk s k)
+      → IsKeptAt w.phase (quiet c arena reserved o (went_with op (c.steps + 1) w told prepared s)) o (went_with op (c.steps + 1) w told prepared s)
+      → (has_splits w.phase ≡ false → IsUnsplit s)
+      → reserved + one_if_prepared (Some op) ≡ c.tape.reserved + one_if_prepared (Some (went_with op (c.steps + 1) w told prepared s))
+      → Touches o c.arena arena → (done : Bool) → done ≡ is_done w.phase → Gives now (quiet c arena reserved o (went_with op (c.steps + 1) w told prepared s)) o done
+  quiet_gives_with arena reserved w told prepared s leaves unfinished follows writes kind same notes held kept unsplit reserves touches done ends =
+      let after = went_with op (c.steps + 1) w told prepared s in
       let new = quiet c arena reserved o after in
       let k = h.ops o op there in
       let own : IsKeptOf new o after = record {
-        always = open_moved c op k.always w new told prepared refl refl (λ t some. some) (floor_made c h.tape) writes kind;
+        always = open_moved_with c op k.always w new told prepared s refl refl (λ t some. some) (floor_made c h.tape) writes kind;
         kept = kept;
+        unsplit = unsplit;
         placed = λ m placed. let once = k.placed m (sym same ∙ placed) in record {
           entry = once.entry;
           there = once.there;
@@ -174,7 +215,6 @@ module _ (c : Core) (now : StateView) (o : ℕ) (is : shown c ≡ now) (h : Stat
         there = there;
         unfinished = unfinished;
         task = refl;
-        waits = waits;
         held = held;
         kept = own;
         reserved = reserves;
@@ -187,3 +227,15 @@ module _ (c : Core) (now : StateView) (o : ℕ) (is : shown c ≡ now) (h : Stat
         effect = inl (is_quiet c o op after arena reserved h leaves same);
       })
       done ends
+
+  -- one that leaves the splits, of an operation that has none
+  pub quiet_gives : (arena : ArenaView) (reserved : ℕ) (w : Walk) (told : Option Outcome) (prepared : Option Prepared) → LeavesPairs c o arena → is_done op.walk.phase ≡ false → MayFollow op.walk.phase w.phase
+      → w.writes ≡ op.walk.writes → IsOfKind w.phase w.writes → change_in (view_of (went op (c.steps + 1) w told prepared)) ≡ change_in (view_of op)
+      → Notes (shown c) (view_of op) op.walk.phase w.phase told
+      → ((k : ℕ) → k < length arena.nodes → (at arena k).holder ≡ Some o → HoldsAt w.phase (went op (c.steps + 1) w told prepared).walk op.splits k)
+      → IsKeptAt w.phase (quiet c arena reserved o (went op (c.steps + 1) w told prepared)) o (went op (c.steps + 1) w told prepared)
+      → IsUnsplit op.splits
+      → reserved + one_if_prepared (Some op) ≡ c.tape.reserved + one_if_prepared (Some (went op (c.steps + 1) w told prepared))
+      → Touches o c.arena arena → (done : Bool) → done ≡ is_done w.phase → Gives now (quiet c arena reserved o (went op (c.steps + 1) w told prepared)) o done
+  quiet_gives arena reserved w told prepared leaves unfinished follows writes kind same notes held kept unsplit =
+      quiet_gives_with arena reserved w told prepared op.splits leaves unfinished follows writes kind same notes held kept (λ none. unsplit)

@@ -1,5 +1,5 @@
 -- A step that places a put's change: what it leaves to others, and that the invariant stays: for Store and Publish.
-use Rattle.std.proofs.Common.{◌≡◌, ◌≢◌, ℕ, ◌+◌, ◌-◌, ◌<◌, ◌≤◌, inr, Bool, true, false, cond, eqb, [], ◌∷◌, ◌++◌, length, set, Some, IsSome, refl, sym, ap, subst, ◌∙◌, arith}
+use Rattle.std.proofs.Common.{◌≡◌, ◌≢◌, ℕ, ◌+◌, ◌-◌, ◌<◌, ◌≤◌, Bool, true, false, cond, eqb, [], ◌∷◌, ◌++◌, length, set, Some, IsSome, refl, sym, ap, subst, ◌∙◌, arith}
 use Rattle.std.specs.FinMap.{get, len, insert}
 use Rattle.std.proofs.lemmas.Bool.{both_ways, eq-eqb, eqb-true}
 use Rattle.std.proofs.lemmas.List.Elements.{Contains-push, Contains-append_left}
@@ -31,7 +31,7 @@ use Rattle.mt_state.specs.Views.{Core, shown, map_of, quota_of, quota_in, KeepsP
 use Rattle.mt_state.specs.Notes.{key_asked}
 use Rattle.mt_state.specs.Promises.{IsPlacing, IsAnswer}
 use Rattle.mt_state.specs.Kept.{IsKeptOf, IsPlacedOnce}
-use Rattle.mt_state.specs.Invariant.{IsStampOf, IsTape, AreStamps, IsCountedUpTo, HoldsAt, IsOneBorder, StateInvariant, StateGuarantee, one_if_prepared, is_unplaced}
+use Rattle.mt_state.specs.Invariant.{IsStampOf, IsTape, AreStamps, IsCountedUpTo, HoldsAt, IsOneTree, StateInvariant, StateGuarantee, one_if_prepared}
 use Rattle.mt_state.specs.Moves.{IsMove}
 use Rattle.mt_state.proofs.Telling.{map_now}
 
@@ -63,17 +63,15 @@ pub record PlacesPair (c : Core) (o : ℕ) (before after : Operation) (arena : A
   pub contents : content_of arena ≡ with_write (content_of c.arena) (next_write c before)
   pub stamps : AreStamps (placed c arena accounts o before after)
   pub versions : (k : ℕ) → k < length arena.nodes → IsCountedUpTo (c.steps + 1) (at arena k)
-  pub one_border : IsOneBorder arena
+  pub one_tree : IsOneTree arena
   pub counts : Counts c accounts (content_of arena)
 
 -- what it brings of its own operation
 pub record IsPlacer (c new : Core) (o : ℕ) (before after : Operation) : Type 0 where
   pub there : operation_at c.table o ≡ Some before
   pub unfinished : is_done before.walk.phase ≡ false
-  pub put : IsPut before.task
   pub task : after.task ≡ before.task
-  pub is_placed : is_unplaced after.walk.phase ≡ false
-  pub held : (k : ℕ) → k < length new.arena.nodes → (at new.arena k).holder ≡ Some o → HoldsAt after.walk.phase after.walk.place.node k
+  pub held : (k : ℕ) → k < length new.arena.nodes → (at new.arena k).holder ≡ Some o → HoldsAt after.walk.phase after.walk after.splits k
   pub kept : IsKeptOf new o after
   pub reserved : c.tape.reserved - 1 + one_if_prepared (Some before) ≡ c.tape.reserved + one_if_prepared (Some after)
 
@@ -159,9 +157,7 @@ module _ (c : Core) (o : ℕ) (before after : Operation) (arena : ArenaView) (ac
     counts = p.counts.counted;
     kept = own.kept;
     reserved = own.reserved;
-    one_border = p.one_border;
-    waits = λ unplaced. absurd (both_ways _ own.is_placed unplaced);
-    room = inr (own.put.put_is, own.is_placed);
+    one_tree = p.one_tree;
   }
 
   -- the tenant's map just before the step

@@ -2,10 +2,12 @@
 use Rattle.std.proofs.Common.{◌≡◌, ◌≢◌, ℕ, ◌+◌, ◌<◌, inl, inr, true, false, cond, List, length, get_or, set, get_or-set_same, get_or-set_other, Option, Some, None, is_some, refl, sym, ap, subst, ◌∙◌, arith}
 use Rattle.std.specs.Prelude.{◌^◌}
 use Rattle.std.specs.Option.{option_map}
+use Rattle.std.specs.List.{All}
 use Rattle.std.specs.FinMap.{get, len, insert}
 use Rattle.std.proofs.lemmas.Bool.{cases_eq}
-use Rattle.std.proofs.lemmas.Option.{same_Some}
+use Rattle.std.proofs.lemmas.Option.{none-some, same_Some}
 use Rattle.std.proofs.lemmas.List.{length-set}
+use Rattle.std.proofs.lemmas.List.Elements.{All-from_get_or}
 use Rattle.mt_slices.specs.Slices.{suffix_of}
 use Rattle.mt_rows.specs.declared.reply.Reply.{Reply}
 use Rattle.mt_rows.specs.declared.reply.Reply.TheVariants.{New, Replaced}
@@ -24,20 +26,25 @@ use Rattle.mt_border.specs.Entries.{IsBorder, replaced, with_entry}
 use Rattle.mt_border.specs.Node.{Node as BorderNode, Rewrites}
 use Rattle.mt_border.specs.Contents.{owned, AreKeys, AllStamped}
 use Rattle.mt_border.proofs.Edits.{any_entry, replaced_at as set_at}
+use Rattle.mt_border.proofs.ContentsKeys.{IsApart, owned_at}
 use Rattle.mt_border.proofs.ContentsMaps.{len_new, len_there, len_other}
 use Rattle.mt_border.proofs.ContentsStamps.{stamped_store, stamped_publish}
 use Rattle.mt_tape.specs.Tapes.{Kept}
 use Rattle.mt_arena.specs.NodeView.{NodeView}
 use Rattle.mt_arena.specs.Forests.{tree_at, layer_of}
 use Rattle.mt_arena.specs.Layers.{slot_at}
+use Rattle.mt_arena.specs.Ways.{StandsFor}
 use Rattle.mt_arena.specs.Contents.{counts}
 use Rattle.mt_arena.specs.Edits.{with_slots}
 use Rattle.mt_arena.specs.Arena.{ArenaView, IsArena, content_of, Guarantee}
 use Rattle.mt_arena.specs.Accesses.{at, tree_of, with_node, with_row}
+use Rattle.mt_arena.proofs.Homes as homes
+use Rattle.mt_arena.proofs.Elsewhere.{stands_once}
 use Rattle.mt_arena.proofs.Steps.{keys_of}
 use Rattle.mt_operation.specs.declared.walk.Phase.{Phase}
 use Rattle.mt_operation.specs.declared.walk.Phase.TheVariants.{Enter, Store, Publish, Unlock}
 use Rattle.mt_operation.specs.declared.walk.Walk.{Walk}
+use Rattle.mt_operation.specs.declared.splits.Halves.{Halves}
 use Rattle.mt_operation.specs.declared.operation.Operation.{Operation}
 use Rattle.mt_operation.specs.Tasks.{ask}
 use Rattle.mt_operation.specs.Operations.{view_of, is_done}
@@ -50,15 +57,17 @@ use Rattle.mt_insert.proofs.Places.{may_store, may_publish}
 use Rattle.mt_state.specs.Views.{StateView, Core, shown, quota_of, quota_in}
 use Rattle.mt_state.specs.Steps.{MayFollow}
 use Rattle.mt_state.specs.Notes.{Notes}
-use Rattle.mt_state.specs.Kept.{IsOfKind, IsOpenOperation, IsStoring, IsPublishing, IsUnlocking, IsKeptAt, IsPlacedOnce, IsKeptOf}
-use Rattle.mt_state.specs.Invariant.{IsStampOf, IsCountedUpTo, HoldsAt, StateInvariant, is_prepared, is_unplaced}
+use Rattle.mt_state.specs.Kept.{IsOfKind, IsOpenOperation, IsStoring, IsPublishing, MayUnlock, IsUnlocking, IsKeptAt, has_splits, IsPlacedOnce, IsKeptOf}
+use Rattle.mt_state.specs.Invariant.{IsStampOf, HoldsLast, HoldsAt, StateInvariant, is_prepared}
 use Rattle.mt_state.proofs.Replies.{put_there, put_new}
 use Rattle.mt_state.proofs.Telling.{Gives, gives}
 use Rattle.mt_state.proofs.Placing.{Counts, next_write, placed, PlacesPair, untouched_beside, untouched_now, placed_move, placed_right, is_placing, placed_once}
 use Rattle.mt_state.proofs.Moved.{went, first_begun, first_upto, open_moved, has_moved}
 use Rattle.mt_state.proofs.Still.{floor_made, unready_none}
-use Rattle.mt_state.proofs.Reading.{walk_same}
-use Rattle.mt_state.proofs.OneNode.{stepped, replaced_at, replaced_border, replaced_touches, few_steps}
+use Rattle.mt_state.proofs.Reading.{key_of_owner, walk_same}
+use Rattle.mt_state.proofs.OneTree.{slot_key}
+use Rattle.mt_state.proofs.Loading.{row_of}
+use Rattle.mt_state.proofs.OneNode.{stepped, replaced_at, replaced_holds, replaced_tree, replaced_versions, replaced_touches, few_steps, holds_here}
 use Rattle.mt_state.proofs.Locking.{ready_one, room_for}
 
 -- one pair more leaves the quota, and the account there
@@ -75,9 +84,13 @@ one_less_of None a e = absurd (cc)
 one_less_of (Some b) a e = (b, refl, same_Some _ _ e)
 
 -- there is room where fewer pairs are than the quota
-room_left : (account : Option Account) (count : ℕ) → HasRoom account → ((a : Account) → account ≡ Some a → a.count ≡ count) → count < quota_in account
+pub room_left : (account : Option Account) (count : ℕ) → HasRoom account → ((a : Account) → account ≡ Some a → a.count ≡ count) → count < quota_in account
 room_left None count room is = absurd room
 room_left (Some a) count room is = omega (arith, room, is a refl)
+
+-- what holds of all owned keys and stamps, in a node that has no pair of the one key for which it may not
+pub stamped_apart : (P Q : ℕ × Bytes → ℕ → Type 0) (prefix : Bytes) (q : ℕ × Bytes) (entries : List Entry) → ((r : ℕ × Bytes) (s : ℕ) → r ≢ q → P r s → Q r s) → All (IsApart prefix q) entries → AllStamped P prefix entries → AllStamped Q prefix entries
+stamped_apart P Q prefix q entries weaker apart stamped k d inside pair is = weaker _ _ (apart k d inside pair is) (stamped k d inside pair is)
 
 -- the slots of a border node with another row in one of them
 module _ (n : NodeView) (slot : ℕ) (pair : Pair) (row : Columns) (stamp : ℕ) (border : IsBorder n.slots) (live : slot < length n.slots) where
@@ -112,12 +125,30 @@ module _ (c : Core) (now : StateView) (o : ℕ) (is : shown c ≡ now) (h : Stat
   abbrev key : ℕ × Bytes
   key = owned op.task.key
 
+  module _ (arena_is : IsArena c.arena.nodes c.arena.trees) where
+    -- where no pair of a node stands for the put's key, its entries are apart from it
+    pub apart_in : (l : ℕ) → l < length c.arena.nodes → ((q : Bytes) (layer i : ℕ) (pair : Pair) → StandsFor c.arena.nodes c.arena.trees q layer l i pair → owned q ≢ key) → All (IsApart (tree_of c.arena l).prefix key) (at c.arena l).slots
+    apart_in l inside never = All-from_get_or (IsApart (tree_of c.arena l).prefix key) (at c.arena l).slots any_entry (λ i within pair held same.
+        let s = slot_key c.arena arena_is h.one_tree l inside i pair within held in
+        never s.0 (layer_of (tree_of c.arena l).prefix) i pair s.1 (sym (owned_at (tree_of c.arena l).prefix (layer_of (tree_of c.arena l).prefix) (slot_at (at c.arena l) i) s.0 pair s.1.has held) ∙ same))
+
+    -- no other node has the pair of a key that stands in a slot
+    pub beside_stored : (slot : ℕ) (pair : Pair) → StandsFor c.arena.nodes c.arena.trees op.task.key (layer_of (tree_of c.arena k).prefix) k slot pair → (l : ℕ) → l < length c.arena.nodes → l ≢ k → All (IsApart (tree_of c.arena l).prefix key) (at c.arena l).slots
+    beside_stored slot pair here l inside differ = apart_in l inside (λ q layer i other also same.
+        let one : q ≡ op.task.key = key_of_owner q op.task.tenant (key_of (ask op.task)) also.has.of_tree.stored (same ∙ put.owner) ∙ sym (key_of_owner op.task.key op.task.tenant (key_of (ask op.task)) always.stored put.owner) in
+        differ (sym (stands_once c.arena.nodes c.arena.trees arena_is (homes.begun c.arena.nodes c.arena.trees arena_is.forest) op.task.key (layer_of (tree_of c.arena k).prefix) k slot pair layer l i other here
+        (subst (λ x. StandsFor c.arena.nodes c.arena.trees x layer l i other) one also)).0))
+
+    -- nor of one that the contents miss
+    pub beside_missing : get (content_of c.arena) key ≡ None → (l : ℕ) → l < length c.arena.nodes → All (IsApart (tree_of c.arena l).prefix key) (at c.arena l).slots
+    beside_missing missing l inside = apart_in l inside (λ q layer i other also same. none-some other.row (sym missing ∙ ap (get (content_of c.arena)) (sym same) ∙ row_of c h arena_is q layer l i other also))
+
   -- how many pairs each tenant has once the put's row is inserted at its key
   more_at : (all : Contents) (row : Columns) → all ≡ insert (content_of c.arena) (op.task.tenant, key_of (ask op.task)) row → (t : ℕ) → len (tenant_map t all) ≡ len (tenant_map t (insert (content_of c.arena) (op.task.tenant, key_of (ask op.task)) row))
   more_at all row e t = ap (λ x. len (tenant_map t x)) e
 
   -- the counts after a put over a row
-  counted_there : (all : Contents) (row before : Columns) → all ≡ insert (content_of c.arena) (op.task.tenant, key_of (ask op.task)) row → get (content_of c.arena) key ≡ Some before → Counts c c.accounts all
+  pub counted_there : (all : Contents) (row before : Columns) → all ≡ insert (content_of c.arena) (op.task.tenant, key_of (ask op.task)) row → get (content_of c.arena) key ≡ Some before → Counts c c.accounts all
   counted_there all row before e was_there = record {
     quotas = λ t. refl;
     there = λ t some. some;
@@ -134,7 +165,7 @@ module _ (c : Core) (now : StateView) (o : ℕ) (is : shown c ≡ now) (h : Stat
   }
 
   -- and after a put of a new key
-  counted_new : (accounts : Accounts) (all : Contents) (row : Columns) → all ≡ insert (content_of c.arena) (op.task.tenant, key_of (ask op.task)) row → get (content_of c.arena) key ≡ None
+  pub counted_new : (accounts : Accounts) (all : Contents) (row : Columns) → all ≡ insert (content_of c.arena) (op.task.tenant, key_of (ask op.task)) row → get (content_of c.arena) key ≡ None
       → HasRoom (account_of c.accounts op.task.tenant) → account_of accounts op.task.tenant ≡ option_map one_more (account_of c.accounts op.task.tenant) → OthersStay c.accounts accounts op.task.tenant → Counts c accounts all
   counted_new accounts all row e none has_room more others = record {
     quotas = λ t. elim (cases_eq t op.task.tenant) [
@@ -178,7 +209,7 @@ module _ (c : Core) (now : StateView) (o : ℕ) (is : shown c ≡ now) (h : Stat
     abbrev the_row : Columns
     the_row = row_over op.task (get (content_of c.arena) key)
 
-    module _ (within : k < length c.arena.nodes) (level : n.level ≡ 0) (guarantee : Guarantee o c.arena the_arena)
+    module _ (within : k < length c.arena.nodes) (beside : (l : ℕ) → l < length c.arena.nodes → l ≢ k → All (IsApart (tree_of c.arena l).prefix key) (at c.arena l).slots) (guarantee : Guarantee o c.arena the_arena)
         (contents : content_of the_arena ≡ insert (content_of c.arena) (op.task.tenant, key_of (ask op.task)) the_row) (counted : Counts c accounts (content_of the_arena))
         (stamps : AllStamped (IsStampOf c.steps c.tape) (tree_of c.arena k).prefix n.slots → AllStamped (IsStampOf (c.steps + 1) (pushed c.tape (next_write c op))) (tree_of c.arena k).prefix slots) where
       places_pair : PlacesPair c o op the_after the_arena accounts
@@ -186,12 +217,18 @@ module _ (c : Core) (now : StateView) (o : ℕ) (is : shown c ≡ now) (h : Stat
         guarantee = guarantee;
         contents = contents;
         stamps = λ j inside is_counted.
-            let r = replaced_at c.arena h.one_border k within y j inside in
-            subst (λ (m : NodeView). AllStamped (IsStampOf (c.steps + 1) (pushed c.tape (next_write c op))) (tree_at c.arena.trees m.tree).prefix m.slots) (sym r.2)
-            (stamps (h.stamps k within (ap (counts c.arena.trees) (sym r.2) ∙ is_counted)));
-        versions = λ j inside. subst (IsCountedUpTo (c.steps + 1)) (sym (replaced_at c.arena h.one_border k within y j inside).2)
-            (let was = h.versions k within in record { inserts = omega (arith, was.inserts); splits = omega (arith, was.splits) });
-        one_border = replaced_border c.arena h.one_border k within y level;
+            let r = replaced_at c.arena k within y j inside in
+            elim r.1 [
+              | inl same ↦ subst (λ (m : NodeView). AllStamped (IsStampOf (c.steps + 1) (pushed c.tape (next_write c op))) (tree_at c.arena.trees m.tree).prefix m.slots) (sym same.1)
+                  (stamps (h.stamps k within (ap (counts c.arena.trees) (sym same.1) ∙ is_counted)))
+              | inr other ↦
+                  let counted_there : counts c.arena.trees (at c.arena j) ≡ true = ap (counts c.arena.trees) (sym other.1) ∙ is_counted in
+                  subst (λ (m : NodeView). AllStamped (IsStampOf (c.steps + 1) (pushed c.tape (next_write c op))) (tree_at c.arena.trees m.tree).prefix m.slots) (sym other.1)
+                  (stamped_apart (IsStampOf c.steps c.tape) (IsStampOf (c.steps + 1) (pushed c.tape (next_write c op))) (tree_of c.arena j).prefix key (at c.arena j).slots
+                  (untouched_beside c op h put) (beside j r.0 other.0) (h.stamps j r.0 counted_there))
+            ];
+        versions = replaced_versions c o h k within y (let was = h.versions k within in record { inserts = omega (arith, was.inserts); splits = omega (arith, was.splits) });
+        one_tree = replaced_tree c.arena k within y h.one_tree (h.one_tree.live k within);
         counts = counted;
       }
 
@@ -199,17 +236,18 @@ module _ (c : Core) (now : StateView) (o : ℕ) (is : shown c ≡ now) (h : Stat
       placed_gives : (changes : is_change reply ≡ true)
           → (told : reply ≡ reply_of (quota_of (shown c) op.task.tenant) (ask op.task) (tenant_map op.task.tenant (content_of c.arena)))
           → (makes : map_after (quota_of (shown c) op.task.tenant) (ask op.task) (tenant_map op.task.tenant (content_of c.arena)) ≡ insert (tenant_map op.task.tenant (content_of c.arena)) (key_of (ask op.task)) the_row)
-          → (p : Phase) → op.walk.phase ≡ p → is_prepared p ≡ true → is_done p ≡ false → p ≢ Enter → MayFollow p Unlock → op.walk.writes ≡ true
+          → (p : Phase) → op.walk.phase ≡ p → is_prepared p ≡ true → is_done p ≡ false → has_splits p ≡ false → ((j : ℕ) → HoldsAt p op.walk op.splits j → j ≡ k) → p ≢ Enter → MayFollow p Unlock → op.walk.writes ≡ true
           → Notes (shown c) (view_of op) p Unlock (Some (record { reply = reply; at = c.steps + 1 }))
           → w ≡ walk_placed op.walk → Continues op.walk w → n.holder ≡ Some o → IsAtUnlock the_arena o w → Gives now the_new o false
-      placed_gives changes told makes p at_p ready left later follows writes notes goes same holder unlocks =
+      placed_gives changes told makes p at_p ready left none holds_one later follows writes notes goes same holder unlocks =
           let begun = always.begun (λ enters. later (sym at_p ∙ enters)) in
           let whole = walk_same c op always w begun same.first in
           let ends : w.phase ≡ Unlock = ap (λ (x : Walk). x.phase) goes in
           let place : w.place.node ≡ k = ap (λ (x : Walk). x.place.node) goes in
           let pair = places_pair in
+          let unsplit = (h.ops o op there).unsplit (ap has_splits at_p ∙ none) in
           let own : IsUnlocking the_new o the_after = record {
-            unlocks = subst (IsAtUnlock the_arena o) (sym whole) unlocks;
+            unlocks = subst (λ (halves : List Halves). MayUnlock halves the_arena o the_after) (sym unsplit.halves) (subst (IsAtUnlock the_arena o) (sym whole) unlocks, unsplit);
             answer = record {
               outcome = record { reply = reply; at = c.steps + 1 };
               told = refl;
@@ -221,16 +259,19 @@ module _ (c : Core) (now : StateView) (o : ℕ) (is : shown c ≡ now) (h : Stat
             always = open_moved c op always w the_new (Some (record { reply = reply; at = c.steps + 1 })) None refl refl counted.there (floor_made c h.tape) same.writes
                 (subst (λ (q : Phase). IsOfKind q w.writes) (sym ends) (same.writes ∙ writes));
             kept = subst (λ (q : Phase). IsKeptAt q the_new o the_after) (sym ends) own;
+            unsplit = λ over. unsplit;
             placed = λ m placed_at. subst (IsPlacedOnce the_new the_after) (same_Some (c.steps + 1) m (ap (λ b. cond b (Some (c.steps + 1)) None) (sym changes) ∙ placed_at)) (placed_once c o op the_after the_arena accounts h put pair refl);
           } in
           gives now c the_new o op the_after is h (few_steps c now o is h room op there)
           (placed_move c o op the_after the_arena accounts h put pair (record {
             there = there;
             unfinished = ap is_done at_p ∙ left;
-            put = put;
             task = refl;
-            is_placed = ap is_unplaced ends;
-            held = λ j inside holds. subst (λ (q : Phase). HoldsAt q w.place.node j) (sym ends) ((replaced_at c.arena h.one_border k within y j inside).0 ∙ sym place);
+            held = λ j inside holds. subst (λ (q : Phase). HoldsAt q the_after.walk op.splits j) (sym ends)
+                (subst (λ (halves : List Halves). HoldsLast halves the_after.walk op.splits j) (sym unsplit.halves) (elim (replaced_holds c.arena k within y o j inside holds) [
+                  | inl same ↦ same.0 ∙ sym place
+                  | inr was ↦ holds_one j (holds_here c now o is h room op there p at_p j was.0 was.1) ∙ sym place
+                ]));
             kept = kept;
             reserved = let one = ready_one op p at_p ready in let no = unready_none the_after Unlock ends tt in let some = room_for c h o op p there at_p ready in omega (arith, one, no, some);
           }))
@@ -239,7 +280,7 @@ module _ (c : Core) (now : StateView) (o : ℕ) (is : shown c ≡ now) (h : Stat
             moves = has_moved c op always w (Some (record { reply = reply; at = c.steps + 1 })) None (subst (λ (q : Phase). MayFollow q w.phase) (sym at_p) (subst (MayFollow p) (sym ends) follows));
             notes = subst (λ (q : Phase). Notes (shown c) (view_of op) q w.phase (Some (record { reply = reply; at = c.steps + 1 }))) (sym at_p)
                 (subst (λ (q : Phase). Notes (shown c) (view_of op) p q (Some (record { reply = reply; at = c.steps + 1 }))) (sym ends) notes);
-            touches = replaced_touches c.arena h.one_border k within y o (inl holder);
+            touches = replaced_touches c.arena k within y o (inl holder);
             effect = inr (is_placing c o op the_after the_arena accounts h put pair reply changes told makes refl);
           })
           false (sym (ap is_done ends))
@@ -289,9 +330,9 @@ module _ (c : Core) (now : StateView) (o : ℕ) (is : shown c ≡ now) (h : Stat
         (untouched_beside c op h put) (untouched_now c op h put) in
         subst (λ (v : ArenaView). Gives now (stepped c v tape c.accounts o after) o false) (sym takes)
         (subst (λ (t : Kept). Gives now (stepped c (with_node c.arena k (with_slots n slots)) t c.accounts o after) o false) (sym places.tape)
-        (placed_gives slots c.accounts w Replaced j.held.there j.at_border.border (subst (Guarantee o c.arena) takes guarantee) contents
+        (placed_gives slots c.accounts w Replaced j.held.there (beside_stored arena_is op.walk.slot s.pair may.stands) (subst (Guarantee o c.arena) takes guarantee) contents
         (counted_there (content_of (with_node c.arena k (with_slots n slots))) (row_over op.task (get (content_of c.arena) key)) before contents was_there) stamps
-        refl replies.0 makes Store at_store refl refl (λ e. cc) tt stores_on refl goes same j.held.holder (subst (λ (v : ArenaView). IsAtUnlock v o w) takes unlocks)))
+        refl replies.0 makes Store at_store refl refl refl (λ i one. one) (λ e. cc) tt stores_on refl goes same j.held.holder (subst (λ (v : ArenaView). IsAtUnlock v o w) takes unlocks)))
 
   module _ (at_publish : op.walk.phase ≡ Publish) where
     publishing : IsPublishing c o op
@@ -326,6 +367,6 @@ module _ (c : Core) (now : StateView) (o : ℕ) (is : shown c ≡ now) (h : Stat
         (keys_here arena_is s.holds) may.has s.missing refl (untouched_beside c op h put) (untouched_now c op h put) in
         subst (λ (v : ArenaView). Gives now (stepped c v tape accounts o after) o false) (sym takes)
         (subst (λ (t : Kept). Gives now (stepped c (with_node c.arena k (with_slots n slots)) t accounts o after) o false) (sym places.tape)
-        (placed_gives slots accounts w New j.held.there j.at_border.border (subst (Guarantee o c.arena) takes guarantee) contents
+        (placed_gives slots accounts w New j.held.there (λ l inside differ. beside_missing arena_is missing l inside) (subst (Guarantee o c.arena) takes guarantee) contents
         (counted_new accounts (content_of (with_node c.arena k (with_slots n slots))) (row_over op.task (get (content_of c.arena) key)) contents missing has_room more others) stamps
-        refl replies.0 makes Publish at_publish refl refl (λ e. cc) tt publishes_on (inl refl) goes same j.held.holder (subst (λ (v : ArenaView). IsAtUnlock v o w) takes unlocks)))
+        refl replies.0 makes Publish at_publish refl refl refl (λ i one. one) (λ e. cc) tt publishes_on (inl refl) goes same j.held.holder (subst (λ (v : ArenaView). IsAtUnlock v o w) takes unlocks)))

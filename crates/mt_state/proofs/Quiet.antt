@@ -1,5 +1,5 @@
 -- A step that changes no pair: what it leaves to others, and that the invariant stays: for all phases but Store and Publish.
-use Rattle.std.proofs.Common.{◌≡◌, ℕ, ◌+◌, ◌<◌, ◌≤◌, inl, true, false, List, length, set, Some, refl, sym, ap, subst, arith}
+use Rattle.std.proofs.Common.{◌≡◌, ℕ, ◌+◌, ◌<◌, ◌≤◌, ◌⊎◌, inl, inr, true, false, List, [], length, set, Some, refl, sym, ap, subst, arith}
 use Rattle.std.specs.FinMap.{len}
 use Rattle.mt_rows.specs.Rows.{Bytes}
 use Rattle.mt_rows.specs.Tenants.{Contents, tenant_map}
@@ -17,8 +17,9 @@ use Rattle.mt_state.specs.Views.{Core, shown, KeepsPast}
 use Rattle.mt_state.specs.Steps.{change_in}
 use Rattle.mt_state.specs.Promises.{IsQuiet}
 use Rattle.mt_state.specs.Kept.{IsKeptOf}
-use Rattle.mt_state.specs.Invariant.{IsTape, AreStamps, IsStampOf, IsCountedUpTo, HoldsAt, IsOneBorder, StateInvariant, StateGuarantee, one_if_prepared, is_unplaced}
+use Rattle.mt_state.specs.Invariant.{IsTape, AreStamps, IsStampOf, IsCountedUpTo, HoldsAt, IsOneTree, StateInvariant, StateGuarantee, one_if_prepared}
 use Rattle.mt_state.specs.Moves.{IsMove}
+use Rattle.mt_state.specs.Writes.{HasPairsOf}
 
 -- what a step leaves that changes no pair
 abbrev pub quiet : Core → ArenaView → ℕ → ℕ → Operation → Core
@@ -32,29 +33,20 @@ quiet c arena reserved o after = record {
   table = set c.table o (Some after);
 }
 
--- a node whose pairs count had the same slots, and they counted
-pub record StoodSo (old new : ArenaView) (k : ℕ) : Type 0 where
-  pub there : k < length old.nodes
-  pub counted : counts old.trees (at old k) ≡ true
-  pub prefix : (tree_of new k).prefix ≡ (tree_of old k).prefix
-  pub slots : (at new k).slots ≡ (at old k).slots
-
--- what it makes of the arena: the pairs stand as they did, each where it stood
+-- what it makes of the arena: the pairs stand as they did, each where it stood, and what is new has none
 pub record LeavesPairs (c : Core) (o : ℕ) (arena : ArenaView) : Type 0 where
   pub guarantee : Guarantee o c.arena arena
   pub contents : content_of arena ≡ content_of c.arena
-  pub stood : (k : ℕ) → k < length arena.nodes → counts arena.trees (at arena k) ≡ true → StoodSo c.arena arena k
+  pub stood : (k : ℕ) → k < length arena.nodes → counts arena.trees (at arena k) ≡ true → HasPairsOf c.arena arena k ⊎ ((at arena k).slots ≡ [])
   pub versions : (k : ℕ) → k < length arena.nodes → IsCountedUpTo (c.steps + 1) (at arena k)
-  pub one_border : IsOneBorder arena
-  pub slots : (at arena 0).slots ≡ (at c.arena 0).slots
+  pub one_tree : IsOneTree arena
 
 -- what it brings of its own operation
 pub record IsOwn (c new : Core) (o : ℕ) (before after : Operation) : Type 0 where
   pub there : operation_at c.table o ≡ Some before
   pub unfinished : is_done before.walk.phase ≡ false
   pub task : after.task ≡ before.task
-  pub waits : is_unplaced after.walk.phase ≡ true → is_unplaced before.walk.phase ≡ true
-  pub held : (k : ℕ) → k < length new.arena.nodes → (at new.arena k).holder ≡ Some o → HoldsAt after.walk.phase after.walk.place.node k
+  pub held : (k : ℕ) → k < length new.arena.nodes → (at new.arena k).holder ≡ Some o → HoldsAt after.walk.phase after.walk after.splits k
   pub kept : IsKeptOf new o after
   pub reserved : new.tape.reserved + one_if_prepared (Some before) ≡ c.tape.reserved + one_if_prepared (Some after)
 
@@ -85,12 +77,14 @@ module _ (c : Core) (o : ℕ) (before after : Operation) (arena : ArenaView) (re
   }
 
   stamps : AreStamps (quiet c arena reserved o after)
-  stamps k within counted =
-      let was = leaves.stood k within counted in
-      subst (λ (prefix : Bytes). AllStamped (IsStampOf (c.steps + 1) (record c.tape { reserved = reserved })) prefix (at arena k).slots) (sym was.prefix)
-      (subst (λ (slots : List Entry). AllStamped (IsStampOf (c.steps + 1) (record c.tape { reserved = reserved })) (tree_of c.arena k).prefix slots) (sym was.slots)
-      (stamped_weaker (IsStampOf c.steps c.tape) (IsStampOf (c.steps + 1) (record c.tape { reserved = reserved })) (tree_of c.arena k).prefix (at c.arena k).slots
-      (λ q s w. (omega (arith, w.0), w.1, w.2)) (h.stamps k was.there was.counted)))
+  stamps k within counted = elim (leaves.stood k within counted) [
+    | inl was ↦
+        subst (λ (prefix : Bytes). AllStamped (IsStampOf (c.steps + 1) (record c.tape { reserved = reserved })) prefix (at arena k).slots) (sym was.prefix)
+        (subst (λ (slots : List Entry). AllStamped (IsStampOf (c.steps + 1) (record c.tape { reserved = reserved })) (tree_of c.arena k).prefix slots) (sym was.slots)
+        (stamped_weaker (IsStampOf c.steps c.tape) (IsStampOf (c.steps + 1) (record c.tape { reserved = reserved })) (tree_of c.arena k).prefix (at c.arena k).slots
+        (λ q s w. (omega (arith, w.0), w.1, w.2)) (h.stamps k was.there was.counted)))
+    | inr none ↦ subst (λ (slots : List Entry). AllStamped (IsStampOf (c.steps + 1) (record c.tape { reserved = reserved })) (tree_of arena k).prefix slots) (sym none) (λ i default within. absurd (omega arith))
+  ]
 
   pub quiet_move : IsOwn c (quiet c arena reserved o after) o before after → IsMove c (quiet c arena reserved o after) o before after
   quiet_move own = record {
@@ -108,9 +102,7 @@ module _ (c : Core) (o : ℕ) (before after : Operation) (arena : ArenaView) (re
     counts = λ t a is. subst (λ (all : Contents). (a.count ≡ len (tenant_map t all)) × (a.count ≤ a.quota)) (sym leaves.contents) (h.counts t a is);
     kept = own.kept;
     reserved = own.reserved;
-    one_border = leaves.one_border;
-    waits = own.waits;
-    room = inl (leaves.slots, leaves.contents);
+    one_tree = leaves.one_tree;
   }
 
   pub is_quiet : change_in (view_of after) ≡ change_in (view_of before) → IsQuiet (shown c) (shown (quiet c arena reserved o after)) (view_of before) (view_of after)

@@ -1,5 +1,5 @@
 -- Rely and guarantee: what is kept of an operation stays under each step of another one, by what that step leaves to others alone.
-use Rattle.std.proofs.Common.{◌≡◌, ◌≢◌, ℕ, ◌-◌, ◌<◌, ◌≤◌, inl, inr, length, Option, None, Some, sym, ap, subst, ◌∙◌, arith}
+use Rattle.std.proofs.Common.{◌≡◌, ◌≢◌, ℕ, ◌-◌, ◌<◌, ◌≤◌, inl, inr, List, [], ◌∷◌, length, Option, None, Some, sym, ap, subst, ◌∙◌, arith}
 use Rattle.std.proofs.lemmas.Bool.{cases_lt}
 use Rattle.mt_rows.specs.declared.command.Command.{Command}
 use Rattle.mt_rows.specs.declared.reply.Reply.{Reply}
@@ -10,15 +10,17 @@ use Rattle.mt_arena.specs.Accesses.{at}
 use Rattle.mt_operation.specs.declared.outcome.Outcome.{Outcome}
 use Rattle.mt_operation.specs.declared.operation.Operation.{Operation}
 use Rattle.mt_operation.specs.declared.walk.Phase.{Phase}
-use Rattle.mt_operation.specs.declared.walk.Phase.TheVariants.{Enter, Pick, Child, Verify, Search, Load, Confirm, Forward, Lock, Judge, Store, Publish, Unlock, Done}
+use Rattle.mt_operation.specs.declared.walk.Phase.TheVariants.{Enter, Pick, Child, Verify, Search, Load, Confirm, Forward, Lock, Judge, Store, Publish, SplitStart, SplitMove, SplitPrev, LockParent, InsertChild, InteriorSplit, Reparent, RootGrow, Unlock, Done}
+use Rattle.mt_operation.specs.declared.splits.Halves.{Halves}
 use Rattle.mt_operation.specs.Operations.{OperationView, view_of}
 use Rattle.mt_descent.specs.Pasts.{ExtendsPast}
 use Rattle.mt_descent.specs.Kept.{IsKept}
 use Rattle.mt_descent.proofs.Rely as descent
 use Rattle.mt_insert.proofs.Rely as insert
+use Rattle.mt_insert.proofs.SplitRely as splits
 use Rattle.mt_state.specs.Views.{StateView, Core, shown, past_of, map_of, quota_of, KeepsPast, IsPlaced}
 use Rattle.mt_state.specs.Promises.{IsAnswer}
-use Rattle.mt_state.specs.Kept.{IsOpenOperation, IsOnItsWay, HasAnswer, IsKeptAt, IsPlacedOnce, IsKeptOf}
+use Rattle.mt_state.specs.Kept.{IsOpenOperation, IsOnItsWay, HasAnswer, MayUnlock, IsClimbing, IsKeptAt, IsPlacedOnce, IsKeptOf}
 use Rattle.mt_state.specs.Invariant.{StateGuarantee}
 
 -- what is placed stays so
@@ -66,6 +68,15 @@ module _ (old new : Core) (o q : ℕ) (g : StateGuarantee old new o) (other : q 
     unprepared = h.unprepared;
   }
 
+  -- what it climbs with
+  climbing_stays : (p : Phase) → IsOpenOperation old op → IsClimbing old q op p → IsClimbing new q op p
+  climbing_stays p k h = record { climbs = splits.split o q old.arena new.arena g.arena other p op.splits h.climbs; answer = told_stays k h.answer }
+
+  -- what it may give back
+  unlocks_stay : (halves : List Halves) → MayUnlock halves old.arena q op → MayUnlock halves new.arena q op
+  unlocks_stay [] h = (insert.unlock o q old.arena new.arena g.arena other op.walk h.0, h.1)
+  unlocks_stay (x ∷ halves) h = splits.split o q old.arena new.arena g.arena other Unlock op.splits h
+
   -- by its phase
   pub kept_stays : (p : Phase) → IsOpenOperation old op → IsKeptAt p old q op → IsKeptAt p new q op
   kept_stays Enter k h = way_stays h
@@ -90,9 +101,26 @@ module _ (old new : Core) (o q : ℕ) (g : StateGuarantee old new o) (other : q 
     publishes = insert.publish o q old.arena new.arena g.arena other op.task h.prepared op.walk h.publishes;
     untold = h.untold;
   }
-  kept_stays Unlock k h = record { unlocks = insert.unlock o q old.arena new.arena g.arena other op.walk h.unlocks; answer = told_stays k h.answer }
+  kept_stays SplitStart k h = record {
+    prepared = h.prepared;
+    has = h.has;
+    starts = insert.split_start o q old.arena new.arena g.arena other op.task h.prepared op.walk h.starts;
+    untold = h.untold;
+  }
+  kept_stays SplitMove k h = record {
+    prepared = h.prepared;
+    has = h.has;
+    moves = splits.move o q old.arena new.arena g.arena other op.task h.prepared op.walk op.splits h.moves;
+    untold = h.untold;
+  }
+  kept_stays SplitPrev k h = climbing_stays SplitPrev k h
+  kept_stays LockParent k h = climbing_stays LockParent k h
+  kept_stays InsertChild k h = climbing_stays InsertChild k h
+  kept_stays InteriorSplit k h = climbing_stays InteriorSplit k h
+  kept_stays Reparent k h = climbing_stays Reparent k h
+  kept_stays RootGrow k h = climbing_stays RootGrow k h
+  kept_stays Unlock k h = record { unlocks = unlocks_stay op.splits.halves.items h.unlocks; answer = told_stays k h.answer }
   kept_stays Done k h = told_stays k h
-  kept_stays _ k h = absurd h
 
   -- what is kept of every operation
   pub open_stays : IsOpenOperation old op → IsOpenOperation new op
@@ -123,4 +151,4 @@ module _ (old new : Core) (o q : ℕ) (g : StateGuarantee old new o) (other : q 
 
   -- the rely: all that is kept of an operation is stable under any step of another
   pub stays : IsKeptOf old q op → IsKeptOf new q op
-  stays h = record { always = open_stays h.always; kept = kept_stays op.walk.phase h.always h.kept; placed = λ m is. placed_once_stays m (h.placed m is) }
+  stays h = record { always = open_stays h.always; kept = kept_stays op.walk.phase h.always h.kept; unsplit = h.unsplit; placed = λ m is. placed_once_stays m (h.placed m is) }

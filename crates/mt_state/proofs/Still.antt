@@ -1,5 +1,5 @@
 -- A step of an operation that holds nothing, which leaves all nodes as they were: for `State::descend`, `search`, `load` and `confirm`.
-use Rattle.std.proofs.Common.{◌≡◌, ℕ, ◌+◌, ◌<◌, ◌≤◌, inl, Bool, true, false, length, Option, Some, None, refl, sym, ap, subst, ◌∙◌, arith}
+use Rattle.std.proofs.Common.{◌≡◌, ℕ, ◌+◌, ◌<◌, ◌≤◌, inl, Bool, false, length, Option, Some, None, refl, sym, ap, subst, ◌∙◌, arith}
 use Rattle.std.specs.Prelude.{◌^◌}
 use Rattle.std.proofs.lemmas.Option.{same_Some}
 use Rattle.mt_tape.proofs.EntryLaws.{floor_upto_last}
@@ -7,17 +7,18 @@ use Rattle.mt_arena.specs.Arena.{ArenaView, Guarantee}
 use Rattle.mt_arena.specs.Accesses.{at}
 use Rattle.mt_arena.proofs.Guarantees.{guarantee_none}
 use Rattle.mt_operation.specs.declared.walk.Phase.{Phase}
-use Rattle.mt_operation.specs.declared.walk.Phase.TheVariants.{Enter, Pick, Child, Verify, Search, Load, Confirm, Forward, Lock, Judge, Store, Publish, SplitStart, SplitMove, Unlock, Done}
+use Rattle.mt_operation.specs.declared.walk.Phase.TheVariants.{Enter, Pick, Child, Verify, Search, Load, Confirm, Forward, Lock, Judge, Store, Publish, SplitStart, SplitMove, SplitPrev, LockParent, InsertChild, InteriorSplit, Reparent, RootGrow, Unlock, Done}
 use Rattle.mt_operation.specs.declared.walk.Walk.{Walk}
 use Rattle.mt_operation.specs.declared.outcome.Outcome.{Outcome}
+use Rattle.mt_operation.specs.declared.splits.Splits.{Splits}
 use Rattle.mt_operation.specs.declared.operation.Operation.{Operation}
 use Rattle.mt_operation.specs.Operations.{view_of, is_done}
 use Rattle.mt_operation.specs.Tables.{op_at as operation_at}
 use Rattle.mt_state.specs.Views.{StateView, Core, shown}
 use Rattle.mt_state.specs.Steps.{MayFollow, change_in}
 use Rattle.mt_state.specs.Notes.{Notes}
-use Rattle.mt_state.specs.Kept.{IsOfKind, IsKeptAt, IsKeptOf}
-use Rattle.mt_state.specs.Invariant.{IsTape, HoldsAt, StateInvariant, one_if_prepared, is_unplaced}
+use Rattle.mt_state.specs.Kept.{IsOfKind, IsKeptAt, has_splits, IsKeptOf}
+use Rattle.mt_state.specs.Invariant.{IsTape, HoldsAt, StateInvariant, one_if_prepared}
 use Rattle.mt_state.proofs.Quiet.{quiet, LeavesPairs, quiet_move, is_quiet}
 use Rattle.mt_state.proofs.Telling.{Gives, gives}
 use Rattle.mt_state.proofs.Moved.{went, open_moved, has_moved}
@@ -42,10 +43,9 @@ pub leaves_all : (c : Core) (o : ℕ) → StateInvariant c → LeavesPairs c o c
 leaves_all c o h = record {
   guarantee = nothing_changes o c.arena;
   contents = refl;
-  stood = λ k within counted. record { there = within; counted = counted; prefix = refl; slots = refl };
+  stood = λ k within counted. inl (record { there = within; counted = counted; prefix = refl; slots = refl });
   versions = λ k within. let was = h.versions k within in record { inserts = omega (arith, was.inserts); splits = omega (arith, was.splits) };
-  one_border = h.one_border;
-  slots = refl;
+  one_tree = h.one_tree;
 }
 
 -- an operation at this phase holds nothing, has nothing made ready, and has a step left
@@ -65,24 +65,32 @@ free_open : (p : Phase) → IsFree p → is_done p ≡ false
 free_open Done f = absurd f
 free_open _ f = refl
 
-free_holds : (p : Phase) (node k : ℕ) → IsFree p → HoldsAt p node k → ⊥
-free_holds Judge node k f holds = absurd f
-free_holds Store node k f holds = absurd f
-free_holds Publish node k f holds = absurd f
-free_holds Unlock node k f holds = absurd f
-free_holds _ node k f holds = holds
+free_holds : (p : Phase) (w : Walk) (s : Splits) (k : ℕ) → IsFree p → HoldsAt p w s k → ⊥
+free_holds Judge w s k f holds = absurd f
+free_holds Store w s k f holds = absurd f
+free_holds Publish w s k f holds = absurd f
+free_holds SplitStart w s k f holds = absurd f
+free_holds SplitMove w s k f holds = absurd f
+free_holds SplitPrev w s k f holds = absurd f
+free_holds LockParent w s k f holds = absurd f
+free_holds InsertChild w s k f holds = absurd f
+free_holds InteriorSplit w s k f holds = absurd f
+free_holds Reparent w s k f holds = absurd f
+free_holds RootGrow w s k f holds = absurd f
+free_holds Unlock w s k f holds = absurd f
+free_holds _ w s k f holds = holds
 
-free_unplaced : (p : Phase) → IsFree p → is_unplaced p ≡ true
-free_unplaced Enter f = refl
-free_unplaced Pick f = refl
-free_unplaced Child f = refl
-free_unplaced Verify f = refl
-free_unplaced Search f = refl
-free_unplaced Load f = refl
-free_unplaced Confirm f = refl
-free_unplaced Forward f = refl
-free_unplaced Lock f = refl
-free_unplaced _ f = absurd f
+free_unsplit : (p : Phase) → IsFree p → has_splits p ≡ false
+free_unsplit Enter f = refl
+free_unsplit Pick f = refl
+free_unsplit Child f = refl
+free_unsplit Verify f = refl
+free_unsplit Search f = refl
+free_unsplit Load f = refl
+free_unsplit Confirm f = refl
+free_unsplit Forward f = refl
+free_unsplit Lock f = refl
+free_unsplit _ f = absurd f
 
 -- who is free, or done, or is to judge, or has placed its change, has nothing made ready
 abbrev pub IsUnready : Phase → Type 0
@@ -115,7 +123,7 @@ module _ (c : Core) (now : StateView) (o : ℕ) (is : shown c ≡ now) (h : Stat
   holds_nothing k within held =
       let f = h.holders k o within held in
       let same = same_Some f.0 op (sym f.1 ∙ there) in
-      free_holds op.walk.phase op.walk.place.node k free (subst (λ (w : Operation). HoldsAt w.walk.phase w.walk.place.node k) same f.2)
+      free_holds op.walk.phase op.walk op.splits k free (subst (λ (w : Operation). HoldsAt w.walk.phase w.walk w.splits k) same f.2)
 
   -- what it leaves
   abbrev pub still : Walk → Option Outcome → Core
@@ -132,6 +140,7 @@ module _ (c : Core) (now : StateView) (o : ℕ) (is : shown c ≡ now) (h : Stat
       let own : IsKeptOf (still w told) o after = record {
         always = open_moved c op k.always w (still w told) told op.prepared refl refl (λ t some. some) (floor_made c h.tape) writes kind;
         kept = kept;
+        unsplit = λ none. k.unsplit (free_unsplit op.walk.phase free);
         placed = λ m placed. absurd (let no = sym placed ∙ same ∙ unchanged in cc);
       } in
       gives now c (still w told) o op after is h few
@@ -139,7 +148,6 @@ module _ (c : Core) (now : StateView) (o : ℕ) (is : shown c ≡ now) (h : Stat
         there = there;
         unfinished = free_open op.walk.phase free;
         task = refl;
-        waits = λ _. free_unplaced op.walk.phase free;
         held = λ k within held. absurd (holds_nothing k within held);
         kept = own;
         reserved = let none = unready_none op op.walk.phase refl (free_unready op.walk.phase free) in let no = unready_none after w.phase refl unready in omega (arith, none, no);

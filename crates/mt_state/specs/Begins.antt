@@ -1,10 +1,9 @@
 -- A new state, and what a begin and a take make of a state.
-use Rattle.std.specs.Prelude.{◌≡◌, ◌≢◌, ℕ, ◌+◌, ◌<◌, max, true, false, [], Some, None, slice_set}
+use Rattle.std.specs.Prelude.{◌≡◌, ◌≢◌, ℕ, ◌+◌, ◌<◌, max, true, [], Some, None, slice_set}
 use Rattle.mt_rows.specs.declared.command.Command.{Command}
 use Rattle.mt_rows.specs.declared.command.Command.TheVariants.{Get, Put}
 use Rattle.mt_rows.specs.declared.tenants.Account.{Account}
 use Rattle.mt_rows.specs.Accounts.{Accounts, account_of}
-use Rattle.mt_rows.specs.Maps.{is_get}
 use Rattle.mt_runs.specs.declared.event.Answer.{Answer}
 use Rattle.mt_arena.specs.Accesses.{new_arena}
 use Rattle.mt_operation.specs.declared.walk.Phase.TheVariants.{Enter, Done}
@@ -32,15 +31,11 @@ HaveNoPairs accounts = (t : ℕ) (a : Account) → account_of accounts t ≡ Som
 abbrev pub IsWorker : ℕ → ℕ → Type 0
 IsWorker logs worker = worker < max logs 1
 
--- a put has a step left
-abbrev pub HasOpenPut : Shown → Type 0
-HasOpenPut table = (o : ℕ) × (op : OperationView) × (op_at table o ≡ Some op) × (is_get op.command ≡ false) × (is_done op.phase ≡ false)
-
--- as long as there is one node alone: a get may be begun at any time, a put where no other has a step left
-abbrev pub MayBegin : Shown → Command → Type 0
-MayBegin table (Get key columns) = Unit {0}
-MayBegin table (Put key change) = ¬ HasOpenPut table
-MayBegin table _ = ⊥
+-- gets and puts may be begun, at any time
+abbrev pub MayBegin : Command → Type 0
+MayBegin (Get key columns) = Unit {0}
+MayBegin (Put key change) = Unit {0}
+MayBegin _ = ⊥
 
 -- an operation before its first step
 abbrev pub begun : ℕ → ℕ → Command → OperationView

@@ -8,14 +8,14 @@ use Rattle.mt_runs.specs.declared.event.Answer.{Answer}
 use Rattle.mt_runs.specs.declared.event.Event.{Event}
 use Rattle.mt_runs.specs.declared.event.Event.TheVariants.{Begin, Step}
 use Rattle.mt_runs.specs.declared.event.Told.{Told}
-use Rattle.mt_runs.specs.declared.event.Told.TheVariants.{Begun, Refused, NoSuch, Moved, Again, Spent, Done}
+use Rattle.mt_runs.specs.declared.event.Told.TheVariants.{Begun, Refused, NoSuch, Moved, Again, NoMemory, Spent, Done}
 use Rattle.mt_runs.specs.Runs.{Run, Story, last_step, owner, Finished, IsFirst, IsLast}
 use Rattle.mt_runs.specs.Placings.{Quotas, Maps}
 use Rattle.mt_runs.specs.Right.{Right}
 use Rattle.mt_operation.specs.Operations.{OperationView}
 use Rattle.mt_state.specs.Views.{StateView, Shown, op_at, map_of, changed_at, quota_of}
 use Rattle.mt_state.specs.Steps.{change_in}
-use Rattle.mt_state.specs.Promises.{IsStep, IsHeldByOther, HasStep}
+use Rattle.mt_state.specs.Promises.{IsStep, IsHeldByOther, HasStep, IsPlacedToGrow}
 use Rattle.mt_state.specs.Invariant.{is_unplaced}
 use Rattle.mt_state.specs.Refused.{first_fault, cause_of, IsRefusal}
 use Rattle.mt_state.specs.Begins.{IsWorker, MayBegin, Begins, Takes}
@@ -74,15 +74,16 @@ pub record History (quotas : Quotas) (first : Maps) (story : Story) (names : Nam
 -- only where it may be begun, and is refused for its first cause alone
 abbrev pub TellsEvent : Names → StateView → Names → StateView → Event → Told → Type 0
 TellsEvent names old now new (Begin o worker tenant command) Begun =
-    (n : ℕ) × (names o ≡ None) × Renames names now o (Some n) × MayBegin old.table command × Begins old new n worker tenant command × (cause_of old tenant command ≡ None)
+    (n : ℕ) × (names o ≡ None) × Renames names now o (Some n) × MayBegin command × Begins old new n worker tenant command × (cause_of old tenant command ≡ None)
 TellsEvent names old now new (Begin o worker tenant command) (Refused refusal) =
     (names o ≡ None) × (now ≡ names) × (new ≡ old) × IsRefusal (first_fault old tenant command) (cause_of old tenant command) refusal
-TellsEvent names old now new (Begin o worker tenant command) NoSuch = (names o ≡ None → ¬ MayBegin old.table command) × (now ≡ names) × (new ≡ old)
+TellsEvent names old now new (Begin o worker tenant command) NoSuch = (names o ≡ None → ¬ MayBegin command) × (now ≡ names) × (new ≡ old)
 TellsEvent names old now new (Step o) Moved = (n : ℕ) × (names o ≡ Some (Some n)) × (now ≡ names) × IsStep old new n false
 TellsEvent names old now new (Step o) (Done answer) =
     (n : ℕ) × (mid : StateView) × (names o ≡ Some (Some n)) × Renames names now o None × IsStep old mid n true × Takes mid new n answer
 TellsEvent names old now new (Step o) (Again q) =
     (n : ℕ) × (m : ℕ) × (names o ≡ Some (Some n)) × (names q ≡ Some (Some m)) × IsHeldByOther old n m × (now ≡ names) × (new ≡ old)
+TellsEvent names old now new (Step o) NoMemory = (n : ℕ) × (names o ≡ Some (Some n)) × IsPlacedToGrow old n × (now ≡ names) × (new ≡ old)
 TellsEvent names old now new (Step o) Spent = (n : ℕ) × (names o ≡ Some (Some n)) × (old.steps ≡ 2 ^ 59) × (now ≡ names) × (new ≡ old)
 TellsEvent names old now new (Step o) NoSuch = ((n : ℕ) → names o ≡ Some (Some n) → ¬ HasStep old n) × (now ≡ names) × (new ≡ old)
 TellsEvent names old now new _ _ = ⊥

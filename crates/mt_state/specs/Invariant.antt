@@ -1,28 +1,32 @@
 -- The invariant of a state, and what a step of one operation leaves of it to all others.
-use Rattle.std.specs.Prelude.{◌≡◌, ℕ, ◌+◌, ◌==◌, ◌≤◌, ◌<◌, ◌^◌, ◌⊎◌, Bool, true, false, if◌then◌else◌, [], ◌∷◌, length, Option, Some, None, IsSome}
+use Rattle.std.specs.Prelude.{◌≡◌, ℕ, ◌+◌, ◌==◌, ◌≤◌, ◌<◌, ◌^◌, Bool, true, false, if◌then◌else◌, List, [], ◌∷◌, length, Option, Some, None, IsSome}
 use Rattle.std.specs.List.{Contains}
-use Rattle.std.specs.FinMap.{get, len}
+use Rattle.std.specs.FinMap.{len}
 use Rattle.mt_rows.specs.declared.tenants.Account.{Account}
 use Rattle.mt_rows.specs.Rows.{Bytes}
 use Rattle.mt_rows.specs.Accounts.{account_of}
-use Rattle.mt_rows.specs.Maps.{is_get}
 use Rattle.mt_rows.specs.Tenants.{tenant_map}
-use Rattle.mt_border.specs.Contents.{owned, AllStamped}
+use Rattle.mt_border.specs.Contents.{AllStamped}
 use Rattle.mt_tape.specs.declared.entry.Entry.{Entry as TapeEntry}
 use Rattle.mt_tape.specs.Tapes.{Kept, RisesOver, last_write}
 use Rattle.mt_tape.specs.Histories.{IsLegalTape, IsUnwrittenSince, written_key}
 use Rattle.mt_arena.specs.NodeView.{NodeView}
 use Rattle.mt_arena.specs.Arena.{ArenaView, content_of, Guarantee}
 use Rattle.mt_arena.specs.Contents.{counts}
-use Rattle.mt_arena.specs.Accesses.{at, tree_of, top_tree}
+use Rattle.mt_arena.specs.declared.tree.Standing.TheVariants.{Live}
+use Rattle.mt_arena.specs.Forests.{tree_at}
+use Rattle.mt_arena.specs.Accesses.{at, tree_of}
 use Rattle.mt_operation.specs.declared.walk.Phase.{Phase}
 use Rattle.mt_operation.specs.declared.walk.Phase.TheVariants.{Judge, Store, Publish, SplitStart, SplitMove, SplitPrev, LockParent, InsertChild, InteriorSplit, Reparent, RootGrow, Unlock, Done}
+use Rattle.mt_operation.specs.declared.walk.Walk.{Walk}
+use Rattle.mt_operation.specs.declared.splits.Halves.{Halves}
+use Rattle.mt_operation.specs.declared.splits.Splits.{Splits}
 use Rattle.mt_operation.specs.declared.operation.Operation.{Operation}
-use Rattle.mt_operation.specs.Tasks.{ask}
 use Rattle.mt_operation.specs.Tables.{Table, op_at as operation_at}
 use Rattle.mt_descent.specs.Pasts.{ExtendsPast}
 use Rattle.mt_state.specs.Views.{Shown, Core, shown, past_of, KeepsPast}
-use Rattle.mt_operation.specs.Operations.{OperationView, is_done}
+use Rattle.mt_operation.specs.Operations.{OperationView}
+use Rattle.mt_insert.specs.Splitting.{IsAmong}
 use Rattle.mt_state.specs.Kept.{IsKeptOf}
 
 -- the tape: its steps rise and were made, and each entry tells what its step did
@@ -47,18 +51,31 @@ pub record IsCountedUpTo (steps : ℕ) (n : NodeView) : Type 0 where
 abbrev pub AreVersions : Core → Type 0
 AreVersions c = (k : ℕ) → k < length c.arena.nodes → IsCountedUpTo c.steps (at c.arena k)
 
--- the node that an operation holds, by its phase
-abbrev pub HoldsAt : Phase → ℕ → ℕ → Type 0
-HoldsAt Judge node k = k ≡ node
-HoldsAt Store node k = k ≡ node
-HoldsAt Publish node k = k ≡ node
-HoldsAt Unlock node k = k ≡ node
-HoldsAt _ node k = ⊥
+-- a node that an operation holds that has its answer: its border node where nothing was split, else those of the splits
+abbrev pub HoldsLast : List Halves → Walk → Splits → ℕ → Type 0
+HoldsLast [] w s k = k ≡ w.place.node
+HoldsLast (_ ∷ _) w s k = IsAmong s k
+
+-- a node that an operation holds, by its phase
+abbrev pub HoldsAt : Phase → Walk → Splits → ℕ → Type 0
+HoldsAt Judge w s k = k ≡ w.place.node
+HoldsAt Store w s k = k ≡ w.place.node
+HoldsAt Publish w s k = k ≡ w.place.node
+HoldsAt SplitStart w s k = k ≡ w.place.node
+HoldsAt SplitMove w s k = IsAmong s k
+HoldsAt SplitPrev w s k = IsAmong s k
+HoldsAt LockParent w s k = IsAmong s k
+HoldsAt InsertChild w s k = IsAmong s k
+HoldsAt InteriorSplit w s k = IsAmong s k
+HoldsAt Reparent w s k = IsAmong s k
+HoldsAt RootGrow w s k = IsAmong s k
+HoldsAt Unlock w s k = HoldsLast s.halves.items w s k
+HoldsAt _ w s k = ⊥
 
 -- who holds a node is an operation that is there, at a phase in which it holds that node
 abbrev pub AreHolders : Core → Type 0
 AreHolders c = (k o : ℕ) → k < length c.arena.nodes → (at c.arena k).holder ≡ Some o →
-    (op : Operation) × (operation_at c.table o ≡ Some op) × HoldsAt op.walk.phase op.walk.place.node k
+    (op : Operation) × (operation_at c.table o ≡ Some op) × HoldsAt op.walk.phase op.walk op.splits k
 
 -- whether an operation has all ready for its write
 abbrev pub is_prepared : Phase → Bool
@@ -107,19 +124,12 @@ is_unplaced Unlock = false
 is_unplaced Done = false
 is_unplaced _ = true
 
--- as long as there is one node alone: it is a border node
-pub record IsOneBorder (v : ArenaView) : Type 0 where
-  pub node : NodeView
-  pub nodes : v.nodes ≡ node ∷ []
-  pub trees : v.trees ≡ top_tree ∷ []
-  pub border : node.level ≡ 0
-
--- as long as there is one node alone: two unfinished puts are one, and each that may still place its change finds its key or room
-pub record IsOnePut (c : Core) : Type 0 where
-  pub one : (o q : ℕ) (a b : Operation) → operation_at c.table o ≡ Some a → operation_at c.table q ≡ Some b → is_get (ask a.task) ≡ false → is_get (ask b.task) ≡ false
-      → is_done a.walk.phase ≡ false → is_done b.walk.phase ≡ false → o ≡ q
-  pub room : (o : ℕ) (op : Operation) → operation_at c.table o ≡ Some op → is_get (ask op.task) ≡ false → is_unplaced op.walk.phase ≡ true
-      → (length (at c.arena 0).slots < 15) ⊎ IsSome (get (content_of c.arena) (owned op.task.key))
+-- as long as no phase makes a layer or takes a node out: there is one tree, which is live, and each node is live
+pub record IsOneTree (v : ArenaView) : Type 0 where
+  pub count : length v.trees ≡ 1
+  pub prefix : (tree_at v.trees 0).prefix ≡ []
+  pub standing : (tree_at v.trees 0).standing ≡ Live
+  pub live : (k : ℕ) → k < length v.nodes → (at v k).version.deleted ≡ false
 
 -- the invariant; `IsArena` is the arena's own; by `answered` each answer that was taken, and each operation that has made a step, has a step of its own
 pub record StateInvariant (c : Core) : Type 0 where
@@ -131,8 +141,7 @@ pub record StateInvariant (c : Core) : Type 0 where
   pub ops : AreKept c
   pub reserved : c.tape.reserved ≡ prepared_count c.table
   pub answered : c.answers + made_count (shown c).table ≤ c.steps
-  pub one_border : IsOneBorder c.arena
-  pub one_put : IsOnePut c
+  pub one_tree : IsOneTree c.arena
   pub few : c.steps ≤ 2 ^ 59
 
 -- What a step of operation o leaves to all others: what the arena leaves them, and the past; no account is lost, and the tape goes as far back.

@@ -1,5 +1,5 @@
 -- What a state keeps of each operation, by its phase.
-use Rattle.std.specs.Prelude.{◌≡◌, ◌≢◌, ℕ, ◌≤◌, ◌<◌, Bool, not, true, false, List, length, Option, Some, None, IsSome}
+use Rattle.std.specs.Prelude.{◌≡◌, ◌≢◌, ℕ, ◌≤◌, ◌<◌, Bool, not, true, false, List, [], ◌∷◌, length, Option, Some, None, IsSome}
 use Rattle.std.specs.List.{Contains}
 use Rattle.mt_slices.specs.Keys.{IsStoredKey}
 use Rattle.mt_rows.specs.declared.reply.Reply.TheVariants as replies
@@ -10,19 +10,22 @@ use Rattle.mt_rows.specs.Accounts.{account_of}
 use Rattle.mt_rows.specs.Maps.{is_get}
 use Rattle.mt_border.specs.Contents.{owned}
 use Rattle.mt_tape.specs.declared.entry.Entry.{Entry as TapeEntry}
+use Rattle.mt_arena.specs.Arena.{ArenaView}
 use Rattle.mt_arena.specs.Accesses.{at}
 use Rattle.mt_operation.specs.declared.walk.Phase.{Phase}
-use Rattle.mt_operation.specs.declared.walk.Phase.TheVariants.{Enter, Pick, Child, Verify, Search, Load, Confirm, Forward, Lock, Judge, Store, Publish, Unlock, Done}
+use Rattle.mt_operation.specs.declared.walk.Phase.TheVariants.{Enter, Pick, Child, Verify, Search, Load, Confirm, Forward, Lock, Judge, Store, Publish, SplitStart, SplitMove, SplitPrev, LockParent, InsertChild, InteriorSplit, Reparent, RootGrow, Unlock, Done}
 use Rattle.mt_operation.specs.declared.walk.Taken.{Taken}
 use Rattle.mt_operation.specs.declared.walk.Taken.TheVariants.{Missing, Row, Link, Nothing}
 use Rattle.mt_operation.specs.declared.outcome.Outcome.{Outcome}
 use Rattle.mt_operation.specs.declared.prepared.Prepared.{Prepared}
 use Rattle.mt_operation.specs.declared.operation.Operation.{Operation}
 use Rattle.mt_operation.specs.Tasks.{ask}
-use Rattle.mt_operation.specs.Operations.{view_of}
+use Rattle.mt_operation.specs.declared.splits.Halves.{Halves}
+use Rattle.mt_operation.specs.Operations.{view_of, IsUnsplit}
 use Rattle.mt_insert.specs.Puts.{change_of}
 use Rattle.mt_descent.specs.Kept.{HasSlot, IsKept}
-use Rattle.mt_insert.specs.Kept.{HoldsBorder, IsAtStore, IsAtPublish, IsAtUnlock}
+use Rattle.mt_insert.specs.Kept.{HoldsBorder, IsAtStore, IsAtPublish, IsAtSplitStart, IsAtUnlock}
+use Rattle.mt_insert.specs.Splitting.{IsAtSplitMove, IsAtUnlockAll, KeptSplit}
 use Rattle.mt_state.specs.Views.{Core, shown, past_of}
 use Rattle.mt_state.specs.Notes.{Says, columns_asked}
 use Rattle.mt_state.specs.Steps.{change_in}
@@ -100,6 +103,19 @@ pub record IsPublishing (c : Core) (o : ℕ) (op : Operation) : Type 0 where
   pub publishes : IsAtPublish c.arena o op.task prepared op.walk
   pub untold : op.outcome ≡ None
 
+-- one that has all ready to make a pair, in a full node: before its right half is made, and before their keys are parted
+pub record IsSplitStarting (c : Core) (o : ℕ) (op : Operation) : Type 0 where
+  pub prepared : Prepared
+  pub has : op.prepared ≡ Some prepared
+  pub starts : IsAtSplitStart c.arena o op.task prepared op.walk
+  pub untold : op.outcome ≡ None
+
+pub record IsSplitMoving (c : Core) (o : ℕ) (op : Operation) : Type 0 where
+  pub prepared : Prepared
+  pub has : op.prepared ≡ Some prepared
+  pub moves : IsAtSplitMove c.arena o op.task prepared op.walk op.splits
+  pub untold : op.outcome ≡ None
+
 -- the outcome is there, and right
 pub record HasAnswer (c : Core) (op : Operation) : Type 0 where
   pub outcome : Outcome
@@ -107,12 +123,22 @@ pub record HasAnswer (c : Core) (op : Operation) : Type 0 where
   pub right : IsAnswer (shown c) (view_of op) outcome
   pub unprepared : op.prepared ≡ None
 
--- one that was placed, and holds its border node
-pub record IsUnlocking (c : Core) (o : ℕ) (op : Operation) : Type 0 where
-  pub unlocks : IsAtUnlock c.arena o op.walk
+-- one whose keys are parted, and whose right halves come to their parents
+pub record IsClimbing (c : Core) (o : ℕ) (op : Operation) (phase : Phase) : Type 0 where
+  pub climbs : KeptSplit phase c.arena o op.splits
   pub answer : HasAnswer c op
 
--- what is kept of an operation by its phase; no operation comes to the phases of a split yet
+-- what it may give back: its border node where nothing was split, else each node of the splits
+abbrev pub MayUnlock : List Halves → ArenaView → ℕ → Operation → Type 0
+MayUnlock [] v o op = IsAtUnlock v o op.walk × IsUnsplit op.splits
+MayUnlock (_ ∷ _) v o op = IsAtUnlockAll v o op.splits
+
+-- one that was placed, and holds its border node or the nodes of its splits
+pub record IsUnlocking (c : Core) (o : ℕ) (op : Operation) : Type 0 where
+  pub unlocks : MayUnlock op.splits.halves.items c.arena o op
+  pub answer : HasAnswer c op
+
+-- what is kept of an operation by its phase
 abbrev pub IsKeptAt : Phase → Core → ℕ → Operation → Type 0
 IsKeptAt Enter c o op = IsOnItsWay c op
 IsKeptAt Pick c o op = IsOnItsWay c op
@@ -126,9 +152,28 @@ IsKeptAt Lock c o op = IsOnItsWay c op
 IsKeptAt Judge c o op = IsJudging c o op
 IsKeptAt Store c o op = IsStoring c o op
 IsKeptAt Publish c o op = IsPublishing c o op
+IsKeptAt SplitStart c o op = IsSplitStarting c o op
+IsKeptAt SplitMove c o op = IsSplitMoving c o op
+IsKeptAt SplitPrev c o op = IsClimbing c o op SplitPrev
+IsKeptAt LockParent c o op = IsClimbing c o op LockParent
+IsKeptAt InsertChild c o op = IsClimbing c o op InsertChild
+IsKeptAt InteriorSplit c o op = IsClimbing c o op InteriorSplit
+IsKeptAt Reparent c o op = IsClimbing c o op Reparent
+IsKeptAt RootGrow c o op = IsClimbing c o op RootGrow
 IsKeptAt Unlock c o op = IsUnlocking c o op
 IsKeptAt Done c o op = HasAnswer c op
-IsKeptAt _ c o op = ⊥
+
+-- an operation at this phase may have splits
+abbrev pub has_splits : Phase → Bool
+has_splits SplitMove = true
+has_splits SplitPrev = true
+has_splits LockParent = true
+has_splits InsertChild = true
+has_splits InteriorSplit = true
+has_splits Reparent = true
+has_splits RootGrow = true
+has_splits Unlock = true
+has_splits _ = false
 
 -- a change that an operation has made has its entry in the tape, of its step, worker, tenant and key, with the row that the command makes of the one
 -- before
@@ -145,4 +190,5 @@ pub record IsPlacedOnce (c : Core) (op : Operation) (step : ℕ) : Type 0 where
 pub record IsKeptOf (c : Core) (o : ℕ) (op : Operation) : Type 0 where
   pub always : IsOpenOperation c op
   pub kept : IsKeptAt op.walk.phase c o op
+  pub unsplit : has_splits op.walk.phase ≡ false → IsUnsplit op.splits
   pub placed : (m : ℕ) → change_in (view_of op) ≡ Some m → IsPlacedOnce c op m

@@ -1,10 +1,7 @@
 -- What a step of one operation has to bring, so that the invariant stays and the step may be told.
-use Rattle.std.specs.Prelude.{◌≡◌, ℕ, ◌+◌, ◌<◌, ◌⊎◌, true, false, length, Some, slice_set}
-use Rattle.mt_rows.specs.Maps.{is_get}
-use Rattle.mt_arena.specs.Arena.{content_of}
+use Rattle.std.specs.Prelude.{◌≡◌, ℕ, ◌+◌, ◌<◌, ◌⊎◌, false, length, Some, slice_set}
 use Rattle.mt_arena.specs.Accesses.{at}
 use Rattle.mt_operation.specs.declared.operation.Operation.{Operation}
-use Rattle.mt_operation.specs.Tasks.{ask}
 use Rattle.mt_operation.specs.Operations.{view_of, is_done}
 use Rattle.mt_operation.specs.Tables.{op_at as operation_at}
 use Rattle.mt_state.specs.Views.{Core, shown}
@@ -12,7 +9,7 @@ use Rattle.mt_state.specs.Steps.{HasMoved}
 use Rattle.mt_state.specs.Notes.{Notes}
 use Rattle.mt_state.specs.Promises.{IsQuiet, IsPlacing, Touches}
 use Rattle.mt_state.specs.Kept.{IsKeptOf}
-use Rattle.mt_state.specs.Invariant.{IsTape, AreStamps, AreVersions, HoldsAt, AreCounted, IsOneBorder, StateGuarantee, one_if_prepared, is_unplaced}
+use Rattle.mt_state.specs.Invariant.{IsTape, AreStamps, AreVersions, HoldsAt, AreCounted, IsOneTree, StateGuarantee, one_if_prepared}
 
 -- What a step of operation o brings of its own. The rest of the invariant follows for all others.
 pub record IsMove (old new : Core) (o : ℕ) (before after : Operation) : Type 0 where
@@ -26,14 +23,11 @@ pub record IsMove (old new : Core) (o : ℕ) (before after : Operation) : Type 0
   pub tape : IsTape new
   pub stamps : AreStamps new
   pub versions : AreVersions new
-  pub held : (k : ℕ) → k < length new.arena.nodes → (at new.arena k).holder ≡ Some o → HoldsAt after.walk.phase after.walk.place.node k
+  pub held : (k : ℕ) → k < length new.arena.nodes → (at new.arena k).holder ≡ Some o → HoldsAt after.walk.phase after.walk after.splits k
   pub counts : AreCounted new
   pub kept : IsKeptOf new o after
   pub reserved : new.tape.reserved + one_if_prepared (Some before) ≡ old.tape.reserved + one_if_prepared (Some after)
-  pub one_border : IsOneBorder new.arena
-  -- the pairs stay as many and the same, or this is the one put that may place its change, and it has placed it
-  pub waits : is_unplaced after.walk.phase ≡ true → is_unplaced before.walk.phase ≡ true
-  pub room : ((at new.arena 0).slots ≡ (at old.arena 0).slots) × (content_of new.arena ≡ content_of old.arena) ⊎ (is_get (ask before.task) ≡ false) × (is_unplaced after.walk.phase ≡ false)
+  pub one_tree : IsOneTree new.arena
 
 -- what a step tells, beside what it brings
 pub record IsTold (old new : Core) (o : ℕ) (before after : Operation) : Type 0 where

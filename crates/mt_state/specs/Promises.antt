@@ -1,5 +1,5 @@
 -- What a step may do, and what it answers.
-use Rattle.std.specs.Prelude.{◌≡◌, ◌≢◌, ℕ, ◌+◌, ◌^◌, ◌<◌, ◌≤◌, ◌⊎◌, Bool, true, false, [], ◌∷◌, ◌++◌, Some, length, slice_set}
+use Rattle.std.specs.Prelude.{◌≡◌, ◌≢◌, ℕ, ◌+◌, ◌^◌, ◌<◌, ◌≤◌, ◌⊎◌, Bool, true, false, [], ◌∷◌, ◌++◌, Some, IsSome, length, slice_set}
 use Rattle.std.specs.FinMap as pairs
 use Rattle.mt_rows.specs.declared.reply.Reply.{Reply}
 use Rattle.mt_rows.specs.Rows.{columns_of}
@@ -15,7 +15,7 @@ use Rattle.mt_arena.specs.Edits.{pointed}
 use Rattle.mt_arena.specs.Arena.{ArenaView, Guarantee}
 use Rattle.mt_arena.specs.Accesses.{at}
 use Rattle.mt_operation.specs.declared.walk.Phase.{Phase}
-use Rattle.mt_operation.specs.declared.walk.Phase.TheVariants.{Load, Lock}
+use Rattle.mt_operation.specs.declared.walk.Phase.TheVariants.{Load, Lock, LockParent, InteriorSplit, RootGrow}
 use Rattle.mt_operation.specs.declared.outcome.Outcome.{Outcome}
 use Rattle.mt_operation.specs.Operations.{OperationView}
 use Rattle.mt_descent.specs.Moves.{IsBlocked, IsBlockedAt}
@@ -93,6 +93,7 @@ HasStep v o = (op : OperationView) × (op_at v.table o ≡ Some op) × (is_done 
 -- and the node's holder
 abbrev pub IsInTheWay : ArenaView → Phase → ℕ → Type 0
 IsInTheWay v Lock holder = (k : ℕ) × (k < length v.nodes) × ((at v k).holder ≡ Some holder)
+IsInTheWay v LockParent holder = (k : ℕ) × (k < length v.nodes) × ((at v k).holder ≡ Some holder)
 IsInTheWay v Load holder = (k slot : ℕ) × (k < length v.nodes) × IsBlockedAt (at v k) slot holder
 IsInTheWay v phase holder = (k : ℕ) × (k < length v.nodes) × IsBlocked (at v k) holder
 
@@ -104,6 +105,18 @@ pub record IsHeldByOther (v : StateView) (o holder : ℕ) : Type 0 where
   pub there : op_at v.table o ≡ Some op
   pub holds : IsInTheWay v.arena op.phase holder
 
+-- the operation has been placed, or has found its quota full, and is to make a node
+abbrev pub IsToGrow : Phase → Type 0
+IsToGrow InteriorSplit = Unit {0}
+IsToGrow RootGrow = Unit {0}
+IsToGrow _ = ⊥
+
+pub record IsPlacedToGrow (v : StateView) (o : ℕ) : Type 0 where
+  pub op : OperationView
+  pub there : op_at v.table o ≡ Some op
+  pub grows : IsToGrow op.phase
+  pub told : IsSome op.outcome
+
 -- what a step may answer
 abbrev pub Tells : StateView → StateView → ℕ → Move → Type 0
 Tells old new o Moved = IsStep old new o false
@@ -111,4 +124,4 @@ Tells old new o DoneMove = IsStep old new o true
 Tells old new o (Again holder) = (new ≡ old) × HasStep old o × IsHeldByOther old o holder
 Tells old new o Spent = (new ≡ old) × HasStep old o × (old.steps ≡ 2 ^ 59)
 Tells old new o NoSuch = (new ≡ old) × ¬ HasStep old o
-Tells old new o NoMemoryMove = ⊥
+Tells old new o NoMemoryMove = (new ≡ old) × IsPlacedToGrow old o

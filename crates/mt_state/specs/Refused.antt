@@ -1,17 +1,15 @@
 -- Which refusal a begin answers, and when.
-use Rattle.std.specs.Prelude.{◌≡◌, ℕ, ◌^◌, Bool, true, false, not, ◌||◌, nat_lt, nat_le, ◌==◌, if◌then◌else◌, List, [], ◌∷◌, length, Option, Some, None, is_some, Result, Ok, Err}
+use Rattle.std.specs.Prelude.{◌≡◌, ℕ, ◌^◌, Bool, true, false, not, nat_lt, nat_le, ◌==◌, if◌then◌else◌, List, [], ◌∷◌, length, Option, Some, None, Result, Ok, Err}
 use Rattle.std.specs.Option.{is_none, option_or}
 use Rattle.std.specs.List.{list_all}
-use Rattle.std.specs.FinMap as pairs
 use Rattle.mt_rows.specs.declared.command.Command.{Command}
 use Rattle.mt_rows.specs.declared.command.Command.TheVariants.{Get, Put}
 use Rattle.mt_rows.specs.declared.refusal.Refusal.{Refusal}
-use Rattle.mt_rows.specs.declared.refusal.Refusal.TheVariants.{KeyLong, Memory, NoTenant, Column, ColumnLong, Spent, NoRoom}
+use Rattle.mt_rows.specs.declared.refusal.Refusal.TheVariants.{KeyLong, Memory, NoTenant, Column, ColumnLong, Spent}
 use Rattle.mt_rows.specs.Changes.{Named, indexes_of}
 use Rattle.mt_rows.specs.Commands.{key_of}
 use Rattle.mt_rows.specs.Accounts.{account_of}
-use Rattle.mt_rows.specs.Maps.{is_get}
-use Rattle.mt_state.specs.Views.{StateView, contents_of}
+use Rattle.mt_state.specs.Views.{StateView}
 
 -- column 0 is named, and no other
 abbrev pub is_first_alone : List ℕ → Bool
@@ -53,26 +51,20 @@ fault_of command =
 abbrev pub first_fault : StateView → ℕ → Command → Option Refusal
 first_fault v tenant command = if is_none (account_of v.accounts tenant) then Some NoTenant else fault_of command
 
--- a get needs no room, and a put none where its key is live or fewer than fifteen pairs are
-abbrev pub has_room : StateView → ℕ → Command → Bool
-has_room v tenant command = is_get command || nat_lt (pairs.len (contents_of v)) 15 || is_some (pairs.get (contents_of v) (tenant, key_of command))
-
--- what the state lacks first for a command without fault: room, or a step that has no number yet
-abbrev pub first_lack : StateView → ℕ → Command → Option Refusal
-first_lack v tenant command =
-    if not (has_room v tenant command) then Some NoRoom else
-    if v.steps == 2 ^ 59 then Some Spent else None
+-- what the state lacks for a command without fault: a step that has no number yet
+abbrev pub first_lack : StateView → Option Refusal
+first_lack v = if v.steps == 2 ^ 59 then Some Spent else None
 
 -- the first cause for which a begin is refused
 abbrev pub cause_of : StateView → ℕ → Command → Option Refusal
-cause_of v tenant command = option_or (first_fault v tenant command) (first_lack v tenant command)
+cause_of v tenant command = option_or (first_fault v tenant command) (first_lack v)
 
 -- a call is refused for its first cause; where it has no fault it may be refused for want of memory instead
 abbrev pub IsRefusal : Option Refusal → Option Refusal → Refusal → Type 0
 IsRefusal fault cause Memory = fault ≡ None
 IsRefusal fault cause refusal = cause ≡ Some refusal
 
--- and it succeeds only where there is no cause: Memory may stand in place of NoRoom, of Spent and of a success, and never of a fault
+-- and it succeeds only where there is no cause: Memory may stand in place of Spent and of a success, and never of a fault
 abbrev pub Refuses : {T : Type 0} → Option Refusal → Option Refusal → Result T Refusal → Type 0
 Refuses fault cause (Ok x) = cause ≡ None
 Refuses fault cause (Err refusal) = IsRefusal fault cause refusal

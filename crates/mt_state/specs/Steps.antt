@@ -2,7 +2,7 @@
 use Rattle.std.specs.Prelude.{◌≡◌, ℕ, ◌==◌, if◌then◌else◌, Option, Some, None}
 use Rattle.mt_rows.specs.Maps.{is_change}
 use Rattle.mt_operation.specs.declared.walk.Phase.{Phase}
-use Rattle.mt_operation.specs.declared.walk.Phase.TheVariants.{Enter, Pick, Child, Verify, Search, Load, Confirm, Forward, Lock, Judge, Store, Publish, Unlock, Done}
+use Rattle.mt_operation.specs.declared.walk.Phase.TheVariants.{Enter, Pick, Child, Verify, Search, Load, Confirm, Forward, Lock, Judge, Store, Publish, SplitStart, SplitMove, SplitPrev, LockParent, InsertChild, InteriorSplit, Reparent, RootGrow, Unlock, Done}
 use Rattle.mt_operation.specs.declared.outcome.Outcome.{Outcome}
 use Rattle.mt_operation.specs.Operations.{OperationView}
 
@@ -34,9 +34,23 @@ MayFollow Lock Forward = Unit {0}
 MayFollow Lock Judge = Unit {0}
 MayFollow Judge Store = Unit {0}
 MayFollow Judge Publish = Unit {0}
+MayFollow Judge SplitStart = Unit {0}
 MayFollow Judge Done = Unit {0}
 MayFollow Store Unlock = Unit {0}
 MayFollow Publish Unlock = Unit {0}
+MayFollow SplitStart SplitMove = Unit {0}
+MayFollow SplitStart Done = Unit {0}
+MayFollow SplitMove SplitPrev = Unit {0}
+MayFollow SplitMove LockParent = Unit {0}
+MayFollow SplitPrev LockParent = Unit {0}
+MayFollow LockParent InsertChild = Unit {0}
+MayFollow LockParent InteriorSplit = Unit {0}
+MayFollow LockParent RootGrow = Unit {0}
+MayFollow InsertChild Unlock = Unit {0}
+MayFollow InteriorSplit Reparent = Unit {0}
+MayFollow Reparent Reparent = Unit {0}
+MayFollow Reparent LockParent = Unit {0}
+MayFollow RootGrow Unlock = Unit {0}
 MayFollow Unlock Done = Unit {0}
 MayFollow _ _ = ⊥
 

@@ -1,5 +1,5 @@
 -- What the calls of a put's phases ensure of a state's operation, from its lock on.
-use Rattle.std.specs.Prelude.{◌≡◌, ℕ, ◌+◌, ◌<◌, length, Option, Some, None, slice_set}
+use Rattle.std.specs.Prelude.{◌≡◌, ◌≢◌, ℕ, ◌+◌, ◌<◌, ◌⊎◌, true, [], length, Option, Some, None, slice_set}
 use Rattle.std.specs.Option.{option_map}
 use Rattle.std.specs.FinMap.{get}
 use Rattle.mt_rows.specs.Rows.{Columns}
@@ -13,19 +13,28 @@ use Rattle.mt_arena.specs.Settled.{IsSettled}
 use Rattle.mt_arena.specs.Layers.{slot_at}
 use Rattle.mt_arena.specs.Edits.{unlocked, with_slots}
 use Rattle.mt_arena.specs.Arena.{ArenaView, content_of, Guarantee}
-use Rattle.mt_arena.specs.Accesses.{at, with_node, with_row}
-use Rattle.mt_operation.specs.declared.walk.Phase.TheVariants.{Judge}
+use Rattle.mt_arena.specs.Contents.{counts}
+use Rattle.mt_arena.specs.Several.{AreHalved}
+use Rattle.mt_arena.specs.Accesses.{at, tree_of, with_node, with_row}
+use Rattle.mt_operation.specs.declared.walk.Phase.{Phase}
+use Rattle.mt_operation.specs.declared.walk.Phase.TheVariants.{Judge, SplitMove, SplitPrev, LockParent, InsertChild, InteriorSplit, Reparent, RootGrow}
 use Rattle.mt_operation.specs.declared.walk.Walk.{Walk}
 use Rattle.mt_operation.specs.declared.outcome.Outcome.{Outcome}
 use Rattle.mt_operation.specs.declared.prepared.Prepared.{Prepared}
 use Rattle.mt_operation.specs.declared.operation.Operation.{Operation}
-use Rattle.mt_operation.specs.Operations.{moved}
+use Rattle.mt_operation.specs.declared.splits.Splits.{Splits}
+use Rattle.mt_operation.specs.Operations.{moved, IsUnsplit}
 use Rattle.mt_descent.specs.Pasts.{Past}
-use Rattle.mt_descent.specs.Kept.{IsAtJudge, IsKept}
+use Rattle.mt_descent.specs.Kept.{IsAtJudge, IsKept, HoldsNothing}
 use Rattle.mt_descent.specs.Moves.{Continues, Locks}
 use Rattle.mt_insert.specs.Kept.{KeptReady, IsAtUnlock}
 use Rattle.mt_insert.specs.Moves.{Places, after_judge, walk_placed, walk_done, entry_of, reserving, released}
+use Rattle.mt_insert.specs.Splitting.{last_of, HoldsSplits, IsAtSplitMove, KeptSplit}
+use Rattle.mt_insert.specs.SplitMoves.{walk_at, after_parting, Returns}
 use Rattle.mt_state.specs.Views.{Core}
+use Rattle.mt_state.specs.Steps.{MayFollow}
+use Rattle.mt_state.specs.Promises.{Touches}
+use Rattle.mt_state.specs.Invariant.{IsCountedUpTo, IsOneTree}
 
 -- a state in which operation o has walked on by one more step, with this outcome and what it has made ready, and with another arena, tape and accounts
 abbrev pub wrote : Core → ArenaView → Kept → Accounts → ℕ → Operation → Walk → Option Outcome → Option Prepared → Core
@@ -41,6 +50,13 @@ wrote c arena tape accounts o op w told prepared = record c {
 pub record LeavesContents (c : Core) (o : ℕ) (arena : ArenaView) : Type 0 where
   pub guarantee : Guarantee o c.arena arena
   pub contents : content_of arena ≡ content_of c.arena
+
+-- a node whose pairs count had the same pairs, and they counted
+pub record HasPairsOf (old new : ArenaView) (k : ℕ) : Type 0 where
+  pub there : k < length old.nodes
+  pub counted : counts old.trees (at old k) ≡ true
+  pub prefix : (tree_of new k).prefix ≡ (tree_of old k).prefix
+  pub slots : (at new k).slots ≡ (at old k).slots
 
 -- the lock was taken, or the node was deleted or split
 pub record TakesLock (c : Core) (o : ℕ) (op : Operation) (arena : ArenaView) (w : Walk) : Type 0 where
@@ -62,7 +78,6 @@ pub record GivesBack (c : Core) (o : ℕ) (op : Operation) (arena : ArenaView) (
 pub record MakesReady (c : Core) (o : ℕ) (op : Operation) (tape : Kept) (w : Walk) (prepared : Prepared) : Type 0 where
   pub slot : Option ℕ
   pub walk : w ≡ after_judge (at c.arena op.walk.place.node) slot op.walk
-  pub room : slot ≡ None → length (at c.arena op.walk.place.node).slots < 15
   pub same : Continues op.walk w
   pub tape_is : tape ≡ reserving c.tape
   pub kept : KeptReady w.phase c.arena o op.task prepared w
@@ -97,3 +112,90 @@ pub record Publishes (c : Core) (op : Operation) (arena : ArenaView) (accounts :
   pub room : HasRoom (account_of c.accounts op.task.tenant)
   pub counted : account_of accounts op.task.tenant ≡ option_map one_more (account_of c.accounts op.task.tenant)
   pub others : OthersStay c.accounts accounts op.task.tenant
+
+-- a state in which operation o has walked on by one more step with these splits, and with another outcome, arena, tape and accounts
+abbrev pub splitting : Core → ArenaView → Kept → Accounts → ℕ → Operation → Walk → Option Outcome → Option Prepared → Splits → Core
+splitting c arena tape accounts o op w told prepared splits = record c {
+  steps = c.steps + 1;
+  accounts = accounts;
+  arena = arena;
+  tape = tape;
+  table = slice_set c.table o (Some (record (moved op (c.steps + 1) w) { outcome = told; prepared = prepared; splits = splits }));
+}
+
+-- what a step of a split makes of all nodes: no pair moves, and no version counts a change
+pub record MovesNoPair (c : Core) (o : ℕ) (arena : ArenaView) : Type 0 where
+  pub leaves : LeavesContents c o arena
+  pub touches : Touches o c.arena arena
+  pub stood : (k : ℕ) → k < length arena.nodes → counts arena.trees (at arena k) ≡ true → HasPairsOf c.arena arena k ⊎ ((at arena k).slots ≡ [])
+  pub versions : (k : ℕ) → k < length arena.nodes → IsCountedUpTo c.steps (at arena k)
+  pub one_tree : IsOneTree arena
+
+-- the right half of the full border node was made
+pub record StartsSplit (c : Core) (o : ℕ) (op : Operation) (arena : ArenaView) (w : Walk) (s : Splits) : Type 0 where
+  pub moves : MovesNoPair c o arena
+  pub walk : w ≡ walk_at SplitMove op.walk
+  pub same : Continues op.walk w
+  pub kept : (prepared : Prepared) → op.prepared ≡ Some prepared → IsAtSplitMove arena o op.task prepared w s
+  pub holds : HoldsSplits arena o s
+
+-- there was no memory for it: the lock and the room on the tape were given back
+pub record StopsSplit (c : Core) (o : ℕ) (op : Operation) (arena : ArenaView) (tape : Kept) (w : Walk) (s : Splits) : Type 0 where
+  pub gives : GivesBack c o op arena w
+  pub tape_is : tape ≡ released c.tape
+  pub unsplit : IsUnsplit s
+
+-- the keys were parted, and what is kept from then on
+pub record PartsKeys (c : Core) (o : ℕ) (op : Operation) (arena : ArenaView) (w : Walk) : Type 0 where
+  pub guarantee : Guarantee o c.arena arena
+  pub nodes_alone : arena ≡ record c.arena { nodes = arena.nodes }
+  pub walk : w ≡ walk_at (after_parting (at c.arena op.walk.place.node).next) op.walk
+  pub same : Continues op.walk w
+  pub kept : KeptSplit w.phase arena o op.splits
+  pub holds : HoldsSplits arena o op.splits
+  pub missing : get (content_of c.arena) (owned op.task.key) ≡ None
+
+-- with the new pair among them: it was counted, and its write is on the tape
+pub record PartsWith (c : Core) (o : ℕ) (op : Operation) (arena : ArenaView) (tape : Kept) (accounts : Accounts) (w : Walk) (row : Columns) : Type 0 where
+  pub parts : PartsKeys c o op arena w
+  pub is : AreHalved (with_entry (at c.arena op.walk.place.node).slots (entry_of op.task.key op.walk.layer row (c.steps + 1))) c.arena.nodes arena.nodes op.walk.place.node (last_of op.splits).right
+  pub places : Places op.task (c.steps + 1) c.arena arena c.tape tape
+  pub room : HasRoom (account_of c.accounts op.task.tenant)
+  pub counted : account_of accounts op.task.tenant ≡ option_map one_more (account_of c.accounts op.task.tenant)
+  pub others : OthersStay c.accounts accounts op.task.tenant
+
+-- without it, where the quota had no room: the room on the tape was given back
+pub record PartsWithout (c : Core) (o : ℕ) (op : Operation) (arena : ArenaView) (tape : Kept) (w : Walk) : Type 0 where
+  pub parts : PartsKeys c o op arena w
+  pub is : AreHalved (at c.arena op.walk.place.node).slots c.arena.nodes arena.nodes op.walk.place.node (last_of op.splits).right
+  pub contents : content_of arena ≡ content_of c.arena
+  pub tape_is : tape ≡ released c.tape
+  pub full : ¬ HasRoom (account_of c.accounts op.task.tenant)
+
+-- the phases of a split once the keys are parted
+abbrev pub IsClimb : Phase → Type 0
+IsClimb SplitPrev = Unit {0}
+IsClimb LockParent = Unit {0}
+IsClimb InsertChild = Unit {0}
+IsClimb InteriorSplit = Unit {0}
+IsClimb Reparent = Unit {0}
+IsClimb RootGrow = Unit {0}
+IsClimb _ = ⊥
+
+-- a right half came one step nearer to its place in its parent, or a root was made
+pub record Climbs (c : Core) (o : ℕ) (op : Operation) (arena : ArenaView) (w : Walk) (s : Splits) : Type 0 where
+  pub moves : MovesNoPair c o arena
+  pub follows : MayFollow op.walk.phase w.phase
+  pub same : Continues op.walk w
+  pub kept : KeptSplit w.phase arena o s
+  pub some : s.halves.items ≢ []
+  pub holds : HoldsSplits arena o s
+
+-- all locks were given back
+pub record ReturnsAll (c : Core) (o : ℕ) (op : Operation) (arena : ArenaView) (w : Walk) (s : Splits) : Type 0 where
+  pub leaves : LeavesContents c o arena
+  pub is : Returns c.arena arena op.splits
+  pub walk : w ≡ walk_done op.walk
+  pub same : Continues op.walk w
+  pub unsplit : IsUnsplit s
+  pub nothing : HoldsNothing arena o

@@ -8,7 +8,7 @@ ghost use Rattle.mt_arena.specs.Layers.{slot_at};
 ghost use Rattle.mt_arena.specs.NodeFacts.{IsUnstable};
 ghost use Rattle.mt_arena.specs.Accesses.{at};
 ghost use Rattle.mt_operation.specs.declared.walk.Phase.{Phase};
-ghost use Rattle.mt_operation.specs.declared.walk.Phase.TheVariants.{Search, Load, Confirm, Lock, Done};
+ghost use Rattle.mt_operation.specs.declared.walk.Phase.TheVariants.{Search, Load, Confirm, Lock, LockParent, Done};
 ghost use Rattle.mt_operation.specs.declared.outcome.Outcome.{Outcome};
 ghost use Rattle.mt_operation.specs.declared.operation.Operation.{Operation};
 ghost use Rattle.mt_operation.specs.Operations.{OperationView, is_done};
@@ -49,7 +49,7 @@ pub fn a_step_keeps_the_invariant()
 /// What is refused: an operation told to wait for a lock where it is only to read, and a step that
 /// changes the keys of a node which another operation holds.
 pub fn wrong_steps_are_refused()
-    ensures lock_alone { (v : ArenaView) (phase : Phase) (holder : ℕ) → phase ≢ Lock → phase ≢ Load →
+    ensures lock_alone { (v : ArenaView) (phase : Phase) (holder : ℕ) → phase ≢ Lock → phase ≢ LockParent → phase ≢ Load →
         ((k : ℕ) → k < length v.nodes → IsStable (at v k).version) → ¬ IsInTheWay v phase holder }
     ensures of_another { (o q k : ℕ) (old new : ArenaView) → Touches o old new → k < length old.nodes → q ≢ o →
         (at old k).holder ≡ Some q → (at new k).holder ≢ Some o → (at new k).slots ≡ (at old k).slots }

@@ -9,6 +9,7 @@
 pub mod histories;
 pub mod laws;
 pub mod moves;
+pub mod splits;
 pub mod writes;
 
 pub use moves::Move;

@@ -7,7 +7,7 @@ use Rattle.mt_arena.specs.NodeView.{NodeView}
 use Rattle.mt_arena.specs.Arena.{ArenaView}
 use Rattle.mt_arena.specs.Accesses.{at}
 use Rattle.mt_operation.specs.declared.walk.Phase.{Phase}
-use Rattle.mt_operation.specs.declared.walk.Phase.TheVariants.{Load, Lock}
+use Rattle.mt_operation.specs.declared.walk.Phase.TheVariants.{Load, Lock, LockParent}
 use Rattle.mt_descent.specs.Moves.{IsBlocked}
 use Rattle.mt_state.specs.Promises.{IsInTheWay}
 use Rattle.mt_state.proofs.laws.wrong_steps_are_refused.Goals as goal
@@ -19,10 +19,11 @@ unmarked p stable (inr splitting) = both_ways _ stable.1 splitting
 nobody : (v : ArenaView) (holder : ℕ) → ((k : ℕ) → k < length v.nodes → IsStable (at v k).version) → (k : ℕ) × (k < length v.nodes) × IsBlocked (at v k) holder → ⊥
 nobody v holder stable w = unmarked (at v w.0).version (stable w.0 w.1) w.2.marked
 
-by_phase : (v : ArenaView) (phase : Phase) (holder : ℕ) → phase ≢ Lock → phase ≢ Load → ((k : ℕ) → k < length v.nodes → IsStable (at v k).version) → IsInTheWay v phase holder → ⊥
-by_phase v Lock holder lock load stable w = lock refl
-by_phase v Load holder lock load stable w = load refl
-by_phase v _ holder lock load stable w = nobody v holder stable w
+by_phase : (v : ArenaView) (phase : Phase) (holder : ℕ) → phase ≢ Lock → phase ≢ LockParent → phase ≢ Load → ((k : ℕ) → k < length v.nodes → IsStable (at v k).version) → IsInTheWay v phase holder → ⊥
+by_phase v Lock holder lock parent load stable w = lock refl
+by_phase v LockParent holder lock parent load stable w = parent refl
+by_phase v Load holder lock parent load stable w = load refl
+by_phase v _ holder lock parent load stable w = nobody v holder stable w
 
 pub returns-clause-lock_alone : goal.returns-clause-lock_alone
 returns-clause-lock_alone c = by_phase

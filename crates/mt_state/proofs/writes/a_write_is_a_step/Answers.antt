@@ -8,7 +8,7 @@ pub returns-clause-locks : goal.returns-clause-locks
 returns-clause-locks c = λ core o op arena w h few there at_lock t. let g = lock_done core (shown core) o refl h few op there at_lock arena w t.locks t.same t.leaves.guarantee t.leaves.contents t.kept t.judged t.settled in record { invariant = g.0; step = g.1 }
 
 pub returns-clause-readies : goal.returns-clause-readies
-returns-clause-readies c = λ core o op tape w prepared h few there at_judge t. let g = judge_ready core (shown core) o refl h few op there at_judge core.arena tape w prepared t.slot refl t.tape_is t.walk t.room t.same t.kept in record { invariant = g.0; step = g.1 }
+returns-clause-readies c = λ core o op tape w prepared h few there at_judge t. let g = judge_ready core (shown core) o refl h few op there at_judge core.arena tape w prepared t.slot refl t.tape_is t.walk t.same t.kept in record { invariant = g.0; step = g.1 }
 
 pub returns-clause-stops : goal.returns-clause-stops
 returns-clause-stops c = λ core o op arena w h few there at_judge t. let g = judge_refused core (shown core) o refl h few op there at_judge arena core.tape w t.is refl t.walk t.same t.leaves.guarantee t.leaves.contents in record { invariant = g.0; step = g.1 }
@@ -23,4 +23,4 @@ pub returns-clause-fills : goal.returns-clause-fills
 returns-clause-fills c = λ core o op tape w h few there put at_publish t. let g = publish_full core (shown core) o refl h few op there at_publish put core.arena tape core.accounts w refl refl t.tape_is t.walk t.same t.kept t.missing t.full in record { invariant = g.0; step = g.1 }
 
 pub returns-clause-unlocks : goal.returns-clause-unlocks
-returns-clause-unlocks c = λ core o op arena w h few there at_unlock t. let g = unlock_done core (shown core) o refl h few op there at_unlock arena w t.is t.walk t.same t.leaves.guarantee t.leaves.contents in record { invariant = g.0; step = g.1 }
+returns-clause-unlocks c = λ core o op arena w h few there at_unlock none t. let g = unlock_done core (shown core) o refl h few op there at_unlock none arena w t.is t.walk t.same t.leaves.guarantee t.leaves.contents in record { invariant = g.0; step = g.1 }

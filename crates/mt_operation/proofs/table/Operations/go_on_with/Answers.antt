@@ -4,22 +4,22 @@ use Rattle.mt_operation.proofs.TableMoves.{last_new, became_table, none_table, m
 use Rattle.mt_operation.proofs.table.Operations.go_on_with.Goals as goal
 
 pub link_last-requires-clause-there : goal.link_last-requires-clause-there
-link_last-requires-clause-there c = moved_there c.self.inside.seats.slots c.move_with_at.new.seats.slots c.self.inside.ends c.self.inside.put _ c.args.id c.args.step c.args.walk.now c.self.view_is c.self.invariant c.requires (λ op. noted (moved op c.args.step c.args.walk.now) c.args.outcome) (λ op. refl) (λ op. refl) c.move_with_at.ensures.becomes (sym c.move_with_at.ensures.first ∙ c.if-move_with_at.true)
+link_last-requires-clause-there c = moved_there c.self.inside.seats.slots c.move_with_at.new.seats.slots c.self.inside.ends _ c.args.id c.args.step c.args.walk.now c.self.view_is c.self.invariant c.requires (λ op. noted (moved op c.args.step c.args.walk.now) c.args.outcome) (λ op. refl) c.move_with_at.ensures.becomes (sym c.move_with_at.ensures.first ∙ c.if-move_with_at.true)
 
 pub link_last-requires-clause-last : goal.link_last-requires-clause-last
-link_last-requires-clause-last c = moved_last c.self.inside.seats.slots c.move_with_at.new.seats.slots c.self.inside.ends c.self.inside.put _ c.args.id c.args.step c.args.walk.now c.self.view_is c.self.invariant c.requires (λ op. noted (moved op c.args.step c.args.walk.now) c.args.outcome) (λ op. refl) (λ op. refl) c.move_with_at.ensures.becomes (sym c.move_with_at.ensures.first ∙ c.if-move_with_at.true)
+link_last-requires-clause-last c = moved_last c.self.inside.seats.slots c.move_with_at.new.seats.slots c.self.inside.ends _ c.args.id c.args.step c.args.walk.now c.self.view_is c.self.invariant c.requires (λ op. noted (moved op c.args.step c.args.walk.now) c.args.outcome) (λ op. refl) c.move_with_at.ensures.becomes (sym c.move_with_at.ensures.first ∙ c.if-move_with_at.true)
 
 pub link_last-requires-clause-new : goal.link_last-requires-clause-new
-link_last-requires-clause-new c = last_new c.self.inside.seats.slots c.self.inside.ends c.self.inside.put c.args.id c.self.invariant (sym c.move_with_at.ensures.first ∙ c.if-move_with_at.true)
+link_last-requires-clause-new c = last_new c.self.inside.seats.slots c.self.inside.ends c.args.id c.self.invariant (sym c.move_with_at.ensures.first ∙ c.if-move_with_at.true)
 
 pub invariant_of-self : goal.invariant_of-self
 invariant_of-self c =
-    moved_first c.self.inside.seats.slots c.move_with_at.new.seats.slots c.self.inside.ends c.self.inside.put _ c.args.id c.args.step c.args.walk.now c.self.view_is c.self.invariant c.requires (λ op. noted (moved op c.args.step c.args.walk.now) c.args.outcome) (λ op. refl) (λ op. refl) c.move_with_at.ensures.becomes
+    moved_first c.self.inside.seats.slots c.move_with_at.new.seats.slots c.self.inside.ends _ c.args.id c.args.step c.args.walk.now c.self.view_is c.self.invariant c.requires (λ op. noted (moved op c.args.step c.args.walk.now) c.args.outcome) (λ op. refl) c.move_with_at.ensures.becomes
     c.link_last.new.seats.slots c.link_last.new.ends (sym c.move_with_at.ensures.first ∙ c.if-move_with_at.true) c.link_last.ensures
 
 pub invariant_of-self-else-move_with_at : goal.invariant_of-self-else-move_with_at
 invariant_of-self-else-move_with_at c =
-    moved_later c.self.inside.seats.slots c.move_with_at.new.seats.slots c.self.inside.ends c.self.inside.put _ c.args.id c.args.step c.args.walk.now c.self.view_is c.self.invariant c.requires (λ op. noted (moved op c.args.step c.args.walk.now) c.args.outcome) (λ op. refl) (λ op. refl) c.move_with_at.ensures.becomes
+    moved_later c.self.inside.seats.slots c.move_with_at.new.seats.slots c.self.inside.ends _ c.args.id c.args.step c.args.walk.now c.self.view_is c.self.invariant c.requires (λ op. noted (moved op c.args.step c.args.walk.now) c.args.outcome) (λ op. refl) c.move_with_at.ensures.becomes
     c.move_with_at.ensures.none (sym c.move_with_at.ensures.first ∙ c.if-move_with_at.false)
 
 pub returns-then-move_with_at-clause-moves : goal.returns-then-move_with_at-clause-moves

@@ -5,7 +5,7 @@ use Rattle.mt_operation.proofs.table.Operations.make_ready.Goals as goal
 
 pub invariant_of-self : goal.invariant_of-self
 invariant_of-self c =
-    changed_sound c.self.inside.seats.slots c.make_ready_at.new.seats.slots c.self.inside.ends c.self.inside.put c.args.id (λ op. made_ready op c.args.prepared) c.self.invariant (λ op. refl) (λ op. refl) c.make_ready_at.ensures.becomes c.make_ready_at.ensures.none
+    changed_sound c.self.inside.seats.slots c.make_ready_at.new.seats.slots c.self.inside.ends c.args.id (λ op. made_ready op c.args.prepared) c.self.invariant (λ op. refl) c.make_ready_at.ensures.becomes c.make_ready_at.ensures.none
 
 pub returns-clause-readies : goal.returns-clause-readies
 returns-clause-readies c = λ op there. became_table c.self.inside.seats.slots c.make_ready_at.new.seats.slots c.args.id (λ op. made_ready op c.args.prepared) c.make_ready_at.ensures.becomes c.self.inside.seats.slots _ op c.self.view_is refl there

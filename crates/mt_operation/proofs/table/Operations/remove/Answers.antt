@@ -3,18 +3,18 @@ use Rattle.mt_operation.proofs.TableMoves.{before_there, after_there, gone_sound
 use Rattle.mt_operation.proofs.table.Operations.remove.Goals as goal
 
 pub cut-requires-clause-before : goal.cut-requires-clause-before
-cut-requires-clause-before c = before_there c.self.inside.seats.slots c.try_remove.new.self.slots c.self.inside.ends c.self.inside.put c.args.id c.in_ok-seat.seat c.self.invariant (sym c.in_ok-seat.ensures.value) c.in_ok-seat.ensures.slots
+cut-requires-clause-before c = before_there c.self.inside.seats.slots c.try_remove.new.self.slots c.self.inside.ends c.args.id c.in_ok-seat.seat c.self.invariant (sym c.in_ok-seat.ensures.value) c.in_ok-seat.ensures.slots
 
 pub cut-requires-clause-after : goal.cut-requires-clause-after
-cut-requires-clause-after c = after_there c.self.inside.seats.slots c.try_remove.new.self.slots c.self.inside.ends c.self.inside.put c.args.id c.in_ok-seat.seat c.self.invariant (sym c.in_ok-seat.ensures.value) c.in_ok-seat.ensures.slots
+cut-requires-clause-after c = after_there c.self.inside.seats.slots c.try_remove.new.self.slots c.self.inside.ends c.args.id c.in_ok-seat.seat c.self.invariant (sym c.in_ok-seat.ensures.value) c.in_ok-seat.ensures.slots
 
 pub invariant_of-self-2 : goal.invariant_of-self-2
 invariant_of-self-2 c =
-    gone_sound c.self.inside.seats.slots c.try_remove.new.self.slots c.self.inside.ends c.self.inside.put c.args.id c.in_ok-seat.seat c.self.invariant (sym c.in_ok-seat.ensures.value) c.in_ok-seat.ensures.slots
+    gone_sound c.self.inside.seats.slots c.try_remove.new.self.slots c.self.inside.ends c.args.id c.in_ok-seat.seat c.self.invariant (sym c.in_ok-seat.ensures.value) c.in_ok-seat.ensures.slots
     c.cut.new.seats.slots c.cut.new.ends c.cut.ensures.unlinks c.cut.ensures.same
 
 pub returns-clause-gone : goal.returns-clause-gone
 returns-clause-gone c =
-    gone_shows c.self.inside.seats.slots c.try_remove.new.self.slots c.self.inside.ends c.self.inside.put c.args.id c.in_ok-seat.seat c.self.invariant (sym c.in_ok-seat.ensures.value) c.in_ok-seat.ensures.slots
+    gone_shows c.self.inside.seats.slots c.try_remove.new.self.slots c.self.inside.ends c.args.id c.in_ok-seat.seat c.self.invariant (sym c.in_ok-seat.ensures.value) c.in_ok-seat.ensures.slots
     _ c.cut.new.seats.slots c.self.view_is
-    (gone_table c.self.inside.seats.slots c.try_remove.new.self.slots c.self.inside.ends c.self.inside.put c.args.id c.in_ok-seat.seat c.self.invariant (sym c.in_ok-seat.ensures.value) c.in_ok-seat.ensures.slots c.cut.new.seats.slots c.cut.new.ends c.cut.ensures.unlinks c.cut.ensures.same)
+    (gone_table c.self.inside.seats.slots c.try_remove.new.self.slots c.self.inside.ends c.args.id c.in_ok-seat.seat c.self.invariant (sym c.in_ok-seat.ensures.value) c.in_ok-seat.ensures.slots c.cut.new.seats.slots c.cut.new.ends c.cut.ensures.unlinks c.cut.ensures.same)

@@ -5,7 +5,7 @@ use Rattle.mt_operation.proofs.table.Operations.take_prepared.Goals as goal
 
 pub invariant_of-self : goal.invariant_of-self
 invariant_of-self c =
-    changed_sound c.self.inside.seats.slots c.take_prepared_at.new.seats.slots c.self.inside.ends c.self.inside.put c.args.id with_nothing_ready c.self.invariant (λ op. refl) (λ op. refl) c.take_prepared_at.ensures.becomes c.take_prepared_at.ensures.none
+    changed_sound c.self.inside.seats.slots c.take_prepared_at.new.seats.slots c.self.inside.ends c.args.id with_nothing_ready c.self.invariant (λ op. refl) c.take_prepared_at.ensures.becomes c.take_prepared_at.ensures.none
 
 pub returns-clause-takes : goal.returns-clause-takes
 returns-clause-takes c = λ op there. became_table c.self.inside.seats.slots c.take_prepared_at.new.seats.slots c.args.id with_nothing_ready c.take_prepared_at.ensures.becomes c.self.inside.seats.slots _ op c.self.view_is refl there

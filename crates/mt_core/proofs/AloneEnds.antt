@@ -1,0 +1,198 @@
+-- How far an operation comes that is alone, and how its run ends: for `Inner::run_alone`.
+use Rattle.std.proofs.Common.{◌≡◌, ◌≢◌, ℕ, zero, suc, ◌+◌, ◌*◌, ◌<◌, ◌≤◌, true, false, Some, refl, sym, ap, subst, ◌∙◌, arith}
+use Rattle.std.specs.Prelude.{◌^◌}
+use Rattle.std.proofs.lemmas.Option.{same_Some}
+use Rattle.mt_arena.specs.Arena.{ArenaView, IsArena, live_count}
+use Rattle.mt_arena.proofs.Heights.{any_below_live}
+use Rattle.mt_operation.specs.declared.walk.Phase.{Phase}
+use Rattle.mt_operation.specs.declared.walk.Phase.TheVariants.{Enter, Pick, Child, Verify, Search, Load, Confirm, Forward, Lock, Judge, Store, Publish, SplitStart, SplitMove, SplitPrev, LockParent, InsertChild, InteriorSplit, Reparent, RootGrow, Unlock, Done}
+use Rattle.mt_operation.specs.declared.operation.Operation.{Operation}
+use Rattle.mt_operation.specs.Operations.{OperationView, view_of, is_done}
+use Rattle.mt_insert.specs.Splitting.{HasSplits, last_of}
+use Rattle.mt_state.specs.declared.moves.Move.{Move}
+use Rattle.mt_state.specs.declared.moves.Move.TheVariants.{Moved, Again, NoMemory as NoMemoryMove, Done as DoneMove, Spent, NoSuch}
+use Rattle.mt_state.specs.Views.{StateView, Core, shown, op_at}
+use Rattle.mt_state.specs.Kept.{IsKeptAt, HasAnswer}
+use Rattle.mt_state.specs.Invariant.{StateInvariant}
+use Rattle.mt_state.specs.Promises.{IsAnswer, IsStep, IsToGrow, Tells}
+use Rattle.mt_state.proofs.Shown.{shown_there, inside_of}
+use Rattle.mt_core.specs.Alone.{most_steps, IsChain, Runs, IsAlone, EndsAlone}
+use Rattle.mt_core.specs.Points.{AreBelow, IsFresh, HasMade, IsUnhindered, StepsOn, split_level}
+use Rattle.mt_core.proofs.Following.{in_the_way}
+use Rattle.mt_core.proofs.AloneRuns.{no_value, stepped, IsRunning, running_first, running_on, run_outcome}
+
+-- one step more is part of the run
+pub chain_more : (old v w : StateView) (o made : ℕ) → IsChain made old v o → IsStep v w o false → IsChain (made + 1) old w o
+chain_more old v w o made chain s = subst (λ n. IsChain n old w o) {x = suc made} (omega arith) (v, chain, s)
+
+-- each of its steps has a number of its own
+chain_number : (made : ℕ) (old v : StateView) (o : ℕ) → IsChain made old v o → v.steps ≡ old.steps + made
+chain_number zero old v o chain = omega (arith, ap (λ (x : StateView). x.steps) chain)
+chain_number (suc made) old v o chain = omega (arith, chain_number made old chain.0 o chain.1, chain.2.number)
+
+-- so no run makes them all
+pub chain_ends : (made : ℕ) (old : StateView) (new : Core) (o : ℕ) → IsChain made old (shown new) o → StateInvariant new → made ≤ 2 ^ 59
+chain_ends made old new o chain h = omega (arith, chain_number made old (shown new) o chain, h.few)
+
+-- each answer but Moved ends the run
+pub run_stops : (old v w : StateView) (o made : ℕ) (answer : Move) → IsChain made old v o → answer ≢ Moved → Tells v w o answer → Runs old w o answer
+run_stops old v w o made answer chain other s = record { made = made; mid = v; chain = chain; tells = s; ends = other }
+
+-- all nodes are live, so they stand on levels below their number
+nodes_below : (c : Core) → StateInvariant c → IsArena c.arena.nodes c.arena.trees → AreBelow c.arena (live_count c.arena.nodes)
+nodes_below c h arena k within = any_below_live c.arena.nodes arena.nodes arena.ranged k within (h.one_tree.live k within)
+
+-- nobody is in the way of an operation that is alone
+unhindered_first : (c : Core) (o : ℕ) (op : OperationView) → StateInvariant c → IsArena c.arena.nodes c.arena.trees → IsAlone (shown c) o op → IsUnhindered c o (live_count c.arena.nodes) 0
+unhindered_first c o op h arena alone =
+    let inside = inside_of c.table o op alone.there in
+    let inner : Operation = inside.0 in
+    let enters : inner.walk.phase ≡ Enter = ap (λ (x : OperationView). x.phase) inside.2 ∙ alone.enters in
+    record {
+      op = inner;
+      there = inside.1;
+      free = λ k q within holds. absurd (no_value (sym (alone.free k within) ∙ holds));
+      point = record {
+        below = λ _. nodes_below c h arena;
+        fresh = subst (λ (p : Phase). IsFresh p c.arena inner.walk) (sym enters) tt;
+        few = subst (λ (p : Phase). HasMade p (live_count c.arena.nodes) 0 c.arena inner.walk inner.splits) (sym enters) refl;
+      };
+    }
+
+-- the left half of a split is there, so its level is below the height
+split_below : (v : ArenaView) (height o : ℕ) (op : Operation) → AreBelow v height → HasSplits v o op.splits → split_level v op.splits < height
+split_below v height o op below s = below (last_of op.splits).left s.parted.left.held.there
+
+-- at no phase has it made many steps
+few_made : (p : Phase) (c : Core) (o : ℕ) (op : Operation) (height made : ℕ) → IsKeptAt p c o op → (p ≢ Unlock → AreBelow c.arena height)
+    → HasMade p height made c.arena op.walk op.splits → made < 256 * (height + 64)
+few_made Enter c o op height made kept below few = omega (arith, few)
+few_made Pick c o op height made kept below few = omega (arith, few)
+few_made Child c o op height made kept below few = omega (arith, few)
+few_made Verify c o op height made kept below few = omega (arith, few)
+few_made Search c o op height made kept below few = omega (arith, few)
+few_made Load c o op height made kept below few = omega (arith, few)
+few_made Confirm c o op height made kept below few = omega (arith, few)
+few_made Forward c o op height made kept below few = absurd few
+few_made Lock c o op height made kept below few = omega (arith, few)
+few_made Judge c o op height made kept below few = omega (arith, few)
+few_made Store c o op height made kept below few = omega (arith, few)
+few_made Publish c o op height made kept below few = omega (arith, few)
+few_made SplitStart c o op height made kept below few = omega (arith, few)
+few_made SplitMove c o op height made kept below few = omega (arith, few)
+few_made SplitPrev c o op height made kept below few = omega (arith, few)
+few_made LockParent c o op height made kept below few = omega (arith, few, split_below c.arena height o op (below (λ e. cc)) kept.climbs.named.splits)
+few_made InsertChild c o op height made kept below few = omega (arith, few)
+few_made InteriorSplit c o op height made kept below few = omega (arith, few, split_below c.arena height o op (below (λ e. cc)) kept.climbs.at_parent.named.splits)
+few_made Reparent c o op height made kept below few = omega (arith, few, kept.climbs.more, split_below c.arena height o op (below (λ e. cc)) kept.climbs.splits)
+few_made RootGrow c o op height made kept below few = omega (arith, few)
+few_made Unlock c o op height made kept below few = omega (arith, few)
+few_made _ c o op height made kept below few = absurd few
+
+-- and it is not done
+left_at : (p : Phase) (c : Core) (op : Operation) (height made : ℕ) → HasMade p height made c.arena op.walk op.splits → is_done p ≡ false
+left_at Done c op height made few = absurd few
+left_at _ c op height made few = refl
+
+-- an operation with no step left is at its end
+done_is : (p : Phase) → is_done p ≡ true → p ≡ Done
+done_is Done e = refl
+done_is _ e = absurd (cc)
+
+-- one that is to make a node has its answer, and is not at its beginning
+answer_to_grow : (p : Phase) (c : Core) (o : ℕ) (op : Operation) → IsKeptAt p c o op → IsToGrow p → HasAnswer c op
+answer_to_grow InteriorSplit c o op kept grows = kept.answer
+answer_to_grow RootGrow c o op kept grows = kept.answer
+answer_to_grow _ c o op kept grows = absurd grows
+
+grows_later : (p : Phase) → IsToGrow p → p ≢ Enter
+grows_later Enter grows e = grows
+grows_later _ grows e = cc
+
+done_later : (p : Phase) → p ≡ Done → p ≢ Enter
+done_later p is other = let no : Done ≡ Enter = sym is ∙ other in cc
+
+-- the run so far of an operation that is alone: nobody is in its way
+pub record GoesAlone (old v : Core) (o : ℕ) (op : OperationView) (made : ℕ) : Type 0 where
+  pub run : IsRunning (shown old) (shown v) o op made
+  pub free : IsUnhindered v o (live_count old.arena.nodes) made
+
+pub alone_first : (old : Core) (o : ℕ) (op : OperationView) → StateInvariant old → IsArena old.arena.nodes old.arena.trees → IsAlone (shown old) o op → GoesAlone old old o op 0
+alone_first old o op h arena alone = record { run = running_first (shown old) o op alone; free = unhindered_first old o op h arena alone }
+
+-- an operation that moved goes on
+pub alone_goes_on : (old v w : Core) (o : ℕ) (op : OperationView) (made : ℕ) → GoesAlone old v o op made → StepsOn v w o Moved → GoesAlone old w o op (made + 1)
+alone_goes_on old v w o op made g s = record {
+  run = running_on (shown old) (shown v) (shown w) o op made false g.run s.tells;
+  free = s.nears (live_count old.arena.nodes) made g.free;
+}
+
+module _ (old v : Core) (o : ℕ) (op : OperationView) (made : ℕ) (h : StateInvariant v) (g : GoesAlone old v o op made) where
+  abbrev inner : Operation
+  inner = g.free.op
+
+  few : made < most_steps (shown old)
+  few = few_made inner.walk.phase v o inner (live_count old.arena.nodes) made (h.ops o inner g.free.there).kept g.free.point.below g.free.point.few
+
+  -- what is shown of it
+  same : g.run.after ≡ view_of inner
+  same = same_Some g.run.after (view_of inner) (sym g.run.there ∙ shown_there v.table o inner g.free.there)
+
+  left : is_done g.run.after.phase ≡ false
+  left = ap (λ (x : OperationView). is_done x.phase) same ∙ left_at inner.walk.phase v inner (live_count old.arena.nodes) made g.free.point.few
+
+  -- a step that ends it ends the run
+  ends_done : (w : StateView) → IsStep (shown v) w o true → EndsAlone (shown old) w o op DoneMove
+  ends_done w s =
+      let run : IsRunning (shown old) w o op (made + 1) = running_on (shown old) (shown v) w o op made true g.run s in
+      let is : s.after ≡ run.after = same_Some s.after run.after (sym (stepped (shown v) w o true s) ∙ run.there) in
+      let answer = s.answer refl in
+      let has : run.after.outcome ≡ Some answer.0 = ap (λ (x : OperationView). x.outcome) (sym is) ∙ answer.1 in
+      let right : IsAnswer w run.after answer.0 = subst (λ (x : OperationView). IsAnswer w x answer.0) is answer.2 in
+      let ends : run.after.phase ≡ Done = ap (λ (x : OperationView). x.phase) (sym is) ∙ done_is s.after.phase (sym s.ends) in
+      record {
+        few = omega (arith, run.number, few);
+        after = run.after;
+        there = run.there;
+        asked = run.asked;
+        ends = ends;
+        told = answer.0;
+        has = has;
+        outcome = run_outcome (shown old) w o op (made + 1) run answer.0 has right (done_later run.after.phase ends)
+            (omega (arith, ap (λ (x : OperationView). x.last) is, s.moves.last, s.number));
+      }
+
+  -- one that finds no memory for a node has its answer, and leaves all as it was
+  ends_unmade : (p : OperationView) → op_at (shown v).table o ≡ Some p → IsToGrow p.phase → EndsAlone (shown old) (shown v) o op NoMemoryMove
+  ends_unmade p there grows =
+      let grows_here : IsToGrow g.run.after.phase = subst (λ (x : OperationView). IsToGrow x.phase) (same_Some p g.run.after (sym there ∙ g.run.there)) grows in
+      let kept = h.ops o inner g.free.there in
+      let answer : HasAnswer v inner = answer_to_grow inner.walk.phase v o inner kept.kept (subst (λ (x : OperationView). IsToGrow x.phase) same grows_here) in
+      let has : g.run.after.outcome ≡ Some answer.outcome = ap (λ (x : OperationView). x.outcome) same ∙ answer.told in
+      let right : IsAnswer (shown v) g.run.after answer.outcome = subst (λ (x : OperationView). IsAnswer (shown v) x answer.outcome) (sym same) answer.right in
+      record {
+        few = omega (arith, g.run.number, few);
+        after = g.run.after;
+        there = g.run.there;
+        asked = g.run.asked;
+        ends = grows_here;
+        told = answer.outcome;
+        has = has;
+        outcome = run_outcome (shown old) (shown v) o op made g.run answer.outcome has right (grows_later g.run.after.phase grows_here)
+            (omega (arith, ap (λ (x : OperationView). x.last) same, kept.always.made));
+      }
+
+-- each answer but Moved is Done, or that there is no memory
+pub alone_stops : (old v w : Core) (o : ℕ) (op : OperationView) (made : ℕ) (answer : Move) → StateInvariant v → IsAlone (shown old) o op → GoesAlone old v o op made
+    → answer ≢ Moved → StepsOn v w o answer → EndsAlone (shown old) (shown w) o op answer
+alone_stops old v w o op made Moved h alone g other s = absurd (other refl)
+alone_stops old v w o op made DoneMove h alone g other s = ends_done old v o op made h g (shown w) s.tells
+alone_stops old v w o op made (Again holder) h alone g other s =
+    let held = s.tells.2 in
+    let way = in_the_way v.arena held.op.phase holder held.holds in
+    absurd (held.other (g.free.free way.0 holder way.1 way.2))
+alone_stops old v w o op made Spent h alone g other s = absurd (omega (arith, s.tells.2, g.run.number, alone.numbers, few old v o op made h g))
+alone_stops old v w o op made NoSuch h alone g other s = absurd (s.tells.1 (g.run.after, g.run.there, left old v o op made h g))
+alone_stops old v w o op made NoMemoryMove h alone g other s =
+    let grow = s.tells.1 in
+    subst (λ (x : StateView). EndsAlone (shown old) x o op NoMemoryMove) (sym s.tells.0) (ends_unmade old v o op made h g grow.op grow.there grow.grows)

@@ -1,0 +1,370 @@
+-- A step of a put whose right halves come to their parents, by what `climb_on` tells of it: for `Inner::climb`.
+use Rattle.std.proofs.Common.{◌≡◌, ℕ, zero, suc, ◌+◌, ◌-◌, ◌<◌, ◌≤◌, inl, inr, false, List, [], ◌∷◌, length, set, Some, None, IsSome, is_some, refl, sym, ap, subst, ◌∙◌, arith}
+use Rattle.std.specs.Prelude.{◌^◌, ◌⊎◌}
+use Rattle.std.proofs.lemmas.Bool.{cases_eq}
+use Rattle.std.proofs.lemmas.Option.{same_Some}
+use Rattle.mt_arena.specs.Arena.{ArenaView}
+use Rattle.mt_arena.specs.Accesses.{at}
+use Rattle.mt_operation.specs.declared.walk.Phase.{Phase}
+use Rattle.mt_operation.specs.declared.walk.Phase.TheVariants.{SplitPrev, LockParent, InsertChild, InteriorSplit, Reparent, RootGrow, Done}
+use Rattle.mt_operation.specs.declared.walk.Walk.{Walk}
+use Rattle.mt_operation.specs.declared.splits.Halves.{Halves}
+use Rattle.mt_operation.specs.declared.splits.Splits.{Splits}
+use Rattle.mt_operation.specs.declared.operation.Operation.{Operation}
+use Rattle.mt_operation.specs.Operations.{view_of, is_done, moved, with_splits}
+use Rattle.mt_operation.specs.Tables.{Table, op_at as operation_at, MayMove}
+use Rattle.mt_operation.proofs.Tables.{set_is, set_there}
+use Rattle.mt_insert.specs.Splitting.{halves_at, last_of, IsAmong, HoldsSplits, AreReturnable, AreParted, NothingLags, HasSplits, HasSplitsNamed, IsParent, KeptSplit}
+use Rattle.mt_state.specs.declared.moves.Move.{Move}
+use Rattle.mt_state.specs.declared.moves.Move.TheVariants.{Moved, Again, NoMemory}
+use Rattle.mt_state.specs.Views.{Core, Shown, shown}
+use Rattle.mt_state.specs.Promises.{IsInTheWay, IsHeldByOther, IsToGrow}
+use Rattle.mt_state.specs.Kept.{IsClimbing, IsKeptAt, IsKeptOf}
+use Rattle.mt_state.specs.Invariant.{HoldsAt, StateInvariant, one_if_prepared, prepared_count, made_count}
+use Rattle.mt_state.specs.Writes.{IsClimb, Climbs}
+use Rattle.mt_state.proofs.Shown.{shown_table, shown_there, shown_set}
+use Rattle.mt_state.proofs.Telling.{Gives}
+use Rattle.mt_state.proofs.SplitSteps.{climb_done}
+use Rattle.mt_core.specs.Nexts.{IsNext}
+use Rattle.mt_core.specs.Points.{StepsOn}
+use Rattle.mt_core.specs.Climbs.{ClimbsOn, AreSame, TellsClimbed}
+use Rattle.mt_core.specs.declared.climbs.Climbed.TheVariants.{Blocked, NoMemory as NoMemoryClimbed}
+use Rattle.mt_core.proofs.Points.{point_first, nears_by}
+use Rattle.mt_core.proofs.Following.{set_back, Writes, IsOver, over_first, over_next, opened, may_over, next_here, holder_open, made}
+use Rattle.mt_core.proofs.Retained.{retained, own_tape}
+
+-- as many operations have all ready where the one that is written has as it had
+count_back : (table : Table) (o : ℕ) (x y : Operation) → operation_at table o ≡ Some x → one_if_prepared (Some y) ≡ one_if_prepared (Some x)
+    → prepared_count (set table o (Some y)) ≡ prepared_count table
+count_back [] o x y is same = refl
+count_back (z ∷ table) zero x y is same = let was = ap one_if_prepared is in omega (arith, was, same)
+count_back (z ∷ table) (suc o) x y is same = let rest = count_back table o x y is same in omega (arith, rest)
+
+-- what is kept of an operation that climbs, by its phase
+climbing_of : (p : Phase) → IsClimb p → (c : Core) (o : ℕ) (op : Operation) → IsKeptAt p c o op → IsClimbing c o op p
+climbing_of SplitPrev i c o op kept = kept
+climbing_of LockParent i c o op kept = kept
+climbing_of InsertChild i c o op kept = kept
+climbing_of InteriorSplit i c o op kept = kept
+climbing_of Reparent i c o op kept = kept
+climbing_of RootGrow i c o op kept = kept
+climbing_of _ i c o op kept = absurd i
+
+-- and back
+climbs_at : (p : Phase) → IsClimb p → (c : Core) (o : ℕ) (op : Operation) → IsClimbing c o op p → IsKeptAt p c o op
+climbs_at SplitPrev i c o op kept = kept
+climbs_at LockParent i c o op kept = kept
+climbs_at InsertChild i c o op kept = kept
+climbs_at InteriorSplit i c o op kept = kept
+climbs_at Reparent i c o op kept = kept
+climbs_at RootGrow i c o op kept = kept
+climbs_at _ i c o op kept = absurd i
+
+-- what it holds are nodes of its splits
+climb_among : (p : Phase) → IsClimb p → (w : Walk) (s : Splits) (k : ℕ) → HoldsAt p w s k → IsAmong s k
+climb_among SplitPrev i w s k holds = holds
+climb_among LockParent i w s k holds = holds
+climb_among InsertChild i w s k holds = holds
+climb_among InteriorSplit i w s k holds = holds
+climb_among Reparent i w s k holds = holds
+climb_among RootGrow i w s k holds = holds
+climb_among _ i w s k holds = absurd i
+
+climb_holds : (p : Phase) → IsClimb p → (w : Walk) (s : Splits) (k : ℕ) → IsAmong s k → HoldsAt p w s k
+climb_holds SplitPrev i w s k among = among
+climb_holds LockParent i w s k among = among
+climb_holds InsertChild i w s k among = among
+climb_holds InteriorSplit i w s k among = among
+climb_holds Reparent i w s k among = among
+climb_holds RootGrow i w s k among = among
+climb_holds _ i w s k among = absurd i
+
+-- a step of it is left
+climb_open : (p : Phase) → IsClimb p → is_done p ≡ false
+climb_open Done i = absurd i
+climb_open _ i = refl
+
+-- a phase at which a node is to be made is one of these
+grow_climbs : (p : Phase) → IsToGrow p → IsClimb p
+grow_climbs InteriorSplit i = tt
+grow_climbs RootGrow i = tt
+grow_climbs _ i = absurd i
+
+-- what is said of splits is said of the same ones
+module _ (s t : Splits) (same : AreSame s t) where
+  among_same : (k : ℕ) → IsAmong s k → IsAmong t k
+  among_same k among = elim among [
+    | inl half ↦ inl (record {
+      place = half.place;
+      in_range = subst (λ (hs : List Halves). half.place < length hs) (sym same.halves) half.in_range;
+      is = subst (λ (hs : List Halves). ((halves_at hs half.place).left ≡ k) ⊎ ((halves_at hs half.place).right ≡ k)) (sym same.halves) half.is;
+    })
+    | inr above ↦ inr (same.above ∙ above)
+  ]
+
+  last_is : last_of s ≡ last_of t
+  last_is = ap (λ (hs : List Halves). halves_at hs (length hs - 1)) (sym same.halves)
+
+  splits_same : (v : ArenaView) (o : ℕ) → HasSplits v o s → HasSplits v o t
+  splits_same v o h = record {
+    some = subst (λ (hs : List Halves). 0 < length hs) (sym same.halves) h.some;
+    lower = subst (λ (hs : List Halves). AreReturnable v o hs (length hs - 1)) (sym same.halves) h.lower;
+    parted = subst (λ (hs : List Halves). AreParted v o (length hs - 1) (halves_at hs (length hs - 1)).left (halves_at hs (length hs - 1)).right) (sym same.halves) h.parted;
+  }
+
+  named_same : (v : ArenaView) (o : ℕ) → HasSplitsNamed v o s → HasSplitsNamed v o t
+  named_same v o h = record {
+    splits = splits_same v o h.splits;
+    left = subst (λ (b : Halves). NothingLags v.nodes b.left) last_is h.left;
+    right = subst (λ (b : Halves). NothingLags v.nodes b.right) last_is h.right;
+  }
+
+  grow_same : (p : Phase) → IsToGrow p → (v : ArenaView) (o : ℕ) → KeptSplit p v o s → KeptSplit p v o t
+  grow_same InteriorSplit i v o h = record {
+    p = h.p;
+    at_parent = record {
+      named = named_same v o h.at_parent.named;
+      above = same.above ∙ h.at_parent.above;
+      moved = same.moved ∙ h.at_parent.moved;
+      parent = subst (λ (hs : List Halves). IsParent v o (length hs) (halves_at hs (length hs - 1)).left (halves_at hs (length hs - 1)).right h.p) (sym same.halves) h.at_parent.parent;
+    };
+    full = h.full;
+  }
+  grow_same RootGrow i v o h = record {
+    at_root = record {
+      named = named_same v o h.at_root.named;
+      above = same.above ∙ h.at_root.above;
+      moved = same.moved ∙ h.at_root.moved;
+      orphan = subst (λ (b : Halves). (at v b.right).parent ≡ None) last_is h.at_root.orphan;
+    };
+    parentless = subst (λ (b : Halves). (at v b.left).parent ≡ None) last_is h.parentless;
+  }
+  grow_same _ i v o h = absurd i
+
+-- a state in which an operation has other splits
+abbrev with_same : Core → ℕ → Operation → Splits → Core
+with_same c o op t = record c { table = set c.table o (Some (with_splits op t)) }
+
+module _ (c : Core) (o : ℕ) (op : Operation) (h : StateInvariant c) (there : operation_at c.table o ≡ Some op) (t : Splits) where
+  -- shows what it showed
+  same_shown : shown (with_same c o op t) ≡ shown c
+  same_shown = ap (λ (all : Shown). record (shown c) { table = all }) (shown_set c.table o (Some (with_splits op t)) ∙ set_back (shown_table c.table) o (view_of op) (shown_there c.table o op there))
+
+  -- and where they are the same, as far as anything is said of them, the invariant stays
+  module _ (grows : IsToGrow op.walk.phase) (same : AreSame op.splits t) where
+    abbrev y : Operation
+    y = with_splits op t
+
+    abbrev new : Core
+    new = with_same c o op t
+
+    here : operation_at new.table o ≡ Some y
+    here = set_is c.table o y op there
+
+    climbs : IsClimb op.walk.phase
+    climbs = grow_climbs op.walk.phase grows
+
+    was : IsKeptOf new o op
+    was = let k = h.ops o op there in retained c c.answers c.tape new.table o op (own_tape c op k.always) k.always k
+
+    own : IsKeptOf new o y
+    own =
+        let k = was in
+        let a = k.always in
+        let climbing = climbing_of op.walk.phase climbs new o op k.kept in
+        let right = climbing.answer.right in
+        record {
+          always = record {
+            stored = a.stored;
+            owner = a.owner;
+            short = a.short;
+            columns = a.columns;
+            tenant = a.tenant;
+            writes = a.writes;
+            kind = a.kind;
+            order = a.order;
+            made = a.made;
+            floor = a.floor;
+            begun = a.begun;
+          };
+          kept = climbs_at op.walk.phase climbs new o y (record {
+            climbs = grow_same op.splits t same op.walk.phase grows c.arena o climbing.climbs;
+            answer = record { outcome = climbing.answer.outcome; told = climbing.answer.told; right = right; unprepared = climbing.answer.unprepared };
+          });
+          unsplit = λ none. let u = k.unsplit none in record { halves = same.halves ∙ u.halves; above = same.above ∙ u.above; moved = same.moved ∙ u.moved };
+          placed = λ m is. let once = k.placed m is in record {
+            entry = once.entry;
+            there = once.there;
+            step_is = once.step_is;
+            worker = once.worker;
+            tenant = once.tenant;
+            key_is = once.key_is;
+            makes = once.makes;
+          };
+        }
+
+    same_sound : StateInvariant new
+    same_sound = record {
+      tape = record { rises = h.tape.rises; made = h.tape.made; legal = h.tape.legal };
+      stamps = h.stamps;
+      versions = h.versions;
+      holders = λ k q within held. let f = h.holders k q within held in elim (cases_eq q o) [
+        | inl is ↦
+            let it : f.0 ≡ op = same_Some f.0 op (sym f.1 ∙ ap (operation_at c.table) is ∙ there) in
+            let holds : HoldsAt op.walk.phase op.walk op.splits k = subst (λ (x : Operation). HoldsAt x.walk.phase x.walk x.splits k) it f.2 in
+            (y, ap (operation_at new.table) is ∙ here, climb_holds op.walk.phase climbs op.walk t k (among_same op.splits t same k (climb_among op.walk.phase climbs op.walk op.splits k holds)))
+        | inr other ↦ (f.0, set_there c.table o q (Some y) other ∙ f.1, f.2)
+      ];
+      counts = h.counts;
+      ops = λ q x at_q. elim (cases_eq q o) [
+        | inl is ↦ subst (λ n. IsKeptOf new n x) (sym is) (subst (IsKeptOf new o) (same_Some y x (sym here ∙ ap (operation_at new.table) (sym is) ∙ at_q)) own)
+        | inr other ↦ let k = h.ops q x (sym (set_there c.table o q (Some y) other) ∙ at_q) in retained c c.answers c.tape new.table q x (own_tape c x k.always) k.always k
+      ];
+      reserved = h.reserved ∙ sym (count_back c.table o op y there refl);
+      answered = subst (λ (all : Shown). c.answers + made_count all ≤ c.steps) (sym (ap (λ v. v.table) same_shown)) h.answered;
+      one_tree = h.one_tree;
+      few = h.few;
+    }
+
+module _ (c now : Core) (o : ℕ) (is : c ≡ now) (h : StateInvariant c) (next : IsNext now o IsClimb) where
+  abbrev op : Operation
+  op = (next_here c now o IsClimb is next).0
+
+  there : operation_at c.table o ≡ Some op
+  there = (next_here c now o IsClimb is next).1
+
+  at_climb : IsClimb op.walk.phase
+  at_climb = (next_here c now o IsClimb is next).2
+
+  kept : IsClimbing c o op op.walk.phase
+  kept = climbing_of op.walk.phase at_climb c o op (h.ops o op there).kept
+
+  -- all that it holds are nodes of its splits
+  holds : HoldsSplits c.arena o op.splits
+  holds k within held =
+      let f = h.holders k o within held in
+      let it = same_Some f.0 op (sym f.1 ∙ there) in
+      climb_among op.walk.phase at_climb op.walk op.splits k (subst (λ (x : Operation). HoldsAt x.walk.phase x.walk x.splits k) it f.2)
+
+  -- its splits are taken out, and others are there
+  module _ (none : Splits) (mid : Table) (s : Splits) (gives : (x : Operation) → operation_at c.table o ≡ Some x → s ≡ x.splits) (takes : Writes c.table mid o (λ x. with_splits x none)) where
+    over_mid : IsOver c.table mid o (with_splits op none)
+    over_mid = over_first c.table mid o (λ x. with_splits x none) op there takes
+
+    pub open_mid : IsSome (operation_at mid o)
+    open_mid = ap is_some over_mid.there
+
+    module _ (x : Operation) (there_x : operation_at mid o ≡ Some x) where
+      walk_is : op.walk ≡ x.walk
+      walk_is = ap (λ (z : Operation). z.walk) (opened c.table mid o (with_splits op none) x over_mid there_x)
+
+      pub climb_phase : IsClimb x.walk.phase
+      climb_phase = subst (λ (w : Walk). IsClimb w.phase) walk_is at_climb
+
+      pub climb_kept : KeptSplit x.walk.phase c.arena o s
+      climb_kept = subst (λ (w : Walk). KeptSplit w.phase c.arena o s) walk_is (subst (KeptSplit op.walk.phase c.arena o) (sym (gives op there)) kept.climbs)
+
+      -- what was told of its walk and its splits
+      told_of : (P : Walk → Splits → Type 0) → P x.walk s → P op.walk op.splits
+      told_of P told = subst (λ (w : Walk). P w op.splits) (sym walk_is) (subst (P x.walk) (gives op there) told)
+
+      -- and then those are there to which they came
+      module _ (arena : ArenaView) (w : Walk) (t : Splits) (last : Table) (back : Writes mid last o (λ z. with_splits z t)) where
+        over_last : IsOver c.table last o (with_splits op t)
+        over_last = over_next c.table mid last o (λ z. with_splits z t) (with_splits op none) over_mid back
+
+        -- it may make its step
+        pub may_climb : MayMove last o (c.steps + 1)
+        may_climb = may_over c o h op there (climb_open op.walk.phase at_climb) last (with_splits op t) over_last refl
+
+        -- the step was made
+        module _ (few : now.steps < 2 ^ 59) (on : ClimbsOn o c.arena arena x.walk w s t) (all : Table) (moves : Writes last all o (λ z. moved z (c.steps + 1) w)) where
+          abbrev after : Operation
+          after = moved (with_splits op t) (c.steps + 1) w
+
+          told : ClimbsOn o c.arena arena op.walk w op.splits t
+          told = told_of (λ v r. ClimbsOn o c.arena arena v w r t) on
+
+          over_all : IsOver c.table all o after
+          over_all = over_next c.table last all o (λ z. moved z (c.steps + 1) w) (with_splits op t) over_last moves
+
+          climbed : Climbs c o op arena w t
+          climbed = record {
+            moves = record {
+              leaves = record { guarantee = told.guarantee; contents = told.contents };
+              touches = told.touches;
+              stood = told.stood;
+              versions = told.versions c.steps h.versions;
+              one_tree = told.one_tree h.one_tree;
+            };
+            follows = told.follows;
+            same = told.same;
+            kept = told.kept;
+            some = told.some;
+            holds = told.holds holds;
+          }
+
+          pub climb_gives : Gives (shown c) (made c arena c.tape c.accounts all) o false
+          climb_gives = subst (λ (u : Table). Gives (shown c) (record c { steps = c.steps + 1; arena = arena; table = u }) o false) (sym over_all.is)
+              (climb_done c o h (subst (λ (v : Core). v.steps < 2 ^ 59) (sym is) few) op there arena w t at_climb climbed)
+
+          pub climb_steps : StepsOn now (made c arena c.tape c.accounts all) o Moved
+          climb_steps = subst (λ (v : Core). StepsOn v (made c arena c.tape c.accounts all) o Moved) is (record {
+            tells = climb_gives.1;
+            nears = nears_by c (made c arena c.tape c.accounts all) o op after there over_all.there told.guarantee
+                (λ height n p. point_first height (n + 1) arena w t after.walk.first (told.nears height n p));
+          })
+
+        -- it was not made: all is as it was, but for the splits
+        abbrev stopped : Core
+        stopped = record c { arena = arena; table = last }
+
+        stopped_is : arena ≡ c.arena → stopped ≡ with_same c o op t
+        stopped_is stays = ap (λ (v : ArenaView). record c { arena = v; table = last }) stays ∙ ap (λ (all : Table). record c { table = all }) over_last.is
+
+        -- another operation holds the parent
+        module _ (holder : ℕ) (blocked : TellsClimbed o c.arena arena x.walk w s t (Blocked holder)) where
+          held_back : TellsClimbed o c.arena arena op.walk w op.splits t (Blocked holder)
+          held_back = told_of (λ v r. TellsClimbed o c.arena arena v w r t (Blocked holder)) blocked
+
+          blocked_is : stopped ≡ c
+          blocked_is = stopped_is held_back.0
+              ∙ ap (λ (r : Splits). with_same c o op r) held_back.2 ∙ ap (λ (all : Table). record c { table = all }) (set_back c.table o op there)
+
+          pub blocked_sound : StateInvariant stopped
+          blocked_sound = subst StateInvariant (sym blocked_is) h
+
+          waits : IsHeldByOther (shown c) o holder
+          waits =
+              let parent = held_back.4 in
+              let f = h.holders parent holder held_back.5 held_back.6 in
+              record {
+                other = held_back.7 holds;
+                unfinished = (view_of f.0, shown_there c.table holder f.0 f.1, holder_open f.0.walk.phase f.0.walk f.0.splits parent f.2);
+                op = view_of op;
+                there = shown_there c.table o op there;
+                holds = subst (λ (p : Phase). IsInTheWay c.arena p holder) (sym held_back.3) (parent, held_back.5, held_back.6);
+              }
+
+          pub blocked_steps : (answer : Move) → answer ≡ Again holder → StepsOn now stopped o answer
+          blocked_steps answer says = subst (StepsOn now stopped o) (sym says) (subst (λ (v : Core). StepsOn v stopped o (Again holder)) is (record {
+            tells = (ap (λ (v : Core). shown v) blocked_is, (view_of op, shown_there c.table o op there, climb_open op.walk.phase at_climb), waits);
+            nears = tt;
+          }))
+
+        -- there is no memory for a node
+        module _ (stops : TellsClimbed o c.arena arena x.walk w s t NoMemoryClimbed) where
+          grown_back : TellsClimbed o c.arena arena op.walk w op.splits t NoMemoryClimbed
+          grown_back = told_of (λ v r. TellsClimbed o c.arena arena v w r t NoMemoryClimbed) stops
+
+          pub stopped_sound : StateInvariant stopped
+          stopped_sound = subst StateInvariant (sym (stopped_is grown_back.0)) (same_sound c o op h there t grown_back.3 grown_back.2)
+
+          pub stopped_steps : StepsOn now stopped o NoMemory
+          stopped_steps = subst (λ (v : Core). StepsOn v stopped o NoMemory) is (record {
+            tells = (
+              ap (λ (v : Core). shown v) (stopped_is grown_back.0) ∙ same_shown c o op h there t,
+              record { op = view_of op; there = shown_there c.table o op there; grows = grown_back.3; told = ap is_some kept.answer.told },
+            );
+            nears = tt;
+          })

@@ -1,0 +1,63 @@
+//! The steps of a put whose keys are parted: its right halves come to their parents, level by level.
+
+ghost use Rattle.std.specs.Prelude.{◌≡◌, ℕ};
+ghost use Rattle.mt_arena.specs.Arena.{Guarantee, content_of};
+ghost use Rattle.mt_insert.specs.Splitting.{HoldsSplits, KeptSplit};
+ghost use Rattle.mt_state.specs.Writes.{IsClimb};
+ghost use Rattle.mt_core.specs.Climbs.{TellsClimbed};
+
+use mt_arena::Arena;
+use mt_insert::{grow_root, insert_child, lock_parent, reparent, split_interior, split_prev};
+use mt_operation::{Phase, Splits, Walk};
+
+/// What became of such a step.
+#[derive(Clone, Copy, PartialEq, Eq, Debug)]
+pub(crate) enum Climbed {
+    /// It was made.
+    On,
+    /// This operation holds the parent; nothing changed.
+    Blocked(usize),
+    /// There is no memory for a node; nothing changed.
+    NoMemory,
+}
+
+/// Makes the step of the walk's phase.
+pub(crate) fn climb_on(
+    arena: &mut Arena,
+    walk: &mut Walk,
+    splits: &mut Splits,
+    operation: usize,
+) -> Climbed
+    requires phase { IsClimb walk.old.phase }
+    requires kept { KeptSplit walk.old.phase arena.old operation splits.old }
+    ensures { TellsClimbed operation arena.old arena.new walk.old walk.new splits.old splits.new result }
+{
+    arena.facts();
+    match walk.phase {
+        Phase::SplitPrev => {
+            split_prev(arena, walk, splits, operation);
+            Climbed::On
+        }
+        Phase::LockParent => match lock_parent(arena, walk, splits, operation) {
+            Some(holder) => Climbed::Blocked(holder),
+            None => Climbed::On,
+        },
+        Phase::InsertChild => {
+            insert_child(arena, walk, splits, operation);
+            Climbed::On
+        }
+        Phase::InteriorSplit => match split_interior(arena, walk, splits, operation) {
+            Ok(()) => Climbed::On,
+            Err(_) => Climbed::NoMemory,
+        },
+        Phase::Reparent => {
+            reparent(arena, walk, splits, operation);
+            Climbed::On
+        }
+        Phase::RootGrow => match grow_root(arena, walk, splits, operation) {
+            Ok(()) => Climbed::On,
+            Err(_) => Climbed::NoMemory,
+        },
+        _ => unreachable!(),
+    }
+}

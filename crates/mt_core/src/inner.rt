@@ -1,0 +1,597 @@
+//! All that a state has inside, and the steps of its operations.
+//!
+//! Invariant: `StateInvariant` of `mt_state`. It owns the nodes, the tape and the operations. Here an
+//! operation is shown whole, with what it remembers on its way; `State` shows its steps and its reply
+//! alone. Units: steps by their numbers, which begin at 1.
+
+ghost use Rattle.std.specs.Prelude.{◌≡◌, ◌≢◌, ◌+◌, ◌<◌, ◌≤◌, ◌^◌, ℕ, IsSome, IfOk, slice_set, Some, None, []};
+ghost use Rattle.std.specs.Option.{option_map};
+ghost use Rattle.mt_arena.specs.Arena.{IsArena};
+ghost use Rattle.mt_state.specs.Views.{shown};
+ghost use Rattle.mt_state.specs.Invariant.{StateInvariant};
+ghost use Rattle.mt_state.specs.Begins.{new_state, HaveNoPairs};
+ghost use Rattle.mt_state.specs.Ways.{IsDescent};
+ghost use Rattle.mt_state.specs.Writes.{IsClimb};
+ghost use Rattle.mt_core.specs.Tickets.{TellsTake, TellsCancel};
+ghost use Rattle.mt_core.specs.Admitted.{MayAdmit, TellsAdmitted, RefusesOpening};
+ghost use Rattle.mt_core.specs.Rights.{IsRightState};
+ghost use Rattle.mt_core.specs.Shows.{phase_at, phase_in, noted_at};
+ghost use Rattle.mt_core.specs.Alone.{Runs, IsAlone, EndsAlone};
+ghost use Rattle.mt_core.specs.Points.{StepsOn};
+ghost use Rattle.mt_core.specs.Tidies.{Tidies};
+ghost use Rattle.mt_core.specs.Nexts.{IsNext, ending};
+ghost use Rattle.mt_operation.specs.declared.operation.Operation.{Operation as AnyOperation};
+ghost use Rattle.mt_operation.specs.Operations.{OperationView, view_of};
+ghost use Rattle.mt_operation.specs.Tables.{op_at as operation_at};
+
+use crate::answers::Ticket;
+use crate::climbs::{Climbed, climb_on};
+use crate::looks::{absent, descend, load_row, no_memory};
+use crate::openings::{Opening, give_back, give_up};
+use mt_arena::Arena;
+use mt_descent::{confirm, lock, search};
+use mt_insert::{judge, publish, split_move, split_start, store, unlock, unlock_all};
+use mt_operation::{Operation, Operations, Outcome, Phase, Prepared, Splits, Walk};
+use mt_rows::{Refusal, Reply, Tenants};
+use mt_runs::Answer;
+use mt_state::Move;
+use mt_tape::Tape;
+use std::alloc::{AllocError, Global};
+use std::marker::Model;
+
+/// Steps are numbered up to this.
+pub const MAX_STEPS: u64 = 1 << 59;
+
+/// All nodes and trees, the tape of their changes, and the operations.
+#[derive(Drop)]
+pub(crate) struct Inner {
+    pub(crate) alloc: Global,
+    pub(crate) steps: u64,
+    pub(crate) answers: u64,
+    pub(crate) logs: u8,
+    tenants: Tenants,
+    pub(crate) arena: Arena,
+    tape: Tape,
+    operations: Operations,
+}
+
+impl Model for Inner {
+    ghost use Rattle.mt_state.specs.Views.{Core};
+    ghost use Rattle.mt_state.specs.Invariant.{StateInvariant};
+    ghost use Rattle.mt_core.specs.States.{core_of};
+
+    ghost Value = { Core };
+
+    ghost view = { λ s. core_of s };
+
+    ghost invariant = { λ s. StateInvariant (core_of s) };
+}
+
+impl Inner {
+    /// A state in which nothing has happened.
+    pub(crate) fn new(alloc: Global, logs: u8, tenants: Tenants) -> Result<Self, AllocError>
+        requires logs { logs ≤ 64 }
+        requires empty { HaveNoPairs tenants }
+        ensures { IfOk result (λ inner. shown inner ≡ new_state logs tenants) }
+    {
+        Ok(Inner {
+            alloc,
+            steps: 0,
+            answers: 0,
+            logs,
+            tenants,
+            arena: Arena::new(alloc)?,
+            tape: Tape::new(alloc, 0),
+            operations: Operations::new(alloc),
+        })
+    }
+
+    /// Begins the operation of an opening.
+    pub(crate) fn admit(&mut self, opening: Opening) -> Result<Ticket, Refusal>
+        requires { MayAdmit (shown self.old) opening.made }
+        ensures told { TellsAdmitted (shown self.old) (shown self.new) opening result }
+        ensures refused { RefusesOpening (shown self.old) opening result }
+    {
+        let Opening { tenant, made } = opening;
+        if self.tenants.account(tenant).is_none() {
+            return Err(Refusal::NoTenant);
+        }
+        let operation = made?;
+        if self.steps >= MAX_STEPS {
+            return Err(Refusal::Spent);
+        }
+        let id = self.operations.keep(operation)?;
+        Ok(Ticket { id })
+    }
+
+    /// The answer of an operation that is finished, which is right; else its ticket comes back.
+    pub(crate) fn take(&mut self, ticket: Ticket) -> Result<Answer, Ticket>
+        ensures { TellsTake (shown self.old) (shown self.new) ticket result }
+    {
+        match give_up(&mut self.operations, ticket.id) {
+            Some(answer) => {
+                self.answers += 1;
+                Ok(answer)
+            }
+            None => Err(ticket),
+        }
+    }
+
+    /// Takes out an operation that has made no step; else its ticket comes back.
+    pub(crate) fn cancel(&mut self, ticket: Ticket) -> Result<(), Ticket>
+        ensures { TellsCancel (shown self.old) (shown self.new) ticket result }
+    {
+        if !give_back(&mut self.operations, ticket.id) {
+            return Err(ticket);
+        }
+        Ok(())
+    }
+
+    /// What the operation's next step does; nothing, where no step of it is left.
+    pub(crate) fn phase(&self, id: usize) -> Option<Phase>
+        ensures { result ≡ phase_at (shown self.now).table id }
+    {
+        next_phase(&self.operations, id)
+    }
+
+    /// The reply that a get remembers.
+    pub(crate) fn noted(&self, id: usize) -> Option<&Reply>
+        ensures { option_map (λ r. r.now) result ≡ noted_at (shown self.now).table id }
+    {
+        let operation = self.operations.get(id)?;
+        match (operation.walk.phase, &operation.outcome) {
+            (Phase::Confirm, Some(outcome)) => Some(&outcome.reply),
+            _ => None,
+        }
+    }
+
+    /// What holds of every state.
+    pub(crate) fn facts(&self)
+        ensures { IsRightState (shown self.now) }
+    {
+        let _ = &self.steps;
+    }
+
+    /// Gives up the writes of the tape that no operation needs any more.
+    pub(crate) fn tidy(&mut self)
+        ensures { Tidies (shown self.old) (shown self.new) }
+    {
+        let floor = self.operations.floor_needed(self.steps);
+        self.tape.trim(floor);
+    }
+
+    /// Makes steps of an operation as long as it moves, and answers what the last one answered.
+    pub(crate) fn run_alone(&mut self, id: usize) -> Move
+        ensures runs { Runs (shown self.old) (shown self.new) id result }
+        ensures alone { (op : OperationView) → IsAlone (shown self.old) id op → EndsAlone (shown self.old) (shown self.new) id op result }
+    {
+        self.kept();
+        for _ in 0..=MAX_STEPS {
+            match self.step(id) {
+                Move::Moved => self.kept(),
+                answer => return answer,
+            }
+        }
+        unreachable!()
+    }
+
+    /// Makes one step of an operation.
+    pub(crate) fn step(&mut self, id: usize) -> Move
+        ensures { StepsOn self.old self.new id result }
+    {
+        let Some(phase) = next_phase(&self.operations, id) else {
+            return Move::NoSuch;
+        };
+        if self.steps >= MAX_STEPS {
+            return Move::Spent;
+        }
+        match phase {
+            Phase::Enter | Phase::Pick | Phase::Child | Phase::Verify | Phase::Forward => {
+                self.descend(id)
+            }
+            Phase::Search => self.search(id),
+            Phase::Load => self.load(id),
+            Phase::Confirm => self.confirm(id),
+            Phase::Lock => self.lock(id),
+            Phase::Judge => self.judge(id),
+            Phase::Store => self.store(id),
+            Phase::Publish => self.publish(id),
+            Phase::SplitStart => self.split_start(id),
+            Phase::SplitMove => self.split_move(id),
+            Phase::SplitPrev
+            | Phase::LockParent
+            | Phase::InsertChild
+            | Phase::InteriorSplit
+            | Phase::Reparent
+            | Phase::RootGrow => self.climb(id),
+            Phase::Unlock => self.unlock(id),
+            Phase::Done => Move::NoSuch,
+        }
+    }
+
+    // What is kept inside, for the proof of `run_alone`: nothing runs.
+    fn kept(&self)
+        ensures invariant { StateInvariant self.now }
+        ensures arena { IsArena self.now.arena.nodes self.now.arena.trees }
+    {
+        self.arena.facts();
+    }
+
+    // Goes down the tree, or on to the next node.
+    fn descend(&mut self, id: usize) -> Move
+        requires next { IsNext self.old id IsDescent }
+        requires few { self.old.steps < 2 ^ 59 }
+        ensures { StepsOn self.old self.new id result }
+    {
+        self.arena.facts();
+        let operation = open(&self.operations, id);
+        let mut walk = operation.walk;
+        if let Some(holder) = descend(&self.arena, &operation.task.key, &mut walk) {
+            return again(holder);
+        }
+        self.steps += 1;
+        self.operations.go_on(id, self.steps, &walk);
+        Move::Moved
+    }
+
+    // Looks for the key.
+    fn search(&mut self, id: usize) -> Move
+        requires next { IsNext self.old id (λ phase. phase ≡ Phase.Search) }
+        requires few { self.old.steps < 2 ^ 59 }
+        ensures { StepsOn self.old self.new id result }
+    {
+        self.arena.facts();
+        self.steps += 1;
+        let operation = open(&self.operations, id);
+        let mut walk = operation.walk;
+        search(&self.arena, &operation.task.key, &mut walk, self.steps);
+        if walk.phase == Phase::Confirm {
+            self.operations
+                .go_on_with(id, self.steps, &walk, Some(absent(self.steps)));
+        } else {
+            self.operations.go_on(id, self.steps, &walk);
+        }
+        Move::Moved
+    }
+
+    // Takes the row of the slot that was found.
+    fn load(&mut self, id: usize) -> Move
+        requires next { IsNext self.old id (λ phase. phase ≡ Phase.Load) }
+        requires few { self.old.steps < 2 ^ 59 }
+        ensures { StepsOn self.old self.new id result }
+    {
+        self.arena.facts();
+        let operation = open(&self.operations, id);
+        let mut walk = operation.walk;
+        match load_row(
+            self.alloc,
+            &self.arena,
+            operation,
+            &mut walk,
+            self.steps + 1,
+        ) {
+            Ok(outcome) => {
+                self.steps += 1;
+                self.operations.go_on_with(id, self.steps, &walk, outcome);
+                ending(&walk)
+            }
+            Err(holder) => again(holder),
+        }
+    }
+
+    // Compares the version with the one that was remembered.
+    fn confirm(&mut self, id: usize) -> Move
+        requires next { IsNext self.old id (λ phase. phase ≡ Phase.Confirm) }
+        requires few { self.old.steps < 2 ^ 59 }
+        ensures { StepsOn self.old self.new id result }
+    {
+        self.arena.facts();
+        let operation = open(&self.operations, id);
+        let mut walk = operation.walk;
+        if let Some(holder) = confirm(&self.arena, &operation.task.key, &mut walk) {
+            return again(holder);
+        }
+        self.steps += 1;
+        if walk.phase == Phase::Done {
+            self.operations.go_on(id, self.steps, &walk);
+            return Move::Done;
+        }
+        self.operations.go_on_with(id, self.steps, &walk, None);
+        Move::Moved
+    }
+
+    // Takes the lock of the border node.
+    fn lock(&mut self, id: usize) -> Move
+        requires next { IsNext self.old id (λ phase. phase ≡ Phase.Lock) }
+        requires few { self.old.steps < 2 ^ 59 }
+        ensures { StepsOn self.old self.new id result }
+    {
+        self.arena.facts();
+        let operation = open(&self.operations, id);
+        let mut walk = operation.walk;
+        if let Some(holder) = lock(&mut self.arena, &operation.task.key, &mut walk, id) {
+            return again(holder);
+        }
+        self.steps += 1;
+        self.operations.go_on(id, self.steps, &walk);
+        Move::Moved
+    }
+
+    // Looks for the key under the lock, and makes all growths of the placing step.
+    fn judge(&mut self, id: usize) -> Move
+        requires next { IsNext self.old id (λ phase. phase ≡ Phase.Judge) }
+        requires few { self.old.steps < 2 ^ 59 }
+        ensures { StepsOn self.old self.new id result }
+    {
+        self.arena.facts();
+        self.steps += 1;
+        let operation = open(&self.operations, id);
+        let mut walk = operation.walk;
+        let prepared = judge(
+            self.alloc,
+            &mut self.arena,
+            &mut self.tape,
+            &operation.task,
+            &mut walk,
+            id,
+        );
+        match prepared {
+            Some(prepared) => {
+                self.operations.go_on(id, self.steps, &walk);
+                self.operations.make_ready(id, prepared);
+                Move::Moved
+            }
+            None => {
+                self.operations
+                    .go_on_with(id, self.steps, &walk, Some(no_memory(self.steps)));
+                Move::Done
+            }
+        }
+    }
+
+    // Writes the row over the one that is there.
+    fn store(&mut self, id: usize) -> Move
+        requires next { IsNext self.old id (λ phase. phase ≡ Phase.Store) }
+        requires few { self.old.steps < 2 ^ 59 }
+        ensures { StepsOn self.old self.new id result }
+    {
+        self.arena.facts();
+        self.steps += 1;
+        let prepared = taken_out(&mut self.operations, id);
+        let operation = open(&self.operations, id);
+        let mut walk = operation.walk;
+        store(
+            &mut self.arena,
+            &mut self.tape,
+            &operation.task,
+            &mut walk,
+            prepared,
+            self.steps,
+            id,
+        );
+        let told = placed(Reply::Replaced, self.steps);
+        self.operations
+            .go_on_with(id, self.steps, &walk, Some(told));
+        Move::Moved
+    }
+
+    // Judges the quota, and makes the pair live.
+    fn publish(&mut self, id: usize) -> Move
+        requires next { IsNext self.old id (λ phase. phase ≡ Phase.Publish) }
+        requires few { self.old.steps < 2 ^ 59 }
+        ensures { StepsOn self.old self.new id result }
+    {
+        self.arena.facts();
+        self.steps += 1;
+        let prepared = taken_out(&mut self.operations, id);
+        let operation = open(&self.operations, id);
+        let mut walk = operation.walk;
+        let is_new = publish(
+            &mut self.arena,
+            &mut self.tape,
+            &mut self.tenants,
+            &operation.task,
+            &mut walk,
+            prepared,
+            self.steps,
+            id,
+        );
+        let reply = if is_new { Reply::New } else { Reply::Full };
+        let told = placed(reply, self.steps);
+        self.operations
+            .go_on_with(id, self.steps, &walk, Some(told));
+        Move::Moved
+    }
+
+    // Makes the right half of the full border node.
+    fn split_start(&mut self, id: usize) -> Move
+        requires next { IsNext self.old id (λ phase. phase ≡ Phase.SplitStart) }
+        requires few { self.old.steps < 2 ^ 59 }
+        ensures { StepsOn self.old self.new id result }
+    {
+        self.arena.facts();
+        self.steps += 1;
+        let mut splits = Splits::new(self.alloc);
+        self.operations.swap_splits(id, &mut splits);
+        let operation = open(&self.operations, id);
+        let mut walk = operation.walk;
+        let begun = split_start(
+            &mut self.arena,
+            &mut self.tape,
+            &operation.task.key,
+            &mut walk,
+            &mut splits,
+            id,
+        );
+        self.operations.swap_splits(id, &mut splits);
+        match begun {
+            Ok(()) => {
+                self.operations.go_on(id, self.steps, &walk);
+                Move::Moved
+            }
+            Err(_) => {
+                self.operations.take_prepared(id);
+                self.operations
+                    .go_on_with(id, self.steps, &walk, Some(no_memory(self.steps)));
+                Move::Done
+            }
+        }
+    }
+
+    // Judges the quota, and parts the keys among the halves.
+    fn split_move(&mut self, id: usize) -> Move
+        requires next { IsNext self.old id (λ phase. phase ≡ Phase.SplitMove) }
+        requires few { self.old.steps < 2 ^ 59 }
+        ensures { StepsOn self.old self.new id result }
+    {
+        self.arena.facts();
+        self.steps += 1;
+        let prepared = taken_out(&mut self.operations, id);
+        let operation = open(&self.operations, id);
+        let mut walk = operation.walk;
+        let is_new = split_move(
+            &mut self.arena,
+            &mut self.tape,
+            &mut self.tenants,
+            &operation.task,
+            &mut walk,
+            &operation.splits,
+            prepared,
+            self.steps,
+            id,
+        );
+        let reply = if is_new { Reply::New } else { Reply::Full };
+        let told = placed(reply, self.steps);
+        self.operations
+            .go_on_with(id, self.steps, &walk, Some(told));
+        Move::Moved
+    }
+
+    // Brings a right half nearer to its place in its parent, or makes a root.
+    fn climb(&mut self, id: usize) -> Move
+        requires next { IsNext self.old id IsClimb }
+        requires few { self.old.steps < 2 ^ 59 }
+        ensures { StepsOn self.old self.new id result }
+    {
+        self.arena.facts();
+        let mut splits = Splits::new(self.alloc);
+        self.operations.swap_splits(id, &mut splits);
+        let mut walk = open(&self.operations, id).walk;
+        let climbed = climb_on(&mut self.arena, &mut walk, &mut splits, id);
+        self.operations.swap_splits(id, &mut splits);
+        match climbed {
+            Climbed::On => {
+                self.steps += 1;
+                self.operations.go_on(id, self.steps, &walk);
+                Move::Moved
+            }
+            Climbed::Blocked(holder) => again(holder),
+            Climbed::NoMemory => Move::NoMemory,
+        }
+    }
+
+    // Gives all locks back.
+    fn unlock(&mut self, id: usize) -> Move
+        requires next { IsNext self.old id (λ phase. phase ≡ Phase.Unlock) }
+        requires few { self.old.steps < 2 ^ 59 }
+        ensures { StepsOn self.old self.new id result }
+    {
+        if open(&self.operations, id).splits.halves.is_empty() {
+            self.unlock_one(id)
+        } else {
+            self.unlock_all(id)
+        }
+    }
+
+    // Gives the lock of the border node back.
+    fn unlock_one(&mut self, id: usize) -> Move
+        requires next { IsNext self.old id (λ phase. phase ≡ Phase.Unlock) }
+        requires few { self.old.steps < 2 ^ 59 }
+        requires unsplit { (op : AnyOperation) → operation_at self.old.table id ≡ Some op → op.splits.halves.items ≡ [] }
+        ensures { StepsOn self.old self.new id result }
+    {
+        self.steps += 1;
+        let mut walk = open(&self.operations, id).walk;
+        unlock(&mut self.arena, &mut walk, id);
+        self.operations.go_on(id, self.steps, &walk);
+        Move::Done
+    }
+
+    // Gives the locks of all nodes of the splits back.
+    fn unlock_all(&mut self, id: usize) -> Move
+        requires next { IsNext self.old id (λ phase. phase ≡ Phase.Unlock) }
+        requires few { self.old.steps < 2 ^ 59 }
+        requires split { (op : AnyOperation) → operation_at self.old.table id ≡ Some op → op.splits.halves.items ≢ [] }
+        ensures { StepsOn self.old self.new id result }
+    {
+        self.arena.facts();
+        self.steps += 1;
+        let mut splits = Splits::new(self.alloc);
+        self.operations.swap_splits(id, &mut splits);
+        let mut walk = open(&self.operations, id).walk;
+        unlock_all(&mut self.arena, &mut walk, &mut splits, id);
+        self.operations.swap_splits(id, &mut splits);
+        self.operations.go_on(id, self.steps, &walk);
+        Move::Done
+    }
+}
+
+// Another operation is in the way.
+fn again(holder: usize) -> Move
+    ensures { result ≡ Move.Again holder }
+{
+    Move::Again {
+        holder: holder as u64,
+    }
+}
+
+// What a step answers that leads to this walk.
+fn ending(walk: &Walk) -> Move
+    ensures { result ≡ ending walk.now.phase }
+{
+    if walk.phase == Phase::Done {
+        Move::Done
+    } else {
+        Move::Moved
+    }
+}
+
+// The outcome of a put that this step has judged.
+fn placed(reply: Reply, step: u64) -> Outcome
+    ensures { result ≡ record { reply = reply; at = step } }
+{
+    Outcome { reply, at: step }
+}
+
+// What the next step of an operation does; nothing, where no step of it is left.
+fn next_phase(operations: &Operations, id: usize) -> Option<Phase>
+    ensures { result ≡ phase_in (option_map view_of (operation_at operations.now id)) }
+{
+    match operations.get(id)?.walk.phase {
+        Phase::Done => None,
+        phase => Some(phase),
+    }
+}
+
+// The operation of an id, which is there.
+fn open<'a>(operations: &'a Operations, id: usize) -> &'a Operation
+    requires { IsSome (operation_at operations.now id) }
+    ensures { operation_at operations.now id ≡ Some result.now }
+{
+    match operations.get(id) {
+        Some(operation) => operation,
+        None => unreachable!(),
+    }
+}
+
+// Takes out what an operation has made ready.
+fn taken_out(operations: &mut Operations, id: usize) -> Prepared
+    requires { (op : AnyOperation) × (operation_at operations.old id ≡ Some op) × (op.prepared ≢ None) }
+    ensures { (op : AnyOperation) → operation_at operations.old id ≡ Some op →
+        (op.prepared ≡ Some result) × (operations.new ≡ slice_set operations.old id (Some (record op { prepared = None }))) }
+{
+    match operations.take_prepared(id) {
+        Some(prepared) => prepared,
+        None => unreachable!(),
+    }
+}

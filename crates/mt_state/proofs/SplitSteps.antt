@@ -1,0 +1,415 @@
+-- The steps of a split that move no pair: it starts or stops, its right halves climb, and all locks are given back: for a put whose node is full.
+use Rattle.std.proofs.Common.{◌≡◌, ◌≢◌, ℕ, ◌+◌, ◌-◌, ◌<◌, ◌⊎◌, inl, inr, Bool, true, false, List, [], ◌∷◌, length, Option, Some, None, refl, sym, ap, subst, ◌∙◌, arith}
+use Rattle.std.specs.Prelude.{◌^◌}
+use Rattle.std.proofs.lemmas.Bool.{cases_eq, both_ways}
+use Rattle.std.proofs.lemmas.Option.{same_Some}
+use Rattle.mt_rows.specs.declared.reply.Reply.TheVariants.{NoMemory}
+use Rattle.mt_tape.specs.Tapes.{Kept}
+use Rattle.mt_arena.specs.declared.tree.Tree.{Tree}
+use Rattle.mt_arena.specs.NodeView.{NodeView}
+use Rattle.mt_arena.specs.Edits.{unlocked}
+use Rattle.mt_arena.specs.Forests.{tree_at}
+use Rattle.mt_arena.specs.Contents.{counts}
+use Rattle.mt_arena.specs.Arena.{ArenaView, content_of, Guarantee}
+use Rattle.mt_arena.specs.Accesses.{at, IsHeld, with_node}
+use Rattle.mt_operation.specs.declared.walk.Phase.{Phase}
+use Rattle.mt_operation.specs.declared.walk.Phase.TheVariants.{Enter, SplitStart, SplitMove, SplitPrev, LockParent, InsertChild, InteriorSplit, Reparent, RootGrow, Unlock, Done}
+use Rattle.mt_operation.specs.declared.walk.Walk.{Walk}
+use Rattle.mt_operation.specs.declared.outcome.Outcome.{Outcome}
+use Rattle.mt_operation.specs.declared.splits.Halves.{Halves}
+use Rattle.mt_operation.specs.declared.splits.Splits.{Splits}
+use Rattle.mt_operation.specs.declared.operation.Operation.{Operation}
+use Rattle.mt_operation.specs.Operations.{OperationView, view_of, is_done}
+use Rattle.mt_operation.specs.Tables.{op_at as operation_at}
+use Rattle.mt_insert.specs.Moves.{released}
+use Rattle.mt_insert.specs.Splitting.{IsAmong, IsAtSplitMove, IsAtUnlockAll, KeptSplit}
+use Rattle.mt_insert.specs.SplitMoves.{Returns}
+use Rattle.mt_state.specs.Views.{StateView, Core, shown}
+use Rattle.mt_state.specs.Steps.{MayFollow, told_change}
+use Rattle.mt_state.specs.Notes.{Notes}
+use Rattle.mt_state.specs.Promises.{IsAnswer, Touches}
+use Rattle.mt_state.specs.Kept.{IsOfKind, IsOpenOperation, IsSplitStarting, IsSplitMoving, HasAnswer, MayUnlock, IsUnlocking, IsKeptAt, has_splits}
+use Rattle.mt_state.specs.Invariant.{IsCountedUpTo, IsOneTree, HoldsLast, HoldsAt, StateInvariant}
+use Rattle.mt_state.specs.Writes.{HasPairsOf, MovesNoPair, IsClimb, StartsSplit, StopsSplit, Climbs, ReturnsAll, splitting}
+use Rattle.mt_state.proofs.Rely.{answer_stays}
+use Rattle.mt_state.proofs.Telling.{Gives}
+use Rattle.mt_state.proofs.Quiet.{LeavesPairs}
+use Rattle.mt_state.proofs.Moved.{went_with, first_same, first_begun, first_upto}
+use Rattle.mt_state.proofs.Still.{IsUnready, unready_none}
+use Rattle.mt_state.proofs.Reading.{walk_same}
+use Rattle.mt_state.proofs.OneNode.{same_counts, counted_unlocked, replaced_at, replaced_touches, replaced_leaves, quiet_grows, holds_here, quiet_gives_with}
+use Rattle.mt_state.proofs.Locking.{ready_one, room_for}
+
+-- a phase at which an operation holds halves whose keys are parted
+abbrev pub HasHalves : Phase → Type 0
+HasHalves Unlock = Unit {0}
+HasHalves phase = IsClimb phase
+
+-- where a right half comes nearer to its place, it goes on so, or all may be given back
+climb_leads : (p q : Phase) → IsClimb p → MayFollow p q → HasHalves q
+climb_leads SplitPrev LockParent i f = tt
+climb_leads SplitPrev _ i f = absurd f
+climb_leads LockParent InsertChild i f = tt
+climb_leads LockParent InteriorSplit i f = tt
+climb_leads LockParent RootGrow i f = tt
+climb_leads LockParent _ i f = absurd f
+climb_leads InsertChild Unlock i f = tt
+climb_leads InsertChild _ i f = absurd f
+climb_leads InteriorSplit Reparent i f = tt
+climb_leads InteriorSplit _ i f = absurd f
+climb_leads Reparent Reparent i f = tt
+climb_leads Reparent LockParent i f = tt
+climb_leads Reparent _ i f = absurd f
+climb_leads RootGrow Unlock i f = tt
+climb_leads RootGrow _ i f = absurd f
+climb_leads _ q i f = absurd i
+
+halves_of : (p : Phase) → IsClimb p → HasHalves p
+halves_of Unlock i = tt
+halves_of _ i = i
+
+-- an operation at such a phase writes, has a step left and nothing made ready, and may have splits
+halves_begun : (p : Phase) → HasHalves p → p ≢ Enter
+halves_begun Enter i e = i
+halves_begun _ i e = absurd (cc)
+
+halves_write : (p : Phase) → HasHalves p → (writes : Bool) → IsOfKind p writes → writes ≡ true
+halves_write SplitPrev i writes kind = kind
+halves_write LockParent i writes kind = kind
+halves_write InsertChild i writes kind = kind
+halves_write InteriorSplit i writes kind = kind
+halves_write Reparent i writes kind = kind
+halves_write RootGrow i writes kind = kind
+halves_write Unlock i writes kind = kind
+halves_write _ i writes kind = absurd i
+
+pub halves_kind : (p : Phase) → HasHalves p → (writes : Bool) → writes ≡ true → IsOfKind p writes
+halves_kind SplitPrev i writes is = is
+halves_kind LockParent i writes is = is
+halves_kind InsertChild i writes is = is
+halves_kind InteriorSplit i writes is = is
+halves_kind Reparent i writes is = is
+halves_kind RootGrow i writes is = is
+halves_kind Unlock i writes is = is
+halves_kind _ i writes is = absurd i
+
+pub halves_open : (p : Phase) → HasHalves p → is_done p ≡ false
+halves_open Done i = absurd i
+halves_open _ i = refl
+
+pub halves_unready : (p : Phase) → HasHalves p → IsUnready p
+halves_unready SplitPrev i = tt
+halves_unready LockParent i = tt
+halves_unready InsertChild i = tt
+halves_unready InteriorSplit i = tt
+halves_unready Reparent i = tt
+halves_unready RootGrow i = tt
+halves_unready Unlock i = tt
+halves_unready _ i = absurd i
+
+pub halves_split : (p : Phase) → HasHalves p → has_splits p ≡ true
+halves_split SplitPrev i = refl
+halves_split LockParent i = refl
+halves_split InsertChild i = refl
+halves_split InteriorSplit i = refl
+halves_split Reparent i = refl
+halves_split RootGrow i = refl
+halves_split Unlock i = refl
+halves_split _ i = absurd i
+
+-- it holds nodes of its splits alone
+holds_last : (l : List Halves) (w : Walk) (s : Splits) (k : ℕ) → l ≢ [] → IsAmong s k → HoldsLast l w s k
+holds_last [] w s k some among = absurd (some refl)
+holds_last (x ∷ l) w s k some among = among
+
+pub halves_held : (p : Phase) → HasHalves p → (w : Walk) (s : Splits) (k : ℕ) → s.halves.items ≢ [] → IsAmong s k → HoldsAt p w s k
+halves_held SplitPrev i w s k some among = among
+halves_held LockParent i w s k some among = among
+halves_held InsertChild i w s k some among = among
+halves_held InteriorSplit i w s k some among = among
+halves_held Reparent i w s k some among = among
+halves_held RootGrow i w s k some among = among
+halves_held Unlock i w s k some among = holds_last s.halves.items w s k some among
+halves_held _ i w s k some among = absurd i
+
+-- and what is kept of it is what is kept of the splits, and its answer
+may_unlock : (l : List Halves) (v : ArenaView) (o : ℕ) (op : Operation) → l ≢ [] → IsAtUnlockAll v o op.splits → MayUnlock l v o op
+may_unlock [] v o op some all = absurd (some refl)
+may_unlock (x ∷ l) v o op some all = all
+
+may_unlock_all : (l : List Halves) (v : ArenaView) (o : ℕ) (op : Operation) → l ≢ [] → MayUnlock l v o op → IsAtUnlockAll v o op.splits
+may_unlock_all [] v o op some may = absurd (some refl)
+may_unlock_all (x ∷ l) v o op some may = may
+
+pub halves_kept : (p : Phase) → HasHalves p → (c : Core) (o : ℕ) (op : Operation) → op.splits.halves.items ≢ [] → KeptSplit p c.arena o op.splits → HasAnswer c op → IsKeptAt p c o op
+halves_kept SplitPrev i c o op some kept answer = record { climbs = kept; answer = answer }
+halves_kept LockParent i c o op some kept answer = record { climbs = kept; answer = answer }
+halves_kept InsertChild i c o op some kept answer = record { climbs = kept; answer = answer }
+halves_kept InteriorSplit i c o op some kept answer = record { climbs = kept; answer = answer }
+halves_kept Reparent i c o op some kept answer = record { climbs = kept; answer = answer }
+halves_kept RootGrow i c o op some kept answer = record { climbs = kept; answer = answer }
+halves_kept Unlock i c o op some kept answer = record { unlocks = may_unlock op.splits.halves.items c.arena o op some kept; answer = answer }
+halves_kept _ i c o op some kept answer = absurd i
+
+halves_answer : (p : Phase) → HasHalves p → (c : Core) (o : ℕ) (op : Operation) → IsKeptAt p c o op → HasAnswer c op
+halves_answer SplitPrev i c o op kept = kept.answer
+halves_answer LockParent i c o op kept = kept.answer
+halves_answer InsertChild i c o op kept = kept.answer
+halves_answer InteriorSplit i c o op kept = kept.answer
+halves_answer Reparent i c o op kept = kept.answer
+halves_answer RootGrow i c o op kept = kept.answer
+halves_answer Unlock i c o op kept = kept.answer
+halves_answer _ i c o op kept = absurd i
+
+-- a step of it leaves the outcome
+climb_notes : (p q : Phase) → IsClimb p → (old : StateView) (op : OperationView) → Notes old op p q op.outcome
+climb_notes SplitPrev q i old op = refl
+climb_notes LockParent q i old op = refl
+climb_notes InsertChild q i old op = refl
+climb_notes InteriorSplit q i old op = refl
+climb_notes Reparent q i old op = refl
+climb_notes RootGrow q i old op = refl
+climb_notes _ q i old op = absurd i
+
+-- whose node it is can be told
+is_held_or_not : (x : Option ℕ) (o : ℕ) → (x ≡ Some o) ⊎ (x ≢ Some o)
+is_held_or_not None o = inr (λ e. absurd (cc))
+is_held_or_not (Some q) o = elim (cases_eq q o) [
+  | inl same ↦ inl (ap Some same)
+  | inr other ↦ inr (λ e. other (same_Some q o e))
+]
+
+module _ (c : Core) (o : ℕ) (h : StateInvariant c) (arena : ArenaView) where
+  -- what moves no pair leaves all pairs
+  moves_leave : MovesNoPair c o arena → LeavesPairs c o arena
+  moves_leave m = record {
+    guarantee = m.leaves.guarantee;
+    contents = m.leaves.contents;
+    stood = m.stood;
+    versions = λ k inside. let was = m.versions k inside in record { inserts = omega (arith, was.inserts); splits = omega (arith, was.splits) };
+    one_tree = m.one_tree;
+  }
+
+  -- the locks of some nodes of the operation were given back
+  module _ (count : length arena.nodes ≡ length c.arena.nodes) (trees : arena.trees ≡ c.arena.trees)
+      (each : (k : ℕ) → k < length c.arena.nodes → (((at c.arena k).holder ≡ Some o) × (at arena k ≡ unlocked (at c.arena k))) ⊎ (at arena k ≡ at c.arena k)) where
+    same : (k : ℕ) → k < length c.arena.nodes → ((at arena k).slots ≡ (at c.arena k).slots) × ((at arena k).tree ≡ (at c.arena k).tree) × ((at arena k).version.deleted ≡ (at c.arena k).version.deleted)
+    same k inside = elim (each k inside) [
+      | inl (held, is) ↦ (ap (λ (n : NodeView). n.slots) is, ap (λ (n : NodeView). n.tree) is, ap (λ (n : NodeView). n.version.deleted) is)
+      | inr is ↦ (ap (λ (n : NodeView). n.slots) is, ap (λ (n : NodeView). n.tree) is, ap (λ (n : NodeView). n.version.deleted) is)
+    ]
+
+    stood : (k : ℕ) → k < length arena.nodes → counts arena.trees (at arena k) ≡ true → HasPairsOf c.arena arena k
+    stood k inside counted =
+        let was : k < length c.arena.nodes = omega (arith, inside, count) in
+        let is = same k was in
+        record {
+          there = was;
+          counted = ap (λ (t : List Tree). counts t (at c.arena k)) (sym trees) ∙ sym (same_counts arena.trees (at arena k) (at c.arena k) is.2 is.1) ∙ counted;
+          prefix = ap (λ t. (tree_at arena.trees t).prefix) is.1 ∙ ap (λ (t : List Tree). (tree_at t (at c.arena k).tree).prefix) trees;
+          slots = is.0;
+        }
+
+    returned_versions : (k : ℕ) → k < length arena.nodes → IsCountedUpTo (c.steps + 1) (at arena k)
+    returned_versions k inside =
+        let was = h.versions k (omega (arith, inside, count)) in
+        elim (each k (omega (arith, inside, count))) [
+          | inl (held, is) ↦ subst (IsCountedUpTo (c.steps + 1)) (sym is) (counted_unlocked (at c.arena k) c.steps was (unlocked (at c.arena k)) refl)
+          | inr is ↦ subst (IsCountedUpTo (c.steps + 1)) (sym is) (record { inserts = omega (arith, was.inserts); splits = omega (arith, was.splits) })
+        ]
+
+    returned_tree : IsOneTree arena
+    returned_tree = record {
+      count = ap (λ (t : List Tree). length t) trees ∙ h.one_tree.count;
+      prefix = ap (λ (t : List Tree). (tree_at t 0).prefix) trees ∙ h.one_tree.prefix;
+      standing = ap (λ (t : List Tree). (tree_at t 0).standing) trees ∙ h.one_tree.standing;
+      live = λ k inside. let was : k < length c.arena.nodes = omega (arith, inside, count) in (same k was).2 ∙ h.one_tree.live k was;
+    }
+
+    returned_leaves : Guarantee o c.arena arena → content_of arena ≡ content_of c.arena → LeavesPairs c o arena
+    returned_leaves guarantee contents = record {
+      guarantee = guarantee;
+      contents = contents;
+      stood = λ k inside counted. inl (stood k inside counted);
+      versions = returned_versions;
+      one_tree = returned_tree;
+    }
+
+    returned_touches : Touches o c.arena arena
+    returned_touches k inside = elim (each k inside) [
+      | inl (held, is) ↦ inr (inl (inl held))
+      | inr is ↦ inl is
+    ]
+
+-- the operation holds each node of splits that it may give back
+among_held : (v : ArenaView) (o : ℕ) (s : Splits) → IsAtUnlockAll v o s → (k : ℕ) → IsAmong s k → IsHeld v k o
+among_held v o s all k among = elim among [
+  | inl half ↦ let both = all.halves half.place half.in_range in elim half.is [
+    | inl left ↦ subst (λ j. IsHeld v j o) left both.left.held
+    | inr right ↦ subst (λ j. IsHeld v j o) right both.right.held
+  ]
+  | inr above ↦ (all.above k above).held
+]
+
+module _ (c : Core) (o : ℕ) (h : StateInvariant c) (few : c.steps < 2 ^ 59) (op : Operation) (there : operation_at c.table o ≡ Some op) where
+  always : IsOpenOperation c op
+  always = (h.ops o op there).always
+
+  -- an answer that is there stays right
+  answer_on : (arena : ArenaView) (w : Walk) (s : Splits) → content_of arena ≡ content_of c.arena → 0 < op.walk.first → HasAnswer c op
+      → HasAnswer (splitting c arena c.tape c.accounts o op w op.outcome op.prepared s) (went_with op (c.steps + 1) w op.outcome op.prepared s)
+  answer_on arena w s contents begun answer =
+      let after = went_with op (c.steps + 1) w op.outcome op.prepared s in
+      let new = splitting c arena c.tape c.accounts o op w op.outcome op.prepared s in
+      let first = first_same c op always w begun in
+      let stays : IsAnswer (shown new) (view_of op) answer.outcome = answer_stays (shown c) (shown new) (quiet_grows c o arena c.tape.reserved after contents) (view_of op) answer.outcome always.made answer.right in
+      record {
+        outcome = answer.outcome;
+        told = answer.told;
+        right = record {
+          begun = first_begun c op always w;
+          since = omega (arith, first, stays.since);
+          upto = omega (arith, stays.upto, always.made);
+          placed = stays.placed;
+        };
+        unprepared = answer.unprepared;
+      }
+
+  -- a right half comes nearer to its place
+  pub climb_done : (arena : ArenaView) (w : Walk) (s : Splits) → IsClimb op.walk.phase → Climbs c o op arena w s → Gives (shown c) (splitting c arena c.tape c.accounts o op w op.outcome op.prepared s) o false
+  climb_done arena w s climb t =
+      let was = halves_of op.walk.phase climb in
+      let leads = climb_leads op.walk.phase w.phase climb t.follows in
+      let after = went_with op (c.steps + 1) w op.outcome op.prepared s in
+      let new = splitting c arena c.tape c.accounts o op w op.outcome op.prepared s in
+      let answer = answer_on arena w s t.moves.leaves.contents (always.begun (halves_begun op.walk.phase was)) (halves_answer op.walk.phase was c o op (h.ops o op there).kept) in
+      quiet_gives_with c (shown c) o refl h few op there arena c.tape.reserved w op.outcome op.prepared s
+      (moves_leave c o h arena t.moves) (halves_open op.walk.phase was) t.follows t.same.writes
+      (halves_kind w.phase leads w.writes (t.same.writes ∙ halves_write op.walk.phase was op.walk.writes always.kind)) refl
+      (climb_notes op.walk.phase w.phase climb (shown c) (view_of op))
+      (λ k inside holds. halves_held w.phase leads after.walk s k t.some (t.holds k inside holds))
+      (halves_kept w.phase leads new o after t.some t.kept answer)
+      (λ none. absurd (both_ways _ none (halves_split w.phase leads)))
+      (let none = unready_none op op.walk.phase refl (halves_unready op.walk.phase was) in let no = unready_none after w.phase refl (halves_unready w.phase leads) in omega (arith, none, no))
+      t.moves.touches false (sym (halves_open w.phase leads))
+
+  module _ (at_start : op.walk.phase ≡ SplitStart) where
+    starting : IsSplitStarting c o op
+    starting = subst (λ (p : Phase). IsKeptAt p c o op) at_start (h.ops o op there).kept
+
+    begun_start : 0 < op.walk.first
+    begun_start = always.begun (λ enters. absurd (let no : SplitStart ≡ Enter = sym at_start ∙ enters in cc))
+
+    starts_on : op.walk.writes ≡ true
+    starts_on = subst (λ (p : Phase). IsOfKind p op.walk.writes) at_start always.kind
+
+    -- the right half of the full node is made
+    pub start_done : (arena : ArenaView) (w : Walk) (s : Splits) → StartsSplit c o op arena w s → Gives (shown c) (splitting c arena c.tape c.accounts o op w op.outcome op.prepared s) o false
+    start_done arena w s t =
+        let after = went_with op (c.steps + 1) w op.outcome op.prepared s in
+        let new = splitting c arena c.tape c.accounts o op w op.outcome op.prepared s in
+        let moves : w.phase ≡ SplitMove = ap (λ (x : Walk). x.phase) t.walk in
+        let whole = walk_same c op always w begun_start t.same.first in
+        let own : IsSplitMoving new o after = record {
+          prepared = starting.prepared;
+          has = starting.has;
+          moves = subst (λ (x : Walk). IsAtSplitMove arena o op.task starting.prepared x s) (sym whole) (t.kept starting.prepared starting.has);
+          untold = starting.untold;
+        } in
+        quiet_gives_with c (shown c) o refl h few op there arena c.tape.reserved w op.outcome op.prepared s
+        (moves_leave c o h arena t.moves) (ap is_done at_start)
+        (subst (λ (p : Phase). MayFollow p w.phase) (sym at_start) (subst (MayFollow SplitStart) (sym moves) tt))
+        t.same.writes (subst (λ (p : Phase). IsOfKind p w.writes) (sym moves) (t.same.writes ∙ starts_on)) refl
+        (subst (λ (p : Phase). Notes (shown c) (view_of op) p w.phase op.outcome) (sym at_start) (subst (λ (p : Phase). Notes (shown c) (view_of op) SplitStart p op.outcome) (sym moves) starting.untold))
+        (λ k inside holds. subst (λ (p : Phase). HoldsAt p after.walk s k) (sym moves) (t.holds k inside holds))
+        (subst (λ (p : Phase). IsKeptAt p new o after) (sym moves) own)
+        (λ none. absurd (both_ways _ none (ap has_splits moves)))
+        (let one = ready_one op SplitStart at_start refl in let now = ready_one after SplitMove moves refl in omega (arith, one, now))
+        t.moves.touches false (sym (ap is_done moves))
+
+    -- there is no memory for it: the lock and the room on the tape are given back
+    pub stop_done : (arena : ArenaView) (tape : Kept) (w : Walk) (s : Splits) → StopsSplit c o op arena tape w s
+        → Gives (shown c) (splitting c arena tape c.accounts o op w (Some (record { reply = NoMemory; at = c.steps + 1 })) None s) o true
+    stop_done arena tape w s t =
+        let told : Option Outcome = Some (record { reply = NoMemory; at = c.steps + 1 }) in
+        let k = op.walk.place.node in
+        let n = at c.arena op.walk.place.node in
+        let after = went_with op (c.steps + 1) w told None s in
+        let new = splitting c arena (released c.tape) c.accounts o op w told None s in
+        let g = t.gives in
+        let within = starting.starts.holds.judged.held.there in
+        let ends : w.phase ≡ Done = ap (λ (x : Walk). x.phase) g.walk in
+        let own : HasAnswer new after = record {
+          outcome = record { reply = NoMemory; at = c.steps + 1 };
+          told = refl;
+          right = record {
+            begun = first_begun c op always w;
+            since = first_upto c op always w;
+            upto = omega arith;
+            placed = λ real. absurd (cc);
+          };
+          unprepared = refl;
+        } in
+        subst (λ (tape : Kept). Gives (shown c) (splitting c arena tape c.accounts o op w told None s) o true) (sym t.tape_is)
+        (quiet_gives_with c (shown c) o refl h few op there arena (c.tape.reserved - 1) w told None s
+        (subst (LeavesPairs c o) (sym g.is) (replaced_leaves c o h k within (unlocked n) refl refl refl (counted_unlocked n c.steps (h.versions k within) (unlocked n) refl)
+        (subst (Guarantee o c.arena) g.is g.leaves.guarantee) (subst (λ (v : ArenaView). content_of v ≡ content_of c.arena) g.is g.leaves.contents)))
+        (ap is_done at_start)
+        (subst (λ (p : Phase). MayFollow p w.phase) (sym at_start) (subst (MayFollow SplitStart) (sym ends) tt))
+        g.same.writes (subst (λ (p : Phase). IsOfKind p w.writes) (sym ends) tt) (sym (ap told_change starting.untold))
+        (subst (λ (p : Phase). Notes (shown c) (view_of op) p w.phase told) (sym at_start) (subst (λ (p : Phase). Notes (shown c) (view_of op) SplitStart p told) (sym ends) refl))
+        (λ j inside holds. absurd (free within j (subst (λ (v : ArenaView). j < length v.nodes) g.is inside) (subst (λ (v : ArenaView). (at v j).holder ≡ Some o) g.is holds)))
+        (subst (λ (p : Phase). IsKeptAt p new o after) (sym ends) own)
+        (λ none. t.unsplit)
+        (let one = ready_one op SplitStart at_start refl in let no = unready_none after Done ends tt in let some = room_for c h o op SplitStart there at_start refl in omega (arith, one, no, some))
+        (subst (Touches o c.arena) (sym g.is) (replaced_touches c.arena k within (unlocked n) o (inl starting.starts.holds.judged.held.holder)))
+        true (sym (ap is_done ends)))
+      where
+        free : (within : op.walk.place.node < length c.arena.nodes) (j : ℕ) → j < length (with_node c.arena op.walk.place.node (unlocked (at c.arena op.walk.place.node))).nodes
+            → (at (with_node c.arena op.walk.place.node (unlocked (at c.arena op.walk.place.node))) j).holder ≡ Some o → ⊥
+        free within j inside holds = let r = replaced_at c.arena op.walk.place.node within (unlocked (at c.arena op.walk.place.node)) j inside in elim r.1 [
+          | inl same ↦ let no = ap (λ (m : NodeView). m.holder) (sym same.1) ∙ holds in cc
+          | inr other ↦ other.0 (holds_here c (shown c) o refl h few op there SplitStart at_start j r.0 (ap (λ (m : NodeView). m.holder) (sym other.1) ∙ holds))
+        ]
+
+  module _ (at_unlock : op.walk.phase ≡ Unlock) (some : op.splits.halves.items ≢ []) where
+    unlocking : IsUnlocking c o op
+    unlocking = subst (λ (p : Phase). IsKeptAt p c o op) at_unlock (h.ops o op there).kept
+
+    all : IsAtUnlockAll c.arena o op.splits
+    all = may_unlock_all op.splits.halves.items c.arena o op some unlocking.unlocks
+
+    begun_unlock : 0 < op.walk.first
+    begun_unlock = always.begun (λ enters. absurd (let no : Unlock ≡ Enter = sym at_unlock ∙ enters in cc))
+
+    last_among : (l : List Halves) (k : ℕ) → l ≢ [] → HoldsLast l op.walk op.splits k → IsAmong op.splits k
+    last_among [] k there holds = absurd (there refl)
+    last_among (x ∷ l) k there holds = holds
+
+    -- each node is one of the splits, whose lock was given back, or is as it was
+    each_returned : (arena : ArenaView) → Returns c.arena arena op.splits → (k : ℕ) → k < length c.arena.nodes
+        → (((at c.arena k).holder ≡ Some o) × (at arena k ≡ unlocked (at c.arena k))) ⊎ (at arena k ≡ at c.arena k)
+    each_returned arena r k inside = elim (is_held_or_not (at c.arena k).holder o) [
+      | inl held ↦ inl (held, r.given k (last_among op.splits.halves.items k some (holds_here c (shown c) o refl h few op there Unlock at_unlock k inside held)))
+      | inr free ↦ inr (r.others k (λ among. free (among_held c.arena o op.splits all k among).holder))
+    ]
+
+    -- the locks of all nodes of the splits are given back
+    pub return_done : (arena : ArenaView) (w : Walk) (s : Splits) → ReturnsAll c o op arena w s → Gives (shown c) (splitting c arena c.tape c.accounts o op w op.outcome op.prepared s) o true
+    return_done arena w s t =
+        let after = went_with op (c.steps + 1) w op.outcome op.prepared s in
+        let new = splitting c arena c.tape c.accounts o op w op.outcome op.prepared s in
+        let ends : w.phase ≡ Done = ap (λ (x : Walk). x.phase) t.walk in
+        let each = each_returned arena t.is in
+        quiet_gives_with c (shown c) o refl h few op there arena c.tape.reserved w op.outcome op.prepared s
+        (returned_leaves c o h arena t.is.count t.is.trees each t.leaves.guarantee t.leaves.contents)
+        (ap is_done at_unlock)
+        (subst (λ (p : Phase). MayFollow p w.phase) (sym at_unlock) (subst (MayFollow Unlock) (sym ends) tt))
+        t.same.writes (subst (λ (p : Phase). IsOfKind p w.writes) (sym ends) tt) refl
+        (subst (λ (p : Phase). Notes (shown c) (view_of op) p w.phase op.outcome) (sym at_unlock) (subst (λ (p : Phase). Notes (shown c) (view_of op) Unlock p op.outcome) (sym ends) refl))
+        (λ k inside holds. absurd (t.nothing k inside holds))
+        (subst (λ (p : Phase). IsKeptAt p new o after) (sym ends) (answer_on arena w s t.leaves.contents begun_unlock unlocking.answer))
+        (λ none. t.unsplit)
+        (let none = unready_none op Unlock at_unlock tt in let no = unready_none after Done ends tt in omega (arith, none, no))
+        (returned_touches c o h arena t.is.count t.is.trees each)
+        true (sym (ap is_done ends))
