@@ -25,7 +25,7 @@ use Rattle.mt_arena.proofs.Links.{long_link}
 use Rattle.mt_arena.proofs.Elsewhere.{mark_short}
 
 -- a key with the long mark reaches below the next layer
-long_below : (key : Bytes) (layer : ℕ) → mark_of key layer ≡ Long → 8 * (layer + 1) < length key
+pub long_below : (key : Bytes) (layer : ℕ) → mark_of key layer ≡ Long → 8 * (layer + 1) < length key
 long_below key layer is =
     let size = length-drop (8 * layer) key in
     elim (cases_lt 8 (length (rest_of key layer))) [
@@ -34,7 +34,7 @@ long_below key layer is =
     ]
 
 -- a prefix and the next slice are the prefix of the next layer
-next_prefix : (prefix key : Bytes) (layer slice : ℕ) → AreBytes key → 8 * (layer + 1) ≤ length key → prefix ≡ take (8 * layer) key → slice ≡ slice_of key layer → prefix ++ to_be_bytes w64 slice ≡ take (8 * (layer + 1)) key
+pub next_prefix : (prefix key : Bytes) (layer slice : ℕ) → AreBytes key → 8 * (layer + 1) ≤ length key → prefix ≡ take (8 * layer) key → slice ≡ slice_of key layer → prefix ++ to_be_bytes w64 slice ≡ take (8 * (layer + 1)) key
 next_prefix prefix key layer slice bytes reaches begins is =
     let rest = rest_of key layer in
     let more : 8 * layer + 8 ≡ 8 * (layer + 1) = omega arith in

@@ -1,5 +1,5 @@
 -- The whole invariant, the guarantee and the contents where a right half is made, or a tree with its root: for `alloc_node` and
--- `new_tree`.
+-- `MakingLayer`.
 use Rattle.std.proofs.Common.{◌≡◌, ℕ, ◌+◌, ◌*◌, ◌<◌, ◌≤◌, List, [], ◌∷◌, ◌++◌, length, set, false, Some, refl, sym, ap, subst, ◌∙◌, inl, inr, arith, length-append}
 use Rattle.std.proofs.lemmas.Bool.{cases_eq}
 use Rattle.std.proofs.lemmas.List.{length-set}
@@ -17,7 +17,7 @@ use Rattle.mt_arena.specs.Guarantee.{NodesGuarantee, PointsOnly}
 use Rattle.mt_arena.specs.Edits.{splitting, fresh_half, fresh_root}
 use Rattle.mt_arena.specs.Contents.{content}
 use Rattle.mt_arena.specs.Arena.{IsArena, ArenaInvariant, ArenaView, Guarantee}
-use Rattle.mt_arena.specs.Accesses.{at, IsOpen, with_half, with_tree}
+use Rattle.mt_arena.specs.Accesses.{at, IsOpen, with_half}
 use Rattle.mt_arena.proofs.Pairs.{here, last, before}
 use Rattle.mt_arena.proofs.Push.{nodes_half, nodes_root}
 use Rattle.mt_arena.proofs.Ranged.{ranged_root}
@@ -26,7 +26,7 @@ use Rattle.mt_arena.proofs.Homes.{forest_push}
 use Rattle.mt_arena.proofs.Trees.{forest_tree, made, last_tree, before_tree}
 use Rattle.mt_arena.proofs.LinkEdits.{no_links}
 use Rattle.mt_arena.proofs.Retiring.{retired_push}
-use Rattle.mt_arena.proofs.Guarantees.{guarantee_on, guarantee_set, guarantee_push, guarantee_tree, points_set, points_push}
+use Rattle.mt_arena.proofs.Guarantees.{guarantee_on, guarantee_set, guarantee_push, points_set, points_push}
 use Rattle.mt_arena.proofs.ContentQuiet.{content-set, stands_pushed, stands_tree_pushed}
 use Rattle.mt_arena.proofs.Locks.{is_held, sound_splitting, changes_splitting}
 use Rattle.mt_arena.proofs.Naming.{points_on}
@@ -158,13 +158,6 @@ sound_tree xs trees gone room more op prefix sound enough whole =
       retired = retired_push xs gone y sound.retired refl;
       enough = omega (arith, length-append xs (y ∷ []), enough);
     }
-
--- what a new tree leaves to others
-pub step_tree : (v : ArenaView) (prefix : Bytes) (op : ℕ) → Guarantee op v (with_tree v prefix op)
-step_tree v prefix op = record {
-  nodes = guarantee_tree op v.nodes v.trees (fresh_root (length v.trees)) (made prefix (length v.nodes) op) (omega arith) (λ q other e. absurd (cc));
-  points = points_push op v.nodes (fresh_root (length v.trees)) (λ j lt e. absurd (cc)) refl;
-}
 
 -- one more tree with an empty root leaves the contents
 pub content_tree : (xs : List NodeView) (trees : List Tree) (y : NodeView) (u : Tree) → IsArena xs trees → y.slots ≡ [] → content (trees ++ u ∷ []) (xs ++ y ∷ []) ≡ content trees xs

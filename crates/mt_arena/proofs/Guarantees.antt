@@ -107,7 +107,7 @@ stays_unmade op b c unmade second Live is q e = second.live is q e
 stays_unmade op b c unmade second Dead is q e = absurd (let same = sym is ∙ ap (λ (t : Tree). t.standing) (sym (second.dead is)) ∙ e in cc)
 
 -- a tree that is being made is there
-made_there : (trees : List Tree) (t q : ℕ) → (tree_at trees t).standing ≡ Made q → t < length trees
+pub made_there : (trees : List Tree) (t q : ℕ) → (tree_at trees t).standing ≡ Made q → t < length trees
 made_there trees t q made = elim (cases_lt t (length trees)) [
   | inl within ↦ within
   | inr beyond ↦ absurd (let none = sym (ap (λ (u : Tree). u.standing) (get_or_past trees t no_tree beyond)) ∙ made in cc)

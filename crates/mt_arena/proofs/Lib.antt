@@ -25,7 +25,7 @@ pub mod Owners
 pub mod ContentQuiet
 pub mod Start
 pub mod Halves
-pub mod Layering
+pub mod GoingLive
 pub mod Down
 pub mod Child
 pub mod Collapse
@@ -60,3 +60,11 @@ pub mod SlotPlaces
 pub mod Settling
 pub mod Alone
 pub mod ChildPlace
+pub mod HeldOtherwise
+pub mod MakingLayer
+pub mod NoLayer
+pub mod LiveTree
+pub mod GoingLinked
+pub mod NextLayer
+pub mod LayerStays
+pub mod SettledBut

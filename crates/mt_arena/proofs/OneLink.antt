@@ -1,4 +1,4 @@
--- A live tree has one link, two slots of live nodes that lead to it are one: for `DroppingLayer`.
+-- A live tree has one link, two slots of live nodes that lead to it are one: for `DroppingLayer` and `NoLayer`.
 use Rattle.std.proofs.Common.{◌≡◌, ◌≢◌, ℕ, ◌+◌, ◌^◌, ◌<◌, List, ◌++◌, length, take, drop, false, refl, sym, ap, subst, ◌∙◌, inl, inr, arith}
 use Rattle.std.specs.Int.{w64, to_be_bytes, from_be_bytes}
 use Rattle.std.proofs.lemmas.Bool.{cases_lt}
@@ -25,7 +25,7 @@ pub record IsLinkTo (nodes : List NodeView) (k i u : ℕ) : Type 0 where
   pub is : (slot_at (node_at nodes k) i).held ≡ Link u
 
 -- one list, parted before its last eight bytes
-same_front : (a b x y : Bytes) → length x ≡ 8 → length y ≡ 8 → a ++ x ≡ b ++ y → (a ≡ b) × (x ≡ y)
+pub same_front : (a b x y : Bytes) → length x ≡ 8 → length y ≡ 8 → a ++ x ≡ b ++ y → (a ≡ b) × (x ≡ y)
 same_front a b x y eight also same =
     let size : length a ≡ length b = omega (arith, length-append a x, length-append b y, ap length same, eight, also) in (
       sym (take_at a x (length a) refl) ∙ ap (take (length a)) same ∙ take_at b y (length a) (sym size),
@@ -51,7 +51,7 @@ module _ (nodes : List NodeView) (trees : List Tree) (arena : IsArena nodes tree
   pub below_top : (k i u : ℕ) → IsLinkTo nodes k i u → u ≢ 0
   below_top k i u link same = omega (arith, shorter k i u link, ap (λ t. length (tree_at trees t).prefix) same, ap length arena.forest.top.prefix)
 
-  slice_fits : (k i u : ℕ) → IsLinkTo nodes k i u → (slot_at (node_at nodes k) i).slice < 2 ^ 64
+  pub slice_fits : (k i u : ℕ) → IsLinkTo nodes k i u → (slot_at (node_at nodes k) i).slice < 2 ^ 64
   slice_fits k i u link =
       let n = node_at nodes k in
       let home = arena.forest.homes k n.tree link.there (arena.forest.tree_there k link.there) in
@@ -69,7 +69,7 @@ module _ (nodes : List NodeView) (trees : List Tree) (arena : IsArena nodes tree
       let e = slot_at (node_at nodes k) i in
       long_link e.mark e u ((arena.nodes.each k link.there).slots.border.each i any_entry link.in_range).held link.is
 
-  stands : (k i u tree slice : ℕ) → IsLinkTo nodes k i u → (node_at nodes k).tree ≡ tree → (slot_at (node_at nodes k) i).slice ≡ slice → StandsAt nodes tree slice Long k i
+  pub stands : (k i u tree slice : ℕ) → IsLinkTo nodes k i u → (node_at nodes k).tree ≡ tree → (slot_at (node_at nodes k) i).slice ≡ slice → StandsAt nodes tree slice Long k i
   stands k i u tree slice link in_tree at_slice = record {
     border = record { there = link.there; live = link.live; level = level k i u link; tree_is = in_tree };
     in_range = link.in_range;

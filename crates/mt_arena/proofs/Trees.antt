@@ -1,4 +1,4 @@
--- The facts of trees and their nodes are kept where an operation begins to make a tree: for `new_tree`.
+-- The facts of trees and their nodes are kept where an operation begins to make a tree: for `MakingLayer`.
 use Rattle.std.proofs.Common.{◌≡◌, ℕ, zero, suc, ◌+◌, ◌*◌, ◌<◌, List, [], ◌∷◌, ◌++◌, length, refl, inl, inr, arith, length-append}
 use Rattle.std.proofs.lemmas.Bool.{cases_eq}
 use Rattle.mt_rows.specs.Rows.{Bytes}

@@ -74,10 +74,3 @@ pub record IsFreshPrefix (v : ArenaView) (prefix : Bytes) : Type 0 where
 -- a node that is being split, and one more node, without range, as its right half
 abbrev pub with_half : ArenaView → ℕ → ℕ → ℕ → ArenaView
 with_half v k low op = record v { nodes = slice_set v.nodes k (splitting (at v k)) ++ fresh_half (at v k) k low op ∷ [] }
-
--- one more tree, with its root
-abbrev pub with_tree : ArenaView → Bytes → ℕ → ArenaView
-with_tree v prefix op = record v {
-  nodes = v.nodes ++ fresh_root (length v.trees) ∷ [];
-  trees = v.trees ++ (record { prefix = prefix; root = length v.nodes; standing = Made op }) ∷ [];
-}

@@ -19,3 +19,4 @@ pub mod Collapses
 pub mod Removals
 pub mod Lags
 pub mod Several
+pub mod Layering

@@ -3,7 +3,7 @@
 //! Invariant: `IsArena`, fact by fact in `specs/Nodes.antt`, `specs/Forests.antt` and
 //! `specs/Layers.antt`; it names no operation but those that hold a node or make a tree. Each call that
 //! changes a node does it in place, and says in `Guarantee` what others may rely on.
-//! Owns its nodes. Errors: `AllocError`, from `new`, `alloc_node`, `new_tree`, `grow_root` and
+//! Owns its nodes. Errors: `AllocError`, from `new`, `alloc_node`, `make_layer`, `grow_root` and
 //! `split_interior` alone. Units: nodes, trees and operations by their numbers, from 0.
 
 ghost use Rattle.std.specs.Prelude.{◌≡◌, ◌≢◌, ◌<◌, ◌≤◌, ℕ, [], ◌∷◌, ◌++◌, ◌+◌, length, slice_set, true, false, Some, None, IfOk, OnOk, OnErr};
@@ -31,7 +31,7 @@ ghost use Rattle.mt_slices.specs.Marks.{IsMark};
 ghost use Rattle.mt_border.specs.Split.{IsParted, IsSeparator, slices_with};
 ghost use Rattle.mt_interior.specs.Places.{IsNew};
 ghost use Rattle.mt_arena.specs.Several.{AreHalved, MaySplit, MayPlace, MayGrow, with_top, with_root, MayInsert, with_right, MaySplitInner, with_parts};
-ghost use Rattle.mt_arena.specs.Accesses.{new_arena, at, tree_of, IsHeld, IsOpen, with_node, with_half, with_tree, with_row, IsFreshPrefix, MayPublish, MayChange};
+ghost use Rattle.mt_arena.specs.Accesses.{new_arena, at, tree_of, IsHeld, IsOpen, with_node, with_half, with_row, MayPublish, MayChange};
 
 use crate::node::Node;
 use crate::retired::Retired;
@@ -46,7 +46,7 @@ use std::marker::Model;
 /// All nodes and trees.
 #[derive(Drop)]
 pub struct Arena {
-    alloc: Global,
+    pub(crate) alloc: Global,
     pub(crate) nodes: Vec<Node>,
     pub(crate) trees: Vec<Tree>,
     pub(crate) retired: Vec<Retired>,
@@ -125,6 +125,13 @@ impl Arena {
         ensures { result.now ≡ at self.now node }
     {
         &self.nodes[node]
+    }
+
+    /// All trees, by their numbers: those that are being made, live, or dead.
+    pub fn trees(&self) -> &[Tree]
+        ensures { result.now ≡ self.now.trees }
+    {
+        &self.trees
     }
 
     /// The tree of a number.
@@ -254,28 +261,6 @@ impl Arena {
         let half = self.nodes[left].half(self.alloc, left, low, operation);
         self.nodes[left].mark_splitting();
         self.nodes.push_reserved(half);
-        Ok(number)
-    }
-
-    /// A tree for keys that begin with these bytes, with an empty border node as its root, which the
-    /// operation begins to make. An error leaves all as it was.
-    pub fn new_tree(&mut self, prefix: Prefix, operation: usize) -> Result<usize, AllocError>
-        requires { IsFreshPrefix self.old prefix }
-        ensures number { IfOk result (λ tree. tree ≡ length self.old.trees) }
-        ensures is { OnOk result (self.new ≡ with_tree self.old prefix operation) }
-        ensures unchanged_on_err { OnErr result (self.new ≡ self.old) }
-        ensures step { Guarantee operation self.old self.new }
-        ensures contents { content_of self.new ≡ content_of self.old }
-    {
-        make_room(&mut self.nodes, &mut self.trees, &mut self.retired)?;
-        let number = self.trees.len();
-        let root = self.nodes.len();
-        self.trees.push_reserved(Tree {
-            prefix,
-            root,
-            standing: Standing::Made { by: operation },
-        });
-        self.nodes.push_reserved(Node::root(self.alloc, number));
         Ok(number)
     }
 
@@ -472,7 +457,7 @@ fn part_parent(nodes: &mut Vec<Node>, parent: usize, left: usize, right: usize, 
 
 // Takes the memory for one more node and one more tree, and for the number of each node among the
 // retired.
-fn make_room(
+pub(crate) fn make_room(
     nodes: &mut Vec<Node>,
     trees: &mut Vec<Tree>,
     retired: &mut Vec<Retired>,

@@ -5,7 +5,8 @@ ghost use Rattle.std.specs.Prelude.{◌≡◌, ◌≢◌, ℕ, ◌+◌, ◌*◌,
 ghost use Rattle.std.specs.List.{remove};
 ghost use Rattle.std.specs.FinMap as pairs;
 ghost use Rattle.mt_slices.specs.Keys.{IsStoredKey};
-ghost use Rattle.mt_slices.specs.Slices.{slice_of, mark_of, suffix_of};
+ghost use Rattle.mt_slices.specs.Slices.{slice_of, mark_of, suffix_of, piece_bytes};
+ghost use Rattle.mt_slices.specs.declared.mark.Mark.TheVariants.{Long};
 ghost use Rattle.mt_slices.specs.declared.mark.Mark.{Mark};
 ghost use Rattle.mt_rows.specs.Rows.{Bytes, Columns};
 ghost use Rattle.mt_border.specs.declared.entry.Pair.{Pair};
@@ -17,18 +18,19 @@ ghost use Rattle.mt_border.specs.Entries.{IsMissing, with_entry};
 ghost use Rattle.mt_border.specs.Split.{IsParted};
 ghost use Rattle.mt_border.specs.Contents.{owned, HasKey};
 ghost use Rattle.mt_arena.specs.declared.tree.Tree.{Tree};
-ghost use Rattle.mt_arena.specs.declared.tree.Standing.TheVariants.{Live};
+ghost use Rattle.mt_arena.specs.declared.tree.Standing.TheVariants.{Dead, Live};
 ghost use Rattle.mt_arena.specs.NodeView.{NodeView, node_at};
 ghost use Rattle.mt_arena.specs.Nodes.{Holds, HasRange};
-ghost use Rattle.mt_arena.specs.Forests.{tree_at};
+ghost use Rattle.mt_arena.specs.Forests.{tree_at, layer_of};
 ghost use Rattle.mt_arena.specs.Layers.{slot_at};
 ghost use Rattle.mt_arena.specs.Contents.{content};
-ghost use Rattle.mt_arena.specs.Arena.{IsArena, ArenaView, live_count};
+ghost use Rattle.mt_arena.specs.Arena.{IsArena, ArenaView, Guarantee, live_count};
 ghost use Rattle.mt_arena.specs.Guarantee.{NodesGuarantee, PointsOnly};
+ghost use Rattle.mt_arena.specs.Layering.{MayMakeLayer, MayUnsettle, IsHeldSlot, HasKeyAt, IsLayerOf, IsSettledBut, entry_of, prefix_below, with_layer, with_slot, with_link};
 ghost use Rattle.mt_arena.specs.Settled.{IsSettled};
 ghost use Rattle.mt_arena.specs.Lags.{IsFollowedBy};
 ghost use Rattle.mt_arena.specs.Edits.{pointed, locked};
-ghost use Rattle.mt_arena.specs.Accesses.{at, with_node};
+ghost use Rattle.mt_arena.specs.Accesses.{at, tree_of, with_node};
 ghost use Rattle.mt_arena.specs.Removals.{IsOnlyLiveNode};
 ghost use Rattle.mt_interior.specs.Places.{place_of};
 ghost use Rattle.mt_arena.specs.Stands.{IsLiveBorder, StandsAt};
@@ -172,6 +174,62 @@ pub fn contents_stand_as_a_tree_goes_live()
         tree.prefix ≡ (tree_at trees t).prefix → tree.standing ≡ Live → pair_of e.held ≡ None →
         HasSlots (node_at nodes k) y (slice_set (node_at nodes k).slots i e) →
         content (slice_set trees t tree) (slice_set nodes k y) ≡ content trees nodes }
+{}
+
+/// Where a slot of a longer key is no link, no live tree has the prefix that its tree would have: its
+/// link would stand in this slot.
+pub fn no_layer_without_a_link()
+    ensures { (nodes : List NodeView) (trees : List Tree) (tree slice k i : ℕ) → IsArena nodes trees →
+        (tree_at trees tree).standing ≡ Live → StandsAt nodes tree slice Long k i →
+        ((u : ℕ) → (slot_at (node_at nodes k) i).held ≢ Link u) →
+        (u : ℕ) → (tree_at trees u).standing ≡ Live → (tree_at trees u).prefix ≢ (tree_at trees tree).prefix ++ piece_bytes slice Long }
+{}
+
+/// A slot has a key, and the pair of a longer key may be put alone into a tree of the next layer: the
+/// entry that the key has there is one of it.
+pub fn a_key_goes_on_in_the_next_layer()
+    ensures key { (v : ArenaView) (node i : ℕ) → IsArena v.nodes v.trees → node < length v.nodes → i < length (at v node).slots →
+        (key : Bytes) × HasKeyAt v node i key }
+    ensures below { (v : ArenaView) (node i op : ℕ) (pair : Pair) (key : Bytes) (row : Columns) (stamp : ℕ) →
+        IsArena v.nodes v.trees → MayUnsettle v node i op pair → HasKeyAt v node i key →
+        let prefix = prefix_below v node i in
+        let e = entry_of key (layer_of (tree_of v node).prefix + 1) row stamp in
+        MayMakeLayer v prefix e × HasKey prefix (layer_of prefix) e key }
+{}
+
+/// What an operation needs for the layer that it makes stays so while others go on, and through its
+/// own steps: once its tree is made it may make the slot a link.
+pub fn a_layer_stays_its_makers()
+    ensures slot { (op maker : ℕ) (old new : ArenaView) (node i : ℕ) (what : Held) →
+        (tree_of new node).standing ≢ Dead → Guarantee op old new → maker ≢ op →
+        IsHeldSlot old node i maker what → IsHeldSlot new node i maker what }
+    ensures layer { (op maker : ℕ) (old new : ArenaView) (node i t : ℕ) (what : Held) (key : Bytes) (row : Columns) →
+        (tree_of new node).standing ≢ Dead → Guarantee op old new → maker ≢ op →
+        IsLayerOf old node i t maker what key row → IsLayerOf new node i t maker what key row }
+    ensures made { (v : ArenaView) (node i op : ℕ) (what : Held) (key : Bytes) (e : Entry) (pair : Pair) →
+        IsArena v.nodes v.trees → IsHeldSlot v node i op what → HasKeyAt v node i key →
+        let prefix = prefix_below v node i in
+        HasKey prefix (layer_of prefix) e key → pair_of e.held ≡ Some pair →
+        IsLayerOf (with_layer v prefix e op) node i (length v.trees) op what key pair.row }
+    ensures held { (v : ArenaView) (node i t op : ℕ) (what held : Held) (key : Bytes) (row : Columns) →
+        IsArena v.nodes v.trees → IsLayerOf v node i t op what key row →
+        ((pair : Pair) → pair_of held ≡ Some pair → pair_of what ≡ Some pair) →
+        IsLayerOf (with_slot v node i held) node i t op held key row }
+{}
+
+/// While an operation makes a layer, nothing comes to lag behind its node but what the slot holds,
+/// and once that is a link nothing does: then it may give the lock back.
+pub fn settled_once_linked()
+    ensures before { (nodes : List NodeView) (k i : ℕ) → IsSettled nodes k (node_at nodes k) → IsSettledBut nodes k i }
+    ensures others { (op holder : ℕ) (old new : List NodeView) (were are : List Tree) (k i : ℕ) →
+        NodesGuarantee op old new were are → PointsOnly op old new → holder ≢ op → k < length old →
+        (node_at old k).holder ≡ Some holder → IsSettledBut old k i → IsSettledBut new k i }
+    ensures made { (v : ArenaView) (prefix : Bytes) (e : Entry) (op k i : ℕ) → k < length v.nodes →
+        IsSettledBut v.nodes k i → IsSettledBut (with_layer v prefix e op).nodes k i }
+    ensures held { (v : ArenaView) (k i : ℕ) (held : Held) → IsArena v.nodes v.trees → k < length v.nodes → i < length (at v k).slots →
+        IsSettledBut v.nodes k i → IsSettledBut (with_slot v k i held).nodes k i }
+    ensures linked { (v : ArenaView) (k i t : ℕ) → IsArena v.nodes v.trees → k < length v.nodes → i < length (at v k).slots →
+        IsSettledBut v.nodes k i → let w = with_link v k i t in IsSettled w.nodes k (at w k) }
 {}
 
 /// A node that has a parent has a range, and is no root: another parent may be written into it.

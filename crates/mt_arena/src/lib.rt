@@ -8,6 +8,7 @@
 
 pub mod arena;
 pub mod laws;
+mod layering;
 pub mod node;
 mod removal;
 pub mod retired;

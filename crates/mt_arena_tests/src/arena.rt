@@ -9,7 +9,7 @@ ghost use Rattle.mt_arena.specs.Edits.{unlocked};
 ghost use Rattle.mt_arena.specs.Accesses.{at, with_node};
 ghost use Rattle.mt_arena_tests.specs.ArenaStory.{held_root, of_nodes, holding};
 
-use mt_arena::{Arena, Prefix, Standing};
+use mt_arena::Arena;
 use mt_border::laws::suffix_fits_mark;
 use mt_border::{Entry, Find, FoundKind, Held, Pair, Suffix};
 use mt_rows::{Column, Row};
@@ -140,26 +140,4 @@ fn a_key_is_put_in_changed_and_taken_out(rt: HostRuntime) {
     let mut arena = held_arena(&rt, alloc);
     put_and_change(&rt, alloc, &mut arena, &key);
     take_out(&rt, &mut arena, &key);
-}
-
-// Operation 5 begins to make a tree of the second layer.
-fn make_tree(rt: &impl Abort, alloc: Global, arena: &mut Arena)
-    requires { arena.old ≡ of_nodes (held_root ∷ []) }
-{
-    assert!(rt; arena.tree(0).standing == Standing::Live);
-    let prefix = Vec::from_slice(alloc, b"pppppppp").expect(rt, "memory");
-    assert_eq!(rt; prefix.len(), 8);
-    let tree = arena.new_tree(Prefix::new(prefix), 5).expect(rt, "memory");
-    assert_eq!(rt; tree, 1);
-    let made = arena.tree(1);
-    assert_eq!(rt; (made.root, made.prefix.as_bytes().len()), (1, 8));
-    assert!(rt; made.standing == Standing::Made { by: 5 });
-    assert!(rt; arena.node(1).version().is_root());
-}
-
-#[test]
-fn a_new_tree_is_being_made(rt: HostRuntime) {
-    let alloc = rt.alloc();
-    let mut arena = held_arena(&rt, alloc);
-    make_tree(&rt, alloc, &mut arena);
 }

@@ -1,23 +1,28 @@
 -- How far an operation comes that is alone, and how its run ends: for `Inner::run_alone`.
-use Rattle.std.proofs.Common.{◌≡◌, ◌≢◌, ℕ, zero, suc, ◌+◌, ◌*◌, ◌<◌, ◌≤◌, true, false, Some, refl, sym, ap, subst, ◌∙◌, arith}
-use Rattle.std.specs.Prelude.{◌^◌}
+use Rattle.std.proofs.Common.{◌≡◌, ◌≢◌, ℕ, zero, suc, ◌+◌, ◌*◌, ◌<◌, ◌≤◌, List, [], ◌∷◌, true, false, Some, refl, sym, ap, subst, ◌∙◌, arith}
+use Rattle.std.specs.Prelude.{◌^◌, None}
+use Rattle.std.proofs.Math.Nat.{mul-le-mul_right}
 use Rattle.std.proofs.lemmas.Option.{same_Some}
 use Rattle.mt_arena.specs.Arena.{ArenaView, IsArena, live_count}
 use Rattle.mt_arena.proofs.Heights.{any_below_live}
 use Rattle.mt_operation.specs.declared.walk.Phase.{Phase}
-use Rattle.mt_operation.specs.declared.walk.Phase.TheVariants.{Enter, Pick, Child, Verify, Search, Load, Confirm, Forward, Lock, Judge, Store, Publish, SplitStart, SplitMove, SplitPrev, LockParent, InsertChild, InteriorSplit, Reparent, RootGrow, Unlock, Done}
+use Rattle.mt_operation.specs.declared.walk.Phase.TheVariants as phases
+use Rattle.mt_operation.specs.declared.walk.Phase.TheVariants.{Enter, Pick, Child, Verify, Search, Load, Confirm, Forward, Lock, Judge, Store, Publish, SplitStart, SplitMove, SplitPrev, LockParent, InsertChild, InteriorSplit, Reparent, RootGrow, MakeLayer, MarkUnstable, MarkLayer, Unlock, Done}
+use Rattle.mt_operation.specs.declared.walk.Walk.{Walk}
+use Rattle.mt_operation.specs.declared.splits.Halves.{Halves}
 use Rattle.mt_operation.specs.declared.operation.Operation.{Operation}
 use Rattle.mt_operation.specs.Operations.{OperationView, view_of, is_done}
 use Rattle.mt_insert.specs.Splitting.{HasSplits, last_of}
 use Rattle.mt_state.specs.declared.moves.Move.{Move}
 use Rattle.mt_state.specs.declared.moves.Move.TheVariants.{Moved, Again, NoMemory as NoMemoryMove, Done as DoneMove, Spent, NoSuch}
-use Rattle.mt_state.specs.Views.{StateView, Core, shown, op_at}
-use Rattle.mt_state.specs.Kept.{IsKeptAt, HasAnswer}
+use Rattle.mt_state.specs.Views.{StateView, Core, shown, past_of, op_at}
+use Rattle.mt_descent.specs.Kept.{GoesThrough, KeptAt}
+use Rattle.mt_state.specs.Kept.{IsOnItsWay, IsKeptAt, IsKeptOf, HasAnswer}
 use Rattle.mt_state.specs.Invariant.{StateInvariant}
 use Rattle.mt_state.specs.Promises.{IsAnswer, IsStep, IsToGrow, Tells}
 use Rattle.mt_state.proofs.Shown.{shown_there, inside_of}
 use Rattle.mt_core.specs.Alone.{most_steps, IsChain, Runs, IsAlone, EndsAlone}
-use Rattle.mt_core.specs.Points.{AreBelow, IsFresh, HasMade, IsUnhindered, StepsOn, split_level}
+use Rattle.mt_core.specs.Points.{AreBelow, IsFresh, above, before_unlock, HasMade, MayHaveGrown, IsUnhindered, StepsOn, split_level}
 use Rattle.mt_core.proofs.Following.{in_the_way}
 use Rattle.mt_core.proofs.AloneRuns.{no_value, stepped, IsRunning, running_first, running_on, run_outcome}
 
@@ -40,7 +45,7 @@ run_stops old v w o made answer chain other s = record { made = made; mid = v; c
 
 -- all nodes are live, so they stand on levels below their number
 nodes_below : (c : Core) → StateInvariant c → IsArena c.arena.nodes c.arena.trees → AreBelow c.arena (live_count c.arena.nodes)
-nodes_below c h arena k within = any_below_live c.arena.nodes arena.nodes arena.ranged k within (h.one_tree.live k within)
+nodes_below c h arena k within = any_below_live c.arena.nodes arena.nodes arena.ranged k within (h.unremoved.live k within)
 
 -- nobody is in the way of an operation that is alone
 unhindered_first : (c : Core) (o : ℕ) (op : OperationView) → StateInvariant c → IsArena c.arena.nodes c.arena.trees → IsAlone (shown c) o op → IsUnhindered c o (live_count c.arena.nodes) 0
@@ -48,14 +53,18 @@ unhindered_first c o op h arena alone =
     let inside = inside_of c.table o op alone.there in
     let inner : Operation = inside.0 in
     let enters : inner.walk.phase ≡ Enter = ap (λ (x : OperationView). x.phase) inside.2 ∙ alone.enters in
+    let kept : IsKeptOf c o inner = h.ops o inner inside.1 in
+    let way : IsOnItsWay c inner = subst (λ (p : Phase). IsKeptAt p c o inner) enters kept.kept in
+    let through : GoesThrough c.arena inner.walk.place.tree inner.walk.layer inner.task.key = subst (λ (p : Phase). KeptAt p c.arena (past_of c) inner.task.key None inner.walk) enters way.kept in
     record {
       op = inner;
       there = inside.1;
       free = λ k q within holds. absurd (no_value (sym (alone.free k within) ∙ holds));
       point = record {
         below = λ _. nodes_below c h arena;
+        shallow = let begun = through.begun in let within = kept.always.stored.within in omega (arith, begun, within);
         fresh = subst (λ (p : Phase). IsFresh p c.arena inner.walk) (sym enters) tt;
-        few = subst (λ (p : Phase). HasMade p (live_count c.arena.nodes) 0 c.arena inner.walk inner.splits) (sym enters) refl;
+        few = subst (λ (p : Phase). HasMade p (live_count c.arena.nodes) 0 c.arena inner.walk inner.splits) (sym enters) (omega arith);
       };
     }
 
@@ -63,31 +72,44 @@ unhindered_first c o op h arena alone =
 split_below : (v : ArenaView) (height o : ℕ) (op : Operation) → AreBelow v height → HasSplits v o op.splits → split_level v op.splits < height
 split_below v height o op below s = below (last_of op.splits).left s.parted.left.held.there
 
+-- before it gives its locks back
+most_unlock : (halves : List Halves) (height : ℕ) → before_unlock halves height ≤ 23 * height + 7
+most_unlock [] height = omega arith
+most_unlock (x ∷ halves) height = omega arith
+
+-- at most 31 layers are above its own
+most_above : (height : ℕ) (w : Walk) → w.layer < 32 → above height w ≤ 31 * (3 * height + 12)
+most_above height w shallow = mul-le-mul_right (3 * height + 12) (omega (arith, shallow))
+
 -- at no phase has it made many steps
-few_made : (p : Phase) (c : Core) (o : ℕ) (op : Operation) (height made : ℕ) → IsKeptAt p c o op → (p ≢ Unlock → AreBelow c.arena height)
+few_made : (p : Phase) (c : Core) (o : ℕ) (op : Operation) (height made : ℕ) → IsKeptAt p c o op → above height op.walk ≤ 31 * (3 * height + 12) → (¬ MayHaveGrown p op.splits.halves.items → AreBelow c.arena height)
     → HasMade p height made c.arena op.walk op.splits → made < 256 * (height + 64)
-few_made Enter c o op height made kept below few = omega (arith, few)
-few_made Pick c o op height made kept below few = omega (arith, few)
-few_made Child c o op height made kept below few = omega (arith, few)
-few_made Verify c o op height made kept below few = omega (arith, few)
-few_made Search c o op height made kept below few = omega (arith, few)
-few_made Load c o op height made kept below few = omega (arith, few)
-few_made Confirm c o op height made kept below few = omega (arith, few)
-few_made Forward c o op height made kept below few = absurd few
-few_made Lock c o op height made kept below few = omega (arith, few)
-few_made Judge c o op height made kept below few = omega (arith, few)
-few_made Store c o op height made kept below few = omega (arith, few)
-few_made Publish c o op height made kept below few = omega (arith, few)
-few_made SplitStart c o op height made kept below few = omega (arith, few)
-few_made SplitMove c o op height made kept below few = omega (arith, few)
-few_made SplitPrev c o op height made kept below few = omega (arith, few)
-few_made LockParent c o op height made kept below few = omega (arith, few, split_below c.arena height o op (below (λ e. cc)) kept.climbs.named.splits)
-few_made InsertChild c o op height made kept below few = omega (arith, few)
-few_made InteriorSplit c o op height made kept below few = omega (arith, few, split_below c.arena height o op (below (λ e. cc)) kept.climbs.at_parent.named.splits)
-few_made Reparent c o op height made kept below few = omega (arith, few, kept.climbs.more, split_below c.arena height o op (below (λ e. cc)) kept.climbs.splits)
-few_made RootGrow c o op height made kept below few = omega (arith, few)
-few_made Unlock c o op height made kept below few = omega (arith, few)
-few_made _ c o op height made kept below few = absurd few
+few_made Enter c o op height made kept most below few = omega (arith, few, most)
+few_made Pick c o op height made kept most below few = omega (arith, few, most)
+few_made Child c o op height made kept most below few = omega (arith, few, most)
+few_made Verify c o op height made kept most below few = omega (arith, few, most)
+few_made Search c o op height made kept most below few = omega (arith, few, most)
+few_made Load c o op height made kept most below few = omega (arith, few, most)
+few_made Confirm c o op height made kept most below few = omega (arith, few, most)
+few_made Forward c o op height made kept most below few = absurd few
+few_made Lock c o op height made kept most below few = omega (arith, few, most)
+few_made Judge c o op height made kept most below few = omega (arith, few, most)
+few_made Store c o op height made kept most below few = omega (arith, few, most)
+few_made Publish c o op height made kept most below few = omega (arith, few, most)
+few_made SplitStart c o op height made kept most below few = omega (arith, few, most)
+few_made SplitMove c o op height made kept most below few = omega (arith, few, most)
+few_made SplitPrev c o op height made kept most below few = omega (arith, few, most)
+few_made LockParent c o op height made kept most below few = omega (arith, few, most, split_below c.arena height o op (below (λ grown. grown)) kept.climbs.named.splits)
+few_made InsertChild c o op height made kept most below few = omega (arith, few, most)
+few_made InteriorSplit c o op height made kept most below few = omega (arith, few, most, split_below c.arena height o op (below (λ grown. grown)) kept.climbs.at_parent.named.splits)
+few_made Reparent c o op height made kept most below few = omega (arith, few, most, kept.climbs.more, split_below c.arena height o op (below (λ grown. grown)) kept.climbs.splits)
+few_made RootGrow c o op height made kept most below few = omega (arith, few, most)
+few_made MakeLayer c o op height made kept most below few = omega (arith, few, most)
+few_made MarkUnstable c o op height made kept most below few = omega (arith, few, most)
+few_made phases.Link c o op height made kept most below few = omega (arith, few, most)
+few_made MarkLayer c o op height made kept most below few = omega (arith, few, most)
+few_made Unlock c o op height made kept most below few = omega (arith, few, most, most_unlock op.splits.halves.items height)
+few_made _ c o op height made kept most below few = absurd few
 
 -- and it is not done
 left_at : (p : Phase) (c : Core) (op : Operation) (height made : ℕ) → HasMade p height made c.arena op.walk op.splits → is_done p ≡ false
@@ -132,7 +154,7 @@ module _ (old v : Core) (o : ℕ) (op : OperationView) (made : ℕ) (h : StateIn
   inner = g.free.op
 
   few : made < most_steps (shown old)
-  few = few_made inner.walk.phase v o inner (live_count old.arena.nodes) made (h.ops o inner g.free.there).kept g.free.point.below g.free.point.few
+  few = few_made inner.walk.phase v o inner (live_count old.arena.nodes) made (h.ops o inner g.free.there).kept (most_above (live_count old.arena.nodes) inner.walk g.free.point.shallow) g.free.point.below g.free.point.few
 
   -- what is shown of it
   same : g.run.after ≡ view_of inner

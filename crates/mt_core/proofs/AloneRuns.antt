@@ -12,7 +12,8 @@ use Rattle.mt_rows.proofs.CommandLaws.{same_map_after}
 use Rattle.mt_runs.specs.Placings.{maps_after_one}
 use Rattle.mt_operation.specs.declared.outcome.Outcome.{Outcome}
 use Rattle.mt_operation.specs.declared.walk.Phase.{Phase}
-use Rattle.mt_operation.specs.declared.walk.Phase.TheVariants.{Enter, Pick, Child, Verify, Search, Load, Confirm, Forward, Lock, Judge, Store, Publish, SplitStart, SplitMove, SplitPrev, LockParent, InsertChild, InteriorSplit, Reparent, RootGrow, Unlock, Done}
+use Rattle.mt_operation.specs.declared.walk.Phase.TheVariants as phases
+use Rattle.mt_operation.specs.declared.walk.Phase.TheVariants.{Enter, Pick, Child, Verify, Search, Load, Confirm, Forward, Lock, Judge, Store, Publish, SplitStart, SplitMove, SplitPrev, LockParent, InsertChild, InteriorSplit, Reparent, RootGrow, MakeLayer, MarkUnstable, MarkLayer, Unlock, Done}
 use Rattle.mt_operation.specs.Operations.{OperationView}
 use Rattle.mt_operation.proofs.Tables.{set_is}
 use Rattle.mt_state.specs.Views.{StateView, Shown, contents_of, op_at, map_of, quota_of, KeepsPast}
@@ -152,6 +153,8 @@ sets old op Confirm _ told o follows notes is changes = absurd follows
 sets old op Judge Store told o follows notes is changes = absurd (no_reply told o is notes)
 sets old op Judge Publish told o follows notes is changes = absurd (no_reply told o is notes)
 sets old op Judge SplitStart told o follows notes is changes = absurd (no_reply told o is notes)
+sets old op Judge MakeLayer told o follows notes is changes = absurd (no_reply told o is notes)
+sets old op Judge Enter told o follows notes is changes = absurd (no_reply told o is notes)
 sets old op Judge Done told o follows notes is changes = absurd (no_change (other_reply told o NoMemory (old.steps + 1) is notes changes))
 sets old op Judge _ told o follows notes is changes = absurd follows
 sets old op Store Unlock told o follows notes is changes = inl refl
@@ -179,32 +182,43 @@ sets old op Reparent LockParent told o follows notes is changes = inl refl
 sets old op Reparent _ told o follows notes is changes = absurd follows
 sets old op RootGrow Unlock told o follows notes is changes = inl refl
 sets old op RootGrow _ told o follows notes is changes = absurd follows
+sets old op MakeLayer MarkUnstable told o follows notes is changes = absurd (no_reply told o is notes)
+sets old op MakeLayer Done told o follows notes is changes = absurd (no_change (other_reply told o NoMemory (old.steps + 1) is notes changes))
+sets old op MakeLayer _ told o follows notes is changes = absurd follows
+sets old op MarkUnstable phases.Link told o follows notes is changes = absurd (no_reply told o is notes)
+sets old op MarkUnstable _ told o follows notes is changes = absurd follows
+sets old op phases.Link MarkLayer told o follows notes is changes = absurd (no_reply told o is notes)
+sets old op phases.Link _ told o follows notes is changes = absurd follows
+sets old op MarkLayer Unlock told o follows notes is changes = inl refl
+sets old op MarkLayer _ told o follows notes is changes = absurd follows
+sets old op Unlock Enter told o follows notes is changes = absurd (no_reply told o is notes.0)
 sets old op Unlock Done told o follows notes is changes = inl refl
 sets old op Unlock _ told o follows notes is changes = absurd follows
 sets old op Done q told o follows notes is changes = absurd follows
 
 -- from such a phase on nothing is placed, and the outcome stays
-stays : (old : StateView) (op : OperationView) (p q : Phase) (told : Option Outcome) → is_unplaced p ≡ false → MayFollow p q → Notes old op p q told
+stays : (old : StateView) (op : OperationView) (p q : Phase) (told : Option Outcome) (outcome : Outcome) → op.outcome ≡ Some outcome → is_unplaced p ≡ false → MayFollow p q → Notes old op p q told
     → (is_unplaced q ≡ false) × (told ≡ op.outcome)
-stays old op SplitPrev LockParent told placed follows notes = (refl, notes)
-stays old op SplitPrev _ told placed follows notes = absurd follows
-stays old op LockParent InsertChild told placed follows notes = (refl, notes)
-stays old op LockParent InteriorSplit told placed follows notes = (refl, notes)
-stays old op LockParent RootGrow told placed follows notes = (refl, notes)
-stays old op LockParent _ told placed follows notes = absurd follows
-stays old op InsertChild Unlock told placed follows notes = (refl, notes)
-stays old op InsertChild _ told placed follows notes = absurd follows
-stays old op InteriorSplit Reparent told placed follows notes = (refl, notes)
-stays old op InteriorSplit _ told placed follows notes = absurd follows
-stays old op Reparent Reparent told placed follows notes = (refl, notes)
-stays old op Reparent LockParent told placed follows notes = (refl, notes)
-stays old op Reparent _ told placed follows notes = absurd follows
-stays old op RootGrow Unlock told placed follows notes = (refl, notes)
-stays old op RootGrow _ told placed follows notes = absurd follows
-stays old op Unlock Done told placed follows notes = (refl, notes)
-stays old op Unlock _ told placed follows notes = absurd follows
-stays old op Done q told placed follows notes = absurd follows
-stays old op _ q told placed follows notes = absurd (cc)
+stays old op SplitPrev LockParent told outcome is placed follows notes = (refl, notes)
+stays old op SplitPrev _ told outcome is placed follows notes = absurd follows
+stays old op LockParent InsertChild told outcome is placed follows notes = (refl, notes)
+stays old op LockParent InteriorSplit told outcome is placed follows notes = (refl, notes)
+stays old op LockParent RootGrow told outcome is placed follows notes = (refl, notes)
+stays old op LockParent _ told outcome is placed follows notes = absurd follows
+stays old op InsertChild Unlock told outcome is placed follows notes = (refl, notes)
+stays old op InsertChild _ told outcome is placed follows notes = absurd follows
+stays old op InteriorSplit Reparent told outcome is placed follows notes = (refl, notes)
+stays old op InteriorSplit _ told outcome is placed follows notes = absurd follows
+stays old op Reparent Reparent told outcome is placed follows notes = (refl, notes)
+stays old op Reparent LockParent told outcome is placed follows notes = (refl, notes)
+stays old op Reparent _ told outcome is placed follows notes = absurd follows
+stays old op RootGrow Unlock told outcome is placed follows notes = (refl, notes)
+stays old op RootGrow _ told outcome is placed follows notes = absurd follows
+stays old op Unlock Enter told outcome is placed follows notes = absurd (no_value (sym notes.1 ∙ is))
+stays old op Unlock Done told outcome is placed follows notes = (refl, notes)
+stays old op Unlock _ told outcome is placed follows notes = absurd follows
+stays old op Done q told outcome is placed follows notes = absurd follows
+stays old op _ q told outcome is placed follows notes = absurd (cc)
 
 module _ (old v w : StateView) (o : ℕ) (op : OperationView) (made : ℕ) (done : Bool) (r : IsRunning old v o op made) (s : IsStep v w o done) where
   same : r.after ≡ s.before
@@ -275,7 +289,7 @@ module _ (old v w : StateView) (o : ℕ) (op : OperationView) (made : ℕ) (done
 
   module _ (p : HasPlaced old v op s.before) where
     stood : (is_unplaced s.after.phase ≡ false) × (s.after.outcome ≡ s.before.outcome)
-    stood = stays v s.before s.before.phase s.after.phase s.after.outcome p.placed s.moves.follows s.notes
+    stood = stays v s.before s.before.phase s.after.phase s.after.outcome (record { reply = p.reply; at = p.number }) p.outcome p.placed s.moves.follows s.notes
 
     -- the outcome is that of an earlier step, so this one has placed nothing
     quiet_behind : contents_of w ≡ contents_of v

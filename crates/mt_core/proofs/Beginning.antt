@@ -8,9 +8,8 @@ use Rattle.mt_rows.specs.declared.tenants.Account.{Account}
 use Rattle.mt_rows.specs.Accounts.{account_of}
 use Rattle.mt_rows.specs.Rows.{Bytes}
 use Rattle.mt_slices.specs.Keys.{IsStoredKey}
-use Rattle.mt_border.specs.Contents.{IsOfTree}
-use Rattle.mt_border.proofs.ContentsKeys.{in_top_tree}
-use Rattle.mt_arena.specs.Arena.{ArenaView}
+use Rattle.mt_arena.specs.Arena.{ArenaView, IsArena}
+use Rattle.mt_arena.proofs.Down.{goes_on_top}
 use Rattle.mt_operation.specs.declared.operation.Operation.{Operation}
 use Rattle.mt_operation.specs.declared.walk.Walk.{Walk}
 use Rattle.mt_operation.specs.Tasks.{ask}
@@ -20,7 +19,7 @@ use Rattle.mt_descent.specs.Kept.{GoesThrough, KeptAt}
 use Rattle.mt_state.specs.Views.{Core, StateView, shown, past_of}
 use Rattle.mt_state.specs.Kept.{IsOfKind, IsKeptAt, IsKeptOf}
 use Rattle.mt_state.specs.Steps.{change_in}
-use Rattle.mt_state.specs.Invariant.{IsOneTree, StateInvariant, one_if_prepared}
+use Rattle.mt_state.specs.Invariant.{StateInvariant, one_if_prepared}
 use Rattle.mt_state.specs.Begins.{Begins}
 use Rattle.mt_state.proofs.Shown.{shown_at, shown_there}
 use Rattle.mt_core.specs.declared.answers.Ticket.{Ticket}
@@ -28,13 +27,15 @@ use Rattle.mt_core.specs.Admitted.{IsAdmitted, OpeningView, IsOpening, IsRightOp
 use Rattle.mt_core.proofs.Tabling.{with_table, begun_sound}
 
 -- a stored key goes through the top tree
-through_top : (v : ArenaView) (key : Bytes) → IsOneTree v → IsStoredKey key → GoesThrough v 0 0 key
-through_top v key one stored = record {
-  there = let count = one.count in omega (arith, count);
-  unmade = λ q made. absurd (let no = sym one.standing ∙ made in cc);
-  of_tree = subst (λ p. IsOfTree p 0 key) (sym one.prefix) (in_top_tree key stored);
-  begun = omega (arith, stored.has_tenant);
-}
+through_top : (v : ArenaView) (key : Bytes) → IsArena v.nodes v.trees → IsStoredKey key → GoesThrough v 0 0 key
+through_top v key arena stored =
+    let goes = goes_on_top v.nodes v.trees key arena stored in
+    record {
+      there = goes.there;
+      unmade = λ q made. absurd (let no = sym goes.live ∙ made in cc);
+      of_tree = goes.of_tree;
+      begun = goes.begun;
+    }
 
 -- an opening's operation, in a state that shows this
 module _ (c : Core) (now : StateView) (opening : OpeningView) (tenant : ℕ) (made : Result Operation Refusal) (op : Operation) (is : shown c ≡ now)
@@ -47,7 +48,7 @@ module _ (c : Core) (now : StateView) (opening : OpeningView) (tenant : ℕ) (ma
   shows : opening.made ≡ Ok (view_of op)
   shows = ap (λ (v : OpeningView). v.made) (sym opening_is) ∙ ap (result_map_both view_of (λ r. r)) made_is
 
-  module _ (h : StateInvariant c) (o : ℕ) (table : Table) (vacant : operation_at c.table o ≡ None) (there : operation_at table o ≡ Some op)
+  module _ (h : StateInvariant c) (arena : IsArena c.arena.nodes c.arena.trees) (o : ℕ) (table : Table) (vacant : operation_at c.table o ≡ None) (there : operation_at table o ≡ Some op)
       (others : (q : ℕ) → q ≢ o → operation_at table q ≡ operation_at c.table q) where
     a : IsAdmitted op
     a = opened.admitted
@@ -64,7 +65,6 @@ module _ (c : Core) (now : StateView) (opening : OpeningView) (tenant : ℕ) (ma
       always = record {
         stored = a.stored;
         owner = a.owner;
-        short = a.short;
         columns = a.columns;
         tenant = known_tenant known;
         writes = ap (λ (w : Walk). w.writes) a.walk;
@@ -75,7 +75,7 @@ module _ (c : Core) (now : StateView) (opening : OpeningView) (tenant : ℕ) (ma
         begun = λ other. absurd (other (ap (λ (w : Walk). w.phase) a.walk));
       };
       kept = subst (λ p. IsKeptAt p (with_table c c.answers table) o op) (sym (ap (λ (w : Walk). w.phase) a.walk)) (record {
-        kept = subst (λ (w : Walk). KeptAt w.phase c.arena (past_of c) op.task.key None w) (sym a.walk) (through_top c.arena op.task.key h.one_tree a.stored);
+        kept = subst (λ (w : Walk). KeptAt w.phase c.arena (past_of c) op.task.key None w) (sym a.walk) (through_top c.arena op.task.key arena a.stored);
         untold = ap (λ (v : OperationView). v.outcome) a.is_begun;
         unprepared = a.unprepared;
       });

@@ -177,7 +177,6 @@ module _ (c : Core) (o : ℕ) (op : Operation) (h : StateInvariant c) (there : o
           always = record {
             stored = a.stored;
             owner = a.owner;
-            short = a.short;
             columns = a.columns;
             tenant = a.tenant;
             writes = a.writes;
@@ -222,7 +221,7 @@ module _ (c : Core) (o : ℕ) (op : Operation) (h : StateInvariant c) (there : o
       ];
       reserved = h.reserved ∙ sym (count_back c.table o op y there refl);
       answered = subst (λ (all : Shown). c.answers + made_count all ≤ c.steps) (sym (ap (λ v. v.table) same_shown)) h.answered;
-      one_tree = h.one_tree;
+      unremoved = h.unremoved;
       few = h.few;
     }
 
@@ -295,7 +294,7 @@ module _ (c now : Core) (o : ℕ) (is : c ≡ now) (h : StateInvariant c) (next 
               touches = told.touches;
               stood = told.stood;
               versions = told.versions c.steps h.versions;
-              one_tree = told.one_tree h.one_tree;
+              unremoved = told.unremoved h.unremoved;
             };
             follows = told.follows;
             same = told.same;

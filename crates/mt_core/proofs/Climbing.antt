@@ -1,8 +1,9 @@
 -- What each step of a climb leaves of all nodes, and what is told of a step by that: for `climb_on`, and for `Inner::split_start`, which leaves as much.
-use Rattle.std.proofs.Common.{◌≡◌, ◌≢◌, ℕ, ◌+◌, ◌<◌, ◌≤◌, ◌⊎◌, inl, inr, true, false, cond, List, [], ◌∷◌, ◌++◌, length, set, refl, sym, ap, subst, ◌∙◌, arith, length-append}
+use Rattle.std.proofs.Common.{◌≡◌, ◌≢◌, ℕ, ◌+◌, ◌*◌, ◌<◌, ◌≤◌, ◌⊎◌, inl, inr, true, false, cond, List, [], ◌∷◌, ◌++◌, length, set, refl, sym, ap, subst, ◌∙◌, arith, length-append}
 use Rattle.std.proofs.lemmas.Bool.{cases_eq, cases_lt}
 use Rattle.mt_arena.specs.declared.tree.Tree.{Tree}
 use Rattle.mt_arena.specs.declared.tree.Standing.{Standing}
+use Rattle.mt_arena.specs.declared.tree.Standing.TheVariants.{Dead}
 use Rattle.mt_arena.specs.NodeView.{NodeView, node_at}
 use Rattle.mt_arena.specs.Forests.{tree_at}
 use Rattle.mt_arena.specs.Edits.{pointed}
@@ -13,16 +14,18 @@ use Rattle.mt_arena.proofs.Pairs.{here, there, before as as_before, last as as_p
 use Rattle.mt_operation.specs.declared.walk.Phase.{Phase}
 use Rattle.mt_operation.specs.declared.walk.Phase.TheVariants.{SplitPrev, LockParent, InsertChild, InteriorSplit, Reparent, RootGrow, Unlock}
 use Rattle.mt_operation.specs.declared.walk.Walk.{Walk}
+use Rattle.mt_operation.specs.declared.splits.Halves.{Halves}
 use Rattle.mt_operation.specs.declared.splits.Splits.{Splits}
 use Rattle.mt_descent.specs.Moves.{Continues}
 use Rattle.mt_insert.specs.Splitting.{HoldsSplits, KeptSplit}
 use Rattle.mt_insert.specs.SplitMoves.{walk_at}
 use Rattle.mt_state.specs.Steps.{MayFollow}
 use Rattle.mt_state.specs.Promises.{Touches, HoldsEither}
-use Rattle.mt_state.specs.Invariant.{IsCountedUpTo, IsOneTree}
+use Rattle.mt_state.specs.Invariant.{IsCountedUpTo, IsUnremoved}
 use Rattle.mt_state.specs.Writes.{HasPairsOf, IsClimb}
-use Rattle.mt_core.specs.Points.{AreBelow, IsFresh, HasMade}
+use Rattle.mt_core.specs.Points.{AreBelow, IsFresh, before_unlock, HasMade, MayHaveGrown}
 use Rattle.mt_core.specs.Climbs.{ClimbsOn}
+use Rattle.mt_core.proofs.Points.{point_at, below_at, few_at}
 
 -- the same pairs, tree, level and version's counts; the operation held the node or holds it then, or others name another one in it
 pub record Stays (o : ℕ) (x y : NodeView) : Type 0 where
@@ -113,15 +116,13 @@ module _ (o : ℕ) (old new : ArenaView) (l : LeavesNodes o old new) where
     | inr late ↦ let n = l.fresh k late within in record { inserts = omega (arith, n.inserts); splits = omega (arith, n.splits) }
   ]
 
-  pub one_tree : IsOneTree old → IsOneTree new
-  one_tree one = record {
-    count = l.trees ∙ one.count;
-    prefix = l.prefix 0 ∙ one.prefix;
-    standing = l.standing 0 ∙ one.standing;
+  pub unremoved : IsUnremoved old → IsUnremoved new
+  unremoved one = record {
     live = λ k within. elim (cases_lt k (length old.nodes)) [
       | inl was ↦ (l.each k was).deleted ∙ one.live k was
       | inr late ↦ (l.fresh k late within).live
     ];
+    alive = λ t within. subst (λ (st : Standing). st ≢ Dead) (sym (l.standing t)) (one.alive t (omega (arith, within, l.trees)));
   }
 
   -- all nodes stand below a level, where each new one stands on the level of another
@@ -147,10 +148,20 @@ fresh_climbed RootGrow i v w = tt
 fresh_climbed Unlock i v w = tt
 fresh_climbed _ i v w = absurd i
 
--- and some step is left after one of a climb
-climb_locked : (p : Phase) → IsClimb p → p ≢ Unlock
-climb_locked Unlock i e = i
-climb_locked _ i e = absurd (cc)
+-- no root was made before a step of a climb
+climb_ungrown : (p : Phase) → IsClimb p → (l : List Halves) → ¬ MayHaveGrown p l
+climb_ungrown Unlock i l grown = i
+climb_ungrown _ i l grown = grown
+
+-- one may have been made before the locks of splits are given back
+unlock_grown : (l : List Halves) → l ≢ [] → MayHaveGrown Unlock l
+unlock_grown [] some = absurd (some refl)
+unlock_grown (x ∷ l) some = tt
+
+-- and so many steps are made before that
+pub unlock_most : (l : List Halves) (height : ℕ) → l ≢ [] → before_unlock l height ≡ 23 * height + 7
+unlock_most [] height some = absurd (some refl)
+unlock_most (x ∷ l) height some = refl
 
 -- what is kept of splits at the phase at which a walk is
 pub kept_at : (p q : Phase) (v : ArenaView) (op : ℕ) (s : Splits) → p ≡ q → KeptSplit p v op s → KeptSplit q v op s
@@ -167,7 +178,7 @@ pub record Ensures (op : ℕ) (old new : ArenaView) (before after : Walk) (s t :
 -- so a step from one phase to another is told, by what it leaves of the nodes and how many steps were made
 pub climbs_on : (op : ℕ) (old new : ArenaView) (before after : Walk) (s t : Splits) (p q : Phase) → before.phase ≡ p → IsClimb p → after ≡ walk_at q before → IsClimbed q → MayFollow p q
     → LeavesNodes op old new → (q ≢ Unlock → AreOnLevels old new) → t.halves.items ≢ []
-    → ((height made : ℕ) → AreBelow old height → HasMade p height made old before s → HasMade q height (made + 1) new after t)
+    → ((height made : ℕ) → AreBelow old height → HasMade p height made old before s → HasMade q height (made + 1) new (walk_at q before) t)
     → Ensures op old new before after s t → ClimbsOn op old new before after s t
 climbs_on op old new before after s t p q at_p climb goes climbed follows leaves levels some counts_on e =
     let at_q : after.phase ≡ q = ap (λ (w : Walk). w.phase) goes in
@@ -177,17 +188,16 @@ climbs_on op old new before after s t p q at_p climb goes climbed follows leaves
       touches = touches op old new leaves;
       stood = stood op old new leaves;
       versions = versions op old new leaves;
-      one_tree = one_tree op old new leaves;
+      unremoved = unremoved op old new leaves;
       follows = subst (λ (x : Phase). MayFollow x after.phase) (sym at_p) (subst (MayFollow p) (sym at_q) follows);
       same = e.same;
       kept = e.kept;
       some = some;
       holds = e.holds;
       nears = λ height made point.
-          let below : AreBelow old height = point.below (λ is. climb_locked p climb (sym at_p ∙ is)) in
-          record {
-            below = λ more. stays_below op old new leaves (levels (λ is. more (at_q ∙ is))) height below;
-            fresh = subst (λ (x : Phase). IsFresh x new after) (sym at_q) (fresh_climbed q climbed new after);
-            few = subst (λ (x : Phase). HasMade x height (made + 1) new after t) (sym at_q) (counts_on height made below (subst (λ (x : Phase). HasMade x height made old before s) at_p point.few));
-          };
+          let below : AreBelow old height = below_at height made old before s p at_p (climb_ungrown p climb s.halves.items) point in
+          point_at height (made + 1) new after t q at_q
+          (λ ungrown. stays_below op old new leaves (levels (λ is. ungrown (subst (λ (x : Phase). MayHaveGrown x t.halves.items) (sym is) (unlock_grown t.halves.items some)))) height below)
+          (subst (λ (w : Walk). w.layer < 32) (sym goes) point.shallow) (fresh_climbed q climbed new after)
+          (subst (λ (w : Walk). HasMade q height (made + 1) new w t) (sym goes) (counts_on height made below (few_at height made old before s p at_p point)));
     }

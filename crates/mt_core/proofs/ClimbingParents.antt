@@ -101,7 +101,7 @@ module _ (op : ℕ) (old new : ArenaView) (before after : Walk) (s t : Splits) (
           (λ j lt. each_set (λ i n. i < length old.nodes → Stays op (at old i) n) mid.nodes q y (λ i _ within. each_mid i within) (λ _. right_stays) j (omega (arith, lt, size_mid)) lt))
 
       counts_locked : (b : Bool) (height made : ℕ) → AreBelow old height → HasMade LockParent height made old before s
-          → HasMade (if b then InteriorSplit else InsertChild) height (made + 1) new after t
+          → HasMade (if b then InteriorSplit else InsertChild) height (made + 1) new (walk_at (if b then InteriorSplit else InsertChild) before) t
       counts_locked true height made below few = let level = level_stays op old new s t kept.named.splits leaves_locked same in omega (arith, few, level)
       counts_locked false height made below few = let low = level_below op height old s kept.named.splits below in omega (arith, few, low)
 
@@ -145,7 +145,7 @@ module _ (op : ℕ) (old new : ArenaView) (before after : Walk) (s t : Splits) (
     n = length (at old r).children
 
     counts_named : (b : Bool) → (s.moved + 1 == n) ≡ b → t.moved ≡ (if b then 0 else s.moved + 1) → (height made : ℕ) → AreBelow old height → HasMade Reparent height made old before s
-        → HasMade (if b then LockParent else Reparent) height (made + 1) new after t
+        → HasMade (if b then LockParent else Reparent) height (made + 1) new (walk_at (if b then LockParent else Reparent) before) t
     counts_named true last moved height made below few =
         let level = level_stays op old new s t kept.splits leaves_named same in
         let all = eqb-true (s.moved + 1) n last in

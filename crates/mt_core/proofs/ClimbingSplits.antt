@@ -22,7 +22,7 @@ use Rattle.mt_insert.specs.Splitting.{last_of, IsAtInsertChild, IsAtInteriorSpli
 use Rattle.mt_insert.specs.SplitMoves.{walk_at, HasOneMore}
 use Rattle.mt_insert.proofs.SplittingParents.{count_more, last_more}
 use Rattle.mt_core.specs.Climbs.{ClimbsOn}
-use Rattle.mt_core.proofs.Climbing.{Stays, stays_same, IsBare, LeavesNodes, each_set, each_pushed, pushed_at, leaves_set, Ensures, climbs_on}
+use Rattle.mt_core.proofs.Climbing.{Stays, stays_same, IsBare, LeavesNodes, each_set, each_pushed, pushed_at, leaves_set, unlock_most, Ensures, climbs_on}
 use Rattle.mt_core.proofs.ClimbingParents.{some_halves}
 
 -- an insert makes a list one longer at most
@@ -55,12 +55,13 @@ module _ (op : ℕ) (old new : ArenaView) (before after : Walk) (s t : Splits) (
   child_inserted at_insert kept is walk same =
       let y = with_child (inserting (at old kept.p)) (at old q).low q in
       let z = exact (at old l) in
+      let some = some_halves old op s kept.at_parent.named.splits t.halves.items same in
       climbs_on op old new before after s t InsertChild Unlock at_insert tt walk tt tt
       (subst (LeavesNodes op old) (sym is) (leaves_set op old (with_right old.nodes kept.p l q) (size_two old.nodes kept.p l y z) (each_two op old.nodes kept.p l y z
       (record { slots = refl; tree = refl; level = refl; deleted = refl; inserts = refl; splits = refl; touched = inr (inl (inl kept.at_parent.parent.held.holder)) })
       (record { slots = refl; tree = refl; level = refl; deleted = refl; inserts = refl; splits = refl; touched = inr (inl (inl kept.at_parent.named.splits.parted.left.held.holder)) }))))
-      (λ more. absurd (more refl)) (some_halves old op s kept.at_parent.named.splits t.halves.items same)
-      (λ height made below few. omega (arith, few)) e
+      (λ more. absurd (more refl)) some
+      (λ height made below few. omega (arith, few, unlock_most t.halves.items height some)) e
 
   -- it is full
   module _ (kept : IsAtInteriorSplit old op s) where
@@ -166,6 +167,7 @@ module _ (op : ℕ) (old new : ArenaView) (before after : Walk) (s t : Splits) (
 
     pub root_grown : before.phase ≡ RootGrow → new ≡ g → after ≡ walk_at Unlock before → t.halves.items ≡ s.halves.items → ClimbsOn op old new before after s t
     root_grown at_grow is walk same =
+        let some = some_halves old op s kept.at_root.named.splits t.halves.items same in
         climbs_on op old new before after s t RootGrow Unlock at_grow tt walk tt tt (subst (LeavesNodes op old) (sym is) leaves_root)
-        (λ more. absurd (more refl)) (some_halves old op s kept.at_root.named.splits t.halves.items same)
-        (λ height made below few. omega (arith, few)) e
+        (λ more. absurd (more refl)) some
+        (λ height made below few. omega (arith, few, unlock_most t.halves.items height some)) e

@@ -18,9 +18,10 @@ pub mod Taking
 pub mod Tidying
 pub mod Starts
 pub mod Beginning
-pub mod Causes
 pub mod Refusing
+pub mod Bystanders
 pub mod Righting
+pub mod LayerSteps
 pub mod Climbing
 pub mod ClimbingParents
 pub mod ClimbingSplits

@@ -3,14 +3,14 @@ use Rattle.std.proofs.Common.{◌≡◌, ℕ, ◌⊎◌, inl, inr, false, Option
 use Rattle.std.specs.Option.{option_map}
 use Rattle.std.proofs.lemmas.Option.{same_Some}
 use Rattle.mt_operation.specs.declared.walk.Phase.{Phase}
-use Rattle.mt_operation.specs.declared.walk.Phase.TheVariants.{Enter, Pick, Child, Verify, Forward, SplitPrev, LockParent, InsertChild, InteriorSplit, Reparent, RootGrow, Done}
+use Rattle.mt_operation.specs.declared.walk.Phase.TheVariants.{Enter, Pick, Child, Verify, Forward, SplitPrev, LockParent, InsertChild, InteriorSplit, Reparent, RootGrow, MakeLayer, MarkUnstable, Link, MarkLayer, Done}
 use Rattle.mt_operation.specs.declared.operation.Operation.{Operation}
 use Rattle.mt_operation.specs.Operations.{view_of, is_done}
 use Rattle.mt_operation.specs.Tables.{op_at as operation_at}
 use Rattle.mt_state.specs.Views.{Core, shown}
 use Rattle.mt_state.specs.Promises.{HasStep}
 use Rattle.mt_state.specs.Ways.{IsDescent}
-use Rattle.mt_state.specs.Writes.{IsClimb}
+use Rattle.mt_state.specs.Writes.{IsClimb, IsLayerPhase}
 use Rattle.mt_state.proofs.Shown.{shown_there}
 use Rattle.mt_core.specs.Shows.{next_phase, phase_in}
 use Rattle.mt_core.specs.Nexts.{IsNext}
@@ -59,6 +59,19 @@ climbs p h = elim h [
           | inr e ↦ subst IsClimb (sym e) tt
         ]
       ]
+    ]
+  ]
+]
+
+-- and those in which it makes a layer
+pub layers : (p : Phase) → (p ≡ MakeLayer) ⊎ (p ≡ MarkUnstable) ⊎ (p ≡ Link) ⊎ (p ≡ MarkLayer) → IsLayerPhase p
+layers p h = elim h [
+  | inl e ↦ subst IsLayerPhase (sym e) tt
+  | inr rest ↦ elim rest [
+    | inl e ↦ subst IsLayerPhase (sym e) tt
+    | inr rest ↦ elim rest [
+      | inl e ↦ subst IsLayerPhase (sym e) tt
+      | inr e ↦ subst IsLayerPhase (sym e) tt
     ]
   ]
 ]

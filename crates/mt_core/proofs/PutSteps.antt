@@ -1,20 +1,22 @@
 -- The phases of a put by the ensures of the calls that they make: for `Inner::lock`, `judge`, `store`, `publish` and `unlock_one`.
 use Rattle.std.proofs.Common.{◌≡◌, ◌≢◌, ℕ, ◌+◌, ◌<◌, inl, inr, Bool, true, false, cond, eqb, [], length, set, Option, Some, None, IsSome, is_some, refl, sym, ap, subst, ◌∙◌, arith}
-use Rattle.std.specs.Prelude.{◌*◌, ◌^◌}
+use Rattle.std.specs.Prelude.{◌*◌, ◌^◌, ◌≤◌, ◌⊎◌, List}
 use Rattle.std.specs.FinMap.{get}
 use Rattle.mt_rows.specs.declared.reply.Reply.{Reply}
 use Rattle.mt_rows.specs.declared.reply.Reply.TheVariants.{NoMemory, New, Full, Replaced}
-use Rattle.mt_rows.specs.Rows.{Columns}
+use Rattle.mt_rows.specs.Rows.{Bytes, Columns}
 use Rattle.mt_rows.specs.Accounts.{Accounts, account_of, HasRoom}
 use Rattle.mt_border.specs.Contents.{owned}
+use Rattle.mt_slices.specs.Keys.{IsStoredKey}
 use Rattle.mt_tape.specs.Tapes.{Kept}
 use Rattle.mt_arena.specs.NodeView.{NodeView}
-use Rattle.mt_arena.specs.Edits.{locked}
+use Rattle.mt_arena.specs.Edits.{locked, unlocked}
 use Rattle.mt_arena.specs.Arena.{ArenaView, IsArena, Guarantee, content_of}
-use Rattle.mt_arena.specs.Accesses.{at}
+use Rattle.mt_arena.specs.Accesses.{at, with_node}
 use Rattle.mt_operation.specs.declared.walk.Phase.{Phase}
-use Rattle.mt_operation.specs.declared.walk.Phase.TheVariants.{Lock, Judge, Store, Publish, SplitStart, Unlock}
+use Rattle.mt_operation.specs.declared.walk.Phase.TheVariants.{Enter, Lock, Judge, Store, Publish, SplitStart, MakeLayer, Unlock}
 use Rattle.mt_operation.specs.declared.walk.Walk.{Walk}
+use Rattle.mt_operation.specs.declared.splits.Halves.{Halves}
 use Rattle.mt_operation.specs.declared.splits.Splits.{Splits}
 use Rattle.mt_operation.specs.declared.outcome.Outcome.{Outcome}
 use Rattle.mt_operation.specs.declared.prepared.Prepared.{Prepared}
@@ -22,36 +24,38 @@ use Rattle.mt_operation.specs.declared.operation.Operation.{Operation}
 use Rattle.mt_operation.specs.Operations.{is_done, moved, noted, made_ready, with_nothing_ready}
 use Rattle.mt_operation.specs.Tables.{Table, op_at as operation_at, MayMove}
 use Rattle.mt_descent.specs.Seen.{IsOutdated}
-use Rattle.mt_descent.specs.Moves.{Continues, Locks}
+use Rattle.mt_descent.specs.Moves.{Continues, Locks, walk_into}
 use Rattle.mt_insert.specs.Puts.{IsPut}
-use Rattle.mt_insert.specs.Moves.{StandsIn, after_judge, walk_placed, released, reserving}
-use Rattle.mt_insert.specs.Kept.{KeptReady, IsAtStore, IsAtPublish, IsAtUnlock}
+use Rattle.mt_insert.specs.Moves.{IsMadeReady, MeetsOther, MeetsLink, after_judge, walk_placed, released}
+use Rattle.mt_insert.specs.Kept.{KeptReady, IsAtMakeLayer, IsAtStore, IsAtPublish, IsAtUnlock}
 use Rattle.mt_state.specs.declared.moves.Move.{Move}
 use Rattle.mt_state.specs.declared.moves.Move.TheVariants.{Moved, Again}
 use Rattle.mt_state.specs.Views.{Core, shown, StateView}
 use Rattle.mt_state.specs.Promises.{IsHeldByOther}
-use Rattle.mt_state.specs.Writes.{TakesLock, GivesBack, MakesReady, PlacesChange, Stores, Publishes, FindsFull}
+use Rattle.mt_state.specs.Writes.{LeavesContents, TakesLock, GivesBack, MakesReady, PlacesChange, Stores, Publishes, FindsFull, MeetsAnother, GoesBelow}
+use Rattle.mt_state.specs.Kept.{has_splits}
 use Rattle.mt_state.specs.Invariant.{StateInvariant, is_prepared}
 use Rattle.mt_state.proofs.Shown.{shown_there}
 use Rattle.mt_state.proofs.Telling.{Gives}
 use Rattle.mt_state.proofs.OneNode.{replaced_all}
 use Rattle.mt_state.proofs.Locking.{lock_done, unlock_done, judge_ready, judge_refused, publish_full}
+use Rattle.mt_state.proofs.LayerSteps.{meet_done, below_done}
 use Rattle.mt_state.proofs.Putting.{store_done, publish_done}
-use Rattle.mt_state.proofs.Needs.{IsOfWrites, put_at, lock_kept, lock_blocked, store_kept, publish_kept, store_ready, publish_ready, write_room}
+use Rattle.mt_state.proofs.Needs.{IsOfWrites, put_at, lock_kept, lock_blocked, judge_kept, store_kept, publish_kept, store_ready, publish_ready, write_room}
 use Rattle.mt_core.specs.Nexts.{IsNext}
-use Rattle.mt_core.specs.Points.{AreBelow, HasMade, IsAtPoint, Nears, StepsOn}
+use Rattle.mt_core.specs.Points.{AreBelow, above, before_unlock, HasMade, MayHaveGrown, IsAtPoint, Nears, StepsOn}
 use Rattle.mt_core.proofs.Points.{point_first, point_at, below_at, fresh_at, few_at, nears_by}
+use Rattle.mt_core.proofs.LookPoints.{next_layer, shallow_below}
 use Rattle.mt_core.proofs.Following.{Writes, IsOver, over_first, over_next, opened, may_over, may_move, next_here, phase_is, made}
 
 -- what a judgement that made all ready ensures
-pub ready_for : (c : Core) (o : ℕ) (x : Operation) (arena : ArenaView) (tape : Kept) (w : Walk) (prepared : Prepared) → (slot : Option ℕ) × StandsIn (at c.arena x.walk.place.node) x.task.key x.walk.layer slot × (w ≡ after_judge (at c.arena x.walk.place.node) slot x.walk)
-    → Continues x.walk w → tape ≡ reserving c.tape → arena ≡ c.arena → KeptReady w.phase arena o x.task prepared w → MakesReady c o x tape w prepared
-ready_for c o x arena tape w prepared judged same reserves stays kept = record {
-  slot = judged.0;
-  walk = judged.2;
+pub ready_for : (c : Core) (o : ℕ) (x : Operation) (tape : Kept) (w : Walk) (prepared : Prepared) → IsMadeReady o x.task c.arena c.tape tape x.walk w prepared → Continues x.walk w → MakesReady c o x tape w prepared
+ready_for c o x tape w prepared ready same = record {
+  slot = ready.slot;
+  walk = ready.walk;
   same = same;
-  tape_is = reserves;
-  kept = subst (λ (v : ArenaView). KeptReady w.phase v o x.task prepared w) stays kept;
+  tape_is = ready.tape;
+  kept = ready.kept;
 }
 
 -- and one that found the quota full
@@ -76,11 +80,11 @@ lock_brings o v arena w x s locks at_lock within live height n point =
       | inl deleted ↦ absurd (let no = sym live ∙ deleted in cc)
       | inr split ↦ split (ap (λ p. p.splits) (sym sees))
     ] in
-    let below = below_at height n v x s Lock at_lock (λ e. absurd (cc)) point in
+    let below = below_at height n v x s Lock at_lock (λ grown. grown) point in
     let few : HasMade Lock height n v x s = few_at height n v x s Lock at_lock point in
-    subst (λ (a : ArenaView). IsAtPoint height (n + 1) a w s) (sym (locks.takes stands)) (point_at height (n + 1) _ w s Judge (ap (λ (y : Walk). y.phase) (locks.judges stands))
+    subst (λ (a : ArenaView). IsAtPoint height (n + 1) a w s) (sym (locks.takes stands)) (subst (λ (y : Walk). IsAtPoint height (n + 1) (with_node v k (locked (at v k) o)) y s) (sym (locks.judges stands)) (point_at height (n + 1) _ (record x { phase = Judge }) s Judge refl
     (λ other. replaced_all v k within (locked (at v k) o) (λ (m : NodeView). m.level < height) (below k within) below)
-    tt (omega (arith, few)))
+    point.shallow tt (omega (arith, few))))
 
 -- of one that has made all ready
 judge_brings : (v : ArenaView) (m : NodeView) (slot : Option ℕ) (w x : Walk) (s : Splits) → w ≡ after_judge m slot x → x.phase ≡ Judge → (height n : ℕ) → IsAtPoint height n v x s → IsAtPoint height (n + 1) v w s
@@ -90,25 +94,57 @@ judge_brings v m slot w x s goes at_judge height n point = subst (λ (y : Walk).
     few = few_at height n v x s Judge at_judge point
 
     below : AreBelow v height
-    below = below_at height n v x s Judge at_judge (λ e. absurd (cc)) point
+    below = below_at height n v x s Judge at_judge (λ grown. grown) point
 
     by_full : (full : Bool) → IsAtPoint height (n + 1) v (record x { phase = cond full SplitStart Publish }) s
-    by_full true = point_at height (n + 1) v _ s SplitStart refl (λ other. below) tt (omega (arith, few))
-    by_full false = point_at height (n + 1) v _ s Publish refl (λ other. below) tt (omega (arith, few))
+    by_full true = point_at height (n + 1) v _ s SplitStart refl (λ other. below) point.shallow tt (omega (arith, few))
+    by_full false = point_at height (n + 1) v _ s Publish refl (λ other. below) point.shallow tt (omega (arith, few))
 
     by_slot : (slot : Option ℕ) → IsAtPoint height (n + 1) v (after_judge m slot x) s
-    by_slot (Some i) = point_at height (n + 1) v _ s Store refl (λ other. below) tt (omega (arith, few))
+    by_slot (Some i) = point_at height (n + 1) v _ s Store refl (λ other. below) point.shallow tt (omega (arith, few))
     by_slot None = by_full (eqb (length m.slots) 15)
 
--- of one that has placed its change, or found its quota full
-place_brings : (v arena : ArenaView) (w x : Walk) (s : Splits) → w ≡ walk_placed x → ((height n : ℕ) → IsAtPoint height n v x s → n < 3 * height + 3) → (height n : ℕ) → IsAtPoint height n v x s → IsAtPoint height (n + 1) arena w s
-place_brings v arena w x s goes least height n point =
+-- of one that meets another long key in the place of its own
+meet_brings : (v : ArenaView) (slot : ℕ) (w x : Walk) (s : Splits) → w ≡ record x { slot = slot; phase = MakeLayer } → x.phase ≡ Judge → (height n : ℕ) → IsAtPoint height n v x s → IsAtPoint height (n + 1) v w s
+meet_brings v slot w x s goes at_judge height n point =
+    let few : HasMade Judge height n v x s = few_at height n v x s Judge at_judge point in
+    let below = below_at height n v x s Judge at_judge (λ grown. grown) point in
+    subst (λ (y : Walk). IsAtPoint height (n + 1) v y s) (sym goes) (point_at height (n + 1) v _ s MakeLayer refl (λ other. below) point.shallow tt (omega (arith, few)))
+
+-- of one that gives its lock back, and goes on in the tree of a link
+link_brings : (v : ArenaView) (key : Bytes) (tree : ℕ) (w x : Walk) (s : Splits) → w ≡ walk_into x tree (x.layer + 1) → x.phase ≡ Judge → x.place.node < length v.nodes → IsStoredKey key → 8 * w.layer < length key
+    → (height n : ℕ) → IsAtPoint height n v x s → IsAtPoint height (n + 1) (with_node v x.place.node (unlocked (at v x.place.node))) w s
+link_brings v key tree w x s goes at_judge within stored begun height n point =
+    let k = x.place.node in
+    let few : HasMade Judge height n v x s = few_at height n v x s Judge at_judge point in
+    let below = below_at height n v x s Judge at_judge (λ grown. grown) point in
+    let reaches : 8 * (x.layer + 1) < length key = subst (λ (y : Walk). 8 * y.layer < length key) goes begun in
+    subst (λ (y : Walk). IsAtPoint height (n + 1) (with_node v k (unlocked (at v k))) y s) (sym goes) (point_at height (n + 1) _ (walk_into x tree (x.layer + 1)) s Enter refl
+    (λ other. replaced_all v k within (unlocked (at v k)) (λ (m : NodeView). m.level < height) (below k within) below)
+    (shallow_below x.layer key stored reaches) tt (next_layer height x.layer n (omega (arith, few))))
+
+-- a node that keeps its level keeps all below
+levels_stay : (v arena : ArenaView) (k : ℕ) (m : NodeView) → k < length v.nodes → arena ≡ with_node v k m → m.level ≡ (at v k).level → (height : ℕ) → AreBelow v height → AreBelow arena height
+levels_stay v arena k m within is same height below = subst (λ (a : ArenaView). AreBelow a height) (sym is)
+    (replaced_all v k within m (λ (x : NodeView). x.level < height) (subst (λ (l : ℕ). l < height) (sym same) (below k within)) below)
+
+-- of one that has placed its change, or found its quota full: nothing is split
+place_brings : (v arena : ArenaView) (w x : Walk) (s : Splits) (p : Phase) → x.phase ≡ p → w ≡ walk_placed x → s.halves.items ≡ [] → ¬ MayHaveGrown p s.halves.items → ((height : ℕ) → AreBelow v height → AreBelow arena height)
+    → ((height n : ℕ) → IsAtPoint height n v x s → n < above height x + 3 * height + 3) → (height n : ℕ) → IsAtPoint height n v x s → IsAtPoint height (n + 1) arena w s
+place_brings v arena w x s p at_p goes none other stays least height n point =
     let few = least height n point in
-    point_at height (n + 1) arena w s Unlock (ap (λ (y : Walk). y.phase) goes) (λ other. absurd (other refl)) tt (omega (arith, few))
+    let made : n + 1 ≤ above height x + before_unlock [] height = omega (arith, few) in
+    subst (λ (y : Walk). IsAtPoint height (n + 1) arena y s) (sym goes) (point_at height (n + 1) arena (walk_placed x) s Unlock refl
+    (λ ungrown. stays height (below_at height n v x s p at_p other point)) point.shallow tt
+    (subst (λ (halves : List Halves). n + 1 ≤ above height x + before_unlock halves height) (sym none) made))
 
 -- the splits of an operation have no halves, nor have they where it is found inside
 pub splits_none : (c now : Core) (o : ℕ) → c ≡ now → ((op : Operation) → operation_at now.table o ≡ Some op → op.splits.halves.items ≡ []) → (x : Operation) → operation_at c.table o ≡ Some x → x.splits.halves.items ≡ []
 splits_none c now o is none x there = none x (ap (λ (v : Core). operation_at v.table o) (sym is) ∙ there)
+
+-- it was told something, also where it is found inside
+pub told_some : (c now : Core) (o : ℕ) → c ≡ now → ((op : Operation) → operation_at now.table o ≡ Some op → op.outcome ≢ None) → (x : Operation) → operation_at c.table o ≡ Some x → x.outcome ≢ None
+told_some c now o is told x there = told x (ap (λ (v : Core). operation_at v.table o) (sym is) ∙ there)
 
 module _ (c now : Core) (o : ℕ) (is : c ≡ now) (h : StateInvariant c) where
   -- the operation that is to make its step, at its phase
@@ -142,6 +178,19 @@ module _ (c now : Core) (o : ℕ) (is : c ≡ now) (h : StateInvariant c) where
   })
 
   module _ (few : now.steps < 2 ^ 59) where
+    few_inside : c.steps < 2 ^ 59
+    few_inside = subst (λ (v : Core). v.steps < 2 ^ 59) (sym is) few
+
+    -- what a step tells that leaves the tape, by the table that is left
+    gives_on : (x : Operation) (arena : ArenaView) (tape : Kept) (w : Walk) (table : Table) → IsOver c.table table o (moved x (c.steps + 1) w) → (from : ArenaView) → arena ≡ from → tape ≡ c.tape
+        → Gives (shown c) (made c from c.tape c.accounts (set c.table o (Some (moved x (c.steps + 1) w)))) o false → Gives (shown now) (made c arena tape c.accounts table) o false
+    gives_on x arena tape w table over from stays keeps g =
+        let after = moved x (c.steps + 1) w in
+        subst (λ (all : Table). Gives (shown now) (made c arena tape c.accounts all) o false) (sym over.is)
+        (subst (λ (v : Core). Gives (shown v) (made c arena tape c.accounts (set c.table o (Some after))) o false) is
+        (subst (λ (v : ArenaView). Gives (shown c) (made c v tape c.accounts (set c.table o (Some after))) o false) (sym stays)
+        (subst (λ (t : Kept). Gives (shown c) (made c from t c.accounts (set c.table o (Some after))) o false) (sym keeps) g)))
+
     -- a lock that was taken, or not because the node was deleted or split
     pub lock_made : IsNext now o (λ q. q ≡ Lock) → (x : Operation) → operation_at c.table o ≡ Some x → (arena : ArenaView) (w : Walk) (table : Table) → TakesLock c o x arena w → Writes c.table table o (λ y. moved y (c.steps + 1) w)
         → StateInvariant (made c arena c.tape c.accounts table) × StepsOn now (made c arena c.tape c.accounts table) o Moved
@@ -154,14 +203,14 @@ module _ (c now : Core) (o : ℕ) (is : c ≡ now) (h : StateInvariant c) where
         (subst (λ (all : Table). Gives (shown now) (made c arena c.tape c.accounts all) o false) (sym over.is)
         (lock_done c (shown now) o (ap shown is) h few x there at_lock arena w t.locks t.same t.leaves.guarantee t.leaves.contents t.kept t.judged t.settled))
         (nears_made x after there arena c.tape c.accounts table over t.leaves.guarantee
-        (λ height n point. point_first height (n + 1) arena w x.splits after.walk.first (lock_brings o c.arena arena w x.walk x.splits t.locks at_lock within (h.one_tree.live x.walk.place.node within) height n point)))
+        (λ height n point. point_first height (n + 1) arena w x.splits after.walk.first (lock_brings o c.arena arena w x.walk x.splits t.locks at_lock within (h.unremoved.live x.walk.place.node within) height n point)))
 
     -- a lock that was given back
-    pub unlock_made : IsNext now o (λ q. q ≡ Unlock) → (x : Operation) → operation_at c.table o ≡ Some x → x.splits.halves.items ≡ [] → (arena : ArenaView) (w : Walk) (table : Table) → GivesBack c o x arena w → Writes c.table table o (λ y. moved y (c.steps + 1) w)
+    pub unlock_made : IsNext now o (λ q. q ≡ Unlock) → (x : Operation) → operation_at c.table o ≡ Some x → x.outcome ≢ None → x.splits.halves.items ≡ [] → (arena : ArenaView) (w : Walk) (table : Table) → GivesBack c o x arena w → Writes c.table table o (λ y. moved y (c.steps + 1) w)
         → Gives (shown now) (made c arena c.tape c.accounts table) o true
-    unlock_made next x there none arena w table t writes =
+    unlock_made next x there told none arena w table t writes =
         subst (λ (all : Table). Gives (shown now) (made c arena c.tape c.accounts all) o true) (sym (writes x there))
-        (unlock_done c (shown now) o (ap shown is) h few x there (phase_is c now o (λ q. q ≡ Unlock) is x there next) none arena w t.is t.walk t.same t.leaves.guarantee t.leaves.contents)
+        (unlock_done c (shown now) o (ap shown is) h few x there (phase_is c now o (λ q. q ≡ Unlock) is x there next) told none arena w t.is t.walk t.same t.leaves.guarantee t.leaves.contents)
 
     -- all that was made ready
     pub ready_made : IsNext now o (λ q. q ≡ Judge) → (x : Operation) → operation_at c.table o ≡ Some x → (arena : ArenaView) (tape : Kept) (w : Walk) (prepared : Prepared) (mid table : Table) → arena ≡ c.arena → Guarantee o c.arena arena → MakesReady c o x tape w prepared
@@ -176,6 +225,43 @@ module _ (c now : Core) (o : ℕ) (is : c ≡ now) (h : StateInvariant c) where
         (nears_made x after there arena tape c.accounts table over guarantee
         (λ height n point. point_first height (n + 1) arena w x.splits after.walk.first
         (subst (λ (v : ArenaView). IsAtPoint height (n + 1) v w x.splits) (sym stays) (judge_brings c.arena (at c.arena x.walk.place.node) t.slot w x.walk x.splits t.walk at_judge height n point))))
+
+    -- another long key in the key's place
+    meets_made : IsNext now o (λ q. q ≡ Judge) → (x : Operation) → operation_at c.table o ≡ Some x → (arena : ArenaView) (tape : Kept) (w : Walk) (table : Table) → tape ≡ c.tape → Guarantee o c.arena arena → MeetsOther o x.task.key c.arena arena x.walk w
+        → Writes c.table table o (λ y. moved y (c.steps + 1) w) → StateInvariant (made c arena tape c.accounts table) × StepsOn now (made c arena tape c.accounts table) o Moved
+    meets_made next x there arena tape w table keeps guarantee t writes =
+        let at_judge = phase_is c now o (λ q. q ≡ Judge) is x there next in
+        let after = moved x (c.steps + 1) w in
+        let over = over_first c.table table o (λ y. moved y (c.steps + 1) w) x there writes in
+        let meets : MeetsAnother c o x w = record { slot = t.slot; walk = t.walk; kept = subst (λ (v : ArenaView). IsAtMakeLayer v o x.task.key w) t.same t.kept } in
+        steps_on (made c arena tape c.accounts table)
+        (gives_on x arena tape w table over c.arena t.same keeps (meet_done c o h few_inside x there at_judge w meets))
+        (nears_made x after there arena tape c.accounts table over guarantee
+        (λ height n point. point_first height (n + 1) arena w x.splits after.walk.first
+        (subst (λ (v : ArenaView). IsAtPoint height (n + 1) v w x.splits) (sym t.same) (meet_brings c.arena t.slot w x.walk x.splits t.walk at_judge height n point))))
+
+    -- a link that leads on
+    link_made : IsNext now o (λ q. q ≡ Judge) → (x : Operation) → operation_at c.table o ≡ Some x → (arena : ArenaView) (tape : Kept) (w : Walk) (table : Table) → tape ≡ c.tape → Continues x.walk w → LeavesContents c o arena
+        → MeetsLink o x.task.key c.arena arena x.walk w → Writes c.table table o (λ y. moved y (c.steps + 1) w) → StateInvariant (made c arena tape c.accounts table) × StepsOn now (made c arena tape c.accounts table) o Moved
+    link_made next x there arena tape w table keeps same leaves t writes =
+        let at_judge = phase_is c now o (λ q. q ≡ Judge) is x there next in
+        let within = (judge_kept c o h x there at_judge).judged.held.there in
+        let stored = (h.ops o x there).always.stored in
+        let after = moved x (c.steps + 1) w in
+        let over = over_first c.table table o (λ y. moved y (c.steps + 1) w) x there writes in
+        let goes : GoesBelow c o x arena w = record { is = t.unlocks; enters = ap (λ (y : Walk). y.phase) t.walk; same = same; leaves = leaves; kept = t.kept } in
+        steps_on (made c arena tape c.accounts table)
+        (gives_on x arena tape w table over arena refl keeps (below_done c o h few_inside x there at_judge arena w goes))
+        (nears_made x after there arena tape c.accounts table over leaves.guarantee
+        (λ height n point. point_first height (n + 1) arena w x.splits after.walk.first
+        (subst (λ (v : ArenaView). IsAtPoint height (n + 1) v w x.splits) (sym t.unlocks) (link_brings c.arena x.task.key t.tree w x.walk x.splits t.walk at_judge within stored t.kept.begun height n point))))
+
+    -- either of them: it goes on
+    pub on_made : IsNext now o (λ q. q ≡ Judge) → (x : Operation) → operation_at c.table o ≡ Some x → (arena : ArenaView) (tape : Kept) (w : Walk) (table : Table) → tape ≡ c.tape → Continues x.walk w → LeavesContents c o arena
+        → MeetsOther o x.task.key c.arena arena x.walk w ⊎ MeetsLink o x.task.key c.arena arena x.walk w → Writes c.table table o (λ y. moved y (c.steps + 1) w)
+        → StateInvariant (made c arena tape c.accounts table) × StepsOn now (made c arena tape c.accounts table) o Moved
+    on_made next x there arena tape w table keeps same leaves (inl t) writes = meets_made next x there arena tape w table keeps leaves.guarantee t writes
+    on_made next x there arena tape w table keeps same leaves (inr t) writes = link_made next x there arena tape w table keeps same leaves t writes
 
     -- no memory for it
     pub refused_made : IsNext now o (λ q. q ≡ Judge) → (x : Operation) → operation_at c.table o ≡ Some x → (arena : ArenaView) (tape : Kept) (w : Walk) (told : Outcome) (table : Table) → tape ≡ c.tape → GivesBack c o x arena w
@@ -226,13 +312,18 @@ module _ (c now : Core) (o : ℕ) (is : c ≡ now) (h : StateInvariant c) where
     over_last : (w : Walk) (told : Option Outcome) (last : Table) → Writes table last o (λ y. noted (moved y (c.steps + 1) w) told) → IsOver c.table last o (noted (moved (with_nothing_ready op) (c.steps + 1) w) told)
     over_last w told last moves = over_next c.table table last o (λ y. noted (moved y (c.steps + 1) w) told) (with_nothing_ready op) over moves
 
+    -- it has split nothing
+    unsplit : has_splits p ≡ false → op.splits.halves.items ≡ []
+    unsplit none = ((h.ops o op there).unsplit (ap has_splits (standing p next).2 ∙ none)).halves
+
     -- it comes to give its lock back
     nears_placed : (arena : ArenaView) (tape : Kept) (accounts : Accounts) (w : Walk) (told : Option Outcome) (last : Table) → Writes table last o (λ y. noted (moved y (c.steps + 1) w) told) → Guarantee o c.arena arena → w ≡ walk_placed op.walk
-        → ((height n : ℕ) → IsAtPoint height n c.arena op.walk op.splits → n < 3 * height + 3) → Nears now (made c arena tape accounts last) o Moved
-    nears_placed arena tape accounts w told last moves guarantee goes least =
+        → has_splits p ≡ false → ¬ MayHaveGrown p op.splits.halves.items → ((height : ℕ) → AreBelow c.arena height → AreBelow arena height)
+        → ((height n : ℕ) → IsAtPoint height n c.arena op.walk op.splits → n < above height op.walk + 3 * height + 3) → Nears now (made c arena tape accounts last) o Moved
+    nears_placed arena tape accounts w told last moves guarantee goes none other stays least =
         let after = noted (moved (with_nothing_ready op) (c.steps + 1) w) told in
         nears_made op after there arena tape accounts last (over_last w told last moves) guarantee
-        (λ height n point. point_first height (n + 1) arena w op.splits after.walk.first (place_brings c.arena arena w op.walk op.splits goes least height n point))
+        (λ height n point. point_first height (n + 1) arena w op.splits after.walk.first (place_brings c.arena arena w op.walk op.splits p (standing p next).2 goes (unsplit none) other stays least height n point))
 
     -- whichever operation is found at the id then
     module _ (x : Operation) (there_x : operation_at table o ≡ Some x) where
@@ -262,11 +353,13 @@ module _ (c now : Core) (o : ℕ) (is : c ≡ now) (h : StateInvariant c) where
         let st = subst (λ (z : Operation). Stores c z arena prepared.row before) back stores in
         let pl = subst (λ (z : Operation). PlacesChange c o z arena tape w) back places in
         let f : Operation → Operation = λ z. moved z (c.steps + 1) w in
+        let sk = store_kept c o h s.0 s.1 s.2 prepared (has Store next table prepared takes) in
         steps_on (made c arena tape c.accounts last)
         (subst (λ (all : Table). Gives (shown now) (made c arena tape c.accounts all) o false) (sym (over_last Store next table prepared takes w (Some told) last moves).is)
         (subst (λ (r : Outcome). Gives (shown now) (made c arena tape c.accounts (set c.table o (Some (noted (f y) (Some r))))) o false) (sym says)
         (store_done c (shown now) o (ap shown is) h few s.0 s.1 (put_at c o h s.0 s.1 Store s.2 tt) s.2 arena tape w prepared.row before is_arena st.is st.before_is pl.places pl.walk pl.same pl.guarantee pl.kept)))
-        (nears_placed Store next table prepared takes arena tape c.accounts w (Some told) last moves pl.guarantee pl.walk (λ height n point. let few = few_at height n c.arena s.0.walk s.0.splits Store s.2 point in omega (arith, few)))
+        (nears_placed Store next table prepared takes arena tape c.accounts w (Some told) last moves pl.guarantee pl.walk refl (λ grown. grown)
+        (levels_stay c.arena arena s.0.walk.place.node _ sk.holds.judged.held.there (st.is sk.pair sk.stable) refl) (λ height n point. let few = few_at height n c.arena s.0.walk s.0.splits Store s.2 point in omega (arith, few)))
 
   module _ (next : IsNext now o (λ q. q ≡ Publish)) (table : Table) (prepared : Prepared) (takes : TakesOut table prepared) (x : Operation) (there_x : operation_at table o ≡ Some x) where
     -- what is kept of it is what `publish` asks
@@ -275,16 +368,16 @@ module _ (c now : Core) (o : ℕ) (is : c ≡ now) (h : StateInvariant c) where
         (let s = standing Publish next in publish_kept c o h s.0 s.1 s.2 prepared (has Publish next table prepared takes))
 
     module _ (few : now.steps < 2 ^ 59) (arena : ArenaView) (tape : Kept) (accounts : Accounts) (w : Walk) (told : Outcome) (last : Table) (moves : Writes table last o (λ y. noted (moved y (c.steps + 1) w) (Some told))) (guarantee : Guarantee o c.arena arena) where
-      by_outcome : (reply : Reply) → told ≡ record { reply = reply; at = c.steps + 1 } → w ≡ walk_placed (standing Publish next).0.walk
+      by_outcome : (reply : Reply) → told ≡ record { reply = reply; at = c.steps + 1 } → w ≡ walk_placed (standing Publish next).0.walk → ((height : ℕ) → AreBelow c.arena height → AreBelow arena height)
           → Gives (shown now) (made c arena tape accounts (set c.table o (Some (noted (moved (with_nothing_ready (standing Publish next).0) (c.steps + 1) w) (Some (record { reply = reply; at = c.steps + 1 })))))) o false
           → StateInvariant (made c arena tape accounts last) × StepsOn now (made c arena tape accounts last) o Moved
-      by_outcome reply says goes gives =
+      by_outcome reply says goes stays gives =
           let s = standing Publish next in
           let f : Operation → Operation = λ z. moved z (c.steps + 1) w in
           steps_on (made c arena tape accounts last)
           (subst (λ (all : Table). Gives (shown now) (made c arena tape accounts all) o false) (sym (over_last Publish next table prepared takes w (Some told) last moves).is)
           (subst (λ (r : Outcome). Gives (shown now) (made c arena tape accounts (set c.table o (Some (noted (f (with_nothing_ready s.0)) (Some r))))) o false) (sym says) gives))
-          (nears_placed Publish next table prepared takes arena tape accounts w (Some told) last moves guarantee goes (λ height n point. let few = few_at height n c.arena s.0.walk s.0.splits Publish s.2 point in omega (arith, few)))
+          (nears_placed Publish next table prepared takes arena tape accounts w (Some told) last moves guarantee goes refl (λ grown. grown) stays (λ height n point. let few = few_at height n c.arena s.0.walk s.0.splits Publish s.2 point in omega (arith, few)))
 
       -- a pair that was made live
       pub publish_made : IsArena c.arena.nodes c.arena.trees → Publishes c x arena accounts prepared.row → PlacesChange c o x arena tape w → told ≡ record { reply = New; at = c.steps + 1 }
@@ -294,7 +387,9 @@ module _ (c now : Core) (o : ℕ) (is : c ≡ now) (h : StateInvariant c) where
           let back = sym (it_is Publish next table prepared takes x there_x) in
           let pb = subst (λ (z : Operation). Publishes c z arena accounts prepared.row) back publishes in
           let pl = subst (λ (z : Operation). PlacesChange c o z arena tape w) back places in
+          let pk = publish_kept c o h s.0 s.1 s.2 prepared (has Publish next table prepared takes) in
           by_outcome New says pl.walk
+          (levels_stay c.arena arena s.0.walk.place.node _ pk.holds.judged.held.there pb.is refl)
           (publish_done c (shown now) o (ap shown is) h few s.0 s.1 (put_at c o h s.0 s.1 Publish s.2 tt) s.2 arena tape accounts w prepared.row is_arena pb.is pb.missing pb.room pb.counted pb.others pl.places pl.walk pl.same pl.guarantee pl.kept)
 
       -- a quota that had no room
@@ -303,4 +398,5 @@ module _ (c now : Core) (o : ℕ) (is : c ≡ now) (h : StateInvariant c) where
           let s = standing Publish next in
           let ff = subst (λ (z : Operation). FindsFull c o z tape w) (sym (it_is Publish next table prepared takes x there_x)) full in
           by_outcome Full says ff.walk
+          (λ height. subst (λ (v : ArenaView). AreBelow v height) (sym stays))
           (publish_full c (shown now) o (ap shown is) h few s.0 s.1 s.2 (put_at c o h s.0 s.1 Publish s.2 tt) arena tape accounts w stays same_accounts ff.tape_is ff.walk ff.same (subst (λ (v : ArenaView). IsAtUnlock v o w) (sym stays) ff.kept) ff.missing ff.full)

@@ -1,53 +1,50 @@
 -- A begin is refused as its opening is, and its opening as its command: for `State::begin`.
-use Rattle.std.proofs.Common.{◌≡◌, ℕ, Bool, true, false, Option, Some, None, Result, Ok, Err, sym, ap, subst, ◌∙◌}
-use Rattle.std.specs.Prelude.{if◌then◌else◌}
-use Rattle.std.specs.Option.{is_none, option_or}
-use Rattle.std.proofs.lemmas.Option.{none-some}
+use Rattle.std.proofs.Common.{◌≡◌, ℕ, Option, Some, None, IsSome, Result, Ok, Err, refl, sym, ap, subst}
+use Rattle.std.specs.Prelude.{IsOk}
 use Rattle.mt_rows.specs.declared.command.Command.{Command}
 use Rattle.mt_rows.specs.declared.refusal.Refusal.{Refusal}
-use Rattle.mt_rows.specs.declared.refusal.Refusal.TheVariants.{Memory, NoTenant}
+use Rattle.mt_rows.specs.declared.refusal.Refusal.TheVariants.{Memory, NoTenant, Spent}
+use Rattle.mt_rows.specs.declared.tenants.Account.{Account}
+use Rattle.mt_rows.specs.Commands.{IsTaken}
 use Rattle.mt_rows.specs.Accounts.{account_of}
 use Rattle.mt_operation.specs.Operations.{OperationView}
 use Rattle.mt_state.specs.Views.{StateView}
-use Rattle.mt_state.specs.Refused.{fault_of, first_lack, IsRefusal, Refuses}
+use Rattle.mt_state.specs.Refused.{IsFault, Makes, IsRefusal}
 use Rattle.mt_core.specs.declared.answers.Ticket.{Ticket}
-use Rattle.mt_core.specs.Admitted.{OpeningView, IsMadeOf, RefusesOpening, fault_made, cause_made}
+use Rattle.mt_core.specs.Admitted.{OpeningView, IsRefusalMade, IsRefusedFor, RefusesOpening}
 use Rattle.mt_core.specs.Tickets.{TellsRefusal}
 
-module _ (fault lack : Option Refusal) where
-  of_memory : (told : Refusal) → fault ≡ None → IsRefusal None (Some Memory) told → IsRefusal fault (option_or fault lack) told
-  of_memory Memory none h = none
-  of_memory _ none h = absurd (cc)
+module _ (v : StateView) (tenant : ℕ) (command : Command) where
+  -- a command's fault is handed on where its tenant is there
+  of_fault : (fault : Refusal) → IsSome (account_of v.accounts tenant) → IsFault command fault → IsRefusal v tenant command fault
+  of_fault Memory there is = (there, is)
+  of_fault NoTenant there is = absurd is
+  of_fault Spent there is = absurd is
+  of_fault _ there is = (there, is)
 
-  of_other : (refusal told : Refusal) → fault ≡ Some refusal → IsRefusal (Some refusal) (Some refusal) told → IsRefusal fault (option_or fault lack) told
-  of_other refusal Memory is h = absurd (none-some refusal (sym h))
-  of_other refusal _ is h = ap (λ o. option_or o lack) is ∙ h
+  -- what was made of a command without fault is refused for want of numbers, or of memory
+  of_made : (op : OperationView) (refusal : Refusal) → IsSome (account_of v.accounts tenant) → IsTaken command → IsRefusalMade v (Ok op) refusal → IsRefusal v tenant command refusal
+  of_made op Memory there taken is = (there, taken)
+  of_made op Spent there taken is = (there, taken, is)
+  of_made op _ there taken is = absurd is
 
-  -- the refusal of an opening is handed on
-  of_refusal : (refusal told : Refusal) → IsRefusal fault fault refusal → IsRefusal (fault_made (Err refusal)) (Some refusal) told → IsRefusal fault (option_or fault lack) told
-  of_refusal Memory told is h = of_memory told is h
-  of_refusal _ told is h = of_other _ told is h
+  by_made : (made : Result OperationView Refusal) (refusal : Refusal) → IsSome (account_of v.accounts tenant) → Makes command made → IsRefusalMade v made refusal → IsRefusal v tenant command refusal
+  by_made (Ok op) refusal there makes is = of_made op refusal there makes is
+  by_made (Err fault) refusal there makes is = subst (IsRefusal v tenant command) (sym is) (of_fault fault there makes)
 
-module _ (v : StateView) (worker tenant : ℕ) (command : Command) (told : Result Ticket Refusal) where
-  of_err : (refusal : Refusal) (r : Result Ticket Refusal) → IsRefusal (fault_of command) (fault_of command) refusal → Refuses (fault_made (Err refusal)) (Some refusal) r
-      → Refuses (fault_of command) (option_or (fault_of command) (first_lack v)) r
-  of_err refusal (Ok ticket) is h = absurd (none-some refusal (sym h))
-  of_err refusal (Err other) is h = of_refusal (fault_of command) (first_lack v) refusal other is h
+  by_account : (account : Option Account) (made : Result OperationView Refusal) (refusal : Refusal) → account_of v.accounts tenant ≡ account → Makes command made → IsRefusedFor account v made refusal → IsRefusal v tenant command refusal
+  by_account None made refusal same makes is = subst (IsRefusal v tenant command) (sym is) same
+  by_account (Some account) made refusal same makes is = by_made made refusal (subst IsSome (sym same) refl) makes is
 
-  by_made : (b : Bool) (made : Result OperationView Refusal) → IsMadeOf made worker tenant command → Refuses (fault_of command) (fault_of command) made
-      → Refuses (if b then Some NoTenant else fault_made made) (if b then Some NoTenant else cause_made v made) told
-      → Refuses (if b then Some NoTenant else fault_of command) (option_or (if b then Some NoTenant else fault_of command) (first_lack v)) told
-  by_made true made is refused h = h
-  by_made false (Ok op) is refused h =
-      subst (λ f. Refuses f (option_or f (first_lack v)) told) (sym refused) h
-  by_made false (Err refusal) is refused h = of_err refusal told is_refused h
-    where
-      is_refused : IsRefusal (fault_of command) (fault_of command) refusal
-      is_refused = refused
+  of_ok : (made : Result OperationView Refusal) → IsOk made → Makes command made → IsTaken command
+  of_ok (Ok op) ok makes = makes
+  of_ok (Err fault) ok makes = absurd (cc)
 
--- what a begin of a command's opening answers
-pub refused_by : (v : StateView) (opening : OpeningView) (worker tenant : ℕ) (command : Command) (told : Result Ticket Refusal) → opening.tenant ≡ tenant → IsMadeOf opening.made worker tenant command → Refuses (fault_of command) (fault_of command) opening.made → RefusesOpening v opening told
-    → TellsRefusal v tenant command told
-refused_by v opening worker tenant command told same is refused h =
-    by_made v worker tenant command told (is_none (account_of v.accounts tenant)) opening.made is refused
-    (subst (λ t. Refuses (if is_none (account_of v.accounts t) then Some NoTenant else fault_made opening.made) (if is_none (account_of v.accounts t) then Some NoTenant else cause_made v opening.made) told) same h)
+  -- what a begin of a command's opening answers
+  pub refused_by : (opening : OpeningView) (told : Result Ticket Refusal) → opening.tenant ≡ tenant → Makes command opening.made → RefusesOpening v opening told → TellsRefusal v tenant command told
+  refused_by opening (Ok ticket) same makes h = record {
+    there = subst (λ t. IsSome (account_of v.accounts t)) same h.0;
+    taken = of_ok opening.made h.1 makes;
+    numbered = h.2;
+  }
+  refused_by opening (Err refusal) same makes h = by_account (account_of v.accounts opening.tenant) opening.made refusal (ap (account_of v.accounts) (sym same)) makes h

@@ -15,7 +15,8 @@ use Rattle.mt_arena.specs.Arena.{ArenaView, content_of}
 use Rattle.mt_operation.specs.declared.outcome.Outcome.{Outcome}
 use Rattle.mt_operation.specs.declared.operation.Operation.{Operation}
 use Rattle.mt_operation.specs.declared.walk.Phase.{Phase}
-use Rattle.mt_operation.specs.declared.walk.Phase.TheVariants.{Enter, Pick, Child, Verify, Search, Load, Confirm, Forward, Lock, Judge, Store, Publish, SplitStart, SplitMove, SplitPrev, LockParent, InsertChild, InteriorSplit, Reparent, RootGrow, Unlock, Done}
+use Rattle.mt_operation.specs.declared.walk.Phase.TheVariants as phases
+use Rattle.mt_operation.specs.declared.walk.Phase.TheVariants.{Enter, Pick, Child, Verify, Search, Load, Confirm, Forward, Lock, Judge, Store, Publish, SplitStart, SplitMove, SplitPrev, LockParent, InsertChild, InteriorSplit, Reparent, RootGrow, MakeLayer, MarkUnstable, MarkLayer, Unlock, Done}
 use Rattle.mt_operation.specs.declared.walk.Walk.{Walk}
 use Rattle.mt_operation.specs.declared.walk.Taken.{Taken}
 use Rattle.mt_operation.specs.declared.walk.Taken.TheVariants.{Missing, Row, Link, Nothing}
@@ -26,7 +27,7 @@ use Rattle.mt_descent.specs.Kept.{IsKept, KeptAt}
 use Rattle.mt_descent.proofs.Rely as descent
 use Rattle.mt_state.specs.Views.{Core, shown, past_of, map_of, quota_of, IsPlaced}
 use Rattle.mt_state.specs.Steps.{change_in, told_change}
-use Rattle.mt_state.specs.Kept.{IsOpenOperation, IsOnItsWay, HasAnswer, TellsTaken, IsKeptAt, IsKeptOf}
+use Rattle.mt_state.specs.Kept.{IsOpenOperation, IsOnItsWay, HasAnswer, TellsTaken, IsLayering, IsReturning, IsKeptAt, IsKeptOf}
 use Rattle.mt_state.proofs.Still.{nothing_changes}
 
 -- the same state with another count of answers, another tape and another table
@@ -72,6 +73,11 @@ module _ (c : Core) (o : ℕ) (op : Operation) where
       let same = told_at h.outcome m (ap told_change (sym h.told) ∙ is) in
       (h.right.begun, omega (arith, h.right.since, same))
 
+  -- one that is to give its locks back has made a layer, or has its answer
+  returned : (told : Option Outcome) → IsReturning told c o op → (m : ℕ) → change_in (view_of op) ≡ Some m → (0 < op.walk.first) × (op.walk.first ≤ m)
+  returned None h m is = absurd (no_change h.layering.untold m is)
+  returned (Some told) h m is = answered h.answer m is
+
   -- a change was made by the first step or a later one
   change_since : (p : Phase) → IsKeptAt p c o op → (m : ℕ) → change_in (view_of op) ≡ Some m → (0 < op.walk.first) × (op.walk.first ≤ m)
   change_since Enter h m is = absurd (no_change h.untold m is)
@@ -94,7 +100,11 @@ module _ (c : Core) (o : ℕ) (op : Operation) where
   change_since InteriorSplit h m is = answered h.answer m is
   change_since Reparent h m is = answered h.answer m is
   change_since RootGrow h m is = answered h.answer m is
-  change_since Unlock h m is = answered h.answer m is
+  change_since MakeLayer h m is = absurd (no_change h.untold m is)
+  change_since MarkUnstable h m is = absurd (no_change h.untold m is)
+  change_since phases.Link h m is = absurd (no_change h.untold m is)
+  change_since MarkLayer h m is = absurd (no_change h.untold m is)
+  change_since Unlock h m is = returned op.outcome h m is
   change_since Done h m is = answered h m is
 
 module _ (c : Core) (answers : ℕ) (tape : Kept) (table : Table) (q : ℕ) (op : Operation) (t : TellsOf c tape op) (k : IsOpenOperation c op) where
@@ -132,6 +142,13 @@ module _ (c : Core) (answers : ℕ) (tape : Kept) (table : Table) (q : ℕ) (op 
   way_stays : IsOnItsWay c op → IsOnItsWay new op
   way_stays h = record { kept = walk_stays None h.kept; untold = h.untold; unprepared = h.unprepared }
 
+  layering_stays : (p : Phase) → IsLayering c q op p → IsLayering new q op p
+  layering_stays p h = record { makes = h.makes; untold = h.untold; unprepared = h.unprepared }
+
+  returning_stays : (told : Option Outcome) → IsReturning told c q op → IsReturning told new q op
+  returning_stays None h = record { layering = layering_stays Unlock h.layering; unsplit = h.unsplit }
+  returning_stays (Some told) h = record { unlocks = h.unlocks; answer = told_stays h.answer }
+
   kept_stays : (p : Phase) → IsKeptAt p c q op → IsKeptAt p new q op
   kept_stays Enter h = way_stays h
   kept_stays Pick h = way_stays h
@@ -153,14 +170,17 @@ module _ (c : Core) (answers : ℕ) (tape : Kept) (table : Table) (q : ℕ) (op 
   kept_stays InteriorSplit h = record { climbs = h.climbs; answer = told_stays h.answer }
   kept_stays Reparent h = record { climbs = h.climbs; answer = told_stays h.answer }
   kept_stays RootGrow h = record { climbs = h.climbs; answer = told_stays h.answer }
-  kept_stays Unlock h = record { unlocks = h.unlocks; answer = told_stays h.answer }
+  kept_stays MakeLayer h = layering_stays MakeLayer h
+  kept_stays MarkUnstable h = layering_stays MarkUnstable h
+  kept_stays phases.Link h = layering_stays phases.Link h
+  kept_stays MarkLayer h = layering_stays MarkLayer h
+  kept_stays Unlock h = returning_stays op.outcome h
   kept_stays Done h = told_stays h
 
   open_retained : IsOpenOperation new op
   open_retained = record {
     stored = k.stored;
     owner = k.owner;
-    short = k.short;
     columns = k.columns;
     tenant = k.tenant;
     writes = k.writes;

@@ -40,14 +40,14 @@ use Rattle.mt_state.specs.Kept.{IsSplitStarting, IsSplitMoving, IsUnlocking, May
 use Rattle.mt_state.specs.Invariant.{HoldsLast, StateInvariant}
 use Rattle.mt_state.specs.Writes.{MovesNoPair, GivesBack, PartsKeys, PartsWith, PartsWithout, splitting as split_core}
 use Rattle.mt_state.proofs.Telling.{Gives}
-use Rattle.mt_state.proofs.OneNode.{holds_here}
+use Rattle.mt_state.proofs.OneNode.{returning_told, holds_here}
 use Rattle.mt_state.proofs.Needs.{put_at, write_room}
 use Rattle.mt_state.proofs.SplitSteps.{start_done, stop_done, return_done}
 use Rattle.mt_state.proofs.Parting.{part_done, fill_done}
 use Rattle.mt_core.specs.Nexts.{IsNext}
-use Rattle.mt_core.specs.Points.{AreBelow, IsFresh, HasMade, Nears, StepsOn}
-use Rattle.mt_core.proofs.Points.{point_first, nears_by}
-use Rattle.mt_core.proofs.Climbing.{Stays, stays_same, IsBare, LeavesNodes, each_set, each_pushed, pushed_at, touches, stood, versions, one_tree, stays_below}
+use Rattle.mt_core.specs.Points.{AreBelow, IsFresh, above, HasMade, Nears, StepsOn}
+use Rattle.mt_core.proofs.Points.{point_first, point_at, below_at, few_at, nears_by}
+use Rattle.mt_core.proofs.Climbing.{Stays, stays_same, IsBare, LeavesNodes, each_set, each_pushed, pushed_at, touches, stood, versions, unremoved, stays_below}
 use Rattle.mt_core.proofs.Following.{next_here, Writes, IsOver, over_first, over_next, opened, may_over, made}
 
 -- a right half is made of a node that the operation holds
@@ -85,7 +85,7 @@ module _ (c : Core) (o : ℕ) (h : StateInvariant c) (k low : ℕ) (held : IsHel
     touches = touches o c.arena parted half_leaves;
     stood = stood o c.arena parted half_leaves;
     versions = versions o c.arena parted half_leaves c.steps h.versions;
-    one_tree = one_tree o c.arena parted half_leaves h.one_tree;
+    unremoved = unremoved o c.arena parted half_leaves h.unremoved;
   }
 
   -- no level is new
@@ -113,7 +113,7 @@ halved_below all old new left right parted height below k within =
     subst (λ l. l < height) (sym same) (below k (omega (arith, within, size)))
 
 -- the number of steps after the keys were parted
-made_parted : (next : Option ℕ) (height made : ℕ) (v : ArenaView) (w : Walk) (s : Splits) → made ≤ 3 * height + 3 → HasMade (after_parting next) height (made + 1) v w s
+made_parted : (next : Option ℕ) (height made : ℕ) (v : ArenaView) (w : Walk) (s : Splits) → made ≤ above height w + 3 * height + 3 → HasMade (after_parting next) height (made + 1) v w s
 made_parted None height made v w s few = omega (arith, few)
 made_parted (Some behind) height made v w s few = omega (arith, few)
 
@@ -179,13 +179,12 @@ module _ (c : Core) (o : ℕ) (h : StateInvariant c) (few : c.steps < 2 ^ 59) (o
           let after = moved (with_splits (with_splits op s) t) (c.steps + 1) w in
           let moves : w.phase ≡ SplitMove = ap (λ (x : Walk). x.phase) b.walk in
           nears_by c (made c arena c.tape c.accounts table) o op after there over.there b.step (λ height made point.
-          point_first height (made + 1) arena w t after.walk.first (record {
-            below = λ _. subst (λ (v : ArenaView). AreBelow v height) (sym b.is.is)
-                (half_below c o h op.walk.place.node b.is.low starting.starts.holds.judged.held height (point.below (λ e. let no = sym at_start ∙ e in cc)));
-            fresh = subst (λ (p : Phase). IsFresh p arena w) (sym moves) tt;
-            few = subst (λ (p : Phase). HasMade p height (made + 1) arena w t) (sym moves)
-                (let was = subst (λ (p : Phase). HasMade p height made c.arena op.walk op.splits) at_start point.few in omega (arith, was));
-          }))
+          let was = few_at height made c.arena op.walk op.splits SplitStart at_start point in
+          point_first height (made + 1) arena w t after.walk.first (point_at height (made + 1) arena w t SplitMove moves
+          (λ _. subst (λ (v : ArenaView). AreBelow v height) (sym b.is.is)
+          (half_below c o h op.walk.place.node b.is.low starting.starts.holds.judged.held height (below_at height made c.arena op.walk op.splits SplitStart at_start (λ grown. grown) point)))
+          (subst (λ (x : Walk). x.layer < 32) (sym b.walk) point.shallow) tt
+          (subst (λ (x : Walk). HasMade SplitMove height (made + 1) arena x t) (sym b.walk) (omega (arith, was)))))
 
     -- there is no memory for it
     start_stopped : (arena : ArenaView) (tape : Kept) (w : Walk) (s t : Splits) (y : Operation) → with_splits op s ≡ y → GivesBack c o y arena w → tape ≡ released c.tape → IsUnsplit t
@@ -254,16 +253,15 @@ module _ (c : Core) (o : ℕ) (h : StateInvariant c) (few : c.steps < 2 ^ 59) (o
           let phase : w.phase ≡ after_parting next = ap (λ (x : Walk). x.phase) goes in
           let after = noted (moved (with_nothing_ready op) (c.steps + 1) w) (Some told) in
           nears_by c (made c arena tape accounts table) o op after there over.there step (λ height made point.
-          point_first height (made + 1) arena w op.splits after.walk.first (record {
-            below = λ _. halved_below all c.arena arena op.walk.place.node (last_of op.splits).right halved height (point.below (λ e. let no = sym at_move ∙ e in cc));
-            fresh = subst (λ (p : Phase). IsFresh p arena w) (sym phase) (fresh_parted next arena w);
-            few = subst (λ (p : Phase). HasMade p height (made + 1) arena w op.splits) (sym phase)
-                (made_parted next height made arena w op.splits (subst (λ (p : Phase). HasMade p height made c.arena op.walk op.splits) at_move point.few));
-          }))
+          point_first height (made + 1) arena w op.splits after.walk.first (point_at height (made + 1) arena w op.splits (after_parting next) phase
+          (λ _. halved_below all c.arena arena op.walk.place.node (last_of op.splits).right halved height (below_at height made c.arena op.walk op.splits SplitMove at_move (λ grown. grown) point))
+          (subst (λ (x : Walk). x.layer < 32) (sym goes) point.shallow) (fresh_parted next arena w)
+          (subst (λ (x : Walk). HasMade (after_parting next) height (made + 1) arena x op.splits) (sym goes)
+          (made_parted next height made arena (walk_at (after_parting next) op.walk) op.splits (few_at height made c.arena op.walk op.splits SplitMove at_move point)))))
 
-  module _ (at_unlock : op.walk.phase ≡ Unlock) (some : op.splits.halves.items ≢ []) where
+  module _ (at_unlock : op.walk.phase ≡ Unlock) (told : op.outcome ≢ None) (some : op.splits.halves.items ≢ []) where
     unlocking : IsUnlocking c o op
-    unlocking = subst (λ (p : Phase). IsKeptAt p c o op) at_unlock (h.ops o op there).kept
+    unlocking = returning_told op.outcome told c o op (subst (λ (p : Phase). IsKeptAt p c o op) at_unlock (h.ops o op there).kept)
 
     all_unlock : IsAtUnlockAll c.arena o op.splits
     all_unlock = all_of op.splits.halves.items c.arena o op some unlocking.unlocks
@@ -277,7 +275,7 @@ module _ (c : Core) (o : ℕ) (h : StateInvariant c) (few : c.steps < 2 ^ 59) (o
         → Gives (shown c) (made c arena c.tape c.accounts table) o true
     returns_made arena w s t was y is same_splits returns ends same step contents unsplit nothing table over =
         subst (λ (all : Table). Gives (shown c) (made c arena c.tape c.accounts all) o true) (sym over.is)
-        (return_done c o h few op there at_unlock some arena w t (record {
+        (return_done c o h few op there at_unlock told some arena w t (record {
           leaves = record { guarantee = step; contents = contents };
           is = subst (Returns c.arena arena) same_splits returns;
           walk = subst (λ (z : Operation). w ≡ walk_done z.walk) (sym is) ends;
@@ -420,14 +418,18 @@ module _ (c now : Core) (o : ℕ) (is : c ≡ now) (h : StateInvariant c) (few :
               (parts_nears c o h few_here n.0 n.1 n.2 arena tape accounts w y opened_move told last over_parted _ parts.is parts.parts.walk parts.parts.guarantee)
 
   -- where its splits were taken out, to give all locks back
-  module _ (next : IsNext now o (λ q. q ≡ Unlock)) (split : (x : Operation) → operation_at now.table o ≡ Some x → x.splits.halves.items ≢ []) where
+  module _ (next : IsNext now o (λ q. q ≡ Unlock)) (told : (x : Operation) → operation_at now.table o ≡ Some x → x.outcome ≢ None)
+      (split : (x : Operation) → operation_at now.table o ≡ Some x → x.splits.halves.items ≢ []) where
+    told_here : (standing Unlock next).0.outcome ≢ None
+    told_here = let n = standing Unlock next in told n.0 (subst (λ (v : Core). operation_at v.table o ≡ Some n.0) is n.1)
+
     some_here : (standing Unlock next).0.splits.halves.items ≢ []
     some_here = let n = standing Unlock next in split n.0 (subst (λ (v : Core). operation_at v.table o ≡ Some n.0) is n.1)
 
     module _ (was : Splits) (came : (x : Operation) → operation_at c.table o ≡ Some x → was ≡ x.splits) where
       -- what `unlock_all` asks
       pub return_asks : IsAtUnlockAll c.arena o was
-      return_asks = let n = standing Unlock next in subst (IsAtUnlockAll c.arena o) (sym (came n.0 n.1)) (all_unlock c o h few_here n.0 n.1 n.2 some_here)
+      return_asks = let n = standing Unlock next in subst (IsAtUnlockAll c.arena o) (sym (came n.0 n.1)) (all_unlock c o h few_here n.0 n.1 n.2 told_here some_here)
 
       module _ (table : Table) (s : Splits) (takes : Writes c.table table o (λ x. with_splits x s)) (y : Operation) (there_y : operation_at table o ≡ Some y)
           (mid : Table) (t : Splits) (gives : Writes table mid o (λ x. with_splits x t)) where
@@ -436,5 +438,5 @@ module _ (c now : Core) (o : ℕ) (is : c ≡ now) (h : StateInvariant c) (few :
             → StateInvariant (made c arena c.tape c.accounts last) × StepsOn now (made c arena c.tape c.accounts last) o DoneMove
         return_steps arena w returns ends same step contents unsplit nothing last moves =
             let n = standing Unlock next in
-            ends_it (made c arena c.tape c.accounts last) (returns_made c o h few_here n.0 n.1 n.2 some_here arena w s t was y (opened_after Unlock next table s takes y there_y) (came n.0 n.1) returns ends same step contents unsplit nothing last
+            ends_it (made c arena c.tape c.accounts last) (returns_made c o h few_here n.0 n.1 n.2 told_here some_here arena w s t was y (opened_after Unlock next table s takes y there_y) (came n.0 n.1) returns ends same step contents unsplit nothing last
             (over_moved Unlock next table s takes mid t gives last w moves))

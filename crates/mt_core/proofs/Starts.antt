@@ -1,5 +1,5 @@
 -- A state in which nothing has happened keeps the invariant: for `Inner::new`.
-use Rattle.std.proofs.Common.{◌≡◌, ℕ, zero, suc, ◌<◌, [], false, length, sym, refl, ap, subst, ◌∙◌, arith}
+use Rattle.std.proofs.Common.{◌≡◌, ◌≢◌, ℕ, zero, suc, ◌<◌, [], false, length, sym, refl, ap, subst, ◌∙◌, arith}
 use Rattle.std.specs.FinMap.{len, len-empty}
 use Rattle.std.specs.Ordering.{nat_cmp}
 use Rattle.std.specs.Cmp.Lexicographic.{slice_cmp}
@@ -7,6 +7,8 @@ use Rattle.mt_rows.specs.Rows.{Columns}
 use Rattle.mt_rows.specs.Accounts.{Accounts}
 use Rattle.mt_rows.specs.Tenants.{tenant_map}
 use Rattle.mt_tape.specs.Tapes.{Kept}
+use Rattle.mt_arena.specs.declared.tree.Standing.TheVariants.{Dead}
+use Rattle.mt_arena.specs.Forests.{tree_at}
 use Rattle.mt_arena.specs.Arena.{ArenaView, content_of}
 use Rattle.mt_arena.specs.Accesses.{at, new_arena}
 use Rattle.mt_operation.specs.Tables.{Table}
@@ -41,7 +43,7 @@ start_sound logs accounts none = record {
   ops = λ o op there. absurd (cc);
   reserved = refl;
   answered = omega arith;
-  one_tree = record { count = refl; prefix = refl; standing = refl; live = live };
+  unremoved = record { live = live; alive = alive };
   few = omega arith;
 }
   where
@@ -56,6 +58,10 @@ start_sound logs accounts none = record {
     live : (k : ℕ) → k < length new_arena.nodes → (at new_arena k).version.deleted ≡ false
     live zero within = refl
     live (suc k) within = absurd (omega (arith, within))
+
+    alive : (t : ℕ) → t < length new_arena.trees → (tree_at new_arena.trees t).standing ≢ Dead
+    alive zero within dead = absurd (cc)
+    alive (suc t) within dead = absurd (omega (arith, within))
 
     holders : AreHolders (start logs accounts)
     holders zero o within held = absurd (cc)

@@ -48,7 +48,7 @@ module _ (c : Core) (o answers : ℕ) (table : Table) (h : StateInvariant c) (ot
       | inr other ↦ ap one_if_prepared (others q other)
     ]));
     answered = bound;
-    one_tree = h.one_tree;
+    unremoved = h.unremoved;
     few = h.few;
   }
 

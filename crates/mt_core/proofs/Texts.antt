@@ -5,38 +5,38 @@ use Rattle.std.specs.Fmt.{digits, decimal, padded_integral, format_spec, char_co
 use Rattle.std.proofs.lemmas.List.{append-nil, replicate-append-replicate}
 use Rattle.mt_slices.specs.declared.mark.Mark.TheVariants.{Short, Long}
 use Rattle.mt_core.specs.declared.shape.Edge.{Edge}
-use Rattle.mt_core.specs.Shapes.{sixteen_digits, mark_text, edge_text}
+use Rattle.mt_core.specs.Shapes.{hex_digits, mark_text, edge_text}
 
--- what is filled up with zeros to sixteen places
-filled : (shown : List ℕ) → padded_integral (format_spec 32 0 4 16 (2 ^ 64 - 1)) false [] shown ≡ replicate (16 - length shown) 48 ++ shown
+-- what is filled up with zeros to so many places
+filled : (count : ℕ) (shown : List ℕ) → padded_integral (format_spec 32 0 4 count (2 ^ 64 - 1)) false [] shown ≡ replicate (count - length shown) 48 ++ shown
 unfolding padded_integral char_count
-filled shown =
-    let zeros : 16 - length shown - 0 - 0 ≡ 16 - length shown = omega arith in
-    ap (λ k. replicate k 48 ++ (shown ++ [])) zeros ∙ ap (λ rest. replicate (16 - length shown) 48 ++ rest) (append-nil shown)
+filled count shown =
+    let zeros : count - length shown - 0 - 0 ≡ count - length shown = omega arith in
+    ap (λ k. replicate k 48 ++ (shown ++ [])) zeros ∙ ap (λ rest. replicate (count - length shown) 48 ++ rest) (append-nil shown)
 
 -- so the digits of a number
-pub sixteen_written : (n : ℕ) → Some (padded_integral (format_spec 32 0 4 16 (2 ^ 64 - 1)) false [] (digits 16 false n)) ≡ Some (sixteen_digits n)
-sixteen_written n = ap Some (filled (digits 16 false n))
+pub hex_written : (count n : ℕ) → Some (padded_integral (format_spec 32 0 4 count (2 ^ 64 - 1)) false [] (digits 16 false n)) ≡ Some (hex_digits count n)
+hex_written count n = ap Some (filled count (digits 16 false n))
 
 -- an edge is its slice's digits, and then what its mark writes
-module _ (e : Edge) (slice : Option (List ℕ)) (written : slice ≡ Some (sixteen_digits e.slice)) where
+module _ (e : Edge) (slice : Option (List ℕ)) (written : slice ≡ Some (hex_digits 16 e.slice)) where
   -- the mark of a short key
   pub short_written : (bytes : ℕ) → e.mark ≡ Short bytes → (slice ++? Some (codes ":" ++ decimal bytes)) ≡ Some (edge_text e)
-  short_written bytes is = ap (λ o. o ++? Some (codes ":" ++ decimal bytes)) written ∙ ap (λ m. Some (sixteen_digits e.slice ++ (codes ":" ++ mark_text m e.is_link))) (sym is)
+  short_written bytes is = ap (λ o. o ++? Some (codes ":" ++ decimal bytes)) written ∙ ap (λ m. Some (hex_digits 16 e.slice ++ (codes ":" ++ mark_text m e.is_link))) (sym is)
 
   -- the mark of a link
   pub link_written : e.mark ≡ Long → e.is_link ≡ true → (slice ++? Some (codes ":T")) ≡ Some (edge_text e)
   link_written is link =
       ap (λ o. o ++? Some (codes ":T")) written
-      ∙ ap (λ b. Some (sixteen_digits e.slice ++ (codes ":" ++ mark_text Long b))) (sym link)
-      ∙ ap (λ m. Some (sixteen_digits e.slice ++ (codes ":" ++ mark_text m e.is_link))) (sym is)
+      ∙ ap (λ b. Some (hex_digits 16 e.slice ++ (codes ":" ++ mark_text Long b))) (sym link)
+      ∙ ap (λ m. Some (hex_digits 16 e.slice ++ (codes ":" ++ mark_text m e.is_link))) (sym is)
 
   -- the mark of a longer key
   pub long_written : e.mark ≡ Long → e.is_link ≡ false → (slice ++? Some (codes ":L")) ≡ Some (edge_text e)
   long_written is link =
       ap (λ o. o ++? Some (codes ":L")) written
-      ∙ ap (λ b. Some (sixteen_digits e.slice ++ (codes ":" ++ mark_text Long b))) (sym link)
-      ∙ ap (λ m. Some (sixteen_digits e.slice ++ (codes ":" ++ mark_text m e.is_link))) (sym is)
+      ∙ ap (λ b. Some (hex_digits 16 e.slice ++ (codes ":" ++ mark_text Long b))) (sym link)
+      ∙ ap (λ m. Some (hex_digits 16 e.slice ++ (codes ":" ++ mark_text m e.is_link))) (sym is)
 
 -- two spaces more
 pub two_more : (n : ℕ) → replicate (2 * n) 32 ++ codes "  " ≡ replicate (2 * (n + 1)) 32

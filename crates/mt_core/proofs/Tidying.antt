@@ -82,7 +82,7 @@ module _ (c : Core) (floor : ℕ) (h : StateInvariant c) (rises : c.tape.floor �
     ops = λ o op there. let k = h.ops o op there in retained c c.answers (trimmed c floor) c.table o op (tells o op there) k.always k;
     reserved = h.reserved;
     answered = h.answered;
-    one_tree = h.one_tree;
+    unremoved = h.unremoved;
     few = h.few;
   }
 

@@ -1,12 +1,12 @@
 -- What is made of a command before its operation is begun, and which refusals a begin of it answers.
-use Rattle.std.specs.Prelude.{◌≡◌, ℕ, ◌≤◌, not, if◌then◌else◌, length, Option, Some, None, Result, Ok, Err}
-use Rattle.std.specs.Option.{is_none}
+use Rattle.std.specs.Prelude.{◌≡◌, ◌≢◌, ℕ, ◌^◌, not, Option, Some, None, IsSome, Result, Ok, Err, IsOk}
 use Rattle.mt_slices.specs.Keys.{IsStoredKey}
 use Rattle.mt_rows.specs.declared.command.Command.{Command}
 use Rattle.mt_rows.specs.declared.refusal.Refusal.{Refusal}
-use Rattle.mt_rows.specs.declared.refusal.Refusal.TheVariants.{Memory, NoTenant}
+use Rattle.mt_rows.specs.declared.refusal.Refusal.TheVariants.{Memory, NoTenant, Spent}
+use Rattle.mt_rows.specs.declared.tenants.Account.{Account}
 use Rattle.mt_rows.specs.Accounts.{account_of}
-use Rattle.mt_rows.specs.Commands.{key_of, HasColumns}
+use Rattle.mt_rows.specs.Commands.{key_of, HasColumns, IsTaken}
 use Rattle.mt_rows.specs.Maps.{is_get}
 use Rattle.mt_border.specs.Contents.{owned}
 use Rattle.mt_operation.specs.declared.task.Request.{Request}
@@ -16,16 +16,14 @@ use Rattle.mt_operation.specs.Operations.{OperationView, view_of, IsUnsplit}
 use Rattle.mt_operation.specs.Walks.{walk_from_top}
 use Rattle.mt_state.specs.Views.{StateView}
 use Rattle.mt_state.specs.Begins.{begun, Begins, IsWorker, MayBegin}
-use Rattle.mt_state.specs.Refused.{first_lack, Refuses}
 use Rattle.mt_core.specs.declared.answers.Ticket.{Ticket}
 
--- a request of a command: of a short key, and of columns that may be named
+-- a request of a command that is taken
 pub record IsRequest (request : Request) (command : Command) : Type 0 where
   pub is : command_of request ≡ command
-  pub short : length (key_of command) ≤ 4
-  pub columns : HasColumns command
+  pub taken : IsTaken command
 
--- an operation before its first step, with its key in stored form, short enough for one slice
+-- an operation before its first step, with its key in stored form
 pub record IsAdmitted (op : Operation) : Type 0 where
   pub is_begun : view_of op ≡ begun op.task.worker op.task.tenant (ask op.task)
   pub walk : op.walk ≡ walk_from_top (not (is_get (ask op.task))) 0
@@ -33,7 +31,6 @@ pub record IsAdmitted (op : Operation) : Type 0 where
   pub unsplit : IsUnsplit op.splits
   pub stored : IsStoredKey op.task.key
   pub owner : owned op.task.key ≡ (op.task.tenant, key_of (ask op.task))
-  pub short : length op.task.key ≤ 8
   pub columns : HasColumns (ask op.task)
 
 -- what a begin would begin, as it is shown, or for which fault it is refused; and for which tenant
@@ -65,22 +62,19 @@ abbrev pub TellsAdmitted : StateView → StateView → OpeningView → Result Ti
 TellsAdmitted old new opening (Ok ticket) = (op : OperationView) × (opening.made ≡ Ok op) × Begins old new ticket.id op.worker op.tenant op.command
 TellsAdmitted old new opening (Err refusal) = new ≡ old
 
--- the fault of an opening, for which no memory stands, and the first cause for which it is refused
-abbrev pub fault_made : Result OperationView Refusal → Option Refusal
-fault_made (Ok op) = None
-fault_made (Err Memory) = None
-fault_made (Err refusal) = Some refusal
+-- why an opening is refused whose tenant is there: its own fault; else no step has a number any more, or memory
+abbrev pub IsRefusalMade : StateView → Result OperationView Refusal → Refusal → Type 0
+IsRefusalMade v (Err fault) refusal = refusal ≡ fault
+IsRefusalMade v (Ok op) Memory = v.steps ≢ 2 ^ 59
+IsRefusalMade v (Ok op) Spent = v.steps ≡ 2 ^ 59
+IsRefusalMade v (Ok op) refusal = ⊥
 
-abbrev pub cause_made : StateView → Result OperationView Refusal → Option Refusal
-cause_made v (Ok op) = first_lack v
-cause_made v (Err refusal) = Some refusal
+-- the first cause, by the account of its tenant
+abbrev pub IsRefusedFor : Option Account → StateView → Result OperationView Refusal → Refusal → Type 0
+IsRefusedFor None v made refusal = refusal ≡ NoTenant
+IsRefusedFor (Some account) v made refusal = IsRefusalMade v made refusal
 
-abbrev pub first_fault_of : StateView → OpeningView → Option Refusal
-first_fault_of v opening = if is_none (account_of v.accounts opening.tenant) then Some NoTenant else fault_made opening.made
-
-abbrev pub first_cause_of : StateView → OpeningView → Option Refusal
-first_cause_of v opening = if is_none (account_of v.accounts opening.tenant) then Some NoTenant else cause_made v opening.made
-
--- an opening is refused for its first cause alone, or for want of memory where it has no fault
+-- an opening is refused for its first cause alone, and begun only where there is none
 abbrev pub RefusesOpening : StateView → OpeningView → Result Ticket Refusal → Type 0
-RefusesOpening v opening result = Refuses (first_fault_of v opening) (first_cause_of v opening) result
+RefusesOpening v opening (Ok ticket) = IsSome (account_of v.accounts opening.tenant) × IsOk opening.made × (v.steps ≢ 2 ^ 59)
+RefusesOpening v opening (Err refusal) = IsRefusedFor (account_of v.accounts opening.tenant) v opening.made refusal

@@ -10,7 +10,7 @@ use Rattle.mt_descent.specs.Moves.{Continues}
 use Rattle.mt_insert.specs.Splitting.{HoldsSplits, KeptSplit}
 use Rattle.mt_state.specs.Steps.{MayFollow}
 use Rattle.mt_state.specs.Promises.{Touches, IsToGrow}
-use Rattle.mt_state.specs.Invariant.{IsCountedUpTo, IsOneTree}
+use Rattle.mt_state.specs.Invariant.{IsCountedUpTo, IsUnremoved}
 use Rattle.mt_state.specs.Writes.{HasPairsOf}
 use Rattle.mt_core.specs.Points.{IsAtPoint}
 use Rattle.mt_core.specs.declared.climbs.Climbed.{Climbed}
@@ -23,7 +23,7 @@ pub record ClimbsOn (op : ℕ) (old new : ArenaView) (before after : Walk) (s t 
   pub touches : Touches op old new
   pub stood : (k : ℕ) → k < length new.nodes → counts new.trees (at new k) ≡ true → HasPairsOf old new k ⊎ ((at new k).slots ≡ [])
   pub versions : (steps : ℕ) → ((k : ℕ) → k < length old.nodes → IsCountedUpTo steps (at old k)) → (k : ℕ) → k < length new.nodes → IsCountedUpTo steps (at new k)
-  pub one_tree : IsOneTree old → IsOneTree new
+  pub unremoved : IsUnremoved old → IsUnremoved new
   pub follows : MayFollow before.phase after.phase
   pub same : Continues before after
   pub kept : KeptSplit after.phase new op t

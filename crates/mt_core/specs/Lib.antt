@@ -10,3 +10,4 @@ pub mod Tidies
 pub mod Rights
 pub mod Alone
 pub mod Points
+pub mod Layers

@@ -1,10 +1,11 @@
 -- How far an operation has come that nobody is in the way of, and that each of its steps brings it on.
-use Rattle.std.specs.Prelude.{◌≡◌, ◌≢◌, ℕ, ◌+◌, ◌*◌, ◌<◌, ◌≤◌, length, Some}
+use Rattle.std.specs.Prelude.{◌≡◌, ℕ, ◌+◌, ◌*◌, ◌<◌, ◌≤◌, List, [], ◌∷◌, length, Some}
 use Rattle.mt_arena.specs.Arena.{ArenaView}
 use Rattle.mt_arena.specs.Accesses.{at}
 use Rattle.mt_operation.specs.declared.walk.Phase.{Phase}
-use Rattle.mt_operation.specs.declared.walk.Phase.TheVariants.{Enter, Pick, Child, Verify, Search, Load, Confirm, Forward, Lock, Judge, Store, Publish, SplitStart, SplitMove, SplitPrev, LockParent, InsertChild, InteriorSplit, Reparent, RootGrow, Unlock}
+use Rattle.mt_operation.specs.declared.walk.Phase.TheVariants.{Enter, Pick, Child, Verify, Search, Load, Confirm, Forward, Lock, Judge, Store, Publish, SplitStart, SplitMove, SplitPrev, LockParent, InsertChild, InteriorSplit, Reparent, RootGrow, MakeLayer, MarkUnstable, Link, MarkLayer, Unlock}
 use Rattle.mt_operation.specs.declared.walk.Walk.{Walk}
+use Rattle.mt_operation.specs.declared.splits.Halves.{Halves}
 use Rattle.mt_operation.specs.declared.splits.Splits.{Splits}
 use Rattle.mt_operation.specs.declared.operation.Operation.{Operation}
 use Rattle.mt_operation.specs.Tables.{op_at as operation_at}
@@ -42,34 +43,53 @@ level_of v w = (at v w.place.node).level
 abbrev pub split_level : ArenaView → Splits → ℕ
 split_level v s = (at v (last_of s).left).level
 
--- how many steps an operation has made at most that comes to this phase in trees below this height: three a level on its way down, and twenty a level
--- on its way up, where nodes are split
+-- how many steps an operation makes at most in the layers above the walk's, in trees below this height: three a level on its way down, and twelve more
+-- a layer, where it finds a link or makes one
+abbrev pub above : ℕ → Walk → ℕ
+above height w = w.layer * (3 * height + 12)
+
+-- how many it makes in its own before it gives its locks back: twenty more a level on its way up, where nodes are split
+abbrev pub before_unlock : List Halves → ℕ → ℕ
+before_unlock [] height = 3 * height + 7
+before_unlock (_ ∷ _) height = 23 * height + 7
+
+-- how many steps an operation has made at most that comes to this phase
 abbrev pub HasMade : Phase → ℕ → ℕ → ArenaView → Walk → Splits → Type 0
-HasMade Enter height made v w s = made ≡ 0
-HasMade Pick height made v w s = made + 3 * level_of v w ≤ 3 * height
-HasMade Child height made v w s = made + 3 * level_of v w ≤ 3 * height + 1
-HasMade Verify height made v w s = made + 3 * level_of v w ≤ 3 * height + 2
-HasMade Search height made v w s = made ≤ 3 * height
-HasMade Load height made v w s = made ≤ 3 * height + 1
-HasMade Confirm height made v w s = made ≤ 3 * height + 2
-HasMade Lock height made v w s = made ≤ 3 * height
-HasMade Judge height made v w s = made ≤ 3 * height + 1
-HasMade Store height made v w s = made ≤ 3 * height + 2
-HasMade Publish height made v w s = made ≤ 3 * height + 2
-HasMade SplitStart height made v w s = made ≤ 3 * height + 2
-HasMade SplitMove height made v w s = made ≤ 3 * height + 3
-HasMade SplitPrev height made v w s = made ≤ 3 * height + 4
-HasMade LockParent height made v w s = made ≤ 3 * height + 20 * split_level v s + 5
-HasMade InsertChild height made v w s = made ≤ 23 * height + 6
-HasMade InteriorSplit height made v w s = made ≤ 3 * height + 20 * split_level v s + 6
-HasMade Reparent height made v w s = made + length (at v (last_of s).right).children ≤ 3 * height + 20 * split_level v s + 5 + s.moved
-HasMade RootGrow height made v w s = made ≤ 23 * height + 6
-HasMade Unlock height made v w s = made ≤ 23 * height + 7
+HasMade Enter height made v w s = made ≤ above height w
+HasMade Pick height made v w s = made + 3 * level_of v w ≤ above height w + 3 * height
+HasMade Child height made v w s = made + 3 * level_of v w ≤ above height w + 3 * height + 1
+HasMade Verify height made v w s = made + 3 * level_of v w ≤ above height w + 3 * height + 2
+HasMade Search height made v w s = made ≤ above height w + 3 * height
+HasMade Load height made v w s = made ≤ above height w + 3 * height + 1
+HasMade Confirm height made v w s = made ≤ above height w + 3 * height + 2
+HasMade Lock height made v w s = made ≤ above height w + 3 * height
+HasMade Judge height made v w s = made ≤ above height w + 3 * height + 1
+HasMade Store height made v w s = made ≤ above height w + 3 * height + 2
+HasMade Publish height made v w s = made ≤ above height w + 3 * height + 2
+HasMade SplitStart height made v w s = made ≤ above height w + 3 * height + 2
+HasMade SplitMove height made v w s = made ≤ above height w + 3 * height + 3
+HasMade SplitPrev height made v w s = made ≤ above height w + 3 * height + 4
+HasMade LockParent height made v w s = made ≤ above height w + 3 * height + 20 * split_level v s + 5
+HasMade InsertChild height made v w s = made ≤ above height w + 23 * height + 6
+HasMade InteriorSplit height made v w s = made ≤ above height w + 3 * height + 20 * split_level v s + 6
+HasMade Reparent height made v w s = made + length (at v (last_of s).right).children ≤ above height w + 3 * height + 20 * split_level v s + 5 + s.moved
+HasMade RootGrow height made v w s = made ≤ above height w + 23 * height + 6
+HasMade MakeLayer height made v w s = made ≤ above height w + 3 * height + 2
+HasMade MarkUnstable height made v w s = made ≤ above height w + 3 * height + 3
+HasMade Link height made v w s = made ≤ above height w + 3 * height + 4
+HasMade MarkLayer height made v w s = made ≤ above height w + 3 * height + 5
+HasMade Unlock height made v w s = made ≤ above height w + before_unlock s.halves.items height
 HasMade _ height made v w s = ⊥
 
--- how far it has come; a root is made only in the step before the last
+-- the step before may have made a root
+abbrev pub MayHaveGrown : Phase → List Halves → Type 0
+MayHaveGrown Unlock (_ ∷ _) = Unit {0}
+MayHaveGrown _ halves = ⊥
+
+-- how far it has come; a root is made only in the step before the last, and there are at most 32 layers
 pub record IsAtPoint (height made : ℕ) (v : ArenaView) (w : Walk) (s : Splits) : Type 0 where
-  pub below : w.phase ≢ Unlock → AreBelow v height
+  pub below : ¬ MayHaveGrown w.phase s.halves.items → AreBelow v height
+  pub shallow : w.layer < 32
   pub fresh : IsFresh w.phase v w
   pub few : HasMade w.phase height made v w s
 

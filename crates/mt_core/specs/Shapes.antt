@@ -1,23 +1,30 @@
--- The shape of the tree, and its lines as they are printed.
-use Rattle.std.specs.Prelude.{ℕ, zero, suc, ◌+◌, ◌-◌, ◌*◌, Bool, true, false, if◌then◌else◌, List, [], ◌∷◌, ◌++◌, length, replicate, codes, slice_get, Some}
+-- The shape of the live trees, and its lines as they are printed.
+use Rattle.std.specs.Prelude.{◌≡◌, ℕ, zero, suc, ◌+◌, ◌-◌, ◌*◌, ◌<◌, Bool, true, false, if◌then◌else◌, List, [], ◌∷◌, ◌++◌, length, map, replicate, codes, slice_get, Some}
 use Rattle.std.specs.Fmt.{digits, decimal}
-use Rattle.std.specs.List.{flat_map}
+use Rattle.std.specs.List.{filter, flat_map}
+use Rattle.std.specs.List.Sorted.{IsPermutation, IsStrictlySortedBy}
 use Rattle.std.specs.Option.{option_map}
+use Rattle.std.specs.Ordering.{nat_cmp, ordering_then}
+use Rattle.std.specs.declared.cmp.Ordering.{Ordering}
+use Rattle.std.specs.Cmp.Lexicographic.{slice_cmp}
 use Rattle.mt_slices.specs.declared.mark.Mark.{Mark}
 use Rattle.mt_slices.specs.declared.mark.Mark.TheVariants.{Short, Long}
+use Rattle.mt_rows.specs.Rows.{Bytes}
 use Rattle.mt_border.specs.declared.entry.Entry.{Entry}
 use Rattle.mt_border.specs.declared.entry.Held.{Held}
 use Rattle.mt_border.specs.declared.entry.Held.TheVariants.{Link as LinkTo}
+use Rattle.mt_arena.specs.declared.tree.Tree.{Tree}
 use Rattle.mt_arena.specs.Arena.{ArenaView}
-use Rattle.mt_arena.specs.Forests.{tree_at}
+use Rattle.mt_arena.specs.Contents.{is_live}
+use Rattle.mt_arena.specs.Forests.{layer_of}
 use Rattle.mt_arena.specs.Accesses.{at}
 use Rattle.mt_core.specs.declared.shape.Edge.{Edge}
 use Rattle.mt_core.specs.declared.shape.ShapeLine.{ShapeLine}
-use Rattle.mt_core.specs.declared.shape.ShapeLine.TheVariants.{Tree, Interior, Border}
+use Rattle.mt_core.specs.declared.shape.ShapeLine.TheVariants.{Tree as TreeLine, Interior, Border}
 
--- sixteen hexadecimal digits, in lower case, the highest first
-abbrev pub sixteen_digits : ℕ → List ℕ
-sixteen_digits n = let shown = digits 16 false n in replicate (16 - length shown) 48 ++ shown
+-- so many hexadecimal digits, in lower case, the highest first
+abbrev pub hex_digits : ℕ → ℕ → List ℕ
+hex_digits count n = let shown = digits 16 false n in replicate (count - length shown) 48 ++ shown
 
 -- a mark: how many bytes, or a longer key, or a link
 abbrev pub mark_text : Mark → Bool → List ℕ
@@ -26,7 +33,7 @@ mark_text Long is_link = if is_link then codes "T" else codes "L"
 
 -- a slice, a colon and a mark
 abbrev pub edge_text : Edge → List ℕ
-edge_text e = sixteen_digits e.slice ++ (codes ":" ++ mark_text e.mark e.is_link)
+edge_text e = hex_digits 16 e.slice ++ (codes ":" ++ mark_text e.mark e.is_link)
 
 -- two spaces, and two more for each level below the root
 abbrev pub indent_text : ℕ → List ℕ
@@ -34,11 +41,16 @@ indent_text depth = replicate (2 * (depth + 1)) 32
 
 -- separators, each after a space
 abbrev pub separators_text : List ℕ → List ℕ
-separators_text slices = flat_map (λ slice. codes " " ++ sixteen_digits slice) slices
+separators_text slices = flat_map (λ slice. codes " " ++ hex_digits 16 slice) slices
+
+-- a prefix: two digits for each byte, and `-` where there is none
+abbrev pub prefix_text : Bytes → List ℕ
+prefix_text [] = codes "-"
+prefix_text bytes = flat_map (hex_digits 2) bytes
 
 -- a line, as it is printed
 abbrev pub line_text : ShapeLine → List ℕ
-line_text Tree = codes "tree - layer 0"
+line_text (TreeLine prefix) = codes "tree " ++ (prefix_text prefix ++ (codes " layer " ++ decimal (layer_of prefix)))
 line_text (Interior depth separators) = indent_text depth ++ (codes "interior" ++ separators_text separators)
 line_text (Border depth count (Some first) (Some last)) = indent_text depth ++ (codes "border " ++ (decimal count ++ (codes " " ++ (edge_text first ++ (codes " " ++ edge_text last)))))
 line_text (Border depth count first last) = indent_text depth ++ (codes "border " ++ decimal count)
@@ -61,6 +73,24 @@ abbrev pub lines_from : ℕ → ArenaView → ℕ → ℕ → List ShapeLine
 lines_from zero v depth k = line_in depth (at v k).slots ∷ []
 lines_from (suc level) v depth k = Interior depth (at v k).separators ∷ flat_map (lines_from level v (depth + 1)) (at v k).children
 
--- the top tree: its root, and all nodes below it
-abbrev pub shape_of : ArenaView → List ShapeLine
-shape_of v = let root = (tree_at v.trees 0).root in Tree ∷ lines_from (at v root).level v 0 root
+-- the line of a tree, and those of its root and of all nodes below it
+abbrev pub tree_lines : ArenaView → Tree → List ShapeLine
+tree_lines v tree = TreeLine tree.prefix ∷ lines_from (at v tree.root).level v 0 tree.root
+
+-- the root of a tree is there, and live
+pub record HasLiveRoot (v : ArenaView) (tree : Tree) : Type 0 where
+  pub there : tree.root < length v.nodes
+  pub live : (at v tree.root).version.deleted ≡ false
+
+-- the order of prefixes: the shorter one first, and where two are as long the one that is first by its bytes
+abbrev pub prefix_cmp : Bytes → Bytes → Ordering
+prefix_cmp one other = ordering_then (nat_cmp (length one) (length other)) (slice_cmp nat_cmp one other)
+
+-- the live trees of these, each once, in the order of their prefixes
+pub record IsListing (trees listed : List Tree) : Type 0 where
+  pub live : IsPermutation (filter (λ t. is_live t.standing) trees) listed
+  pub rising : IsStrictlySortedBy prefix_cmp (map (λ t. t.prefix) listed)
+
+-- the lines of all live trees, one tree after the other
+abbrev pub IsShape : ArenaView → List ShapeLine → Type 0
+IsShape v lines = (trees : List Tree) × IsListing v.trees trees × (lines ≡ flat_map (tree_lines v) trees)

@@ -11,7 +11,7 @@ use Rattle.mt_operation.specs.Operations.{OperationView}
 use Rattle.mt_state.specs.Views.{StateView, Shown, op_at}
 use Rattle.mt_state.specs.Begins.{Begins, Takes, IsEnded}
 use Rattle.mt_state.specs.Histories.{Names}
-use Rattle.mt_state.specs.Refused.{first_fault, cause_of, Refuses}
+use Rattle.mt_state.specs.Refused.{Refuses}
 
 -- what a begin may answer: a refused one changes nothing
 abbrev pub TellsBegin : StateView → StateView → ℕ → ℕ → Command → Result Ticket Refusal → Type 0
@@ -39,7 +39,7 @@ TellsCancel old new ticket (Err back) = (back ≡ ticket) × (new ≡ old) × ¬
 
 -- Memory may stand in place of Spent and of a success, and never of a fault
 abbrev pub TellsRefusal : StateView → ℕ → Command → Result Ticket Refusal → Type 0
-TellsRefusal v tenant command result = Refuses (first_fault v tenant command) (cause_of v tenant command) result
+TellsRefusal v tenant command result = Refuses v tenant command result
 
 -- the names of a run by a map of their tickets
 abbrev pub named : BTreeMap ℕ (Option Ticket) → Names

@@ -11,7 +11,7 @@ ghost use Rattle.mt_state.specs.Views.{shown};
 ghost use Rattle.mt_state.specs.Invariant.{StateInvariant};
 ghost use Rattle.mt_state.specs.Begins.{new_state, HaveNoPairs};
 ghost use Rattle.mt_state.specs.Ways.{IsDescent};
-ghost use Rattle.mt_state.specs.Writes.{IsClimb};
+ghost use Rattle.mt_state.specs.Writes.{IsClimb, IsLayerPhase};
 ghost use Rattle.mt_core.specs.Tickets.{TellsTake, TellsCancel};
 ghost use Rattle.mt_core.specs.Admitted.{MayAdmit, TellsAdmitted, RefusesOpening};
 ghost use Rattle.mt_core.specs.Rights.{IsRightState};
@@ -26,11 +26,13 @@ ghost use Rattle.mt_operation.specs.Tables.{op_at as operation_at};
 
 use crate::answers::Ticket;
 use crate::climbs::{Climbed, climb_on};
+use crate::layers::build_on;
 use crate::looks::{absent, descend, load_row, no_memory};
 use crate::openings::{Opening, give_back, give_up};
 use mt_arena::Arena;
 use mt_descent::{confirm, lock, search};
-use mt_insert::{judge, publish, split_move, split_start, store, unlock, unlock_all};
+use mt_insert::{Judged, judge, publish, split_move, split_start, store, unlock, unlock_all};
+use mt_layer::leave;
 use mt_operation::{Operation, Operations, Outcome, Phase, Prepared, Splits, Walk};
 use mt_rows::{Refusal, Reply, Tenants};
 use mt_runs::Answer;
@@ -92,6 +94,7 @@ impl Inner {
         ensures told { TellsAdmitted (shown self.old) (shown self.new) opening result }
         ensures refused { RefusesOpening (shown self.old) opening result }
     {
+        self.arena.facts();
         let Opening { tenant, made } = opening;
         if self.tenants.account(tenant).is_none() {
             return Err(Refusal::NoTenant);
@@ -204,6 +207,9 @@ impl Inner {
             | Phase::InteriorSplit
             | Phase::Reparent
             | Phase::RootGrow => self.climb(id),
+            Phase::MakeLayer | Phase::MarkUnstable | Phase::Link | Phase::MarkLayer => {
+                self.build(id)
+            }
             Phase::Unlock => self.unlock(id),
             Phase::Done => Move::NoSuch,
         }
@@ -327,7 +333,7 @@ impl Inner {
         self.steps += 1;
         let operation = open(&self.operations, id);
         let mut walk = operation.walk;
-        let prepared = judge(
+        let judged = judge(
             self.alloc,
             &mut self.arena,
             &mut self.tape,
@@ -335,13 +341,17 @@ impl Inner {
             &mut walk,
             id,
         );
-        match prepared {
-            Some(prepared) => {
+        match judged {
+            Judged::Ready(prepared) => {
                 self.operations.go_on(id, self.steps, &walk);
                 self.operations.make_ready(id, prepared);
                 Move::Moved
             }
-            None => {
+            Judged::GoesOn => {
+                self.operations.go_on(id, self.steps, &walk);
+                Move::Moved
+            }
+            Judged::NoMemory => {
                 self.operations
                     .go_on_with(id, self.steps, &walk, Some(no_memory(self.steps)));
                 Move::Done
@@ -490,23 +500,70 @@ impl Inner {
         }
     }
 
-    // Gives all locks back.
+    // Brings a layer one step nearer.
+    fn build(&mut self, id: usize) -> Move
+        requires next { IsNext self.old id IsLayerPhase }
+        requires few { self.old.steps < 2 ^ 59 }
+        ensures { StepsOn self.old self.new id result }
+    {
+        self.arena.facts();
+        self.steps += 1;
+        let operation = open(&self.operations, id);
+        let mut walk = operation.walk;
+        let built = build_on(
+            self.alloc,
+            &mut self.arena,
+            &operation.task.key,
+            &mut walk,
+            id,
+        );
+        match built {
+            Ok(()) => {
+                self.operations.go_on(id, self.steps, &walk);
+                Move::Moved
+            }
+            Err(_) => {
+                self.operations
+                    .go_on_with(id, self.steps, &walk, Some(no_memory(self.steps)));
+                Move::Done
+            }
+        }
+    }
+
+    // Gives all locks back. An operation without an outcome has made a layer, and goes on there.
     fn unlock(&mut self, id: usize) -> Move
         requires next { IsNext self.old id (λ phase. phase ≡ Phase.Unlock) }
         requires few { self.old.steps < 2 ^ 59 }
         ensures { StepsOn self.old self.new id result }
     {
-        if open(&self.operations, id).splits.halves.is_empty() {
-            self.unlock_one(id)
-        } else {
-            self.unlock_all(id)
+        let operation = open(&self.operations, id);
+        match operation.outcome {
+            None => self.leave(id),
+            Some(_) if operation.splits.halves.is_empty() => self.unlock_one(id),
+            Some(_) => self.unlock_all(id),
         }
+    }
+
+    // Gives the lock of the border node back, and goes on in the tree of the next layer.
+    fn leave(&mut self, id: usize) -> Move
+        requires next { IsNext self.old id (λ phase. phase ≡ Phase.Unlock) }
+        requires few { self.old.steps < 2 ^ 59 }
+        requires untold { (op : AnyOperation) → operation_at self.old.table id ≡ Some op → op.outcome ≡ None }
+        ensures { StepsOn self.old self.new id result }
+    {
+        self.arena.facts();
+        self.steps += 1;
+        let mut walk = open(&self.operations, id).walk;
+        leave(&mut self.arena, &mut walk, id);
+        self.operations.go_on(id, self.steps, &walk);
+        Move::Moved
     }
 
     // Gives the lock of the border node back.
     fn unlock_one(&mut self, id: usize) -> Move
         requires next { IsNext self.old id (λ phase. phase ≡ Phase.Unlock) }
         requires few { self.old.steps < 2 ^ 59 }
+        requires told { (op : AnyOperation) → operation_at self.old.table id ≡ Some op → op.outcome ≢ None }
         requires unsplit { (op : AnyOperation) → operation_at self.old.table id ≡ Some op → op.splits.halves.items ≡ [] }
         ensures { StepsOn self.old self.new id result }
     {
@@ -521,6 +578,7 @@ impl Inner {
     fn unlock_all(&mut self, id: usize) -> Move
         requires next { IsNext self.old id (λ phase. phase ≡ Phase.Unlock) }
         requires few { self.old.steps < 2 ^ 59 }
+        requires told { (op : AnyOperation) → operation_at self.old.table id ≡ Some op → op.outcome ≢ None }
         requires split { (op : AnyOperation) → operation_at self.old.table id ≡ Some op → op.splits.halves.items ≢ [] }
         ensures { StepsOn self.old self.new id result }
     {

@@ -10,6 +10,7 @@ pub mod answers;
 mod climbs;
 pub mod events;
 mod inner;
+mod layers;
 mod looks;
 pub mod openings;
 pub mod shape;

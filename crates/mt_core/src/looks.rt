@@ -13,7 +13,7 @@ ghost use Rattle.mt_descent.specs.Kept.{IsKept, IsAtLoad};
 ghost use Rattle.mt_state.specs.Promises.{IsInTheWay};
 ghost use Rattle.mt_state.specs.Notes.{columns_asked};
 ghost use Rattle.mt_state.specs.Ways.{IsDescent, Descends};
-ghost use Rattle.mt_state.specs.Invariant.{IsOneTree};
+ghost use Rattle.mt_state.specs.Invariant.{IsUnremoved};
 ghost use Rattle.mt_operation.specs.declared.splits.Splits.{Splits as AnySplits};
 ghost use Rattle.mt_core.specs.Looks.{TellsLoaded};
 ghost use Rattle.mt_core.specs.Points.{IsAtPoint};
@@ -30,7 +30,7 @@ use std::alloc::{AllocError, Global};
 pub(crate) fn descend(arena: &Arena, key: &StoredKey, walk: &mut Walk) -> Option<usize>
     requires phase { IsDescent walk.old.phase }
     requires kept { (past : Past) × IsKept arena.now past key.now None walk.old }
-    requires one_tree { IsOneTree arena.now }
+    requires unremoved { IsUnremoved arena.now }
     ensures again { IfSome result (λ holder. IsInTheWay arena.now walk.old.phase holder) }
     ensures goes { IfNone result (Descends walk.old walk.new) }
     ensures nears { (height made : ℕ) (splits : AnySplits) → IfNone result (IsAtPoint height made arena.now walk.old splits → IsAtPoint height (made + 1) arena.now walk.new splits) }

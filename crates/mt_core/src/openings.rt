@@ -1,79 +1,40 @@
 //! How operations are made of commands, and answered.
 
 ghost use Rattle.std.specs.Prelude.{◌≡◌, ◌≢◌, ◌<◌, ◌≤◌, ℕ, true, false, IsTrue, IfSome, IfNone, IfOk, length, slice_set, Some, None};
-ghost use Rattle.std.specs.Result.{result_err};
 ghost use Rattle.mt_operation.specs.declared.operation.Operation.{Operation as AnyOperation};
 ghost use Rattle.mt_operation.specs.Operations.{view_of, is_unfinished};
 ghost use Rattle.mt_operation.specs.Tables.{op_at as operation_at};
 ghost use Rattle.mt_state.specs.Begins.{begun, IsAnswerOf, MayBegin};
-ghost use Rattle.mt_state.specs.Refused.{asks_first, names_first, fault_of, Refuses};
+ghost use Rattle.mt_state.specs.Refused.{Makes};
 ghost use Rattle.mt_core.specs.Admitted.{IsRequest, IsAdmitted, IsMadeOf};
 
 use mt_operation::{Operation, Operations, Outcome, Request, Task};
-use mt_rows::{Change, ColumnIndexes, Command, Key, NamedColumns, Refusal};
+use mt_rows::{Change, Command, Refusal};
 use mt_runs::Answer;
 use mt_slices::{KeyRefusal, StoredKey};
 use std::alloc::Global;
 use std::marker::Model;
 
-/// The longest key that one border node takes, in bytes.
-const SHORT_KEY_BYTES: usize = 4;
-
-// The request of a command, as far as one border node takes it: `KeyLong` for a key of over 4 bytes,
-// then `Column` for any column but 0, then `ColumnLong`.
+// The request of a command without fault, or its first fault.
 fn request_of(command: Command) -> Result<Request, Refusal>
     requires { MayBegin command }
     ensures request { IfOk result (λ request. IsRequest request command) }
-    ensures fault { result_err result ≡ fault_of command }
+    ensures refused { Makes command result }
 {
+    command.check()?;
     match command {
-        Command::Get { key, columns } => get_of(key, columns),
-        Command::Put { key, change } => put_of(key, change),
-        _ => unreachable!(),
+        Command::Get { key, columns } => Ok(Request::Get { key, columns }),
+        Command::Put { key, change } => {
+            let change = Change::new(change)?;
+            Ok(Request::Put { key, change })
+        }
+        Command::Remove { key: _key } => unreachable!(),
+        Command::Scan {
+            from: _from,
+            columns: _columns,
+            ..
+        } => unreachable!(),
     }
-}
-
-// The request of a get.
-fn get_of(key: Key, columns: ColumnIndexes) -> Result<Request, Refusal>
-    ensures request { IfOk result (λ request. IsRequest request (Command.Get key columns)) }
-    ensures fault { result_err result ≡ fault_of (Command.Get key columns) }
-{
-    if key.as_bytes().len() > SHORT_KEY_BYTES {
-        return Err(Refusal::KeyLong);
-    }
-    if !asks_first(&columns) {
-        return Err(Refusal::Column);
-    }
-    Ok(Request::Get { key, columns })
-}
-
-// The request of a put.
-fn put_of(key: Key, change: NamedColumns) -> Result<Request, Refusal>
-    ensures request { IfOk result (λ request. IsRequest request (Command.Put key change)) }
-    ensures fault { result_err result ≡ fault_of (Command.Put key change) }
-{
-    if key.as_bytes().len() > SHORT_KEY_BYTES {
-        return Err(Refusal::KeyLong);
-    }
-    if !names_first(&change) {
-        return Err(Refusal::Column);
-    }
-    let change = Change::new(change)?;
-    Ok(Request::Put { key, change })
-}
-
-// Whether all columns are asked for, or column 0 alone.
-fn asks_first(columns: &ColumnIndexes) -> bool
-    ensures { result ≡ asks_first columns.now }
-{
-    matches!(columns.as_slice(), [] | [0])
-}
-
-// Whether column 0 is named, and no other.
-fn names_first(change: &NamedColumns) -> bool
-    ensures { result ≡ names_first change.now }
-{
-    matches!(change.as_slice(), [named] if named.0 == 0)
 }
 
 /// An operation that was made of a command, with its key and its change, and waits to be begun; or
@@ -103,7 +64,7 @@ pub fn prepare(alloc: Global, worker: u8, tenant: u32, command: Command) -> Open
     requires { MayBegin command }
     ensures tenant { result.tenant ≡ tenant }
     ensures made { IsMadeOf result.made worker tenant command }
-    ensures refused { Refuses (fault_of command) (fault_of command) result.made }
+    ensures refused { Makes command result.made }
 {
     Opening {
         tenant,
@@ -116,7 +77,7 @@ fn admitted(alloc: Global, worker: u8, tenant: u32, command: Command) -> Result<
     requires { MayBegin command }
     ensures admitted { IfOk result IsAdmitted }
     ensures is { IfOk result (λ op. view_of op ≡ begun worker tenant command) }
-    ensures fault { Refuses (fault_of command) (fault_of command) result }
+    ensures refused { Makes command result }
 {
     let request = request_of(command)?;
     let key = match StoredKey::new(alloc, tenant, request.key().as_bytes()) {

@@ -1,20 +1,22 @@
-//! The tree, line by line, as it is printed.
+//! The trees, line by line, as they are printed.
 //!
-//! First a line of the tree, then one of its root, two spaces in, and below each node those of its
-//! children, two spaces more. An interior node shows its separators; a border node the number of its
-//! keys, and where there are any the first and the last one as slice, colon and mark.
+//! The live trees stand in the order of the lengths of their prefixes, then of the prefixes. First a
+//! line of the tree, then one of its root, two spaces in, and below each node those of its children,
+//! two spaces more. An interior node shows its separators; a border node the number of its keys, and
+//! where there are any the first and the last one as slice, colon and mark.
 
-ghost use Rattle.std.specs.Prelude.{◌≡◌, ◌+◌, ◌<◌, ◌^◌, ◌++◌, false, length, IfOk, OnOk};
+ghost use Rattle.std.specs.Prelude.{◌≡◌, ◌+◌, ◌<◌, ◌^◌, ◌++◌, false, length, map, IfOk, OnOk};
 ghost use Rattle.std.specs.Option.{option_map};
 ghost use Rattle.mt_border.specs.Node.{entries_of};
 ghost use Rattle.mt_border.specs.Rows.{entry_seen};
 ghost use Rattle.mt_arena.specs.Accesses.{at};
-ghost use Rattle.mt_core.specs.Shapes.{edge_in, line_in, lines_from, shape_of as tree_shape};
+ghost use Rattle.mt_core.specs.Shapes.{edge_in, line_in, lines_from, tree_lines, prefix_cmp, HasLiveRoot, IsListing, IsShape};
 
-use mt_arena::Arena;
+use mt_arena::{Arena, Prefix, Standing, Tree};
 use mt_border::{Border, EntryRef, Held};
 use mt_slices::Mark;
 use std::alloc::{AllocError, Global};
+use std::cmp::Ordering;
 use std::fmt;
 use std::marker::Model;
 
@@ -57,11 +59,13 @@ impl Separators {
     }
 }
 
-/// A line of the shape: a node with the number of levels that it stands below the root.
+/// A line of the shape: a tree, or a node with the number of levels that it stands below the root.
 #[derive(Debug, Drop)]
 pub enum ShapeLine {
-    /// The top tree.
-    Tree,
+    /// A live tree, with the bytes with which all its keys begin.
+    Tree {
+        prefix: Prefix,
+    },
     /// An interior node.
     Interior {
         depth: usize,
@@ -106,6 +110,29 @@ impl fmt::Display for Separators {
     }
 }
 
+// The bytes of a prefix in hexadecimal digits, two for each, and `-` where there are none.
+#[derive(Drop)]
+struct Hexadecimal<'a> {
+    bytes: &'a [u8],
+}
+
+impl fmt::Display for Hexadecimal<'_> {
+    ghost use Rattle.std.specs.Prelude.{Some};
+    ghost use Rattle.mt_core.specs.Shapes.{prefix_text};
+
+    ghost output = { λ h. Some (prefix_text h.bytes.now) };
+
+    fn fmt<W: fmt::Write>(&self, f: &mut fmt::Formatter<W>) -> fmt::Result {
+        if self.bytes.is_empty() {
+            return f.write_str("-");
+        }
+        for byte in self.bytes {
+            write!(f, "{byte:02x}")?;
+        }
+        Ok(())
+    }
+}
+
 // Two spaces for the tree, and two more for each level below its root.
 #[derive(Drop)]
 struct Indent {
@@ -135,7 +162,11 @@ impl fmt::Display for ShapeLine {
 
     fn fmt<W: fmt::Write>(&self, f: &mut fmt::Formatter<W>) -> fmt::Result {
         match self {
-            ShapeLine::Tree => f.write_str("tree - layer 0"),
+            ShapeLine::Tree { prefix } => {
+                let bytes = prefix.as_bytes();
+                let layer = bytes.len() / 8;
+                write!(f, "tree {} layer {layer}", Hexadecimal { bytes })
+            }
             ShapeLine::Interior { depth, separators } => {
                 write!(f, "{}interior{separators}", Indent { depth: *depth })
             }
@@ -156,16 +187,56 @@ impl fmt::Display for ShapeLine {
     }
 }
 
-/// The lines of the top tree. An error comes where memory is refused.
+/// The lines of all live trees. An error comes where memory is refused.
 pub(crate) fn shape_of(alloc: Global, arena: &Arena) -> Result<Vec<ShapeLine>, AllocError>
-    ensures { IfOk result (λ lines. lines.items ≡ tree_shape arena.now) }
+    ensures { IfOk result (λ lines. IsShape arena.now lines.items) }
 {
     arena.facts();
     let mut lines = Vec::new(alloc);
-    lines.push(ShapeLine::Tree)?;
-    let root = arena.tree(0).root;
-    push_node(alloc, arena, root, arena.node(root).level(), 0, &mut lines)?;
+    let listed = live_trees(alloc, arena)?;
+    for tree in &listed {
+        push_tree(alloc, arena, tree, &mut lines)?;
+    }
     Ok(lines)
+}
+
+// The live trees, in the order of their prefixes.
+fn live_trees(alloc: Global, arena: &Arena) -> Result<Vec<&Tree>, AllocError>
+    ensures { IfOk result (λ listed. IsListing arena.now.trees (map (λ tree. tree.now) listed.items)) }
+{
+    arena.facts();
+    let mut listed = Vec::new(alloc);
+    for tree in arena.trees() {
+        if matches!(tree.standing, Standing::Live) {
+            listed.push(tree)?;
+        }
+    }
+    listed.sort_unstable_by(|one, other| by_prefix(one, other));
+    Ok(listed)
+}
+
+// The order of two trees: that of the lengths of their prefixes, then of the prefixes.
+fn by_prefix(one: &Tree, other: &Tree) -> Ordering
+    ensures { result ≡ prefix_cmp one.now.prefix other.now.prefix }
+{
+    let (one, other) = (one.prefix.as_bytes(), other.prefix.as_bytes());
+    one.len().cmp(&other.len()).then_with(|| one.cmp(other))
+}
+
+// Adds the line of a tree, and those of its root and of all nodes below it.
+fn push_tree(
+    alloc: Global,
+    arena: &Arena,
+    tree: &Tree,
+    lines: &mut Vec<ShapeLine>,
+) -> Result<(), AllocError>
+    requires { HasLiveRoot arena.now tree.now }
+    ensures { OnOk result (lines.new.items ≡ lines.old.items ++ tree_lines arena.now tree.now) }
+{
+    let prefix = Prefix::new(tree.prefix.as_bytes().to_vec(alloc)?);
+    lines.push(ShapeLine::Tree { prefix })?;
+    let level = arena.node(tree.root).level();
+    push_node(alloc, arena, tree.root, level, 0, lines)
 }
 
 // Adds the line of a node of this level that stands so many levels below the root, and those of all

@@ -3,14 +3,16 @@
 //! It owns its nodes, its tape and its operations. Errors: refusals of `begin`, which change nothing.
 //! Units: steps by their numbers, which begin at 1.
 
-ghost use Rattle.std.specs.Prelude.{◌≡◌, ◌≤◌, ℕ, IfOk};
+ghost use Rattle.std.specs.Prelude.{◌≡◌, ◌≢◌, ◌≤◌, ℕ, IfOk, Some};
 ghost use Rattle.std.specs.Option.{option_map};
+ghost use Rattle.mt_rows.specs.Tenants.{tenant_map};
+ghost use Rattle.mt_state.specs.Views.{op_at, contents_of};
 ghost use Rattle.mt_state.specs.Promises.{Tells};
 ghost use Rattle.mt_state.specs.Begins.{new_state, HaveNoPairs, IsWorker, MayBegin};
 ghost use Rattle.mt_core.specs.Tickets.{TellsBegin, TellsTake, TellsCancel, TellsRefusal};
 ghost use Rattle.mt_core.specs.Admitted.{MayAdmit, TellsAdmitted, RefusesOpening};
 ghost use Rattle.mt_core.specs.Rights.{IsRightState};
-ghost use Rattle.mt_core.specs.Shapes.{shape_of};
+ghost use Rattle.mt_core.specs.Shapes.{IsShape};
 ghost use Rattle.mt_core.specs.Shows.{phase_at, noted_at};
 ghost use Rattle.mt_core.specs.Alone.{Runs, IsAlone, EndsAlone};
 ghost use Rattle.mt_core.specs.Tidies.{Tidies};
@@ -55,9 +57,8 @@ impl State {
 
     /// Begins an operation of a worker for a tenant.
     ///
-    /// Errors, the first that holds: `NoTenant`, `KeyLong` for a key of over 4 bytes, `Column` for any
-    /// column but 0, `ColumnLong`, `Spent`. `Memory` may come in place of the last one, and never of the
-    /// others.
+    /// Errors, the first that holds: `NoTenant`, the command's first fault (`KeyLong`, `Column`,
+    /// `ColumnLong`), `Spent`. `Memory` may come in place of the last one, and never of the others.
     pub fn begin(&mut self, worker: u8, tenant: u32, command: Command) -> Result<Ticket, Refusal>
         requires worker { IsWorker self.old.logs worker }
         requires point { MayBegin command }
@@ -105,9 +106,9 @@ impl State {
         self.inner.noted(ticket.id)
     }
 
-    /// The tree, line by line, as it is printed.
+    /// The live trees, line by line, as they are printed.
     pub fn shape(&self, alloc: Global) -> Result<Vec<ShapeLine>, AllocError>
-        ensures { IfOk result (λ lines. lines.items ≡ shape_of self.now.arena) }
+        ensures { IfOk result (λ lines. IsShape self.now.arena lines.items) }
     {
         shape_of(alloc, &self.inner.arena)
     }
@@ -149,9 +150,10 @@ impl State {
         self.inner.tidy();
     }
 
-    /// Makes one step of an operation.
+    /// Makes one step of an operation, which leaves every other tenant's map as it was.
     pub fn step(&mut self, ticket: &Ticket) -> Move
-        ensures { Tells self.old self.new ticket.now.id result }
+        ensures tells { Tells self.old self.new ticket.now.id result }
+        ensures tenants { (op : OperationView) (t : ℕ) → op_at self.old.table ticket.now.id ≡ Some op → t ≢ op.tenant → tenant_map t (contents_of self.new) ≡ tenant_map t (contents_of self.old) }
     {
         self.inner.step(ticket.id)
     }

@@ -125,9 +125,9 @@ fn the_first_cause_is_told_and_a_begin_is_cancelled(rt: HostRuntime) {
     let alloc = rt.alloc();
     let mut state = new_store(&rt, alloc, 2);
     let rows: [(u32, &str, &[u8], Refusal); 3] = [
-        (8, "long1", &[1], Refusal::NoTenant),
-        (7, "long1", &[1], Refusal::KeyLong),
-        (7, "long", &[0, 1], Refusal::Column),
+        (8, "k", &[16], Refusal::NoTenant),
+        (7, "k", &[16], Refusal::Column),
+        (7, "k", &[1, 0], Refusal::Column),
     ];
     for (tenant, key, columns, cause) in rows {
         expect_refusal(

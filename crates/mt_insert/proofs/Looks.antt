@@ -10,8 +10,8 @@ use Rattle.mt_border.specs.declared.entry.Pair.{Pair}
 use Rattle.mt_border.specs.declared.entry.Held.{Held}
 use Rattle.mt_border.specs.declared.entry.Held.TheVariants.{Stable, Unstable, Link}
 use Rattle.mt_border.specs.declared.entry.Find.TheVariants as finds
-use Rattle.mt_border.specs.declared.entry.FoundKind.TheVariants.{ThisKey}
-use Rattle.mt_border.specs.Entry.{pair_of}
+use Rattle.mt_border.specs.declared.entry.FoundKind.TheVariants.{ThisKey, Link as ToTree}
+use Rattle.mt_border.specs.Entry.{IsLink, pair_of}
 use Rattle.mt_border.specs.Entries.{IsMissing}
 use Rattle.mt_border.proofs.Edits.{any_entry}
 use Rattle.mt_border.specs.Node.{Node as BorderNode, IsFound, entries_of, entry_at}
@@ -29,7 +29,7 @@ use Rattle.mt_operation.specs.declared.walk.Phase.TheVariants.{Forward, Judge, S
 use Rattle.mt_version.specs.Parts.{Parts}
 use Rattle.mt_arena.specs.Settled.{IsSettled}
 use Rattle.mt_descent.specs.Seen.{IsOutdated}
-use Rattle.mt_descent.specs.Kept.{IsAtJudge}
+use Rattle.mt_descent.specs.Kept.{IsAtJudge, IsInSlot}
 use Rattle.mt_descent.specs.Moves.{Locks, after_change, walk_anew}
 use Rattle.mt_descent.proofs.Looks.{finds_in}
 use Rattle.mt_insert.specs.Puts.{IsReady}
@@ -53,6 +53,20 @@ stable_pair : (held : Held) (P : Pair → Type 0) → ¬ IsUnstable held → IsS
 stable_pair (Stable pair) P stable some = (pair, refl)
 stable_pair (Unstable pair tree) P stable some = absurd (stable tt)
 stable_pair (Link tree) P stable some = absurd some
+
+-- a link has a tree
+linked_tree : (held : Held) → IsLink held → (tree : ℕ) × (held ≡ Link tree)
+linked_tree (Stable pair) link = absurd link
+linked_tree (Unstable pair tree) link = absurd link
+linked_tree (Link tree) link = (tree, refl)
+
+-- what a border node's slot holds, where its view has a link there
+pub link_there : (n : NodeView) (b : BorderNode) (slot : ℕ) (key : Bytes) (layer : ℕ) → n.slots ≡ b.slots → IsInSlot n slot key layer ToTree → (tree : ℕ) × ((entry_at b slot).held ≡ Link tree)
+link_there n b slot key layer same f = linked_tree (entry_at b slot).held (subst (λ (s : List Entry). IsLink (slot_at (record n { slots = s }) slot).held) same f.kind_is.1)
+
+-- and the tree that the slot leads to is that of its view
+pub leads_there : (n : NodeView) (b : BorderNode) (slot tree : ℕ) → n.slots ≡ b.slots → (entry_at b slot).held ≡ Link tree → (slot_at n slot).held ≡ Link tree
+leads_there n b slot tree same is = ap (λ (s : List Entry). (slot_at (record n { slots = s }) slot).held) same ∙ is
 
 -- a node has at most fifteen slots
 pub border_within : (nodes : List NodeView) (trees : List Tree) → IsArena nodes trees → (k : ℕ) → k < length nodes → length (node_at nodes k).slots ≤ 15

@@ -1,5 +1,6 @@
--- A put that holds its border node may change it as it does, and then give its lock back: for `store`, `publish` and `unlock`.
-use Rattle.std.proofs.Common.{◌≡◌, ℕ, ◌<◌, List, length, Some, None, refl, sym, ap, subst, ◌∙◌, arith}
+-- A put that holds its border node may change it as it does, and then give its lock back; a link leads it on: for `store`, `publish`, `unlock` and
+-- `judge`.
+use Rattle.std.proofs.Common.{◌≡◌, ℕ, ◌+◌, ◌<◌, List, length, Some, None, refl, sym, ap, subst, ◌∙◌, arith}
 use Rattle.std.specs.List.{All}
 use Rattle.std.specs.FinMap.{get}
 use Rattle.std.proofs.lemmas.List.{length-set}
@@ -8,8 +9,8 @@ use Rattle.mt_slices.specs.Slices.{slice_of, mark_of, suffix_of}
 use Rattle.mt_rows.specs.Rows.{Bytes, Columns}
 use Rattle.mt_border.specs.declared.entry.Entry.{Entry}
 use Rattle.mt_border.specs.declared.entry.Pair.{Pair}
-use Rattle.mt_border.specs.declared.entry.Held.TheVariants.{Stable}
-use Rattle.mt_border.specs.declared.entry.FoundKind.TheVariants.{ThisKey}
+use Rattle.mt_border.specs.declared.entry.Held.TheVariants.{Stable, Link}
+use Rattle.mt_border.specs.declared.entry.FoundKind.TheVariants.{ThisKey, Link as ToTree}
 use Rattle.mt_border.specs.Entry.{pair_of}
 use Rattle.mt_border.specs.Entries.{IsMissing, with_entry, replaced, place_in}
 use Rattle.mt_border.specs.Entry.{order_of}
@@ -20,20 +21,22 @@ use Rattle.mt_arena.specs.NodeView.{NodeView}
 use Rattle.mt_arena.specs.NodeFacts.{IsUnstable}
 use Rattle.mt_arena.specs.Forests.{tree_at, layer_of}
 use Rattle.mt_arena.specs.Layers.{slot_at}
-use Rattle.mt_arena.specs.Ways.{BelongsIn, StandsFor}
-use Rattle.mt_arena.specs.Edits.{with_slots}
+use Rattle.mt_arena.specs.Ways.{BelongsIn, StandsFor, GoesOn}
+use Rattle.mt_arena.specs.Edits.{with_slots, unlocked}
 use Rattle.mt_arena.specs.Arena.{ArenaView, IsArena, content_of}
 use Rattle.mt_arena.specs.Accesses.{at, tree_of, IsOpen, with_node, with_row, MayPublish, MayChange}
 use Rattle.mt_arena.proofs.Pairs.{here}
 use Rattle.mt_arena.proofs.Homes.{begun}
+use Rattle.mt_arena.proofs.Down.{goes_on}
 use Rattle.mt_arena.proofs.Elsewhere.{layer_is}
 use Rattle.mt_arena.proofs.Owners.{found, none_elsewhere}
 use Rattle.mt_arena.proofs.SettledEdits.{settled_self}
 use Rattle.mt_operation.specs.declared.walk.Walk.{Walk}
 use Rattle.mt_descent.specs.Kept.{IsInSlot}
+use Rattle.mt_descent.specs.Moves.{walk_into}
 use Rattle.mt_descent.proofs.Looks.{belongs}
 use Rattle.mt_insert.specs.Kept.{HoldsBorder, IsAtUnlock}
-use Rattle.mt_insert.specs.Moves.{entry_of, walk_placed}
+use Rattle.mt_insert.specs.Moves.{MeetsLink, entry_of, walk_placed}
 
 module _ (v : ArenaView) (op : ℕ) (key : Bytes) (w : Walk) (arena : IsArena v.nodes v.trees) (h : HoldsBorder v op key w) where
   abbrev n : NodeView
@@ -78,6 +81,27 @@ module _ (v : ArenaView) (op : ℕ) (key : Bytes) (w : Walk) (arena : IsArena v.
   -- and none, where the node misses the key
   pub none_here : IsMissing n.slots (slice_of key w.layer) (mark_of key w.layer) → get (content_of v) (owned key) ≡ None
   none_here missing = none_elsewhere v.nodes v.trees arena (begun v.nodes v.trees arena.forest) key w.layer w.place.node belongs_here missing
+
+  -- a link at the key's slice and mark leads to the tree in which the key's way goes on
+  way_on : (slot tree : ℕ) → IsInSlot n slot key w.layer ToTree → (slot_at n slot).held ≡ Link tree → GoesOn v.trees key (w.layer + 1) tree
+  way_on slot tree f is =
+      let b = belongs_here.border in
+      goes_on v.nodes v.trees key w.layer w.place.node slot tree arena belongs_here
+      (record { border = record { there = b.there; live = b.live; level = b.level; tree_is = refl }; in_range = f.in_range; slice_is = f.slice_is; mark_is = f.mark_is }) is
+
+  -- so a put that meets the link goes on there, once its lock was given back
+  pub meets_link : (slot tree : ℕ) → IsInSlot n slot key w.layer ToTree → (slot_at n slot).held ≡ Link tree → MeetsLink op key v (with_node v w.place.node (unlocked n)) w (walk_into w tree (w.layer + 1))
+  meets_link slot tree f is =
+      let g = way_on slot tree f is in
+      record {
+        slot = slot;
+        in_slot = f;
+        tree = tree;
+        leads = is;
+        walk = refl;
+        unlocks = refl;
+        kept = record { there = g.there; unmade = λ q making. absurd (let both = sym g.live ∙ making in cc); of_tree = g.of_tree; begun = g.begun };
+      }
 
   -- another row may be stored in the slot
   pub may_store : (slot : ℕ) (pair : Pair) → IsInSlot n slot key w.layer ThisKey → (slot_at n slot).held ≡ Stable pair → MayChange v w.place.node op key slot pair

@@ -4,7 +4,7 @@ use Rattle.mt_slices.specs.Slices.{slice_of, mark_of, suffix_of}
 use Rattle.mt_rows.specs.Rows.{Bytes}
 use Rattle.mt_border.specs.declared.entry.Pair.{Pair}
 use Rattle.mt_border.specs.declared.entry.Held.TheVariants.{Stable}
-use Rattle.mt_border.specs.declared.entry.FoundKind.TheVariants.{ThisKey}
+use Rattle.mt_border.specs.declared.entry.FoundKind.TheVariants.{ThisKey, OtherLong}
 use Rattle.mt_border.specs.Entries.{IsMissing}
 use Rattle.mt_arena.specs.Layers.{slot_at}
 use Rattle.mt_arena.specs.Settled.{IsSettled}
@@ -46,6 +46,13 @@ pub record IsAtSplitStart (v : ArenaView) (op : ℕ) (task : Task) (prepared : P
   pub full : length (at v w.place.node).slots ≡ 15
   pub suffix : prepared.suffix ≡ suffix_of task.key w.layer
   pub ready : IsReady task None prepared
+
+-- at MakeLayer: the walk's slot has the pair of another long key at the slice of its own
+pub record IsAtMakeLayer (v : ArenaView) (op : ℕ) (key : Bytes) (w : Walk) : Type 0 where
+  pub holds : HoldsBorder v op key w
+  pub in_slot : IsInSlot (at v w.place.node) w.slot key w.layer OtherLong
+  pub pair : Pair
+  pub stable : (slot_at (at v w.place.node) w.slot).held ≡ Stable pair
 
 -- at the phase that places the put, or begins the split of its node
 abbrev pub KeptReady : Phase → ArenaView → ℕ → Task → Prepared → Walk → Type 0

@@ -10,7 +10,7 @@ pub mod phases;
 mod prepare;
 pub mod splits;
 
-pub use phases::{judge, publish, store, unlock};
+pub use phases::{Judged, go_below, judge, publish, store, unlock};
 pub use splits::{
     grow_root, insert_child, lock_parent, reparent, split_interior, split_move, split_prev,
     split_start, unlock_all,

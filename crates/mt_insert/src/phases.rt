@@ -1,5 +1,6 @@
 //! The phases of a put that holds its border node: `judge` looks for the key and makes all growths,
-//! `store` and `publish` place the row, and `unlock` gives the lock back.
+//! `store` and `publish` place the row, and `unlock` gives the lock back; `go_below` does so and goes
+//! on in the next layer.
 //!
 //! Each changes at most the node that the operation holds. Placing takes no memory, and neither it nor
 //! giving the lock back can fail. Units: steps by their numbers.
@@ -14,30 +15,42 @@ ghost use Rattle.mt_rows.specs.Rows.{Bytes};
 ghost use Rattle.mt_border.specs.declared.entry.Pair.{Pair as AnyPair};
 ghost use Rattle.mt_border.specs.Entries.{with_entry, replaced};
 ghost use Rattle.mt_border.specs.Contents.{owned};
-ghost use Rattle.mt_border.specs.Node.{entries_of};
+ghost use Rattle.mt_border.specs.Node.{IsLive, entries_of, entry_at};
 ghost use Rattle.mt_tape.specs.Tapes.{last_write};
 ghost use Rattle.mt_arena.specs.Layers.{slot_at};
 ghost use Rattle.mt_arena.specs.Edits.{with_slots, unlocked};
 ghost use Rattle.mt_arena.specs.Arena.{content_of, Guarantee};
 ghost use Rattle.mt_arena.specs.Accesses.{at, with_node, with_row};
-ghost use Rattle.mt_descent.specs.Moves.{Continues};
+ghost use Rattle.mt_descent.specs.Moves.{Continues, walk_into};
 ghost use Rattle.mt_insert.specs.Puts.{IsPut};
-ghost use Rattle.mt_insert.specs.Kept.{HoldsBorder, IsAtStore, IsAtPublish, KeptReady, IsAtUnlock};
-ghost use Rattle.mt_insert.specs.Moves.{StandsIn, after_judge, walk_placed, walk_done, entry_of, reserving, released, pushed, Places};
+ghost use Rattle.mt_insert.specs.Kept.{HoldsBorder, IsAtStore, IsAtPublish, IsAtUnlock};
+ghost use Rattle.mt_insert.specs.Moves.{StandsIn, TellsJudged, after_judge, walk_placed, walk_done, entry_of, released, pushed, Places};
 
-use crate::prepare::{prepare, slot_here};
+use crate::prepare::{find_here, prepare};
 use mt_arena::Arena;
-use mt_border::{Border, Entry, Held, Pair, Suffix};
+use mt_border::{Border, Entry, Find, FoundKind, Held, Pair, Suffix};
 use mt_operation::{Phase, Prepared, Task, Walk};
 use mt_rows::{Row, Tenants};
 use mt_slices::StoredKey;
 use mt_tape::Tape;
 use std::alloc::Global;
 
-/// Looks for the key in the border node that the operation holds, and makes all growths of the step
-/// that will place the row: `store` where the node has the key, `publish` where it has not, or
-/// `split_move`, behind `split_start`, where it is full too. Where there is no memory the lock is given
-/// back in this step, and the walk is done.
+/// What became of a put's look at its border node.
+#[derive(Drop)]
+pub enum Judged {
+    /// All growths of the step that places it are made.
+    Ready(Prepared),
+    /// It goes on in the tree of the next layer, and the lock was given back; or that tree is to be
+    /// made.
+    GoesOn,
+    /// There is no memory; the lock was given back, and the walk is done.
+    NoMemory,
+}
+
+/// Looks for the key in the border node that the operation holds. Where the node has it or misses it,
+/// all growths are made of the step that will place the row: `store`, `publish`, or `split_move` behind
+/// `split_start` where the node is full. A link leads into its tree; where another long key stands in
+/// the key's place, a layer is to be made for both.
 pub fn judge(
     alloc: Global,
     arena: &mut Arena,
@@ -45,32 +58,73 @@ pub fn judge(
     task: &Task,
     walk: &mut Walk,
     operation: usize,
-) -> Option<Prepared>
+) -> Judged
     requires put { IsPut task.now }
     requires kept { HoldsBorder arena.old operation task.now.key walk.old }
-    requires ends { length task.now.key ≤ 8 * (walk.old.layer + 1) }
-    ensures is { IfSome result (λ prepared. (slot : Option ℕ) × StandsIn (at arena.old walk.old.place.node) task.now.key walk.old.layer slot × (walk.new ≡ after_judge (at arena.old walk.old.place.node) slot walk.old)) }
-    ensures unchanged { IfSome result (λ prepared. arena.new ≡ arena.old) }
-    ensures reserved { IfSome result (λ prepared. tape.new ≡ reserving tape.old) }
-    ensures done { IfNone result (walk.new ≡ walk_done walk.old) }
-    ensures unlocked { IfNone result (arena.new ≡ with_node arena.old walk.old.place.node (unlocked (at arena.old walk.old.place.node))) }
-    ensures unreserved { IfNone result (tape.new ≡ tape.old) }
+    ensures told { TellsJudged operation task.now arena.old arena.new tape.old tape.new walk.old walk.new result }
     ensures same { Continues walk.old walk.new }
     ensures step { Guarantee operation arena.old arena.new }
     ensures contents { content_of arena.new ≡ content_of arena.old }
-    ensures kept { IfSome result (λ prepared. KeptReady walk.new.phase arena.new operation task.now prepared walk.new) }
 {
     arena.facts();
-    let slot = slot_here(arena, &task.key, walk);
+    match find_here(arena, &task.key, walk) {
+        Find::Missing => make_ready(alloc, arena, tape, task, walk, None, operation),
+        Find::Slot(slot, FoundKind::ThisKey) => {
+            make_ready(alloc, arena, tape, task, walk, Some(slot), operation)
+        }
+        Find::Slot(slot, FoundKind::OtherLong) => {
+            walk.slot = slot;
+            walk.phase = Phase::MakeLayer;
+            Judged::GoesOn
+        }
+        Find::Slot(slot, FoundKind::Link) => {
+            let tree = tree_at(arena.border(walk.place.node), slot);
+            go_below(arena, walk, tree, operation);
+            Judged::GoesOn
+        }
+    }
+}
+
+// Makes all growths of the step that places the row, by the slot that has the key.
+fn make_ready(
+    alloc: Global,
+    arena: &mut Arena,
+    tape: &mut Tape,
+    task: &Task,
+    walk: &mut Walk,
+    slot: Option<usize>,
+    operation: usize,
+) -> Judged
+    requires put { IsPut task.now }
+    requires kept { HoldsBorder arena.old operation task.now.key walk.old }
+    requires slot { StandsIn (at arena.old walk.old.place.node) task.now.key walk.old.layer slot }
+    ensures told { TellsJudged operation task.now arena.old arena.new tape.old tape.new walk.old walk.new result }
+    ensures same { Continues walk.old walk.new }
+    ensures step { Guarantee operation arena.old arena.new }
+    ensures contents { content_of arena.new ≡ content_of arena.old }
+{
+    arena.facts();
     match prepare(alloc, arena, tape, task, walk, slot) {
         Ok(prepared) => {
             go_on(arena, walk, slot);
-            Some(prepared)
+            Judged::Ready(prepared)
         }
         Err(_) => {
             unlock(arena, walk, operation);
-            None
+            Judged::NoMemory
         }
+    }
+}
+
+// The tree to which a slot leads, which is a link.
+fn tree_at(border: &Border, slot: usize) -> usize
+    requires live { IsLive border.now slot }
+    requires link { (tree : ℕ) × ((entry_at border.now slot).held ≡ Held.Link tree) }
+    ensures { (entry_at border.now slot).held ≡ Held.Link result }
+{
+    match border.load(slot) {
+        Some(Held::Link(tree)) => *tree,
+        _ => unreachable!(),
     }
 }
 
@@ -244,4 +298,21 @@ pub fn unlock(arena: &mut Arena, walk: &mut Walk, operation: usize)
 {
     arena.unlock(walk.place.node, operation);
     walk.phase = Phase::Done;
+}
+
+/// Gives the lock of the border node back, and goes on in this tree of the next layer.
+pub fn go_below(arena: &mut Arena, walk: &mut Walk, tree: usize, operation: usize)
+    requires kept { IsAtUnlock arena.old operation walk.old }
+    requires room { CanUnlock (at arena.old walk.old.place.node).version }
+    requires layer { walk.old.layer < 32 }
+    ensures is { arena.new ≡ with_node arena.old walk.old.place.node (unlocked (at arena.old walk.old.place.node)) }
+    ensures walk { walk.new ≡ walk_into walk.old tree (walk.old.layer + 1) }
+    ensures same { Continues walk.old walk.new }
+    ensures step { Guarantee operation arena.old arena.new }
+    ensures contents { content_of arena.new ≡ content_of arena.old }
+{
+    arena.unlock(walk.place.node, operation);
+    walk.place.tree = tree;
+    walk.layer += 1;
+    walk.phase = Phase::Enter;
 }

@@ -13,40 +13,31 @@ ghost use Rattle.mt_border.specs.Node.{IsFound, IsLive, entries_of, entry_at};
 ghost use Rattle.mt_arena.specs.Accesses.{at};
 ghost use Rattle.mt_operation.specs.Tasks.{command_of, ask};
 ghost use Rattle.mt_descent.specs.Kept.{IsAtBorder};
+ghost use Rattle.mt_descent.specs.Moves.{FindsIn};
 ghost use Rattle.mt_insert.specs.Puts.{change_of, row_over, IsReady};
 ghost use Rattle.mt_insert.specs.Moves.{StandsIn, ReadyFor, reserving};
 
 use mt_arena::Arena;
 use mt_border::laws::suffix_fits_mark;
-use mt_border::{Border, Find, FoundKind, Held, Suffix};
+use mt_border::{Border, Find, Held, Suffix};
 use mt_operation::{Prepared, Request, Task, Walk};
 use mt_rows::{Change, Row, merge};
 use mt_slices::StoredKey;
 use mt_tape::{Entry, Tape};
 use std::alloc::{AllocError, Global};
 
-// The slot of a key that ends in its layer.
-fn slot_of(border: &Border, key: &StoredKey, layer: usize) -> Option<usize>
-    requires reaches { HasLayer key.now layer }
-    requires ends { length key.now ≤ 8 * (layer + 1) }
-    ensures found { IfSome result (λ slot. IsFound border.now (slice_of key.now layer) (mark_of key.now layer) (suffix_of key.now layer) slot FoundKind.ThisKey) }
-    ensures missing { IfNone result (IsMissing (entries_of border.now) (slice_of key.now layer) (mark_of key.now layer)) }
+/// What the walk's border node has of the key.
+pub(crate) fn find_here(arena: &Arena, key: &StoredKey, walk: &Walk) -> Find
+    requires kept { IsAtBorder arena.now key.now walk.now }
+    ensures { FindsIn (at arena.now walk.now.place.node) key.now walk.now.layer result }
 {
     suffix_fits_mark();
-    match border.find(key.slice(layer), key.mark(layer), key.suffix(layer)) {
-        Find::Slot(slot, FoundKind::ThisKey) => Some(slot),
-        Find::Slot(_, FoundKind::OtherLong | FoundKind::Link) => unreachable!(),
-        Find::Missing => None,
-    }
-}
-
-/// The slot of the walk's border node that has the key, which ends in the walk's layer.
-pub(crate) fn slot_here(arena: &Arena, key: &StoredKey, walk: &Walk) -> Option<usize>
-    requires kept { IsAtBorder arena.now key.now walk.now }
-    requires ends { length key.now ≤ 8 * (walk.now.layer + 1) }
-    ensures { StandsIn (at arena.now walk.now.place.node) key.now walk.now.layer result }
-{
-    slot_of(arena.border(walk.place.node), key, walk.layer)
+    let border = arena.border(walk.place.node);
+    border.find(
+        key.slice(walk.layer),
+        key.mark(walk.layer),
+        key.suffix(walk.layer),
+    )
 }
 
 // What a put writes.

@@ -19,7 +19,7 @@ use mt_border::{Find, FoundKind, Held};
 use mt_descent::laws::{kept_stays, walks_begin};
 use mt_descent::{child, enter, lock, pick, verify};
 use mt_insert::laws::holds_once_locked;
-use mt_insert::{judge, publish, store, unlock};
+use mt_insert::{Judged, judge, publish, store, unlock};
 use mt_operation::{Phase, Prepared, Splits, Task, Walk};
 use mt_slices::StoredKey;
 use std::alloc::Global;
@@ -120,10 +120,10 @@ pub fn prepare(
     ensures same { on.new.arena ≡ on.old.arena }
     ensures kept { KeptReady walk.new.phase on.new.arena operation task.now result walk.new }
 {
-    assert!(rt; walk.layer == 0 && task.key.as_bytes().len() <= 8);
     match judge(alloc, &mut on.arena, &mut on.tape, task, walk, operation) {
-        Some(prepared) => prepared,
-        None => panic!(rt; "out of memory"),
+        Judged::Ready(prepared) => prepared,
+        Judged::GoesOn => panic!(rt; "the key goes on in the next layer"),
+        Judged::NoMemory => panic!(rt; "out of memory"),
     }
 }
 

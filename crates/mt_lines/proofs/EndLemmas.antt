@@ -4,18 +4,17 @@ use Rattle.std.specs.Io.BufRead.{strip_last}
 use Rattle.std.specs.Io.KnownBytes.{Consumes, Appends, Keeps, IsAtEnd}
 use Rattle.mt_lines.specs.declared.script.ScriptFault.{ScriptFault}
 use Rattle.mt_lines.specs.declared.script.ScriptFault.TheVariants.{Read, Write, Memory}
-use Rattle.mt_lines.specs.declared.session.Session.{Session}
 use Rattle.mt_lines.specs.Lines.{Front, front_of, without_return}
 use Rattle.mt_rows.specs.Rows.{Bytes}
 use Rattle.mt_lines.specs.Scripts.{Cut, cut_of, lines_of, AreLinesAnswered, IsLineAnswered, IsUnread, RunsScript}
-use Rattle.mt_lines.specs.Sessions.{fresh}
+use Rattle.mt_lines.specs.Sessions.{SessionView, fresh}
 use Rattle.mt_lines.specs.Turns.{AnswersFront, Writes, TakesByte}
 use Rattle.mt_lines.proofs.CutLemmas.{last_tells}
 use Rattle.mt_lines.proofs.ScriptLemmas.{Progress, AreLinesAnswered-more, front_answered, feed_cut, feed_answered, other_cut}
 use Rattle.mt_streams.proofs.StreamLemmas.{Appends-nil, Appends-trans, Consumes-nil, Consumes-trans, Consumes-kept}
 
 -- the reader failed, or gave as many bytes as can be counted
-pub read_fails : (before a b held h : Option Bytes) (session : Session) (front : Front) (count : ℕ) (reader_failed writer_failed : Type 0) (error : _) → Progress before a held h session front count → Keeps a b
+pub read_fails : (before a b held h : Option Bytes) (session : SessionView) (front : Front) (count : ℕ) (reader_failed writer_failed : Type 0) (error : _) → Progress before a held h session front count → Keeps a b
     → (reader_failed ⊎ (2 ^ 64 - 1 ≤ count)) → RunsScript before b held h reader_failed writer_failed (Err (Read error))
 read_fails before a b held h session front count reader_failed writer_failed error p kept cause = record {
   read = p.read;
@@ -40,7 +39,7 @@ read_fails before a b held h session front count reader_failed writer_failed err
 }
 
 -- A script is on its way to a line: those before it are answered, and this was read and written.
-record IsAt (before left held holds : Option Bytes) (session : Session) (line : Bytes) (behind : List Bytes) : Type 0 where
+record IsAt (before left held holds : Option Bytes) (session : SessionView) (line : Bytes) (behind : List Bytes) : Type 0 where
   read : Bytes
   text : Bytes
   lines_before : List Bytes
@@ -50,7 +49,7 @@ record IsAt (before left held holds : Option Bytes) (session : Session) (line : 
   lines : lines_of read ≡ lines_before ++ line ∷ behind
 
 -- it stops there with nothing of that line written, where a growth was refused
-memory_fails : (before left held holds now : Option Bytes) (session : Session) (line : Bytes) (behind : List Bytes) (reader_failed writer_failed : Type 0) → IsUnread Memory behind → IsAt before left held holds session line behind
+memory_fails : (before left held holds now : Option Bytes) (session : SessionView) (line : Bytes) (behind : List Bytes) (reader_failed writer_failed : Type 0) → IsUnread Memory behind → IsAt before left held holds session line behind
     → Appends holds now [] → RunsScript before left held now reader_failed writer_failed (Err Memory)
 memory_fails before left held holds now session line behind reader_failed writer_failed unread p none = record {
   read = p.read;
@@ -63,7 +62,7 @@ memory_fails before left held holds now session line behind reader_failed writer
 }
 
 -- it stops there with a front of the answer written, where the writer failed
-write_fails : (before left held holds now : Option Bytes) (session new : Session) (line : Bytes) (behind : List Bytes) (front lost : Bytes) (reader_failed writer_failed : Type 0) (error : _) → IsUnread (Write error) behind
+write_fails : (before left held holds now : Option Bytes) (session new : SessionView) (line : Bytes) (behind : List Bytes) (front lost : Bytes) (reader_failed writer_failed : Type 0) (error : _) → IsUnread (Write error) behind
     → IsAt before left held holds session line behind → IsLineAnswered session line new (front ++ lost) → Appends holds now front → writer_failed → RunsScript before left held now reader_failed writer_failed (Err (Write error))
 write_fails before left held holds now session new line behind front lost reader_failed writer_failed error unread p a more failed = record {
   read = p.read;
@@ -76,7 +75,7 @@ write_fails before left held holds now session new line behind front lost reader
 }
 
 -- what was to be written of the line was not
-line_fails : (before left held holds now : Option Bytes) (session new : Session) (line : Bytes) (behind : List Bytes) (kept : Front) (reader_failed writer_failed failing : Type 0) (fault : ScriptFault) → (failing → writer_failed)
+line_fails : (before left held holds now : Option Bytes) (session new : SessionView) (line : Bytes) (behind : List Bytes) (kept : Front) (reader_failed writer_failed failing : Type 0) (fault : ScriptFault) → (failing → writer_failed)
     → ((behind ≡ []) ⊎ (behind ≡ [] ∷ [])) → IsAt before left held holds session line behind → ((text : Bytes) → AnswersFront session kept new text → IsLineAnswered session line new text)
     → Writes (AnswersFront session kept new) holds now failing (Err fault) → RunsScript before left held now reader_failed writer_failed (Err fault)
 line_fails before left held holds now session new line behind kept reader_failed writer_failed failing (Read e) since unread p says w = absurd w
@@ -85,7 +84,7 @@ line_fails before left held holds now session new line behind kept reader_failed
 line_fails before left held holds now session new line behind kept reader_failed writer_failed failing Memory since unread p says w = memory_fails before left held holds now session line behind reader_failed writer_failed unread p w
 
 -- at a line that ended
-at_feed : (before a b held h : Option Bytes) (session : Session) (front : Front) (byte count : ℕ) (p : Progress before a held h session front count) → (byte == 10) ≡ true → Consumes a b (byte ∷ []) → IsAt before b held h session (strip_last 13 (cut_of p.read).last) ([] ∷ [])
+at_feed : (before a b held h : Option Bytes) (session : SessionView) (front : Front) (byte count : ℕ) (p : Progress before a held h session front count) → (byte == 10) ≡ true → Consumes a b (byte ∷ []) → IsAt before b held h session (strip_last 13 (cut_of p.read).last) ([] ∷ [])
 at_feed before a b held h session front byte count p feed read = record {
   read = p.read ++ byte ∷ [];
   text = p.text;
@@ -97,7 +96,7 @@ at_feed before a b held h session front byte count p feed read = record {
 }
 
 -- at a line that has one byte more
-at_other : (before a b held h : Option Bytes) (session : Session) (front : Front) (byte count : ℕ) (p : Progress before a held h session front count) → (byte == 10) ≡ false → Consumes a b (byte ∷ []) → IsAt before b held h session ((cut_of p.read).last ++ byte ∷ []) []
+at_other : (before a b held h : Option Bytes) (session : SessionView) (front : Front) (byte count : ℕ) (p : Progress before a held h session front count) → (byte == 10) ≡ false → Consumes a b (byte ∷ []) → IsAt before b held h session ((cut_of p.read).last ++ byte ∷ []) []
 at_other before a b held h session front byte count p other read = record {
   read = p.read ++ byte ∷ [];
   text = p.text;
@@ -109,7 +108,7 @@ at_other before a b held h session front byte count p other read = record {
 }
 
 -- a byte could not be taken
-pub take_fails : (before a b held h k : Option Bytes) (old new : Session) (front left : Front) (byte count : ℕ) (reader_failed writer_failed failing : Type 0) (fault : ScriptFault) (feeds : Bool) → (failing → writer_failed) → (byte == 10) ≡ feeds → Progress before a held h old front count → Consumes a b (byte ∷ [])
+pub take_fails : (before a b held h k : Option Bytes) (old new : SessionView) (front left : Front) (byte count : ℕ) (reader_failed writer_failed failing : Type 0) (fault : ScriptFault) (feeds : Bool) → (failing → writer_failed) → (byte == 10) ≡ feeds → Progress before a held h old front count → Consumes a b (byte ∷ [])
     → TakesByte feeds byte old new front left h k failing (Err fault) → RunsScript before b held k reader_failed writer_failed (Err fault)
 take_fails before a b held h k old new front left byte count reader_failed writer_failed failing fault true since e p read t =
     line_fails before b held h k old new (strip_last 13 (cut_of p.read).last) ([] ∷ []) (without_return front) reader_failed writer_failed failing fault since (inr refl) (at_feed before a b held h old front byte count p e read)
@@ -118,7 +117,7 @@ take_fails before a b held h k old new front left byte count reader_failed write
     rw t.3 (memory_fails before b held h k old ((cut_of p.read).last ++ byte ∷ []) [] reader_failed writer_failed (inl refl) (at_other before a b held h old front byte count p e read) t.1)
 
 -- at the last line
-at_end : (before a b held h : Option Bytes) (session : Session) (front : Front) (count : ℕ) (p : Progress before a held h session front count) → Keeps a b → IsAt before b held h session (cut_of p.read).last []
+at_end : (before a b held h : Option Bytes) (session : SessionView) (front : Front) (count : ℕ) (p : Progress before a held h session front count) → Keeps a b → IsAt before b held h session (cut_of p.read).last []
 at_end before a b held h session front count p kept = record {
   read = p.read;
   text = p.text;
@@ -130,11 +129,11 @@ at_end before a b held h session front count p kept = record {
 }
 
 -- the answer to the last line
-last_answered : (read : Bytes) (front : Front) (old new : Session) (text : Bytes) → front ≡ front_of (cut_of read).last → AnswersFront old front new text → IsLineAnswered old (cut_of read).last new text
+last_answered : (read : Bytes) (front : Front) (old new : SessionView) (text : Bytes) → front ≡ front_of (cut_of read).last → AnswersFront old front new text → IsLineAnswered old (cut_of read).last new text
 last_answered read front old new text e a = front_answered (front_of (cut_of read).last) (cut_of read).last old new text (last_tells (cut_of read).last) (subst (λ (f : Front). AnswersFront old f new text) e a)
 
 -- all was read
-pub ends : (before a b held h k : Option Bytes) (old new : Session) (front : Front) (count : ℕ) (reader_failed writer_failed failing : Type 0) (result : Result (Unit {0}) ScriptFault) → (failing → writer_failed) → Progress before a held h old front count → Keeps a b → IsAtEnd b
+pub ends : (before a b held h k : Option Bytes) (old new : SessionView) (front : Front) (count : ℕ) (reader_failed writer_failed failing : Type 0) (result : Result (Unit {0}) ScriptFault) → (failing → writer_failed) → Progress before a held h old front count → Keeps a b → IsAtEnd b
     → Writes (AnswersFront old front new) h k failing result → RunsScript before b held k reader_failed writer_failed result
 ends before a b held h k old new front count reader_failed writer_failed failing (Ok u) since p kept done (answer, says, more) = record {
   read = p.read;

@@ -3,7 +3,7 @@ use Rattle.std.specs.Prelude.{ℕ, if◌then◌else◌, List, codes, Option, Som
 use Rattle.mt_rows.specs.declared.command.Command.{Command}
 use Rattle.mt_rows.specs.declared.command.Command.TheVariants.{Get, Put}
 use Rattle.mt_operation.specs.declared.walk.Phase.{Phase}
-use Rattle.mt_operation.specs.declared.walk.Phase.TheVariants.{Enter, Pick, Child, Verify, Search, Load, Confirm, Forward, Lock, Judge, Store, Publish, SplitStart, SplitMove, SplitPrev, LockParent, InsertChild, InteriorSplit, Reparent, RootGrow, Unlock}
+use Rattle.mt_operation.specs.declared.walk.Phase.TheVariants.{Enter, Pick, Child, Verify, Search, Load, Confirm, Forward, Lock, Judge, Store, Publish, SplitStart, SplitMove, SplitPrev, LockParent, InsertChild, InteriorSplit, Reparent, RootGrow, MakeLayer, MarkUnstable, Link, MarkLayer, Unlock}
 use Rattle.mt_operation.specs.Names as phases
 use Rattle.mt_lines.specs.declared.line.Line.{Line}
 use Rattle.mt_lines.specs.declared.line.Line.TheVariants.{Tenant, Begin, Step, Until, Run, Shape}
@@ -39,6 +39,10 @@ phase_word word =
     else if is_text word (phases.name_of InteriorSplit) then Some InteriorSplit
     else if is_text word (phases.name_of Reparent) then Some Reparent
     else if is_text word (phases.name_of RootGrow) then Some RootGrow
+    else if is_text word (phases.name_of MakeLayer) then Some MakeLayer
+    else if is_text word (phases.name_of MarkUnstable) then Some MarkUnstable
+    else if is_text word (phases.name_of Link) then Some Link
+    else if is_text word (phases.name_of MarkLayer) then Some MarkLayer
     else if is_text word (phases.name_of Unlock) then Some Unlock
     else None
 

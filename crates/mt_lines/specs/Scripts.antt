@@ -7,9 +7,8 @@ use Rattle.mt_lines.specs.declared.line.Line.{Line}
 use Rattle.mt_lines.specs.declared.response.Response.{Response}
 use Rattle.mt_lines.specs.declared.script.ScriptFault.{ScriptFault}
 use Rattle.mt_lines.specs.declared.script.ScriptFault.TheVariants.{Read, Write, Memory}
-use Rattle.mt_lines.specs.declared.session.Session.{Session}
 use Rattle.mt_lines.specs.Line.{line_of}
-use Rattle.mt_lines.specs.Sessions.{fresh, TellsReply}
+use Rattle.mt_lines.specs.Sessions.{SessionView, fresh, TellsReply}
 use Rattle.mt_lines.specs.Text.{IsText}
 
 -- bytes, cut at each line feed: the lines that end in them, and what stands behind the last end
@@ -44,26 +43,26 @@ abbrev pub meaning_of : Bytes → Option Line
 meaning_of line = if nat_lt 65536 (length line) then None else line_of line
 
 -- A silent line changes nothing, and has no answer. Any other is answered by the text of what the session says of it.
-abbrev pub Answers : Bool → Option Line → Session → Session → Bytes → Type 0
+abbrev pub Answers : Bool → Option Line → SessionView → SessionView → Bytes → Type 0
 Answers true asked old new text = (new ≡ old) × (text ≡ [])
 Answers false asked old new text = (response : Response) × TellsReply old new asked response × IsText response text
 
 -- a line is answered by this text
-abbrev pub IsLineAnswered : Session → Bytes → Session → Bytes → Type 0
+abbrev pub IsLineAnswered : SessionView → Bytes → SessionView → Bytes → Type 0
 IsLineAnswered old line new text = Answers (is_silent line) (meaning_of line) old new text
 
 -- lines are answered one after the other, and this is the text of their answers
-abbrev pub AreLinesAnswered : Session → List Bytes → Session → Bytes → Type 0
+abbrev pub AreLinesAnswered : SessionView → List Bytes → SessionView → Bytes → Type 0
 AreLinesAnswered old [] new text = (new ≡ old) × (text ≡ [])
-AreLinesAnswered old (line ∷ lines) new text = (mid : Session) × (first : Bytes) × (rest : Bytes) × IsLineAnswered old line mid first × AreLinesAnswered mid lines new rest × (text ≡ first ++ rest)
+AreLinesAnswered old (line ∷ lines) new text = (mid : SessionView) × (first : Bytes) × (rest : Bytes) × IsLineAnswered old line mid first × AreLinesAnswered mid lines new rest × (text ≡ first ++ rest)
 
 -- this was written for a script that was read: the answers of its lines, in a session that begins with the first of them
 abbrev pub IsScript : Bytes → Bytes → Type 0
-IsScript read written = (final : Session) × AreLinesAnswered fresh (lines_of read) final written
+IsScript read written = (final : SessionView) × AreLinesAnswered fresh (lines_of read) final written
 
 -- what was written of the answer to a line at which a script stopped: a front of it where the writer failed, else nothing
-abbrev pub IsFront : ScriptFault → Session → Bytes → Bytes → Type 0
-IsFront (Write e) old line front = (new : Session) × (lost : Bytes) × IsLineAnswered old line new (front ++ lost)
+abbrev pub IsFront : ScriptFault → SessionView → Bytes → Bytes → Type 0
+IsFront (Write e) old line front = (new : SessionView) × (lost : Bytes) × IsLineAnswered old line new (front ++ lost)
 IsFront _ old line front = front ≡ []
 
 -- no byte behind the line was read; where the reader failed, the line's own end was not
@@ -76,7 +75,7 @@ pub record StopsAtLine (fault : ScriptFault) (read written : Bytes) : Type 0 whe
   pub before : List Bytes
   pub line : Bytes
   pub behind : List Bytes
-  pub session : Session
+  pub session : SessionView
   pub text : Bytes
   pub front : Bytes
   pub lines : lines_of read ≡ before ++ line ∷ behind

@@ -1,6 +1,7 @@
 -- What a store with named operations does by the steps of one of them, and what is said of it.
 use Rattle.std.specs.Prelude.{◌≡◌, ℕ, zero, suc, ◌≤◌, ◌^◌, true, false, [], Option, Some, None, is_some}
 use Rattle.mt_rows.specs.declared.command.Command.{Command}
+use Rattle.mt_rows.specs.Accounts.{Accounts}
 use Rattle.mt_runs.specs.declared.event.Answer.{Answer}
 use Rattle.mt_state.specs.declared.moves.Move.{Move}
 use Rattle.mt_state.specs.declared.moves.Move.TheVariants as moves
@@ -19,9 +20,9 @@ pub record StoreView : Type 0 where
   pub state : StateView
   pub named : Tickets
 
--- a store in which nothing has happened, without tenants
-abbrev pub fresh_store : StoreView
-fresh_store = record { state = new_state 0 []; named = [] }
+-- a store of these tenants in which nothing has happened
+abbrev pub new_store : Accounts → StoreView
+new_store tenants = record { state = new_state 0 tenants; named = [] }
 
 -- the operation of an id was begun, and its answer not taken
 abbrev pub IsInTable : Shown → ℕ → Type 0

@@ -4,11 +4,11 @@ use Rattle.std.specs.Io.KnownBytes.{Appends}
 use Rattle.mt_lines.specs.declared.line.Line.{Line}
 use Rattle.mt_lines.specs.declared.script.ScriptFault.{ScriptFault}
 use Rattle.mt_lines.specs.declared.script.ScriptFault.TheVariants.{Read, Write, Memory}
-use Rattle.mt_lines.specs.declared.session.Session.{Session}
 use Rattle.mt_lines.specs.Line.{line_of}
 use Rattle.mt_lines.specs.Lines.{Front, front_of, with_byte, without_return, whole_line}
 use Rattle.mt_rows.specs.Rows.{Bytes}
 use Rattle.mt_lines.specs.Scripts.{is_silent, Answers}
+use Rattle.mt_lines.specs.Sessions.{SessionView}
 
 -- what a line that may be too long asks for
 abbrev pub meaning_in : Option Bytes → Option Line
@@ -16,7 +16,7 @@ meaning_in None = None
 meaning_in (Some line) = line_of line
 
 -- the line of this front is answered by this text
-abbrev pub AnswersFront : Session → Front → Session → Bytes → Type 0
+abbrev pub AnswersFront : SessionView → Front → SessionView → Bytes → Type 0
 AnswersFront old front new text = Answers (is_silent front.bytes) (meaning_in (whole_line front)) old new text
 
 -- a text was written whole; or, where the writer failed, a front of it; or nothing, where a growth was refused
@@ -27,6 +27,6 @@ Writes P held holds writer_failed (Err (Write e)) = (front : Bytes) × (lost : B
 Writes P held holds writer_failed (Err Memory) = Appends held holds []
 
 -- a byte that ends the line, and one that is one more of it
-abbrev pub TakesByte : Bool → ℕ → Session → Session → Front → Front → Option Bytes → Option Bytes → Type 0 → Result (Unit {0}) ScriptFault → Type 0
+abbrev pub TakesByte : Bool → ℕ → SessionView → SessionView → Front → Front → Option Bytes → Option Bytes → Type 0 → Result (Unit {0}) ScriptFault → Type 0
 TakesByte true byte old new line left held holds writer_failed result = Writes (AnswersFront old (without_return line) new) held holds writer_failed result × OnOk result (left ≡ front_of [])
 TakesByte false byte old new line left held holds writer_failed result = (new ≡ old) × Appends held holds [] × OnOk result (left ≡ with_byte line byte) × IfErr result (λ e. e ≡ Memory)

@@ -39,7 +39,7 @@ pub enum Line {
     Run {
         name: u32,
     },
-    /// The tree, as text.
+    /// The live trees, as text.
     Shape,
 }
 
@@ -254,6 +254,14 @@ fn phase(word: &[u8]) -> Result<Phase, LineFault>
         Ok(Phase::Reparent)
     } else if words::is_text(word, "rootgrow") {
         Ok(Phase::RootGrow)
+    } else if words::is_text(word, "makelayer") {
+        Ok(Phase::MakeLayer)
+    } else if words::is_text(word, "markunstable") {
+        Ok(Phase::MarkUnstable)
+    } else if words::is_text(word, "link") {
+        Ok(Phase::Link)
+    } else if words::is_text(word, "marklayer") {
+        Ok(Phase::MarkLayer)
     } else if words::is_text(word, "unlock") {
         Ok(Phase::Unlock)
     } else {

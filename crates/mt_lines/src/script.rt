@@ -1,8 +1,8 @@
 //! A script, from the bytes that are read to the bytes that are written.
 //!
 //! It goes line by line: a line is answered before a byte behind it is read. Memory does not grow with
-//! the script: it is that of one line, of the pairs, of the operations that are open and their names,
-//! and of the writes that were placed since the first step of one that is still open.
+//! the script: it is that of one line, of the tenants and the pairs, of the operations that are open and
+//! their names, and of the writes that were placed since the first step of one that is still open.
 
 ghost use Rattle.std.specs.Prelude.{◌≡◌, ◌==◌, ◌<◌, ◌++◌, ℕ, [], ◌∷◌, IfOk, OnOk, OnErr, IfNone, IfSome, false, string_bytes};
 ghost use Rattle.std.specs.Option.{option_map};

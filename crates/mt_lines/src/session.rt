@@ -1,21 +1,33 @@
-//! What a script has done so far: the store with the names of its operations, and whether a tenant is
-//! still taken.
+//! What a script has done so far: the store with the names of its operations, and, before the first
+//! begin, the tenants that are gathered for it.
 
-ghost use Rattle.std.specs.Prelude.{◌≡◌, IfOk, IfErr, IsOk};
-ghost use Rattle.mt_lines.specs.Sessions.{fresh, IsStoreOf, IsTenantRefusal, TellsTenant, TellsBeginLine, TellsLine};
-ghost use Rattle.mt_rows.specs.Accounts.{IsQuota};
+ghost use Rattle.std.specs.Prelude.{◌≡◌, IfOk};
+ghost use Rattle.mt_lines.specs.Sessions.{fresh, TellsTenant, TellsBeginLine, TellsLine};
 
 use crate::line::Line;
 use crate::response::Response;
 use crate::store::NamedStore;
-use mt_rows::{Command, Refusal, Tenants};
+use mt_rows::{Command, Tenants};
 use std::alloc::{AllocError, Global};
+use std::marker::Model;
 
-/// The store of a script, and whether a tenant may still be added.
+/// The store of a script, and up to the first begin the tenants that this will make a store of.
 #[derive(Drop)]
 pub struct Session {
-    pub(crate) store: NamedStore,
-    pub(crate) takes_tenants: bool,
+    store: NamedStore,
+    gathered: Option<Tenants>,
+}
+
+impl Model for Session {
+    ghost use Rattle.std.specs.Prelude.{IfSome};
+    ghost use Rattle.mt_state.specs.Begins.{HaveNoPairs};
+    ghost use Rattle.mt_lines.specs.Sessions.{SessionView};
+
+    ghost Value = { SessionView };
+
+    ghost view = { λ s. record { store = s.store; gathered = s.gathered } };
+
+    ghost invariant = { λ s. IfSome s.gathered HaveNoPairs };
 }
 
 impl Session {
@@ -25,7 +37,7 @@ impl Session {
     {
         Ok(Session {
             store: NamedStore::new(alloc, Tenants::new(alloc))?,
-            takes_tenants: true,
+            gathered: Some(Tenants::new(alloc)),
         })
     }
 
@@ -34,12 +46,12 @@ impl Session {
         ensures told { IfOk result (TellsLine self.old self.new line) }
     {
         match line {
-            Line::Tenant { tenant, quota } => Ok(self.tenant(alloc, tenant, quota)),
+            Line::Tenant { tenant, quota } => Ok(self.tenant(tenant, quota)),
             Line::Begin {
                 name,
                 tenant,
                 command,
-            } => self.begin(name, tenant, command),
+            } => self.begin(alloc, name, tenant, command),
             Line::Step { name } => Ok(self.store.step(name)),
             Line::Until { name, phase } => Ok(self.store.until(name, phase)),
             Line::Run { name } => Ok(self.store.run(name)),
@@ -47,44 +59,36 @@ impl Session {
         }
     }
 
-    // One tenant is taken, before the first begin.
-    fn tenant(&mut self, alloc: Global, tenant: u32, quota: u32) -> Response
+    // Tenants are gathered up to the first begin.
+    fn tenant(&mut self, tenant: u32, quota: u32) -> Response
         ensures { TellsTenant self.old self.new tenant quota result }
     {
-        if !self.takes_tenants {
+        let Some(tenants) = &mut self.gathered else {
             return Response::BadLine;
-        }
-        match store_of(alloc, tenant, quota) {
-            Ok(store) => {
-                *self = Session {
-                    store,
-                    takes_tenants: false,
-                };
-                Response::Taken
-            }
+        };
+        match tenants.add(tenant, quota) {
+            Ok(()) => Response::Taken,
             Err(refusal) => Response::Refused(refusal),
         }
     }
 
-    // A name in use can't be begun, nor what the store doesn't take.
-    fn begin(&mut self, name: u32, tenant: u32, command: Command) -> Result<Response, AllocError>
+    // A name in use can't be begun, nor what the store doesn't take. The first begin that may stand finds
+    // a new store of the tenants.
+    fn begin(
+        &mut self,
+        alloc: Global,
+        name: u32,
+        tenant: u32,
+        command: Command,
+    ) -> Result<Response, AllocError>
         ensures { IfOk result (TellsBeginLine self.old self.new name tenant command) }
     {
         if !self.store.may_begin(name, &command) {
             return Ok(Response::BadLine);
         }
-        self.takes_tenants = false;
+        if let Some(tenants) = self.gathered.take() {
+            self.store = NamedStore::new(alloc, tenants)?;
+        }
         self.store.begin(name, tenant, command)
     }
-}
-
-// A store of one tenant.
-fn store_of(alloc: Global, tenant: u32, quota: u32) -> Result<NamedStore, Refusal>
-    ensures store { IfOk result (IsStoreOf tenant quota) }
-    ensures refused { IfErr result (IsTenantRefusal quota) }
-    ensures taken { IsOk result → IsQuota quota }
-{
-    let mut tenants = Tenants::new(alloc);
-    tenants.add(tenant, quota)?;
-    Ok(NamedStore::new(alloc, tenants)?)
 }

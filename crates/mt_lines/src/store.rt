@@ -9,7 +9,7 @@ ghost use Rattle.mt_state.specs.Views.{StateView};
 ghost use Rattle.mt_core.specs.Shows.{phase_at};
 ghost use Rattle.mt_state.specs.Begins.{new_state, HaveNoPairs, MayBegin, IsEnded};
 ghost use Rattle.mt_core.specs.Tickets.{IsStill, Cancels};
-ghost use Rattle.mt_core.specs.Shapes.{shape_of};
+ghost use Rattle.mt_core.specs.Shapes.{IsShape};
 ghost use Rattle.mt_runs.specs.declared.event.Answer.{Answer as AnyAnswer};
 ghost use Rattle.mt_lines.specs.Names.{operation_of};
 ghost use Rattle.mt_lines.specs.Sessions.{TellsBegun};
@@ -125,9 +125,9 @@ impl NamedStore {
         respond(&mut self.state, &mut self.names, name, answer)
     }
 
-    /// The tree, as it is printed.
+    /// The trees, as they are printed.
     pub fn shape(&self, alloc: Global) -> Result<Vec<ShapeLine>, AllocError>
-        ensures { IfOk result (λ lines. lines.items ≡ shape_of self.now.state.arena) }
+        ensures { IfOk result (λ lines. IsShape self.now.state.arena lines.items) }
     {
         self.state.shape(alloc)
     }

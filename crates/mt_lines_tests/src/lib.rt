@@ -6,6 +6,8 @@
 #[cfg(test)]
 mod faults;
 #[cfg(test)]
+mod layers;
+#[cfg(test)]
 mod scripts;
 #[cfg(test)]
 mod trees;

@@ -62,13 +62,13 @@ fn whole_scripts(rt: HostRuntime) {
         ),
         (
             "no tenant is taken behind a begin",
-            "tenant 7 0\nbegin 1 7 get 61\ntenant 7 5\nbegin 1 7 get 61\n",
-            "refused E7\nrefused E4\nbad line\nrefused E4\n",
+            "tenant 7 100\ntenant 8 2\ntenant 7 5\ntenant 9 0\ntenant 9 1048577\nbegin 1 9 get 61\ntenant 9 5\nbegin 1 7 put 61 0=76\nrun 1\ntenant 9 5\nbegin 1 8 get 61\nrun 1\nbegin 1 7 get 61\nrun 1\n",
+            "ok\nok\nrefused E3\nrefused E7\nrefused E7\nrefused E4\nbad line\nbegun 1\ndone new\nbad line\nbegun 1\ndone absent\nbegun 1\ndone found 0=76\n",
         ),
         (
-            "a second tenant changes nothing",
-            "tenant 7 1\nbegin 1 7 put 61 0=76\nrun 1\ntenant 7 5\nbegin 1 7 get 61\nrun 1\n",
-            "ok\nbegun 1\ndone new\nbad line\nbegun 1\ndone found 0=76\n",
+            "tenants are taken behind a bad begin, each with its own quota",
+            "tenant 7 1\nbegin 0 7 get 61\nbegin 1 7 remove 61\ntenant 7 5\ntenant 8 5\nbegin 1 7 put 61 0=76\nrun 1\nbegin 1 7 put 62 0=76\nrun 1\nbegin 1 8 put 62 0=76\nrun 1\n",
+            "ok\nbad line\nbad line\nrefused E3\nok\nbegun 1\ndone new\nbegun 1\ndone full\nbegun 1\ndone new\n",
         ),
         (
             "a put waits for the lock of another, and a get for nobody",
@@ -105,8 +105,8 @@ fn single_lines(rt: HostRuntime) {
         ("tenant 7\n", "bad line\n"),
         ("tenant 7 1 1\n", "bad line\n"),
         (
-            "tenant 7 0\ntenant 7 1048577\ntenant 7 1048576\ntenant 8 1\n",
-            "refused E7\nrefused E7\nok\nbad line\n",
+            "tenant 7 0\ntenant 7 1048577\ntenant 7 1048576\ntenant 7 0\n",
+            "refused E7\nrefused E7\nok\nrefused E3\n",
         ),
         ("begin 1 8 get 61\ntenant 8 5\n", "refused E4\nbad line\n"),
         ("begin 1 8 get\ntenant 8 5\n", "bad line\nok\n"),
@@ -132,14 +132,17 @@ fn single_lines(rt: HostRuntime) {
         ("tenant 7 5\nbegin 1 7 put 61 0=76=77\n", "ok\nbad line\n"),
         ("tenant 7 5\nbegin 1 7 put 6 0=76\n", "ok\nbad line\n"),
         ("tenant 7 5\nbegin 1 7 put -- 0=76\n", "ok\nbad line\n"),
-        ("tenant 7 5\nbegin 1 7 put 61 1=76\n", "ok\nrefused E5\n"),
+        (
+            "tenant 7 5\nbegin 1 7 put 61 1=76 0=76\n",
+            "ok\nrefused E5\n",
+        ),
         (
             "tenant 7 5\nbegin 1 7 put 61 0=76 0=76\n",
             "ok\nrefused E5\n",
         ),
-        ("tenant 7 5\nbegin 1 7 get 61 1\n", "ok\nrefused E5\n"),
+        ("tenant 7 5\nbegin 1 7 get 61 1 1\n", "ok\nrefused E5\n"),
         ("tenant 7 5\nbegin 1 7 get 61 256\n", "ok\nbad line\n"),
-        ("tenant 7 5\nbegin 1 7 get 6162636465\n", "ok\nrefused E1\n"),
+        ("tenant 7 5\nbegin 1 7 get 61 16\n", "ok\nrefused E5\n"),
         (
             "tenant 7 5\nbegin 1 7 get aB 00\nrun 1\n",
             "ok\nbegun 1\ndone absent\n",

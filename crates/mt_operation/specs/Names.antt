@@ -1,7 +1,7 @@
 -- The names of phases, as they are written.
 use Rattle.std.specs.Prelude.{ℕ, List, codes}
 use Rattle.mt_operation.specs.declared.walk.Phase.{Phase}
-use Rattle.mt_operation.specs.declared.walk.Phase.TheVariants.{Enter, Pick, Child, Verify, Search, Load, Confirm, Forward, Lock, Judge, Store, Publish, SplitStart, SplitMove, SplitPrev, LockParent, InsertChild, InteriorSplit, Reparent, RootGrow, Unlock, Done}
+use Rattle.mt_operation.specs.declared.walk.Phase.TheVariants.{Enter, Pick, Child, Verify, Search, Load, Confirm, Forward, Lock, Judge, Store, Publish, SplitStart, SplitMove, SplitPrev, LockParent, InsertChild, InteriorSplit, Reparent, RootGrow, MakeLayer, MarkUnstable, Link, MarkLayer, Unlock, Done}
 
 -- a phase's name
 abbrev pub name_of : Phase → List ℕ
@@ -25,5 +25,9 @@ name_of InsertChild = codes "insertchild"
 name_of InteriorSplit = codes "interiorsplit"
 name_of Reparent = codes "reparent"
 name_of RootGrow = codes "rootgrow"
+name_of MakeLayer = codes "makelayer"
+name_of MarkUnstable = codes "markunstable"
+name_of Link = codes "link"
+name_of MarkLayer = codes "marklayer"
 name_of Unlock = codes "unlock"
 name_of Done = codes "done"

@@ -27,6 +27,10 @@ fn a_phase_is_written_in_small_letters(rt: HostRuntime) -> Result<(), Fail> {
         (Phase::InteriorSplit, "interiorsplit"),
         (Phase::Reparent, "reparent"),
         (Phase::RootGrow, "rootgrow"),
+        (Phase::MakeLayer, "makelayer"),
+        (Phase::MarkUnstable, "markunstable"),
+        (Phase::Link, "link"),
+        (Phase::MarkLayer, "marklayer"),
         (Phase::Unlock, "unlock"),
         (Phase::Done, "done"),
     ];

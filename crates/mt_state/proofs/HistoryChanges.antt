@@ -5,7 +5,7 @@ use Rattle.mt_rows.specs.declared.reply.Reply.{Reply}
 use Rattle.mt_rows.specs.declared.reply.Reply.TheVariants as replies
 use Rattle.mt_rows.specs.Maps.{is_change}
 use Rattle.mt_operation.specs.declared.walk.Phase.{Phase}
-use Rattle.mt_operation.specs.declared.walk.Phase.TheVariants.{Search, Load, Confirm, Judge, SplitStart, SplitPrev, LockParent, InsertChild, InteriorSplit, Reparent, RootGrow, Unlock, Done}
+use Rattle.mt_operation.specs.declared.walk.Phase.TheVariants.{Enter, Search, Load, Confirm, Judge, SplitStart, SplitPrev, LockParent, InsertChild, InteriorSplit, Reparent, RootGrow, MakeLayer, Unlock, Done}
 use Rattle.mt_operation.specs.declared.outcome.Outcome.{Outcome}
 use Rattle.mt_operation.specs.Operations.{OperationView, is_done}
 use Rattle.mt_state.specs.Views.{StateView}
@@ -44,6 +44,7 @@ placed_after old op _ Done told m follows n e = refl
 placed_after old op Search Confirm told m follows n e = absurd (untold told replies.Absent _ m n.says refl e)
 placed_after old op Load Confirm told m follows (inl n) e = absurd (untold told _ n.number m n.says refl e)
 placed_after old op Load Confirm told m follows (inr n) e = absurd (unnoted told m n.none e)
+placed_after old op Unlock Enter told m follows n e = absurd (unnoted told m n.0 e)
 placed_after old op SplitPrev _ told m follows n e = absurd follows
 placed_after old op LockParent _ told m follows n e = absurd follows
 placed_after old op InsertChild _ told m follows n e = absurd follows
@@ -57,6 +58,7 @@ pub same_at_end : (old : StateView) (op : OperationView) (p : Phase) (told : Opt
 same_at_end old op Load told m n e = absurd (untold told replies.NoMemory _ m n refl e)
 same_at_end old op Judge told m n e = absurd (untold told replies.NoMemory _ m n refl e)
 same_at_end old op SplitStart told m n e = absurd (untold told replies.NoMemory _ m n refl e)
+same_at_end old op MakeLayer told m n e = absurd (untold told replies.NoMemory _ m n refl e)
 same_at_end old op SplitPrev told m n e = n
 same_at_end old op LockParent told m n e = n
 same_at_end old op InsertChild told m n e = n
@@ -76,5 +78,6 @@ same_when_placed old op InteriorSplit q told placed left follows n = n
 same_when_placed old op Reparent q told placed left follows n = n
 same_when_placed old op RootGrow q told placed left follows n = n
 same_when_placed old op Unlock Done told placed left follows n = n
+same_when_placed old op Unlock Enter told placed left follows n = n.0 ∙ sym n.1
 same_when_placed old op Unlock q told placed left follows n = absurd (follows)
 same_when_placed old op _ q told placed left follows n = absurd (cc)

@@ -1,10 +1,8 @@
 -- One get of a new state, step by step, each as it may be: for `a_get_of_a_new_state_is_told_of_no_row`.
-use Rattle.std.proofs.Common.{◌≡◌, ◌≢◌, ℕ, zero, suc, ◌+◌, inl, inr, ◌⊎◌, Bool, true, false, cond, eqb, [], ◌∷◌, Option, Some, None, refl, sym, ap, ◌∙◌, arith}
-use Rattle.std.specs.Option.{is_none, option_or}
+use Rattle.std.proofs.Common.{◌≡◌, ◌≢◌, ℕ, zero, suc, ◌+◌, inl, inr, ◌⊎◌, Bool, true, false, cond, eqb, [], ◌∷◌, Option, Some, None, is_some, refl, sym, ap, ◌∙◌, arith}
 use Rattle.std.proofs.lemmas.Bool.{ne_eqb}
 use Rattle.std.proofs.lemmas.Option.{same_Some}
 use Rattle.mt_rows.specs.declared.tenants.Account.{Account}
-use Rattle.mt_rows.specs.declared.refusal.Refusal.TheVariants.{NoTenant}
 use Rattle.mt_rows.specs.declared.reply.Reply.TheVariants.{Absent}
 use Rattle.mt_rows.specs.Accounts.{Accounts, account_of}
 use Rattle.mt_rows.specs.Maps.{reply_of}
@@ -22,7 +20,7 @@ use Rattle.mt_state.specs.Views.{StateView, op_at, quota_of}
 use Rattle.mt_state.specs.Steps.{HasMoved, change_in}
 use Rattle.mt_state.specs.Notes.{Notes}
 use Rattle.mt_state.specs.Promises.{IsAnswer, IsStep}
-use Rattle.mt_state.specs.Refused.{cause_of}
+use Rattle.mt_state.specs.Refused.{IsAdmissible}
 use Rattle.mt_state.specs.Begins.{new_state, begun, Begins, Takes}
 use Rattle.mt_state.specs.Histories.{Names, no_names, BringsTo}
 use Rattle.mt_state.specs.OneGet.{one_get}
@@ -108,8 +106,13 @@ module _ (logs : ℕ) (accounts : Accounts) where
       others zero ne = absurd (ne refl)
       others (suc q) ne = refl
 
-  uncaused : (a : Account) → account_of accounts 7 ≡ Some a → cause_of (new_state logs accounts) 7 get_k ≡ None
-  uncaused a there = ap (λ (w : Option Account). option_or (cond (is_none w) (Some NoTenant) None) None) there
+  -- nothing refuses it, where its tenant is there
+  admissible : (a : Account) → account_of accounts 7 ≡ Some a → IsAdmissible (new_state logs accounts) 7 get_k
+  admissible a there = record {
+    there = ap is_some there;
+    taken = record { key = omega arith; columns = record { below = λ i d within. absurd (omega (arith, within)); rising = λ i within. absurd (omega (arith, within)) }; short = tt; count = tt };
+    numbered = λ e. absurd (cc);
+  }
 
   step_1 : IsStep (reached 0 at_first) (reached 1 searching) 0 false
   step_1 = step 0 at_first searching false refl (record { asked = record { worker = refl; tenant = refl; command = refl }; first = refl; last = refl; follows = tt }) refl refl refl (λ e. absurd (cc))
@@ -134,7 +137,7 @@ module _ (logs : ℕ) (accounts : Accounts) where
   get_told a there = (
     alone (Some 0),
     reached 0 at_first,
-    (0, refl, record { here = refl; others = alone_other (Some 0) }, tt, begins_so, uncaused a there),
+    (0, refl, record { here = refl; others = alone_other (Some 0) }, tt, begins_so, admissible a there),
     (
       alone (Some 0),
       reached 1 searching,

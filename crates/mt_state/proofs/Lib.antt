@@ -12,7 +12,7 @@ pub mod Still
 pub mod Descents
 pub mod Reading
 pub mod Confirming
-pub mod OneTree
+pub mod LiveTrees
 pub mod Loading
 pub mod HistoryMaps
 pub mod HistoryStart
@@ -27,6 +27,8 @@ pub mod HistoryGet
 pub mod OneNode
 pub mod SplitSteps
 pub mod Locking
+pub mod LayerSteps
 pub mod Putting
 pub mod Parting
 pub mod Needs
+pub mod Apart

@@ -29,7 +29,7 @@ use Rattle.mt_arena.specs.Forests.{tree_at, layer_of}
 use Rattle.mt_arena.specs.Layers.{slot_at}
 use Rattle.mt_arena.specs.NodeView.{NodeView}
 use Rattle.mt_arena.specs.declared.tree.Standing.{Standing}
-use Rattle.mt_arena.specs.declared.tree.Standing.TheVariants.{Live}
+use Rattle.mt_arena.specs.declared.tree.Standing.TheVariants.{Made, Live}
 use Rattle.mt_arena.specs.Contents.{is_live}
 use Rattle.mt_arena.specs.Arena.{IsArena, content_of}
 use Rattle.mt_arena.specs.Accesses.{at, tree_of}
@@ -57,7 +57,7 @@ use Rattle.mt_state.specs.Ways.{ShowsTaken}
 use Rattle.mt_state.specs.Kept.{IsOfKind, IsOpenOperation, TellsTaken, IsAtLoad, IsAtConfirm, HasAnswer, IsKeptAt}
 use Rattle.mt_state.specs.Invariant.{IsStampOf, StateInvariant}
 use Rattle.mt_state.proofs.Replies.{get_asks}
-use Rattle.mt_state.proofs.OneTree.{slot_key}
+use Rattle.mt_state.proofs.LiveTrees.{slot_key}
 use Rattle.mt_state.proofs.Telling.{Gives}
 use Rattle.mt_state.proofs.Moved.{went, first_begun, first_upto}
 use Rattle.mt_state.proofs.Still.{IsFree, IsUnready, still, still_gives}
@@ -154,10 +154,14 @@ module _ (c : Core) (now : StateView) (o : ℕ) (is : shown c ≡ now) (h : Stat
     within : op.walk.place.node < length c.arena.nodes
     within = walks_load.at_border.covers.remembered.there
 
+    -- its tree was no operation's own when the get came to it
+    unmade : (q : ℕ) → (tree_of c.arena op.walk.place.node).standing ≢ Made q
+    unmade = subst (λ t. (q : ℕ) → (tree_at c.arena.trees t).standing ≢ Made q) (sym walks_load.at_border.covers.remembered.tree_is) walks_load.at_border.through.unmade
+
     -- a pair in the slot stands for a key
     stands : (pair : Pair) → op.walk.slot < length node.slots → pair_of (slot_at node op.walk.slot).held ≡ Some pair → (key : Bytes) × (layer : ℕ) × StandsFor c.arena.nodes c.arena.trees key layer op.walk.place.node op.walk.slot pair
     stands pair in_range held =
-        let s = slot_key c.arena arena h.one_tree op.walk.place.node within op.walk.slot pair in_range held in
+        let s = slot_key c.arena arena h.unremoved op.walk.place.node within unmade op.walk.slot pair in_range held in
         (s.0, layer_of (tree_of c.arena op.walk.place.node).prefix, s.1)
 
     -- where nobody made a step since the search, a pair in the slot is that of the get's own key

@@ -53,7 +53,6 @@ module _ (c : Core) (op : Operation) (k : IsOpenOperation c op) (w : Walk) where
   open_moved_with new told prepared s steps floor accounts upto writes kind = record {
     stored = k.stored;
     owner = k.owner;
-    short = k.short;
     columns = k.columns;
     tenant = accounts op.task.tenant k.tenant;
     writes = writes ∙ k.writes;

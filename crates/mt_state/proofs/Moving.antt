@@ -41,7 +41,7 @@ module _ (old new : Core) (o : ℕ) (before after : Operation) (h : StateInvaria
   ops_stay : (q : ℕ) (op : Operation) → operation_at new.table q ≡ Some op → IsKeptOf new q op
   ops_stay q op is = elim (was q op is) [
     | inl (same, it) ↦ subst (λ (w : Operation). IsKeptOf new q w) it (subst (λ k. IsKeptOf new k after) (sym same) m.kept)
-    | inr (other, there) ↦ rely.stays old new o q m.leaves other (omega (arith, m.number)) op (h.ops q op there)
+    | inr (other, there) ↦ rely.stays old new o q m.unremoved m.leaves other (omega (arith, m.number)) op (h.ops q op there)
   ]
 
   holders_stay : AreHolders new
@@ -73,6 +73,6 @@ module _ (old new : Core) (o : ℕ) (before after : Operation) (h : StateInvaria
     ops = ops_stay;
     reserved = reserved_stays;
     answered = answered_stays;
-    one_tree = m.one_tree;
+    unremoved = m.unremoved;
     few = omega (arith, m.number);
   }

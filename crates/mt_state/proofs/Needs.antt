@@ -1,13 +1,15 @@
--- What the calls of a put's phases ask, by the invariant: for `State::lock`, `judge`, `store`, `publish` and `unlock`.
-use Rattle.std.proofs.Common.{◌≡◌, ℕ, ◌+◌, ◌*◌, ◌<◌, ◌≤◌, Bool, true, false, not, List, [], length, Some, None, IsSome, is_some, refl, sym, ap, subst, ◌∙◌, arith}
+-- What the calls of a put's phases ask, by the invariant: for `State::lock`, `judge`, `store`, `publish` and `unlock`, and
+-- for those that make a layer.
+use Rattle.std.proofs.Common.{◌≡◌, ◌≢◌, ℕ, ◌+◌, ◌<◌, Bool, true, false, not, List, [], Option, Some, None, IsSome, is_some, refl, sym, ap, subst, ◌∙◌, arith}
 use Rattle.std.proofs.lemmas.Option.{same_Some}
 use Rattle.mt_version.specs.Changes.{CanUnlock}
 use Rattle.mt_rows.specs.Maps.{is_get}
 use Rattle.mt_tape.specs.Tapes.{last_write}
 use Rattle.mt_arena.specs.Accesses.{at}
 use Rattle.mt_operation.specs.declared.walk.Phase.{Phase}
-use Rattle.mt_operation.specs.declared.walk.Phase.TheVariants.{Enter, Pick, Child, Verify, Search, Load, Confirm, Forward, Lock, Judge, Store, Publish, Unlock, Done}
+use Rattle.mt_operation.specs.declared.walk.Phase.TheVariants.{Enter, Pick, Child, Verify, Search, Load, Confirm, Forward, Lock, Judge, Store, Publish, MakeLayer, MarkUnstable, Link, MarkLayer, Unlock, Done}
 use Rattle.mt_operation.specs.declared.walk.Walk.{Walk}
+use Rattle.mt_operation.specs.declared.outcome.Outcome.{Outcome}
 use Rattle.mt_operation.specs.declared.prepared.Prepared.{Prepared}
 use Rattle.mt_operation.specs.declared.splits.Halves.{Halves}
 use Rattle.mt_operation.specs.declared.splits.Splits.{Splits}
@@ -18,9 +20,11 @@ use Rattle.mt_operation.specs.Tables.{op_at as operation_at}
 use Rattle.mt_descent.specs.Kept.{IsAtBorder, KeptAt, HoldsNothing}
 use Rattle.mt_insert.specs.Puts.{IsPut}
 use Rattle.mt_insert.specs.Kept.{HoldsBorder, IsAtStore, IsAtPublish, IsAtUnlock}
+use Rattle.mt_layer.specs.Kept.{IsAtLeave, KeptLayer}
 use Rattle.mt_state.specs.Views.{Core, shown, past_of}
 use Rattle.mt_state.specs.Promises.{IsInTheWay, IsHeldByOther}
-use Rattle.mt_state.specs.Kept.{IsOfKind, IsOpenOperation, IsOnItsWay, IsJudging, IsStoring, IsPublishing, MayUnlock, IsUnlocking, IsKeptAt}
+use Rattle.mt_state.specs.Kept.{IsOfKind, IsOpenOperation, IsOnItsWay, IsJudging, IsStoring, IsPublishing, MayUnlock, IsUnlocking, IsLayering, IsLeaving, IsReturning, IsKeptAt}
+use Rattle.mt_state.specs.Writes.{IsLayerPhase}
 use Rattle.mt_state.specs.Invariant.{HoldsAt, StateInvariant, is_prepared}
 use Rattle.mt_state.proofs.Shown.{shown_there}
 use Rattle.mt_state.proofs.Locking.{may_unlock, room_for}
@@ -59,6 +63,18 @@ no_get false writes e f = refl
 holder_open : (p : Phase) (w : Walk) (s : Splits) (k : ℕ) → HoldsAt p w s k → is_done p ≡ false
 holder_open Done w s k holds = absurd holds
 holder_open _ w s k holds = refl
+
+-- one that was told something is not to leave a layer
+unlocking : (told : Option Outcome) → told ≢ None → (c : Core) (o : ℕ) (op : Operation) → IsReturning told c o op → IsUnlocking c o op
+unlocking None some c o op k = absurd (some refl)
+unlocking (Some told) some c o op k = k
+
+layering : (p : Phase) → IsLayerPhase p → (c : Core) (o : ℕ) (op : Operation) → IsKeptAt p c o op → IsLayering c o op p
+layering MakeLayer makes c o op k = k
+layering MarkUnstable makes c o op k = k
+layering Link makes c o op k = k
+layering MarkLayer makes c o op k = k
+layering _ makes c o op k = absurd makes
 
 module _ (c : Core) (o : ℕ) (h : StateInvariant c) (op : Operation) (there : operation_at c.table o ≡ Some op) where
   always : IsOpenOperation c op
@@ -104,10 +120,6 @@ module _ (c : Core) (o : ℕ) (h : StateInvariant c) (op : Operation) (there : o
   pub judge_kept : op.walk.phase ≡ Judge → HoldsBorder c.arena o op.task.key op.walk
   judge_kept at_judge = let k : IsJudging c o op = subst (λ (p : Phase). IsKeptAt p c o op) at_judge (h.ops o op there).kept in k.judges
 
-  -- in whose layer its key ends
-  pub judge_ends : length op.task.key ≤ 8 * (op.walk.layer + 1)
-  judge_ends = let short = always.short in omega (arith, short)
-
   -- what it has made ready is the put over its key's row
   pub store_kept : op.walk.phase ≡ Store → (prepared : Prepared) → op.prepared ≡ Some prepared → IsAtStore c.arena o op.task prepared op.walk
   store_kept at_store prepared has =
@@ -131,11 +143,23 @@ module _ (c : Core) (o : ℕ) (h : StateInvariant c) (op : Operation) (there : o
   pub write_room : (p : Phase) → op.walk.phase ≡ p → is_prepared p ≡ true → 0 < c.tape.reserved
   write_room p at_p ready = room_for c h o op p there at_p ready
 
-  -- it may give its lock back, where it has split nothing
-  pub unlock_kept : op.walk.phase ≡ Unlock → op.splits.halves.items ≡ [] → IsAtUnlock c.arena o op.walk
-  unlock_kept at_unlock none =
-      let k : IsUnlocking c o op = subst (λ (p : Phase). IsKeptAt p c o op) at_unlock (h.ops o op there).kept in
-      (subst (λ (halves : List Halves). MayUnlock halves c.arena o op) none k.unlocks).0
+  returning : op.walk.phase ≡ Unlock → IsReturning op.outcome c o op
+  returning at_unlock = subst (λ (p : Phase). IsKeptAt p c o op) at_unlock (h.ops o op there).kept
 
-  pub unlock_room : op.walk.phase ≡ Unlock → op.splits.halves.items ≡ [] → CanUnlock (at c.arena op.walk.place.node).version
-  unlock_room at_unlock none = may_unlock c h op.walk.place.node (unlock_kept at_unlock none).held.there
+  -- where it was told something it may give its lock back, where it has split nothing
+  pub unlock_kept : op.walk.phase ≡ Unlock → op.outcome ≢ None → op.splits.halves.items ≡ [] → IsAtUnlock c.arena o op.walk
+  unlock_kept at_unlock told none = (subst (λ (halves : List Halves). MayUnlock halves c.arena o op) none (unlocking op.outcome told c o op (returning at_unlock)).unlocks).0
+
+  pub unlock_room : op.walk.phase ≡ Unlock → op.outcome ≢ None → op.splits.halves.items ≡ [] → CanUnlock (at c.arena op.walk.place.node).version
+  unlock_room at_unlock told none = may_unlock c h op.walk.place.node (unlock_kept at_unlock told none).held.there
+
+  -- what is kept of one that makes a layer
+  pub layer_kept : (p : Phase) → op.walk.phase ≡ p → IsLayerPhase p → KeptLayer p c.arena o op.task.key op.walk
+  layer_kept p at_p makes = (layering p makes c o op (subst (λ (q : Phase). IsKeptAt q c o op) at_p (h.ops o op there).kept)).makes
+
+  -- where it was told nothing it has made one, and may give its lock back
+  pub leave_kept : op.walk.phase ≡ Unlock → op.outcome ≡ None → IsAtLeave c.arena o op.task.key op.walk
+  leave_kept at_unlock untold = let k : IsLeaving c o op = subst (λ (told : Option Outcome). IsReturning told c o op) untold (returning at_unlock) in k.layering.makes
+
+  pub leave_room : op.walk.phase ≡ Unlock → op.outcome ≡ None → CanUnlock (at c.arena op.walk.place.node).version
+  leave_room at_unlock untold = may_unlock c h op.walk.place.node (leave_kept at_unlock untold).unlock.held.there

@@ -1,5 +1,5 @@
 -- A node that is replaced in an arena, and a step of the operation that holds it which changes no pair: for the phases of a put.
-use Rattle.std.proofs.Common.{◌≡◌, ◌≢◌, ℕ, ◌+◌, ◌<◌, ◌≤◌, ◌⊎◌, inl, inr, Bool, true, false, cond, List, length, set, Option, Some, refl, sym, ap, subst, ◌∙◌, arith}
+use Rattle.std.proofs.Common.{◌≡◌, ◌≢◌, ℕ, ◌+◌, ◌<◌, ◌≤◌, ◌⊎◌, inl, inr, Bool, true, false, cond, List, length, set, Option, Some, None, refl, sym, ap, subst, ◌∙◌, arith}
 use Rattle.std.specs.Prelude.{◌^◌}
 use Rattle.std.proofs.lemmas.Bool.{cases_eq}
 use Rattle.std.proofs.lemmas.Option.{same_Some}
@@ -11,6 +11,8 @@ use Rattle.mt_rows.specs.Accounts.{Accounts}
 use Rattle.mt_tape.specs.Tapes.{Kept}
 use Rattle.mt_tape.specs.Histories.{contents_at}
 use Rattle.mt_arena.specs.declared.tree.Tree.{Tree}
+use Rattle.mt_arena.specs.declared.tree.Standing.{Standing}
+use Rattle.mt_arena.specs.declared.tree.Standing.TheVariants.{Made, Live, Dead}
 use Rattle.mt_arena.specs.NodeView.{NodeView, node_at}
 use Rattle.mt_arena.specs.Forests.{tree_at}
 use Rattle.mt_arena.specs.Contents.{counts, is_live}
@@ -29,8 +31,8 @@ use Rattle.mt_state.specs.Views.{StateView, Core, shown, KeepsPast}
 use Rattle.mt_state.specs.Steps.{MayFollow, change_in}
 use Rattle.mt_state.specs.Notes.{Notes}
 use Rattle.mt_state.specs.Promises.{Touches}
-use Rattle.mt_state.specs.Kept.{IsOfKind, IsKeptAt, has_splits, IsKeptOf}
-use Rattle.mt_state.specs.Invariant.{IsCountedUpTo, IsOneTree, HoldsAt, StateInvariant, one_if_prepared}
+use Rattle.mt_state.specs.Kept.{IsOfKind, IsUnlocking, IsReturning, IsKeptAt, has_splits, IsKeptOf}
+use Rattle.mt_state.specs.Invariant.{IsCountedUpTo, IsUnremoved, HoldsAt, StateInvariant, one_if_prepared}
 use Rattle.mt_state.specs.Writes.{HasPairsOf}
 use Rattle.mt_state.proofs.Quiet.{quiet, LeavesPairs, quiet_move, is_quiet}
 use Rattle.mt_state.proofs.Telling.{Gives, gives}
@@ -72,6 +74,30 @@ pub same_counts : (trees : List Tree) (m n : NodeView) → m.version.deleted ≡
 same_counts trees m n deleted tree =
     ap (λ d. cond d false (is_live (tree_at trees m.tree).standing)) deleted ∙ ap (λ t. cond n.version.deleted false (is_live (tree_at trees t).standing)) tree
 
+-- and where it counts its tree is live
+pub counted_live : (trees : List Tree) (n : NodeView) → counts trees n ≡ true → (tree_at trees n.tree).standing ≡ Live
+counted_live trees n = by_parts n.version.deleted (tree_at trees n.tree).standing
+  where
+    by_parts : (deleted : Bool) (standing : Standing) → cond deleted false (is_live standing) ≡ true → standing ≡ Live
+    by_parts true standing e = absurd (cc)
+    by_parts false (Made by) e = absurd (cc)
+    by_parts false Live e = refl
+    by_parts false Dead e = absurd (cc)
+
+-- no tree is dead where the trees are those of an arena without dead ones
+pub same_alive : (v w : ArenaView) → w.trees ≡ v.trees → IsUnremoved v → (t : ℕ) → t < length w.trees → (tree_at w.trees t).standing ≢ Dead
+same_alive v w same one = subst (λ (trees : List Tree). (t : ℕ) → t < length trees → (tree_at trees t).standing ≢ Dead) (sym same) one.alive
+
+-- what is kept of an operation that was placed is kept of it by its outcome, which is there
+pub returning_by : (told : Option Outcome) (outcome : Outcome) → told ≡ Some outcome → (c : Core) (o : ℕ) (op : Operation) → IsUnlocking c o op → IsReturning told c o op
+returning_by None outcome is c o op unlocks = absurd (cc)
+returning_by (Some other) outcome is c o op unlocks = unlocks
+
+-- and by an outcome that is there it is one that was placed
+pub returning_told : (told : Option Outcome) → told ≢ None → (c : Core) (o : ℕ) (op : Operation) → IsReturning told c o op → IsUnlocking c o op
+returning_told None some c o op returns = absurd (some refl)
+returning_told (Some outcome) some c o op returns = returns
+
 -- one node of many is another
 module _ (v : ArenaView) (k : ℕ) (within : k < length v.nodes) (n : NodeView) where
   -- each node is the one that was put in, or the one that it was
@@ -99,13 +125,11 @@ module _ (v : ArenaView) (k : ℕ) (within : k < length v.nodes) (n : NodeView) 
     | inr other ↦ inr (r.0, ap (λ (m : NodeView). m.holder) (sym other.1) ∙ holds)
   ]
 
-  -- the tree is the one live tree, and each node is live
-  pub replaced_tree : IsOneTree v → n.version.deleted ≡ false → IsOneTree (with_node v k n)
+  -- each node is live, and no tree is dead
+  pub replaced_tree : IsUnremoved v → n.version.deleted ≡ false → IsUnremoved (with_node v k n)
   replaced_tree one live = record {
-    count = one.count;
-    prefix = one.prefix;
-    standing = one.standing;
     live = replaced_all (λ (m : NodeView). m.version.deleted ≡ false) live one.live;
+    alive = one.alive;
   }
 
   -- whoever held it touches nothing else
@@ -137,7 +161,7 @@ module _ (c : Core) (o : ℕ) (h : StateInvariant c) (k : ℕ) (within : k < len
     contents = contents;
     stood = λ j inside is_counted. inl (stood j inside is_counted);
     versions = replaced_versions counted;
-    one_tree = replaced_tree c.arena k within n h.one_tree (deleted ∙ h.one_tree.live k within);
+    unremoved = replaced_tree c.arena k within n h.unremoved (deleted ∙ h.unremoved.live k within);
   }
     where
       stood : (j : ℕ) → j < length (with_node c.arena k n).nodes → counts c.arena.trees (at (with_node c.arena k n) j) ≡ true → HasPairsOf c.arena (with_node c.arena k n) j

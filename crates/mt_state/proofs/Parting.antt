@@ -48,14 +48,14 @@ use Rattle.mt_state.specs.Steps.{MayFollow, told_change}
 use Rattle.mt_state.specs.Notes.{IsJudged, Notes}
 use Rattle.mt_state.specs.Promises.{Touches}
 use Rattle.mt_state.specs.Kept.{IsOfKind, IsOpenOperation, IsSplitMoving, HasAnswer, IsKeptAt, IsPlacedOnce, IsKeptOf}
-use Rattle.mt_state.specs.Invariant.{IsStampOf, IsCountedUpTo, IsOneTree, StateInvariant}
+use Rattle.mt_state.specs.Invariant.{IsStampOf, IsCountedUpTo, IsUnremoved, StateInvariant}
 use Rattle.mt_state.specs.Moves.{IsMove}
 use Rattle.mt_state.specs.Writes.{PartsKeys, PartsWith, PartsWithout, splitting}
 use Rattle.mt_state.proofs.Replies.{put_full, put_new}
 use Rattle.mt_state.proofs.Telling.{Gives, gives, map_now}
 use Rattle.mt_state.proofs.Moved.{went_with, first_begun, first_upto, open_moved_with, has_moved}
 use Rattle.mt_state.proofs.Still.{floor_made, unready_none}
-use Rattle.mt_state.proofs.OneNode.{same_counts, quiet_grows}
+use Rattle.mt_state.proofs.OneNode.{same_counts, same_alive, quiet_grows}
 use Rattle.mt_state.proofs.Locking.{ready_one, room_for, no_room_left}
 use Rattle.mt_state.proofs.Placing.{Counts, next_write, placed, PlacesPair, untouched_beside, untouched_now, placed_move, placed_right, is_placing, placed_once}
 use Rattle.mt_state.proofs.Putting.{stamped_apart, room_left, beside_missing, counted_new}
@@ -139,12 +139,10 @@ module _ (c : Core) (o : ℕ) (h : StateInvariant c) (few : c.steps < 2 ^ 59) (o
       let same = (like k).version in
       record { inserts = omega (arith, was.inserts, ap (λ v. v.inserts) same); splits = omega (arith, was.splits, ap (λ v. v.splits) same) }
 
-  parted_tree : IsOneTree arena
+  parted_tree : IsUnremoved arena
   parted_tree = record {
-    count = ap (λ (t : List Tree). length t) trees ∙ h.one_tree.count;
-    prefix = ap (λ (t : List Tree). (tree_at t 0).prefix) trees ∙ h.one_tree.prefix;
-    standing = ap (λ (t : List Tree). (tree_at t 0).standing) trees ∙ h.one_tree.standing;
-    live = λ k inside. ap (λ v. v.deleted) (like k).version ∙ h.one_tree.live k (omega (arith, inside, size));
+    live = λ k inside. ap (λ v. v.deleted) (like k).version ∙ h.unremoved.live k (omega (arith, inside, size));
+    alive = same_alive c.arena arena trees h.unremoved;
   }
 
   parted_touches : Touches o c.arena arena
@@ -281,7 +279,7 @@ module _ (c : Core) (o : ℕ) (h : StateInvariant c) (few : c.steps < 2 ^ 59) (o
       counts = λ t a e. subst (λ (every : Contents). (a.count ≡ len (tenant_map t every)) × (a.count ≤ a.quota)) (sym without) (h.counts t a e);
       kept = kept_full;
       reserved = let one = ready_one op SplitMove at_move refl in let no = unready_none after_full w.phase refl (halves_unready w.phase leads) in let room = room_for c h o op SplitMove at_op at_move refl in omega (arith, one, no, room);
-      one_tree = parted_tree;
+      unremoved = parted_tree;
     }
 
     parted_full : Gives (shown c) new_full o false
@@ -334,9 +332,9 @@ module _ (c : Core) (o : ℕ) (h : StateInvariant c) (few : c.steps < 2 ^ 59) (o
       contents = contents;
       stamps = parted_stamps Q whole_new
           (λ k inside counts. stamped_apart P Q (tree_of c.arena k).prefix (owned op.task.key) (at c.arena k).slots (untouched_beside c op h put)
-          (beside_missing c (shown c) o refl h few op at_op put arena_is p.missing k inside) (h.stamps k inside counts));
+          (beside_missing c (shown c) o refl h few op at_op put arena_is p.missing k inside counts) (h.stamps k inside counts));
       versions = parted_versions;
-      one_tree = parted_tree;
+      unremoved = parted_tree;
       counts = counted;
     }
 

@@ -31,7 +31,7 @@ use Rattle.mt_state.specs.Views.{Core, shown, map_of, quota_of, quota_in, KeepsP
 use Rattle.mt_state.specs.Notes.{key_asked}
 use Rattle.mt_state.specs.Promises.{IsPlacing, IsAnswer}
 use Rattle.mt_state.specs.Kept.{IsKeptOf, IsPlacedOnce}
-use Rattle.mt_state.specs.Invariant.{IsStampOf, IsTape, AreStamps, IsCountedUpTo, HoldsAt, IsOneTree, StateInvariant, StateGuarantee, one_if_prepared}
+use Rattle.mt_state.specs.Invariant.{IsStampOf, IsTape, AreStamps, IsCountedUpTo, HoldsAt, IsUnremoved, StateInvariant, StateGuarantee, one_if_prepared}
 use Rattle.mt_state.specs.Moves.{IsMove}
 use Rattle.mt_state.proofs.Telling.{map_now}
 
@@ -63,7 +63,7 @@ pub record PlacesPair (c : Core) (o : ℕ) (before after : Operation) (arena : A
   pub contents : content_of arena ≡ with_write (content_of c.arena) (next_write c before)
   pub stamps : AreStamps (placed c arena accounts o before after)
   pub versions : (k : ℕ) → k < length arena.nodes → IsCountedUpTo (c.steps + 1) (at arena k)
-  pub one_tree : IsOneTree arena
+  pub unremoved : IsUnremoved arena
   pub counts : Counts c accounts (content_of arena)
 
 -- what it brings of its own operation
@@ -157,7 +157,7 @@ module _ (c : Core) (o : ℕ) (before after : Operation) (arena : ArenaView) (ac
     counts = p.counts.counted;
     kept = own.kept;
     reserved = own.reserved;
-    one_tree = p.one_tree;
+    unremoved = p.unremoved;
   }
 
   -- the tenant's map just before the step

@@ -65,9 +65,8 @@ use Rattle.mt_state.proofs.Placing.{Counts, next_write, placed, PlacesPair, unto
 use Rattle.mt_state.proofs.Moved.{went, first_begun, first_upto, open_moved, has_moved}
 use Rattle.mt_state.proofs.Still.{floor_made, unready_none}
 use Rattle.mt_state.proofs.Reading.{key_of_owner, walk_same}
-use Rattle.mt_state.proofs.OneTree.{slot_key}
 use Rattle.mt_state.proofs.Loading.{row_of}
-use Rattle.mt_state.proofs.OneNode.{stepped, replaced_at, replaced_holds, replaced_tree, replaced_versions, replaced_touches, few_steps, holds_here}
+use Rattle.mt_state.proofs.OneNode.{stepped, counted_live, replaced_at, replaced_holds, replaced_tree, replaced_versions, replaced_touches, few_steps, holds_here}
 use Rattle.mt_state.proofs.Locking.{ready_one, room_for}
 
 -- one pair more leaves the quota, and the account there
@@ -126,22 +125,24 @@ module _ (c : Core) (now : StateView) (o : ℕ) (is : shown c ≡ now) (h : Stat
   key = owned op.task.key
 
   module _ (arena_is : IsArena c.arena.nodes c.arena.trees) where
-    -- where no pair of a node stands for the put's key, its entries are apart from it
-    pub apart_in : (l : ℕ) → l < length c.arena.nodes → ((q : Bytes) (layer i : ℕ) (pair : Pair) → StandsFor c.arena.nodes c.arena.trees q layer l i pair → owned q ≢ key) → All (IsApart (tree_of c.arena l).prefix key) (at c.arena l).slots
-    apart_in l inside never = All-from_get_or (IsApart (tree_of c.arena l).prefix key) (at c.arena l).slots any_entry (λ i within pair held same.
-        let s = slot_key c.arena arena_is h.one_tree l inside i pair within held in
-        never s.0 (layer_of (tree_of c.arena l).prefix) i pair s.1 (sym (owned_at (tree_of c.arena l).prefix (layer_of (tree_of c.arena l).prefix) (slot_at (at c.arena l) i) s.0 pair s.1.has held) ∙ same))
+    -- where no pair of a node that counts stands for the put's key, its entries are apart from it
+    pub apart_in : (l : ℕ) → l < length c.arena.nodes → counts c.arena.trees (at c.arena l) ≡ true → ((q : Bytes) (layer i : ℕ) (pair : Pair) → StandsFor c.arena.nodes c.arena.trees q layer l i pair → owned q ≢ key) → All (IsApart (tree_of c.arena l).prefix key) (at c.arena l).slots
+    apart_in l inside counted never = All-from_get_or (IsApart (tree_of c.arena l).prefix key) (at c.arena l).slots any_entry (λ i within pair held same.
+        let own = (keys_of c.arena.nodes c.arena.trees l inside arena_is.forest).keys i any_entry within in
+        let stands : StandsFor c.arena.nodes c.arena.trees own.0 (layer_of (tree_of c.arena l).prefix) l i pair =
+        record { there = inside; live = h.unremoved.live l inside; tree_live = counted_live c.arena.trees (at c.arena l) counted; in_range = within; has = own.1; pair_is = held } in
+        never own.0 (layer_of (tree_of c.arena l).prefix) i pair stands (sym (owned_at (tree_of c.arena l).prefix (layer_of (tree_of c.arena l).prefix) (slot_at (at c.arena l) i) own.0 pair own.1 held) ∙ same))
 
     -- no other node has the pair of a key that stands in a slot
-    pub beside_stored : (slot : ℕ) (pair : Pair) → StandsFor c.arena.nodes c.arena.trees op.task.key (layer_of (tree_of c.arena k).prefix) k slot pair → (l : ℕ) → l < length c.arena.nodes → l ≢ k → All (IsApart (tree_of c.arena l).prefix key) (at c.arena l).slots
-    beside_stored slot pair here l inside differ = apart_in l inside (λ q layer i other also same.
+    pub beside_stored : (slot : ℕ) (pair : Pair) → StandsFor c.arena.nodes c.arena.trees op.task.key (layer_of (tree_of c.arena k).prefix) k slot pair → (l : ℕ) → l < length c.arena.nodes → l ≢ k → counts c.arena.trees (at c.arena l) ≡ true → All (IsApart (tree_of c.arena l).prefix key) (at c.arena l).slots
+    beside_stored slot pair here l inside differ counted = apart_in l inside counted (λ q layer i other also same.
         let one : q ≡ op.task.key = key_of_owner q op.task.tenant (key_of (ask op.task)) also.has.of_tree.stored (same ∙ put.owner) ∙ sym (key_of_owner op.task.key op.task.tenant (key_of (ask op.task)) always.stored put.owner) in
         differ (sym (stands_once c.arena.nodes c.arena.trees arena_is (homes.begun c.arena.nodes c.arena.trees arena_is.forest) op.task.key (layer_of (tree_of c.arena k).prefix) k slot pair layer l i other here
         (subst (λ x. StandsFor c.arena.nodes c.arena.trees x layer l i other) one also)).0))
 
     -- nor of one that the contents miss
-    pub beside_missing : get (content_of c.arena) key ≡ None → (l : ℕ) → l < length c.arena.nodes → All (IsApart (tree_of c.arena l).prefix key) (at c.arena l).slots
-    beside_missing missing l inside = apart_in l inside (λ q layer i other also same. none-some other.row (sym missing ∙ ap (get (content_of c.arena)) (sym same) ∙ row_of c h arena_is q layer l i other also))
+    pub beside_missing : get (content_of c.arena) key ≡ None → (l : ℕ) → l < length c.arena.nodes → counts c.arena.trees (at c.arena l) ≡ true → All (IsApart (tree_of c.arena l).prefix key) (at c.arena l).slots
+    beside_missing missing l inside counted = apart_in l inside counted (λ q layer i other also same. none-some other.row (sym missing ∙ ap (get (content_of c.arena)) (sym same) ∙ row_of c h arena_is q layer l i other also))
 
   -- how many pairs each tenant has once the put's row is inserted at its key
   more_at : (all : Contents) (row : Columns) → all ≡ insert (content_of c.arena) (op.task.tenant, key_of (ask op.task)) row → (t : ℕ) → len (tenant_map t all) ≡ len (tenant_map t (insert (content_of c.arena) (op.task.tenant, key_of (ask op.task)) row))
@@ -209,7 +210,7 @@ module _ (c : Core) (now : StateView) (o : ℕ) (is : shown c ≡ now) (h : Stat
     abbrev the_row : Columns
     the_row = row_over op.task (get (content_of c.arena) key)
 
-    module _ (within : k < length c.arena.nodes) (beside : (l : ℕ) → l < length c.arena.nodes → l ≢ k → All (IsApart (tree_of c.arena l).prefix key) (at c.arena l).slots) (guarantee : Guarantee o c.arena the_arena)
+    module _ (within : k < length c.arena.nodes) (beside : (l : ℕ) → l < length c.arena.nodes → l ≢ k → counts c.arena.trees (at c.arena l) ≡ true → All (IsApart (tree_of c.arena l).prefix key) (at c.arena l).slots) (guarantee : Guarantee o c.arena the_arena)
         (contents : content_of the_arena ≡ insert (content_of c.arena) (op.task.tenant, key_of (ask op.task)) the_row) (counted : Counts c accounts (content_of the_arena))
         (stamps : AllStamped (IsStampOf c.steps c.tape) (tree_of c.arena k).prefix n.slots → AllStamped (IsStampOf (c.steps + 1) (pushed c.tape (next_write c op))) (tree_of c.arena k).prefix slots) where
       places_pair : PlacesPair c o op the_after the_arena accounts
@@ -225,10 +226,10 @@ module _ (c : Core) (now : StateView) (o : ℕ) (is : shown c ≡ now) (h : Stat
                   let counted_there : counts c.arena.trees (at c.arena j) ≡ true = ap (counts c.arena.trees) (sym other.1) ∙ is_counted in
                   subst (λ (m : NodeView). AllStamped (IsStampOf (c.steps + 1) (pushed c.tape (next_write c op))) (tree_at c.arena.trees m.tree).prefix m.slots) (sym other.1)
                   (stamped_apart (IsStampOf c.steps c.tape) (IsStampOf (c.steps + 1) (pushed c.tape (next_write c op))) (tree_of c.arena j).prefix key (at c.arena j).slots
-                  (untouched_beside c op h put) (beside j r.0 other.0) (h.stamps j r.0 counted_there))
+                  (untouched_beside c op h put) (beside j r.0 other.0 counted_there) (h.stamps j r.0 counted_there))
             ];
         versions = replaced_versions c o h k within y (let was = h.versions k within in record { inserts = omega (arith, was.inserts); splits = omega (arith, was.splits) });
-        one_tree = replaced_tree c.arena k within y h.one_tree (h.one_tree.live k within);
+        unremoved = replaced_tree c.arena k within y h.unremoved (h.unremoved.live k within);
         counts = counted;
       }
 
@@ -367,6 +368,6 @@ module _ (c : Core) (now : StateView) (o : ℕ) (is : shown c ≡ now) (h : Stat
         (keys_here arena_is s.holds) may.has s.missing refl (untouched_beside c op h put) (untouched_now c op h put) in
         subst (λ (v : ArenaView). Gives now (stepped c v tape accounts o after) o false) (sym takes)
         (subst (λ (t : Kept). Gives now (stepped c (with_node c.arena k (with_slots n slots)) t accounts o after) o false) (sym places.tape)
-        (placed_gives slots accounts w New j.held.there (λ l inside differ. beside_missing arena_is missing l inside) (subst (Guarantee o c.arena) takes guarantee) contents
+        (placed_gives slots accounts w New j.held.there (λ l inside differ counted. beside_missing arena_is missing l inside counted) (subst (Guarantee o c.arena) takes guarantee) contents
         (counted_new accounts (content_of (with_node c.arena k (with_slots n slots))) (row_over op.task (get (content_of c.arena) key)) contents missing has_room more others) stamps
         refl replies.0 makes Publish at_publish refl refl refl (λ i one. one) (λ e. cc) tt publishes_on (inl refl) goes same j.held.holder (subst (λ (v : ArenaView). IsAtUnlock v o w) takes unlocks)))

@@ -17,7 +17,7 @@ use Rattle.mt_state.specs.Views.{Core, shown, KeepsPast}
 use Rattle.mt_state.specs.Steps.{change_in}
 use Rattle.mt_state.specs.Promises.{IsQuiet}
 use Rattle.mt_state.specs.Kept.{IsKeptOf}
-use Rattle.mt_state.specs.Invariant.{IsTape, AreStamps, IsStampOf, IsCountedUpTo, HoldsAt, IsOneTree, StateInvariant, StateGuarantee, one_if_prepared}
+use Rattle.mt_state.specs.Invariant.{IsTape, AreStamps, IsStampOf, IsCountedUpTo, HoldsAt, IsUnremoved, StateInvariant, StateGuarantee, one_if_prepared}
 use Rattle.mt_state.specs.Moves.{IsMove}
 use Rattle.mt_state.specs.Writes.{HasPairsOf}
 
@@ -39,7 +39,7 @@ pub record LeavesPairs (c : Core) (o : ℕ) (arena : ArenaView) : Type 0 where
   pub contents : content_of arena ≡ content_of c.arena
   pub stood : (k : ℕ) → k < length arena.nodes → counts arena.trees (at arena k) ≡ true → HasPairsOf c.arena arena k ⊎ ((at arena k).slots ≡ [])
   pub versions : (k : ℕ) → k < length arena.nodes → IsCountedUpTo (c.steps + 1) (at arena k)
-  pub one_tree : IsOneTree arena
+  pub unremoved : IsUnremoved arena
 
 -- what it brings of its own operation
 pub record IsOwn (c new : Core) (o : ℕ) (before after : Operation) : Type 0 where
@@ -102,7 +102,7 @@ module _ (c : Core) (o : ℕ) (before after : Operation) (arena : ArenaView) (re
     counts = λ t a is. subst (λ (all : Contents). (a.count ≡ len (tenant_map t all)) × (a.count ≤ a.quota)) (sym leaves.contents) (h.counts t a is);
     kept = own.kept;
     reserved = own.reserved;
-    one_tree = leaves.one_tree;
+    unremoved = leaves.unremoved;
   }
 
   pub is_quiet : change_in (view_of after) ≡ change_in (view_of before) → IsQuiet (shown c) (shown (quiet c arena reserved o after)) (view_of before) (view_of after)

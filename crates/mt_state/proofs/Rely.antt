@@ -1,16 +1,22 @@
 -- Rely and guarantee: what is kept of an operation stays under each step of another one, by what that step leaves to others alone.
-use Rattle.std.proofs.Common.{◌≡◌, ◌≢◌, ℕ, ◌-◌, ◌<◌, ◌≤◌, inl, inr, List, [], ◌∷◌, length, Option, None, Some, sym, ap, subst, ◌∙◌, arith}
+use Rattle.std.proofs.Common.{◌≡◌, ◌≢◌, ℕ, ◌-◌, ◌<◌, ◌≤◌, inl, inr, List, [], ◌∷◌, length, Option, None, Some, refl, sym, ap, subst, ◌∙◌, arith}
 use Rattle.std.proofs.lemmas.Bool.{cases_lt}
 use Rattle.mt_rows.specs.declared.command.Command.{Command}
 use Rattle.mt_rows.specs.declared.reply.Reply.{Reply}
 use Rattle.mt_rows.specs.Rows.{Columns}
 use Rattle.mt_rows.specs.Maps.{reply_of}
 use Rattle.mt_arena.specs.Arena.{ArenaView, Guarantee}
-use Rattle.mt_arena.specs.Accesses.{at}
+use Rattle.mt_arena.specs.Accesses.{at, tree_of}
+use Rattle.mt_arena.specs.Layering.{IsHeldSlot}
+use Rattle.mt_arena.specs.declared.tree.Standing.TheVariants.{Dead}
+use Rattle.mt_arena.proofs.Links.{live_there}
+use Rattle.mt_border.specs.declared.entry.Held.{Held}
+use Rattle.mt_border.specs.declared.entry.Held.TheVariants.{Stable, Unstable}
 use Rattle.mt_operation.specs.declared.outcome.Outcome.{Outcome}
 use Rattle.mt_operation.specs.declared.operation.Operation.{Operation}
 use Rattle.mt_operation.specs.declared.walk.Phase.{Phase}
-use Rattle.mt_operation.specs.declared.walk.Phase.TheVariants.{Enter, Pick, Child, Verify, Search, Load, Confirm, Forward, Lock, Judge, Store, Publish, SplitStart, SplitMove, SplitPrev, LockParent, InsertChild, InteriorSplit, Reparent, RootGrow, Unlock, Done}
+use Rattle.mt_operation.specs.declared.walk.Phase.TheVariants as phases
+use Rattle.mt_operation.specs.declared.walk.Phase.TheVariants.{Enter, Pick, Child, Verify, Search, Load, Confirm, Forward, Lock, Judge, Store, Publish, SplitStart, SplitMove, SplitPrev, LockParent, InsertChild, InteriorSplit, Reparent, RootGrow, MakeLayer, MarkUnstable, MarkLayer, Unlock, Done}
 use Rattle.mt_operation.specs.declared.splits.Halves.{Halves}
 use Rattle.mt_operation.specs.Operations.{OperationView, view_of}
 use Rattle.mt_descent.specs.Pasts.{ExtendsPast}
@@ -18,10 +24,12 @@ use Rattle.mt_descent.specs.Kept.{IsKept}
 use Rattle.mt_descent.proofs.Rely as descent
 use Rattle.mt_insert.proofs.Rely as insert
 use Rattle.mt_insert.proofs.SplitRely as splits
+use Rattle.mt_layer.specs.Kept.{KeptLayer}
+use Rattle.mt_layer.proofs.Rely as layers
 use Rattle.mt_state.specs.Views.{StateView, Core, shown, past_of, map_of, quota_of, KeepsPast, IsPlaced}
 use Rattle.mt_state.specs.Promises.{IsAnswer}
-use Rattle.mt_state.specs.Kept.{IsOpenOperation, IsOnItsWay, HasAnswer, MayUnlock, IsClimbing, IsKeptAt, IsPlacedOnce, IsKeptOf}
-use Rattle.mt_state.specs.Invariant.{StateGuarantee}
+use Rattle.mt_state.specs.Kept.{IsOpenOperation, IsOnItsWay, HasAnswer, MayUnlock, IsClimbing, IsLayering, IsReturning, IsKeptAt, IsPlacedOnce, IsKeptOf}
+use Rattle.mt_state.specs.Invariant.{IsUnremoved, StateGuarantee}
 
 -- what is placed stays so
 pub placed_stays : (old new : StateView) → KeepsPast old new → (t : ℕ) (c : Command) (at : ℕ) (reply : Reply) → at ≤ old.steps → IsPlaced old t c at reply → IsPlaced new t c at reply
@@ -50,7 +58,7 @@ holder_was op q k old new g within holds other = elim (cases_lt k (length old.no
 ]
 
 -- one operation, and a step of another one
-module _ (old new : Core) (o q : ℕ) (g : StateGuarantee old new o) (other : q ≢ o) (later : old.steps < new.steps) (op : Operation) where
+module _ (old new : Core) (o q : ℕ) (unremoved : IsUnremoved new.arena) (g : StateGuarantee old new o) (other : q ≢ o) (later : old.steps < new.steps) (op : Operation) where
   past_stays : ExtendsPast op.walk.first (past_of old) (past_of new)
   past_stays = record { steps = g.past.steps; same = λ n from upto. g.past.same n (omega arith) upto }
 
@@ -76,6 +84,38 @@ module _ (old new : Core) (o q : ℕ) (g : StateGuarantee old new o) (other : q 
   unlocks_stay : (halves : List Halves) → MayUnlock halves old.arena q op → MayUnlock halves new.arena q op
   unlocks_stay [] h = (insert.unlock o q old.arena new.arena g.arena other op.walk h.0, h.1)
   unlocks_stay (x ∷ halves) h = splits.split o q old.arena new.arena g.arena other Unlock op.splits h
+
+  -- the tree of a node that is there is not dead
+  node_alive : (k t : ℕ) → k < length old.arena.nodes → (at old.arena k).tree ≡ t → t < length old.arena.trees → (tree_of new.arena k).standing ≢ Dead
+  node_alive k t within is there =
+      let same : (at new.arena k).tree ≡ t = (g.arena.nodes.nodes k within).tree ∙ is in
+      unremoved.alive (at new.arena k).tree (omega (arith, same, there, g.arena.nodes.tree_count))
+
+  slot_alive : (what : Held) → IsHeldSlot old.arena op.walk.place.node op.walk.slot q what → (tree_of new.arena op.walk.place.node).standing ≢ Dead
+  slot_alive what slot = node_alive op.walk.place.node (at old.arena op.walk.place.node).tree slot.held.there refl (live_there old.arena.trees (at old.arena op.walk.place.node).tree slot.tree_live)
+
+  -- nor is that of the node at which an operation makes a layer
+  layer_alive : (p : Phase) → KeptLayer p old.arena q op.task.key op.walk → p ≢ Enter → (tree_of new.arena op.walk.place.node).standing ≢ Dead
+  layer_alive MakeLayer h later = let b = h.holds.judged.at_border in node_alive op.walk.place.node op.walk.place.tree b.covers.remembered.there b.covers.remembered.tree_is b.through.there
+  layer_alive MarkUnstable h later = slot_alive (Stable h.pair) h.makes.layer.slot
+  layer_alive phases.Link h later = slot_alive (Unstable h.pair None) h.makes.layer.slot
+  layer_alive MarkLayer h later = slot_alive (Unstable h.pair (Some h.tree)) h.makes.layer.slot
+  layer_alive Unlock h later = node_alive op.walk.place.node (at old.arena op.walk.place.node).tree h.unlock.held.there refl h.unlock.tree_there
+  layer_alive Enter h later = absurd (later refl)
+  layer_alive _ h later = absurd h
+
+  -- what it makes a layer with
+  layering_stays : (p : Phase) → p ≢ Enter → IsLayering old q op p → IsLayering new q op p
+  layering_stays p later h = record {
+    makes = layers.layer o q old.arena new.arena g.arena other op.task.key op.walk p (layer_alive p h.makes later) h.makes;
+    untold = h.untold;
+    unprepared = h.unprepared;
+  }
+
+  -- what it gives back, by its outcome
+  returning_stays : (told : Option Outcome) → IsOpenOperation old op → IsReturning told old q op → IsReturning told new q op
+  returning_stays None k h = record { layering = layering_stays Unlock (λ e. cc) h.layering; unsplit = h.unsplit }
+  returning_stays (Some told) k h = record { unlocks = unlocks_stay op.splits.halves.items h.unlocks; answer = told_stays k h.answer }
 
   -- by its phase
   pub kept_stays : (p : Phase) → IsOpenOperation old op → IsKeptAt p old q op → IsKeptAt p new q op
@@ -119,7 +159,11 @@ module _ (old new : Core) (o q : ℕ) (g : StateGuarantee old new o) (other : q 
   kept_stays InteriorSplit k h = climbing_stays InteriorSplit k h
   kept_stays Reparent k h = climbing_stays Reparent k h
   kept_stays RootGrow k h = climbing_stays RootGrow k h
-  kept_stays Unlock k h = record { unlocks = unlocks_stay op.splits.halves.items h.unlocks; answer = told_stays k h.answer }
+  kept_stays MakeLayer k h = layering_stays MakeLayer (λ e. cc) h
+  kept_stays MarkUnstable k h = layering_stays MarkUnstable (λ e. cc) h
+  kept_stays phases.Link k h = layering_stays phases.Link (λ e. cc) h
+  kept_stays MarkLayer k h = layering_stays MarkLayer (λ e. cc) h
+  kept_stays Unlock k h = returning_stays op.outcome k h
   kept_stays Done k h = told_stays k h
 
   -- what is kept of every operation
@@ -127,7 +171,6 @@ module _ (old new : Core) (o q : ℕ) (g : StateGuarantee old new o) (other : q 
   open_stays h = record {
     stored = h.stored;
     owner = h.owner;
-    short = h.short;
     columns = h.columns;
     tenant = g.accounts op.task.tenant h.tenant;
     writes = h.writes;

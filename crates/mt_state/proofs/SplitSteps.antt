@@ -29,7 +29,7 @@ use Rattle.mt_state.specs.Steps.{MayFollow, told_change}
 use Rattle.mt_state.specs.Notes.{Notes}
 use Rattle.mt_state.specs.Promises.{IsAnswer, Touches}
 use Rattle.mt_state.specs.Kept.{IsOfKind, IsOpenOperation, IsSplitStarting, IsSplitMoving, HasAnswer, MayUnlock, IsUnlocking, IsKeptAt, has_splits}
-use Rattle.mt_state.specs.Invariant.{IsCountedUpTo, IsOneTree, HoldsLast, HoldsAt, StateInvariant}
+use Rattle.mt_state.specs.Invariant.{IsCountedUpTo, IsUnremoved, HoldsLast, HoldsAt, StateInvariant}
 use Rattle.mt_state.specs.Writes.{HasPairsOf, MovesNoPair, IsClimb, StartsSplit, StopsSplit, Climbs, ReturnsAll, splitting}
 use Rattle.mt_state.proofs.Rely.{answer_stays}
 use Rattle.mt_state.proofs.Telling.{Gives}
@@ -37,7 +37,7 @@ use Rattle.mt_state.proofs.Quiet.{LeavesPairs}
 use Rattle.mt_state.proofs.Moved.{went_with, first_same, first_begun, first_upto}
 use Rattle.mt_state.proofs.Still.{IsUnready, unready_none}
 use Rattle.mt_state.proofs.Reading.{walk_same}
-use Rattle.mt_state.proofs.OneNode.{same_counts, counted_unlocked, replaced_at, replaced_touches, replaced_leaves, quiet_grows, holds_here, quiet_gives_with}
+use Rattle.mt_state.proofs.OneNode.{same_counts, same_alive, returning_by, returning_told, counted_unlocked, replaced_at, replaced_touches, replaced_leaves, quiet_grows, holds_here, quiet_gives_with}
 use Rattle.mt_state.proofs.Locking.{ready_one, room_for}
 
 -- a phase at which an operation holds halves whose keys are parted
@@ -148,18 +148,18 @@ halves_kept InsertChild i c o op some kept answer = record { climbs = kept; answ
 halves_kept InteriorSplit i c o op some kept answer = record { climbs = kept; answer = answer }
 halves_kept Reparent i c o op some kept answer = record { climbs = kept; answer = answer }
 halves_kept RootGrow i c o op some kept answer = record { climbs = kept; answer = answer }
-halves_kept Unlock i c o op some kept answer = record { unlocks = may_unlock op.splits.halves.items c.arena o op some kept; answer = answer }
+halves_kept Unlock i c o op some kept answer =
+    returning_by op.outcome answer.outcome answer.told c o op (record { unlocks = may_unlock op.splits.halves.items c.arena o op some kept; answer = answer })
 halves_kept _ i c o op some kept answer = absurd i
 
-halves_answer : (p : Phase) → HasHalves p → (c : Core) (o : ℕ) (op : Operation) → IsKeptAt p c o op → HasAnswer c op
-halves_answer SplitPrev i c o op kept = kept.answer
-halves_answer LockParent i c o op kept = kept.answer
-halves_answer InsertChild i c o op kept = kept.answer
-halves_answer InteriorSplit i c o op kept = kept.answer
-halves_answer Reparent i c o op kept = kept.answer
-halves_answer RootGrow i c o op kept = kept.answer
-halves_answer Unlock i c o op kept = kept.answer
-halves_answer _ i c o op kept = absurd i
+climb_answer : (p : Phase) → IsClimb p → (c : Core) (o : ℕ) (op : Operation) → IsKeptAt p c o op → HasAnswer c op
+climb_answer SplitPrev i c o op kept = kept.answer
+climb_answer LockParent i c o op kept = kept.answer
+climb_answer InsertChild i c o op kept = kept.answer
+climb_answer InteriorSplit i c o op kept = kept.answer
+climb_answer Reparent i c o op kept = kept.answer
+climb_answer RootGrow i c o op kept = kept.answer
+climb_answer _ i c o op kept = absurd i
 
 -- a step of it leaves the outcome
 climb_notes : (p q : Phase) → IsClimb p → (old : StateView) (op : OperationView) → Notes old op p q op.outcome
@@ -187,7 +187,7 @@ module _ (c : Core) (o : ℕ) (h : StateInvariant c) (arena : ArenaView) where
     contents = m.leaves.contents;
     stood = m.stood;
     versions = λ k inside. let was = m.versions k inside in record { inserts = omega (arith, was.inserts); splits = omega (arith, was.splits) };
-    one_tree = m.one_tree;
+    unremoved = m.unremoved;
   }
 
   -- the locks of some nodes of the operation were given back
@@ -218,12 +218,10 @@ module _ (c : Core) (o : ℕ) (h : StateInvariant c) (arena : ArenaView) where
           | inr is ↦ subst (IsCountedUpTo (c.steps + 1)) (sym is) (record { inserts = omega (arith, was.inserts); splits = omega (arith, was.splits) })
         ]
 
-    returned_tree : IsOneTree arena
+    returned_tree : IsUnremoved arena
     returned_tree = record {
-      count = ap (λ (t : List Tree). length t) trees ∙ h.one_tree.count;
-      prefix = ap (λ (t : List Tree). (tree_at t 0).prefix) trees ∙ h.one_tree.prefix;
-      standing = ap (λ (t : List Tree). (tree_at t 0).standing) trees ∙ h.one_tree.standing;
-      live = λ k inside. let was : k < length c.arena.nodes = omega (arith, inside, count) in (same k was).2 ∙ h.one_tree.live k was;
+      live = λ k inside. let was : k < length c.arena.nodes = omega (arith, inside, count) in (same k was).2 ∙ h.unremoved.live k was;
+      alive = same_alive c.arena arena trees h.unremoved;
     }
 
     returned_leaves : Guarantee o c.arena arena → content_of arena ≡ content_of c.arena → LeavesPairs c o arena
@@ -232,7 +230,7 @@ module _ (c : Core) (o : ℕ) (h : StateInvariant c) (arena : ArenaView) where
       contents = contents;
       stood = λ k inside counted. inl (stood k inside counted);
       versions = returned_versions;
-      one_tree = returned_tree;
+      unremoved = returned_tree;
     }
 
     returned_touches : Touches o c.arena arena
@@ -282,7 +280,7 @@ module _ (c : Core) (o : ℕ) (h : StateInvariant c) (few : c.steps < 2 ^ 59) (o
       let leads = climb_leads op.walk.phase w.phase climb t.follows in
       let after = went_with op (c.steps + 1) w op.outcome op.prepared s in
       let new = splitting c arena c.tape c.accounts o op w op.outcome op.prepared s in
-      let answer = answer_on arena w s t.moves.leaves.contents (always.begun (halves_begun op.walk.phase was)) (halves_answer op.walk.phase was c o op (h.ops o op there).kept) in
+      let answer = answer_on arena w s t.moves.leaves.contents (always.begun (halves_begun op.walk.phase was)) (climb_answer op.walk.phase climb c o op (h.ops o op there).kept) in
       quiet_gives_with c (shown c) o refl h few op there arena c.tape.reserved w op.outcome op.prepared s
       (moves_leave c o h arena t.moves) (halves_open op.walk.phase was) t.follows t.same.writes
       (halves_kind w.phase leads w.writes (t.same.writes ∙ halves_write op.walk.phase was op.walk.writes always.kind)) refl
@@ -372,9 +370,9 @@ module _ (c : Core) (o : ℕ) (h : StateInvariant c) (few : c.steps < 2 ^ 59) (o
           | inr other ↦ other.0 (holds_here c (shown c) o refl h few op there SplitStart at_start j r.0 (ap (λ (m : NodeView). m.holder) (sym other.1) ∙ holds))
         ]
 
-  module _ (at_unlock : op.walk.phase ≡ Unlock) (some : op.splits.halves.items ≢ []) where
+  module _ (at_unlock : op.walk.phase ≡ Unlock) (told : op.outcome ≢ None) (some : op.splits.halves.items ≢ []) where
     unlocking : IsUnlocking c o op
-    unlocking = subst (λ (p : Phase). IsKeptAt p c o op) at_unlock (h.ops o op there).kept
+    unlocking = returning_told op.outcome told c o op (subst (λ (p : Phase). IsKeptAt p c o op) at_unlock (h.ops o op there).kept)
 
     all : IsAtUnlockAll c.arena o op.splits
     all = may_unlock_all op.splits.halves.items c.arena o op some unlocking.unlocks

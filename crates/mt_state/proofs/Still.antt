@@ -7,7 +7,7 @@ use Rattle.mt_arena.specs.Arena.{ArenaView, Guarantee}
 use Rattle.mt_arena.specs.Accesses.{at}
 use Rattle.mt_arena.proofs.Guarantees.{guarantee_none}
 use Rattle.mt_operation.specs.declared.walk.Phase.{Phase}
-use Rattle.mt_operation.specs.declared.walk.Phase.TheVariants.{Enter, Pick, Child, Verify, Search, Load, Confirm, Forward, Lock, Judge, Store, Publish, SplitStart, SplitMove, SplitPrev, LockParent, InsertChild, InteriorSplit, Reparent, RootGrow, Unlock, Done}
+use Rattle.mt_operation.specs.declared.walk.Phase.TheVariants.{Enter, Pick, Child, Verify, Search, Load, Confirm, Forward, Lock, Judge, Store, Publish, SplitStart, SplitMove, SplitPrev, LockParent, InsertChild, InteriorSplit, Reparent, RootGrow, MakeLayer, MarkUnstable, Link, MarkLayer, Unlock, Done}
 use Rattle.mt_operation.specs.declared.walk.Walk.{Walk}
 use Rattle.mt_operation.specs.declared.outcome.Outcome.{Outcome}
 use Rattle.mt_operation.specs.declared.splits.Splits.{Splits}
@@ -45,7 +45,7 @@ leaves_all c o h = record {
   contents = refl;
   stood = λ k within counted. inl (record { there = within; counted = counted; prefix = refl; slots = refl });
   versions = λ k within. let was = h.versions k within in record { inserts = omega (arith, was.inserts); splits = omega (arith, was.splits) };
-  one_tree = h.one_tree;
+  unremoved = h.unremoved;
 }
 
 -- an operation at this phase holds nothing, has nothing made ready, and has a step left
@@ -77,6 +77,10 @@ free_holds InsertChild w s k f holds = absurd f
 free_holds InteriorSplit w s k f holds = absurd f
 free_holds Reparent w s k f holds = absurd f
 free_holds RootGrow w s k f holds = absurd f
+free_holds MakeLayer w s k f holds = absurd f
+free_holds MarkUnstable w s k f holds = absurd f
+free_holds Link w s k f holds = absurd f
+free_holds MarkLayer w s k f holds = absurd f
 free_holds Unlock w s k f holds = absurd f
 free_holds _ w s k f holds = holds
 

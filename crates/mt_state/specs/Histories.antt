@@ -17,7 +17,7 @@ use Rattle.mt_state.specs.Views.{StateView, Shown, op_at, map_of, changed_at, qu
 use Rattle.mt_state.specs.Steps.{change_in}
 use Rattle.mt_state.specs.Promises.{IsStep, IsHeldByOther, HasStep, IsPlacedToGrow}
 use Rattle.mt_state.specs.Invariant.{is_unplaced}
-use Rattle.mt_state.specs.Refused.{first_fault, cause_of, IsRefusal}
+use Rattle.mt_state.specs.Refused.{IsAdmissible, IsRefusal}
 use Rattle.mt_state.specs.Begins.{IsWorker, MayBegin, Begins, Takes}
 
 -- for what each name of a run stands: nothing was begun by it, its operation's answer was taken, or its operation has this id
@@ -74,9 +74,9 @@ pub record History (quotas : Quotas) (first : Maps) (story : Story) (names : Nam
 -- only where it may be begun, and is refused for its first cause alone
 abbrev pub TellsEvent : Names → StateView → Names → StateView → Event → Told → Type 0
 TellsEvent names old now new (Begin o worker tenant command) Begun =
-    (n : ℕ) × (names o ≡ None) × Renames names now o (Some n) × MayBegin command × Begins old new n worker tenant command × (cause_of old tenant command ≡ None)
+    (n : ℕ) × (names o ≡ None) × Renames names now o (Some n) × MayBegin command × Begins old new n worker tenant command × IsAdmissible old tenant command
 TellsEvent names old now new (Begin o worker tenant command) (Refused refusal) =
-    (names o ≡ None) × (now ≡ names) × (new ≡ old) × IsRefusal (first_fault old tenant command) (cause_of old tenant command) refusal
+    (names o ≡ None) × (now ≡ names) × (new ≡ old) × IsRefusal old tenant command refusal
 TellsEvent names old now new (Begin o worker tenant command) NoSuch = (names o ≡ None → ¬ MayBegin command) × (now ≡ names) × (new ≡ old)
 TellsEvent names old now new (Step o) Moved = (n : ℕ) × (names o ≡ Some (Some n)) × (now ≡ names) × IsStep old new n false
 TellsEvent names old now new (Step o) (Done answer) =

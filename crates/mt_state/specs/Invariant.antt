@@ -1,5 +1,5 @@
 -- The invariant of a state, and what a step of one operation leaves of it to all others.
-use Rattle.std.specs.Prelude.{◌≡◌, ℕ, ◌+◌, ◌==◌, ◌≤◌, ◌<◌, ◌^◌, Bool, true, false, if◌then◌else◌, List, [], ◌∷◌, length, Option, Some, None, IsSome}
+use Rattle.std.specs.Prelude.{◌≡◌, ◌≢◌, ℕ, ◌+◌, ◌==◌, ◌≤◌, ◌<◌, ◌^◌, Bool, true, false, if◌then◌else◌, List, [], ◌∷◌, length, Option, Some, None, IsSome}
 use Rattle.std.specs.List.{Contains}
 use Rattle.std.specs.FinMap.{len}
 use Rattle.mt_rows.specs.declared.tenants.Account.{Account}
@@ -13,11 +13,11 @@ use Rattle.mt_tape.specs.Histories.{IsLegalTape, IsUnwrittenSince, written_key}
 use Rattle.mt_arena.specs.NodeView.{NodeView}
 use Rattle.mt_arena.specs.Arena.{ArenaView, content_of, Guarantee}
 use Rattle.mt_arena.specs.Contents.{counts}
-use Rattle.mt_arena.specs.declared.tree.Standing.TheVariants.{Live}
+use Rattle.mt_arena.specs.declared.tree.Standing.TheVariants.{Dead}
 use Rattle.mt_arena.specs.Forests.{tree_at}
 use Rattle.mt_arena.specs.Accesses.{at, tree_of}
 use Rattle.mt_operation.specs.declared.walk.Phase.{Phase}
-use Rattle.mt_operation.specs.declared.walk.Phase.TheVariants.{Judge, Store, Publish, SplitStart, SplitMove, SplitPrev, LockParent, InsertChild, InteriorSplit, Reparent, RootGrow, Unlock, Done}
+use Rattle.mt_operation.specs.declared.walk.Phase.TheVariants.{Judge, Store, Publish, SplitStart, SplitMove, SplitPrev, LockParent, InsertChild, InteriorSplit, Reparent, RootGrow, MakeLayer, MarkUnstable, Link, MarkLayer, Unlock, Done}
 use Rattle.mt_operation.specs.declared.walk.Walk.{Walk}
 use Rattle.mt_operation.specs.declared.splits.Halves.{Halves}
 use Rattle.mt_operation.specs.declared.splits.Splits.{Splits}
@@ -51,7 +51,7 @@ pub record IsCountedUpTo (steps : ℕ) (n : NodeView) : Type 0 where
 abbrev pub AreVersions : Core → Type 0
 AreVersions c = (k : ℕ) → k < length c.arena.nodes → IsCountedUpTo c.steps (at c.arena k)
 
--- a node that an operation holds that has its answer: its border node where nothing was split, else those of the splits
+-- a node that an operation holds that is to give its locks back: its border node where nothing was split, else those of the splits
 abbrev pub HoldsLast : List Halves → Walk → Splits → ℕ → Type 0
 HoldsLast [] w s k = k ≡ w.place.node
 HoldsLast (_ ∷ _) w s k = IsAmong s k
@@ -69,6 +69,10 @@ HoldsAt InsertChild w s k = IsAmong s k
 HoldsAt InteriorSplit w s k = IsAmong s k
 HoldsAt Reparent w s k = IsAmong s k
 HoldsAt RootGrow w s k = IsAmong s k
+HoldsAt MakeLayer w s k = k ≡ w.place.node
+HoldsAt MarkUnstable w s k = k ≡ w.place.node
+HoldsAt Link w s k = k ≡ w.place.node
+HoldsAt MarkLayer w s k = k ≡ w.place.node
 HoldsAt Unlock w s k = HoldsLast s.halves.items w s k
 HoldsAt _ w s k = ⊥
 
@@ -124,12 +128,10 @@ is_unplaced Unlock = false
 is_unplaced Done = false
 is_unplaced _ = true
 
--- as long as no phase makes a layer or takes a node out: there is one tree, which is live, and each node is live
-pub record IsOneTree (v : ArenaView) : Type 0 where
-  pub count : length v.trees ≡ 1
-  pub prefix : (tree_at v.trees 0).prefix ≡ []
-  pub standing : (tree_at v.trees 0).standing ≡ Live
+-- as long as no phase takes a node out: each node is live, and no tree is dead
+pub record IsUnremoved (v : ArenaView) : Type 0 where
   pub live : (k : ℕ) → k < length v.nodes → (at v k).version.deleted ≡ false
+  pub alive : (t : ℕ) → t < length v.trees → (tree_at v.trees t).standing ≢ Dead
 
 -- the invariant; `IsArena` is the arena's own; by `answered` each answer that was taken, and each operation that has made a step, has a step of its own
 pub record StateInvariant (c : Core) : Type 0 where
@@ -141,7 +143,7 @@ pub record StateInvariant (c : Core) : Type 0 where
   pub ops : AreKept c
   pub reserved : c.tape.reserved ≡ prepared_count c.table
   pub answered : c.answers + made_count (shown c).table ≤ c.steps
-  pub one_tree : IsOneTree c.arena
+  pub unremoved : IsUnremoved c.arena
   pub few : c.steps ≤ 2 ^ 59
 
 -- What a step of operation o leaves to all others: what the arena leaves them, and the past; no account is lost, and the tape goes as far back.

@@ -1,5 +1,5 @@
 -- What a state keeps of each operation, by its phase.
-use Rattle.std.specs.Prelude.{◌≡◌, ◌≢◌, ℕ, ◌≤◌, ◌<◌, Bool, not, true, false, List, [], ◌∷◌, length, Option, Some, None, IsSome}
+use Rattle.std.specs.Prelude.{◌≡◌, ◌≢◌, ℕ, ◌≤◌, ◌<◌, Bool, not, true, false, List, [], ◌∷◌, Option, Some, None, IsSome}
 use Rattle.std.specs.List.{Contains}
 use Rattle.mt_slices.specs.Keys.{IsStoredKey}
 use Rattle.mt_rows.specs.declared.reply.Reply.TheVariants as replies
@@ -13,7 +13,8 @@ use Rattle.mt_tape.specs.declared.entry.Entry.{Entry as TapeEntry}
 use Rattle.mt_arena.specs.Arena.{ArenaView}
 use Rattle.mt_arena.specs.Accesses.{at}
 use Rattle.mt_operation.specs.declared.walk.Phase.{Phase}
-use Rattle.mt_operation.specs.declared.walk.Phase.TheVariants.{Enter, Pick, Child, Verify, Search, Load, Confirm, Forward, Lock, Judge, Store, Publish, SplitStart, SplitMove, SplitPrev, LockParent, InsertChild, InteriorSplit, Reparent, RootGrow, Unlock, Done}
+use Rattle.mt_operation.specs.declared.walk.Phase.TheVariants as phases
+use Rattle.mt_operation.specs.declared.walk.Phase.TheVariants.{Enter, Pick, Child, Verify, Search, Load, Confirm, Forward, Lock, Judge, Store, Publish, SplitStart, SplitMove, SplitPrev, LockParent, InsertChild, InteriorSplit, Reparent, RootGrow, MakeLayer, MarkUnstable, MarkLayer, Unlock, Done}
 use Rattle.mt_operation.specs.declared.walk.Taken.{Taken}
 use Rattle.mt_operation.specs.declared.walk.Taken.TheVariants.{Missing, Row, Link, Nothing}
 use Rattle.mt_operation.specs.declared.outcome.Outcome.{Outcome}
@@ -26,6 +27,7 @@ use Rattle.mt_insert.specs.Puts.{change_of}
 use Rattle.mt_descent.specs.Kept.{HasSlot, IsKept}
 use Rattle.mt_insert.specs.Kept.{HoldsBorder, IsAtStore, IsAtPublish, IsAtSplitStart, IsAtUnlock}
 use Rattle.mt_insert.specs.Splitting.{IsAtSplitMove, IsAtUnlockAll, KeptSplit}
+use Rattle.mt_layer.specs.Kept.{KeptLayer}
 use Rattle.mt_state.specs.Views.{Core, shown, past_of}
 use Rattle.mt_state.specs.Notes.{Says, columns_asked}
 use Rattle.mt_state.specs.Steps.{change_in}
@@ -44,12 +46,11 @@ IsOfKind Forward writes = Unit {0}
 IsOfKind Done writes = Unit {0}
 IsOfKind _ writes = writes ≡ true
 
--- what is kept of every operation: its key is its command's, of a tenant that is there and short enough for one slice; its numbers are those of
--- steps made; and it has made one where it isn't at its beginning
+-- what is kept of every operation: its key is its command's, of a tenant that is there; its numbers are those of steps made; and it has made one
+-- where it isn't at its beginning
 pub record IsOpenOperation (c : Core) (op : Operation) : Type 0 where
   pub stored : IsStoredKey op.task.key
   pub owner : owned op.task.key ≡ (op.task.tenant, key_of (ask op.task))
-  pub short : length op.task.key ≤ 8
   pub columns : HasColumns (ask op.task)
   pub tenant : IsSome (account_of c.accounts op.task.tenant)
   pub writes : op.walk.writes ≡ not (is_get (ask op.task))
@@ -138,6 +139,22 @@ pub record IsUnlocking (c : Core) (o : ℕ) (op : Operation) : Type 0 where
   pub unlocks : MayUnlock op.splits.halves.items c.arena o op
   pub answer : HasAnswer c op
 
+-- one that makes a layer: nothing is told of it, and nothing made ready
+pub record IsLayering (c : Core) (o : ℕ) (op : Operation) (phase : Phase) : Type 0 where
+  pub makes : KeptLayer phase c.arena o op.task.key op.walk
+  pub untold : op.outcome ≡ None
+  pub unprepared : op.prepared ≡ None
+
+-- one that has made it, and goes on in its tree once it has given the lock back
+pub record IsLeaving (c : Core) (o : ℕ) (op : Operation) : Type 0 where
+  pub layering : IsLayering c o op Unlock
+  pub unsplit : IsUnsplit op.splits
+
+-- one that is to give its locks back, by its outcome: without one it has made a layer
+abbrev pub IsReturning : Option Outcome → Core → ℕ → Operation → Type 0
+IsReturning None c o op = IsLeaving c o op
+IsReturning (Some told) c o op = IsUnlocking c o op
+
 -- what is kept of an operation by its phase
 abbrev pub IsKeptAt : Phase → Core → ℕ → Operation → Type 0
 IsKeptAt Enter c o op = IsOnItsWay c op
@@ -160,7 +177,11 @@ IsKeptAt InsertChild c o op = IsClimbing c o op InsertChild
 IsKeptAt InteriorSplit c o op = IsClimbing c o op InteriorSplit
 IsKeptAt Reparent c o op = IsClimbing c o op Reparent
 IsKeptAt RootGrow c o op = IsClimbing c o op RootGrow
-IsKeptAt Unlock c o op = IsUnlocking c o op
+IsKeptAt MakeLayer c o op = IsLayering c o op MakeLayer
+IsKeptAt MarkUnstable c o op = IsLayering c o op MarkUnstable
+IsKeptAt phases.Link c o op = IsLayering c o op phases.Link
+IsKeptAt MarkLayer c o op = IsLayering c o op MarkLayer
+IsKeptAt Unlock c o op = IsReturning op.outcome c o op
 IsKeptAt Done c o op = HasAnswer c op
 
 -- an operation at this phase may have splits

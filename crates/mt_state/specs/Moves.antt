@@ -9,7 +9,7 @@ use Rattle.mt_state.specs.Steps.{HasMoved}
 use Rattle.mt_state.specs.Notes.{Notes}
 use Rattle.mt_state.specs.Promises.{IsQuiet, IsPlacing, Touches}
 use Rattle.mt_state.specs.Kept.{IsKeptOf}
-use Rattle.mt_state.specs.Invariant.{IsTape, AreStamps, AreVersions, HoldsAt, AreCounted, IsOneTree, StateGuarantee, one_if_prepared}
+use Rattle.mt_state.specs.Invariant.{IsTape, AreStamps, AreVersions, HoldsAt, AreCounted, IsUnremoved, StateGuarantee, one_if_prepared}
 
 -- What a step of operation o brings of its own. The rest of the invariant follows for all others.
 pub record IsMove (old new : Core) (o : ℕ) (before after : Operation) : Type 0 where
@@ -27,7 +27,7 @@ pub record IsMove (old new : Core) (o : ℕ) (before after : Operation) : Type 0
   pub counts : AreCounted new
   pub kept : IsKeptOf new o after
   pub reserved : new.tape.reserved + one_if_prepared (Some before) ≡ old.tape.reserved + one_if_prepared (Some after)
-  pub one_tree : IsOneTree new.arena
+  pub unremoved : IsUnremoved new.arena
 
 -- what a step tells, beside what it brings
 pub record IsTold (old new : Core) (o : ℕ) (before after : Operation) : Type 0 where

@@ -16,7 +16,7 @@ use Rattle.mt_tape.specs.Histories.{written_key}
 use Rattle.mt_arena.specs.Accesses.{at}
 use Rattle.mt_descent.specs.Kept.{IsInSlot, HasSlot}
 use Rattle.mt_operation.specs.declared.walk.Phase.{Phase}
-use Rattle.mt_operation.specs.declared.walk.Phase.TheVariants.{Search, Load, Confirm, Judge, Store, Publish, SplitStart, SplitMove, SplitPrev, LockParent, InsertChild, InteriorSplit, Reparent, RootGrow, Unlock, Done}
+use Rattle.mt_operation.specs.declared.walk.Phase.TheVariants.{Enter, Search, Load, Confirm, Judge, Store, Publish, SplitStart, SplitMove, SplitPrev, LockParent, InsertChild, InteriorSplit, Reparent, RootGrow, MakeLayer, Unlock, Done}
 use Rattle.mt_operation.specs.declared.outcome.Outcome.{Outcome}
 use Rattle.mt_operation.specs.Operations.{OperationView}
 use Rattle.mt_state.specs.Views.{StateView, contents_of, map_of}
@@ -87,7 +87,7 @@ abbrev pub IsJudged : StateView → Option Outcome → Type 0
 IsJudged old told = Says told replies.New (old.steps + 1) ⊎ Says told replies.Full (old.steps + 1)
 
 -- the outcome after a step, by the phases before and after it: it is set by the step that looks or places, and an operation that splits or ends has the
--- one that it had; every other step leaves it without one
+-- one that it had; every other step leaves it without one, and so was an operation that goes on in the layer that it has made
 abbrev pub Notes : StateView → OperationView → Phase → Phase → Option Outcome → Type 0
 Notes old op Search Confirm told = NotesAbsent old op told
 Notes old op Load Confirm told = ShowsRow old op told ⊎ ShowsNone old op told
@@ -96,6 +96,7 @@ Notes old op Judge Done told = IsStopped old told
 Notes old op Store Unlock told = Says told replies.Replaced (old.steps + 1)
 Notes old op Publish Unlock told = IsJudged old told
 Notes old op SplitStart Done told = IsStopped old told
+Notes old op MakeLayer Done told = IsStopped old told
 Notes old op SplitMove SplitPrev told = IsJudged old told
 Notes old op SplitMove LockParent told = IsJudged old told
 Notes old op SplitPrev _ told = told ≡ op.outcome
@@ -106,4 +107,5 @@ Notes old op Reparent _ told = told ≡ op.outcome
 Notes old op RootGrow _ told = told ≡ op.outcome
 Notes old op Confirm Done told = told ≡ op.outcome
 Notes old op Unlock Done told = told ≡ op.outcome
+Notes old op Unlock Enter told = (told ≡ None) × (op.outcome ≡ None)
 Notes old op _ _ told = told ≡ None

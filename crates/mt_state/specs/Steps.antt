@@ -2,7 +2,7 @@
 use Rattle.std.specs.Prelude.{◌≡◌, ℕ, ◌==◌, if◌then◌else◌, Option, Some, None}
 use Rattle.mt_rows.specs.Maps.{is_change}
 use Rattle.mt_operation.specs.declared.walk.Phase.{Phase}
-use Rattle.mt_operation.specs.declared.walk.Phase.TheVariants.{Enter, Pick, Child, Verify, Search, Load, Confirm, Forward, Lock, Judge, Store, Publish, SplitStart, SplitMove, SplitPrev, LockParent, InsertChild, InteriorSplit, Reparent, RootGrow, Unlock, Done}
+use Rattle.mt_operation.specs.declared.walk.Phase.TheVariants.{Enter, Pick, Child, Verify, Search, Load, Confirm, Forward, Lock, Judge, Store, Publish, SplitStart, SplitMove, SplitPrev, LockParent, InsertChild, InteriorSplit, Reparent, RootGrow, MakeLayer, MarkUnstable, Link, MarkLayer, Unlock, Done}
 use Rattle.mt_operation.specs.declared.outcome.Outcome.{Outcome}
 use Rattle.mt_operation.specs.Operations.{OperationView}
 
@@ -35,6 +35,8 @@ MayFollow Lock Judge = Unit {0}
 MayFollow Judge Store = Unit {0}
 MayFollow Judge Publish = Unit {0}
 MayFollow Judge SplitStart = Unit {0}
+MayFollow Judge MakeLayer = Unit {0}
+MayFollow Judge Enter = Unit {0}
 MayFollow Judge Done = Unit {0}
 MayFollow Store Unlock = Unit {0}
 MayFollow Publish Unlock = Unit {0}
@@ -51,6 +53,12 @@ MayFollow InteriorSplit Reparent = Unit {0}
 MayFollow Reparent Reparent = Unit {0}
 MayFollow Reparent LockParent = Unit {0}
 MayFollow RootGrow Unlock = Unit {0}
+MayFollow MakeLayer MarkUnstable = Unit {0}
+MayFollow MakeLayer Done = Unit {0}
+MayFollow MarkUnstable Link = Unit {0}
+MayFollow Link MarkLayer = Unit {0}
+MayFollow MarkLayer Unlock = Unit {0}
+MayFollow Unlock Enter = Unit {0}
 MayFollow Unlock Done = Unit {0}
 MayFollow _ _ = ⊥
 

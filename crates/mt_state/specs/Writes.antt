@@ -2,7 +2,7 @@
 use Rattle.std.specs.Prelude.{◌≡◌, ◌≢◌, ℕ, ◌+◌, ◌<◌, ◌⊎◌, true, [], length, Option, Some, None, slice_set}
 use Rattle.std.specs.Option.{option_map}
 use Rattle.std.specs.FinMap.{get}
-use Rattle.mt_rows.specs.Rows.{Columns}
+use Rattle.mt_rows.specs.Rows.{Bytes, Columns}
 use Rattle.mt_rows.specs.Accounts.{Accounts, account_of, HasRoom, one_more, OthersStay}
 use Rattle.mt_border.specs.declared.entry.Pair.{Pair}
 use Rattle.mt_border.specs.declared.entry.Held.TheVariants.{Stable}
@@ -17,7 +17,7 @@ use Rattle.mt_arena.specs.Contents.{counts}
 use Rattle.mt_arena.specs.Several.{AreHalved}
 use Rattle.mt_arena.specs.Accesses.{at, tree_of, with_node, with_row}
 use Rattle.mt_operation.specs.declared.walk.Phase.{Phase}
-use Rattle.mt_operation.specs.declared.walk.Phase.TheVariants.{Judge, SplitMove, SplitPrev, LockParent, InsertChild, InteriorSplit, Reparent, RootGrow}
+use Rattle.mt_operation.specs.declared.walk.Phase.TheVariants.{Enter, Judge, SplitMove, SplitPrev, LockParent, InsertChild, InteriorSplit, Reparent, RootGrow, MakeLayer, MarkUnstable, Link, MarkLayer, Done}
 use Rattle.mt_operation.specs.declared.walk.Walk.{Walk}
 use Rattle.mt_operation.specs.declared.outcome.Outcome.{Outcome}
 use Rattle.mt_operation.specs.declared.prepared.Prepared.{Prepared}
@@ -25,16 +25,18 @@ use Rattle.mt_operation.specs.declared.operation.Operation.{Operation}
 use Rattle.mt_operation.specs.declared.splits.Splits.{Splits}
 use Rattle.mt_operation.specs.Operations.{moved, IsUnsplit}
 use Rattle.mt_descent.specs.Pasts.{Past}
-use Rattle.mt_descent.specs.Kept.{IsAtJudge, IsKept, HoldsNothing}
+use Rattle.mt_descent.specs.Kept.{IsAtEnter, IsAtJudge, IsKept, HoldsNothing}
 use Rattle.mt_descent.specs.Moves.{Continues, Locks}
-use Rattle.mt_insert.specs.Kept.{KeptReady, IsAtUnlock}
+use Rattle.mt_insert.specs.Kept.{KeptReady, IsAtMakeLayer, IsAtUnlock, HoldsOnly}
 use Rattle.mt_insert.specs.Moves.{Places, after_judge, walk_placed, walk_done, entry_of, reserving, released}
 use Rattle.mt_insert.specs.Splitting.{last_of, HoldsSplits, IsAtSplitMove, KeptSplit}
 use Rattle.mt_insert.specs.SplitMoves.{walk_at, after_parting, Returns}
+use Rattle.mt_layer.specs.Kept.{KeptLayer}
+use Rattle.mt_layer.specs.Moves.{KeepsStamps}
 use Rattle.mt_state.specs.Views.{Core}
 use Rattle.mt_state.specs.Steps.{MayFollow}
 use Rattle.mt_state.specs.Promises.{Touches}
-use Rattle.mt_state.specs.Invariant.{IsCountedUpTo, IsOneTree}
+use Rattle.mt_state.specs.Invariant.{IsCountedUpTo, IsUnremoved}
 
 -- a state in which operation o has walked on by one more step, with this outcome and what it has made ready, and with another arena, tape and accounts
 abbrev pub wrote : Core → ArenaView → Kept → Accounts → ℕ → Operation → Walk → Option Outcome → Option Prepared → Core
@@ -129,7 +131,7 @@ pub record MovesNoPair (c : Core) (o : ℕ) (arena : ArenaView) : Type 0 where
   pub touches : Touches o c.arena arena
   pub stood : (k : ℕ) → k < length arena.nodes → counts arena.trees (at arena k) ≡ true → HasPairsOf c.arena arena k ⊎ ((at arena k).slots ≡ [])
   pub versions : (k : ℕ) → k < length arena.nodes → IsCountedUpTo c.steps (at arena k)
-  pub one_tree : IsOneTree arena
+  pub unremoved : IsUnremoved arena
 
 -- the right half of the full border node was made
 pub record StartsSplit (c : Core) (o : ℕ) (op : Operation) (arena : ArenaView) (w : Walk) (s : Splits) : Type 0 where
@@ -199,3 +201,40 @@ pub record ReturnsAll (c : Core) (o : ℕ) (op : Operation) (arena : ArenaView) 
   pub same : Continues op.walk w
   pub unsplit : IsUnsplit s
   pub nothing : HoldsNothing arena o
+
+-- the phases that make a layer
+abbrev pub IsLayerPhase : Phase → Type 0
+IsLayerPhase MakeLayer = Unit {0}
+IsLayerPhase MarkUnstable = Unit {0}
+IsLayerPhase Link = Unit {0}
+IsLayerPhase MarkLayer = Unit {0}
+IsLayerPhase _ = ⊥
+
+-- another long key stands in the key's place: a layer is to be made for both
+pub record MeetsAnother (c : Core) (o : ℕ) (op : Operation) (w : Walk) : Type 0 where
+  pub slot : ℕ
+  pub walk : w ≡ record op.walk { slot = slot; phase = MakeLayer }
+  pub kept : IsAtMakeLayer c.arena o op.task.key w
+
+-- a layer came one step nearer: its tree was made, or its slot became unstable, was given the tree's number, or became a link to it
+pub record BuildsLayer (o : ℕ) (old new : ArenaView) (key : Bytes) (before after : Walk) : Type 0 where
+  pub guarantee : Guarantee o old new
+  pub contents : content_of new ≡ content_of old
+  pub touches : Touches o old new
+  pub stamps : KeepsStamps old new
+  pub versions : (steps : ℕ) → ((k : ℕ) → k < length old.nodes → IsCountedUpTo steps (at old k)) → (k : ℕ) → k < length new.nodes → IsCountedUpTo steps (at new k)
+  pub unremoved : IsUnremoved old → IsUnremoved new
+  pub follows : MayFollow before.phase after.phase
+  pub on : after.phase ≢ Done
+  pub same : Continues before after
+  pub here : after.place.node ≡ before.place.node
+  pub kept : KeptLayer after.phase new o key after
+  pub holds : HoldsOnly old o before.place.node → HoldsOnly new o after.place.node
+
+-- the lock was given back, and the operation goes on in the tree of the next layer
+pub record GoesBelow (c : Core) (o : ℕ) (op : Operation) (arena : ArenaView) (w : Walk) : Type 0 where
+  pub is : arena ≡ with_node c.arena op.walk.place.node (unlocked (at c.arena op.walk.place.node))
+  pub enters : w.phase ≡ Enter
+  pub same : Continues op.walk w
+  pub leaves : LeavesContents c o arena
+  pub kept : IsAtEnter arena op.task.key w

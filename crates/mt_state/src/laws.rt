@@ -15,7 +15,7 @@ ghost use Rattle.mt_operation.specs.Operations.{OperationView, is_done};
 ghost use Rattle.mt_state.specs.Views.{StateView, Core, shown, KeepsPast};
 ghost use Rattle.mt_state.specs.Promises.{IsAnswer, IsInTheWay, Touches, IsStep};
 ghost use Rattle.mt_state.specs.Kept.{IsKeptOf};
-ghost use Rattle.mt_state.specs.Invariant.{StateInvariant, StateGuarantee};
+ghost use Rattle.mt_state.specs.Invariant.{IsUnremoved, StateInvariant, StateGuarantee};
 ghost use Rattle.mt_operation.specs.declared.walk.Walk.{Walk};
 ghost use Rattle.mt_operation.specs.Tables.{op_at as operation_at};
 ghost use Rattle.mt_descent.specs.Pasts.{Past};
@@ -31,7 +31,7 @@ ghost use Rattle.mt_state.specs.Calls.{IsLawful, Searches, Takes, Compares};
 /// All that is kept of an operation, at whatever phase it is, each step of another one keeps: what
 /// counts is what that step leaves to others. An answer that was right stays right.
 pub fn others_keep_theirs()
-    ensures kept { (old new : Core) (o q : ℕ) (op : Operation) → StateGuarantee old new o → q ≢ o → old.steps < new.steps →
+    ensures kept { (old new : Core) (o q : ℕ) (op : Operation) → IsUnremoved new.arena → StateGuarantee old new o → q ≢ o → old.steps < new.steps →
         IsKeptOf old q op → IsKeptOf new q op }
     ensures answers { (old new : StateView) (op : OperationView) (told : Outcome) → KeepsPast old new → op.last ≤ old.steps →
         IsAnswer old op told → IsAnswer new op told }

@@ -8,8 +8,10 @@
 
 pub mod histories;
 pub mod laws;
+pub mod layers;
 pub mod moves;
 pub mod splits;
+pub mod tenants;
 pub mod writes;
 
 pub use moves::Move;

@@ -38,6 +38,6 @@ pub fn a_split_is_a_step()
         IsClimb op.walk.phase → Climbs c o op arena w s →
         IsLawful c (splitting c arena c.tape c.accounts o op w op.outcome op.prepared s) o false }
     ensures returns_all { (c : Core) (o : ℕ) (op : Operation) (arena : ArenaView) (w : Walk) (s : Splits) → StateInvariant c → c.steps < 2 ^ 59 → operation_at c.table o ≡ Some op →
-        op.walk.phase ≡ Unlock → op.splits.halves.items ≢ [] → ReturnsAll c o op arena w s →
+        op.walk.phase ≡ Unlock → op.outcome ≢ None → op.splits.halves.items ≢ [] → ReturnsAll c o op arena w s →
         IsLawful c (splitting c arena c.tape c.accounts o op w op.outcome op.prepared s) o true }
 {}

@@ -1,6 +1,6 @@
 //! Each phase of a put, from its lock on, makes a lawful step. Contracts alone: no code runs.
 
-ghost use Rattle.std.specs.Prelude.{◌≡◌, ◌+◌, ◌<◌, ◌^◌, ℕ, true, false, [], Option, Some, None};
+ghost use Rattle.std.specs.Prelude.{◌≡◌, ◌≢◌, ◌+◌, ◌<◌, ◌^◌, ℕ, true, false, [], Option, Some, None};
 ghost use Rattle.mt_rows.specs.Rows.{Columns};
 ghost use Rattle.mt_rows.specs.Accounts.{Accounts};
 ghost use Rattle.mt_rows.specs.declared.reply.Reply.TheVariants.{New, Replaced, Full, NoMemory};
@@ -41,6 +41,6 @@ pub fn a_write_is_a_step()
         op.walk.phase ≡ Publish → FindsFull c o op tape w →
         IsLawful c (wrote c c.arena tape c.accounts o op w (Some (record { reply = Full; at = c.steps + 1 })) None) o false }
     ensures unlocks { (c : Core) (o : ℕ) (op : Operation) (arena : ArenaView) (w : Walk) → StateInvariant c → c.steps < 2 ^ 59 → operation_at c.table o ≡ Some op →
-        op.walk.phase ≡ Unlock → op.splits.halves.items ≡ [] → GivesBack c o op arena w →
+        op.walk.phase ≡ Unlock → op.outcome ≢ None → op.splits.halves.items ≡ [] → GivesBack c o op arena w →
         IsLawful c (wrote c arena c.tape c.accounts o op w op.outcome op.prepared) o true }
 {}

@@ -1,9 +1,9 @@
-use Rattle.std.proofs.Common.{◌≡◌, Some, None, refl, sym, subst}
+use Rattle.std.proofs.Common.{Some, refl, sym, subst}
 use Rattle.std.specs.Ordering.{nat_cmp}
 use Rattle.std.specs.BTreeMap.{Updates}
 use Rattle.mt_core.specs.Tickets.{named}
 use Rattle.mt_state.specs.Begins.{Begins}
-use Rattle.mt_state.specs.Refused.{first_fault, cause_of, IsRefusal}
+use Rattle.mt_state.specs.Refused.{IsAdmissible, IsRefusal}
 use Rattle.mt_core.proofs.EventNames.{named_none, renamed, by_id_begun}
 use Rattle.mt_core.proofs.events.begin_by.Goals as goal
 
@@ -12,7 +12,7 @@ returns-in-Err-clause-tells c = (
   named_none c.args.roster.now.tickets c.args.op (sym c.if-contains_key.ensures),
   refl,
   c.in-Err.ensures.told,
-  subst (λ command. IsRefusal (first_fault c.args.state.now c.args.tenant command) (cause_of c.args.state.now c.args.tenant command) c.in-Err.refusal) c.in_ok-copied.ensures c.in-Err.ensures.refused,
+  subst (λ command. IsRefusal c.args.state.now c.args.tenant command c.in-Err.refusal) c.in_ok-copied.ensures c.in-Err.ensures.refused,
 )
 
 pub returns-in_ok-insert-in-Ok-2-clause-tells : goal.returns-in_ok-insert-in-Ok-2-clause-tells
@@ -22,7 +22,7 @@ returns-in_ok-insert-in-Ok-2-clause-tells c = (
   renamed c.args.roster.now.tickets c.insert-in-Ok.new.self c.args.op c.in-Ok.ticket c.in_ok-insert-in-Ok-2.ensures.updates,
   c.if-not-may_begin.ensures.0 refl,
   subst (Begins c.args.state.now c.begin.new.self c.in-Ok.ticket.id c.args.worker c.args.tenant) c.in_ok-copied.ensures c.in-Ok.ensures.told,
-  subst (λ command. cause_of c.args.state.now c.args.tenant command ≡ None) c.in_ok-copied.ensures c.in-Ok.ensures.refused,
+  subst (λ command. IsAdmissible c.args.state.now c.args.tenant command) c.in_ok-copied.ensures c.in-Ok.ensures.refused,
 )
 
 pub returns-in_ok-insert-in-Ok-2-clause-by_id : goal.returns-in_ok-insert-in-Ok-2-clause-by_id

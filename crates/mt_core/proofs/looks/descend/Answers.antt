@@ -9,13 +9,13 @@ pub returns-in-Enter-clause-goes : goal.returns-in-Enter-clause-goes
 returns-in-Enter-clause-goes c = enter_goes c.enter.result c.args.arena.now _ _ c.in-Enter.is c.enter.ensures.is c.enter.ensures.same
 
 pub returns-in-Enter-clause-nears : goal.returns-in-Enter-clause-nears
-returns-in-Enter-clause-nears c = enter_nears c.args.arena.now c.facts.ensures.arena c.requires.one_tree c.args.key.now c.requires.kept.0 _ _ c.requires.kept.1 c.enter.result c.in-Enter.is c.enter.ensures.is
+returns-in-Enter-clause-nears c = enter_nears c.args.arena.now c.facts.ensures.arena c.requires.unremoved c.args.key.now c.requires.kept.0 _ _ c.requires.kept.1 c.enter.result c.in-Enter.is c.enter.ensures.is
 
 pub returns-in-Verify-clause-goes : goal.returns-in-Verify-clause-goes
 returns-in-Verify-clause-goes c = verify_goes c.verify.result _ _ _ c.in-Verify.is c.verify.ensures.is c.verify.ensures.same
 
 pub returns-in-Verify-clause-nears : goal.returns-in-Verify-clause-nears
-returns-in-Verify-clause-nears c = verify_nears c.args.arena.now c.facts.ensures.arena c.requires.one_tree c.args.key.now c.requires.kept.0 _ _ c.requires.kept.1 c.verify.result c.in-Verify.is c.verify.ensures.is
+returns-in-Verify-clause-nears c = verify_nears c.args.arena.now c.facts.ensures.arena c.requires.unremoved c.args.key.now c.requires.kept.0 _ _ c.requires.kept.1 c.verify.result c.in-Verify.is c.verify.ensures.is
 
 pub returns-in-Forward-clause-goes : goal.returns-in-Forward-clause-goes
 returns-in-Forward-clause-goes c = forward_goes c.forward.result (slice_in c.args.key.now c.args.walk.now) (at c.args.arena.now) _ _ c.in-Forward.is c.forward.ensures.last c.forward.ensures.is c.forward.ensures.same

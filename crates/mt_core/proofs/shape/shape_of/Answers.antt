@@ -1,13 +1,25 @@
-use Rattle.std.proofs.Common.{ℕ, refl}
-use Rattle.mt_arena.specs.Accesses.{at}
-use Rattle.mt_arena.specs.Forests.{IsRoot, tree_at}
+use Rattle.std.proofs.Common.{Bor, map, ap, sym, subst, ◌∙◌}
+use Rattle.std.specs.List.{flat_map}
+use Rattle.std.proofs.lemmas.List.{take_all}
+use Rattle.std.proofs.lemmas.List.Folds.{flat_map-map}
+use Rattle.mt_arena.specs.declared.tree.Tree.{Tree}
+use Rattle.mt_core.specs.Shapes.{HasLiveRoot, IsListing, tree_lines}
+use Rattle.mt_core.proofs.Lines.{root_of}
 use Rattle.mt_core.proofs.shape.shape_of.Goals as goal
 
--- the root of the top tree is live
-pub push_node-requires-clause-live : goal.push_node-requires-clause-live
-push_node-requires-clause-live c =
+-- the root of a live tree is live
+pub push_tree-requires : goal.push_tree-requires
+push_tree-requires c =
     let v = c.args.arena.now in
-    let forest = c.facts.ensures.arena.forest in
-    let r : ℕ = (tree_at v.trees 0).root in
-    let root : IsRoot (at v r) = (forest.homes r 0 (forest.each 0 forest.top.there).root_there forest.top.there).root_is refl (λ dead. absurd (let is = forest.top.live in cc)) in
-    rw c.tree.ensures root.live
+    let items = c.deref-tree-items.result.now in
+    let list = subst (λ ts. IsListing v.trees (map (λ (t : Bor Tree). t.now) ts)) (sym c.deref-tree-items.ensures.value) c.in_ok-listed.ensures in
+    subst (λ (t : Bor Tree). HasLiveRoot v t.now) (sym c.tree-item.is) (root_of v c.facts.ensures.arena items list c.loop-tree.tree-index c.tree-item.result c.loop-tree-test.true)
+
+-- where all are through, these are the lines of the live trees
+pub returns : goal.returns
+returns c =
+    let v = c.args.arena.now in
+    let items = c.deref-tree-items.result.now in
+    let list = subst (λ ts. IsListing v.trees (map (λ (t : Bor Tree). t.now) ts)) (sym c.deref-tree-items.ensures.value) c.in_ok-listed.ensures in
+    let through = ap (flat_map (λ (t : Bor Tree). tree_lines v t.now)) (take_all c.loop-tree.tree-index items c.loop-tree-test.false) in
+    (map (λ (t : Bor Tree). t.now) items, list, c.loop-tree.invariant ∙ through ∙ sym (flat_map-map (tree_lines v) (λ (t : Bor Tree). t.now) items))

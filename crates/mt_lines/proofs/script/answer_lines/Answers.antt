@@ -1,7 +1,7 @@
 use Rattle.std.proofs.Common.{◌==◌, [], refl, sym, subst, inl, inr, arith}
 use Rattle.std.proofs.lemmas.Result.{err_from_is_err_and}
 use Rattle.mt_lines.specs.Lines.{Front, front_of}
-use Rattle.mt_lines.specs.declared.session.Session.{Session}
+use Rattle.mt_lines.specs.Sessions.{SessionView}
 use Rattle.mt_lines.proofs.EndLemmas.{read_fails, take_fails, ends}
 use Rattle.mt_streams.proofs.FailureLemmas.{NoFewer-refl, NoFewer-trans, then-Failed}
 use Rattle.mt_streams.proofs.StreamLemmas.{Keeps-refl}
@@ -13,7 +13,7 @@ loop-init g c =
     let before = g.R.Source.remaining c.args.reader.now in
     let held = g.W.Sink.contents c.args.writer.now in
     record {
-      way = subst (λ (f : Front). Progress before before held held c.args.session.now f 0) (sym c.requires.empty) (subst (λ (s : Session). Progress before before held held s (front_of []) 0) (sym c.requires.fresh) (starts before held));
+      way = subst (λ (f : Front). Progress before before held held c.args.session.now f 0) (sym c.requires.empty) (subst (λ (s : SessionView). Progress before before held held s (front_of []) 0) (sym c.requires.fresh) (starts before held));
       reader = NoFewer-refl _;
       writer = NoFewer-refl _;
     }

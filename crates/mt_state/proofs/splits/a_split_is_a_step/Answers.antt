@@ -12,7 +12,7 @@ pub returns-clause-climbs : goal.returns-clause-climbs
 returns-clause-climbs c = λ core o op arena w s h few there climb t. let g = climb_done core o h few op there arena w s climb t in record { invariant = g.0; step = g.1 }
 
 pub returns-clause-returns_all : goal.returns-clause-returns_all
-returns-clause-returns_all c = λ core o op arena w s h few there at_unlock some t. let g = return_done core o h few op there at_unlock some arena w s t in record { invariant = g.0; step = g.1 }
+returns-clause-returns_all c = λ core o op arena w s h few there at_unlock told some t. let g = return_done core o h few op there at_unlock told some arena w s t in record { invariant = g.0; step = g.1 }
 
 pub returns-clause-parts : goal.returns-clause-parts
 returns-clause-parts c = λ core o op arena tape accounts w row h is_arena few there put at_move t. let g = part_done core o h few op there put at_move arena tape accounts w row is_arena t in record { invariant = g.0; step = g.1 }

@@ -23,4 +23,4 @@ pub returns-clause-fills : goal.returns-clause-fills
 returns-clause-fills c = λ core o op tape w h few there put at_publish t. let g = publish_full core (shown core) o refl h few op there at_publish put core.arena tape core.accounts w refl refl t.tape_is t.walk t.same t.kept t.missing t.full in record { invariant = g.0; step = g.1 }
 
 pub returns-clause-unlocks : goal.returns-clause-unlocks
-returns-clause-unlocks c = λ core o op arena w h few there at_unlock none t. let g = unlock_done core (shown core) o refl h few op there at_unlock none arena w t.is t.walk t.same t.leaves.guarantee t.leaves.contents in record { invariant = g.0; step = g.1 }
+returns-clause-unlocks c = λ core o op arena w h few there at_unlock told none t. let g = unlock_done core (shown core) o refl h few op there at_unlock told none arena w t.is t.walk t.same t.leaves.guarantee t.leaves.contents in record { invariant = g.0; step = g.1 }

@@ -3,48 +3,61 @@ use Rattle.mt_operation.specs.declared.walk.Phase.TheVariants.{Judge}
 use Rattle.mt_state.specs.declared.moves.Move.TheVariants.{Moved}
 use Rattle.mt_state.specs.Views.{Core, shown}
 use Rattle.mt_state.specs.Invariant.{StateInvariant}
-use Rattle.mt_state.proofs.Needs.{put_at, judge_kept, judge_ends}
+use Rattle.mt_state.proofs.Needs.{put_at, judge_kept}
 use Rattle.mt_state.proofs.Telling.{Gives}
 use Rattle.mt_core.specs.States.{core_of}
 use Rattle.mt_core.specs.Points.{StepsOn}
 use Rattle.mt_core.proofs.Following.{made, phase_is}
-use Rattle.mt_core.proofs.PutSteps.{may_step, ready_made, refused_made, ready_for}
+use Rattle.mt_core.proofs.PutSteps.{may_step, ready_made, on_made, refused_made, ready_for}
 use Rattle.mt_core.proofs.inner.Inner.judge.Goals as goal
 
-pub judge-prepared-requires-clause-put : goal.judge-prepared-requires-clause-put
-judge-prepared-requires-clause-put c = put_at (core_of c.self.inside) c.args.id c.self.invariant _ c.open-operation.ensures Judge (phase_is (core_of c.self.inside) _ c.args.id (λ q. q ≡ Judge) c.self.view_is _ c.open-operation.ensures c.requires.next) tt
+pub judge-judged-requires-clause-put : goal.judge-judged-requires-clause-put
+judge-judged-requires-clause-put c = put_at (core_of c.self.inside) c.args.id c.self.invariant _ c.open-operation.ensures Judge (phase_is (core_of c.self.inside) _ c.args.id (λ q. q ≡ Judge) c.self.view_is _ c.open-operation.ensures c.requires.next) tt
 
-pub judge-prepared-requires-clause-kept : goal.judge-prepared-requires-clause-kept
-judge-prepared-requires-clause-kept c = judge_kept (core_of c.self.inside) c.args.id c.self.invariant _ c.open-operation.ensures (phase_is (core_of c.self.inside) _ c.args.id (λ q. q ≡ Judge) c.self.view_is _ c.open-operation.ensures c.requires.next)
-
-pub judge-prepared-requires-clause-ends : goal.judge-prepared-requires-clause-ends
-judge-prepared-requires-clause-ends c = judge_ends (core_of c.self.inside) c.args.id c.self.invariant _ c.open-operation.ensures
+pub judge-judged-requires-clause-kept : goal.judge-judged-requires-clause-kept
+judge-judged-requires-clause-kept c = judge_kept (core_of c.self.inside) c.args.id c.self.invariant _ c.open-operation.ensures (phase_is (core_of c.self.inside) _ c.args.id (λ q. q ≡ Judge) c.self.view_is _ c.open-operation.ensures c.requires.next)
 
 pub go_on-requires : goal.go_on-requires
 go_on-requires c = may_step (core_of c.self.inside) _ c.args.id c.self.view_is c.self.invariant Judge refl c.requires.next
 
+pub go_on-requires-in-GoesOn : goal.go_on-requires-in-GoesOn
+go_on-requires-in-GoesOn c = may_step (core_of c.self.inside) _ c.args.id c.self.view_is c.self.invariant Judge refl c.requires.next
+
 pub go_on_with-requires : goal.go_on_with-requires
 go_on_with-requires c = may_step (core_of c.self.inside) _ c.args.id c.self.view_is c.self.invariant Judge refl c.requires.next
 
-abbrev after_some : goal.After-make_ready → Core
-after_some c = made (core_of c.self.inside) c.judge-prepared.new.arena c.judge-prepared.new.tape c.self.inside.tenants c.make_ready.new.self
+abbrev after_ready : goal.After-make_ready → Core
+after_ready c = made (core_of c.self.inside) c.judge-judged.new.arena c.judge-judged.new.tape c.self.inside.tenants c.make_ready.new.self
 
-gives_some : (c : goal.After-make_ready) → StateInvariant (after_some c) × StepsOn c.args.self.now (after_some c) c.args.id Moved
-gives_some c = let e = c.in-Some.ensures in ready_made (core_of c.self.inside) _ c.args.id c.self.view_is c.self.invariant c.requires.few c.requires.next _ c.open-operation.ensures _ _ _ _ _ _ e.unchanged e.step
-    (ready_for (core_of c.self.inside) c.args.id _ _ _ _ _ e.is e.same e.reserved e.unchanged e.kept) c.go_on.ensures.moves c.make_ready.ensures.readies
+gives_ready : (c : goal.After-make_ready) → StateInvariant (after_ready c) × StepsOn c.args.self.now (after_ready c) c.args.id Moved
+gives_ready c = let e = c.judge-judged.ensures in ready_made (core_of c.self.inside) _ c.args.id c.self.view_is c.self.invariant c.requires.few c.requires.next _ c.open-operation.ensures _ _ _ _ _ _ c.in-Ready.ensures.told.0 e.step
+    (ready_for (core_of c.self.inside) c.args.id _ _ _ _ c.in-Ready.ensures.told.1 e.same) c.go_on.ensures.moves c.make_ready.ensures.readies
 
 pub invariant_of-self : goal.invariant_of-self
-invariant_of-self c = (gives_some c).0
+invariant_of-self c = (gives_ready c).0
 
-pub returns-in-Some : goal.returns-in-Some
-returns-in-Some c = (gives_some c).1
+pub returns-in-Ready : goal.returns-in-Ready
+returns-in-Ready c = (gives_ready c).1
 
-gives_none : (c : goal.After-go_on_with) → Gives (shown c.args.self.now) (made (core_of c.self.inside) c.judge-prepared.new.arena c.judge-prepared.new.tape c.self.inside.tenants c.go_on_with.new.self) c.args.id true
-gives_none c = let e = c.in-None.ensures in refused_made (core_of c.self.inside) _ c.args.id c.self.view_is c.self.invariant c.requires.few c.requires.next _ c.open-operation.ensures _ _ _ _ _ e.unreserved
-    (record { is = e.unlocked; walk = e.done; same = e.same; leaves = record { guarantee = e.step; contents = e.contents } }) c.no_memory.ensures c.go_on_with.ensures.moves
+abbrev after_on : goal.After-go_on-in-GoesOn → Core
+after_on c = made (core_of c.self.inside) c.judge-judged.new.arena c.judge-judged.new.tape c.self.inside.tenants c.go_on-in-GoesOn.new.self
 
-pub invariant_of-self-in-None : goal.invariant_of-self-in-None
-invariant_of-self-in-None c = (gives_none c).0
+gives_on : (c : goal.After-go_on-in-GoesOn) → StateInvariant (after_on c) × StepsOn c.args.self.now (after_on c) c.args.id Moved
+gives_on c = let e = c.judge-judged.ensures in on_made (core_of c.self.inside) _ c.args.id c.self.view_is c.self.invariant c.requires.few c.requires.next _ c.open-operation.ensures _ _ _ _ c.in-GoesOn.ensures.told.0 e.same
+    (record { guarantee = e.step; contents = e.contents }) c.in-GoesOn.ensures.told.1 c.go_on-in-GoesOn.ensures.moves
 
-pub returns-in-None : goal.returns-in-None
-returns-in-None c = record { tells = (gives_none c).1; nears = tt }
+pub invariant_of-self-in-GoesOn : goal.invariant_of-self-in-GoesOn
+invariant_of-self-in-GoesOn c = (gives_on c).0
+
+pub returns-in-GoesOn : goal.returns-in-GoesOn
+returns-in-GoesOn c = (gives_on c).1
+
+gives_none : (c : goal.After-go_on_with) → Gives (shown c.args.self.now) (made (core_of c.self.inside) c.judge-judged.new.arena c.judge-judged.new.tape c.self.inside.tenants c.go_on_with.new.self) c.args.id true
+gives_none c = let e = c.judge-judged.ensures in let t = c.in-NoMemory.ensures.told in refused_made (core_of c.self.inside) _ c.args.id c.self.view_is c.self.invariant c.requires.few c.requires.next _ c.open-operation.ensures _ _ _ _ _ t.0
+    (record { is = t.2; walk = t.1; same = e.same; leaves = record { guarantee = e.step; contents = e.contents } }) c.no_memory.ensures c.go_on_with.ensures.moves
+
+pub invariant_of-self-in-NoMemory : goal.invariant_of-self-in-NoMemory
+invariant_of-self-in-NoMemory c = (gives_none c).0
+
+pub returns-in-NoMemory : goal.returns-in-NoMemory
+returns-in-NoMemory c = record { tells = (gives_none c).1; nears = tt }

@@ -2,10 +2,10 @@
 use Rattle.std.proofs.Common.{refl, sym, ap, ◌∙◌, arith}
 use Rattle.mt_state.specs.Views.{Core}
 use Rattle.mt_state.specs.Ways.{IsDescent}
-use Rattle.mt_state.specs.Writes.{IsClimb}
+use Rattle.mt_state.specs.Writes.{IsClimb, IsLayerPhase}
 use Rattle.mt_operation.specs.declared.walk.Phase.TheVariants.{Search, Load, Confirm, Lock, Judge, Store, Publish, SplitStart, SplitMove, Unlock}
 use Rattle.mt_core.specs.States.{core_of}
-use Rattle.mt_core.proofs.NextSteps.{next_left, next_at, next_is, descends, climbs}
+use Rattle.mt_core.proofs.NextSteps.{next_left, next_at, next_is, descends, climbs, layers}
 use Rattle.mt_core.proofs.inner.Inner.step.Goals as goal
 
 pub returns-then-self-ge-MAX_STEPS : goal.returns-then-self-ge-MAX_STEPS
@@ -61,6 +61,10 @@ split_move-requires-clause-next c =
 pub climb-requires-clause-next : goal.climb-requires-clause-next
 climb-requires-clause-next c =
     next_at (core_of c.self.inside) c.args.self.now c.args.id c.self.view_is c.next_phase.result c.in-Some.phase c.next_phase.ensures c.in-Some.is IsClimb (climbs c.in-Some.phase c.in-SplitPrev.is)
+
+pub build-requires-clause-next : goal.build-requires-clause-next
+build-requires-clause-next c =
+    next_at (core_of c.self.inside) c.args.self.now c.args.id c.self.view_is c.next_phase.result c.in-Some.phase c.next_phase.ensures c.in-Some.is IsLayerPhase (layers c.in-Some.phase c.in-MakeLayer.is)
 
 pub unlock-requires-clause-next : goal.unlock-requires-clause-next
 unlock-requires-clause-next c =

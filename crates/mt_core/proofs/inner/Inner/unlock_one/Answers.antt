@@ -5,18 +5,19 @@ use Rattle.mt_state.proofs.Needs.{unlock_kept}
 use Rattle.mt_state.proofs.Telling.{Gives}
 use Rattle.mt_core.specs.States.{core_of}
 use Rattle.mt_core.proofs.Following.{made, phase_is}
-use Rattle.mt_core.proofs.PutSteps.{may_step, splits_none, unlock_made}
+use Rattle.mt_core.proofs.PutSteps.{may_step, told_some, splits_none, unlock_made}
 use Rattle.mt_core.proofs.inner.Inner.unlock_one.Goals as goal
 
 pub unlock-requires-clause-kept : goal.unlock-requires-clause-kept
 unlock-requires-clause-kept c = unlock_kept (core_of c.self.inside) c.args.id c.self.invariant _ c.open.ensures (phase_is (core_of c.self.inside) _ c.args.id (λ q. q ≡ Unlock) c.self.view_is _ c.open.ensures c.requires.next)
-    (splits_none (core_of c.self.inside) _ c.args.id c.self.view_is c.requires.unsplit _ c.open.ensures)
+    (told_some (core_of c.self.inside) _ c.args.id c.self.view_is c.requires.told _ c.open.ensures) (splits_none (core_of c.self.inside) _ c.args.id c.self.view_is c.requires.unsplit _ c.open.ensures)
 
 pub go_on-requires : goal.go_on-requires
 go_on-requires c = may_step (core_of c.self.inside) _ c.args.id c.self.view_is c.self.invariant Unlock refl c.requires.next
 
 gives : (c : goal.After-go_on) → Gives (shown c.args.self.now) (made (core_of c.self.inside) c.unlock.new.arena c.self.inside.tape c.self.inside.tenants c.go_on.new.self) c.args.id true
-gives c = unlock_made (core_of c.self.inside) _ c.args.id c.self.view_is c.self.invariant c.requires.few c.requires.next _ c.open.ensures (splits_none (core_of c.self.inside) _ c.args.id c.self.view_is c.requires.unsplit _ c.open.ensures) _ _ _
+gives c = unlock_made (core_of c.self.inside) _ c.args.id c.self.view_is c.self.invariant c.requires.few c.requires.next _ c.open.ensures (told_some (core_of c.self.inside) _ c.args.id c.self.view_is c.requires.told _ c.open.ensures)
+    (splits_none (core_of c.self.inside) _ c.args.id c.self.view_is c.requires.unsplit _ c.open.ensures) _ _ _
     (record { is = c.unlock.ensures.is; walk = c.unlock.ensures.walk; same = c.unlock.ensures.same; leaves = record { guarantee = c.unlock.ensures.step; contents = c.unlock.ensures.contents } }) c.go_on.ensures.moves
 
 pub invariant_of-self : goal.invariant_of-self

@@ -1,0 +1,12 @@
+use Rattle.mt_border.specs.declared.entry.Held.TheVariants.{Link}
+use Rattle.mt_arena.proofs.SettledBut.{settled_but, settled_but_stays, settled_but_made, settled_but_held, settled_again}
+use Rattle.mt_arena.proofs.laws.settled_once_linked.Goals as goal
+
+pub returns : goal.returns
+returns c = record {
+  before = settled_but;
+  others = settled_but_stays;
+  made = settled_but_made;
+  held = λ v k i held arena within inside settled. settled_but_held v k i held arena.nodes within inside settled;
+  linked = λ v k i t arena within inside settled. settled_again v k i (Link t) arena.nodes within inside settled (λ none. none);
+}

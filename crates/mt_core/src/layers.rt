@@ -1,0 +1,43 @@
+//! The steps of an operation that makes a layer, until it gives its lock back.
+
+ghost use Rattle.mt_layer.specs.Kept.{KeptLayer};
+ghost use Rattle.mt_state.specs.Writes.{IsLayerPhase};
+ghost use Rattle.mt_core.specs.Layers.{TellsBuilt};
+
+use mt_arena::Arena;
+use mt_layer::{link, make_layer, mark_layer, mark_unstable};
+use mt_operation::{Phase, Walk};
+use mt_slices::StoredKey;
+use std::alloc::{AllocError, Global};
+
+/// Makes the step of the walk's phase. An error comes where there is no memory for the tree; then the
+/// lock is given back in this step, and the walk is done.
+pub(crate) fn build_on(
+    alloc: Global,
+    arena: &mut Arena,
+    key: &StoredKey,
+    walk: &mut Walk,
+    operation: usize,
+) -> Result<(), AllocError>
+    requires phase { IsLayerPhase walk.old.phase }
+    requires kept { KeptLayer walk.old.phase arena.old operation key.now walk.old }
+    ensures { TellsBuilt operation arena.old arena.new key.now walk.old walk.new result }
+{
+    arena.facts();
+    match walk.phase {
+        Phase::MakeLayer => make_layer(alloc, arena, key, walk, operation),
+        Phase::MarkUnstable => {
+            mark_unstable(arena, walk, operation);
+            Ok(())
+        }
+        Phase::Link => {
+            link(arena, walk, operation);
+            Ok(())
+        }
+        Phase::MarkLayer => {
+            mark_layer(arena, walk, operation);
+            Ok(())
+        }
+        _ => unreachable!(),
+    }
+}

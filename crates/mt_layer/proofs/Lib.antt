@@ -1,0 +1,4 @@
+pub mod Making
+pub mod Linking
+pub mod Rely
+pub mod Stamps

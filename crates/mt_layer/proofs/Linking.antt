@@ -1,0 +1,125 @@
+-- What is kept once the slot holds its pair otherwise, and once it is a link: for `mark_unstable`, `link` and `mark_layer`.
+use Rattle.std.proofs.Common.{◌≡◌, ◌≢◌, ℕ, ◌+◌, ◌<◌, length, Some, None, sym, ap, subst, ◌∙◌, inl, inr, arith}
+use Rattle.std.proofs.lemmas.Bool.{cases_eq}
+use Rattle.std.proofs.lemmas.List.{length-set, get_or-set_same, get_or-set_other}
+use Rattle.mt_rows.specs.Rows.{Bytes}
+use Rattle.mt_border.specs.declared.entry.Pair.{Pair}
+use Rattle.mt_border.specs.declared.entry.Held.{Held}
+use Rattle.mt_border.specs.declared.entry.Held.TheVariants.{Stable, Unstable, Link}
+use Rattle.mt_border.specs.Entry.{pair_of}
+use Rattle.mt_border.specs.Contents.{IsOfTree}
+use Rattle.mt_arena.specs.declared.tree.Tree.{Tree}
+use Rattle.mt_arena.specs.declared.tree.Standing.TheVariants.{Made, Live}
+use Rattle.mt_arena.specs.NodeView.{NodeView}
+use Rattle.mt_arena.specs.Forests.{tree_at, no_tree}
+use Rattle.mt_arena.specs.Arena.{ArenaView, IsArena}
+use Rattle.mt_arena.specs.Accesses.{at}
+use Rattle.mt_arena.specs.Layering.{with_held, with_slot, with_link}
+use Rattle.mt_arena.proofs.Pairs.{here, there}
+use Rattle.mt_arena.proofs.LayerStays.{whole_rewritten}
+use Rattle.mt_arena.proofs.SettledBut.{settled_but_held, settled_again}
+use Rattle.mt_operation.specs.declared.walk.Phase.{Phase}
+use Rattle.mt_operation.specs.declared.walk.Phase.TheVariants as phases
+use Rattle.mt_operation.specs.declared.walk.Taken.{Taken}
+use Rattle.mt_operation.specs.declared.walk.Taken.TheVariants as takens
+use Rattle.mt_operation.specs.declared.walk.Walk.{Walk}
+use Rattle.mt_layer.specs.Kept.{MakesLayer, IsAtMarkUnstable, IsAtLink, IsAtMarkLayer, IsAtLeave}
+use Rattle.mt_layer.specs.Moves.{walk_at}
+
+-- the walk makes one tree
+pub same_tree : (t u : ℕ) (taken : Taken) → taken ≡ takens.Link t → taken ≡ takens.Link u → t ≡ u
+same_tree t u taken is also = let both : takens.Link t ≡ takens.Link u = sym is ∙ also in cc
+
+-- the first node of the tree is another one than the operation's border node
+first_apart : (v : ArenaView) (op : ℕ) (key : Bytes) (w : Walk) (t : ℕ) (what : Held) (pair : Pair) → MakesLayer v op key w t what pair → (tree_at v.trees t).root ≢ w.place.node
+first_apart v op key w t what pair m same =
+    let mine : (tree_at v.trees t).standing ≡ Made op = m.layer.layer.mine in
+    let of_tree : (at v w.place.node).tree ≡ t = ap (λ (k : ℕ). (at v k).tree) (sym same) ∙ m.layer.layer.made.tree in
+    let both : Live ≡ Made op = sym m.layer.slot.tree_live ∙ ap (λ (u : ℕ). (tree_at v.trees u).standing) of_tree ∙ mine in
+    absurd (cc)
+
+-- the slot holds its pair otherwise
+otherwise : (v : ArenaView) (op : ℕ) (key : Bytes) (w : Walk) (t : ℕ) (what held : Held) (pair : Pair) (phase : Phase) → IsArena v.nodes v.trees
+    → ((p : Pair) → pair_of held ≡ Some p → pair_of what ≡ Some p) → MakesLayer v op key w t what pair
+    → MakesLayer (with_slot v w.place.node w.slot held) op key (walk_at phase w) t held pair
+otherwise v op key w t what held pair phase arena goes_on m =
+    let slot = m.layer.slot in
+    record {
+      taken = m.taken;
+      other = m.other;
+      layer = whole_rewritten v w.place.node w.slot t op what held m.other pair.row arena m.layer goes_on;
+      settled = settled_but_held v w.place.node w.slot held arena.nodes slot.held.there slot.in_range m.settled;
+      goes_on = record { there = m.goes_on.there; of_tree = m.goes_on.of_tree; begun = m.goes_on.begun };
+      first = ap (λ (x : NodeView). x.slots) (there v.nodes w.place.node (tree_at v.trees t).root (with_held (at v w.place.node) w.slot held) (first_apart v op key w t what pair m)) ∙ m.first;
+    }
+
+-- unstable
+pub unstable : (v : ArenaView) (op : ℕ) (key : Bytes) (w : Walk) → IsArena v.nodes v.trees → (h : IsAtMarkUnstable v op key w)
+    → IsAtLink (with_slot v w.place.node w.slot (Unstable h.pair None)) op key (walk_at phases.Link w)
+unstable v op key w arena h = record {
+  tree = h.tree;
+  pair = h.pair;
+  makes = otherwise v op key w h.tree (Stable h.pair) (Unstable h.pair None) h.pair phases.Link arena (λ p is. is) h.makes;
+}
+
+-- with the number of the tree
+pub numbered : (v : ArenaView) (op : ℕ) (key : Bytes) (w : Walk) → IsArena v.nodes v.trees → (h : IsAtLink v op key w)
+    → IsAtMarkLayer (with_slot v w.place.node w.slot (Unstable h.pair (Some h.tree))) op key (walk_at phases.MarkLayer w)
+numbered v op key w arena h = record {
+  tree = h.tree;
+  pair = h.pair;
+  makes = otherwise v op key w h.tree (Unstable h.pair None) (Unstable h.pair (Some h.tree)) h.pair phases.MarkLayer arena (λ p is. is) h.makes;
+}
+
+-- a link
+module _ (v : ArenaView) (op : ℕ) (key : Bytes) (w : Walk) (arena : IsArena v.nodes v.trees) (h : IsAtMarkLayer v op key w) where
+  abbrev k : ℕ
+  k = w.place.node
+
+  abbrev t : ℕ
+  t = h.tree
+
+  abbrev y : NodeView
+  y = with_held (at v k) w.slot (Link t)
+
+  abbrev u : Tree
+  u = record (tree_at v.trees t) { standing = Live }
+
+  abbrev after : ArenaView
+  after = with_link v k w.slot t
+
+  within : k < length v.nodes
+  within = h.makes.layer.slot.held.there
+
+  node_is : at after k ≡ y
+  node_is = here v.nodes k y within
+
+  tree_is : tree_at after.trees t ≡ u
+  tree_is = get_or-set_same v.trees t u no_tree h.makes.goes_on.there
+
+  size : length after.trees ≡ length v.trees
+  size = length-set v.trees t u
+
+  above_live : (tree_at after.trees (at v k).tree).standing ≡ Live
+  above_live = elim (cases_eq (at v k).tree t) [
+    | inl same ↦ ap (λ s. (tree_at after.trees s).standing) same ∙ ap (λ (x : Tree). x.standing) tree_is
+    | inr differ ↦ ap (λ (x : Tree). x.standing) (get_or-set_other v.trees t (at v k).tree u no_tree differ) ∙ h.makes.layer.slot.tree_live
+  ]
+
+  pub linked : IsAtLeave after op key (walk_at phases.Unlock w)
+  linked = record {
+    tree = t;
+    taken = h.makes.taken;
+    unlock = record {
+      held = record { there = omega (arith, within, length-set v.nodes k y); holder = ap (λ (x : NodeView). x.holder) node_is ∙ h.makes.layer.slot.held.holder };
+      tree_there = subst (λ (x : NodeView). x.tree < length after.trees) (sym node_is) (omega (arith, size, arena.forest.tree_there k within));
+      mine = λ q making. absurd (let live = sym above_live ∙ ap (λ (x : NodeView). (tree_at after.trees x.tree).standing) (sym node_is) ∙ making in cc);
+      settled = settled_again v k w.slot (Link t) arena.nodes within h.makes.layer.slot.in_range h.makes.settled (λ none. none);
+    };
+    through = record {
+      there = omega (arith, size, h.makes.goes_on.there);
+      unmade = λ q making. let live = sym (ap (λ (x : Tree). x.standing) tree_is) ∙ making in absurd (cc);
+      of_tree = subst (λ (x : Tree). IsOfTree x.prefix (w.layer + 1) key) (sym tree_is) h.makes.goes_on.of_tree;
+      begun = h.makes.goes_on.begun;
+    };
+  }

@@ -1,0 +1,142 @@
+-- The tree of the next layer may be made of the other key's entry there, and what is kept once it is made: for `make_layer`.
+use Rattle.std.proofs.Common.{◌≡◌, ℕ, ◌+◌, ◌*◌, ◌<◌, List, [], ◌∷◌, length, take, drop, refl, sym, ap, subst, ◌∙◌, inl, inr, arith, length-append}
+use Rattle.std.proofs.lemmas.Bool.{cases_eq}
+use Rattle.mt_slices.specs.Slices.{rest_of}
+use Rattle.mt_slices.specs.declared.mark.Mark.TheVariants.{Long}
+use Rattle.mt_slices.proofs.Order.{rest-more}
+use Rattle.mt_rows.specs.Rows.{Bytes}
+use Rattle.mt_border.specs.declared.entry.Entry.{Entry}
+use Rattle.mt_border.specs.declared.entry.Pair.{Pair}
+use Rattle.mt_border.specs.declared.entry.Held.TheVariants.{Stable}
+use Rattle.mt_border.specs.Entry.{pair_of}
+use Rattle.mt_border.specs.Contents.{HasKey}
+use Rattle.mt_border.specs.Node.{Node as BorderNode, entry_at}
+use Rattle.mt_border.proofs.Edits.{any_entry}
+use Rattle.mt_arena.specs.declared.tree.Tree.{Tree}
+use Rattle.mt_arena.specs.NodeView.{NodeView}
+use Rattle.mt_arena.specs.Forests.{layer_of}
+use Rattle.mt_arena.specs.Layers.{slot_at}
+use Rattle.mt_arena.specs.Ways.{BelongsIn}
+use Rattle.mt_arena.specs.Arena.{ArenaView, IsArena}
+use Rattle.mt_arena.specs.Accesses.{at, tree_of}
+use Rattle.mt_arena.specs.Layering.{IsHeldSlot, HasKeyAt, MayMakeLayer, entry_of, root_of, prefix_below, with_layer}
+use Rattle.mt_arena.proofs.Pairs.{last, before}
+use Rattle.mt_arena.proofs.Trees.{made as made_tree, last_tree}
+use Rattle.mt_arena.proofs.Steps.{keys_of}
+use Rattle.mt_arena.proofs.Down.{long_below, next_prefix}
+use Rattle.mt_arena.proofs.NextLayer.{may_make, has_below}
+use Rattle.mt_arena.proofs.LayerStays.{whole_begun}
+use Rattle.mt_arena.proofs.SettledBut.{settled_but, settled_but_made}
+use Rattle.mt_operation.specs.declared.walk.Walk.{Walk}
+use Rattle.mt_insert.specs.Kept.{HoldsOnly}
+use Rattle.mt_insert.proofs.Places.{belongs_here}
+use Rattle.mt_insert.specs.Kept.{IsAtMakeLayer}
+use Rattle.mt_layer.specs.Kept.{IsAtMarkUnstable}
+use Rattle.mt_layer.specs.Moves.{entry_below, walk_linked}
+
+module _ (v : ArenaView) (op : ℕ) (key : Bytes) (w : Walk) (arena : IsArena v.nodes v.trees) (h : IsAtMakeLayer v op key w) where
+  abbrev k : ℕ
+  k = w.place.node
+
+  abbrev n : NodeView
+  n = at v k
+
+  abbrev above : Bytes
+  above = (tree_of v k).prefix
+
+  abbrev layer : ℕ
+  layer = layer_of above
+
+  abbrev prefix : Bytes
+  prefix = prefix_below v k w.slot
+
+  abbrev e : Entry
+  e = entry_below h.pair
+
+  within : k < length v.nodes
+  within = h.holds.judged.held.there
+
+  in_node : BelongsIn v.nodes v.trees key w.layer k
+  in_node = belongs_here v op key w arena h.holds
+
+  is_long : (slot_at n w.slot).mark ≡ Long
+  is_long = h.in_slot.kind_is.0
+
+  -- the key goes on below
+  below : 8 * (w.layer + 1) < length key
+  below = long_below key w.layer (sym h.in_slot.mark_is ∙ is_long)
+
+  -- the slot is the operation's
+  held_slot : IsHeldSlot v k w.slot op (Stable h.pair)
+  held_slot = record {
+    held = h.holds.judged.held;
+    live = in_node.border.live;
+    border = in_node.border.level;
+    tree_live = in_node.tree_live;
+    in_range = h.in_slot.in_range;
+    long = is_long;
+    is = h.stable;
+  }
+
+  -- and has another key
+  other : (key : Bytes) × HasKeyAt v k w.slot key
+  other = (keys_of v.nodes v.trees k within arena.forest).keys w.slot any_entry h.in_slot.in_range
+
+  rest_is : h.pair.suffix ≡ rest_of other.0 (layer + 1)
+  rest_is = other.1.suffix h.pair (ap pair_of h.stable) ∙ rest-more other.0 layer
+
+  -- whose entry below is what its pair has there
+  entry_is : e ≡ entry_of other.0 (layer + 1) h.pair.row h.pair.stamp
+  entry_is = ap (λ (rest : Bytes). entry_below (record h.pair { suffix = rest })) rest_is
+
+  -- the prefix is what the key begins with
+  pub prefix_is : prefix ≡ take (8 * (w.layer + 1)) key
+  prefix_is = next_prefix above key w.layer (slot_at n w.slot).slice in_node.of_tree.stored.are_bytes (omega (arith, below)) in_node.of_tree.begins h.in_slot.slice_is
+
+  -- so the tree may be made
+  may : MayMakeLayer v prefix e
+  may = subst (λ (x : Entry). MayMakeLayer v prefix x) (sym entry_is) (may_make v k w.slot op h.pair other.0 h.pair.row h.pair.stamp arena held_slot other.1)
+
+  pub may_with : (p : Bytes) (x : Entry) → p ≡ take (8 * (w.layer + 1)) key → x ≡ e → MayMakeLayer v p x
+  may_with p x p_is x_is = rw (p_is ∙ sym prefix_is, x_is) may
+
+  has : HasKey prefix (layer_of prefix) e other.0
+  has = subst (λ (x : Entry). HasKey prefix (layer_of prefix) x other.0) (sym entry_is) (has_below v k w.slot op h.pair other.0 h.pair.row h.pair.stamp arena held_slot other.1)
+
+  -- what is kept once it is
+  pub made : IsAtMarkUnstable (with_layer v prefix e op) op key (walk_linked w (length v.trees))
+  made = record {
+    tree = length v.trees;
+    pair = h.pair;
+    makes = record {
+      taken = refl;
+      other = other.0;
+      layer = whole_begun v k w.slot op (Stable h.pair) other.0 e (record h.pair { suffix = drop 8 h.pair.suffix }) arena held_slot other.1 has refl;
+      settled = settled_but_made v prefix e op k w.slot within (settled_but v.nodes k w.slot h.holds.settled);
+      goes_on = record {
+        there = omega (arith, length-append v.trees (made_tree prefix (length v.nodes) op ∷ []));
+        of_tree = record {
+          stored = in_node.of_tree.stored;
+          reaches = omega (arith, below);
+          begins = ap (λ (t : Tree). t.prefix) (last_tree v.trees (made_tree prefix (length v.nodes) op)) ∙ prefix_is;
+        };
+        begun = below;
+      };
+      first = ap (λ (x : Tree). (at (with_layer v prefix e op) x.root).slots) (last_tree v.trees (made_tree prefix (length v.nodes) op)) ∙ ap (λ (x : NodeView). x.slots) (last v.nodes (root_of (length v.trees) e));
+    };
+  }
+
+-- what a border node has in a slot, its view has there
+pub in_border : (n : NodeView) (b : BorderNode) (slot : ℕ) (pair : Pair) → n.slots ≡ b.slots → (slot_at n slot).held ≡ Stable pair → (entry_at b slot).held ≡ Stable pair
+in_border n b slot pair same is = ap (λ (s : List Entry). (slot_at (record n { slots = s }) slot).held) (sym same) ∙ is
+
+-- the root of the new tree is free
+pub only_made : (v : ArenaView) (op k : ℕ) (prefix : Bytes) (e : Entry) → HoldsOnly v op k → HoldsOnly (with_layer v prefix e op) op k
+only_made v op k prefix e only j within holds =
+    let y = root_of (length v.trees) e in
+    elim (cases_eq j (length v.nodes)) [
+      | inl same ↦ absurd (let free = ap (λ (m : NodeView). m.holder) (sym (last v.nodes y)) ∙ ap (λ j. (at (with_layer v prefix e op) j).holder) (sym same) ∙ holds in cc)
+      | inr differ ↦
+          let lt : j < length v.nodes = omega (arith, within, differ, length-append v.nodes (y ∷ [])) in
+          only j lt (ap (λ (m : NodeView). m.holder) (sym (before v.nodes y j lt)) ∙ holds)
+    ]

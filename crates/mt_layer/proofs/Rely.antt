@@ -1,0 +1,95 @@
+-- What an operation keeps that makes a layer stays under each step of another one, by what that step leaves to others: for the law.
+use Rattle.std.proofs.Common.{◌≡◌, ◌≢◌, ℕ, ◌+◌, ◌<◌, List, length, Some, None, refl, sym, ap, subst, ◌∙◌, arith}
+use Rattle.mt_slices.specs.Slices.{slice_of, mark_of, suffix_of}
+use Rattle.mt_rows.specs.Rows.{Bytes}
+use Rattle.mt_border.specs.declared.entry.Entry.{Entry}
+use Rattle.mt_border.specs.declared.entry.Pair.{Pair}
+use Rattle.mt_border.specs.declared.entry.Held.{Held}
+use Rattle.mt_border.specs.declared.entry.Held.TheVariants.{Stable, Unstable}
+use Rattle.mt_border.specs.declared.entry.FoundKind.TheVariants.{OtherLong}
+use Rattle.mt_border.specs.Entry.{IsKind}
+use Rattle.mt_border.specs.Contents.{IsOfTree}
+use Rattle.mt_arena.specs.declared.tree.Tree.{Tree}
+use Rattle.mt_arena.specs.declared.tree.Standing.{Standing}
+use Rattle.mt_arena.specs.declared.tree.Standing.TheVariants.{Made, Live, Dead}
+use Rattle.mt_arena.specs.Forests.{tree_at}
+use Rattle.mt_arena.specs.Layers.{slot_at}
+use Rattle.mt_arena.specs.Arena.{ArenaView, Guarantee}
+use Rattle.mt_arena.specs.Accesses.{at, tree_of}
+use Rattle.mt_arena.specs.Guarantee.{TreeChanges}
+use Rattle.mt_arena.proofs.LayerStays.{whole_stays, tree_same, root_same}
+use Rattle.mt_arena.specs.NodeView.{NodeView}
+use Rattle.mt_arena.proofs.SettledBut.{settled_but_stays}
+use Rattle.mt_operation.specs.declared.walk.Phase.{Phase}
+use Rattle.mt_operation.specs.declared.walk.Phase.TheVariants as phases
+use Rattle.mt_operation.specs.declared.walk.Walk.{Walk}
+use Rattle.mt_descent.specs.Kept.{GoesThrough}
+use Rattle.mt_insert.specs.Kept.{IsAtMakeLayer}
+use Rattle.mt_insert.proofs.Rely.{held, unlock}
+use Rattle.mt_layer.specs.Kept.{GoesBelow, MakesLayer, KeptLayer}
+
+-- a tree that is not being made never is
+unmade_stays : (op : ℕ) (tree after : Tree) → TreeChanges op tree after → ((q : ℕ) → tree.standing ≢ Made q) → (s : Standing) → tree.standing ≡ s → (q : ℕ) → after.standing ≢ Made q
+unmade_stays op tree after c unmade (Made by) is q e = unmade by is
+unmade_stays op tree after c unmade Live is q e = c.live is q e
+unmade_stays op tree after c unmade Dead is q e = unmade q (ap (λ (t : Tree). t.standing) (sym (c.dead is)) ∙ e)
+
+module _ (op o : ℕ) (old new : ArenaView) (g : Guarantee op old new) (other : o ≢ op) where
+  -- a tree of the key
+  through : (t layer : ℕ) (key : Bytes) → GoesThrough old t layer key → GoesThrough new t layer key
+  through t layer key h =
+      let c = g.nodes.trees t h.there in
+      record {
+        there = omega (arith, h.there, g.nodes.tree_count);
+        unmade = unmade_stays op (tree_at old.trees t) (tree_at new.trees t) c h.unmade (tree_at old.trees t).standing refl;
+        of_tree = subst (λ (prefix : Bytes). IsOfTree prefix layer key) (sym c.prefix) h.of_tree;
+        begun = h.begun;
+      }
+
+  -- one that is still being made
+  below : (t layer : ℕ) (key : Bytes) → GoesBelow old t layer key → GoesBelow new t layer key
+  below t layer key h = record {
+    there = omega (arith, h.there, g.nodes.tree_count);
+    of_tree = subst (λ (prefix : Bytes). IsOfTree prefix (layer + 1) key) (sym (g.nodes.trees t h.there).prefix) h.of_tree;
+    begun = h.begun;
+  }
+
+  makes : (key : Bytes) (w : Walk) (t : ℕ) (what : Held) (pair : Pair) → (tree_of new w.place.node).standing ≢ Dead → MakesLayer old o key w t what pair → MakesLayer new o key w t what pair
+  makes key w t what pair alive m =
+      let slot = m.layer.slot in
+      record {
+        taken = m.taken;
+        other = m.other;
+        layer = whole_stays op o old new g other w.place.node w.slot t what m.other pair.row alive m.layer;
+        settled = settled_but_stays op o old.nodes new.nodes old.trees new.trees w.place.node w.slot g.nodes g.points other slot.held.there slot.held.holder m.settled;
+        goes_on = below t w.layer key m.goes_on;
+        first = ap (λ (x : Tree). (at new x.root).slots) (tree_same op o old new g other t m.other pair.row m.layer.layer) ∙ ap (λ (x : NodeView). x.slots) (root_same op o old new g other t m.other pair.row m.layer.layer) ∙ m.first;
+      }
+
+  -- at MakeLayer
+  make_layer : (key : Bytes) (w : Walk) → IsAtMakeLayer old o key w → IsAtMakeLayer new o key w
+  make_layer key w h =
+      let n = at old w.place.node in
+      let lock = h.holds.judged.held in
+      let same : n.slots ≡ (at new w.place.node).slots = sym ((g.nodes.nodes w.place.node lock.there).held o other lock.holder).slots in
+      record {
+        holds = held op o old new g other key w h.holds;
+        in_slot = record {
+          in_range = subst (λ (s : List Entry). w.slot < length s) same h.in_slot.in_range;
+          slice_is = subst (λ (s : List Entry). (slot_at (record n { slots = s }) w.slot).slice ≡ slice_of key w.layer) same h.in_slot.slice_is;
+          mark_is = subst (λ (s : List Entry). (slot_at (record n { slots = s }) w.slot).mark ≡ mark_of key w.layer) same h.in_slot.mark_is;
+          kind_is = subst (λ (s : List Entry). IsKind (slot_at (record n { slots = s }) w.slot) (suffix_of key w.layer) OtherLong) same h.in_slot.kind_is;
+        };
+        pair = h.pair;
+        stable = subst (λ (s : List Entry). (slot_at (record n { slots = s }) w.slot).held ≡ Stable h.pair) same h.stable;
+      }
+
+  -- at each phase
+  pub layer : (key : Bytes) (w : Walk) (phase : Phase) → (tree_of new w.place.node).standing ≢ Dead → KeptLayer phase old o key w → KeptLayer phase new o key w
+  layer key w phases.MakeLayer alive h = make_layer key w h
+  layer key w phases.MarkUnstable alive h = record { tree = h.tree; pair = h.pair; makes = makes key w h.tree (Stable h.pair) h.pair alive h.makes }
+  layer key w phases.Link alive h = record { tree = h.tree; pair = h.pair; makes = makes key w h.tree (Unstable h.pair None) h.pair alive h.makes }
+  layer key w phases.MarkLayer alive h = record { tree = h.tree; pair = h.pair; makes = makes key w h.tree (Unstable h.pair (Some h.tree)) h.pair alive h.makes }
+  layer key w phases.Unlock alive h = record { tree = h.tree; taken = h.taken; unlock = unlock op o old new g other w h.unlock; through = through h.tree (w.layer + 1) key h.through }
+  layer key w phases.Enter alive h = through w.place.tree w.layer key h
+  layer key w _ alive h = absurd h

@@ -1,0 +1,235 @@
+-- No pair gets another stamp as a layer is made: for `make_layer`, `mark_unstable`, `link` and `mark_layer`.
+use Rattle.std.proofs.Common.{◌≡◌, ◌≢◌, ℕ, ◌<◌, List, [], ◌∷◌, length, get_or, set, true, false, if◌then◌else◌, Some, refl, sym, ap, subst, ◌∙◌, inl, inr, arith, length-append}
+use Rattle.std.proofs.lemmas.Bool.{cases_eq}
+use Rattle.std.proofs.lemmas.Option.{none-some, same_Some}
+use Rattle.std.proofs.lemmas.List.{length-set, get_or-set_same, get_or-set_other}
+use Rattle.mt_rows.specs.Rows.{Bytes}
+use Rattle.mt_border.specs.declared.entry.Entry.{Entry}
+use Rattle.mt_border.specs.declared.entry.Pair.{Pair}
+use Rattle.mt_border.specs.declared.entry.Held.{Held}
+use Rattle.mt_border.specs.declared.entry.Held.TheVariants.{Unstable, Link}
+use Rattle.mt_border.specs.Entry.{pair_of}
+use Rattle.mt_border.specs.Contents.{HasKey, owned, key_at}
+use Rattle.mt_border.proofs.Edits.{any_entry, replaced_at}
+use Rattle.mt_border.proofs.ContentsKeys.{owned_at}
+use Rattle.mt_arena.specs.declared.tree.Tree.{Tree}
+use Rattle.mt_arena.specs.declared.tree.Standing.TheVariants.{Made, Live}
+use Rattle.mt_arena.specs.NodeView.{NodeView}
+use Rattle.mt_arena.specs.Contents.{counts, is_live}
+use Rattle.mt_arena.specs.Forests.{tree_at, no_tree, layer_of}
+use Rattle.mt_arena.specs.Layers.{slot_at}
+use Rattle.mt_arena.specs.Edits.{unlocked}
+use Rattle.mt_arena.specs.Arena.{ArenaView, IsArena}
+use Rattle.mt_arena.specs.Accesses.{at, tree_of, with_node}
+use Rattle.mt_arena.specs.Layering.{root_of, with_held, with_layer, with_slot, with_link}
+use Rattle.mt_arena.proofs.Pairs.{here, there, last, before}
+use Rattle.mt_arena.proofs.Trees.{made as made_tree, last_tree, before_tree}
+use Rattle.mt_operation.specs.declared.walk.Walk.{Walk}
+use Rattle.mt_layer.specs.Kept.{MakesLayer}
+use Rattle.mt_layer.specs.Moves.{HasStamp, KeepsStamps, entry_below}
+
+-- an entry has the slice and the mark of another one, and no pair but the other one's
+record IsLike (was now : Entry) : Type 0 where
+  slice : now.slice ≡ was.slice
+  mark : now.mark ≡ was.mark
+  pair : (pair : Pair) → pair_of now.held ≡ Some pair → pair_of was.held ≡ Some pair
+
+-- as each entry has itself
+itself : (e : Entry) → IsLike e e
+itself e = record { slice = refl; mark = refl; pair = λ pair is. is }
+
+-- a slot's pair is as it was, where its node counts as it did
+as_was : (v w : ArenaView) (k i : ℕ) (owner : ℕ × Bytes) (stamp : ℕ) → k < length v.nodes → counts w.trees (at w k) ≡ counts v.trees (at v k) → (tree_of w k).prefix ≡ (tree_of v k).prefix
+    → length (at w k).slots ≡ length (at v k).slots → IsLike (slot_at (at v k) i) (slot_at (at w k) i) → HasStamp w k i owner stamp → HasStamp v k i owner stamp
+as_was v w k i owner stamp within counted prefix size like h = record {
+  there = within;
+  counted = sym counted ∙ h.counted;
+  in_range = omega (arith, size, h.in_range);
+  pair = h.pair;
+  is = like.pair h.pair h.is;
+  owner_is = (λ a. owned (key_at (sym prefix a) (record (slot_at (at w k) i) { slice = sym like.slice a; mark = sym like.mark a }) h.pair)) ∙ h.owner_is;
+  stamp_is = h.stamp_is;
+}
+
+-- so it is in a node that is as it was
+node_as_was : (v w : ArenaView) (k i : ℕ) (owner : ℕ × Bytes) (stamp : ℕ) → k < length v.nodes → at w k ≡ at v k → tree_at w.trees (at v k).tree ≡ tree_of v k
+    → HasStamp w k i owner stamp → HasStamp v k i owner stamp
+node_as_was v w k i owner stamp within same same_tree =
+    let n = at v k in
+    as_was v w k i owner stamp within
+    (ap (counts w.trees) same ∙ ap (λ (t : Tree). if n.version.deleted then false else is_live t.standing) same_tree)
+    (ap (λ (x : NodeView). (tree_at w.trees x.tree).prefix) same ∙ ap (λ (t : Tree). t.prefix) same_tree)
+    (ap (λ (x : NodeView). length x.slots) same)
+    (subst (λ (x : NodeView). IsLike (slot_at n i) (slot_at x i)) (sym same) (itself (slot_at n i)))
+
+-- a lock is given back
+pub unlock_keeps : (v : ArenaView) (k : ℕ) → k < length v.nodes → KeepsStamps v (with_node v k (unlocked (at v k)))
+unlock_keeps v k within j m owner stamp h =
+    let y = unlocked (at v k) in
+    elim (cases_eq j k) [
+      | inl same ↦
+          let now = here v.nodes k y within in (
+            k,
+            m,
+            as_was v (with_node v k y) k m owner stamp within (ap (counts v.trees) now) (ap (λ (x : NodeView). (tree_at v.trees x.tree).prefix) now) (ap (λ (x : NodeView). length x.slots) now)
+                (subst (λ (x : NodeView). IsLike (slot_at (at v k) m) (slot_at x m)) (sym now) (itself (slot_at (at v k) m))) (subst (λ j. HasStamp (with_node v k y) j m owner stamp) same h),
+          )
+      | inr other ↦
+          let inside : j < length v.nodes = omega (arith, h.there, length-set v.nodes k y) in
+          (j, m, node_as_was v (with_node v k y) j m owner stamp inside (there v.nodes k j y other) refl h)
+    ]
+
+-- a tree is made, whose pairs do not count
+pub layer_keeps : (v : ArenaView) (prefix : Bytes) (e : Entry) (op : ℕ) → IsArena v.nodes v.trees → KeepsStamps v (with_layer v prefix e op)
+layer_keeps v prefix e op arena j m owner stamp h =
+    let y = root_of (length v.trees) e in
+    let u = made_tree prefix (length v.nodes) op in
+    let w = with_layer v prefix e op in
+    elim (cases_eq j (length v.nodes)) [
+      | inl same ↦ absurd (
+          let made : counts w.trees y ≡ false = ap (λ (t : Tree). is_live t.standing) (last_tree v.trees u) in
+          let counted : counts w.trees y ≡ true = ap (counts w.trees) (sym (last v.nodes y)) ∙ ap (λ j. counts w.trees (at w j)) (sym same) ∙ h.counted in
+          let both : false ≡ true = sym made ∙ counted in
+          cc)
+      | inr other ↦
+          let inside : j < length v.nodes = omega (arith, h.there, other, length-append v.nodes (y ∷ [])) in
+          (j, m, node_as_was v w j m owner stamp inside (before v.nodes y j inside) (before_tree v.trees u (at v j).tree (arena.forest.tree_there j inside)) h)
+    ]
+
+-- a slot holds something else
+module _ (v : ArenaView) (k i : ℕ) (held : Held) (arena : IsArena v.nodes v.trees) (within : k < length v.nodes) (in_range : i < length (at v k).slots)
+    (goes_on : (pair : Pair) → pair_of held ≡ Some pair → pair_of (slot_at (at v k) i).held ≡ Some pair) where
+  abbrev n : NodeView
+  n = at v k
+
+  abbrev e : Entry
+  e = slot_at n i
+
+  abbrev after : Entry
+  after = record e { held = held }
+
+  abbrev y : NodeView
+  y = with_held n i held
+
+  slots_are : y.slots ≡ set n.slots i after
+  slots_are = replaced_at n.slots i after any_entry (arena.nodes.each k within).slots.border.rising in_range refl
+
+  size : length y.slots ≡ length n.slots
+  size = ap length slots_are ∙ length-set n.slots i after
+
+  slot_here : slot_at y i ≡ after
+  slot_here = ap (λ (es : List Entry). get_or es i any_entry) slots_are ∙ get_or-set_same n.slots i after any_entry in_range
+
+  slot_there : (m : ℕ) → m ≢ i → slot_at y m ≡ slot_at n m
+  slot_there m other = ap (λ (es : List Entry). get_or es m any_entry) slots_are ∙ get_or-set_other n.slots i m after any_entry other
+
+  like : (m : ℕ) → IsLike (slot_at n m) (slot_at y m)
+  like m = elim (cases_eq m i) [
+    | inl same ↦ subst (λ m. IsLike (slot_at n m) (slot_at y m)) (sym same) (subst (IsLike e) (sym slot_here) (record { slice = refl; mark = refl; pair = goes_on }))
+    | inr other ↦ subst (IsLike (slot_at n m)) (sym (slot_there m other)) (itself (slot_at n m))
+  ]
+
+  -- its node has no pair that it had not, also where other trees change
+  node_keeps : (w : ArenaView) (m : ℕ) (owner : ℕ × Bytes) (stamp : ℕ) → at w k ≡ y → tree_at w.trees n.tree ≡ tree_of v k → HasStamp w k m owner stamp → HasStamp v k m owner stamp
+  node_keeps w m owner stamp now same_tree =
+      as_was v w k m owner stamp within
+      (ap (counts w.trees) now ∙ ap (λ (t : Tree). if n.version.deleted then false else is_live t.standing) same_tree)
+      (ap (λ (x : NodeView). (tree_at w.trees x.tree).prefix) now ∙ ap (λ (t : Tree). t.prefix) same_tree)
+      (ap (λ (x : NodeView). length x.slots) now ∙ size)
+      (subst (λ (x : NodeView). IsLike (slot_at n m) (slot_at x m)) (sym now) (like m))
+
+  -- and no pair gets another stamp
+  pub slot_keeps : KeepsStamps v (with_slot v k i held)
+  slot_keeps j m owner stamp h =
+      let w = with_slot v k i held in
+      elim (cases_eq j k) [
+        | inl same ↦ (k, m, node_keeps w m owner stamp (here v.nodes k y within) refl (subst (λ j. HasStamp w j m owner stamp) same h))
+        | inr other ↦
+            let inside : j < length v.nodes = omega (arith, h.there, length-set v.nodes k y) in
+            (j, m, node_as_was v w j m owner stamp inside (there v.nodes k j y other) refl h)
+      ]
+
+-- the operation's slot holds its pair otherwise
+pub held_keeps : (v : ArenaView) (op : ℕ) (key : Bytes) (w : Walk) (t : ℕ) (what held : Held) (pair : Pair) → IsArena v.nodes v.trees → ((p : Pair) → pair_of held ≡ Some p → pair_of what ≡ Some p)
+    → MakesLayer v op key w t what pair → KeepsStamps v (with_slot v w.place.node w.slot held)
+held_keeps v op key w t what held pair arena goes_on m =
+    let slot = m.layer.slot in
+    slot_keeps v w.place.node w.slot held arena slot.held.there slot.in_range (λ p is. ap pair_of slot.is ∙ goes_on p is)
+
+-- the slot is a link, and the tree has its pair from now on
+module _ (v : ArenaView) (op : ℕ) (key : Bytes) (walk : Walk) (t : ℕ) (pair : Pair) (arena : IsArena v.nodes v.trees) (makes : MakesLayer v op key walk t (Unstable pair (Some t)) pair) where
+  abbrev k : ℕ
+  k = walk.place.node
+
+  abbrev i : ℕ
+  i = walk.slot
+
+  abbrev old : NodeView
+  old = at v k
+
+  abbrev tree : Tree
+  tree = tree_at v.trees t
+
+  abbrev w : ArenaView
+  w = with_link v k i t
+
+  abbrev written : NodeView
+  written = with_held old i (Link t)
+
+  within : k < length v.nodes
+  within = makes.layer.slot.held.there
+
+  -- other trees are as they were
+  tree_there : (u : ℕ) → u ≢ t → tree_at w.trees u ≡ tree_at v.trees u
+  tree_there u other = get_or-set_other v.trees t u (record tree { standing = Live }) no_tree other
+
+  prefix_is : (tree_at w.trees t).prefix ≡ tree.prefix
+  prefix_is = ap (λ (x : Tree). x.prefix) (get_or-set_same v.trees t (record tree { standing = Live }) no_tree makes.goes_on.there)
+
+  -- the node's tree is another one
+  apart : old.tree ≢ t
+  apart same = absurd (
+      let mine : tree.standing ≡ Made op = makes.layer.layer.mine in
+      let both : Live ≡ Made op = sym makes.layer.slot.tree_live ∙ ap (λ u. (tree_at v.trees u).standing) same ∙ mine in
+      cc)
+
+  -- the new tree's pair is the one that the slot had
+  pair_below : (es : List Entry) (m : ℕ) (owner : ℕ × Bytes) (stamp : ℕ) (p : Pair) → es ≡ entry_below pair ∷ [] → m < length es → pair_of (get_or es m any_entry).held ≡ Some p
+      → owned (key_at tree.prefix (get_or es m any_entry) p) ≡ owner → p.stamp ≡ stamp → HasStamp v k i owner stamp
+  pair_below es m owner stamp p are lt is owner_is stamp_is =
+      let slot = makes.layer.slot in
+      let made = makes.layer.layer.made in
+      let only : m ≡ 0 = omega (arith, lt, ap length are) in
+      let entry : get_or es m any_entry ≡ entry_below pair = (λ a. get_or (are a) (only a) any_entry) in
+      let same : made.slot ≡ entry_below pair = ap (λ (es : List Entry). get_or es 0 any_entry) (sym made.slots ∙ makes.first) in
+      let has : HasKey tree.prefix (layer_of tree.prefix) (get_or es m any_entry) makes.other = subst (λ (x : Entry). HasKey tree.prefix (layer_of tree.prefix) x makes.other) (same ∙ sym entry) made.has in
+      let was : pair_of (slot_at old i).held ≡ Some pair = ap pair_of slot.is in
+      record {
+        there = within;
+        counted = ap (λ b. if b then false else is_live (tree_of v k).standing) slot.live ∙ ap is_live slot.tree_live;
+        in_range = slot.in_range;
+        pair = pair;
+        is = was;
+        owner_is = owned_at (tree_of v k).prefix (layer_of (tree_of v k).prefix) (slot_at old i) makes.other pair makes.layer.has was
+            ∙ sym (owned_at tree.prefix (layer_of tree.prefix) (get_or es m any_entry) makes.other p has is) ∙ owner_is;
+        stamp_is = ap (λ (q : Pair). q.stamp) (same_Some _ _ (ap (λ (x : Entry). pair_of x.held) (sym entry) ∙ is)) ∙ stamp_is;
+      }
+
+  pub link_keeps : KeepsStamps v w
+  link_keeps j m owner stamp h = elim (cases_eq j k) [
+    | inl same ↦ (k, m, node_keeps v k i (Link t) arena within makes.layer.slot.in_range (λ p is. absurd (none-some p is)) w m owner stamp (here v.nodes k written within) (tree_there old.tree apart) (subst (λ j. HasStamp w j m owner stamp) same h))
+    | inr other ↦
+        let inside : j < length v.nodes = omega (arith, h.there, length-set v.nodes k written) in
+        let now : at w j ≡ at v j = there v.nodes k j written other in
+        elim (cases_eq (at v j).tree t) [
+          | inl of_tree ↦
+              let root : j ≡ tree.root = makes.layer.layer.made.alone j inside of_tree in
+              let tree_is : (tree_of w j).prefix ≡ tree.prefix = ap (λ (x : NodeView). (tree_at w.trees x.tree).prefix) now ∙ ap (λ u. (tree_at w.trees u).prefix) of_tree ∙ prefix_is in (
+                k,
+                i,
+                pair_below (at w j).slots m owner stamp h.pair (ap (λ (x : NodeView). x.slots) now ∙ ap (λ j. (at v j).slots) root ∙ makes.first) h.in_range h.is
+                    (ap (λ (p : Bytes). owned (key_at p (slot_at (at w j) m) h.pair)) (sym tree_is) ∙ h.owner_is) h.stamp_is,
+              )
+          | inr apart_from ↦ (j, m, node_as_was v w j m owner stamp inside now (tree_there (at v j).tree apart_from) h)
+        ]
+  ]

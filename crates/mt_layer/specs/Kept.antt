@@ -1,0 +1,69 @@
+-- What is kept of an operation that makes a layer, by its next phase. Each fact speaks of the node and the slot that it holds, and of its tree.
+use Rattle.std.specs.Prelude.{◌≡◌, ℕ, ◌+◌, ◌*◌, ◌<◌, [], ◌∷◌, length, Some, None}
+use Rattle.mt_rows.specs.Rows.{Bytes}
+use Rattle.mt_border.specs.declared.entry.Pair.{Pair}
+use Rattle.mt_border.specs.declared.entry.Held.{Held}
+use Rattle.mt_border.specs.declared.entry.Held.TheVariants.{Stable, Unstable}
+use Rattle.mt_border.specs.Contents.{IsOfTree}
+use Rattle.mt_arena.specs.Forests.{tree_at}
+use Rattle.mt_arena.specs.Layering.{IsLayerOf, IsSettledBut}
+use Rattle.mt_arena.specs.Arena.{ArenaView}
+use Rattle.mt_arena.specs.Accesses.{at}
+use Rattle.mt_operation.specs.declared.walk.Phase.{Phase}
+use Rattle.mt_operation.specs.declared.walk.Phase.TheVariants as phases
+use Rattle.mt_operation.specs.declared.walk.Taken.TheVariants.{Link}
+use Rattle.mt_operation.specs.declared.walk.Walk.{Walk}
+use Rattle.mt_descent.specs.Kept.{GoesThrough, IsAtEnter}
+use Rattle.mt_insert.specs.Kept.{IsAtMakeLayer, IsAtUnlock}
+use Rattle.mt_layer.specs.Moves.{entry_below}
+
+-- the key is one of tree t, which is a layer further down, and has bytes there
+pub record GoesBelow (v : ArenaView) (t layer : ℕ) (key : Bytes) : Type 0 where
+  pub there : t < length v.trees
+  pub of_tree : IsOfTree (tree_at v.trees t).prefix (layer + 1) key
+  pub begun : 8 * (layer + 1) < length key
+
+-- the operation makes tree t for its key and for the one of the walk's slot, which holds this of the pair; nothing else lags behind the node, and the
+-- tree has the pair as its first entry, with its row and stamp
+pub record MakesLayer (v : ArenaView) (op : ℕ) (key : Bytes) (w : Walk) (t : ℕ) (what : Held) (pair : Pair) : Type 0 where
+  pub taken : w.taken ≡ Link t
+  pub other : Bytes
+  pub layer : IsLayerOf v w.place.node w.slot t op what other pair.row
+  pub settled : IsSettledBut v.nodes w.place.node w.slot
+  pub goes_on : GoesBelow v t w.layer key
+  pub first : (at v (tree_at v.trees t).root).slots ≡ entry_below pair ∷ []
+
+-- at MarkUnstable: the slot holds its pair as before
+pub record IsAtMarkUnstable (v : ArenaView) (op : ℕ) (key : Bytes) (w : Walk) : Type 0 where
+  pub tree : ℕ
+  pub pair : Pair
+  pub makes : MakesLayer v op key w tree (Stable pair) pair
+
+-- at Link: the pair is unstable
+pub record IsAtLink (v : ArenaView) (op : ℕ) (key : Bytes) (w : Walk) : Type 0 where
+  pub tree : ℕ
+  pub pair : Pair
+  pub makes : MakesLayer v op key w tree (Unstable pair None) pair
+
+-- at MarkLayer: it has the number of the tree
+pub record IsAtMarkLayer (v : ArenaView) (op : ℕ) (key : Bytes) (w : Walk) : Type 0 where
+  pub tree : ℕ
+  pub pair : Pair
+  pub makes : MakesLayer v op key w tree (Unstable pair (Some tree)) pair
+
+-- at Unlock: the lock may be given back, and the key goes through the new tree
+pub record IsAtLeave (v : ArenaView) (op : ℕ) (key : Bytes) (w : Walk) : Type 0 where
+  pub tree : ℕ
+  pub taken : w.taken ≡ Link tree
+  pub unlock : IsAtUnlock v op w
+  pub through : GoesThrough v tree (w.layer + 1) key
+
+-- what is kept of an operation that makes a layer by its next phase, until it begins anew in the tree of the layer
+abbrev pub KeptLayer : Phase → ArenaView → ℕ → Bytes → Walk → Type 0
+KeptLayer phases.MakeLayer v op key w = IsAtMakeLayer v op key w
+KeptLayer phases.MarkUnstable v op key w = IsAtMarkUnstable v op key w
+KeptLayer phases.Link v op key w = IsAtLink v op key w
+KeptLayer phases.MarkLayer v op key w = IsAtMarkLayer v op key w
+KeptLayer phases.Unlock v op key w = IsAtLeave v op key w
+KeptLayer phases.Enter v op key w = IsAtEnter v key w
+KeptLayer _ v op key w = ⊥

@@ -1,0 +1,93 @@
+//! What the tree of the next layer begins with: its prefix, and the entry of the key that is there.
+//!
+//! Errors: `AllocError`. Units: bytes.
+
+ghost use Rattle.std.specs.Prelude.{◌≡◌, ℕ, ◌<◌, ◌≤◌, ◌+◌, ◌*◌, IfOk, length, take, drop};
+ghost use Rattle.mt_slices.specs.Slices.{slice_at, mark_at};
+ghost use Rattle.mt_border.specs.declared.entry.Pair.{Pair as AnyPair};
+ghost use Rattle.mt_border.specs.declared.entry.Held.TheVariants.{Stable};
+ghost use Rattle.mt_border.specs.Entry.{IsStablePair};
+ghost use Rattle.mt_border.specs.Node.{IsLive, entry_at};
+ghost use Rattle.mt_layer.specs.Moves.{entry_below};
+
+use mt_arena::Prefix;
+use mt_border::{Border, Entry, Held, Pair, Suffix};
+use mt_slices::{Mark, StoredKey};
+use std::alloc::{AllocError, Global};
+
+// The bytes of a slice.
+const SLICE_BYTES: usize = 8;
+
+// The first eight bytes as a number, the highest first. Zeros stand for those that are missing.
+#[tactic(auto, using(mt_slices::proofs::Padding::written_padded), unfolding(mt_slices::specs::Slices::slice_at))]
+fn slice_at(bytes: &[u8]) -> u64
+    ensures { result ≡ slice_at bytes.now }
+{
+    let own = bytes.len().min(SLICE_BYTES);
+    let mut padded = [0; SLICE_BYTES];
+    padded[..own].copy_from_slice(&bytes[..own]);
+    u64::from_be_bytes(padded)
+}
+
+// How many of the first eight bytes there are, or that more follow.
+fn mark_at(bytes: &[u8]) -> Mark
+    ensures { result ≡ mark_at bytes.now }
+{
+    let own = bytes.len();
+    if own <= SLICE_BYTES {
+        Mark::Short(own as u8)
+    } else {
+        Mark::Long
+    }
+}
+
+// What follows the first eight bytes.
+fn rest_behind(bytes: &[u8]) -> &[u8]
+    ensures { result.now ≡ drop 8 bytes.now }
+{
+    &bytes[bytes.len().min(SLICE_BYTES)..]
+}
+
+// The entry that the pair of a longer key has in the next layer.
+fn entry_of(alloc: Global, pair: &Pair) -> Result<Entry, AllocError>
+    ensures { IfOk result (λ entry. entry ≡ entry_below pair.now) }
+{
+    let rest = pair.suffix.as_bytes();
+    let suffix = Suffix::new(Vec::from_slice(alloc, rest_behind(rest))?);
+    let row = pair.row.share()?;
+    Ok(Entry {
+        slice: slice_at(rest),
+        mark: mark_at(rest),
+        held: Held::Stable(Pair {
+            suffix,
+            row,
+            stamp: pair.stamp,
+        }),
+    })
+}
+
+/// The entry that the pair of a slot has in the next layer.
+pub(crate) fn entry_below(alloc: Global, border: &Border, slot: usize) -> Result<Entry, AllocError>
+    requires live { IsLive border.now slot }
+    requires stable { IsStablePair (entry_at border.now slot).held }
+    ensures { (pair : AnyPair) → (entry_at border.now slot).held ≡ Stable pair → IfOk result (λ entry. entry ≡ entry_below pair) }
+{
+    match border.load(slot) {
+        Some(Held::Stable(pair)) => entry_of(alloc, pair),
+        _ => unreachable!(),
+    }
+}
+
+/// The first bytes of all keys that begin as this one does down to the layer.
+pub(crate) fn prefix_below(
+    alloc: Global,
+    key: &StoredKey,
+    layer: usize,
+) -> Result<Prefix, AllocError>
+    requires { 8 * (layer + 1) < length key.now }
+    ensures { IfOk result (λ prefix. prefix ≡ take (8 * (layer + 1)) key.now) }
+{
+    let bytes = key.as_bytes();
+    let prefix = Vec::from_slice(alloc, &bytes[..SLICE_BYTES * (layer + 1)])?;
+    Ok(Prefix::new(prefix))
+}

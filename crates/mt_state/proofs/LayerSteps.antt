@@ -1,0 +1,393 @@
+-- The steps that make a layer, and those that lead into one: for a put that meets another long key, and for one that goes on below.
+use Rattle.std.proofs.Common.{◌≡◌, ◌≢◌, ℕ, ◌+◌, ◌<◌, ◌≤◌, inl, inr, Bool, true, false, List, [], length, Option, Some, None, refl, sym, ap, subst, ◌∙◌, arith}
+use Rattle.std.specs.Prelude.{◌^◌}
+use Rattle.std.specs.FinMap.{len}
+use Rattle.std.proofs.lemmas.List.Elements.{All-from_get_or}
+use Rattle.mt_rows.specs.declared.reply.Reply.TheVariants.{NoMemory}
+use Rattle.mt_rows.specs.Rows.{Bytes}
+use Rattle.mt_rows.specs.Tenants.{Contents, tenant_map}
+use Rattle.mt_border.specs.Contents.{IsStamped}
+use Rattle.mt_border.proofs.Edits.{any_entry}
+use Rattle.mt_tape.specs.Histories.{contents_at, IsLegalTape}
+use Rattle.mt_arena.specs.NodeView.{NodeView}
+use Rattle.mt_arena.specs.Edits.{unlocked}
+use Rattle.mt_arena.specs.Arena.{ArenaView, content_of, Guarantee}
+use Rattle.mt_arena.specs.Accesses.{at, tree_of, IsHeld, with_node}
+use Rattle.mt_operation.specs.declared.walk.Phase.{Phase}
+use Rattle.mt_operation.specs.declared.walk.Phase.TheVariants.{Enter, Judge, MakeLayer, MarkUnstable, Link, MarkLayer, Unlock, Done}
+use Rattle.mt_operation.specs.declared.walk.Walk.{Walk}
+use Rattle.mt_operation.specs.declared.outcome.Outcome.{Outcome}
+use Rattle.mt_operation.specs.declared.splits.Halves.{Halves}
+use Rattle.mt_operation.specs.declared.splits.Splits.{Splits}
+use Rattle.mt_operation.specs.declared.operation.Operation.{Operation}
+use Rattle.mt_operation.specs.Operations.{OperationView, view_of, is_done, IsUnsplit}
+use Rattle.mt_operation.specs.Tables.{op_at as operation_at}
+use Rattle.mt_descent.specs.Kept.{IsAtEnter, KeptAt}
+use Rattle.mt_insert.specs.Kept.{IsAtMakeLayer, HoldsOnly}
+use Rattle.mt_layer.specs.Kept.{KeptLayer}
+use Rattle.mt_layer.specs.Moves.{HasStamp}
+use Rattle.mt_state.specs.Views.{StateView, Core, shown, past_of}
+use Rattle.mt_state.specs.Steps.{MayFollow, told_change}
+use Rattle.mt_state.specs.Notes.{Notes}
+use Rattle.mt_state.specs.Promises.{Touches}
+use Rattle.mt_state.specs.Kept.{IsOfKind, IsOpenOperation, IsJudging, IsLayering, IsLeaving, IsReturning, HasAnswer, IsKeptAt, IsKeptOf, has_splits}
+use Rattle.mt_state.specs.Invariant.{IsTape, IsStampOf, AreStamps, HoldsLast, HoldsAt, StateInvariant, StateGuarantee}
+use Rattle.mt_state.specs.Writes.{LeavesContents, GivesBack, IsLayerPhase, MeetsAnother, BuildsLayer, GoesBelow}
+use Rattle.mt_state.proofs.Telling.{Gives, gives}
+use Rattle.mt_state.proofs.Quiet.{quiet, LeavesPairs}
+use Rattle.mt_state.proofs.Moved.{went, open_moved, has_moved, first_begun, first_upto}
+use Rattle.mt_state.proofs.Still.{IsUnready, floor_made, leaves_all, unready_none}
+use Rattle.mt_state.proofs.Reading.{walk_same}
+use Rattle.mt_state.proofs.OneNode.{counted_unlocked, counted_later, replaced_at, replaced_touches, replaced_leaves, quiet_grows, holds_here, quiet_gives}
+
+-- a phase at which an operation makes a layer, or has made it
+abbrev HasLayer : Phase → Type 0
+HasLayer Unlock = Unit {0}
+HasLayer phase = IsLayerPhase phase
+
+-- where a layer comes one step nearer, it goes on so, or the lock may be given back
+layer_leads : (p q : Phase) → IsLayerPhase p → MayFollow p q → q ≢ Done → HasLayer q
+layer_leads MakeLayer MarkUnstable i f on = tt
+layer_leads MakeLayer Done i f on = absurd (on refl)
+layer_leads MakeLayer _ i f on = absurd f
+layer_leads MarkUnstable Link i f on = tt
+layer_leads MarkUnstable _ i f on = absurd f
+layer_leads Link MarkLayer i f on = tt
+layer_leads Link _ i f on = absurd f
+layer_leads MarkLayer Unlock i f on = tt
+layer_leads MarkLayer _ i f on = absurd f
+layer_leads _ q i f on = absurd i
+
+-- an operation that makes a layer writes, has a step left, and nothing split
+layer_begun : (p : Phase) → IsLayerPhase p → p ≢ Enter
+layer_begun Enter i e = i
+layer_begun _ i e = absurd (cc)
+
+layer_writes : (p : Phase) → IsLayerPhase p → (writes : Bool) → IsOfKind p writes → writes ≡ true
+layer_writes MakeLayer i writes kind = kind
+layer_writes MarkUnstable i writes kind = kind
+layer_writes Link i writes kind = kind
+layer_writes MarkLayer i writes kind = kind
+layer_writes _ i writes kind = absurd i
+
+layer_open : (p : Phase) → IsLayerPhase p → is_done p ≡ false
+layer_open Done i = absurd i
+layer_open _ i = refl
+
+layer_unready : (p : Phase) → IsLayerPhase p → IsUnready p
+layer_unready MakeLayer i = tt
+layer_unready MarkUnstable i = tt
+layer_unready Link i = tt
+layer_unready MarkLayer i = tt
+layer_unready _ i = absurd i
+
+layer_unsplit : (p : Phase) → IsLayerPhase p → has_splits p ≡ false
+layer_unsplit MakeLayer i = refl
+layer_unsplit MarkUnstable i = refl
+layer_unsplit Link i = refl
+layer_unsplit MarkLayer i = refl
+layer_unsplit _ i = absurd i
+
+-- it holds its border node alone
+layer_held : (p : Phase) → IsLayerPhase p → (w : Walk) (s : Splits) (k : ℕ) → HoldsAt p w s k → k ≡ w.place.node
+layer_held MakeLayer i w s k holds = holds
+layer_held MarkUnstable i w s k holds = holds
+layer_held Link i w s k holds = holds
+layer_held MarkLayer i w s k holds = holds
+layer_held _ i w s k holds = absurd i
+
+layer_kept : (p : Phase) → IsLayerPhase p → (c : Core) (o : ℕ) (op : Operation) → IsKeptAt p c o op → IsLayering c o op p
+layer_kept MakeLayer i c o op kept = kept
+layer_kept MarkUnstable i c o op kept = kept
+layer_kept Link i c o op kept = kept
+layer_kept MarkLayer i c o op kept = kept
+layer_kept _ i c o op kept = absurd i
+
+-- so does one that has made it
+made_kind : (p : Phase) → HasLayer p → (writes : Bool) → writes ≡ true → IsOfKind p writes
+made_kind MakeLayer i writes is = is
+made_kind MarkUnstable i writes is = is
+made_kind Link i writes is = is
+made_kind MarkLayer i writes is = is
+made_kind Unlock i writes is = is
+made_kind _ i writes is = absurd i
+
+made_open : (p : Phase) → HasLayer p → is_done p ≡ false
+made_open Done i = absurd i
+made_open _ i = refl
+
+made_unready : (p : Phase) → HasLayer p → IsUnready p
+made_unready Unlock i = tt
+made_unready MakeLayer i = tt
+made_unready MarkUnstable i = tt
+made_unready Link i = tt
+made_unready MarkLayer i = tt
+made_unready _ i = absurd i
+
+made_held : (p : Phase) → HasLayer p → (w : Walk) (s : Splits) (k : ℕ) → s.halves.items ≡ [] → k ≡ w.place.node → HoldsAt p w s k
+made_held MakeLayer i w s k none is = is
+made_held MarkUnstable i w s k none is = is
+made_held Link i w s k none is = is
+made_held MarkLayer i w s k none is = is
+made_held Unlock i w s k none is = subst (λ (halves : List Halves). HoldsLast halves w s k) (sym none) is
+made_held _ i w s k none is = absurd i
+
+made_kept : (p : Phase) → HasLayer p → (c : Core) (o : ℕ) (op : Operation) → IsUnsplit op.splits → IsLayering c o op p → IsKeptAt p c o op
+made_kept MakeLayer i c o op unsplit kept = kept
+made_kept MarkUnstable i c o op unsplit kept = kept
+made_kept Link i c o op unsplit kept = kept
+made_kept MarkLayer i c o op unsplit kept = kept
+made_kept Unlock i c o op unsplit kept = subst (λ (told : Option Outcome). IsReturning told c o op) (sym kept.untold) (record { layering = kept; unsplit = unsplit })
+made_kept _ i c o op unsplit kept = absurd i
+
+-- a step of it leaves it without an outcome
+layer_notes : (p q : Phase) → IsLayerPhase p → HasLayer q → (old : StateView) (op : OperationView) (told : Option Outcome) → told ≡ None → Notes old op p q told
+layer_notes MakeLayer Done i j old op told none = absurd j
+layer_notes MakeLayer _ i j old op told none = none
+layer_notes MarkUnstable _ i j old op told none = none
+layer_notes Link _ i j old op told none = none
+layer_notes MarkLayer _ i j old op told none = none
+layer_notes _ q i j old op told none = absurd i
+
+module _ (c : Core) (o : ℕ) (h : StateInvariant c) (few : c.steps < 2 ^ 59) (op : Operation) (there : operation_at c.table o ≡ Some op) where
+  always : IsOpenOperation c op
+  always = (h.ops o op there).always
+
+  unsplit_at : (p : Phase) → op.walk.phase ≡ p → has_splits p ≡ false → IsUnsplit op.splits
+  unsplit_at p at_p none = (h.ops o op there).unsplit (ap has_splits at_p ∙ none)
+
+  kept_at : (p : Phase) → op.walk.phase ≡ p → IsKeptAt p c o op
+  kept_at p at_p = subst (λ (p : Phase). IsKeptAt p c o op) at_p (h.ops o op there).kept
+
+  begun_at : (p : Phase) → op.walk.phase ≡ p → p ≢ Enter → 0 < op.walk.first
+  begun_at p at_p other = always.begun (λ enters. other (sym at_p ∙ enters))
+
+  kind_at : (p : Phase) → op.walk.phase ≡ p → IsOfKind p op.walk.writes
+  kind_at p at_p = subst (λ (p : Phase). IsOfKind p op.walk.writes) at_p always.kind
+
+  -- the lock of the one node that it holds is given back
+  module _ (arena : ArenaView) (w : Walk) (told : Option Outcome) (is : arena ≡ with_node c.arena op.walk.place.node (unlocked (at c.arena op.walk.place.node))) (leaves : LeavesContents c o arena)
+      (held : IsHeld c.arena op.walk.place.node o) (only : HoldsOnly c.arena o op.walk.place.node) where
+    abbrev k : ℕ
+    k = op.walk.place.node
+
+    abbrev n : NodeView
+    n = at c.arena op.walk.place.node
+
+    abbrev after : Operation
+    after = went op (c.steps + 1) w told op.prepared
+
+    abbrev new : Core
+    new = quiet c arena c.tape.reserved o after
+
+    back_leaves : LeavesPairs c o arena
+    back_leaves = subst (LeavesPairs c o) (sym is) (replaced_leaves c o h k held.there (unlocked n) refl refl refl (counted_unlocked n c.steps (h.versions k held.there) (unlocked n) refl)
+        (subst (Guarantee o c.arena) is leaves.guarantee) (subst (λ (v : ArenaView). content_of v ≡ content_of c.arena) is leaves.contents))
+
+    free : (j : ℕ) → j < length (with_node c.arena k (unlocked n)).nodes → (at (with_node c.arena k (unlocked n)) j).holder ≡ Some o → ⊥
+    free j inside holds = let r = replaced_at c.arena k held.there (unlocked n) j inside in elim r.1 [
+      | inl same ↦ let no = ap (λ (m : NodeView). m.holder) (sym same.1) ∙ holds in absurd (cc)
+      | inr other ↦ other.0 (only j r.0 (ap (λ (m : NodeView). m.holder) (sym other.1) ∙ holds))
+    ]
+
+    back_gives : (p q : Phase) → op.walk.phase ≡ p → w.phase ≡ q → is_done p ≡ false → IsUnready p → IsUnready q → MayFollow p q → w.writes ≡ op.walk.writes → IsOfKind q w.writes
+        → told_change told ≡ told_change op.outcome → Notes (shown c) (view_of op) p q told → IsKeptAt q new o after → IsUnsplit op.splits → Gives (shown c) new o (is_done q)
+    back_gives p q at_p at_q unfinished was_unready unready follows writes kind same notes kept unsplit =
+        quiet_gives c (shown c) o refl h few op there arena c.tape.reserved w told op.prepared
+        back_leaves (ap is_done at_p ∙ unfinished)
+        (subst (λ (p : Phase). MayFollow p w.phase) (sym at_p) (subst (MayFollow p) (sym at_q) follows))
+        writes (subst (λ (q : Phase). IsOfKind q w.writes) (sym at_q) kind) same
+        (subst (λ (p : Phase). Notes (shown c) (view_of op) p w.phase told) (sym at_p) (subst (λ (q : Phase). Notes (shown c) (view_of op) p q told) (sym at_q) notes))
+        (λ j inside holds. absurd (free j (subst (λ (v : ArenaView). j < length v.nodes) is inside) (subst (λ (v : ArenaView). (at v j).holder ≡ Some o) is holds)))
+        (subst (λ (q : Phase). IsKeptAt q new o after) (sym at_q) kept)
+        unsplit
+        (let none = unready_none op p at_p was_unready in let no = unready_none after q at_q unready in omega (arith, none, no))
+        (subst (Touches o c.arena) (sym is) (replaced_touches c.arena k held.there (unlocked n) o (inl held.holder)))
+        (is_done q) (sym (ap is_done at_q))
+
+  -- an operation that goes on below is on its way there
+  below_kept : (arena : ArenaView) (w : Walk) → GoesBelow c o op arena w → op.outcome ≡ None → op.prepared ≡ None
+      → IsKeptAt Enter (quiet c arena c.tape.reserved o (went op (c.steps + 1) w op.outcome op.prepared)) o (went op (c.steps + 1) w op.outcome op.prepared)
+  below_kept arena w t untold unprepared =
+      let after = went op (c.steps + 1) w op.outcome op.prepared in
+      let new = quiet c arena c.tape.reserved o after in
+      let enters : IsAtEnter arena op.task.key after.walk = t.kept in
+      record {
+        kept = subst (λ (q : Phase). KeptAt q arena (past_of new) op.task.key None after.walk) (sym t.enters) enters;
+        untold = untold;
+        unprepared = unprepared;
+      }
+
+  module _ (at_judge : op.walk.phase ≡ Judge) where
+    judging : IsJudging c o op
+    judging = kept_at Judge at_judge
+
+    -- another long key stands in the place of the operation's own
+    pub meet_done : (w : Walk) → MeetsAnother c o op w → Gives (shown c) (quiet c c.arena c.tape.reserved o (went op (c.steps + 1) w op.outcome op.prepared)) o false
+    meet_done w t =
+        let after = went op (c.steps + 1) w op.outcome op.prepared in
+        let new = quiet c c.arena c.tape.reserved o after in
+        let makes : w.phase ≡ MakeLayer = ap (λ (x : Walk). x.phase) t.walk in
+        let writes : w.writes ≡ op.walk.writes = ap (λ (x : Walk). x.writes) t.walk in
+        let place : w.place.node ≡ op.walk.place.node = ap (λ (x : Walk). x.place.node) t.walk in
+        let whole = walk_same c op always w (begun_at Judge at_judge (λ enters. absurd (cc))) (ap (λ (x : Walk). x.first) t.walk) in
+        let own : IsLayering new o after MakeLayer = record {
+          makes = subst (IsAtMakeLayer c.arena o op.task.key) (sym whole) t.kept;
+          untold = judging.untold;
+          unprepared = judging.unprepared;
+        } in
+        quiet_gives c (shown c) o refl h few op there c.arena c.tape.reserved w op.outcome op.prepared
+        (leaves_all c o h) (ap is_done at_judge)
+        (subst (λ (p : Phase). MayFollow p w.phase) (sym at_judge) (subst (MayFollow Judge) (sym makes) tt))
+        writes (subst (λ (q : Phase). IsOfKind q w.writes) (sym makes) (writes ∙ kind_at Judge at_judge)) refl
+        (subst (λ (p : Phase). Notes (shown c) (view_of op) p w.phase op.outcome) (sym at_judge) (subst (λ (q : Phase). Notes (shown c) (view_of op) Judge q op.outcome) (sym makes) judging.untold))
+        (λ j inside holds. subst (λ (q : Phase). HoldsAt q after.walk op.splits j) (sym makes) (holds_here c (shown c) o refl h few op there Judge at_judge j inside holds ∙ sym place))
+        (subst (λ (q : Phase). IsKeptAt q new o after) (sym makes) own)
+        (unsplit_at Judge at_judge refl)
+        (let none = unready_none op Judge at_judge tt in let no = unready_none after MakeLayer makes tt in omega (arith, none, no))
+        (λ j inside. inl refl)
+        false (sym (ap is_done makes))
+
+    -- it goes on below by a link that it found under its lock
+    pub below_done : (arena : ArenaView) (w : Walk) → GoesBelow c o op arena w → Gives (shown c) (quiet c arena c.tape.reserved o (went op (c.steps + 1) w op.outcome op.prepared)) o false
+    below_done arena w t =
+        back_gives arena w op.outcome t.is t.leaves judging.judges.judged.held (holds_here c (shown c) o refl h few op there Judge at_judge)
+        Judge Enter at_judge t.enters refl tt tt tt t.same.writes tt refl judging.untold
+        (below_kept arena w t judging.untold judging.unprepared) (unsplit_at Judge at_judge refl)
+
+  module _ (at_unlock : op.walk.phase ≡ Unlock) (untold : op.outcome ≡ None) where
+    leaving : IsLeaving c o op
+    leaving = subst (λ (told : Option Outcome). IsReturning told c o op) untold (kept_at Unlock at_unlock)
+
+    -- it goes on in the layer that it has made
+    pub leave_done : (arena : ArenaView) (w : Walk) → GoesBelow c o op arena w → Gives (shown c) (quiet c arena c.tape.reserved o (went op (c.steps + 1) w op.outcome op.prepared)) o false
+    leave_done arena w t =
+        let only : HoldsOnly c.arena o op.walk.place.node =
+        λ j inside holds. subst (λ (halves : List Halves). HoldsLast halves op.walk op.splits j) leaving.unsplit.halves (holds_here c (shown c) o refl h few op there Unlock at_unlock j inside holds) in
+        back_gives arena w op.outcome t.is t.leaves leaving.layering.makes.unlock.held only
+        Unlock Enter at_unlock t.enters refl tt tt tt t.same.writes tt refl (untold, untold)
+        (below_kept arena w t untold leaving.layering.unprepared) leaving.unsplit
+
+  module _ (at_make : op.walk.phase ≡ MakeLayer) where
+    making : IsLayering c o op MakeLayer
+    making = kept_at MakeLayer at_make
+
+    -- there is no memory for the layer: the lock is given back in the same step
+    pub make_stopped : (arena : ArenaView) (w : Walk) → GivesBack c o op arena w
+        → Gives (shown c) (quiet c arena c.tape.reserved o (went op (c.steps + 1) w (Some (record { reply = NoMemory; at = c.steps + 1 })) op.prepared)) o true
+    make_stopped arena w t =
+        let told : Option Outcome = Some (record { reply = NoMemory; at = c.steps + 1 }) in
+        let after = went op (c.steps + 1) w told op.prepared in
+        let own : HasAnswer (quiet c arena c.tape.reserved o after) after = record {
+          outcome = record { reply = NoMemory; at = c.steps + 1 };
+          told = refl;
+          right = record {
+            begun = first_begun c op always w;
+            since = first_upto c op always w;
+            upto = omega arith;
+            placed = λ real. absurd (cc);
+          };
+          unprepared = making.unprepared;
+        } in
+        back_gives arena w told t.is t.leaves making.makes.holds.judged.held (holds_here c (shown c) o refl h few op there MakeLayer at_make)
+        MakeLayer Done at_make (ap (λ (x : Walk). x.phase) t.walk) refl tt tt tt t.same.writes tt (sym (ap told_change making.untold)) refl own (unsplit_at MakeLayer at_make refl)
+
+  -- a layer comes one step nearer
+  module _ (arena : ArenaView) (w : Walk) (layer : IsLayerPhase op.walk.phase) (t : BuildsLayer o c.arena arena op.task.key op.walk w) where
+    abbrev built : Operation
+    built = went op (c.steps + 1) w op.outcome op.prepared
+
+    abbrev building : Core
+    building = quiet c arena c.tape.reserved o built
+
+    layering : IsLayering c o op op.walk.phase
+    layering = layer_kept op.walk.phase layer c o op (h.ops o op there).kept
+
+    leads : HasLayer w.phase
+    leads = layer_leads op.walk.phase w.phase layer t.follows t.on
+
+    unsplit : IsUnsplit op.splits
+    unsplit = unsplit_at op.walk.phase refl (layer_unsplit op.walk.phase layer)
+
+    build_guarantee : StateGuarantee c building o
+    build_guarantee = record {
+      arena = t.guarantee;
+      grows = quiet_grows c o arena c.tape.reserved built t.contents;
+      past = record { steps = omega arith; same = λ n from upto. ap (λ (all : Contents). contents_at c.tape.entries all n) t.contents };
+      writes = λ e there. there;
+      accounts = λ t there. there;
+      floor = refl;
+    }
+
+    build_tape : IsTape building
+    build_tape = record {
+      rises = h.tape.rises;
+      made = omega (arith, h.tape.made);
+      legal = subst (λ (all : Contents). IsLegalTape c.tape.entries all) (sym t.contents) h.tape.legal;
+    }
+
+    -- each pair has the stamp that its owner had before, be it in the slot where it stood, or one layer further down
+    old_stamp : (k i : ℕ) (owner : ℕ × Bytes) (stamp : ℕ) → HasStamp c.arena k i owner stamp → IsStampOf (c.steps + 1) c.tape owner stamp
+    old_stamp k i owner stamp has =
+        let known = h.stamps k has.there has.counted i any_entry has.in_range has.pair has.is in
+        let own : IsStampOf c.steps c.tape owner stamp = subst (λ s. IsStampOf c.steps c.tape owner s) has.stamp_is (subst (λ q. IsStampOf c.steps c.tape q has.pair.stamp) has.owner_is known) in
+        (omega (arith, own.0), own.1, own.2)
+
+    build_stamps : AreStamps building
+    build_stamps k inside counted = All-from_get_or (IsStamped (IsStampOf (c.steps + 1) c.tape) (tree_of arena k).prefix) (at arena k).slots any_entry (λ i in_range pair is.
+        let old = t.stamps k i _ pair.stamp (record { there = inside; counted = counted; in_range = in_range; pair = pair; is = is; owner_is = refl; stamp_is = refl }) in
+        old_stamp old.0 old.1 _ pair.stamp old.2)
+
+    build_kept : IsKeptOf building o built
+    build_kept =
+        let whole = walk_same c op always w (begun_at op.walk.phase refl (layer_begun op.walk.phase layer)) t.same.first in
+        record {
+          always = open_moved c op always w building op.outcome op.prepared refl refl (λ t some. some) (floor_made c h.tape) t.same.writes
+              (made_kind w.phase leads w.writes (t.same.writes ∙ layer_writes op.walk.phase layer op.walk.writes always.kind));
+          kept = made_kept w.phase leads building o built unsplit (record {
+            makes = subst (KeptLayer w.phase arena o op.task.key) (sym whole) t.kept;
+            untold = layering.untold;
+            unprepared = layering.unprepared;
+          });
+          unsplit = λ none. unsplit;
+          placed = λ m placed. let once = (h.ops o op there).placed m placed in record {
+            entry = once.entry;
+            there = once.there;
+            step_is = once.step_is;
+            worker = once.worker;
+            tenant = once.tenant;
+            key_is = once.key_is;
+            makes = once.makes;
+          };
+        }
+
+    -- the tree of the layer was made, or the slot came nearer to its link
+    pub build_done : Gives (shown c) building o false
+    build_done =
+        let only : HoldsOnly c.arena o op.walk.place.node = λ j inside holds. layer_held op.walk.phase layer op.walk op.splits j (holds_here c (shown c) o refl h few op there op.walk.phase refl j inside holds) in
+        gives (shown c) c building o op built refl h few
+        (record {
+          there = there;
+          unfinished = layer_open op.walk.phase layer;
+          task = refl;
+          table = refl;
+          number = refl;
+          answers = refl;
+          leaves = build_guarantee;
+          tape = build_tape;
+          stamps = build_stamps;
+          versions = t.versions (c.steps + 1) (λ k inside. counted_later c.steps (at c.arena k) (h.versions k inside));
+          held = λ k inside holds. made_held w.phase leads built.walk op.splits k unsplit.halves (t.holds only k inside holds);
+          counts = λ tenant a is. subst (λ (all : Contents). (a.count ≡ len (tenant_map tenant all)) × (a.count ≤ a.quota)) (sym t.contents) (h.counts tenant a is);
+          kept = build_kept;
+          reserved = let none = unready_none op op.walk.phase refl (layer_unready op.walk.phase layer) in let no = unready_none built w.phase refl (made_unready w.phase leads) in omega (arith, none, no);
+          unremoved = t.unremoved h.unremoved;
+        })
+        (record {
+          logs = refl;
+          moves = has_moved c op always w op.outcome op.prepared t.follows;
+          notes = layer_notes op.walk.phase w.phase layer leads (shown c) (view_of op) op.outcome layering.untold;
+          touches = t.touches;
+          effect = inl (record { contents = t.contents; entries = refl; change = refl });
+        })
+        false (sym (made_open w.phase leads))

@@ -1,0 +1,32 @@
+-- Each pair in a slot of a tree that nobody is making stands for a key, as long as no tree dies: for a get that loads.
+use Rattle.std.proofs.Common.{◌≡◌, ◌≢◌, ℕ, ◌<◌, length, Some, refl}
+use Rattle.mt_rows.specs.Rows.{Bytes}
+use Rattle.mt_border.specs.declared.entry.Pair.{Pair}
+use Rattle.mt_border.specs.Entry.{pair_of}
+use Rattle.mt_border.proofs.Edits.{any_entry}
+use Rattle.mt_arena.specs.declared.tree.Standing.{Standing}
+use Rattle.mt_arena.specs.declared.tree.Standing.TheVariants.{Made, Live, Dead}
+use Rattle.mt_arena.specs.Forests.{layer_of}
+use Rattle.mt_arena.specs.Layers.{slot_at}
+use Rattle.mt_arena.specs.Arena.{ArenaView, IsArena}
+use Rattle.mt_arena.specs.Accesses.{at, tree_of}
+use Rattle.mt_arena.specs.Ways.{StandsFor}
+use Rattle.mt_state.specs.Invariant.{IsUnremoved}
+
+-- a tree is live, where it is neither being made nor dead
+still_live : (standing : Standing) → ((q : ℕ) → standing ≢ Made q) → standing ≢ Dead → standing ≡ Live
+still_live (Made q) unmade alive = absurd (unmade q refl)
+still_live Live unmade alive = refl
+still_live Dead unmade alive = absurd (alive refl)
+
+module _ (v : ArenaView) (arena : IsArena v.nodes v.trees) (unremoved : IsUnremoved v) (k : ℕ) (there : k < length v.nodes) (unmade : (q : ℕ) → (tree_of v k).standing ≢ Made q) where
+  -- the node's tree is live
+  pub live_tree : (tree_of v k).standing ≡ Live
+  live_tree = still_live (tree_of v k).standing unmade (unremoved.alive (at v k).tree (arena.forest.tree_there k there))
+
+  -- a slot of it stands for a key
+  pub slot_key : (i : ℕ) (pair : Pair) → i < length (at v k).slots → pair_of (slot_at (at v k) i).held ≡ Some pair → (key : Bytes) × StandsFor v.nodes v.trees key (layer_of (tree_of v k).prefix) k i pair
+  slot_key i pair within is =
+      let keys = ((arena.forest.homes k (at v k).tree there (arena.forest.tree_there k there)).keys refl).keys in
+      let key = keys i any_entry within in
+      (key.0, record { there = there; live = unremoved.live k there; tree_live = live_tree; in_range = within; has = key.1; pair_is = is })
