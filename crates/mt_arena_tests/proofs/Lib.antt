@@ -1,12 +1,2 @@
-pub mod ArenaSteps
-pub mod TreeReads
-pub mod TreeFacts
-pub mod TreeLocks
-pub mod TreeLinks
-pub mod TreeTops
-pub mod TreeSplits
-pub mod TreeWays
-pub mod TreeTold
-pub mod TreeEmptied
-pub mod TreeTakenOut
-pub mod TreeCollapsed
+pub mod Settling
+pub mod FirstSlot

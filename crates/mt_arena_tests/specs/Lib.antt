@@ -1,3 +1,1 @@
-pub mod ArenaStory
-pub mod TreeStory
-pub mod RemovalStory
+pub mod Checked

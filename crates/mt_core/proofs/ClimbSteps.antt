@@ -165,7 +165,7 @@ module _ (c : Core) (o : ℕ) (op : Operation) (h : StateInvariant c) (there : o
     climbs = grow_climbs op.walk.phase grows
 
     was : IsKeptOf new o op
-    was = let k = h.ops o op there in retained c c.answers c.tape new.table o op (own_tape c op k.always) k.always k
+    was = let k = h.ops o op there in retained c c.answers c.logs c.tape new.table o op (own_tape c op k.always) k.always k
 
     own : IsKeptOf new o y
     own =
@@ -204,7 +204,7 @@ module _ (c : Core) (o : ℕ) (op : Operation) (h : StateInvariant c) (there : o
 
     same_sound : StateInvariant new
     same_sound = record {
-      tape = record { rises = h.tape.rises; made = h.tape.made; legal = h.tape.legal };
+      tape = record { rises = h.tape.rises; made = h.tape.made; legal = h.tape.legal; keys = h.tape.keys; logs = h.tape.logs };
       stamps = h.stamps;
       versions = h.versions;
       holders = λ k q within held. let f = h.holders k q within held in elim (cases_eq q o) [
@@ -217,7 +217,7 @@ module _ (c : Core) (o : ℕ) (op : Operation) (h : StateInvariant c) (there : o
       counts = h.counts;
       ops = λ q x at_q. elim (cases_eq q o) [
         | inl is ↦ subst (λ n. IsKeptOf new n x) (sym is) (subst (IsKeptOf new o) (same_Some y x (sym here ∙ ap (operation_at new.table) (sym is) ∙ at_q)) own)
-        | inr other ↦ let k = h.ops q x (sym (set_there c.table o q (Some y) other) ∙ at_q) in retained c c.answers c.tape new.table q x (own_tape c x k.always) k.always k
+        | inr other ↦ let k = h.ops q x (sym (set_there c.table o q (Some y) other) ∙ at_q) in retained c c.answers c.logs c.tape new.table q x (own_tape c x k.always) k.always k
       ];
       reserved = h.reserved ∙ sym (count_back c.table o op y there refl);
       answered = subst (λ (all : Shown). c.answers + made_count all ≤ c.steps) (sym (ap (λ v. v.table) same_shown)) h.answered;

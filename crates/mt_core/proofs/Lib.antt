@@ -15,6 +15,7 @@ pub mod AloneEnds
 pub mod Retained
 pub mod Tabling
 pub mod Taking
+pub mod Draining
 pub mod Tidying
 pub mod Starts
 pub mod Beginning

@@ -1,5 +1,5 @@
--- What is kept of an operation stays where only the table and the count of answers are others, and the tape goes back as far as the operation needs: for `Inner::admit`, `take` and `tidy`.
-use Rattle.std.proofs.Common.{◌≡◌, ◌≢◌, ℕ, ◌+◌, ◌-◌, ◌<◌, ◌≤◌, Bool, true, false, Option, None, Some, sym, refl, ap, ◌∙◌, arith}
+-- What is kept of an operation stays where only the table, the logs and the count of answers are others, and the tape goes back as far as the operation needs: for `Inner::admit`, `take`, `drain` and `tidy`.
+use Rattle.std.proofs.Common.{◌≡◌, ◌≢◌, ℕ, ◌+◌, ◌-◌, ◌<◌, ◌≤◌, Bool, true, false, List, Option, None, Some, sym, refl, ap, ◌∙◌, arith}
 use Rattle.std.specs.Prelude.{if◌then◌else◌}
 use Rattle.std.specs.List.{Contains}
 use Rattle.std.proofs.lemmas.Option.{same_Some, none-some}
@@ -30,9 +30,9 @@ use Rattle.mt_state.specs.Steps.{change_in, told_change}
 use Rattle.mt_state.specs.Kept.{IsOpenOperation, IsOnItsWay, HasAnswer, TellsTaken, IsLayering, IsReturning, IsKeptAt, IsKeptOf}
 use Rattle.mt_state.proofs.Still.{nothing_changes}
 
--- the same state with another count of answers, another tape and another table
-abbrev retaped : Core → ℕ → Kept → Table → Core
-retaped c answers tape table = record c { answers = answers; tape = tape; table = table }
+-- the same state with another count of answers, other logs, another tape and another table
+abbrev retaped : Core → ℕ → List ℕ → Kept → Table → Core
+retaped c answers logs tape table = record c { answers = answers; logs = logs; tape = tape; table = table }
 
 -- a tape that tells of an operation that has begun what the state's own one tells: the contents from just before its first step on, and the writes from that step on
 pub record TellsOf (c : Core) (tape : Kept) (op : Operation) : Type 0 where
@@ -107,9 +107,9 @@ module _ (c : Core) (o : ℕ) (op : Operation) where
   change_since Unlock h m is = returned op.outcome h m is
   change_since Done h m is = answered h m is
 
-module _ (c : Core) (answers : ℕ) (tape : Kept) (table : Table) (q : ℕ) (op : Operation) (t : TellsOf c tape op) (k : IsOpenOperation c op) where
+module _ (c : Core) (answers : ℕ) (logs : List ℕ) (tape : Kept) (table : Table) (q : ℕ) (op : Operation) (t : TellsOf c tape op) (k : IsOpenOperation c op) where
   abbrev new : Core
-  new = retaped c answers tape table
+  new = retaped c answers logs tape table
 
   past_stays : 0 < op.walk.first → ExtendsPast op.walk.first (past_of c) (past_of new)
   past_stays begun = record { steps = omega arith; same = λ n from upto. t.contents begun n (omega (arith, from)) }

@@ -29,7 +29,7 @@ module _ (c : Core) (h : StateInvariant c) where
   right_shown : IsRightState (shown c)
   right_shown = record {
     answers = h.answered;
-    tape = record { rises = h.tape.rises; made = h.tape.made; legal = h.tape.legal };
+    tape = record { rises = h.tape.rises; made = h.tape.made; legal = h.tape.legal; keys = h.tape.keys; logs = h.tape.logs };
     operations = λ o view there. let w = inside_of c.table o view there in subst (IsRightOperation (shown c)) w.2 (right_inside o w.0 w.1);
     accounts = λ t a there. let counted = h.counts t a there in record { count = counted.0; quota = counted.1 };
   }

@@ -1,5 +1,7 @@
 -- A state in which nothing has happened keeps the invariant: for `Inner::new`.
-use Rattle.std.proofs.Common.{◌≡◌, ◌≢◌, ℕ, zero, suc, ◌<◌, [], false, length, sym, refl, ap, subst, ◌∙◌, arith}
+use Rattle.std.proofs.Common.{◌≡◌, ◌≢◌, ℕ, zero, suc, ◌<◌, ◌≤◌, List, [], false, length, replicate, sym, refl, ap, subst, ◌∙◌, arith}
+use Rattle.std.proofs.lemmas.List.{length-replicate}
+use Rattle.std.proofs.lemmas.List.Elements.{All-replicate}
 use Rattle.std.specs.FinMap.{len, len-empty}
 use Rattle.std.specs.Ordering.{nat_cmp}
 use Rattle.std.specs.Cmp.Lexicographic.{slice_cmp}
@@ -23,7 +25,7 @@ no_tape = record { entries = []; floor = 0; reserved = 0 }
 
 -- what is inside a new state
 abbrev start : ℕ → Accounts → Core
-start logs accounts = record { steps = 0; answers = 0; logs = logs; accounts = accounts; arena = new_arena; tape = no_tape; table = [] }
+start logs accounts = record { steps = 0; answers = 0; logs = replicate logs 0; accounts = accounts; arena = new_arena; tape = no_tape; table = [] }
 
 -- no tenant has a pair in a new arena
 no_len : (t : ℕ) → len (tenant_map t (content_of new_arena)) ≡ 0
@@ -33,9 +35,19 @@ never : {P : Type 0} (k : ℕ) → k < 0 → P
 never k lt = absurd (omega (arith, lt))
 
 -- the invariant of a new state
-start_sound : (logs : ℕ) (accounts : Accounts) → HaveNoPairs accounts → StateInvariant (start logs accounts)
-start_sound logs accounts none = record {
-  tape = record { rises = tt; made = omega arith; legal = λ k d lt. never k lt };
+start_sound : (logs : ℕ) (accounts : Accounts) → logs ≤ 64 → HaveNoPairs accounts → StateInvariant (start logs accounts)
+start_sound logs accounts few none = record {
+  tape = record {
+    rises = tt;
+    made = omega arith;
+    legal = λ k d lt. never k lt;
+    keys = λ k d lt. never k lt;
+    logs = record {
+      few = let count = length-replicate {A = ℕ} logs 0 in omega (arith, count, few);
+      made = All-replicate (λ m. m ≤ 0) logs 0 (omega arith);
+      reached = All-replicate (λ m. 0 ≤ m) logs 0 (omega arith);
+    };
+  };
   stamps = stamps;
   versions = versions;
   holders = holders;
@@ -68,10 +80,11 @@ start_sound logs accounts none = record {
     holders (suc k) o within held = absurd (omega (arith, within))
 
 -- the same of the values that the code has
-pub start_state : (logs : ℕ) (accounts : Accounts) (arena : ArenaView) (tape : Kept) (table : Table) → HaveNoPairs accounts → arena ≡ new_arena → tape ≡ no_tape → table ≡ []
-    → StateInvariant (record (start logs accounts) { arena = arena; tape = tape; table = table })
-start_state logs accounts arena tape table none a t e =
+pub start_state : (logs : ℕ) (accounts : Accounts) (given : List ℕ) (arena : ArenaView) (tape : Kept) (table : Table) → logs ≤ 64 → HaveNoPairs accounts
+    → given ≡ replicate logs 0 → arena ≡ new_arena → tape ≡ no_tape → table ≡ [] → StateInvariant (record (start logs accounts) { logs = given; arena = arena; tape = tape; table = table })
+start_state logs accounts given arena tape table few none g a t e =
     let P : Core → Type 0 = λ c. StateInvariant c in
-    subst (λ x. P (record (start logs accounts) { arena = x; tape = tape; table = table })) (sym a)
+    subst (λ w. P (record (start logs accounts) { logs = w; arena = arena; tape = tape; table = table })) (sym g)
+    (subst (λ x. P (record (start logs accounts) { arena = x; tape = tape; table = table })) (sym a)
     (subst (λ y. P (record (start logs accounts) { tape = y; table = table })) (sym t)
-    (subst (λ z. P (record (start logs accounts) { table = z })) (sym e) (start_sound logs accounts none)))
+    (subst (λ z. P (record (start logs accounts) { table = z })) (sym e) (start_sound logs accounts few none))))

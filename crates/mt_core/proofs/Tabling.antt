@@ -32,7 +32,7 @@ module _ (c : Core) (o answers : ℕ) (table : Table) (h : StateInvariant c) (ot
   table_sound : ((k : ℕ) → k < length c.arena.nodes → (at c.arena k).holder ≡ Some o → ⊥) → ((op : Operation) → operation_at table o ≡ Some op → IsKeptOf (with_table c answers table) o op)
       → one_if_prepared (operation_at table o) ≡ one_if_prepared (operation_at c.table o) → answers + made_count (shown_table table) ≤ c.steps → StateInvariant (with_table c answers table)
   table_sound free own weight bound = record {
-    tape = record { rises = h.tape.rises; made = h.tape.made; legal = h.tape.legal };
+    tape = record { rises = h.tape.rises; made = h.tape.made; legal = h.tape.legal; keys = h.tape.keys; logs = h.tape.logs };
     stamps = h.stamps;
     versions = h.versions;
     holders = λ k q within held.
@@ -41,7 +41,7 @@ module _ (c : Core) (o answers : ℕ) (table : Table) (h : StateInvariant c) (ot
     counts = h.counts;
     ops = λ q op there. elim (cases_eq q o) [
       | inl is ↦ subst (λ n. IsKeptOf (with_table c answers table) n op) (sym is) (own op (ap (operation_at table) (sym is) ∙ there))
-      | inr other ↦ let was = h.ops q op (sym (others q other) ∙ there) in retained c answers c.tape table q op (own_tape c op was.always) was.always was
+      | inr other ↦ let was = h.ops q op (sym (others q other) ∙ there) in retained c answers c.logs c.tape table q op (own_tape c op was.always) was.always was
     ];
     reserved = h.reserved ∙ sym (same_count table c.table (λ q. elim (cases_eq q o) [
       | inl is ↦ ap (λ n. one_if_prepared (operation_at table n)) is ∙ weight ∙ ap (λ n. one_if_prepared (operation_at c.table n)) (sym is)

@@ -1,8 +1,10 @@
 -- A trim to the floor that a tape needs keeps the invariant, and all that a tidying promises: for `Inner::tidy`.
 use Rattle.std.proofs.Common.{◌≡◌, ℕ, ◌<◌, ◌≤◌, inl, inr, List, [], ◌∷◌, Some, sym, refl, ap, subst, arith}
-use Rattle.std.specs.List.{Contains}
+use Rattle.std.specs.Prelude.{nat_lt}
+use Rattle.std.specs.List.{All, Contains}
 use Rattle.std.proofs.lemmas.Bool.{cases_lt}
-use Rattle.std.proofs.lemmas.List.Elements.{Contains-push, Contains-push_cases, Contains-append_cases, Contains-append_left, Contains-append_right}
+use Rattle.std.proofs.lemmas.List.Elements.{All-filter, Contains-push, Contains-push_cases, Contains-append_cases, Contains-append_left, Contains-append_right}
+use Rattle.mt_rows.specs.Commands.{IsKey}
 use Rattle.mt_border.proofs.ContentsStamps.{stamped_weaker}
 use Rattle.mt_tape.specs.declared.entry.Entry.{Entry as TapeEntry}
 use Rattle.mt_tape.specs.Tapes.{Kept, later_entries}
@@ -16,6 +18,7 @@ use Rattle.mt_operation.specs.Tables.{IsBeforeFirsts, IsFloorNeeded, op_at as op
 use Rattle.mt_state.specs.Views.{Core, StateView, shown}
 use Rattle.mt_state.specs.Invariant.{IsStampOf, StateInvariant}
 use Rattle.mt_state.proofs.Shown.{shown_there, inside_of}
+use Rattle.mt_core.specs.Drains.{IsLeastOf}
 use Rattle.mt_core.specs.Tidies.{Tidies, IsBeforeFirsts as IsBeforeAll, IsFloorNeeded as IsNeeded}
 use Rattle.mt_core.proofs.Retained.{TellsOf, retained}
 
@@ -47,7 +50,7 @@ firsts_made c h q op there = let k = (h.ops q op there).always in omega (arith, 
 abbrev trimmed : Core → ℕ → Kept
 trimmed c floor = record c.tape { entries = later_entries floor c.tape.entries; floor = floor }
 
-module _ (c : Core) (floor : ℕ) (h : StateInvariant c) (rises : c.tape.floor ≤ floor) (made : floor ≤ c.steps) (before : IsBeforeFirsts c.table floor) where
+module _ (c : Core) (floor : ℕ) (h : StateInvariant c) (rises : c.tape.floor ≤ floor) (made : floor ≤ c.steps) (before : IsBeforeFirsts c.table floor) (given : All (λ m. floor ≤ m) c.logs) where
   abbrev new : Core
   new = record c { tape = trimmed c floor }
 
@@ -66,6 +69,8 @@ module _ (c : Core) (floor : ℕ) (h : StateInvariant c) (rises : c.tape.floor �
       rises = rises-later_entries c.tape.floor floor c.tape.entries h.tape.rises rises;
       made = omega (arith, made, last_step_over-later_entries c.tape.floor floor c.tape.entries h.tape.rises rises, h.tape.made);
       legal = legal-trim floor c.tape.entries (content_of c.arena) h.tape.legal;
+      keys = All-filter (λ e. nat_lt floor e.step) (λ e. IsKey e.key) c.tape.entries h.tape.keys;
+      logs = record { few = h.tape.logs.few; made = h.tape.logs.made; reached = given };
     };
     stamps = λ k within counted. stamped_weaker (IsStampOf c.steps c.tape) (IsStampOf c.steps (trimmed c floor)) (tree_of c.arena k).prefix (at c.arena k).slots
         (λ q s w. (
@@ -79,18 +84,18 @@ module _ (c : Core) (floor : ℕ) (h : StateInvariant c) (rises : c.tape.floor �
     versions = h.versions;
     holders = h.holders;
     counts = h.counts;
-    ops = λ o op there. let k = h.ops o op there in retained c c.answers (trimmed c floor) c.table o op (tells o op there) k.always k;
+    ops = λ o op there. let k = h.ops o op there in retained c c.answers c.logs (trimmed c floor) c.table o op (tells o op there) k.always k;
     reserved = h.reserved;
     answered = h.answered;
     unremoved = h.unremoved;
     few = h.few;
   }
 
--- the floor of before is at most the one that is needed
-pub floor_rises : (c : Core) (floor : ℕ) → StateInvariant c → IsFloorNeeded c.table c.steps floor → c.tape.floor ≤ floor
-floor_rises c floor h needed =
-    needed.greatest c.tape.floor (omega (arith, floor_upto_last c.tape.floor c.tape.entries h.tape.rises, h.tape.made))
-    (λ o op there begun. (h.ops o op there).always.floor begun)
+-- the floor of before is at most the one that is needed, by the operations and by the logs
+pub floor_rises : (c : Core) (bound floor : ℕ) → StateInvariant c → IsFloorNeeded c.table c.steps bound → IsLeastOf c.logs bound floor → c.tape.floor ≤ floor
+floor_rises c bound floor h needed least = least.greatest c.tape.floor
+    (needed.greatest c.tape.floor (omega (arith, floor_upto_last c.tape.floor c.tape.entries h.tape.rises, h.tape.made)) (λ o op there begun. (h.ops o op there).always.floor begun))
+    h.tape.logs.reached
 
 -- a floor that is before the first steps of all operations inside is so by what is shown, and the other way round
 before_shown : (c : Core) (floor : ℕ) → IsBeforeFirsts c.table floor → IsBeforeAll (shown c).table floor
@@ -102,21 +107,28 @@ before_shown c floor before o view there begun =
 before_inside : (c : Core) (floor : ℕ) → IsBeforeAll (shown c).table floor → IsBeforeFirsts c.table floor
 before_inside c floor before o op there begun = before o (view_of op) (shown_there c.table o op there) begun
 
-needed_shown : (c : Core) (floor : ℕ) → IsFloorNeeded c.table c.steps floor → IsNeeded (shown c).table c.steps floor
-needed_shown c floor needed = record {
-  made = needed.made;
-  before = before_shown c floor needed.before;
-  greatest = λ n upto before. needed.greatest n upto (before_inside c n before);
+-- a floor that is before them all stays so when it is lower
+before_lower : (c : Core) (bound floor : ℕ) → floor ≤ bound → IsBeforeFirsts c.table bound → IsBeforeFirsts c.table floor
+before_lower c bound floor le before o op there begun = omega (arith, le, before o op there begun)
+
+needed_shown : (c : Core) (bound floor : ℕ) → IsFloorNeeded c.table c.steps bound → IsLeastOf c.logs bound floor → IsNeeded (shown c).table c.logs c.steps floor
+needed_shown c bound floor needed least = record {
+  floors = record {
+    made = omega (arith, least.within, needed.made);
+    before = before_shown c floor (before_lower c bound floor least.within needed.before);
+    given = least.each;
+  };
+  greatest = λ n floors. least.greatest n (needed.greatest n floors.made (before_inside c n floors.before)) floors.given;
 }
 
 -- what the code has after the trim: the invariant, and what the tidying tells
-pub tidied : (c : Core) (now : StateView) (floor : ℕ) (tape : Kept) → shown c ≡ now → StateInvariant c → IsFloorNeeded c.table c.steps floor → tape ≡ trimmed c floor
+pub tidied : (c : Core) (now : StateView) (bound floor : ℕ) (tape : Kept) → shown c ≡ now → StateInvariant c → IsFloorNeeded c.table c.steps bound → IsLeastOf c.logs bound floor → tape ≡ trimmed c floor
     → StateInvariant (record c { tape = tape }) × Tidies now (shown (record c { tape = tape }))
-tidied c now floor tape is h needed trims =
-    let up = floor_rises c floor h needed in
+tidied c now bound floor tape is h needed least trims =
+    let up = floor_rises c bound floor h needed least in
     subst (λ (v : StateView). StateInvariant (record c { tape = tape }) × Tidies v (shown (record c { tape = tape }))) is
     (subst (λ (x : Kept). StateInvariant (record c { tape = x }) × Tidies (shown c) (shown (record c { tape = x }))) (sym trims) (
-      trimmed_sound c floor h up needed.made needed.before,
+      trimmed_sound c floor h up (omega (arith, least.within, needed.made)) (before_lower c bound floor least.within needed.before) least.each,
       record {
         steps = refl;
         answers = refl;
@@ -125,7 +137,7 @@ tidied c now floor tape is h needed trims =
         arena = refl;
         table = refl;
         reserved = refl;
-        needed = needed_shown c floor needed;
+        needed = needed_shown c bound floor needed least;
         rises = up;
         entries = refl;
         maps = λ t m le. map_at-trim floor m c.tape.entries (content_of c.arena) t le;

@@ -1,5 +1,5 @@
 -- What is made of a command before its operation is begun, and which refusals a begin of it answers.
-use Rattle.std.specs.Prelude.{◌≡◌, ◌≢◌, ℕ, ◌^◌, not, Option, Some, None, IsSome, Result, Ok, Err, IsOk}
+use Rattle.std.specs.Prelude.{◌≡◌, ◌≢◌, ℕ, ◌^◌, not, length, Option, Some, None, IsSome, Result, Ok, Err, IsOk}
 use Rattle.mt_slices.specs.Keys.{IsStoredKey}
 use Rattle.mt_rows.specs.declared.command.Command.{Command}
 use Rattle.mt_rows.specs.declared.refusal.Refusal.{Refusal}
@@ -54,7 +54,7 @@ IsMadeOf (Err refusal) worker tenant command = Unit {0}
 
 -- the operation of an opening is of a worker of the state, and may be begun
 abbrev pub MayAdmit : StateView → Result OperationView Refusal → Type 0
-MayAdmit v (Ok op) = IsWorker v.logs op.worker × MayBegin op.command
+MayAdmit v (Ok op) = IsWorker (length v.logs) op.worker × MayBegin op.command
 MayAdmit v (Err refusal) = Unit {0}
 
 -- what an opening may answer: a refused one changes nothing

@@ -6,6 +6,7 @@ pub mod Tickets
 pub mod Nexts
 pub mod Looks
 pub mod Climbs
+pub mod Drains
 pub mod Tidies
 pub mod Rights
 pub mod Alone

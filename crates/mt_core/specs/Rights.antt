@@ -1,11 +1,11 @@
 -- What holds of every state, by what it shows.
 use Rattle.std.specs.Prelude.{◌≡◌, ℕ, ◌+◌, ◌<◌, ◌≤◌, true, Some}
-use Rattle.std.specs.List.{Contains}
+use Rattle.std.specs.List.{All, Contains}
 use Rattle.std.specs.FinMap.{len}
 use Rattle.mt_rows.specs.declared.tenants.Account.{Account}
 use Rattle.mt_rows.specs.Accounts.{account_of}
 use Rattle.mt_rows.specs.Changes.{changed}
-use Rattle.mt_rows.specs.Commands.{key_of}
+use Rattle.mt_rows.specs.Commands.{key_of, IsKey}
 use Rattle.mt_rows.specs.Rows.{columns_of}
 use Rattle.mt_rows.specs.Tenants.{tenant_map}
 use Rattle.mt_tape.specs.declared.entry.Entry.{Entry as TapeEntry}
@@ -17,13 +17,15 @@ use Rattle.mt_operation.specs.Operations.{OperationView, is_done}
 use Rattle.mt_state.specs.Views.{StateView, contents_of, op_at}
 use Rattle.mt_state.specs.Steps.{change_in}
 use Rattle.mt_state.specs.Promises.{IsAnswer}
-use Rattle.mt_state.specs.Invariant.{made_count}
+use Rattle.mt_state.specs.Invariant.{AreLogs, made_count}
 
--- the steps of the tape rise over its floor and were made, and each entry tells what its step did
+-- the steps of the tape rise over its floor and were made, each entry tells what its step did to a user's key, and it goes back as far as the logs need it
 pub record IsRightTape (v : StateView) : Type 0 where
   pub rises : RisesOver v.tape.floor v.tape.entries
   pub made : last_write v.tape ≤ v.steps
   pub legal : IsLegalTape v.tape.entries (contents_of v)
+  pub keys : All (λ e. IsKey e.key) v.tape.entries
+  pub logs : AreLogs v.logs v.tape.floor v.steps
 
 -- a change that an operation has placed has an entry of its step, worker, tenant and key, with the row that its command makes of the one before
 pub record HasEntry (v : StateView) (op : OperationView) (step : ℕ) : Type 0 where

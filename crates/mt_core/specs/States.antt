@@ -4,4 +4,4 @@ use Rattle.mt_state.specs.Views.{Core}
 
 -- what is inside
 abbrev pub core_of : Inside → Core
-core_of s = record { steps = s.steps; answers = s.answers; logs = s.logs; accounts = s.tenants; arena = s.arena; tape = s.tape; table = s.operations }
+core_of s = record { steps = s.steps; answers = s.answers; logs = s.logs.items; accounts = s.tenants; arena = s.arena; tape = s.tape; table = s.operations }

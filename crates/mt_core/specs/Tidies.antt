@@ -1,5 +1,6 @@
 -- What a tidying leaves.
-use Rattle.std.specs.Prelude.{◌≡◌, ℕ, ◌<◌, ◌≤◌, Some}
+use Rattle.std.specs.Prelude.{◌≡◌, ℕ, ◌<◌, ◌≤◌, List, Some}
+use Rattle.std.specs.List.{All}
 use Rattle.mt_tape.specs.Tapes.{later_entries}
 use Rattle.mt_operation.specs.Operations.{OperationView}
 use Rattle.mt_state.specs.Views.{StateView, Shown, op_at, map_of, changed_at}
@@ -8,11 +9,16 @@ use Rattle.mt_state.specs.Views.{StateView, Shown, op_at, map_of, changed_at}
 abbrev pub IsBeforeFirsts : Shown → ℕ → Type 0
 IsBeforeFirsts table floor = (o : ℕ) (op : OperationView) → op_at table o ≡ Some op → 0 < op.first → floor < op.first
 
--- the floor that a tape needs after so many steps: the greatest number of steps that is before the first step of each operation
-pub record IsFloorNeeded (table : Shown) (steps floor : ℕ) : Type 0 where
+-- a tape over this floor goes back before the first step of each operation, and up to where each log was given its changes
+pub record IsFloorFor (table : Shown) (logs : List ℕ) (steps floor : ℕ) : Type 0 where
   pub made : floor ≤ steps
   pub before : IsBeforeFirsts table floor
-  pub greatest : (n : ℕ) → n ≤ steps → IsBeforeFirsts table n → n ≤ floor
+  pub given : All (λ m. floor ≤ m) logs
+
+-- the floor that a tape needs: the greatest such number
+pub record IsFloorNeeded (table : Shown) (logs : List ℕ) (steps floor : ℕ) : Type 0 where
+  pub floors : IsFloorFor table logs steps floor
+  pub greatest : (n : ℕ) → IsFloorFor table logs steps n → n ≤ floor
 
 -- the tape begins at the floor that it needs, and nothing else has changed: every map from there on stands, and so does every change after it
 pub record Tidies (old new : StateView) : Type 0 where
@@ -23,7 +29,7 @@ pub record Tidies (old new : StateView) : Type 0 where
   pub arena : new.arena ≡ old.arena
   pub table : new.table ≡ old.table
   pub reserved : new.tape.reserved ≡ old.tape.reserved
-  pub needed : IsFloorNeeded old.table old.steps new.tape.floor
+  pub needed : IsFloorNeeded old.table old.logs old.steps new.tape.floor
   pub rises : old.tape.floor ≤ new.tape.floor
   pub entries : new.tape.entries ≡ later_entries new.tape.floor old.tape.entries
   pub maps : (t m : ℕ) → new.tape.floor ≤ m → map_of new t m ≡ map_of old t m

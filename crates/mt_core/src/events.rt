@@ -90,7 +90,7 @@ pub fn run_events(
 
 // Lets one event happen.
 fn tell(state: &mut State, roster: &mut Roster, event: &Event) -> Result<Told, AllocError>
-    requires worker { IsServed state.old.logs event.now }
+    requires worker { IsServed (length state.old.logs) event.now }
     requires named { AreNamed (named roster.old.tickets) state.old.table }
     requires held { AreHeld (named roster.old.tickets) state.old.table }
     requires by_id { AreById roster.old.names (named roster.old.tickets) }
@@ -118,7 +118,7 @@ fn begin_by(
     tenant: u32,
     command: &Command,
 ) -> Result<Told, AllocError>
-    requires worker { IsWorker state.old.logs worker }
+    requires worker { IsWorker (length state.old.logs) worker }
     requires held { AreHeld (named roster.old.tickets) state.old.table }
     requires by_id { AreById roster.old.names (named roster.old.tickets) }
     ensures logs { OnOk result (state.new.logs ≡ state.old.logs) }

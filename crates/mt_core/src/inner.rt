@@ -4,7 +4,7 @@
 //! operation is shown whole, with what it remembers on its way; `State` shows its steps and its reply
 //! alone. Units: steps by their numbers, which begin at 1.
 
-ghost use Rattle.std.specs.Prelude.{◌≡◌, ◌≢◌, ◌+◌, ◌<◌, ◌≤◌, ◌^◌, ℕ, IsSome, IfOk, slice_set, Some, None, []};
+ghost use Rattle.std.specs.Prelude.{◌≡◌, ◌≢◌, ◌+◌, ◌<◌, ◌≤◌, ◌^◌, ℕ, IsSome, IfOk, OnErr, length, slice_set, Some, None, []};
 ghost use Rattle.std.specs.Option.{option_map};
 ghost use Rattle.mt_arena.specs.Arena.{IsArena};
 ghost use Rattle.mt_state.specs.Views.{shown};
@@ -18,6 +18,7 @@ ghost use Rattle.mt_core.specs.Rights.{IsRightState};
 ghost use Rattle.mt_core.specs.Shows.{phase_at, phase_in, noted_at};
 ghost use Rattle.mt_core.specs.Alone.{Runs, IsAlone, EndsAlone};
 ghost use Rattle.mt_core.specs.Points.{StepsOn};
+ghost use Rattle.mt_core.specs.Drains.{Drains};
 ghost use Rattle.mt_core.specs.Tidies.{Tidies};
 ghost use Rattle.mt_core.specs.Nexts.{IsNext, ending};
 ghost use Rattle.mt_operation.specs.declared.operation.Operation.{Operation as AnyOperation};
@@ -26,6 +27,8 @@ ghost use Rattle.mt_operation.specs.Tables.{op_at as operation_at};
 
 use crate::answers::Ticket;
 use crate::climbs::{Climbed, climb_on};
+use crate::displaced::Displaced;
+use crate::drains::{least_of, none_given, records_after};
 use crate::layers::build_on;
 use crate::looks::{absent, descend, load_row, no_memory};
 use crate::openings::{Opening, give_back, give_up};
@@ -34,7 +37,7 @@ use mt_descent::{confirm, lock, search};
 use mt_insert::{Judged, judge, publish, split_move, split_start, store, unlock, unlock_all};
 use mt_layer::leave;
 use mt_operation::{Operation, Operations, Outcome, Phase, Prepared, Splits, Walk};
-use mt_rows::{Refusal, Reply, Tenants};
+use mt_rows::{Batch, Refusal, Reply, Tenants};
 use mt_runs::Answer;
 use mt_state::Move;
 use mt_tape::Tape;
@@ -50,7 +53,7 @@ pub(crate) struct Inner {
     pub(crate) alloc: Global,
     pub(crate) steps: u64,
     pub(crate) answers: u64,
-    pub(crate) logs: u8,
+    pub(crate) logs: Vec<u64>,
     tenants: Tenants,
     pub(crate) arena: Arena,
     tape: Tape,
@@ -80,7 +83,7 @@ impl Inner {
             alloc,
             steps: 0,
             answers: 0,
-            logs,
+            logs: none_given(alloc, logs)?,
             tenants,
             arena: Arena::new(alloc)?,
             tape: Tape::new(alloc, 0),
@@ -108,10 +111,14 @@ impl Inner {
     }
 
     /// The answer of an operation that is finished, which is right; else its ticket comes back.
-    pub(crate) fn take(&mut self, ticket: Ticket) -> Result<Answer, Ticket>
+    pub(crate) fn take(
+        &mut self,
+        ticket: Ticket,
+        displaced: &mut Displaced,
+    ) -> Result<Answer, Ticket>
         ensures { TellsTake (shown self.old) (shown self.new) ticket result }
     {
-        match give_up(&mut self.operations, ticket.id) {
+        match give_up(&mut self.operations, ticket.id, displaced) {
             Some(answer) => {
                 self.answers += 1;
                 Ok(answer)
@@ -155,12 +162,33 @@ impl Inner {
         let _ = &self.steps;
     }
 
-    /// Gives up the writes of the tape that no operation needs any more.
-    pub(crate) fn tidy(&mut self)
+    /// Gives up the writes of the tape that no operation and no log needs any more.
+    pub(crate) fn tidy(&mut self, displaced: &mut Displaced)
         ensures { Tidies (shown self.old) (shown self.new) }
     {
-        let floor = self.operations.floor_needed(self.steps);
-        self.tape.trim(floor);
+        let needed = self.operations.floor_needed(self.steps);
+        let floor = least_of(&self.logs, needed);
+        self.tape.trim(floor, &mut displaced.writes);
+    }
+
+    /// How many logs are served.
+    pub(crate) fn log_count(&self) -> u8
+        ensures { result ≡ length self.now.logs }
+    {
+        self.logs.len() as u8
+    }
+
+    /// Gives a worker's log its changes since it was last given any.
+    pub(crate) fn drain(&mut self, worker: u8) -> Result<Batch, AllocError>
+        requires { worker < length self.old.logs }
+        ensures drains { IfOk result (λ batch. Drains (shown self.old) (shown self.new) worker batch) }
+        ensures unchanged_on_err { OnErr result (shown self.new ≡ shown self.old) }
+    {
+        let from = self.logs[worker as usize];
+        let records = records_after(self.alloc, &self.tape, worker, from)?;
+        let to = self.steps;
+        self.logs[worker as usize] = to;
+        Ok(Batch { from, to, records })
     }
 
     /// Makes steps of an operation as long as it moves, and answers what the last one answered.

@@ -8,6 +8,8 @@
 
 pub mod answers;
 mod climbs;
+pub mod displaced;
+mod drains;
 pub mod events;
 mod inner;
 mod layers;
@@ -17,6 +19,7 @@ pub mod shape;
 pub mod state;
 
 pub use answers::Ticket;
+pub use displaced::Displaced;
 pub use events::{ToldList, run_events};
 pub use inner::MAX_STEPS;
 pub use openings::{Opening, prepare};

@@ -8,6 +8,7 @@ ghost use Rattle.mt_state.specs.Begins.{begun, IsAnswerOf, MayBegin};
 ghost use Rattle.mt_state.specs.Refused.{Makes};
 ghost use Rattle.mt_core.specs.Admitted.{IsRequest, IsAdmitted, IsMadeOf};
 
+use crate::displaced::{Displaced, Rest};
 use mt_operation::{Operation, Operations, Outcome, Request, Task};
 use mt_rows::{Change, Command, Refusal};
 use mt_runs::Answer;
@@ -94,8 +95,13 @@ fn admitted(alloc: Global, worker: u8, tenant: u32, command: Command) -> Result<
     Ok(Operation::new(alloc, task))
 }
 
-/// Takes an operation that is finished out of the table, and tells its answer.
-pub(crate) fn give_up(operations: &mut Operations, id: usize) -> Option<Answer>
+/// Takes an operation that is finished out of the table, and tells its answer; the rest of it is
+/// displaced.
+pub(crate) fn give_up(
+    operations: &mut Operations,
+    id: usize,
+    displaced: &mut Displaced,
+) -> Option<Answer>
     requires { (op : AnyOperation) → operation_at operations.old id ≡ Some op → is_unfinished op ≡ false → op.outcome ≢ None }
     ensures taken { IfSome result (λ answer. (op : AnyOperation) × (operation_at operations.old id ≡ Some op) × IsAnswerOf (view_of op) answer × (operations.new ≡ slice_set operations.old id None)) }
     ensures open { IfNone result ((operations.new ≡ operations.old) × ((op : AnyOperation) → operation_at operations.old id ≡ Some op → is_unfinished op ≡ true)) }
@@ -104,7 +110,7 @@ pub(crate) fn give_up(operations: &mut Operations, id: usize) -> Option<Answer>
         return None;
     }
     match operations.remove(id) {
-        Some(operation) => Some(answer_of(operation)),
+        Some(operation) => Some(answer_of(operation, displaced)),
         None => unreachable!(),
     }
 }
@@ -120,8 +126,8 @@ fn is_ended(operations: &Operations, id: usize) -> bool
     }
 }
 
-// The answer of a finished operation.
-fn answer_of(operation: Operation) -> Answer
+// The answer of a finished operation, the rest of which is displaced.
+fn answer_of(operation: Operation, displaced: &mut Displaced) -> Answer
     requires done { is_unfinished operation ≡ false }
     requires told { operation.outcome ≢ None }
     ensures { IsAnswerOf (view_of operation) result }
@@ -131,9 +137,15 @@ fn answer_of(operation: Operation) -> Answer
         walk,
         last,
         outcome,
-        ..
+        prepared,
+        splits,
     } = operation;
-    let Task { request, .. } = task;
+    let Task { request, key, .. } = task;
+    displaced.rest = Some(Rest {
+        key,
+        prepared,
+        splits,
+    });
     let Some(Outcome { reply, at }) = outcome else {
         unreachable!()
     };

@@ -3,7 +3,7 @@
 //! It owns its nodes, its tape and its operations. Errors: refusals of `begin`, which change nothing.
 //! Units: steps by their numbers, which begin at 1.
 
-ghost use Rattle.std.specs.Prelude.{◌≡◌, ◌≢◌, ◌≤◌, ℕ, IfOk, Some};
+ghost use Rattle.std.specs.Prelude.{◌≡◌, ◌≢◌, ◌<◌, ◌≤◌, ℕ, IfOk, OnErr, length, Some};
 ghost use Rattle.std.specs.Option.{option_map};
 ghost use Rattle.mt_rows.specs.Tenants.{tenant_map};
 ghost use Rattle.mt_state.specs.Views.{op_at, contents_of};
@@ -15,15 +15,17 @@ ghost use Rattle.mt_core.specs.Rights.{IsRightState};
 ghost use Rattle.mt_core.specs.Shapes.{IsShape};
 ghost use Rattle.mt_core.specs.Shows.{phase_at, noted_at};
 ghost use Rattle.mt_core.specs.Alone.{Runs, IsAlone, EndsAlone};
+ghost use Rattle.mt_core.specs.Drains.{Drains};
 ghost use Rattle.mt_core.specs.Tidies.{Tidies};
 ghost use Rattle.mt_operation.specs.Operations.{OperationView};
 
 use crate::answers::Ticket;
+use crate::displaced::Displaced;
 use crate::inner::Inner;
 use crate::openings::{Opening, prepare};
 use crate::shape::{ShapeLine, shape_of};
 use mt_operation::Phase;
-use mt_rows::{Command, Refusal, Reply, Tenants};
+use mt_rows::{Batch, Command, Refusal, Reply, Tenants};
 use mt_runs::Answer;
 use mt_state::Move;
 use std::alloc::{AllocError, Global};
@@ -60,7 +62,7 @@ impl State {
     /// Errors, the first that holds: `NoTenant`, the command's first fault (`KeyLong`, `Column`,
     /// `ColumnLong`), `Spent`. `Memory` may come in place of the last one, and never of the others.
     pub fn begin(&mut self, worker: u8, tenant: u32, command: Command) -> Result<Ticket, Refusal>
-        requires worker { IsWorker self.old.logs worker }
+        requires worker { IsWorker (length self.old.logs) worker }
         requires point { MayBegin command }
         ensures told { TellsBegin self.old self.new worker tenant command result }
         ensures refused { TellsRefusal self.old tenant command result }
@@ -81,7 +83,15 @@ impl State {
     pub fn take(&mut self, ticket: Ticket) -> Result<Answer, Ticket>
         ensures { TellsTake self.old self.new ticket result }
     {
-        self.inner.take(ticket)
+        let mut displaced = Displaced::new(self.inner.alloc);
+        self.inner.take(ticket, &mut displaced)
+    }
+
+    /// The same; what is left of the operation is handed out, to be freed by the caller.
+    pub fn take_into(&mut self, ticket: Ticket, displaced: &mut Displaced) -> Result<Answer, Ticket>
+        ensures { TellsTake self.old self.new ticket result }
+    {
+        self.inner.take(ticket, displaced)
     }
 
     /// Takes out an operation that has made no step; else its ticket comes back.
@@ -129,9 +139,9 @@ impl State {
 
     /// How many logs are served, 0 where none are kept.
     pub fn logs(&self) -> u8
-        ensures { result ≡ self.now.logs }
+        ensures { result ≡ length self.now.logs }
     {
-        self.inner.logs
+        self.inner.log_count()
     }
 
     /// What holds of every state: its tape is legal, and goes back before the first step of each open
@@ -143,11 +153,29 @@ impl State {
         self.inner.facts();
     }
 
-    /// Gives up the writes of the tape that no operation needs any more.
+    /// Gives a worker's log the changes that its operations placed since it was last given any; the
+    /// batch goes up to the last step that was made. An error comes where memory is refused.
+    pub fn drain(&mut self, worker: u8) -> Result<Batch, AllocError>
+        requires { worker < length self.old.logs }
+        ensures drains { IfOk result (λ batch. Drains self.old self.new worker batch) }
+        ensures unchanged_on_err { OnErr result (self.new ≡ self.old) }
+    {
+        self.inner.drain(worker)
+    }
+
+    /// Gives up the writes of the tape that no operation and no log needs any more.
     pub fn tidy(&mut self)
         ensures { Tidies self.old self.new }
     {
-        self.inner.tidy();
+        let mut displaced = Displaced::new(self.inner.alloc);
+        self.inner.tidy(&mut displaced);
+    }
+
+    /// The same; the writes are handed out, to be freed by the caller, as far as there is room for them.
+    pub fn tidy_into(&mut self, displaced: &mut Displaced)
+        ensures { Tidies self.old self.new }
+    {
+        self.inner.tidy(displaced);
     }
 
     /// Makes one step of an operation, which leaves every other tenant's map as it was.

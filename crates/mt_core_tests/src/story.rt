@@ -85,6 +85,51 @@ fn a_put_and_a_get_of_it(rt: HostRuntime) {
     assert_eq!(rt; numbers, (9, 2, 0));
 }
 
+// A put by one of several workers, which is answered.
+fn put_by(rt: &impl Abort, alloc: Global, state: &mut State, worker: u8, key: &str) {
+    assert!(rt; worker < state.logs());
+    let ticket = state
+        .begin(worker, 7, put(rt, alloc, key, "v"))
+        .expect(rt, "the put is taken");
+    assert!(rt; state.run_alone(&ticket) == Move::Done);
+    assert!(rt; state.take(ticket).is_ok());
+}
+
+// The batch that a worker's log is given: the step over which it goes, and its stamps and keys.
+fn expect_batch(
+    rt: &impl Abort,
+    state: &mut State,
+    worker: u8,
+    from: u64,
+    records: &[(u64, &str)],
+) {
+    assert!(rt; worker < state.logs());
+    let to = state.steps();
+    let batch = state.drain(worker).expect(rt, "memory");
+    assert_eq!(rt; (batch.from, batch.to), (from, to));
+    let told = batch.records.as_slice();
+    assert_eq!(rt; told.len(), records.len());
+    for (record, (stamp, key)) in told.iter().zip(records) {
+        assert_eq!(rt; (record.stamp, record.tenant), (*stamp, 7));
+        assert!(rt; record.key.as_bytes() == key.as_bytes() && record.row.is_some());
+    }
+}
+
+#[test]
+fn each_log_is_given_its_own_workers_changes_once(rt: HostRuntime) {
+    let alloc = rt.alloc();
+    let mut state = State::new(alloc, 2, one_tenant(alloc, 100)).expect(&rt, "memory");
+    for (worker, key) in [(0, "a"), (1, "b"), (0, "c")] {
+        put_by(&rt, alloc, &mut state, worker, key);
+    }
+    expect_batch(&rt, &mut state, 0, 0, &[(4, "a"), (14, "c")]);
+    state.tidy();
+    put_by(&rt, alloc, &mut state, 0, "b");
+    expect_batch(&rt, &mut state, 1, 0, &[(9, "b")]);
+    expect_batch(&rt, &mut state, 0, 15, &[(19, "b")]);
+    expect_batch(&rt, &mut state, 0, 20, &[]);
+}
+
 const SIXTEEN_KEYS: [&str; 16] = [
     "a", "b", "c", "d", "e", "f", "g", "h", "i", "j", "k", "l", "m", "n", "o", "p",
 ];

@@ -1,5 +1,5 @@
-//! Tests of `mt_log`: bytes worked out by hand, appends that are stopped or fail at each call of their
-//! disk, and a real file.
+//! Tests of `mt_disk` and `mt_log`: which calls fail, what a crash may leave, bytes worked out by hand,
+//! and real files.
 //!
 //! They stand in a crate of their own, since a crate with tests is proved twice.
 #![tactic(auto)]
@@ -7,9 +7,7 @@
 #[cfg(test)]
 mod crashes;
 #[cfg(test)]
-mod failures;
-#[cfg(test)]
-mod files;
+mod disks;
 #[cfg(test)]
 mod logs;
 #[cfg(test)]

@@ -1,30 +1,31 @@
-//! Batches, and logs on disks in memory, that the tests share.
+//! Batches, and logs on any disk, that the tests share.
 
 ghost use Rattle.std.specs.Prelude.{IfOk};
 ghost use Rattle.mt_log.specs.Contents.{IsBatch};
 
 use mt_disk::{Disk, MemDisk};
-use mt_log::{AppendFault, LogFile, OpenFault, fits};
+use mt_log::{AppendFault, LogBatch, LogFile, OpenFault, fits};
 use mt_rows::{Batch, Column, Key, Record, Records, Row};
 use std::alloc::{AllocError, Global};
 
 /// The header of log 0 of 1, and its closed gate.
 pub const EMPTY: [u8; 9] = [0x4d, 0x54, 0x4c, 0x4f, 0x47, 1, 0, 1, 0];
 
-/// The step at which each of the three batches ends that the tests append.
-pub const ENDS: [u64; 3] = [3, 5, 9];
-
-/// What came of an opening: the mark and the number of batches, or why not.
+/// What came of a call.
 #[derive(Clone, Copy, Debug, PartialEq, Eq)]
 pub enum Told {
+    /// A log whose batches join, up to this step; and how many these are.
     Front(u64, usize),
+    /// No log: the number and the offset that are told.
     Bad(u8, u64),
+    /// A batch that begins here, not at this mark.
+    Turn(u64, u64),
     Device,
     Memory,
 }
 
 /// A batch over step `from` and up to step `to`: one put of tenant 7, key 6b, column 76, at this step.
-pub fn put_batch(alloc: Global, from: u64, to: u64, stamp: u64) -> Result<Batch, AllocError>
+fn put_batch(alloc: Global, from: u64, to: u64, stamp: u64) -> Result<Batch, AllocError>
     ensures { IfOk result IsBatch }
 {
     let mut columns = Vec::new(alloc);
@@ -32,14 +33,14 @@ pub fn put_batch(alloc: Global, from: u64, to: u64, stamp: u64) -> Result<Batch,
     if !Row::fits(&columns) {
         return Err(AllocError);
     }
-    let row = Row::new(alloc, columns)?;
+    let row = Some(Row::new(alloc, columns)?);
     let key = Key::new(b"k".to_vec(alloc)?);
     let mut records = Vec::new(alloc);
     records.push(Record {
         stamp,
         tenant: 7,
         key,
-        row: Some(row),
+        row,
     })?;
     let records = Records::new(records);
     let batch = Batch { from, to, records };
@@ -50,16 +51,51 @@ pub fn put_batch(alloc: Global, from: u64, to: u64, stamp: u64) -> Result<Batch,
     }
 }
 
-/// The disk of a log that an append gave back, and its batch.
-pub fn given_back<D: Disk>(fault: AppendFault<D>) -> (D, Batch) {
-    match fault {
-        AppendFault::WrongTurn(log, batch, _) => (log.into_disk(), batch),
-        AppendFault::Memory(log, batch) => (log.into_disk(), batch),
-        AppendFault::Device(disk, batch) => (disk, batch),
+/// Appends such a batch, or gives the log's disk back.
+pub fn append<D: Disk>(
+    alloc: Global,
+    log: LogFile<D>,
+    from: u64,
+    to: u64,
+    stamp: u64,
+) -> Result<LogFile<D>, (D, Told)> {
+    let batch = match put_batch(alloc, from, to, stamp) {
+        Ok(batch) => batch,
+        Err(_) => return Err((log.into_disk(), Told::Memory)),
+    };
+    match log.append(alloc, batch) {
+        Ok(log) => Ok(log),
+        Err(AppendFault::WrongTurn(log, batch, mark)) => {
+            Err((log.into_disk(), Told::Turn(batch.from, mark)))
+        }
+        Err(AppendFault::Memory(log, _)) => Err((log.into_disk(), Told::Memory)),
+        Err(AppendFault::Device(disk, _)) => Err((disk, Told::Device)),
     }
 }
 
-/// The disk that an opening gave back.
+/// Appends batches of a step each, up to this step or the first call that fails. Gives the disk and the
+/// mark that was reached.
+pub fn append_up_to<D: Disk>(alloc: Global, log: LogFile<D>, last: u64) -> (D, u64) {
+    let mut log = log;
+    for from in log.mark()..last {
+        log = match append(alloc, log, from, from + 1, from + 1) {
+            Ok(log) => log,
+            Err((disk, _)) => return (disk, from),
+        };
+    }
+    let mark = log.mark();
+    (log.into_disk(), mark)
+}
+
+/// Opens a disk and appends to it in this way. Where it doesn't open, its mark is 0.
+pub fn go_on<D: Disk>(alloc: Global, disk: D, last: u64) -> (D, u64) {
+    match LogFile::open(alloc, disk) {
+        Ok((log, _front)) => append_up_to(alloc, log, last),
+        Err(fault) => (not_opened(fault).0, 0),
+    }
+}
+
+/// The disk that an opening gave back, and why.
 pub fn not_opened<D: Disk>(fault: OpenFault<D>) -> (D, Told) {
     match fault {
         OpenFault::Device(disk) => (disk, Told::Device),
@@ -72,51 +108,33 @@ pub fn not_opened<D: Disk>(fault: OpenFault<D>) -> (D, Told) {
     }
 }
 
-/// What comes of opening a disk, and the disk.
-pub fn opened_on(alloc: Global, disk: MemDisk) -> (MemDisk, Told) {
-    match LogFile::open(alloc, disk) {
-        Ok((log, front)) => {
-            let told = Told::Front(log.mark(), front.batches.len());
-            (log.into_disk(), told)
+// The batches up to the first that doesn't begin where the one before it ends.
+fn joined(batches: &[LogBatch]) -> Told {
+    let mut step = 0;
+    for (count, batch) in batches.iter().enumerate() {
+        if batch.from() != step {
+            return Told::Front(step, count);
         }
+        step = batch.to();
+    }
+    Told::Front(step, batches.len())
+}
+
+/// What comes of opening a disk, and the disk.
+pub fn opened_on<D: Disk>(alloc: Global, disk: D) -> (D, Told) {
+    match LogFile::open(alloc, disk) {
+        Ok((log, front)) => (log.into_disk(), joined(&front.batches)),
         Err(fault) => not_opened(fault),
     }
 }
 
-/// What comes of opening a file with these bytes.
-pub fn opened(alloc: Global, image: &[u8]) -> Result<Told, AllocError> {
-    let disk = MemDisk::with_image(alloc, image.to_vec(alloc)?, None, None)?;
-    let (_disk, told) = opened_on(alloc, disk);
-    Ok(told)
+/// A disk on which this image is durable, one call of which fails, and all from another on.
+pub fn disk_with(alloc: Global, image: &[u8], fail: u64, stop: u64) -> Result<MemDisk, AllocError> {
+    MemDisk::with_image(alloc, image.to_vec(alloc)?, Some(fail), Some(stop))
 }
 
-/// Opens a disk and appends the three batches, up to the first call that fails. Gives the disk and the
-/// mark that was reached.
-pub fn append_all(alloc: Global, disk: MemDisk) -> Result<(MemDisk, u64), AllocError> {
-    let mut log = match LogFile::open(alloc, disk) {
-        Ok((log, _front)) => log,
-        Err(fault) => {
-            let (disk, _) = not_opened(fault);
-            return Ok((disk, 0));
-        }
-    };
-    for to in ENDS {
-        let from = log.mark();
-        let batch = match put_batch(alloc, from, to, to) {
-            Ok(batch) => batch,
-            Err(error) => {
-                drop(log.into_disk());
-                return Err(error);
-            }
-        };
-        log = match log.append(alloc, batch) {
-            Ok(log) => log,
-            Err(fault) => {
-                let (disk, _) = given_back(fault);
-                return Ok((disk, from));
-            }
-        };
-    }
-    let mark = log.mark();
-    Ok((log.into_disk(), mark))
+/// What comes of opening a file with these bytes.
+pub fn opened(alloc: Global, image: &[u8]) -> Result<Told, AllocError> {
+    let (_disk, told) = opened_on(alloc, disk_with(alloc, image, 0, 99)?);
+    Ok(told)
 }

@@ -1,106 +1,93 @@
-//! A log of one batch, byte by byte.
+//! A log of two batches, byte by byte, and what comes of each call that makes it.
 
-use crate::logs::{EMPTY, Told, opened, put_batch};
+use crate::logs::{Told, append, disk_with, not_opened, opened, opened_on};
 use mt_disk::MemDisk;
-use mt_log::{Front, LogBatch, LogFile};
-use mt_rows::Record;
+use mt_log::{LogFile, ResumeFault};
 use std::alloc::{AllocError, Global};
 use std::test::Fail;
 
-// Log 0 of 1, with a batch from 0 to 6: a put of tenant 7, key 6b, column 76, at step 5.
-const VECTOR: [u8; 55] = [
+// Log 0 of 1: a batch from 0 to 6, with a put of tenant 7, key 6b, column 76, at step 5; and a resume
+// batch up to 9, of which 4 are kept.
+const VECTOR: [u8; 85] = [
     0x4d, 0x54, 0x4c, 0x4f, 0x47, 1, 0, 1, 1, 0, 0, 0, 0x29, 0, 0, 0, 0, 0, 0, 0, 0, 0, 0, 0, 0, 0,
-    0, 0, 0, 6, 0, 0, 0, 1, 0, 0, 0, 0, 0, 0, 0, 5, 0, 0, 0, 7, 0, 1, 0x6b, 1, 1, 0, 1, 0x76, 0,
+    0, 0, 0, 6, 0, 0, 0, 1, 0, 0, 0, 0, 0, 0, 0, 5, 0, 0, 0, 7, 0, 1, 0x6b, 1, 1, 0, 1, 0x76, 1, 0,
+    0, 0, 0x19, 1, 0, 0, 0, 0, 0, 0, 0, 6, 0, 0, 0, 0, 0, 0, 0, 9, 0, 0, 0, 0, 0, 0, 0, 4, 0,
 ];
 
-// What a new log holds once that batch was appended to it.
-fn written(alloc: Global) -> Result<Vec<u8>, AllocError> {
-    let batch = put_batch(alloc, 0, 6, 5)?;
-    let log = match LogFile::create(MemDisk::new(alloc, None, None), 0, 1) {
-        Ok(log) => log,
-        Err(_) => return Err(AllocError),
-    };
-    match log.append(alloc, batch) {
-        Ok(log) => log.into_disk().image().to_vec(alloc),
-        Err(fault) => {
-            let (disk, _) = crate::logs::given_back(fault);
-            drop(disk);
-            Err(AllocError)
-        }
-    }
-}
+// What is read of it.
+const FRONT: &str =
+    "Front { worker: 0, logs: 1, batches: [Records(Batch { from: 0, to: 6, records: Records { records: [Record { stamp: 5, tenant: 7, key: Key { bytes: [107] }, row: Some(Row { columns: [Column { bytes: [118] }] }) }] } }), Resume { from: 6, to: 9, kept: 4 }] }";
 
-// The front that is read of these bytes.
-fn front_of(alloc: Global, image: &[u8]) -> Result<Front, AllocError> {
-    let disk = MemDisk::with_image(alloc, image.to_vec(alloc)?, None, None)?;
+// The front of a disk, as text.
+fn front_of(alloc: Global, disk: MemDisk) -> Result<String, AllocError> {
     match LogFile::open(alloc, disk) {
         Ok((log, front)) => {
             drop(log.into_disk());
-            Ok(front)
+            format!(in alloc; "{front:?}")
         }
         Err(fault) => {
-            let (disk, _) = crate::logs::not_opened(fault);
-            drop(disk);
+            drop(not_opened(fault).0);
             Err(AllocError)
         }
     }
 }
 
-// Whether a record is the put of the vector.
-fn is_the_put(record: &Record) -> bool {
-    let row = match &record.row {
-        Some(row) => row.columns(),
-        None => return false,
-    };
-    record.stamp == 5
-        && record.tenant == 7
-        && record.key.as_bytes() == b"k".as_slice()
-        && row.len() == 1
-        && row
-            .iter()
-            .all(|column| column.as_bytes() == b"v".as_slice())
+// Makes a log with these batches, the first of which begins here, and opens it again.
+fn made(alloc: Global, disk: MemDisk, from: u64) -> (MemDisk, Told) {
+    match LogFile::create(disk, 0, 1) {
+        Ok(log) => match append(alloc, log, from, 6, 5) {
+            Ok(log) => resumed(alloc, log),
+            Err(back) => back,
+        },
+        Err((_, disk)) => (disk, Told::Device),
+    }
+}
+
+fn resumed(alloc: Global, log: LogFile<MemDisk>) -> (MemDisk, Told) {
+    let mark = log.mark();
+    if mark != 6 {
+        return (log.into_disk(), Told::Turn(6, mark));
+    }
+    match log.append_resume(alloc, 4, 9) {
+        Ok(log) => opened_on(alloc, log.into_disk()),
+        Err(ResumeFault::Memory(log)) => (log.into_disk(), Told::Memory),
+        Err(ResumeFault::Device(disk)) => (disk, Told::Device),
+    }
 }
 
 #[test]
 fn the_vector_is_written_and_read(rt: HostRuntime) -> Result<(), Fail> {
     let alloc = rt.alloc();
-    assert!(rt; written(alloc)?.as_slice() == VECTOR.as_slice());
-    let front = front_of(alloc, &VECTOR)?;
-    assert!(rt; front.worker == 0 && front.logs == 1 && front.batches.len() == 1);
-    for batch in &front.batches {
-        let is = match batch {
-            LogBatch::Records(batch) => {
-                batch.from == 0 && batch.to == 6 && batch.records.as_slice().iter().all(is_the_put)
-            }
-            LogBatch::Resume { .. } => false,
-        };
-        assert!(rt; is);
-    }
+    let (disk, told) = made(alloc, MemDisk::new(alloc, None, None), 0);
+    assert!(rt; told == Told::Front(9, 2) && disk.image() == VECTOR.as_slice());
+    assert_eq!(rt; front_of(alloc, disk)?.as_str(), FRONT);
+    let (_disk, told) = made(alloc, MemDisk::new(alloc, None, None), 2);
+    assert!(rt; told == Told::Turn(2, 0));
     Ok(())
 }
 
+// A creation makes three calls, an append four, an opening five. What one wrote before it failed is found
+// by a later opening, where all of it was written.
 #[test]
-fn each_prefix_has_a_front_or_is_named(rt: HostRuntime) -> Result<(), Fail> {
+fn a_call_that_fails_gives_the_disk_back(rt: HostRuntime) {
     let alloc = rt.alloc();
-    for len in 0..56 {
-        let want = if len < 8 {
-            Told::Bad(0, 0)
-        } else if len < 54 {
-            Told::Bad(0, 8)
-        } else if len < 55 {
-            Told::Bad(0, 54)
-        } else {
-            Told::Front(6, 1)
+    for fail in 1..17 {
+        let (disk, told) = made(alloc, MemDisk::new(alloc, Some(fail), None), 0);
+        assert!(rt; told == Told::Device, "{fail} failing: {told:?}");
+        let (_disk, told) = opened_on(alloc, disk);
+        let want = match fail {
+            1..=2 => Told::Bad(0, 0),
+            3..=6 => Told::Front(0, 0),
+            7..=10 => Told::Front(6, 1),
+            _ => Told::Front(9, 2),
         };
-        let (front, _) = VECTOR.split_at(len);
-        assert!(rt; opened(alloc, front)? == want, "the first {len} bytes");
+        assert!(rt; told == want, "{fail} failing: then {told:?}");
     }
-    Ok(())
 }
 
 // What an opening tells of the vector with one byte changed.
 fn with_byte(alloc: Global, place: usize, byte: u8) -> Result<Told, AllocError> {
-    let mut image = VECTOR.to_vec(alloc)?;
+    let mut image = VECTOR;
     if let Some(at) = image.get_mut(place) {
         *at = byte;
     }
@@ -108,50 +95,46 @@ fn with_byte(alloc: Global, place: usize, byte: u8) -> Result<Told, AllocError> 
 }
 
 #[test]
-fn each_changed_byte_leaves_a_front_or_is_named(rt: HostRuntime) -> Result<(), Fail> {
+fn each_prefix_and_changed_byte_is_told_for_what_it_is(rt: HostRuntime) -> Result<(), Fail> {
     let alloc = rt.alloc();
-    for place in 0..55 {
-        for byte in [0, 1, 2, 7, 64, 255] {
-            let told = with_byte(alloc, place, byte)?;
-            let named = match told {
-                Told::Front(mark, batches) => batches < 2 && mark < 1 << 60,
-                Told::Bad(number, offset) => {
-                    number == 0 && (offset == 0 || offset == 8 || offset == 54)
-                }
-                Told::Device | Told::Memory => false,
-            };
-            assert!(rt; named, "{byte} at {place}: {told:?}");
-        }
+    for len in 0..85 {
+        let (prefix, _) = VECTOR.split_at(len);
+        let offset = match len {
+            0..=7 => 0,
+            8..=53 => 8,
+            54..=83 => 54,
+            _ => 84,
+        };
+        let told = opened(alloc, prefix)?;
+        assert!(rt; told == Told::Bad(0, offset), "the first {len} bytes");
     }
-    Ok(())
-}
-
-#[test]
-fn a_changed_byte_is_told_for_what_it_is(rt: HostRuntime) -> Result<(), Fail> {
-    let alloc = rt.alloc();
     for (place, byte, want) in [
         // The format's number, the worker, the number of logs.
         (5, 2, Told::Bad(0, 0)),
         (6, 1, Told::Bad(0, 0)),
         (7, 0, Told::Bad(0, 0)),
-        (7, 64, Told::Front(6, 1)),
+        (7, 64, Told::Front(9, 2)),
         (7, 65, Told::Bad(0, 0)),
         // A gate that isn't open ends the front, also one that was torn.
         (8, 0, Told::Front(0, 0)),
         (8, 7, Told::Front(0, 0)),
+        (54, 0, Told::Front(6, 1)),
         (54, 7, Told::Front(6, 1)),
-        (54, 1, Told::Bad(0, 54)),
-        // The kind of the batch, from which step it goes, and up to which.
+        (84, 7, Told::Front(9, 2)),
+        (84, 1, Told::Bad(0, 84)),
+        // The kind of a batch, from which step it goes, and up to which; how many are kept.
         (13, 1, Told::Bad(0, 8)),
         (13, 2, Told::Bad(0, 8)),
         (21, 1, Told::Bad(0, 8)),
-        (29, 4, Told::Bad(0, 8)),
-        (29, 5, Told::Front(5, 1)),
         (22, 8, Told::Bad(0, 8)),
+        (29, 4, Told::Bad(0, 8)),
+        (29, 5, Told::Bad(0, 54)),
+        (75, 8, Told::Front(8, 2)),
+        (83, 10, Told::Bad(0, 54)),
         // A stamp that isn't over the batch's beginning, or is over its end.
         (41, 0, Told::Bad(0, 8)),
         (41, 7, Told::Bad(0, 8)),
-        (41, 6, Told::Front(6, 1)),
+        (41, 6, Told::Front(9, 2)),
         // A row that isn't told as there or not, and one without columns.
         (49, 2, Told::Bad(0, 8)),
         (50, 0, Told::Bad(0, 8)),
@@ -159,40 +142,5 @@ fn a_changed_byte_is_told_for_what_it_is(rt: HostRuntime) -> Result<(), Fail> {
         let told = with_byte(alloc, place, byte)?;
         assert!(rt; told == want, "{byte} at {place}: {told:?}");
     }
-    Ok(())
-}
-
-// A log that was made anew, with a resume batch behind a batch of records.
-fn resumed(alloc: Global) -> Result<Told, AllocError> {
-    let disk = MemDisk::with_image(alloc, VECTOR.to_vec(alloc)?, None, None)?;
-    let log = match LogFile::open(alloc, disk) {
-        Ok((log, _front)) => log,
-        Err(fault) => {
-            let (_disk, told) = crate::logs::not_opened(fault);
-            return Ok(told);
-        }
-    };
-    if log.mark() > 9 {
-        drop(log.into_disk());
-        return Err(AllocError);
-    }
-    match log.append_resume(alloc, 4, 9) {
-        Ok(log) => {
-            let (_disk, told) = crate::logs::opened_on(alloc, log.into_disk());
-            Ok(told)
-        }
-        Err(mt_log::ResumeFault::Memory(log)) => {
-            drop(log.into_disk());
-            Err(AllocError)
-        }
-        Err(mt_log::ResumeFault::Device(_)) => Err(AllocError),
-    }
-}
-
-#[test]
-fn a_resume_batch_is_read_again(rt: HostRuntime) -> Result<(), Fail> {
-    let alloc = rt.alloc();
-    assert!(rt; resumed(alloc)? == Told::Front(9, 2));
-    assert!(rt; opened(alloc, &EMPTY)? == Told::Front(0, 0));
     Ok(())
 }

@@ -1,12 +1,15 @@
-//! Tests of `mt_session`: whole sessions over plain maps, from worked bytes to worked bytes.
+//! Tests of `mt_wire` and `mt_session`: frames byte by byte, both ways, and whole sessions over plain
+//! maps, from worked bytes to worked bytes.
 //!
 //! They stand in a crate of their own, since a crate with tests is proved twice. What no clause says: that
-//! sessions come to these bytes at all, and how many writes they take.
+//! frames and sessions come to these bytes at all, and how many writes a session takes.
 #![tactic(auto)]
 
 #[cfg(test)]
-mod batches;
+mod bytes;
 #[cfg(test)]
-mod rows;
+mod frames;
+#[cfg(test)]
+mod sessions;
 #[cfg(test)]
 mod streams;

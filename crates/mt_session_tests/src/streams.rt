@@ -5,16 +5,15 @@ use mt_session::{Ended, PlainCaller, PlainTenant, ServeFault, serve};
 use std::alloc::{AllocError, Global};
 use std::io;
 use std::io::{ErrorKind, Read, Write};
-use std::process::Abort;
 
-/// A reader that gives at most `first` bytes in its first read, at most `later` in each one behind it, and
-/// fails once it has made `good` reads.
+// A reader that gives at most `first` bytes in its first read, at most `later` in each one behind it, and
+// fails once it has made `good` reads.
 #[derive(Drop)]
-pub struct Pieces<'a> {
-    pub rest: &'a [u8],
-    pub first: usize,
-    pub later: usize,
-    pub good: u64,
+struct Pieces<'a> {
+    rest: &'a [u8],
+    first: usize,
+    later: usize,
+    good: usize,
 }
 
 impl Read for Pieces<'_> {
@@ -37,25 +36,14 @@ impl Read for Pieces<'_> {
     }
 }
 
-/// A writer that takes at most `most` bytes in a write, fails once it has made `good` writes, and counts
-/// the writes that it made.
+/// A writer that takes at most `most` bytes in a write, and fails once it has made `good` writes.
 #[derive(Drop)]
 pub struct Written {
+    /// What was written.
     pub text: Vec<u8>,
-    pub most: usize,
-    pub good: u64,
-    pub writes: u64,
-}
-
-impl Written {
-    pub fn new(alloc: Global, most: usize, good: u64) -> Self {
-        Written {
-            text: Vec::new(alloc),
-            most,
-            good,
-            writes: 0,
-        }
-    }
+    most: usize,
+    /// How many more writes would go well.
+    pub good: usize,
 }
 
 impl Write for Written {
@@ -68,7 +56,6 @@ impl Write for Written {
             return Err(io::Error::from(ErrorKind::ConnectionReset));
         }
         self.good -= 1;
-        self.writes = self.writes.saturating_add(1);
         let count = self.most.max(1).min(text.len());
         match self.text.extend_from_slice(&text[..count]) {
             Ok(()) => Ok(count),
@@ -81,8 +68,8 @@ impl Write for Written {
     }
 }
 
-/// Tenants 7 and 8, without pairs, each of which may have 100.
-pub fn two_tenants(alloc: Global) -> Result<PlainCaller, AllocError> {
+// Tenants 7 and 8, without pairs, each of which may have 100.
+fn two_tenants(alloc: Global) -> Result<PlainCaller, AllocError> {
     let mut tenants = Vec::new(alloc);
     for tenant in 7..9 {
         tenants.push(PlainTenant {
@@ -94,17 +81,29 @@ pub fn two_tenants(alloc: Global) -> Result<PlainCaller, AllocError> {
     Ok(PlainCaller::new(tenants))
 }
 
-/// Runs a session over new maps, and tells how it ended.
-pub fn run(
-    rt: &impl Abort,
+/// Runs a session over new maps: its first read gives so many bytes, each later one and each write at most
+/// `size`, and so many reads and writes go well. Gives what was written, and how it ended.
+pub fn session(
     alloc: Global,
-    reader: &mut Pieces,
-    writer: &mut Written,
-) -> &'static str {
-    match two_tenants(alloc) {
-        Ok(mut caller) => name_of(&serve(alloc, reader, writer, &mut caller)),
-        Err(_) => panic!(rt; "out of memory"),
-    }
+    asked: &[u8],
+    [first, size, reads, writes]: [usize; 4],
+) -> (Written, &'static str) {
+    let mut reader = Pieces {
+        rest: asked,
+        first,
+        later: size,
+        good: reads,
+    };
+    let mut writer = Written {
+        text: Vec::new(alloc),
+        most: size,
+        good: writes,
+    };
+    let ended = match two_tenants(alloc) {
+        Ok(mut caller) => name_of(&serve(alloc, &mut reader, &mut writer, &mut caller)),
+        Err(_) => "memory",
+    };
+    (writer, ended)
 }
 
 // The name of an end.
@@ -117,16 +116,4 @@ fn name_of(ended: &Result<Ended, ServeFault>) -> &'static str {
         Err(ServeFault::Write) => "write",
         Err(ServeFault::Memory) => "memory",
     }
-}
-
-/// The bytes that words of pairs of hexadecimal digits write.
-pub fn bytes_of(rt: &impl Abort, alloc: Global, text: &str) -> Vec<u8> {
-    let mut bytes = Vec::new(alloc);
-    for word in text.split(' ') {
-        match hex::decode(alloc, word) {
-            Ok(more) => assert!(rt; bytes.extend_from_slice(&more).is_ok()),
-            Err(_) => panic!(rt; "{text} is not hexadecimal"),
-        }
-    }
-    bytes
 }

@@ -42,7 +42,7 @@ module _ (logs : ℕ) (accounts : Accounts) where
   reached n op = record {
     steps = n;
     answers = 0;
-    logs = logs;
+    logs = (new_state logs accounts).logs;
     accounts = accounts;
     arena = (new_state logs accounts).arena;
     tape = (new_state logs accounts).tape;

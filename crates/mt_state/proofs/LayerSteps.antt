@@ -33,7 +33,7 @@ use Rattle.mt_state.specs.Promises.{Touches}
 use Rattle.mt_state.specs.Kept.{IsOfKind, IsOpenOperation, IsJudging, IsLayering, IsLeaving, IsReturning, HasAnswer, IsKeptAt, IsKeptOf, has_splits}
 use Rattle.mt_state.specs.Invariant.{IsTape, IsStampOf, AreStamps, HoldsLast, HoldsAt, StateInvariant, StateGuarantee}
 use Rattle.mt_state.specs.Writes.{LeavesContents, GivesBack, IsLayerPhase, MeetsAnother, BuildsLayer, GoesBelow}
-use Rattle.mt_state.proofs.Telling.{Gives, gives}
+use Rattle.mt_state.proofs.Telling.{Gives, gives, logs_later}
 use Rattle.mt_state.proofs.Quiet.{quiet, LeavesPairs}
 use Rattle.mt_state.proofs.Moved.{went, open_moved, has_moved, first_begun, first_upto}
 use Rattle.mt_state.proofs.Still.{IsUnready, floor_made, leaves_all, unready_none}
@@ -324,6 +324,8 @@ module _ (c : Core) (o : ℕ) (h : StateInvariant c) (few : c.steps < 2 ^ 59) (o
       rises = h.tape.rises;
       made = omega (arith, h.tape.made);
       legal = subst (λ (all : Contents). IsLegalTape c.tape.entries all) (sym t.contents) h.tape.legal;
+      keys = h.tape.keys;
+      logs = logs_later c.logs c.tape.floor c.steps h.tape.logs;
     }
 
     -- each pair has the stamp that its owner had before, be it in the slot where it stood, or one layer further down

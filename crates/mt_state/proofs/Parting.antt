@@ -52,7 +52,7 @@ use Rattle.mt_state.specs.Invariant.{IsStampOf, IsCountedUpTo, IsUnremoved, Stat
 use Rattle.mt_state.specs.Moves.{IsMove}
 use Rattle.mt_state.specs.Writes.{PartsKeys, PartsWith, PartsWithout, splitting}
 use Rattle.mt_state.proofs.Replies.{put_full, put_new}
-use Rattle.mt_state.proofs.Telling.{Gives, gives, map_now}
+use Rattle.mt_state.proofs.Telling.{Gives, gives, logs_later, map_now}
 use Rattle.mt_state.proofs.Moved.{went_with, first_begun, first_upto, open_moved_with, has_moved}
 use Rattle.mt_state.proofs.Still.{floor_made, unready_none}
 use Rattle.mt_state.proofs.OneNode.{same_counts, same_alive, quiet_grows}
@@ -270,6 +270,8 @@ module _ (c : Core) (o : ℕ) (h : StateInvariant c) (few : c.steps < 2 ^ 59) (o
         rises = h.tape.rises;
         made = omega (arith, h.tape.made);
         legal = subst (λ (every : Contents). IsLegalTape c.tape.entries every) (sym without) h.tape.legal;
+        keys = h.tape.keys;
+        logs = logs_later c.logs c.tape.floor c.steps h.tape.logs;
       };
       stamps = parted_stamps (IsStampOf (c.steps + 1) (released c.tape))
           (λ counted. later (tree_of c.arena l).prefix all (subst (AllStamped (IsStampOf c.steps c.tape) (tree_of c.arena l).prefix) (sym stays) (h.stamps l half.held.there counted)))

@@ -2,12 +2,13 @@
 use Rattle.std.proofs.Common.{◌≡◌, ◌≢◌, ℕ, ◌+◌, ◌-◌, ◌<◌, ◌≤◌, Bool, true, false, cond, eqb, [], ◌∷◌, ◌++◌, length, set, Some, IsSome, refl, sym, ap, subst, ◌∙◌, arith}
 use Rattle.std.specs.FinMap.{get, len, insert}
 use Rattle.std.proofs.lemmas.Bool.{both_ways, eq-eqb, eqb-true}
-use Rattle.std.proofs.lemmas.List.Elements.{Contains-push, Contains-append_left}
+use Rattle.std.proofs.lemmas.List.{length-drop}
+use Rattle.std.proofs.lemmas.List.Elements.{All-push, Contains-push, Contains-append_left}
 use Rattle.mt_rows.specs.declared.reply.Reply.{Reply}
 use Rattle.mt_rows.specs.declared.tenants.Account.{Account}
 use Rattle.mt_rows.specs.Rows.{Bytes, Columns, columns_of}
 use Rattle.mt_rows.specs.Changes.{changed}
-use Rattle.mt_rows.specs.Commands.{key_of}
+use Rattle.mt_rows.specs.Commands.{key_of, IsKey}
 use Rattle.mt_rows.specs.Maps.{reply_of, map_after, is_change}
 use Rattle.mt_rows.specs.Accounts.{Accounts, account_of}
 use Rattle.mt_rows.specs.Tenants.{Contents, tenant_map}
@@ -33,7 +34,7 @@ use Rattle.mt_state.specs.Promises.{IsPlacing, IsAnswer}
 use Rattle.mt_state.specs.Kept.{IsKeptOf, IsPlacedOnce}
 use Rattle.mt_state.specs.Invariant.{IsStampOf, IsTape, AreStamps, IsCountedUpTo, HoldsAt, IsUnremoved, StateInvariant, StateGuarantee, one_if_prepared}
 use Rattle.mt_state.specs.Moves.{IsMove}
-use Rattle.mt_state.proofs.Telling.{map_now}
+use Rattle.mt_state.proofs.Telling.{logs_later, map_now}
 
 -- the accounts after the step: quotas stay, and each count is that of the pairs
 pub record Counts (c : Core) (accounts : Accounts) (contents : Contents) : Type 0 where
@@ -134,11 +135,19 @@ module _ (c : Core) (o : ℕ) (before after : Operation) (arena : ArenaView) (ac
     floor = refl;
   }
 
-  pub placed_tape : IsTape new
-  placed_tape = record {
+  -- the key that it writes is a user's, since it was stored
+  wrote_key : operation_at c.table o ≡ Some before → IsKey wrote.key
+  wrote_key there =
+      let behind = ap (λ q. length q.1) (key_is c before h put) ∙ length-drop 4 before.task.key in
+      omega (arith, behind, (h.ops o before there).always.stored.within)
+
+  placed_tape : operation_at c.table o ≡ Some before → IsTape new
+  placed_tape there = record {
     rises = rises-push c.tape.floor c.tape.entries wrote h.tape.rises (is_next c before h put).later;
     made = omega (arith, last_step_over-push c.tape.floor c.tape.entries wrote);
     legal = subst (λ (all : Contents). IsLegalTape (c.tape.entries ++ wrote ∷ []) all) (sym p.contents) (legal-push c.tape.floor c.tape.entries (content_of c.arena) wrote h.tape.rises (is_next c before h put) h.tape.legal);
+    keys = All-push (λ e. IsKey e.key) c.tape.entries wrote h.tape.keys (wrote_key there);
+    logs = logs_later c.logs c.tape.floor c.steps h.tape.logs;
   }
 
   pub placed_move : IsPlacer c new o before after → IsMove c new o before after
@@ -150,7 +159,7 @@ module _ (c : Core) (o : ℕ) (before after : Operation) (arena : ArenaView) (ac
     number = refl;
     answers = refl;
     leaves = placed_guarantee;
-    tape = placed_tape;
+    tape = placed_tape own.there;
     stamps = p.stamps;
     versions = p.versions;
     held = own.held;

@@ -20,6 +20,7 @@ use Rattle.mt_state.specs.Kept.{IsKeptOf}
 use Rattle.mt_state.specs.Invariant.{IsTape, AreStamps, IsStampOf, IsCountedUpTo, HoldsAt, IsUnremoved, StateInvariant, StateGuarantee, one_if_prepared}
 use Rattle.mt_state.specs.Moves.{IsMove}
 use Rattle.mt_state.specs.Writes.{HasPairsOf}
+use Rattle.mt_state.proofs.Telling.{logs_later}
 
 -- what a step leaves that changes no pair
 abbrev pub quiet : Core → ArenaView → ℕ → ℕ → Operation → Core
@@ -74,6 +75,8 @@ module _ (c : Core) (o : ℕ) (before after : Operation) (arena : ArenaView) (re
     rises = h.tape.rises;
     made = omega (arith, h.tape.made);
     legal = subst (λ (all : Contents). IsLegalTape c.tape.entries all) (sym leaves.contents) h.tape.legal;
+    keys = h.tape.keys;
+    logs = logs_later c.logs c.tape.floor c.steps h.tape.logs;
   }
 
   stamps : AreStamps (quiet c arena reserved o after)

@@ -1,5 +1,5 @@
 -- What a step that was made may tell of itself: for all phases.
-use Rattle.std.proofs.Common.{◌≡◌, ℕ, ◌<◌, ◌≤◌, Bool, true, Some, sym, ap, subst, ◌∙◌, arith}
+use Rattle.std.proofs.Common.{◌≡◌, ℕ, ◌+◌, ◌<◌, ◌≤◌, Bool, true, List, Some, sym, ap, subst, ◌∙◌, arith}
 use Rattle.std.specs.Prelude.{◌^◌}
 use Rattle.mt_rows.specs.Tenants.{tenant_map}
 use Rattle.mt_tape.proofs.TapeLaws.{contents_at-now}
@@ -11,10 +11,14 @@ use Rattle.mt_operation.specs.Operations.{view_of, is_done}
 use Rattle.mt_state.specs.Views.{StateView, Core, shown, map_of}
 use Rattle.mt_state.specs.Promises.{IsStep}
 use Rattle.mt_state.specs.Kept.{HasAnswer, IsKeptAt}
-use Rattle.mt_state.specs.Invariant.{IsTape, StateInvariant}
+use Rattle.mt_state.specs.Invariant.{AreLogs, IsTape, StateInvariant}
 use Rattle.mt_state.proofs.Shown.{shown_table, shown_there, shown_set}
 use Rattle.mt_state.specs.Moves.{IsMove, IsTold}
 use Rattle.mt_state.proofs.Moving.{invariant_stays}
+
+-- a step leaves the logs as they are
+pub logs_later : (logs : List ℕ) (floor steps : ℕ) → AreLogs logs floor steps → AreLogs logs floor (steps + 1)
+logs_later logs floor steps h = record { few = h.few; made = λ i d within. omega (arith, h.made i d within); reached = h.reached }
 
 -- from the last step on a tenant's map is that of now
 pub map_now : (c : Core) → IsTape c → (t m : ℕ) → c.steps ≤ m → map_of (shown c) t m ≡ tenant_map t (content_of c.arena)

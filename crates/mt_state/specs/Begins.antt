@@ -1,5 +1,5 @@
 -- A new state, and what a begin and a take make of a state.
-use Rattle.std.specs.Prelude.{◌≡◌, ◌≢◌, ℕ, ◌+◌, ◌<◌, max, true, [], Some, None, slice_set}
+use Rattle.std.specs.Prelude.{◌≡◌, ◌≢◌, ℕ, ◌+◌, ◌<◌, max, true, [], replicate, Some, None, slice_set}
 use Rattle.mt_rows.specs.declared.command.Command.{Command}
 use Rattle.mt_rows.specs.declared.command.Command.TheVariants.{Get, Put}
 use Rattle.mt_rows.specs.declared.tenants.Account.{Account}
@@ -11,12 +11,12 @@ use Rattle.mt_operation.specs.Operations.{OperationView, is_done}
 use Rattle.mt_state.specs.Views.{StateView, Shown, op_at}
 use Rattle.mt_state.specs.Promises.{IsAnswer}
 
--- a state in which nothing has happened
+-- a state in which nothing has happened, for so many logs
 abbrev pub new_state : ℕ → Accounts → StateView
 new_state logs accounts = record {
   steps = 0;
   answers = 0;
-  logs = logs;
+  logs = replicate logs 0;
   accounts = accounts;
   arena = new_arena;
   tape = record { entries = []; floor = 0; reserved = 0 };
@@ -27,7 +27,7 @@ new_state logs accounts = record {
 abbrev pub HaveNoPairs : Accounts → Type 0
 HaveNoPairs accounts = (t : ℕ) (a : Account) → account_of accounts t ≡ Some a → a.count ≡ 0
 
--- a worker is one of those that the logs have, or the only one where no logs are kept
+-- a worker is one of those that so many logs have, or the only one where no logs are kept
 abbrev pub IsWorker : ℕ → ℕ → Type 0
 IsWorker logs worker = worker < max logs 1
 

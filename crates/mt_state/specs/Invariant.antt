@@ -1,9 +1,10 @@
 -- The invariant of a state, and what a step of one operation leaves of it to all others.
 use Rattle.std.specs.Prelude.{◌≡◌, ◌≢◌, ℕ, ◌+◌, ◌==◌, ◌≤◌, ◌<◌, ◌^◌, Bool, true, false, if◌then◌else◌, List, [], ◌∷◌, length, Option, Some, None, IsSome}
-use Rattle.std.specs.List.{Contains}
+use Rattle.std.specs.List.{All, Contains}
 use Rattle.std.specs.FinMap.{len}
 use Rattle.mt_rows.specs.declared.tenants.Account.{Account}
 use Rattle.mt_rows.specs.Rows.{Bytes}
+use Rattle.mt_rows.specs.Commands.{IsKey}
 use Rattle.mt_rows.specs.Accounts.{account_of}
 use Rattle.mt_rows.specs.Tenants.{tenant_map}
 use Rattle.mt_border.specs.Contents.{AllStamped}
@@ -29,11 +30,19 @@ use Rattle.mt_operation.specs.Operations.{OperationView}
 use Rattle.mt_insert.specs.Splitting.{IsAmong}
 use Rattle.mt_state.specs.Kept.{IsKeptOf}
 
--- the tape: its steps rise and were made, and each entry tells what its step did
+-- the logs, at most 64: each was given its worker's changes up to a step that was made, and the tape goes back to that
+pub record AreLogs (logs : List ℕ) (floor steps : ℕ) : Type 0 where
+  pub few : length logs ≤ 64
+  pub made : All (λ m. m ≤ steps) logs
+  pub reached : All (λ m. floor ≤ m) logs
+
+-- the tape: its steps rise and were made, each entry tells what its step did to a user's key, and it goes back as far as the logs need it
 pub record IsTape (c : Core) : Type 0 where
   pub rises : RisesOver c.tape.floor c.tape.entries
   pub made : last_write c.tape ≤ c.steps
   pub legal : IsLegalTape c.tape.entries (content_of c.arena)
+  pub keys : All (λ e. IsKey e.key) c.tape.entries
+  pub logs : AreLogs c.logs c.tape.floor c.steps
 
 -- a step is the one that placed a key's row: it was made, the key was not written after it, and the tape has its write where it goes back so far
 abbrev pub IsStampOf : ℕ → Kept → ℕ × Bytes → ℕ → Type 0

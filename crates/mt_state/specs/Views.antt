@@ -18,12 +18,12 @@ use Rattle.mt_descent.specs.Pasts.{Past}
 abbrev pub Shown : Type 0
 Shown = List (Option OperationView)
 
--- what a state shows: how many steps it has made, how many answers were taken, how many logs it serves, the tenants' accounts, all nodes and trees,
--- the changes since a floor, and the operations
+-- what a state shows: how many steps it has made, how many answers were taken, for each log the step up to which it was given its worker's changes,
+-- the tenants' accounts, all nodes and trees, the changes since a floor, and the operations
 pub record StateView : Type 0 where
   pub steps : ℕ
   pub answers : ℕ
-  pub logs : ℕ
+  pub logs : List ℕ
   pub accounts : Accounts
   pub arena : ArenaView
   pub tape : Kept
@@ -33,7 +33,7 @@ pub record StateView : Type 0 where
 pub record Core : Type 0 where
   pub steps : ℕ
   pub answers : ℕ
-  pub logs : ℕ
+  pub logs : List ℕ
   pub accounts : Accounts
   pub arena : ArenaView
   pub tape : Kept

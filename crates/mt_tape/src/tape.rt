@@ -77,14 +77,15 @@ impl Tape {
         self.reserved -= 1;
     }
 
-    /// Gives up the writes of the steps up to a floor, in constant time for each.
+    /// Gives up the writes of the steps up to a floor, in constant time for each: they are handed out
+    /// as far as the list has room for them, and else freed.
     #[tactic(auto, using(crate::proofs::EntryLaws::trims))]
-    pub fn trim(&mut self, floor: u64)
+    pub fn trim(&mut self, floor: u64, given_up: &mut Vec<Entry>)
         requires { self.old.floor ≤ floor }
         ensures { self.new ≡ record self.old { entries = later_entries floor self.old.entries; floor = floor } }
     {
         while starts_by(&self.entries, floor) {
-            drop_first(&mut self.entries);
+            give_up_first(&mut self.entries, given_up);
         }
         self.floor = floor;
     }
@@ -143,12 +144,16 @@ fn starts_by(entries: &VecDeque<Entry>, floor: u64) -> bool
     entries.front().is_some_and(|entry| entry.step <= floor)
 }
 
-// Gives up the first entry.
-fn drop_first(entries: &mut VecDeque<Entry>)
+// Gives up the first entry, to the list if that has room.
+fn give_up_first(entries: &mut VecDeque<Entry>, given_up: &mut Vec<Entry>)
     requires { 0 < deque_len entries.old }
     ensures items { entries.new.items ≡ drop 1 entries.old.items }
     ensures len { deque_len entries.new + 1 ≡ deque_len entries.old }
     ensures capacity { deque_capacity entries.new ≡ deque_capacity entries.old }
 {
-    let _ = entries.pop_front();
+    if let Some(entry) = entries.pop_front() {
+        if given_up.len() < given_up.capacity() {
+            given_up.push_reserved(entry);
+        }
+    }
 }

@@ -1,5 +1,5 @@
-//! Tests of the lower crates: examples with known answers, and each public call once on its happy
-//! path.
+//! Tests of the lower crates: examples with known answers, and each public call once.
+//! `PairList::fits` and `Records` are left to `mt_session_tests` and `mt_log_tests`.
 //!
 //! They stand in a crate of their own, since a crate with tests is proved twice.
 #![tactic(auto)]

@@ -1,6 +1,6 @@
-use Rattle.std.proofs.Common.{◌≡◌, ◌+◌, ◌∷◌, [], List, take, length, length-append, ap, ◌∙◌, sym, subst, arith}
+use Rattle.std.proofs.Common.{◌≡◌, ℕ, ◌+◌, ◌∷◌, [], List, take, length, length-append, ap, ◌∙◌, sym, subst, arith}
 use Rattle.std.specs.List.{zip}
-use Rattle.std.proofs.lemmas.List.{take_all}
+use Rattle.std.proofs.lemmas.List.{take_all, length-replicate}
 use Rattle.mt_rows.specs.Accounts.{account_of}
 use Rattle.mt_runs.specs.declared.event.Event.{Event}
 use Rattle.mt_runs.specs.Runs.{Run, story_of}
@@ -21,7 +21,7 @@ loop-event-init c = record {
   run = leads_first c.args.logs c.args.tenants c.in_ok-state.state c.new-2.result c.in_ok-state.ensures c.new-2.ensures.empty;
   by_id = by_id_first c.new-3.result c.new-2.result c.new-2.ensures.empty;
   count = ap length c.new-told.ensures.items;
-  logs = ap (λ v. v.logs) c.in_ok-state.ensures;
+  logs = ap (λ v. length v.logs) c.in_ok-state.ensures ∙ length-replicate {A = ℕ} c.args.logs 0;
 }
 
 pub loop-event-preserved : goal.loop-event-preserved
@@ -36,7 +36,7 @@ loop-event-preserved c =
           (leads_more no_names (new_state c.args.logs c.args.tenants) run (named c.loop-event.roster.tickets) c.loop-event.state (named c.tell.new.roster.tickets) c.tell.new.state c.event-item.result c.in_ok-answer.answer h.run c.in_ok-answer.ensures.tells);
       by_id = c.in_ok-answer.ensures.by_id;
       count = ap length c.in_ok-push.ensures.items ∙ length-append c.loop-event.told.items (c.in_ok-answer.answer ∷ []) ∙ omega (arith, h.count);
-      logs = c.in_ok-answer.ensures.logs ∙ h.logs;
+      logs = ap length c.in_ok-answer.ensures.logs ∙ h.logs;
     }
 
 pub tell-requires-clause-held : goal.tell-requires-clause-held

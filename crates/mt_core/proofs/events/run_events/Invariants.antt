@@ -11,5 +11,5 @@ invariant-loop-event l = record {
   run : BringsTo no_names (new_state l.fn.logs l.fn.tenants) (zip (take l.event-index l.events) l.told.items) (named l.roster.tickets) l.state;
   by_id : AreById l.roster.names (named l.roster.tickets);
   count : length l.told.items ≡ l.event-index;
-  logs : l.state.logs ≡ l.logs;
+  logs : length l.state.logs ≡ l.logs;
 }

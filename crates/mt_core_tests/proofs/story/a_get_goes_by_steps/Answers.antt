@@ -1,4 +1,4 @@
-use Rattle.std.proofs.Common.{sym, subst, arith}
+use Rattle.std.proofs.Common.{length, sym, subst, arith}
 use Rattle.std.specs.Prelude.{Result, Ok, Err}
 use Rattle.mt_rows.specs.declared.command.Command.{Command}
 use Rattle.mt_rows.specs.declared.refusal.Refusal.{Refusal}
@@ -10,7 +10,7 @@ use Rattle.mt_core_tests.proofs.story.a_get_goes_by_steps.Goals as goal
 
 -- what was made of a command that may be begun may be admitted, for worker 0
 may_admit : (v : StateView) (command : Command) (made : Result OperationView Refusal) → MayBegin command → IsMadeOf made 0 7 command → MayAdmit v made
-may_admit v command (Ok op) may is = subst (λ (x : OperationView). IsWorker v.logs x.worker × MayBegin x.command) (sym is) (omega arith, may)
+may_admit v command (Ok op) may is = subst (λ (x : OperationView). IsWorker (length v.logs) x.worker × MayBegin x.command) (sym is) (omega arith, may)
 may_admit v command (Err refusal) may is = tt
 
 pub admit-requires : goal.admit-requires

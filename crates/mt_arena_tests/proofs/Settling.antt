@@ -1,0 +1,30 @@
+-- Nothing lags behind a node of which each node keeps up with it.
+use Rattle.std.proofs.Common.{◌≡◌, ℕ, ◌+◌, ◌<◌, length, arith, inl, inr}
+use Rattle.std.proofs.lemmas.Bool.{cases_lt}
+use Rattle.std.proofs.lemmas.List.{get_or_default}
+use Rattle.mt_slices.specs.declared.mark.Mark.TheVariants.{Long}
+use Rattle.mt_border.specs.declared.entry.Held.TheVariants.{Link}
+use Rattle.mt_arena.specs.NodeFacts.{IsUnstable}
+use Rattle.mt_arena.specs.Layers.{slot_at}
+use Rattle.mt_arena.specs.Settled.{IsSettled}
+use Rattle.mt_arena.specs.Arena.{ArenaView}
+use Rattle.mt_arena.specs.Accesses.{at}
+use Rattle.mt_arena_tests.specs.Checked.{KeepsUp, IsEven}
+
+-- one more keeps up
+pub one_more : (v : ArenaView) (k n : ℕ) → ((j : ℕ) → j < n → KeepsUp v k j) → KeepsUp v k n → (j : ℕ) → j < n + 1 → KeepsUp v k j
+one_more v k n before here j lt = elim (cases_lt j n) [
+  | inl below ↦ before j below
+  | inr above ↦ let last : j ≡ n = omega (arith, lt, above) in rw last here
+]
+
+pub settled : (v : ArenaView) (k count : ℕ) → length v.nodes ≡ count → ((j : ℕ) → j < count → KeepsUp v k j)
+    → ((i : ℕ) → i < length (at v k).slots → ¬ IsUnstable (slot_at (at v k) i).held) → IsEven v k → IsSettled v.nodes k (at v k)
+settled v k count size keeps stable even = record {
+  previous = λ j lt. (keeps j (omega (arith, lt, size))).previous;
+  previous_live = λ j lt. (keeps j (omega (arith, lt, size))).previous_live;
+  parent = λ j lt. (keeps j (omega (arith, lt, size))).parent;
+  reach = even.reach;
+  stable = λ i d lt. rw (get_or_default (at v k).slots i d (record { slice = 0; mark = Long; held = Link 0 }) lt) (stable i lt);
+  rooted = even.rooted;
+}

@@ -1,0 +1,104 @@
+-- What one period more makes of a call: for the loops of `start`, `stepped` and `answered`.
+use Rattle.std.proofs.Common.{◌≡◌, ℕ, Bool, Option, Some, None, Ok, Err, refl, subst}
+use Rattle.std.specs.List.{AllByRecursion}
+use Rattle.mt_rows.specs.declared.refusal.Refusal.{Refusal}
+use Rattle.mt_runs.specs.declared.event.Answer.{Answer}
+use Rattle.mt_operation.specs.declared.walk.Phase.{Phase}
+use Rattle.mt_state.specs.declared.moves.Move.{Move}
+use Rattle.mt_core.specs.declared.answers.Ticket.{Ticket}
+use Rattle.mt_core.specs.Admitted.{OpeningView}
+use Rattle.mt_book.specs.declared.desks.Admission.{Admission}
+use Rattle.mt_book.specs.declared.desks.Admitted.{Admitted}
+use Rattle.mt_book.specs.declared.desks.Admitted.TheVariants as admitted
+use Rattle.mt_book.specs.declared.desks.Stepping.{Stepping}
+use Rattle.mt_book.specs.declared.desks.Taking.{Taking}
+use Rattle.mt_book.specs.declared.desks.Taken.{Taken}
+use Rattle.mt_book.specs.declared.desks.Taken.TheVariants as taken
+use Rattle.mt_book.specs.Periods.{Began, Rested, Stepped, Took, Looked, Period, admission_deed, admission_period, FitsAdmitted, FitsAdmission, step_deed, step_period, FitsMove, FitsStepping, taken_deed, taking_period, FitsTaken, FitsTaking}
+use Rattle.mt_book.specs.Calls.{IsBefore, LeadsOn, IsTurnBy, AreTurns, Opens, last_move, Ends, Led, IsRest, IsTaken}
+use Rattle.mt_book.proofs.Chains.{led_more, all_snoc, turns_snoc}
+
+module _ {S : Type 0} (does : S → Period → S → Type 0) (old mid new : S) (seen worker : ℕ) (opening : OpeningView) (a : Admission)
+    (led : Led does old mid (AllByRecursion (IsBefore seen worker))) (d : does mid (admission_period opening a) new) (fits : FitsAdmission seen worker opening a) where
+  told_is : (told : Admitted) → a.told ≡ told → does mid (record { steps = a.steps; deed = admission_deed opening a.logs told }) new
+  told_is told e = subst (λ (t : Admitted). does mid (record { steps = a.steps; deed = admission_deed opening a.logs t }) new) e d
+
+  fits_is : (told : Admitted) → a.told ≡ told → FitsAdmitted seen worker opening a.steps a.logs told
+  fits_is told e = subst (FitsAdmitted seen worker opening a.steps a.logs) e fits
+
+  -- the operation was begun
+  pub opens_begun : (ticket : Ticket) (phase : Phase) → a.told ≡ admitted.Begun ticket phase → Led does old new (λ ps. Opens seen worker opening (Ok ticket) ps a.steps)
+  opens_begun ticket phase e =
+      let period : Period = record { steps = a.steps; deed = Began opening a.logs (Ok ticket) } in
+      led_more does old mid new period (AllByRecursion (IsBefore seen worker)) (λ ps. Opens seen worker opening (Ok ticket) ps a.steps)
+      (λ ps early. record { before = ps; logs = a.logs; parts = refl; early = early; ready = fits_is (admitted.Begun ticket phase) e }) led (told_is (admitted.Begun ticket phase) e)
+
+  -- it was refused
+  pub opens_refused : (refusal : Refusal) → a.told ≡ admitted.Refused refusal → Led does old new (λ ps. (shown : ℕ) × Opens seen worker opening (Err refusal) ps shown)
+  opens_refused refusal e =
+      let period : Period = record { steps = a.steps; deed = Began opening a.logs (Err refusal) } in
+      led_more does old mid new period (AllByRecursion (IsBefore seen worker)) (λ ps. (shown : ℕ) × Opens seen worker opening (Err refusal) ps shown)
+      (λ ps early. (a.steps, record { before = ps; logs = a.logs; parts = refl; early = early; ready = fits_is (admitted.Refused refusal) e })) led (told_is (admitted.Refused refusal) e)
+
+  -- it was too early, and the opening came back
+  pub opens_early : (back : OpeningView) → a.told ≡ admitted.Early back → (back ≡ opening) × Led does old new (AllByRecursion (IsBefore seen worker))
+  opens_early back e =
+      let period : Period = record { steps = a.steps; deed = Looked a.logs } in
+      let f = fits_is (admitted.Early back) e in (
+        f.0,
+        led_more does old mid new period (AllByRecursion (IsBefore seen worker)) (AllByRecursion (IsBefore seen worker))
+            (λ ps early. all_snoc (IsBefore seen worker) ps period early f.1) led (told_is (admitted.Early back) e),
+      )
+
+-- no move, or one that leads on
+abbrev pub MayLeadOn : Option Move → Type 0
+MayLeadOn None = Unit {0}
+MayLeadOn (Some made) = LeadsOn made
+
+module _ {S : Type 0} (does : S → Period → S → Type 0) (old mid new : S) (seen ticket shown last : ℕ) (s : Stepping)
+    (led : Led does old mid (λ ps. AreTurns seen ticket shown ps last)) (d : does mid (step_period ticket last s) new) (fits : FitsStepping seen s) where
+  move_is : (m : Option Move) → s.move_made ≡ m → does mid (record { steps = s.steps; deed = step_deed ticket last m }) new
+  move_is m e = subst (λ (x : Option Move). does mid (record { steps = s.steps; deed = step_deed ticket last x }) new) e d
+
+  turn_is : (m : Option Move) → FitsMove seen s.steps m → MayLeadOn m → IsTurnBy seen ticket last s.steps (step_deed ticket last m)
+  turn_is None f on = (refl, f)
+  turn_is (Some made) f on = (refl, refl, f, on)
+
+  -- one step more, or none
+  pub turns_more : MayLeadOn s.move_made → Led does old new (λ ps. AreTurns seen ticket shown ps s.steps)
+  turns_more on =
+      let period : Period = step_period ticket last s in
+      led_more does old mid new period (λ ps. AreTurns seen ticket shown ps last) (λ ps. AreTurns seen ticket shown ps s.steps)
+      (λ ps turns. turns_snoc seen ticket shown last ps period turns (turn_is s.move_made fits on)) led d
+
+  -- the last step
+  pub turns_end : (done : Bool) → s.move_made ≡ Some (last_move done) → Led does old new (Ends seen ticket shown done)
+  turns_end done e =
+      let period : Period = record { steps = s.steps; deed = Stepped ticket last (last_move done) } in
+      led_more does old mid new period (λ ps. AreTurns seen ticket shown ps last) (Ends seen ticket shown done)
+      (λ ps turns. record { between = ps; last = last; steps = s.steps; parts = refl; turns = turns; late = subst (FitsMove seen s.steps) e fits }) led (move_is (Some (last_move done)) e)
+
+module _ {S : Type 0} (does : S → Period → S → Type 0) (old mid new : S) (seen : ℕ) (ticket : Ticket) (t : Taking)
+    (led : Led does old mid (AllByRecursion (IsRest seen ticket.id))) (d : does mid (taking_period ticket.id t) new) (fits : FitsTaking seen ticket t) where
+  taken_is : (told : Taken) → t.told ≡ told → does mid (record { steps = t.steps; deed = taken_deed ticket.id told }) new
+  taken_is told e = subst (λ (x : Taken). does mid (record { steps = t.steps; deed = taken_deed ticket.id x }) new) e d
+
+  suits : (told : Taken) → t.told ≡ told → FitsTaken seen ticket t.steps told
+  suits told e = subst (FitsTaken seen ticket t.steps) e fits
+
+  -- the answer was taken
+  pub takes_answer : (answer : Answer) → t.told ≡ taken.Answered answer → Led does old new (IsTaken seen ticket.id answer)
+  takes_answer answer e =
+      let period : Period = record { steps = t.steps; deed = Took ticket.id answer } in
+      led_more does old mid new period (AllByRecursion (IsRest seen ticket.id)) (IsTaken seen ticket.id answer)
+      (λ ps early. record { rests = ps; steps = t.steps; parts = refl; early = early; late = suits (taken.Answered answer) e }) led (taken_is (taken.Answered answer) e)
+
+  -- it was too early, and the ticket came back
+  pub takes_early : (back : Ticket) → t.told ≡ taken.Early back → (back ≡ ticket) × Led does old new (AllByRecursion (IsRest seen ticket.id))
+  takes_early back e =
+      let period : Period = record { steps = t.steps; deed = Rested ticket.id } in
+      let f = suits (taken.Early back) e in (
+        f.0,
+        led_more does old mid new period (AllByRecursion (IsRest seen ticket.id)) (AllByRecursion (IsRest seen ticket.id))
+            (λ ps early. all_snoc (IsRest seen ticket.id) ps period early (refl, f.1)) led (taken_is (taken.Early back) e),
+      )

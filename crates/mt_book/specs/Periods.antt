@@ -1,0 +1,111 @@
+-- What a desk does in one lock period, and what it shows of it.
+use Rattle.std.specs.Prelude.{◌≡◌, ℕ, ◌<◌, ◌≤◌, ◌⊎◌, max, List, [], ◌∷◌, Result, Ok, Err, Option, Some, None}
+use Rattle.mt_rows.specs.declared.refusal.Refusal.{Refusal}
+use Rattle.mt_runs.specs.declared.event.Answer.{Answer}
+use Rattle.mt_operation.specs.Operations.{OperationView}
+use Rattle.mt_state.specs.declared.moves.Move.{Move}
+use Rattle.mt_state.specs.Begins.{MayBegin}
+use Rattle.mt_core.specs.declared.answers.Ticket.{Ticket}
+use Rattle.mt_core.specs.Admitted.{OpeningView}
+use Rattle.mt_book.specs.declared.desks.Look.{Look}
+use Rattle.mt_book.specs.declared.desks.Admission.{Admission}
+use Rattle.mt_book.specs.declared.desks.Admitted.{Admitted}
+use Rattle.mt_book.specs.declared.desks.Admitted.TheVariants as admitted
+use Rattle.mt_book.specs.declared.desks.Stepping.{Stepping}
+use Rattle.mt_book.specs.declared.desks.Taking.{Taking}
+use Rattle.mt_book.specs.declared.desks.Taken.{Taken}
+use Rattle.mt_book.specs.declared.desks.Taken.TheVariants as taken
+
+-- What was done. Nothing is begun by `Looked`, which shows the number of logs. `Rested` makes no step and takes no answer. Of a step `after` is the
+-- number of steps that the gate was given; where a take found no answer the ticket was kept.
+pub data Deed : Type 0 where
+  Looked : ℕ → Deed
+  Began : OpeningView → ℕ → Result Ticket Refusal → Deed
+  Rested : ℕ → Deed
+  Stepped : ℕ → ℕ → Move → Deed
+  Took : ℕ → Answer → Deed
+  Kept : ℕ → Deed
+
+-- a lock period: how many steps were made before it, and what it did
+pub record Period : Type 0 where
+  pub steps : ℕ
+  pub deed : Deed
+
+-- the operation of an opening, if there is one, is of this worker, and may be begun
+abbrev pub IsOfWorker : ℕ → Result OperationView Refusal → Type 0
+IsOfWorker worker (Ok op) = (op.worker ≡ worker) × MayBegin op.command
+IsOfWorker worker (Err refusal) = Unit {0}
+
+-- fewer steps than the pass saw, or no log of its worker
+abbrev pub IsEarly : ℕ → ℕ → ℕ → ℕ → Type 0
+IsEarly seen worker steps logs = (steps < seen) ⊎ (max logs 1 ≤ worker)
+
+-- no fewer steps than the pass saw, and a log of its worker, or no logs at all
+abbrev pub IsReady : ℕ → ℕ → ℕ → ℕ → Type 0
+IsReady seen worker steps logs = (seen ≤ steps) × (worker < max logs 1)
+
+-- the period of a look
+abbrev pub look_period : Look → Period
+look_period l = record { steps = l.steps; deed = Looked l.logs }
+
+-- the period of a begin
+abbrev pub admission_deed : OpeningView → ℕ → Admitted → Deed
+admission_deed opening logs (admitted.Early back) = Looked logs
+admission_deed opening logs (admitted.Begun ticket phase) = Began opening logs (Ok ticket)
+admission_deed opening logs (admitted.Refused refusal) = Began opening logs (Err refusal)
+
+abbrev pub admission_period : OpeningView → Admission → Period
+admission_period opening a = record { steps = a.steps; deed = admission_deed opening a.logs a.told }
+
+-- where nothing is begun since the pass is early the opening comes back
+abbrev pub FitsAdmitted : ℕ → ℕ → OpeningView → ℕ → ℕ → Admitted → Type 0
+FitsAdmitted seen worker opening steps logs (admitted.Early back) = (back ≡ opening) × IsEarly seen worker steps logs
+FitsAdmitted seen worker opening steps logs (admitted.Begun ticket phase) = IsReady seen worker steps logs
+FitsAdmitted seen worker opening steps logs (admitted.Refused refusal) = IsReady seen worker steps logs
+
+abbrev pub FitsAdmission : ℕ → ℕ → OpeningView → Admission → Type 0
+FitsAdmission seen worker opening a = FitsAdmitted seen worker opening a.steps a.logs a.told
+
+-- the period of a step
+abbrev pub step_deed : ℕ → ℕ → Option Move → Deed
+step_deed ticket after None = Rested ticket
+step_deed ticket after (Some made) = Stepped ticket after made
+
+abbrev pub step_period : ℕ → ℕ → Stepping → Period
+step_period ticket after s = record { steps = s.steps; deed = step_deed ticket after s.move_made }
+
+-- no step is made exactly where fewer steps are shown than the pass saw
+abbrev pub FitsMove : ℕ → ℕ → Option Move → Type 0
+FitsMove seen steps None = steps < seen
+FitsMove seen steps (Some made) = seen ≤ steps
+
+abbrev pub FitsStepping : ℕ → Stepping → Type 0
+FitsStepping seen s = FitsMove seen s.steps s.move_made
+
+-- the period of a take
+abbrev pub taken_deed : ℕ → Taken → Deed
+taken_deed ticket (taken.Early back) = Rested ticket
+taken_deed ticket (taken.Open back) = Kept ticket
+taken_deed ticket (taken.Answered answer) = Took ticket answer
+
+abbrev pub taking_period : ℕ → Taking → Period
+taking_period ticket t = record { steps = t.steps; deed = taken_deed ticket t.told }
+
+-- where no answer is taken the ticket comes back
+abbrev pub FitsTaken : ℕ → Ticket → ℕ → Taken → Type 0
+FitsTaken seen ticket steps (taken.Early back) = (back ≡ ticket) × (steps < seen)
+FitsTaken seen ticket steps (taken.Open back) = (back ≡ ticket) × (seen ≤ steps)
+FitsTaken seen ticket steps (taken.Answered answer) = seen ≤ steps
+
+abbrev pub FitsTaking : ℕ → Ticket → Taking → Type 0
+FitsTaking seen ticket t = FitsTaken seen ticket t.steps t.told
+
+-- how many answers were taken
+abbrev pub answers_in : Taken → ℕ
+answers_in (taken.Answered answer) = 1
+answers_in _ = 0
+
+-- periods in their order lead a desk from old to new
+abbrev pub Chain : {S : Type 0} → (S → Period → S → Type 0) → S → List Period → S → Type 0
+Chain does old [] new = new ≡ old
+Chain {S} does old (p ∷ ps) new = (mid : S) × does old p mid × Chain does mid ps new

@@ -1,0 +1,226 @@
+//! The book: the state, and the total of the answers that were taken of it.
+
+ghost use Rattle.std.specs.Prelude.{◌≡◌, ◌+◌, ◌<◌, ◌≤◌, ◌↔◌, false, true, max, IfOk, IfErr, OnErr, OnOk, IsOk, IfSome, IfNone, IsSome, length, vec_len};
+ghost use Rattle.std.specs.List.{sum_by};
+ghost use Rattle.mt_state.specs.Promises.{Tells};
+ghost use Rattle.mt_state.specs.Begins.{IsWorker, MayBegin};
+ghost use Rattle.mt_core.specs.Tickets.{TellsBegin, TellsTake, TellsCancel, TellsRefusal};
+ghost use Rattle.mt_core.specs.Admitted.{MayAdmit, TellsAdmitted, RefusesOpening};
+ghost use Rattle.mt_core.specs.Shows.{phase_at};
+ghost use Rattle.mt_core.specs.Drains.{Drains};
+ghost use Rattle.mt_core.specs.Tidies.{Tidies};
+ghost use Rattle.mt_book.specs.declared.passes.Pass.{Pass};
+ghost use Rattle.mt_book.specs.Books.{IsRightBook};
+
+use crate::passes::Pass;
+use mt_core::{Displaced, Opening, State, Ticket};
+use mt_operation::Phase;
+use mt_rows::{Batch, Command, Refusal};
+use mt_runs::Answer;
+use mt_state::Move;
+use std::alloc::AllocError;
+use std::sync::ledger::{Blank, Book as Total, Ledger, Share};
+
+/// Into so many parts the total is cut: one stays, and each pass has one.
+pub const PARTS: u64 = 65_536;
+
+/// A state and the total of the answers that were taken of it. It stands under a lock: what its type
+/// says is so whenever the lock is free.
+#[derive(Drop)]
+pub struct Book<L: Ledger> {
+    state: State,
+    total: Total<L>,
+    rest: Share<L>,
+    opened: u64,
+    gathered: bool,
+    pub ghost counted: { state.answers ≡ total.total },
+    pub ghost cut: { rest.parts + opened ≡ 65536 },
+    pub ghost idle: { gathered ≡ false → rest.amount ≡ 0 },
+}
+
+impl<L: Ledger> Book<L> {
+    /// A book of a state of which no answer was taken.
+    pub fn new(blank: Blank, state: State) -> Book<L>
+        requires name { blank.name ≡ L.name }
+        requires parts { (blank.parts ≡ L.parts) × (L.parts ≡ 65536) }
+        requires untaken { state.answers ≡ 0 }
+        ensures state { result.state ≡ state }
+        ensures opened { (result.opened ≡ 0) × (result.gathered ≡ false) }
+    {
+        let (total, rest) = blank.open::<L>();
+        Book {
+            state,
+            total,
+            rest,
+            opened: 0,
+            gathered: false,
+        }
+    }
+
+    /// What holds of every book, so whenever its lock is free: all that holds of a state, and the total
+    /// is the number of answers that were taken of it.
+    pub fn facts(&self)
+        ensures { IsRightBook self.now.state self.now.total.total self.now.rest.parts self.now.opened }
+    {
+        self.state.facts();
+    }
+
+    /// As the state's.
+    pub fn begin(&mut self, worker: u8, tenant: u32, command: Command) -> Result<Ticket, Refusal>
+        requires worker { IsWorker (length self.old.state.logs) worker }
+        requires point { MayBegin command }
+        ensures told { TellsBegin self.old.state self.new.state worker tenant command result }
+        ensures refused { TellsRefusal self.old.state tenant command result }
+        ensures opened { (self.new.opened ≡ self.old.opened) × (self.new.gathered ≡ self.old.gathered) }
+    {
+        self.state.begin(worker, tenant, command)
+    }
+
+    /// As the state's.
+    pub fn admit(&mut self, opening: Opening) -> Result<Ticket, Refusal>
+        requires { MayAdmit self.old.state opening.made }
+        ensures told { TellsAdmitted self.old.state self.new.state opening result }
+        ensures refused { RefusesOpening self.old.state opening result }
+        ensures opened { (self.new.opened ≡ self.old.opened) × (self.new.gathered ≡ self.old.gathered) }
+    {
+        self.state.admit(opening)
+    }
+
+    /// As the state's.
+    pub fn step(&mut self, ticket: &Ticket) -> Move
+        ensures told { Tells self.old.state self.new.state ticket.now.id result }
+        ensures opened { (self.new.opened ≡ self.old.opened) × (self.new.gathered ≡ self.old.gathered) }
+    {
+        self.state.step(ticket)
+    }
+
+    /// As the state's; an answer counts in the total and in the pass's share. The rest of the operation
+    /// is handed out.
+    pub fn take(
+        &mut self,
+        ticket: Ticket,
+        pass: &mut Pass<L>,
+        displaced: &mut Displaced,
+    ) -> Result<Answer, Ticket>
+        ensures told { TellsTake self.old.state self.new.state ticket result }
+        ensures answered { OnOk result (pass.new.share.amount ≡ pass.old.share.amount + 1) }
+        ensures open { OnErr result (pass.new.share.amount ≡ pass.old.share.amount) }
+        ensures worker { pass.new.worker ≡ pass.old.worker }
+        ensures seen { pass.new.seen ≡ pass.old.seen }
+        ensures opened { (self.new.opened ≡ self.old.opened) × (self.new.gathered ≡ self.old.gathered) }
+    {
+        match self.state.take_into(ticket, displaced) {
+            Ok(answer) => {
+                self.total.add(&mut pass.share, 1);
+                Ok(answer)
+            }
+            Err(ticket) => Err(ticket),
+        }
+    }
+
+    /// As the state's.
+    pub fn cancel(&mut self, ticket: Ticket) -> Result<(), Ticket>
+        ensures told { TellsCancel self.old.state self.new.state ticket result }
+        ensures opened { (self.new.opened ≡ self.old.opened) × (self.new.gathered ≡ self.old.gathered) }
+    {
+        self.state.cancel(ticket)
+    }
+
+    /// As the state's. The writes are handed out, as far as there is room for them.
+    pub fn tidy(&mut self, displaced: &mut Displaced)
+        ensures tidied { Tidies self.old.state self.new.state }
+        ensures opened { (self.new.opened ≡ self.old.opened) × (self.new.gathered ≡ self.old.gathered) }
+    {
+        self.state.tidy_into(displaced);
+    }
+
+    /// As the state's.
+    pub fn drain(&mut self, worker: u8) -> Result<Batch, AllocError>
+        requires { worker < length self.old.state.logs }
+        ensures drains { IfOk result (λ batch. Drains self.old.state self.new.state worker batch) }
+        ensures unchanged_on_err { OnErr result (self.new.state ≡ self.old.state) }
+        ensures opened { (self.new.opened ≡ self.old.opened) × (self.new.gathered ≡ self.old.gathered) }
+    {
+        self.state.drain(worker)
+    }
+
+    /// How many steps were made.
+    pub fn steps(&self) -> u64
+        ensures { result ≡ self.now.state.steps }
+    {
+        self.state.steps()
+    }
+
+    /// How many answers were taken.
+    pub fn answers(&self) -> u64
+        ensures { result ≡ self.now.state.answers }
+    {
+        self.state.answers()
+    }
+
+    /// How many logs are served, 0 where none are kept.
+    pub fn logs(&self) -> u8
+        ensures { result ≡ length self.now.state.logs }
+    {
+        self.state.logs()
+    }
+
+    /// What the operation's next step does; nothing, where no step of it is left.
+    pub fn phase(&self, ticket: &Ticket) -> Option<Phase>
+        ensures { result ≡ phase_at self.now.state.table ticket.now.id }
+    {
+        self.state.phase(ticket)
+    }
+
+    /// A pass for a worker, which has seen no step; none where 65,535 were opened, the total was told
+    /// or there is no such worker.
+    pub fn open_pass(&mut self, worker: u8) -> Option<Pass<L>>
+        ensures state { self.new.state ≡ self.old.state }
+        ensures gathered { self.new.gathered ≡ self.old.gathered }
+        ensures some { IfSome result (λ pass. (self.new.opened ≡ self.old.opened + 1) × (pass.worker ≡ worker) × (pass.seen ≡ 0) × (pass.share.amount ≡ 0)) }
+        ensures none { IfNone result (self.new.opened ≡ self.old.opened) }
+        ensures when { IsSome result ↔ ((self.old.opened < 65535) × (self.old.gathered ≡ false) × (worker < max (length self.old.state.logs) 1)) }
+    {
+        if self.opened >= PARTS - 1 || self.gathered || worker >= self.state.logs().max(1) {
+            return None;
+        }
+        self.opened += 1;
+        let share = self.rest.split_off(1, 0);
+        Some(Pass {
+            share,
+            worker,
+            seen: 0,
+        })
+    }
+
+    /// The total, once, where the passes are all that were opened; else they come back.
+    pub fn gather(&mut self, passes: Vec<Pass<L>>) -> Result<u64, Vec<Pass<L>>>
+        requires { L.parts ≡ 65536 }
+        ensures state { self.new.state ≡ self.old.state }
+        ensures when { IsOk result ↔ ((vec_len passes ≡ self.old.opened) × (self.old.gathered ≡ false)) }
+        ensures total { IfOk result (λ n. n ≡ self.old.state.answers) }
+        ensures sum { IfOk result (λ n. n ≡ sum_by (λ (p : Pass L). p.share.amount) passes.items) }
+        ensures once { OnOk result (self.new.gathered ≡ true) }
+        ensures back { IfErr result (λ back. back ≡ passes) }
+        ensures open { OnErr result ((self.new.gathered ≡ self.old.gathered) × (self.new.opened ≡ self.old.opened)) }
+    {
+        if passes.len() as u64 != self.opened || self.gathered {
+            return Err(passes);
+        }
+        self.opened = 0;
+        self.gathered = true;
+        merge_all(&mut self.rest, passes);
+        self.total.audit(&mut self.rest);
+        Ok(self.state.answers())
+    }
+}
+
+// Adds the shares of passes to this one.
+fn merge_all<L: Ledger>(rest: &mut Share<L>, passes: Vec<Pass<L>>)
+    ensures parts { rest.new.parts ≡ rest.old.parts + vec_len passes }
+    ensures amount { rest.new.amount ≡ rest.old.amount + sum_by (λ (p : Pass L). p.share.amount) passes.items }
+{
+    for pass in passes {
+        rest.merge(pass.share);
+    }
+}

@@ -1,0 +1,216 @@
+//! Calls: a command begun, stepped and answered, period by period, over any desk.
+
+ghost use Rattle.std.specs.Prelude.{◌≡◌, ◌+◌, ◌<◌, max, IfOk, OnErr};
+ghost use Rattle.mt_state.specs.Begins.{MayBegin};
+ghost use Rattle.mt_book.specs.Periods.{IsOfWorker};
+ghost use Rattle.mt_book.specs.Calls.{Calls, Begins, Ends, Led, IsTaken, asked_by, answers_of};
+
+use crate::desks::{Admission, Admitted, Desk, Stepping, Taken, Taking};
+use crate::gates::{Gate, passed};
+use crate::passes::Pass;
+use mt_core::{Displaced, Opening, Ticket, prepare};
+use mt_operation::Phase;
+use mt_rows::{Command, Refusal};
+use mt_runs::Answer;
+use mt_state::Move;
+use std::alloc::{AllocError, Global};
+use std::sync::Wait;
+use std::sync::ledger::Ledger;
+use std::thread;
+
+/// Why a call has no answer.
+#[derive(Drop)]
+pub enum CallFault {
+    /// Nothing was begun.
+    Refused(Refusal),
+    /// All step numbers are given; the operation stands where it is.
+    Spent(Ticket),
+}
+
+// An operation that was begun, what its next step does, and how many steps were shown then.
+#[derive(Drop)]
+struct Begun {
+    ticket: Ticket,
+    phase: Phase,
+    shown: u64,
+}
+
+// What a call has beside its operation: the command, to compare its answer with, and room for what its
+// last period displaces.
+#[derive(Drop)]
+struct Aside {
+    command: Command,
+    displaced: Displaced,
+}
+
+// So many writes that its last period displaces are freed behind that.
+const ROOM: usize = 4;
+
+fn set_aside(alloc: Global, command: &Command) -> Result<Aside, AllocError>
+    ensures { IfOk result (λ aside. aside.command ≡ command.now) }
+{
+    let command = command.copied()?;
+    let displaced = Displaced::with_room(alloc, ROOM)?;
+    Ok(Aside { command, displaced })
+}
+
+// Looks again for ever.
+fn never<T, L: Ledger, R: Wait, D: Desk<L>>(rt: &R, desk: &mut D) -> T
+    ensures { ⊥ }
+{
+    for _ in rt.forever() {
+        let _ = desk.look(rt);
+        thread::yield_now();
+    }
+    unreachable!()
+}
+
+// Begins the operation, as soon as the desk has made the steps that the pass saw.
+fn start<L: Ledger, R: Wait, D: Desk<L>>(
+    rt: &R,
+    desk: &mut D,
+    pass: &Pass<L>,
+    opening: Opening,
+) -> Result<Begun, Refusal>
+    requires { IsOfWorker pass.now.worker opening.made }
+    ensures { Begins D.does desk.old desk.new pass.now.seen pass.now.worker opening result }
+{
+    let mut opening = opening;
+    for _ in rt.forever() {
+        let Admission {
+            steps,
+            logs: _,
+            told,
+        } = desk.admit(rt, pass, opening);
+        match told {
+            Admitted::Early(back) => {
+                opening = back;
+                thread::yield_now();
+            }
+            Admitted::Begun(ticket, phase) => {
+                let shown = steps;
+                return Ok(Begun {
+                    ticket,
+                    phase,
+                    shown,
+                });
+            }
+            Admitted::Refused(refusal) => return Err(refusal),
+        }
+    }
+    unreachable!()
+}
+
+// Steps the operation to its end: whether it is done, or else all step numbers are given.
+fn stepped<L: Ledger, R: Wait, D: Desk<L>, G: Gate>(
+    rt: &R,
+    desk: &mut D,
+    pass: &Pass<L>,
+    gate: &G,
+    ticket: &Ticket,
+    phase: Phase,
+    shown: u64,
+) -> bool
+    ensures { Led D.does desk.old desk.new (Ends pass.now.seen ticket.now.id shown result) }
+{
+    let mut next = phase;
+    let mut last = shown;
+    for _ in rt.forever() {
+        let turned = passed(gate, ticket.id(), next, last);
+        let Stepping {
+            steps,
+            move_made,
+            phase,
+        } = desk.step(rt, pass, turned, ticket);
+        if let Some(phase) = phase {
+            next = phase;
+        }
+        match move_made {
+            Some(Move::Done) => return true,
+            Some(Move::Spent) => return false,
+            Some(Move::NoSuch) => return never(rt, desk),
+            Some(Move::Moved) => {}
+            Some(Move::Again { holder: _ }) => thread::yield_now(),
+            Some(Move::NoMemory) => thread::yield_now(),
+            None => thread::yield_now(),
+        }
+        last = steps;
+    }
+    unreachable!()
+}
+
+// Takes the answer.
+fn answered<L: Ledger, R: Wait, D: Desk<L>>(
+    rt: &R,
+    desk: &mut D,
+    pass: &mut Pass<L>,
+    ticket: Ticket,
+    displaced: &mut Displaced,
+) -> Answer
+    ensures taken { Led D.does desk.old desk.new (IsTaken pass.old.seen ticket.id result) }
+    ensures share { pass.new.share.amount ≡ pass.old.share.amount + 1 }
+    ensures worker { pass.new.worker ≡ pass.old.worker }
+    ensures seen { pass.new.seen ≡ pass.old.seen }
+{
+    let mut ticket = ticket;
+    for _ in rt.forever() {
+        let Taking { steps: _, told } = desk.take(rt, pass, ticket, displaced);
+        match told {
+            Taken::Early(back) => {
+                ticket = back;
+                thread::yield_now();
+            }
+            Taken::Open(_) => return never(rt, desk),
+            Taken::Answered(answer) => return answer,
+        }
+    }
+    unreachable!()
+}
+
+/// Runs a get or a put to its answer: a begin, its steps and a take, each in a lock period of its own,
+/// with the gate called before each step while the lock is free. All that the begin needs of the
+/// command is made before the first period, and what the last one displaces is freed behind it.
+///
+/// Errors: the refusal of the begin, or `Memory` before it; `Spent` with the ticket. A desk that shows
+/// fewer steps than the pass saw, or too few logs, is asked again; one that lost the operation, or gives
+/// another's answer, is never believed: the call looks again for ever, in periods that do nothing.
+pub fn call<L: Ledger, R: Wait, D: Desk<L>, G: Gate>(
+    rt: &R,
+    alloc: Global,
+    desk: &mut D,
+    pass: &mut Pass<L>,
+    tenant: u32,
+    command: Command,
+    gate: &G,
+) -> Result<Answer, CallFault>
+    requires { MayBegin command }
+    ensures periods { Calls D.does desk.old desk.new pass.old.seen (asked_by pass.old.worker tenant command) result }
+    ensures command { IfOk result (λ answer. answer.command ≡ command) }
+    ensures later { IfOk result (λ answer. pass.old.seen < answer.first) }
+    ensures seen { IfOk result (λ answer. pass.new.seen ≡ max pass.old.seen answer.last) }
+    ensures unseen { OnErr result (pass.new.seen ≡ pass.old.seen) }
+    ensures share { pass.new.share.amount ≡ pass.old.share.amount + answers_of result }
+    ensures worker { pass.new.worker ≡ pass.old.worker }
+{
+    let Ok(mut aside) = set_aside(alloc, &command) else {
+        return Err(CallFault::Refused(Refusal::Memory));
+    };
+    let opening = prepare(alloc, pass.worker, tenant, command);
+    let Begun {
+        ticket,
+        phase,
+        shown,
+    } = match start(rt, desk, pass, opening) {
+        Ok(begun) => begun,
+        Err(refusal) => return Err(CallFault::Refused(refusal)),
+    };
+    if !stepped(rt, desk, pass, gate, &ticket, phase, shown) {
+        return Err(CallFault::Spent(ticket));
+    }
+    let answer = answered(rt, desk, pass, ticket, &mut aside.displaced);
+    if !answer.command.is_same(&aside.command) || answer.first <= pass.seen {
+        return never(rt, desk);
+    }
+    pass.seen = pass.seen.max(answer.last);
+    Ok(answer)
+}

@@ -1,0 +1,44 @@
+//! What happens between two lock periods, while the lock is free.
+
+ghost use Rattle.std.specs.Prelude.{◌≡◌};
+
+use mt_operation::Phase;
+
+/// Called between the periods of a call, with the operation's id and what its next step does.
+pub trait Gate {
+    fn turn(&self, op: u64, phase: Phase);
+}
+
+/// The gate that does nothing.
+#[derive(Clone, Copy, Drop)]
+pub struct NoGate {}
+
+impl Gate for NoGate {
+    fn turn(&self, _op: u64, _phase: Phase) {}
+}
+
+/// That a gate was called for this operation, after a period that showed so many steps. Only `passed`
+/// makes one, and each step uses one up.
+pub struct Turned {
+    op: u64,
+    after: u64,
+}
+
+/// Calls the gate.
+pub fn passed<G: Gate>(gate: &G, op: u64, phase: Phase, after: u64) -> Turned
+    ensures op { result.op ≡ op }
+    ensures after { result.after ≡ after }
+{
+    gate.turn(op, phase);
+    Turned { op, after }
+}
+
+impl Turned {
+    /// The operation whose step it allows; the token is used up.
+    pub fn spend(self) -> u64
+        ensures { result ≡ self.op }
+    {
+        let Turned { op, after: _ } = self;
+        op
+    }
+}

@@ -1,0 +1,179 @@
+//! The book as a desk: owned alone, or under a lock that many threads share.
+
+ghost use Rattle.std.specs.Prelude.{◌≡◌, IfSome, IfOk, IfErr};
+ghost use Rattle.std.specs.List.{sum_by};
+ghost use Rattle.mt_book.specs.declared.passes.Pass.{Pass};
+ghost use Rattle.mt_book.specs.Books.{IsRightBook};
+
+use crate::books::Book;
+use crate::desks::{Admission, Admitted, Desk, Look, Stepping, Taken, Taking};
+use crate::gates::Turned;
+use crate::passes::Pass;
+use mt_core::{Displaced, Opening, Ticket};
+use mt_operation::Phase;
+use std::sync::ledger::Ledger;
+use std::sync::{Mutex, MutexGuard, Wait};
+use std::{hint, thread};
+
+/// A book that is owned alone: each period says all that it did to the state.
+impl<L: Ledger> Desk<L> for Book<L> {
+    ghost use Rattle.mt_book.specs.Does.{DoesState};
+
+    ghost does = { λ old p new. DoesState old.state p new.state };
+
+    fn look<R: Wait>(&mut self, _rt: &R) -> Look {
+        Look {
+            steps: self.steps(),
+            logs: self.logs(),
+        }
+    }
+
+    fn admit<R: Wait>(&mut self, _rt: &R, pass: &Pass<L>, opening: Opening) -> Admission {
+        let (steps, logs) = (self.steps(), self.logs());
+        let told = if steps < pass.seen() || pass.worker() >= logs.max(1) {
+            Admitted::Early(opening)
+        } else {
+            match self.admit(opening) {
+                Ok(ticket) => {
+                    let phase = self.phase(&ticket).unwrap_or(Phase::Enter);
+                    Admitted::Begun(ticket, phase)
+                }
+                Err(refusal) => Admitted::Refused(refusal),
+            }
+        };
+        Admission { steps, logs, told }
+    }
+
+    fn step<R: Wait>(
+        &mut self,
+        _rt: &R,
+        pass: &Pass<L>,
+        turned: Turned,
+        ticket: &Ticket,
+    ) -> Stepping {
+        let _ = turned.spend();
+        let steps = self.steps();
+        if steps < pass.seen() {
+            return Stepping {
+                steps,
+                move_made: None,
+                phase: None,
+            };
+        }
+        let move_made = Some(self.step(ticket));
+        let phase = self.phase(ticket);
+        Stepping {
+            steps,
+            move_made,
+            phase,
+        }
+    }
+
+    fn take<R: Wait>(
+        &mut self,
+        _rt: &R,
+        pass: &mut Pass<L>,
+        ticket: Ticket,
+        displaced: &mut Displaced,
+    ) -> Taking {
+        let steps = self.steps();
+        if steps < pass.seen() {
+            let told = Taken::Early(ticket);
+            return Taking { steps, told };
+        }
+        match self.take(ticket, pass, displaced) {
+            Ok(answer) => {
+                self.tidy(displaced);
+                let told = Taken::Answered(answer);
+                Taking { steps, told }
+            }
+            Err(ticket) => {
+                let told = Taken::Open(ticket);
+                Taking { steps, told }
+            }
+        }
+    }
+}
+
+/// The lock, tried before it is waited for: a sleeping waiter makes every unlock wake somebody. What
+/// stands behind it is right, whenever it is free.
+pub fn locked<'a, L: Ledger, R: Wait>(rt: &R, book: &'a Mutex<Book<L>>) -> MutexGuard<'a, Book<L>>
+    ensures { IsRightBook result.value.state result.value.total.total result.value.rest.parts result.value.opened }
+{
+    let guard = waited(rt, book);
+    guard.facts();
+    guard
+}
+
+// The lock. Turns of looking double from 4 to 4,096; then others may go first.
+fn waited<'a, L: Ledger, R: Wait>(rt: &R, book: &'a Mutex<Book<L>>) -> MutexGuard<'a, Book<L>> {
+    let mut turns = 4u32;
+    for _ in 0..1000u32 {
+        if let Some(guard) = book.try_lock() {
+            return guard;
+        }
+        for _ in 0..turns {
+            hint::spin_loop();
+        }
+        if turns < 4096 {
+            turns = turns.saturating_mul(2);
+        } else {
+            thread::yield_now();
+        }
+    }
+    book.lock(rt)
+}
+
+/// A book under a lock: others use it between two periods, so a period says nothing of the next one.
+impl<L: Ledger> Desk<L> for &Mutex<Book<L>> {
+    ghost does = { λ old p new. Unit {0} };
+
+    fn look<R: Wait>(&mut self, rt: &R) -> Look {
+        Desk::look(&mut *locked(rt, *self), rt)
+    }
+
+    fn admit<R: Wait>(&mut self, rt: &R, pass: &Pass<L>, opening: Opening) -> Admission {
+        Desk::admit(&mut *locked(rt, *self), rt, pass, opening)
+    }
+
+    fn step<R: Wait>(
+        &mut self,
+        rt: &R,
+        pass: &Pass<L>,
+        turned: Turned,
+        ticket: &Ticket,
+    ) -> Stepping {
+        Desk::step(&mut *locked(rt, *self), rt, pass, turned, ticket)
+    }
+
+    fn take<R: Wait>(
+        &mut self,
+        rt: &R,
+        pass: &mut Pass<L>,
+        ticket: Ticket,
+        displaced: &mut Displaced,
+    ) -> Taking {
+        Desk::take(&mut *locked(rt, *self), rt, pass, ticket, displaced)
+    }
+}
+
+/// A pass for a worker, which has seen no step; none where 65,535 were opened, the total was told or
+/// there is no such worker.
+pub fn open_pass<L: Ledger, R: Wait>(rt: &R, book: &Mutex<Book<L>>, worker: u8) -> Option<Pass<L>>
+    ensures { IfSome result (λ pass. (pass.worker ≡ worker) × (pass.seen ≡ 0) × (pass.share.amount ≡ 0)) }
+{
+    locked(rt, book).open_pass(worker)
+}
+
+/// The total, once, where the passes are all that were opened; else they come back.
+pub fn gather<L: Ledger, R: Wait>(
+    rt: &R,
+    book: &Mutex<Book<L>>,
+    passes: Vec<Pass<L>>,
+) -> Result<u64, Vec<Pass<L>>>
+    requires { L.parts ≡ 65536 }
+    ensures sum { IfOk result (λ n. n ≡ sum_by (λ (p : Pass L). p.share.amount) passes.items) }
+    ensures back { IfErr result (λ back. back ≡ passes) }
+{
+    locked(rt, book).gather(passes)
+}

@@ -1,0 +1,128 @@
+//! A call that a gate holds back between two of its steps, while another one is made.
+
+ghost use Rattle.std.specs.Prelude.{◌≡◌};
+
+use crate::threads::{get_of, new_store};
+use mt_book::{Book, Gate, NoGate, Pass, call, open_pass};
+use mt_operation::Phase;
+use std::alloc::{AllocError, Global};
+use std::marker::{Brand, Send, Sync};
+use std::process::Abort;
+use std::sync::atomic::{AtomicU64, Ordering};
+use std::sync::ledger::{Blank, Ledger};
+use std::sync::{Mutex, Wait};
+use std::test::Fail;
+use std::thread;
+use std::thread::Threads;
+use std::time::{Clock, Duration};
+
+// How far the two calls are: the first one is held, the second one is answered.
+const HELD: u64 = 1;
+
+const ANSWERED: u64 = 2;
+
+// Looks up to 100,000 times, a millisecond apart, whether the calls are so far.
+fn wait_for<R: Clock>(rt: &R, turn: &AtomicU64, wanted: u64) {
+    for _ in 0..100_000u32 {
+        if turn.load(Ordering::SeqCst) >= wanted {
+            return;
+        }
+        let _ = thread::sleep(rt, Duration::from_millis(1));
+    }
+}
+
+// Holds a call at its confirm until the other one is answered.
+#[derive(Clone, Copy)]
+struct Holding<'a, R: Clock> {
+    rt: &'a R,
+    turn: &'a AtomicU64,
+}
+
+impl<R: Clock> Gate for Holding<'_, R> {
+    fn turn(&self, _op: u64, phase: Phase) {
+        if phase == Phase::Confirm {
+            self.turn.store(HELD, Ordering::SeqCst);
+            wait_for(self.rt, self.turn, ANSWERED);
+        }
+    }
+}
+
+// A get through a pass, with the numbers of its first and last step.
+fn numbers<L: Ledger, R: Wait, G: Gate>(
+    rt: &R,
+    alloc: Global,
+    book: &Mutex<Book<L>>,
+    pass: &mut Pass<L>,
+    gate: &G,
+) -> (u64, u64) {
+    let mut desk = book;
+    let Ok(command) = get_of(alloc, 107) else {
+        return (0, 0);
+    };
+    match call(rt, alloc, &mut desk, pass, 7, command, gate) {
+        Ok(answer) => (answer.first, answer.last),
+        Err(_) => (0, 0),
+    }
+}
+
+// One of the two gets: the first one is held, the second one begins once it is.
+fn one_of_two<L: Ledger, R: Wait + Clock>(
+    rt: &R,
+    alloc: Global,
+    book: &Mutex<Book<L>>,
+    turn: &AtomicU64,
+    is_held: bool,
+    pass: &mut Pass<L>,
+) -> (u64, u64) {
+    if is_held {
+        return numbers(rt, alloc, book, pass, &Holding { rt, turn });
+    }
+    wait_for(rt, turn, HELD);
+    let told = numbers(rt, alloc, book, pass, &NoGate {});
+    turn.store(ANSWERED, Ordering::SeqCst);
+    told
+}
+
+fn run<L: Ledger + Send + Sync, R: Threads + Wait + Clock + Abort + Sync>(
+    rt: &R,
+    alloc: Global,
+    blank: Blank,
+) -> Result<(), AllocError>
+    requires name { blank.name ≡ L.name }
+    requires parts { (blank.parts ≡ L.parts) × (L.parts ≡ 65536) }
+{
+    let book = Mutex::new(Book::<L>::new(blank, new_store(rt, alloc)?));
+    let (shared, turn) = (&book, &AtomicU64::new(0));
+    let mut calls = Vec::new(alloc);
+    for is_held in [true, false] {
+        let Some(pass) = open_pass(rt, shared, 0) else {
+            panic!(rt; "no pass is left");
+        };
+        calls.push((is_held, pass))?;
+    }
+    let told = thread::map_vec(
+        rt,
+        calls,
+        &|(is_held, mut pass): (bool, Pass<L>)| {
+            one_of_two(rt, alloc, shared, turn, is_held, &mut pass)
+        },
+    )?;
+    let mut order = Vec::new(alloc);
+    for (first, last) in told {
+        order.push(first)?;
+        order.push(last)?;
+    }
+    match order.as_slice() {
+        [first, last, other_first, other_last] => {
+            assert!(rt; 0 < *first && first < other_first && other_last < last)
+        }
+        _ => panic!(rt; "two gets were made"),
+    }
+    Ok(())
+}
+
+#[test]
+fn another_call_is_made_between_two_steps(rt: HostRuntime) -> Result<(), Fail> {
+    run::<Brand, _>(&rt, rt.alloc(), Blank::new(65_536))?;
+    Ok(())
+}

@@ -1,0 +1,12 @@
+//! Tests of `mt_book`: calls by several threads, calls over a book that is owned alone, and over a desk
+//! that lies.
+//!
+//! They stand in a crate of their own, since a crate with tests is proved twice.
+#![tactic(auto)]
+
+#[cfg(test)]
+mod held;
+#[cfg(test)]
+mod lies;
+#[cfg(test)]
+mod threads;

@@ -1,0 +1,75 @@
+//! What the log of a worker is given of the tape, and up to which step the logs were given all.
+
+ghost use Rattle.std.specs.Prelude.{◌≡◌, IfOk, replicate};
+ghost use Rattle.std.specs.List.{All};
+ghost use Rattle.mt_rows.specs.Commands.{IsKey};
+ghost use Rattle.mt_core.specs.Drains.{record_of, records_after, IsLeastOf};
+
+use mt_rows::{Record, Records, Row};
+use mt_tape::{Entry, Tape};
+use std::alloc::{AllocError, Global};
+
+/// Logs that were given nothing.
+pub(crate) fn none_given(alloc: Global, logs: u8) -> Result<Vec<u64>, AllocError>
+    ensures { IfOk result (λ given. given.items ≡ replicate logs 0) }
+{
+    let mut given = Vec::new(alloc);
+    for _ in 0..logs {
+        given.push(0)?;
+    }
+    Ok(given)
+}
+
+/// The least of these numbers and a bound.
+pub(crate) fn least_of(numbers: &[u64], bound: u64) -> u64
+    ensures { IsLeastOf numbers.now bound result }
+{
+    let mut least = bound;
+    for number in numbers {
+        least = least.min(*number);
+    }
+    least
+}
+
+/// The changes that a worker's operations placed after a step, the oldest first.
+pub(crate) fn records_after(
+    alloc: Global,
+    tape: &Tape,
+    worker: u8,
+    after: u64,
+) -> Result<Records, AllocError>
+    requires { All (λ e. IsKey e.key) tape.now.entries }
+    ensures { IfOk result (λ records. records ≡ records_after worker after tape.now.entries) }
+{
+    let mut records = Vec::new(alloc);
+    for entry in tape.entries() {
+        if entry.step > after && entry.worker == worker {
+            records.push(recorded(entry)?)?;
+        }
+    }
+    Ok(Records::new(records))
+}
+
+// A placed change, as it is logged.
+fn recorded(entry: &Entry) -> Result<Record, AllocError>
+    ensures { IfOk result (λ r. r ≡ record_of entry.now) }
+{
+    let row = shared(&entry.after)?;
+    let key = entry.key.clone()?;
+    Ok(Record {
+        stamp: entry.step,
+        tenant: entry.tenant,
+        key,
+        row,
+    })
+}
+
+// The same row again, or none.
+fn shared(row: &Option<Row>) -> Result<Option<Row>, AllocError>
+    ensures { IfOk result (λ r. r ≡ row.now) }
+{
+    match row {
+        Some(row) => Ok(Some(row.share()?)),
+        None => Ok(None),
+    }
+}

@@ -1,0 +1,153 @@
+//! Disks in memory: which calls fail, and what a crash may leave. Real files: what they keep.
+
+use crate::logs::{Told, append_up_to, disk_with, opened_on};
+use mt_disk::disk::count_failure;
+use mt_disk::{Disk, FileDisk, MemDisk};
+use mt_log::LogFile;
+use std::alloc::Global;
+use std::fs;
+use std::fs::File;
+use std::test::Fail;
+
+// The images that are asked for, each torn, lost, kept, longer or shorter in its way.
+const IMAGES: [&str; 12] = [
+    "abcd", "aXYd", "aXcd", "a??d", "aXYd??", "abcdef", "abcd??", "ab", "aX", "abc", "Xbcd", "",
+];
+
+// Writes, appends, cuts and syncs, a letter a call. Each fails that is told to.
+fn call_all(disk: &mut MemDisk, calls: &str) {
+    for call in calls.as_bytes() {
+        let _ = match *call {
+            b'w' => disk.write_at(1, b"XY"),
+            b'a' => disk.write_at(4, b"ef"),
+            b'c' => disk.cut(2),
+            _ => disk.sync(),
+        };
+    }
+}
+
+// Whether a crash may leave the images that have a `y` in this line, and no others of the list.
+fn leaves(disk: &MemDisk, line: &str) -> bool {
+    IMAGES.iter().zip(line.as_bytes()).all(|(image, letter)| disk.may_leave(image.as_bytes())
+        == (*letter == b'y'))
+}
+
+#[test]
+fn a_crash_leaves_what_is_durable_and_tears_the_rest(rt: HostRuntime) -> Result<(), Fail> {
+    let alloc = rt.alloc();
+    // The calls on a disk where `abcd` is durable, the one that fails, and the first that a crash stops;
+    // what is read then, and a letter for each of the images.
+    for (calls, fail, stop, read, line) in [
+        ("", 0, 9, "abcd", "y..........."),
+        ("w", 0, 9, "aXYd", "yyyyyyy....."),
+        ("w", 1, 9, "abcd", "yyyyyyy....."),
+        ("c", 0, 9, "ab", "y....yyy.y.."),
+        ("c", 1, 9, "abcd", "y....yyy.y.."),
+        ("a", 0, 9, "abcdef", "y....yy....."),
+        ("a", 0, 1, "abcd", "y....yy....."),
+        ("wc", 0, 9, "aX", "yyyyyyyyyy.."),
+        ("wc", 0, 1, "abcd", "yyyyyyyyyy.."),
+        ("wc", 0, 2, "aXYd", "yyyyyyyyyy.."),
+        ("ws", 0, 9, "aXYd", ".y.........."),
+        ("ws", 1, 9, "abcd", "y..........."),
+        ("ws", 2, 9, "aXYd", "yyyyyyy....."),
+        ("ws", 0, 1, "abcd", "yyyyyyy....."),
+        ("ws", 0, 2, "aXYd", "yyyyyyy....."),
+        ("ws", 0, 3, "aXYd", ".y.........."),
+    ] {
+        let mut disk = MemDisk::with_image(alloc, b"abcd".to_vec(alloc)?, Some(fail), Some(stop))?;
+        call_all(&mut disk, calls);
+        assert!(rt;
+            disk.image() == read.as_bytes() && leaves(&disk, line),
+            "after {calls}, {fail} failing, stopped at {stop}"
+        );
+    }
+    Ok(())
+}
+
+// Whether of ten calls those fail that are told to, and no others.
+fn fails_as_told(disk: &mut MemDisk, fail: u64, stop: u64) -> bool {
+    let mut out = [0; 2];
+    for call in 1..11 {
+        let ok = match call % 5 {
+            1 => disk.write_at(0, b"abcd").is_ok(),
+            2 => disk.len().is_ok(),
+            3 => disk.read(1, &mut out).is_ok(),
+            4 => disk.cut(3).is_ok(),
+            _ => disk.sync().is_ok(),
+        };
+        if ok != (call != fail && call < stop) {
+            return false;
+        }
+    }
+    disk.calls() == 10
+}
+
+#[test]
+fn each_call_fails_where_it_is_told(rt: HostRuntime) {
+    let alloc = rt.alloc();
+    // A first write that fails leaves too little to read, so it isn't in the list.
+    for fail in [0, 2, 3, 4, 5, 6, 7, 8, 9, 10] {
+        for stop in 1..12 {
+            let mut disk = MemDisk::new(alloc, Some(fail), Some(stop));
+            assert!(rt; fails_as_told(&mut disk, fail, stop), "{fail}, {stop}");
+        }
+    }
+    let mut failures = 1;
+    count_failure(&mut failures);
+    assert_eq!(rt; failures, 2);
+}
+
+// Whether a new disk keeps what is written, cut to `abcdeXY`.
+fn keeps_what_is_written<D: Disk>(disk: &mut D) -> bool {
+    disk.len() == Ok(0)
+        && disk.write_at(0, b"abcdefgh").is_ok()
+        && disk.write_at(5, b"XYZ").is_ok()
+        && disk.len() == Ok(8)
+        && disk.cut(7).is_ok()
+        && disk.sync().is_ok()
+        && reads_it(disk)
+}
+
+// Whether it reads that, and nothing past it.
+fn reads_it<D: Disk>(disk: &mut D) -> bool {
+    let mut out = [0; 7];
+    disk.len() == Ok(7)
+        && disk.read(0, &mut out).is_ok()
+        && out.as_slice() == b"abcdeXY".as_slice()
+        && disk.read(1, &mut out).is_err()
+}
+
+// The mark of a log that is made on a disk, with a thousand batches.
+fn mark_of_many(alloc: Global, disk: FileDisk) -> u64 {
+    match LogFile::create(disk, 2, 4) {
+        Ok(log) => append_up_to(alloc, log, 1_000).1,
+        Err(_) => 0,
+    }
+}
+
+#[test]
+fn a_file_keeps_what_was_written(rt: HostRuntime) -> Result<(), Fail> {
+    let alloc = rt.alloc();
+    assert!(rt; keeps_what_is_written(&mut MemDisk::new(alloc, None, None)));
+    let (folder, path) = ("mt_log_tests_files", "mt_log_tests_files/wal-02");
+    let _ = fs::remove_dir_all(&rt, folder);
+    fs::create_dir(&rt, folder)?;
+    let mut options = File::options();
+    options.read(true).write(true).create(true);
+    let mut disk = FileDisk::new(options.open(&rt, path)?);
+    assert!(rt; keeps_what_is_written(&mut disk));
+    drop(disk);
+    // A file that was opened for reading alone.
+    let mut disk = FileDisk::new(File::open(&rt, path)?);
+    assert!(rt; reads_it(&mut disk));
+    assert!(rt; disk.write_at(0, b"Z").is_err() && disk.cut(1).is_err());
+    drop(disk);
+    // A log in its place.
+    let mark = mark_of_many(alloc, FileDisk::new(options.open(&rt, path)?));
+    assert!(rt; mark == 1_000);
+    let (_disk, told) = opened_on(alloc, FileDisk::new(options.open(&rt, path)?));
+    assert!(rt; told == Told::Front(1_000, 1_000));
+    fs::remove_dir_all(&rt, folder)?;
+    Ok(())
+}

@@ -1,0 +1,151 @@
+//! What puts and gets do in an index that is empty at first, and what the table of operations keeps.
+
+ghost use Rattle.std.specs.Prelude.{◌≡◌, ℕ};
+ghost use Rattle.mt_descent.specs.Kept.{IsAtBorder};
+ghost use Rattle.mt_operation.specs.Tables.{MayMove};
+
+use crate::phases::{Store, answer, begin, empty_store, get, place, put, put_of, walk_down};
+use mt_arena::Arena;
+use mt_descent::lock;
+use mt_operation::{Halves, Operation, Operations, Outcome, Phase, Splits, Task, Walk};
+use mt_rows::{Command, Reply};
+use mt_slices::StoredKey;
+use std::alloc::Global;
+use std::process::Abort;
+
+// Keys of one byte come from the highest down until there are so many, and the last one climbs so many
+// steps. Then each has a row of its byte, by its own step, and the next key has none.
+fn grow(rt: &impl Abort, on: &mut Store, from: u8, to: u8, climbed: usize) {
+    for count in from..to {
+        let byte = 255 - count;
+        let steps = put(rt, on, &[byte], &[byte]);
+        assert!(rt; count + 1 < to || steps == climbed);
+    }
+    for count in 0..to {
+        let byte = 255 - count;
+        assert!(rt; get(rt, on.alloc, &on.arena, &[byte]) == Ok((count as u64 + 1, byte)));
+    }
+    assert!(rt; get(rt, on.alloc, &on.arena, &[255 - to]) == Err(1));
+}
+
+// A put writes over the first of 136 keys.
+fn write_over(rt: &impl Abort, on: &mut Store) {
+    assert!(rt; put(rt, on, &[255], b"w") == 0);
+    assert!(rt; get(rt, on.alloc, &on.arena, &[255]) == Ok((137, b'w')));
+    assert!(rt; on.tape.len() == 137 && on.tenants.count(7) == Ok(136));
+}
+
+// A pair is placed in the root; the root is split; so is the first border node below it; and so is the
+// root once it has sixteen children, eight of which get another parent.
+#[test]
+fn an_index_grows_to_three_levels(rt: HostRuntime) {
+    let mut on = empty_store(&rt, rt.alloc());
+    let mut keys = 0;
+    for (count, climbed) in [(1, 0), (15, 0), (16, 2), (24, 3), (136, 13)] {
+        grow(&rt, &mut on, keys, count, climbed);
+        keys = count;
+    }
+    write_over(&rt, &mut on);
+}
+
+// Operation 6 has come to lock a node that operation 5 holds: it is told so, and changes nothing.
+fn meet_holder(rt: &impl Abort, arena: &mut Arena, key: &StoredKey, walk: &mut Walk)
+    requires { IsAtBorder arena.old key.now walk.old }
+    ensures { arena.new ≡ arena.old }
+{
+    assert!(rt; matches!(lock(arena, key, walk, 6), Some(5)) && walk.phase == Phase::Lock);
+}
+
+// A put changes the node to which a get has come, which looks again after Confirm and Forward. Another
+// put meets the lock of the first, and then finds it given back.
+fn tell_of_meetings(rt: &impl Abort, on: &mut Store) {
+    let task = put_of(rt, on.alloc, b"k", b"v");
+    let key = StoredKey::new(on.alloc, 7, b"l").expect(rt, "memory");
+    let mut get = walk_down(rt, &on.arena, &key, Phase::Search);
+    let mut other = walk_down(rt, &on.arena, &key, Phase::Lock);
+    let prepared = begin(rt, on, &task);
+    meet_holder(rt, &mut on.arena, &key, &mut other);
+    match on.walk.phase {
+        Phase::Publish => place(rt, on, &task, prepared),
+        _ => panic!(rt; "the node is full, or has the key"),
+    }
+    assert!(rt; answer(rt, &on.arena, &key, &mut get) == Err(4));
+    assert!(rt; put(rt, on, b"l", b"w") == 0);
+}
+
+#[test]
+fn a_put_meets_another_one_and_a_get(rt: HostRuntime) {
+    let mut on = empty_store(&rt, rt.alloc());
+    tell_of_meetings(&rt, &mut on);
+}
+
+// A table with a put of `k`, and its id.
+fn table_of(rt: &impl Abort, alloc: Global) -> (Operations, usize)
+    ensures { (o : ℕ) → MayMove result.0 o 5 }
+{
+    let mut table = Operations::new(alloc);
+    match table.keep(Operation::new(alloc, put_of(rt, alloc, b"k", b"v"))) {
+        Ok(id) => (table, id),
+        Err(_) => panic!(rt; "out of memory"),
+    }
+}
+
+// Its first step is the fifth one of all, and its second one misses its key. The floor between them.
+fn make_steps(table: &mut Operations, id: usize) -> u64
+    requires { (o : ℕ) → MayMove table.old o 5 }
+{
+    let mut walk = Walk::new(true, 0);
+    walk.phase = Phase::Lock;
+    table.go_on(id, 5, &walk);
+    let floor = table.floor_needed(5);
+    walk.phase = Phase::Done;
+    let reply = Reply::Absent;
+    table.go_on_with(id, 6, &walk, Some(Outcome { reply, at: 6 }));
+    floor
+}
+
+// What it has made ready is taken once, and its splits are exchanged for others and back.
+fn exchange(rt: &impl Abort, alloc: Global, table: &mut Operations, id: usize) {
+    let mut on = empty_store(rt, alloc);
+    table.make_ready(id, begin(rt, &mut on, &put_of(rt, alloc, b"k", b"v")));
+    let halves = Halves { left: 3, right: 8 };
+    on.splits.halves.push(halves).expect(rt, "memory");
+    for given in [0, 1] {
+        assert!(rt; table.take_prepared(id).is_some() == (given == 0));
+        table.swap_splits(id, &mut on.splits);
+        assert!(rt; on.splits.halves.len() == given);
+    }
+}
+
+// Whether it is a put of `k` that made step 5 first and step 6 last, and was answered then.
+fn is_answered(mut operation: Operation) -> bool {
+    let at = match &operation.outcome {
+        Some(outcome) if matches!(&outcome.reply, Reply::Absent) => outcome.at,
+        _ => 0,
+    };
+    let done = !operation.is_unfinished() && (operation.first(), operation.last, at) == (5, 6, 6);
+    operation.go_on(9, &Walk::new(true, 0));
+    let more = operation.is_unfinished() && (operation.first(), operation.last) == (5, 9);
+    let Operation { task, .. } = operation;
+    let Task { request, .. } = task;
+    let named = !request.is_get() && request.key().as_bytes() == b"k".as_slice();
+    let is_put = matches!(&request.into_command(), Command::Put { .. });
+    done && more && named && is_put
+}
+
+#[test]
+fn an_operation_is_kept_until_it_is_answered(rt: HostRuntime) {
+    let (mut table, id) = table_of(&rt, rt.alloc());
+    assert!(rt; make_steps(&mut table, id) == 4);
+    exchange(&rt, rt.alloc(), &mut table, id);
+    assert!(rt; table.get(id).is_some());
+    assert!(rt; table.remove(id).is_some_and(is_answered));
+    assert!(rt; table.get(id).is_none());
+}
+
+#[test]
+fn a_phase_is_written_in_small_letters(rt: HostRuntime) {
+    let (phase, other) = (Phase::Enter, Phase::LockParent);
+    let written = format!(in rt.alloc(); "{phase} {other}").expect(&rt, "memory");
+    assert!(rt; written.as_str() == "enter lockparent");
+}
