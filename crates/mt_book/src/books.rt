@@ -8,7 +8,7 @@ ghost use Rattle.mt_core.specs.Tickets.{TellsBegin, TellsTake, TellsCancel, Tell
 ghost use Rattle.mt_core.specs.Admitted.{MayAdmit, TellsAdmitted, RefusesOpening};
 ghost use Rattle.mt_core.specs.Shows.{phase_at};
 ghost use Rattle.mt_core.specs.Drains.{Drains};
-ghost use Rattle.mt_core.specs.Tidies.{Tidies};
+ghost use Rattle.mt_core.specs.Tidies.{TidiesInto, HandsOutRest};
 ghost use Rattle.mt_book.specs.declared.passes.Pass.{Pass};
 ghost use Rattle.mt_book.specs.Books.{IsRightBook};
 
@@ -103,6 +103,8 @@ impl<L: Ledger> Book<L> {
         displaced: &mut Displaced,
     ) -> Result<Answer, Ticket>
         ensures told { TellsTake self.old.state self.new.state ticket result }
+        ensures rest { OnOk result (HandsOutRest displaced.old displaced.new) }
+        ensures kept { OnErr result (displaced.new ≡ displaced.old) }
         ensures answered { OnOk result (pass.new.share.amount ≡ pass.old.share.amount + 1) }
         ensures open { OnErr result (pass.new.share.amount ≡ pass.old.share.amount) }
         ensures worker { pass.new.worker ≡ pass.old.worker }
@@ -126,9 +128,9 @@ impl<L: Ledger> Book<L> {
         self.state.cancel(ticket)
     }
 
-    /// As the state's. The writes are handed out, as far as there is room for them.
+    /// As the state's that hands the writes out.
     pub fn tidy(&mut self, displaced: &mut Displaced)
-        ensures tidied { Tidies self.old.state self.new.state }
+        ensures tidied { TidiesInto self.old.state self.new.state displaced.old displaced.new }
         ensures opened { (self.new.opened ≡ self.old.opened) × (self.new.gathered ≡ self.old.gathered) }
     {
         self.state.tidy_into(displaced);
@@ -173,7 +175,8 @@ impl<L: Ledger> Book<L> {
     }
 
     /// A pass for a worker, which has seen no step; none where 65,535 were opened, the total was told
-    /// or there is no such worker.
+    /// or there is no such worker. Room is made for one operation of each pass, so that a begin needs no
+    /// memory; where that is refused, the begin that comes asks for it again.
     pub fn open_pass(&mut self, worker: u8) -> Option<Pass<L>>
         ensures state { self.new.state ≡ self.old.state }
         ensures gathered { self.new.gathered ≡ self.old.gathered }
@@ -185,6 +188,7 @@ impl<L: Ledger> Book<L> {
             return None;
         }
         self.opened += 1;
+        let _ = self.state.reserve(self.opened as usize);
         let share = self.rest.split_off(1, 0);
         Some(Pass {
             share,

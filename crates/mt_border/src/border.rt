@@ -17,9 +17,10 @@ ghost use Rattle.mt_slices.specs.Marks.{IsMark};
 
 use crate::entry::{Entry, EntryRef, Find, Held, Pair};
 use crate::iter::Entries;
-use crate::places::{count_below, place_of, search};
+use crate::places::{place_of, search};
 use crate::slots::Slots;
 use crate::split::separator_of;
+use mt_lists::counts::count_below;
 use mt_rows::Row;
 use mt_slices::Mark;
 use mt_version::Version;

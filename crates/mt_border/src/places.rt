@@ -1,26 +1,13 @@
 //! Where a key stands, or would stand, among entries in the order of their keys.
 
-ghost use Rattle.std.specs.Prelude.{◌≡◌, ℕ, ◌<◌, ◌≤◌, IfNone, IfSome, length, slice_index};
+ghost use Rattle.std.specs.Prelude.{◌≡◌, ℕ, ◌<◌, ◌≤◌, IfNone, IfSome, length};
 ghost use Rattle.mt_slices.specs.Marks.{IsMark};
 ghost use Rattle.mt_border.specs.Entry.{order_at};
 ghost use Rattle.mt_border.specs.Entries.{IsAt, IsBorder, IsMissing, place_in};
 
 use crate::slots::Slots;
+use mt_lists::counts::count_below;
 use mt_slices::Mark;
-
-/// How many slices are below one, where they do not fall.
-pub(crate) fn count_below(slices: &[u64], slice: u64) -> usize
-    ensures within { result ≤ length slices.now }
-    ensures below { (k : ℕ) → k < result → slice_index slices.now k < slice }
-    ensures above { result < length slices.now → slice ≤ slice_index slices.now result }
-{
-    for (place, own) in slices.iter().enumerate() {
-        if *own >= slice {
-            return place;
-        }
-    }
-    slices.len()
-}
 
 /// How many entries stand before the slice and the mark.
 pub(crate) fn place_of(slots: &Slots, slice: u64, mark: Mark) -> usize

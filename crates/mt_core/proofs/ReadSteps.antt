@@ -1,7 +1,7 @@
 -- What the steps of an operation that holds nothing ask of the invariant, and what they tell: for `Inner::descend`, `search`, `load` and `confirm`.
 use denote.Enum.Bare.{sameb, same_true}
 use Rattle.mt_operation.specs.contracts.walk.Phase.{the_type}
-use Rattle.std.proofs.Common.{rules, ◌≡◌, ◌≢◌, ℕ, ◌+◌, ◌<◌, ◌≤◌, inl, inr, true, false, set, Option, Some, None, refl, sym, ap, subst, ◌∙◌}
+use Rattle.std.proofs.Common.{rules, ◌≡◌, ◌≢◌, ℕ, ◌+◌, ◌<◌, ◌≤◌, ◌⊎◌, inl, inr, Bool, true, false, set, Result, Ok, Err, IfOk, IfErr, OnErr, Option, Some, None, refl, sym, ap, subst, ◌∙◌}
 use Rattle.std.specs.Prelude.{◌^◌}
 use Rattle.mt_rows.specs.declared.reply.Reply.TheVariants.{Absent, NoMemory}
 use Rattle.mt_rows.specs.Rows.{Columns}
@@ -18,8 +18,9 @@ use Rattle.mt_operation.specs.declared.walk.Walk.{Walk}
 use Rattle.mt_operation.specs.declared.outcome.Outcome.{Outcome}
 use Rattle.mt_operation.specs.declared.operation.Operation.{Operation}
 use Rattle.mt_operation.specs.Tasks.{ask}
-use Rattle.mt_operation.specs.Operations.{view_of, is_done, moved, noted}
+use Rattle.mt_operation.specs.Operations.{view_of, is_done, moved, counted, noted}
 use Rattle.mt_operation.specs.Tables.{Table, MayMove, op_at as operation_at}
+use Rattle.mt_operation.specs.Bodies.{Body, StepsBy, IsStoppedBy}
 use Rattle.mt_operation.proofs.Tables.{set_is}
 use Rattle.mt_descent.specs.Pasts.{Past, IsNow}
 use Rattle.mt_descent.specs.Kept.{IsAtBorder, IsAtLoad as WalksLoad, IsAtConfirm as WalksConfirm, KeptAt, IsKept}
@@ -30,7 +31,7 @@ use Rattle.mt_state.specs.declared.moves.Move.TheVariants.{Moved, Again, Done as
 use Rattle.mt_state.specs.Views.{Core, shown, past_of}
 use Rattle.mt_state.specs.Promises.{Tells, IsInTheWay}
 use Rattle.mt_state.specs.Notes.{Says}
-use Rattle.mt_state.specs.Ways.{IsDescent, Descends, ShowsTaken}
+use Rattle.mt_state.specs.Ways.{IsOnWay, IsDescent, Descends, ShowsTaken}
 use Rattle.mt_state.specs.Kept.{IsOfKind, IsOnItsWay, IsAtLoad, IsAtConfirm, IsKeptAt}
 use Rattle.mt_state.specs.Invariant.{StateInvariant}
 use Rattle.mt_state.proofs.Shown.{shown_there}
@@ -39,11 +40,11 @@ use Rattle.mt_state.proofs.Still.{IsFree, holds_nothing, nothing_changes}
 use Rattle.mt_state.proofs.Reading.{way_of, descend_done, search_missing, search_found}
 use Rattle.mt_state.proofs.Loading.{load_taken, load_stopped}
 use Rattle.mt_state.proofs.Confirming.{get_of, confirm_done, confirm_back}
-use Rattle.mt_core.specs.Nexts.{ending}
-use Rattle.mt_core.specs.Looks.{TellsLoaded}
+use Rattle.mt_core.specs.Nexts.{IsNext, Counts, ending}
+use Rattle.mt_core.specs.Looks.{Looks, led_to, TellsDescended, TellsSearched, TellsLoaded, TellsConfirmed}
 use Rattle.mt_core.specs.Points.{IsAtPoint, Nears, StepsOn}
 use Rattle.mt_core.proofs.Points.{point_first, nears_by}
-use Rattle.mt_core.proofs.Following.{may_move, holder_open, in_the_way}
+use Rattle.mt_core.proofs.Following.{phase_is, may_move, holder_open, in_the_way}
 use Rattle.mt_core.proofs.LookPoints.{search_nears, load_nears, confirm_nears}
 
 -- who holds nothing has a step left
@@ -73,6 +74,29 @@ done_if p e = same_true the_type (search rules) _ _ (sym e)
 
 pub done_unless : (p : Phase) → false ≡ sameb the_type p Done → p ≢ Done
 done_unless p e is = absurd (let no : false ≡ true = e ∙ ap (λ (q : Phase). sameb the_type q Done) is in cc)
+
+confirm_or : (p : Phase) → (p ≡ Confirm) ⊎ (p ≢ Confirm)
+confirm_or p = by (sameb the_type p Confirm) refl
+  where
+    by : (b : Bool) → b ≡ sameb the_type p Confirm → (p ≡ Confirm) ⊎ (p ≢ Confirm)
+    by true e = inl (confirm_if p e)
+    by false e = inr (confirm_unless p e)
+
+done_or : (p : Phase) → (p ≡ Done) ⊎ (p ≢ Done)
+done_or p = by (sameb the_type p Done) refl
+  where
+    by : (b : Bool) → b ≡ sameb the_type p Done → (p ≡ Done) ⊎ (p ≢ Done)
+    by true e = inl (done_if p e)
+    by false e = inr (done_unless p e)
+
+-- a step that leads to another phase than the last moves the operation
+other_moves : (p : Phase) → p ≢ Done → ending p ≡ Moved
+other_moves Done other = absurd (other refl)
+other_moves _ other = refl
+
+way_moves : (p : Phase) → IsOnWay p → ending p ≡ Moved
+way_moves Done on = absurd on
+way_moves _ on = refl
 
 -- a state that has made one more step, with this table
 abbrev stepped : Core → Table → Core
@@ -209,29 +233,102 @@ module _ (c now : Core) (o : ℕ) (is : c ≡ now) (h : StateInvariant c) (room 
       (λ height made point. let k = confirming at_confirm in confirm_nears c.arena (past_of c) op.task.key k.0 op.walk w (h.ops o op there).always.stored at_confirm k.1 confirms other height made op.splits point)
 
   -- a load
-  pub load_gives : IsArena c.arena.nodes c.arena.trees → (at_load : op.walk.phase ≡ Load) → (w : Walk) (told : Option Outcome) → TellsLoaded (at c.arena op.walk.place.node) op (c.steps + 1) w told
-      → (table : Table) → table ≡ led w told → (answer : Move) → answer ≡ ending w.phase → StepGives table answer
-  load_gives arena at_load w told t table e answer ends = elim t.told [
+  pub load_gives : IsArena c.arena.nodes c.arena.trees → (at_load : op.walk.phase ≡ Load) → (after : Operation) → TellsLoaded c.arena (c.steps + 1) op after
+      → (table : Table) → table ≡ led after.walk after.outcome → (answer : Move) → answer ≡ ending after.walk.phase → StepGives table answer
+  load_gives arena at_load after t table e answer ends = elim t.told [
     | inl (same, shows) ↦ taken same shows
     | inr (same, says) ↦ stopped same says
   ]
     where
-      same_now : Continues op.walk t.after
+      same_now : Continues op.walk t.walk
       same_now = record { writes = ap (λ (x : Walk). x.writes) t.loads.is; first = ap (λ (x : Walk). x.first) t.loads.is }
 
-      taken : w ≡ t.after → ShowsTaken op t.row t.after told → StepGives table answer
+      taken : after.walk ≡ t.walk → ShowsTaken op t.row t.walk after.outcome → StepGives table answer
       taken same shows =
           subst (StepGives table) (sym (ends ∙ ap (λ (x : Walk). ending x.phase) same ∙ ap (λ (x : Walk). ending x.phase) t.loads.is))
-          (moved_gives t.after told
-          (load_taken c (shown now) o (ap shown is) h room arena op there at_load t.after t.row told t.loads shows same_now
-          (λ past stamped since. kept_loads c.arena op.task.key op.walk t.after past t.row arena (load_kept at_load) stamped since t.loads))
-          (λ height made point. load_nears c.arena op.walk t.after t.after.taken t.after.right_at at_load t.loads.is height made op.splits point)
-          table (e ∙ ap (λ (x : Walk). led x told) same))
+          (moved_gives t.walk after.outcome
+          (load_taken c (shown now) o (ap shown is) h room arena op there at_load t.walk t.row after.outcome t.loads shows same_now
+          (λ past stamped since. kept_loads c.arena op.task.key op.walk t.walk past t.row arena (load_kept at_load) stamped since t.loads))
+          (λ height made point. load_nears c.arena op.walk t.walk t.walk.taken t.walk.right_at at_load t.loads.is height made op.splits point)
+          table (e ∙ ap (λ (x : Walk). led x after.outcome) same))
 
-      stopped : w ≡ record t.after { phase = Done } → Says told NoMemory (c.steps + 1) → StepGives table answer
+      stopped : after.walk ≡ record t.walk { phase = Done } → Says after.outcome NoMemory (c.steps + 1) → StepGives table answer
       stopped same says =
-          let after : Walk = record t.after { phase = Done } in
+          let walk : Walk = record t.walk { phase = Done } in
           subst (StepGives table) (sym (ends ∙ ap (λ (x : Walk). ending x.phase) same))
-          (done_gives after (Some (record { reply = NoMemory; at = c.steps + 1 }))
-          (load_stopped c (shown now) o (ap shown is) h room arena op there at_load after refl (record { writes = same_now.writes; first = same_now.first }))
-          table (e ∙ ap (λ (x : Walk). led x told) same ∙ ap (led after) says))
+          (done_gives walk (Some (record { reply = NoMemory; at = c.steps + 1 }))
+          (load_stopped c (shown now) o (ap shown is) h room arena op there at_load walk refl (record { writes = same_now.writes; first = same_now.first }))
+          table (e ∙ ap (λ (x : Walk). led x after.outcome) same ∙ ap (led walk) says))
+
+  -- what the step of a body gives, by what the body tells
+  abbrev Comes : (Operation → Operation → Type 0) → Type 0
+  Comes Tells = (after : Operation) → Tells op after → (table : Table) → table ≡ set c.table o (Some (counted after (c.steps + 1) op.walk.first)) → (answer : Move) → answer ≡ ending after.walk.phase → StepGives table answer
+
+  -- the table that it makes of an operation that has walked on, with this outcome or none
+  led_table : (after : Operation) (w : Walk) (told : Option Outcome) → after ≡ led_to op w told → (table : Table) → table ≡ set c.table o (Some (counted after (c.steps + 1) op.walk.first)) → table ≡ led w told
+  led_table after w told others table e = e ∙ ap (λ (x : Operation). set c.table o (Some (counted x (c.steps + 1) op.walk.first))) others
+
+  -- a body that goes down
+  pub descent_comes : IsDescent op.walk.phase → Comes (TellsDescended c.arena)
+  descent_comes descent after t table e answer ends =
+      subst (StepGives table) (sym (ends ∙ way_moves after.walk.phase t.goes.on_way))
+      (descent_gives after.walk descent t.goes t.kept (λ height made point. t.nears height made op.splits point) table (led_table after after.walk op.outcome t.others table e))
+
+  -- one that searches
+  pub search_comes : IsArena c.arena.nodes c.arena.trees → op.walk.phase ≡ Search → Comes (TellsSearched c.arena (c.steps + 1))
+  search_comes arena at_search after t table e answer ends = elim (confirm_or after.walk.phase) [
+    | inl confirms ↦
+        subst (StepGives table) (sym (ends ∙ ap ending confirms))
+        (search_gives_missing arena at_search after.walk t.found t.kept confirms (record { reply = Absent; at = c.steps + 1 }) refl table
+        (led_table after after.walk (Some (record { reply = Absent; at = c.steps + 1 })) (t.missing confirms) table e))
+    | inr other ↦
+        subst (StepGives table) (sym (ends ∙ search_moves t.found.0 t.found.2))
+        (search_gives_found arena at_search after.walk t.found t.kept other table (led_table after after.walk op.outcome (t.there other) table e))
+  ]
+    where
+      search_moves : (f : Find) → after.walk ≡ after_search f op.walk (c.steps + 1) → ending after.walk.phase ≡ Moved
+      search_moves finds.Missing is_after = ap (λ (x : Walk). ending x.phase) is_after
+      search_moves (finds.Slot slot OtherLong) is_after = ap (λ (x : Walk). ending x.phase) is_after
+      search_moves (finds.Slot slot ThisKey) is_after = ap (λ (x : Walk). ending x.phase) is_after
+      search_moves (finds.Slot slot ToTree) is_after = ap (λ (x : Walk). ending x.phase) is_after
+
+  -- one that loads
+  pub load_comes : IsArena c.arena.nodes c.arena.trees → op.walk.phase ≡ Load → Comes (TellsLoaded c.arena (c.steps + 1))
+  load_comes arena at_load after t table e answer ends = load_gives arena at_load after t table (led_table after after.walk after.outcome t.others table e) answer ends
+
+  -- and one that confirms what was taken
+  pub confirm_comes : op.walk.phase ≡ Confirm → Comes (TellsConfirmed c.arena)
+  confirm_comes at_confirm after t table e answer ends = elim (done_or after.walk.phase) [
+    | inl done ↦
+        subst (StepGives table) (sym (ends ∙ ap ending done))
+        (confirm_gives_done at_confirm after.walk t.same t.confirms t.kept done table (led_table after after.walk op.outcome (t.done done) table e))
+    | inr other ↦
+        subst (StepGives table) (sym (ends ∙ other_moves after.walk.phase other))
+        (confirm_gives_back at_confirm after.walk t.same t.confirms t.kept other table (led_table after after.walk None (t.goes_on other) table e))
+  ]
+
+-- a step by a body, whatever comes of it
+module _ (c now : Core) (o : ℕ) (is : c ≡ now) (h : StateInvariant c) (room : now.steps < 2 ^ 59) (P : Phase → Type 0) (free : (phase : Phase) → P phase → IsFree phase) (next : IsNext now o P) where
+  -- the operation may make it
+  pub body_moves : MayMove c.table o (c.steps + 1)
+  body_moves = let n = subst (λ (x : Core). IsNext x o P) (sym is) next in free_moves c now o is h room n.0 n.1 (free n.0.walk.phase n.2)
+
+  -- the phase of the operation that is there
+  pub body_phase : (op : Operation) → operation_at c.table o ≡ Some op → P op.walk.phase
+  body_phase op there = phase_is c now o P is op there next
+
+  -- the state after it, counted where it is made
+  pub body_gives : (Makes : Body) (Tells : Operation → Operation → Type 0) → ((op : Operation) (there : operation_at c.table o ≡ Some op) → P op.walk.phase → Comes c now o is h room op there Tells)
+      → (table : Table) (came : Result Phase ℕ) → IfOk came (λ phase. StepsBy Makes c.table table o (c.steps + 1) phase) → IfErr came (λ holder. IsStoppedBy Makes c.table o holder) → OnErr came (table ≡ c.table)
+      → ((op : Operation) (r : Option ℕ) (after : Operation) → Makes op r after → Looks c.arena Tells op r after)
+      → (steps : ℕ) (answer : Move) → Counts c.steps came steps answer → StateInvariant (record c { steps = steps; table = table }) × StepsOn now (record c { steps = steps; table = table }) o answer
+  body_gives Makes Tells comes table (Ok phase) made stopped unchanged looks steps answer counts =
+      let m = looks made.op None made.after made.makes in
+      subst (λ (n : ℕ). StateInvariant (record c { steps = n; table = table }) × StepsOn now (record c { steps = n; table = table }) o answer) (sym counts.0)
+      (comes made.op made.there (body_phase made.op made.there) made.after m table made.table answer (counts.1 ∙ ap ending made.phase))
+  body_gives Makes Tells comes table (Err holder) made stopped unchanged looks steps answer counts =
+      let m = looks stopped.op (Some holder) stopped.op stopped.makes in
+      let same : record c { steps = steps; table = table } ≡ c = ap (λ (n : ℕ). record c { steps = n; table = table }) counts.0 ∙ ap (λ (t : Table). record c { table = t }) unchanged in (
+        subst StateInvariant (sym same) h,
+        subst (λ (x : Core). StepsOn now x o answer) (sym (same ∙ is)) (blocked c now o is h room stopped.op stopped.there (free stopped.op.walk.phase (body_phase stopped.op stopped.there)) holder m.0 answer counts.1),
+      )

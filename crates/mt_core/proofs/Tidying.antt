@@ -1,13 +1,13 @@
 -- A trim to the floor that a tape needs keeps the invariant, and all that a tidying promises: for `Inner::tidy`.
-use Rattle.std.proofs.Common.{◌≡◌, ℕ, ◌<◌, ◌≤◌, inl, inr, List, [], ◌∷◌, Some, sym, refl, ap, subst, arith}
-use Rattle.std.specs.Prelude.{nat_lt}
+use Rattle.std.proofs.Common.{◌≡◌, ℕ, ◌<◌, ◌≤◌, inl, inr, List, [], ◌∷◌, Some, sym, refl, ap, subst, ◌∙◌, arith}
+use Rattle.std.specs.Prelude.{nat_lt, ◌-◌, vec_len, vec_capacity}
 use Rattle.std.specs.List.{All, Contains}
 use Rattle.std.proofs.lemmas.Bool.{cases_lt}
-use Rattle.std.proofs.lemmas.List.Elements.{All-filter, Contains-push, Contains-push_cases, Contains-append_cases, Contains-append_left, Contains-append_right}
+use Rattle.std.proofs.lemmas.List.Elements.{All-filter, All-weaker, Contains-push, Contains-push_cases, Contains-append_cases, Contains-append_left, Contains-append_right}
 use Rattle.mt_rows.specs.Commands.{IsKey}
 use Rattle.mt_border.proofs.ContentsStamps.{stamped_weaker}
 use Rattle.mt_tape.specs.declared.entry.Entry.{Entry as TapeEntry}
-use Rattle.mt_tape.specs.Tapes.{Kept, later_entries}
+use Rattle.mt_tape.specs.Tapes.{Kept, later_entries, HandsOut}
 use Rattle.mt_tape.proofs.EntryLaws.{floor_upto_last, later_entries-kept, later_entries-dropped, rises-later_entries, last_step_over-later_entries, is_changed-later_entries}
 use Rattle.mt_tape.proofs.TapeLaws.{contents_at-trim, map_at-trim, legal-trim, untouched-trim}
 use Rattle.mt_arena.specs.Arena.{content_of}
@@ -18,8 +18,9 @@ use Rattle.mt_operation.specs.Tables.{IsBeforeFirsts, IsFloorNeeded, op_at as op
 use Rattle.mt_state.specs.Views.{Core, StateView, shown}
 use Rattle.mt_state.specs.Invariant.{IsStampOf, StateInvariant}
 use Rattle.mt_state.proofs.Shown.{shown_there, inside_of}
+use Rattle.mt_core.specs.declared.displaced.Displaced.{Displaced}
 use Rattle.mt_core.specs.Drains.{IsLeastOf}
-use Rattle.mt_core.specs.Tidies.{Tidies, IsBeforeFirsts as IsBeforeAll, IsFloorNeeded as IsNeeded}
+use Rattle.mt_core.specs.Tidies.{Leaves, Tidies, TidiesInto, IsBeforeFirsts as IsBeforeAll, IsFloorNeeded as IsNeeded}
 use Rattle.mt_core.proofs.Retained.{TellsOf, retained}
 
 -- an entry of a step after a floor is one of those that are kept
@@ -121,6 +122,22 @@ needed_shown c bound floor needed least = record {
   greatest = λ n floors. least.greatest n (needed.greatest n floors.made (before_inside c n floors.before)) floors.given;
 }
 
+-- what a tape that begins at a later floor leaves
+leaves_trimmed : (c : Core) (floor : ℕ) → c.tape.floor ≤ floor → Leaves (shown c) (shown (record c { tape = trimmed c floor }))
+leaves_trimmed c floor up = record {
+  steps = refl;
+  answers = refl;
+  logs = refl;
+  accounts = refl;
+  arena = refl;
+  table = refl;
+  reserved = refl;
+  rises = up;
+  entries = refl;
+  maps = λ t m le. map_at-trim floor m c.tape.entries (content_of c.arena) t le;
+  changes = λ m lt. is_changed-later_entries floor m c.tape.entries lt;
+}
+
 -- what the code has after the trim: the invariant, and what the tidying tells
 pub tidied : (c : Core) (now : StateView) (bound floor : ℕ) (tape : Kept) → shown c ≡ now → StateInvariant c → IsFloorNeeded c.table c.steps bound → IsLeastOf c.logs bound floor → tape ≡ trimmed c floor
     → StateInvariant (record c { tape = tape }) × Tidies now (shown (record c { tape = tape }))
@@ -129,18 +146,25 @@ tidied c now bound floor tape is h needed least trims =
     subst (λ (v : StateView). StateInvariant (record c { tape = tape }) × Tidies v (shown (record c { tape = tape }))) is
     (subst (λ (x : Kept). StateInvariant (record c { tape = x }) × Tidies (shown c) (shown (record c { tape = x }))) (sym trims) (
       trimmed_sound c floor h up (omega (arith, least.within, needed.made)) (before_lower c bound floor least.within needed.before) least.each,
-      record {
-        steps = refl;
-        answers = refl;
-        logs = refl;
-        accounts = refl;
-        arena = refl;
-        table = refl;
-        reserved = refl;
-        needed = needed_shown c bound floor needed least;
-        rises = up;
-        entries = refl;
-        maps = λ t m le. map_at-trim floor m c.tape.entries (content_of c.arena) t le;
-        changes = λ m lt. is_changed-later_entries floor m c.tape.entries lt;
-      },
+      record { leaves = leaves_trimmed c floor up; needed = needed_shown c bound floor needed least },
     ))
+
+-- and after one that hands out
+pub handed : (c : Core) (now : StateView) (bound floor : ℕ) (tape : Kept) (before after : Displaced) → shown c ≡ now → StateInvariant c → IsFloorNeeded c.table c.steps bound → IsLeastOf c.logs bound floor
+    → HandsOut floor c.tape tape before.writes.items after.writes.items (vec_capacity before.writes - vec_len before.writes) → after.rest ≡ before.rest
+    → StateInvariant (record c { tape = tape }) × TidiesInto now (shown (record c { tape = tape })) before after
+handed c now bound floor tape before after is h needed least g rest =
+    let low = g.upto in
+    let same : tape ≡ trimmed c tape.floor = ap (λ (r : ℕ). record tape { reserved = r }) g.reserved ∙ ap (λ (es : List TapeEntry). record { entries = es; floor = tape.floor; reserved = c.tape.reserved }) g.later in
+    subst (λ (v : StateView). StateInvariant (record c { tape = tape }) × TidiesInto v (shown (record c { tape = tape })) before after) is (
+      subst (λ (x : Kept). StateInvariant (record c { tape = x })) (sym same)
+          (trimmed_sound c tape.floor h g.rises (omega (arith, low, least.within, needed.made)) (before_lower c bound tape.floor (omega (arith, low, least.within)) needed.before)
+          (All-weaker (λ m. floor ≤ m) (λ m. tape.floor ≤ m) (λ m le. omega (arith, low, le)) c.logs least.each)),
+      record {
+        leaves = subst (λ (x : Kept). Leaves (shown c) (shown (record c { tape = x }))) (sym same) (leaves_trimmed c tape.floor g.rises);
+        floor = floor;
+        needed = needed_shown c bound floor needed least;
+        hands_out = g;
+        rest = rest;
+      },
+    )

@@ -1,19 +1,84 @@
--- A load, and what it shows.
-use Rattle.std.specs.Prelude.{◌≡◌, ℕ, ◌⊎◌, Option}
+-- What the steps make of an operation that holds nothing: a step down, and a get's search, load and confirmation.
+use Rattle.std.specs.Prelude.{◌≡◌, ◌≢◌, ℕ, ◌+◌, ◌≤◌, ◌⊎◌, true, Option, Some, None}
 use Rattle.mt_rows.specs.Rows.{Columns}
-use Rattle.mt_rows.specs.declared.reply.Reply.TheVariants.{NoMemory}
-use Rattle.mt_arena.specs.NodeView.{NodeView}
-use Rattle.mt_operation.specs.declared.walk.Phase.TheVariants.{Done}
+use Rattle.mt_rows.specs.Commands.{HasColumns}
+use Rattle.mt_rows.specs.Maps.{is_get}
+use Rattle.mt_rows.specs.declared.reply.Reply.TheVariants.{Absent, NoMemory}
+use Rattle.mt_border.specs.declared.entry.Find.{Find}
+use Rattle.mt_arena.specs.Arena.{ArenaView}
+use Rattle.mt_arena.specs.Accesses.{at}
+use Rattle.mt_operation.specs.declared.walk.Phase.TheVariants.{Search, Load, Confirm, Done}
 use Rattle.mt_operation.specs.declared.walk.Walk.{Walk}
 use Rattle.mt_operation.specs.declared.outcome.Outcome.{Outcome}
+use Rattle.mt_operation.specs.declared.splits.Splits.{Splits}
 use Rattle.mt_operation.specs.declared.operation.Operation.{Operation}
-use Rattle.mt_descent.specs.Moves.{Loads}
+use Rattle.mt_descent.specs.Pasts.{Past, IsNow}
+use Rattle.mt_descent.specs.Kept.{IsKept, IsAtBorder, IsAtLoad, IsAtConfirm}
+use Rattle.mt_descent.specs.Moves.{Continues, FindsIn, Loads, Confirms, after_search}
+use Rattle.mt_operation.specs.Tasks.{ask}
+use Rattle.mt_state.specs.Promises.{IsInTheWay}
 use Rattle.mt_state.specs.Notes.{Says}
-use Rattle.mt_state.specs.Ways.{ShowsTaken}
+use Rattle.mt_state.specs.Ways.{IsDescent, Descends, ShowsTaken}
+use Rattle.mt_state.specs.Invariant.{IsUnremoved}
+use Rattle.mt_core.specs.Points.{IsAtPoint}
+
+-- what a step makes of an operation that holds nothing, where nobody is in its way; else it is as it was
+abbrev pub Looks : ArenaView → (Operation → Operation → Type 0) → Operation → Option ℕ → Operation → Type 0
+Looks v Tells op None after = Tells op after
+Looks v Tells op (Some holder) after = IsInTheWay v op.walk.phase holder × (after ≡ op)
+
+-- an operation has walked on, and has this outcome or none; all else of it is as it was
+abbrev pub led_to : Operation → Walk → Option Outcome → Operation
+led_to op walk told = record op { walk = walk; outcome = told }
+
+-- an operation goes down, in a state from which nothing was removed
+pub record MayDescend (v : ArenaView) (op : Operation) : Type 0 where
+  pub phase : IsDescent op.walk.phase
+  pub kept : (past : Past) × IsKept v past op.task.key None op.walk
+  pub unremoved : IsUnremoved v
+
+-- it is about to search, to load for a get, or to confirm
+pub record MaySearch (v : ArenaView) (op : Operation) : Type 0 where
+  pub phase : op.walk.phase ≡ Search
+  pub kept : IsAtBorder v op.task.key op.walk
+
+pub record MayLoad (v : ArenaView) (op : Operation) : Type 0 where
+  pub phase : op.walk.phase ≡ Load
+  pub get : is_get (ask op.task) ≡ true
+  pub columns : HasColumns (ask op.task)
+  pub kept : IsAtLoad v op.task.key op.walk
+
+pub record MayConfirm (v : ArenaView) (op : Operation) : Type 0 where
+  pub phase : op.walk.phase ≡ Confirm
+  pub kept : IsAtBorder v op.task.key op.walk
+
+-- a step down: the walk goes on, and comes nearer
+pub record TellsDescended (v : ArenaView) (op after : Operation) : Type 0 where
+  pub goes : Descends op.walk after.walk
+  pub nears : (height made : ℕ) (splits : Splits) → IsAtPoint height made v op.walk splits → IsAtPoint height (made + 1) v after.walk splits
+  pub kept : (past : Past) → IsKept v past op.task.key None after.walk
+  pub others : after ≡ led_to op after.walk op.outcome
+
+-- a search by the step of this number: where it goes on to confirm, the key is missing, and so it notes; else it answers what it did
+pub record TellsSearched (v : ArenaView) (step : ℕ) (op after : Operation) : Type 0 where
+  pub found : (f : Find) × FindsIn (at v op.walk.place.node) op.task.key op.walk.layer f × (after.walk ≡ after_search f op.walk step)
+  pub same : Continues op.walk after.walk
+  pub kept : (past : Past) (row : Option Columns) → IsNow past step v → op.walk.first ≤ step → IsKept v past op.task.key row after.walk
+  pub missing : after.walk.phase ≡ Confirm → after ≡ led_to op after.walk (Some (record { reply = Absent; at = step }))
+  pub there : after.walk.phase ≢ Confirm → after ≡ led_to op after.walk op.outcome
 
 -- a load by the step of this number: what it took is shown, and is to be confirmed; or there was no memory for it
-pub record TellsLoaded (n : NodeView) (op : Operation) (step : ℕ) (walk : Walk) (outcome : Option Outcome) : Type 0 where
+pub record TellsLoaded (v : ArenaView) (step : ℕ) (op after : Operation) : Type 0 where
   pub row : Option Columns
-  pub after : Walk
-  pub loads : Loads n op.walk after row
-  pub told : ((walk ≡ after) × ShowsTaken op row after outcome) ⊎ ((walk ≡ record after { phase = Done }) × Says outcome NoMemory step)
+  pub walk : Walk
+  pub loads : Loads (at v op.walk.place.node) op.walk walk row
+  pub others : after ≡ led_to op after.walk after.outcome
+  pub told : ((after.walk ≡ walk) × ShowsTaken op row walk after.outcome) ⊎ ((after.walk ≡ record walk { phase = Done }) × Says after.outcome NoMemory step)
+
+-- a confirmation: what was noted is answered where the get is done, and is forgotten where it goes on
+pub record TellsConfirmed (v : ArenaView) (op after : Operation) : Type 0 where
+  pub confirms : Confirms (at v op.walk.place.node) op.walk after.walk
+  pub same : Continues op.walk after.walk
+  pub kept : (past : Past) (row : Option Columns) → IsAtConfirm v past op.task.key row op.walk → IsKept v past op.task.key row after.walk
+  pub done : after.walk.phase ≡ Done → after ≡ led_to op after.walk op.outcome
+  pub goes_on : after.walk.phase ≢ Done → after ≡ led_to op after.walk None

@@ -1,8 +1,9 @@
 -- What a tidying leaves.
-use Rattle.std.specs.Prelude.{◌≡◌, ℕ, ◌<◌, ◌≤◌, List, Some}
+use Rattle.std.specs.Prelude.{◌≡◌, ℕ, ◌-◌, ◌<◌, ◌≤◌, List, Some, IsSome, vec_len, vec_capacity}
 use Rattle.std.specs.List.{All}
-use Rattle.mt_tape.specs.Tapes.{later_entries}
+use Rattle.mt_tape.specs.Tapes.{later_entries, HandsOut}
 use Rattle.mt_operation.specs.Operations.{OperationView}
+use Rattle.mt_core.specs.declared.displaced.Displaced.{Displaced}
 use Rattle.mt_state.specs.Views.{StateView, Shown, op_at, map_of, changed_at}
 
 -- every operation that has made a step made its first one after this number
@@ -20,8 +21,8 @@ pub record IsFloorNeeded (table : Shown) (logs : List ℕ) (steps floor : ℕ) :
   pub floors : IsFloorFor table logs steps floor
   pub greatest : (n : ℕ) → IsFloorFor table logs steps n → n ≤ floor
 
--- the tape begins at the floor that it needs, and nothing else has changed: every map from there on stands, and so does every change after it
-pub record Tidies (old new : StateView) : Type 0 where
+-- nothing but the tape's first writes is gone: every map from its floor on stands, and so does every change after it
+pub record Leaves (old new : StateView) : Type 0 where
   pub steps : new.steps ≡ old.steps
   pub answers : new.answers ≡ old.answers
   pub logs : new.logs ≡ old.logs
@@ -29,8 +30,25 @@ pub record Tidies (old new : StateView) : Type 0 where
   pub arena : new.arena ≡ old.arena
   pub table : new.table ≡ old.table
   pub reserved : new.tape.reserved ≡ old.tape.reserved
-  pub needed : IsFloorNeeded old.table old.logs old.steps new.tape.floor
   pub rises : old.tape.floor ≤ new.tape.floor
   pub entries : new.tape.entries ≡ later_entries new.tape.floor old.tape.entries
   pub maps : (t m : ℕ) → new.tape.floor ≤ m → map_of new t m ≡ map_of old t m
   pub changes : (m : ℕ) → new.tape.floor < m → changed_at new m ≡ changed_at old m
+
+-- a tidying: the tape begins at the floor that it needs
+pub record Tidies (old new : StateView) : Type 0 where
+  pub leaves : Leaves old new
+  pub needed : IsFloorNeeded old.table old.logs old.steps new.tape.floor
+
+-- a tidying that hands the writes out to a list, up to that floor or till its room is used up
+pub record TidiesInto (old new : StateView) (before after : Displaced) : Type 0 where
+  pub leaves : Leaves old new
+  pub floor : ℕ
+  pub needed : IsFloorNeeded old.table old.logs old.steps floor
+  pub hands_out : HandsOut floor old.tape new.tape before.writes.items after.writes.items (vec_capacity before.writes - vec_len before.writes)
+  pub rest : after.rest ≡ before.rest
+
+-- a take that hands out the rest of its operation, in the place of any other
+pub record HandsOutRest (before after : Displaced) : Type 0 where
+  pub rest : IsSome after.rest
+  pub writes : after.writes ≡ before.writes

@@ -1,5 +1,7 @@
 //! What a state gave up, for whoever frees it.
 
+ghost use Rattle.std.specs.Prelude.{◌≡◌, ◌≤◌, [], None, IfOk, vec_capacity};
+
 use mt_operation::{Prepared, Splits};
 use mt_slices::StoredKey;
 use mt_tape::Entry;
@@ -7,16 +9,16 @@ use std::alloc::{AllocError, Global};
 
 /// What takes and tidyings gave up of a state, so that it is freed once nobody waits for the state:
 /// writes of the tape, as far as there is room for them, and the rest of the operation that was taken
-/// last. What has no room is freed by the tidying.
+/// last. What has no room stays with the state.
 #[derive(Drop)]
 pub struct Displaced {
-    pub(crate) writes: Vec<Entry>,
-    pub(crate) rest: Option<Rest>,
+    pub writes: Vec<Entry>,
+    pub rest: Option<Rest>,
 }
 
 /// The rest of an operation that is finished.
 #[derive(Drop)]
-pub(crate) struct Rest {
+pub struct Rest {
     pub key: StoredKey,
     pub prepared: Option<Prepared>,
     pub splits: Splits,
@@ -24,13 +26,18 @@ pub(crate) struct Rest {
 
 impl Displaced {
     /// Nothing yet, with room for so many writes. An error comes where memory is refused.
-    pub fn with_room(alloc: Global, writes: usize) -> Result<Self, AllocError> {
+    pub fn with_room(alloc: Global, writes: usize) -> Result<Self, AllocError>
+        ensures nothing { IfOk result (λ d. (d.writes.items ≡ []) × (d.rest ≡ None)) }
+        ensures room { IfOk result (λ d. writes ≤ vec_capacity d.writes) }
+    {
         let writes = Vec::with_capacity(alloc, writes)?;
         Ok(Displaced { writes, rest: None })
     }
 
     /// Nothing yet, with room for no write.
-    pub fn new(alloc: Global) -> Self {
+    pub fn new(alloc: Global) -> Self
+        ensures { (result.writes.items ≡ []) × (result.rest ≡ None) }
+    {
         Displaced {
             writes: Vec::new(alloc),
             rest: None,

@@ -4,7 +4,7 @@
 //! operation is shown whole, with what it remembers on its way; `State` shows its steps and its reply
 //! alone. Units: steps by their numbers, which begin at 1.
 
-ghost use Rattle.std.specs.Prelude.{◌≡◌, ◌≢◌, ◌+◌, ◌<◌, ◌≤◌, ◌^◌, ℕ, IsSome, IfOk, OnErr, length, slice_set, Some, None, []};
+ghost use Rattle.std.specs.Prelude.{◌≡◌, ◌≢◌, ◌+◌, ◌<◌, ◌≤◌, ◌^◌, ℕ, IsSome, IfOk, OnOk, OnErr, length, slice_set, Some, None, []};
 ghost use Rattle.std.specs.Option.{option_map};
 ghost use Rattle.mt_arena.specs.Arena.{IsArena};
 ghost use Rattle.mt_state.specs.Views.{shown};
@@ -12,6 +12,7 @@ ghost use Rattle.mt_state.specs.Invariant.{StateInvariant};
 ghost use Rattle.mt_state.specs.Begins.{new_state, HaveNoPairs};
 ghost use Rattle.mt_state.specs.Ways.{IsDescent};
 ghost use Rattle.mt_state.specs.Writes.{IsClimb, IsLayerPhase};
+ghost use Rattle.mt_core.specs.Looks.{Looks, MayDescend, MaySearch, MayLoad, MayConfirm, TellsDescended, TellsSearched, TellsLoaded, TellsConfirmed};
 ghost use Rattle.mt_core.specs.Tickets.{TellsTake, TellsCancel};
 ghost use Rattle.mt_core.specs.Admitted.{MayAdmit, TellsAdmitted, RefusesOpening};
 ghost use Rattle.mt_core.specs.Rights.{IsRightState};
@@ -19,8 +20,8 @@ ghost use Rattle.mt_core.specs.Shows.{phase_at, phase_in, noted_at};
 ghost use Rattle.mt_core.specs.Alone.{Runs, IsAlone, EndsAlone};
 ghost use Rattle.mt_core.specs.Points.{StepsOn};
 ghost use Rattle.mt_core.specs.Drains.{Drains};
-ghost use Rattle.mt_core.specs.Tidies.{Tidies};
-ghost use Rattle.mt_core.specs.Nexts.{IsNext, ending};
+ghost use Rattle.mt_core.specs.Tidies.{Tidies, TidiesInto, HandsOutRest};
+ghost use Rattle.mt_core.specs.Nexts.{IsNext, Counts, ending};
 ghost use Rattle.mt_operation.specs.declared.operation.Operation.{Operation as AnyOperation};
 ghost use Rattle.mt_operation.specs.Operations.{OperationView, view_of};
 ghost use Rattle.mt_operation.specs.Tables.{op_at as operation_at};
@@ -30,13 +31,13 @@ use crate::climbs::{Climbed, climb_on};
 use crate::displaced::Displaced;
 use crate::drains::{least_of, none_given, records_after};
 use crate::layers::build_on;
-use crate::looks::{absent, descend, load_row, no_memory};
+use crate::looks::{confirm_row, descend, load_row, no_memory, search_key};
 use crate::openings::{Opening, give_back, give_up};
 use mt_arena::Arena;
-use mt_descent::{confirm, lock, search};
+use mt_descent::lock;
 use mt_insert::{Judged, judge, publish, split_move, split_start, store, unlock, unlock_all};
 use mt_layer::leave;
-use mt_operation::{Operation, Operations, Outcome, Phase, Prepared, Splits, Walk};
+use mt_operation::{Operation, Operations, Outcome, Phase, Prepared, Splits};
 use mt_rows::{Batch, Refusal, Reply, Tenants};
 use mt_runs::Answer;
 use mt_state::Move;
@@ -110,13 +111,22 @@ impl Inner {
         Ok(Ticket { id })
     }
 
+    /// Makes room for so many more operations.
+    pub(crate) fn reserve(&mut self, more: usize) -> Result<(), AllocError>
+        ensures { self.new ≡ self.old }
+    {
+        self.operations.reserve(more)
+    }
+
     /// The answer of an operation that is finished, which is right; else its ticket comes back.
     pub(crate) fn take(
         &mut self,
         ticket: Ticket,
         displaced: &mut Displaced,
     ) -> Result<Answer, Ticket>
-        ensures { TellsTake (shown self.old) (shown self.new) ticket result }
+        ensures told { TellsTake (shown self.old) (shown self.new) ticket result }
+        ensures rest { OnOk result (HandsOutRest displaced.old displaced.new) }
+        ensures kept { OnErr result (displaced.new ≡ displaced.old) }
     {
         match give_up(&mut self.operations, ticket.id, displaced) {
             Some(answer) => {
@@ -163,12 +173,21 @@ impl Inner {
     }
 
     /// Gives up the writes of the tape that no operation and no log needs any more.
-    pub(crate) fn tidy(&mut self, displaced: &mut Displaced)
+    pub(crate) fn tidy(&mut self)
         ensures { Tidies (shown self.old) (shown self.new) }
     {
         let needed = self.operations.floor_needed(self.steps);
         let floor = least_of(&self.logs, needed);
-        self.tape.trim(floor, &mut displaced.writes);
+        self.tape.trim(floor);
+    }
+
+    /// Hands these writes out, the oldest first, as far as there is room for them.
+    pub(crate) fn tidy_into(&mut self, displaced: &mut Displaced)
+        ensures { TidiesInto (shown self.old) (shown self.new) displaced.old displaced.new }
+    {
+        let needed = self.operations.floor_needed(self.steps);
+        let floor = least_of(&self.logs, needed);
+        self.tape.trim_into(floor, &mut displaced.writes);
     }
 
     /// How many logs are served.
@@ -206,7 +225,8 @@ impl Inner {
         unreachable!()
     }
 
-    /// Makes one step of an operation.
+    /// Makes one step of an operation. Each phase is a call of its own, so that none pays for the frame
+    /// of another.
     pub(crate) fn step(&mut self, id: usize) -> Move
         ensures { StepsOn self.old self.new id result }
     {
@@ -252,89 +272,95 @@ impl Inner {
     }
 
     // Goes down the tree, or on to the next node.
+    #[inline(never)]
     fn descend(&mut self, id: usize) -> Move
         requires next { IsNext self.old id IsDescent }
         requires few { self.old.steps < 2 ^ 59 }
         ensures { StepsOn self.old self.new id result }
     {
         self.arena.facts();
-        let operation = open(&self.operations, id);
-        let mut walk = operation.walk;
-        if let Some(holder) = descend(&self.arena, &operation.task.key, &mut walk) {
-            return again(holder);
-        }
-        self.steps += 1;
-        self.operations.go_on(id, self.steps, &walk);
-        Move::Moved
+        let step = self.steps + 1;
+        let arena = &self.arena;
+        let came = self.operations.step_by(
+            id,
+            step,
+            |operation|
+                requires { MayDescend arena.now operation.old }
+                ensures { Looks arena.entry.now (TellsDescended arena.entry.now) operation.old result operation.new }
+            { descend(arena, operation) },
+        );
+        count(&mut self.steps, came)
     }
 
     // Looks for the key.
+    #[inline(never)]
     fn search(&mut self, id: usize) -> Move
         requires next { IsNext self.old id (λ phase. phase ≡ Phase.Search) }
         requires few { self.old.steps < 2 ^ 59 }
         ensures { StepsOn self.old self.new id result }
     {
         self.arena.facts();
-        self.steps += 1;
-        let operation = open(&self.operations, id);
-        let mut walk = operation.walk;
-        search(&self.arena, &operation.task.key, &mut walk, self.steps);
-        if walk.phase == Phase::Confirm {
-            self.operations
-                .go_on_with(id, self.steps, &walk, Some(absent(self.steps)));
-        } else {
-            self.operations.go_on(id, self.steps, &walk);
-        }
-        Move::Moved
+        let step = self.steps + 1;
+        let arena = &self.arena;
+        let came = self.operations.step_by(
+            id,
+            step,
+            |operation|
+                requires { MaySearch arena.now operation.old }
+                ensures { Looks arena.entry.now (TellsSearched arena.entry.now step) operation.old result operation.new }
+            {
+                search_key(arena, operation, step);
+                None
+            },
+        );
+        count(&mut self.steps, came)
     }
 
     // Takes the row of the slot that was found.
+    #[inline(never)]
     fn load(&mut self, id: usize) -> Move
         requires next { IsNext self.old id (λ phase. phase ≡ Phase.Load) }
         requires few { self.old.steps < 2 ^ 59 }
         ensures { StepsOn self.old self.new id result }
     {
         self.arena.facts();
-        let operation = open(&self.operations, id);
-        let mut walk = operation.walk;
-        match load_row(
-            self.alloc,
-            &self.arena,
-            operation,
-            &mut walk,
-            self.steps + 1,
-        ) {
-            Ok(outcome) => {
-                self.steps += 1;
-                self.operations.go_on_with(id, self.steps, &walk, outcome);
-                ending(&walk)
-            }
-            Err(holder) => again(holder),
-        }
+        let step = self.steps + 1;
+        let alloc = self.alloc;
+        let arena = &self.arena;
+        let came = self.operations.step_by(
+            id,
+            step,
+            |operation|
+                requires { MayLoad arena.now operation.old }
+                ensures { Looks arena.entry.now (TellsLoaded arena.entry.now step) operation.old result operation.new }
+            { load_row(alloc, arena, operation, step) },
+        );
+        count(&mut self.steps, came)
     }
 
     // Compares the version with the one that was remembered.
+    #[inline(never)]
     fn confirm(&mut self, id: usize) -> Move
         requires next { IsNext self.old id (λ phase. phase ≡ Phase.Confirm) }
         requires few { self.old.steps < 2 ^ 59 }
         ensures { StepsOn self.old self.new id result }
     {
         self.arena.facts();
-        let operation = open(&self.operations, id);
-        let mut walk = operation.walk;
-        if let Some(holder) = confirm(&self.arena, &operation.task.key, &mut walk) {
-            return again(holder);
-        }
-        self.steps += 1;
-        if walk.phase == Phase::Done {
-            self.operations.go_on(id, self.steps, &walk);
-            return Move::Done;
-        }
-        self.operations.go_on_with(id, self.steps, &walk, None);
-        Move::Moved
+        let step = self.steps + 1;
+        let arena = &self.arena;
+        let came = self.operations.step_by(
+            id,
+            step,
+            |operation|
+                requires { MayConfirm arena.now operation.old }
+                ensures { Looks arena.entry.now (TellsConfirmed arena.entry.now) operation.old result operation.new }
+            { confirm_row(arena, operation) },
+        );
+        count(&mut self.steps, came)
     }
 
     // Takes the lock of the border node.
+    #[inline(never)]
     fn lock(&mut self, id: usize) -> Move
         requires next { IsNext self.old id (λ phase. phase ≡ Phase.Lock) }
         requires few { self.old.steps < 2 ^ 59 }
@@ -352,6 +378,7 @@ impl Inner {
     }
 
     // Looks for the key under the lock, and makes all growths of the placing step.
+    #[inline(never)]
     fn judge(&mut self, id: usize) -> Move
         requires next { IsNext self.old id (λ phase. phase ≡ Phase.Judge) }
         requires few { self.old.steps < 2 ^ 59 }
@@ -388,6 +415,7 @@ impl Inner {
     }
 
     // Writes the row over the one that is there.
+    #[inline(never)]
     fn store(&mut self, id: usize) -> Move
         requires next { IsNext self.old id (λ phase. phase ≡ Phase.Store) }
         requires few { self.old.steps < 2 ^ 59 }
@@ -414,6 +442,7 @@ impl Inner {
     }
 
     // Judges the quota, and makes the pair live.
+    #[inline(never)]
     fn publish(&mut self, id: usize) -> Move
         requires next { IsNext self.old id (λ phase. phase ≡ Phase.Publish) }
         requires few { self.old.steps < 2 ^ 59 }
@@ -442,6 +471,7 @@ impl Inner {
     }
 
     // Makes the right half of the full border node.
+    #[inline(never)]
     fn split_start(&mut self, id: usize) -> Move
         requires next { IsNext self.old id (λ phase. phase ≡ Phase.SplitStart) }
         requires few { self.old.steps < 2 ^ 59 }
@@ -477,6 +507,7 @@ impl Inner {
     }
 
     // Judges the quota, and parts the keys among the halves.
+    #[inline(never)]
     fn split_move(&mut self, id: usize) -> Move
         requires next { IsNext self.old id (λ phase. phase ≡ Phase.SplitMove) }
         requires few { self.old.steps < 2 ^ 59 }
@@ -506,6 +537,7 @@ impl Inner {
     }
 
     // Brings a right half nearer to its place in its parent, or makes a root.
+    #[inline(never)]
     fn climb(&mut self, id: usize) -> Move
         requires next { IsNext self.old id IsClimb }
         requires few { self.old.steps < 2 ^ 59 }
@@ -529,6 +561,7 @@ impl Inner {
     }
 
     // Brings a layer one step nearer.
+    #[inline(never)]
     fn build(&mut self, id: usize) -> Move
         requires next { IsNext self.old id IsLayerPhase }
         requires few { self.old.steps < 2 ^ 59 }
@@ -559,6 +592,7 @@ impl Inner {
     }
 
     // Gives all locks back. An operation without an outcome has made a layer, and goes on there.
+    #[inline(never)]
     fn unlock(&mut self, id: usize) -> Move
         requires next { IsNext self.old id (λ phase. phase ≡ Phase.Unlock) }
         requires few { self.old.steps < 2 ^ 59 }
@@ -622,6 +656,20 @@ impl Inner {
     }
 }
 
+// What a step answers that came to a phase, and is counted then, or in whose way somebody was.
+fn count(steps: &mut u64, came: Result<Phase, usize>) -> Move
+    requires { steps.old < 2 ^ 59 }
+    ensures { Counts steps.old came steps.new result }
+{
+    match came {
+        Ok(phase) => {
+            *steps += 1;
+            ending(phase)
+        }
+        Err(holder) => again(holder),
+    }
+}
+
 // Another operation is in the way.
 fn again(holder: usize) -> Move
     ensures { result ≡ Move.Again holder }
@@ -631,14 +679,13 @@ fn again(holder: usize) -> Move
     }
 }
 
-// What a step answers that leads to this walk.
-fn ending(walk: &Walk) -> Move
-    ensures { result ≡ ending walk.now.phase }
+// What a step answers that leads to this phase.
+fn ending(phase: Phase) -> Move
+    ensures { result ≡ ending phase }
 {
-    if walk.phase == Phase::Done {
-        Move::Done
-    } else {
-        Move::Moved
+    match phase {
+        Phase::Done => Move::Done,
+        _ => Move::Moved,
     }
 }
 

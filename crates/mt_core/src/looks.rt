@@ -7,19 +7,19 @@ ghost use Rattle.mt_rows.specs.Commands.{HasColumns};
 ghost use Rattle.mt_rows.specs.Maps.{is_get};
 ghost use Rattle.mt_arena.specs.Accesses.{at};
 ghost use Rattle.mt_operation.specs.Tasks.{ask, command_of};
-ghost use Rattle.mt_descent.specs.Moves.{IsBlockedAt, Continues, Loads};
+ghost use Rattle.mt_descent.specs.Moves.{IsBlocked, IsBlockedAt, Continues, Loads};
 ghost use Rattle.mt_descent.specs.Pasts.{Past};
-ghost use Rattle.mt_descent.specs.Kept.{IsKept, IsAtLoad};
+ghost use Rattle.mt_descent.specs.Kept.{IsKept, IsAtBorder, IsAtLoad};
 ghost use Rattle.mt_state.specs.Promises.{IsInTheWay};
 ghost use Rattle.mt_state.specs.Notes.{columns_asked};
 ghost use Rattle.mt_state.specs.Ways.{IsDescent, Descends};
 ghost use Rattle.mt_state.specs.Invariant.{IsUnremoved};
 ghost use Rattle.mt_operation.specs.declared.splits.Splits.{Splits as AnySplits};
-ghost use Rattle.mt_core.specs.Looks.{TellsLoaded};
+ghost use Rattle.mt_core.specs.Looks.{Looks, MayDescend, MaySearch, MayLoad, MayConfirm, TellsDescended, TellsSearched, TellsLoaded, TellsConfirmed};
 ghost use Rattle.mt_core.specs.Points.{IsAtPoint};
 
 use mt_arena::Arena;
-use mt_descent::{child, enter, forward, load, pick, verify};
+use mt_descent::{child, confirm, enter, forward, load, pick, search, verify};
 use mt_operation::{Operation, Outcome, Phase, Request, Walk};
 use mt_rows::{Reply, Row};
 use mt_slices::StoredKey;
@@ -27,11 +27,19 @@ use std::alloc::{AllocError, Global};
 
 /// Goes down the tree, or on to the next node, by the walk's phase. A number is that of the operation
 /// that is in the way: then no step is made.
-pub(crate) fn descend(arena: &Arena, key: &StoredKey, walk: &mut Walk) -> Option<usize>
+pub(crate) fn descend(arena: &Arena, operation: &mut Operation) -> Option<usize>
+    requires { MayDescend arena.now operation.old }
+    ensures { Looks arena.now (TellsDescended arena.now) operation.old result operation.new }
+{
+    go_down(arena, &operation.task.key, &mut operation.walk)
+}
+
+// The walk of an operation that goes down.
+fn go_down(arena: &Arena, key: &StoredKey, walk: &mut Walk) -> Option<usize>
     requires phase { IsDescent walk.old.phase }
     requires kept { (past : Past) × IsKept arena.now past key.now None walk.old }
     requires unremoved { IsUnremoved arena.now }
-    ensures again { IfSome result (λ holder. IsInTheWay arena.now walk.old.phase holder) }
+    ensures again { IfSome result (λ holder. IsInTheWay arena.now walk.old.phase holder × (walk.new ≡ walk.old)) }
     ensures goes { IfNone result (Descends walk.old walk.new) }
     ensures nears { (height made : ℕ) (splits : AnySplits) → IfNone result (IsAtPoint height made arena.now walk.old splits → IsAtPoint height (made + 1) arena.now walk.new splits) }
     ensures kept { (past : Past) → IfNone result (IsKept arena.now past key.now None walk.new) }
@@ -50,30 +58,56 @@ pub(crate) fn descend(arena: &Arena, key: &StoredKey, walk: &mut Walk) -> Option
     }
 }
 
-/// What a get takes out of its slot by the step of this number, and what it answers where nothing
-/// changes till it has confirmed it. Where there is no memory for the row that it shows, it is done.
-/// An error tells who is in its way.
+/// Looks for the key by the step of this number, and notes that it is missing where it is.
+pub(crate) fn search_key(arena: &Arena, operation: &mut Operation, step: u64)
+    requires { MaySearch arena.now operation.old }
+    ensures { TellsSearched arena.now step operation.old operation.new }
+{
+    search(arena, &operation.task.key, &mut operation.walk, step);
+    if operation.walk.phase == Phase::Confirm {
+        operation.outcome = Some(absent(step));
+    }
+}
+
+/// Takes what a get finds in its slot by the step of this number, and notes what it answers where
+/// nothing changes till it has confirmed it. Where there is no memory for the row that it shows, it is
+/// done. A number is that of the operation that is in the way: then no step is made.
 pub(crate) fn load_row(
     alloc: Global,
     arena: &Arena,
-    operation: &Operation,
-    walk: &mut Walk,
+    operation: &mut Operation,
     step: u64,
-) -> Result<Option<Outcome>, usize>
-    requires get { is_get (ask operation.now.task) ≡ true }
-    requires columns { HasColumns (ask operation.now.task) }
-    requires kept { IsAtLoad arena.now operation.now.task.key walk.old }
-    ensures again { IfErr result (λ holder. IsBlockedAt (at arena.now walk.old.place.node) walk.old.slot holder) }
-    ensures is { IfOk result (λ told. TellsLoaded (at arena.now walk.old.place.node) (record operation.now { walk = walk.old }) step walk.new told) }
+) -> Option<usize>
+    requires { MayLoad arena.now operation.old }
+    ensures { Looks arena.now (TellsLoaded arena.now step) operation.old result operation.new }
 {
-    let row = load(arena, &operation.task.key, walk)?;
+    let row = match load(arena, &operation.task.key, &mut operation.walk) {
+        Ok(row) => row,
+        Err(holder) => return Some(holder),
+    };
     match shown(alloc, row, &operation.task.request) {
-        Ok(reply) => Ok(told(reply, walk.right_at)),
+        Ok(reply) => operation.outcome = told(reply, operation.walk.right_at),
         Err(_) => {
-            walk.phase = Phase::Done;
-            Ok(Some(no_memory(step)))
+            operation.walk.phase = Phase::Done;
+            operation.outcome = Some(no_memory(step));
         }
     }
+    None
+}
+
+/// Compares the version with the one that was remembered: the get is done, or what it noted is
+/// forgotten. A number is that of the operation that is in the way: then no step is made.
+pub(crate) fn confirm_row(arena: &Arena, operation: &mut Operation) -> Option<usize>
+    requires { MayConfirm arena.now operation.old }
+    ensures { Looks arena.now (TellsConfirmed arena.now) operation.old result operation.new }
+{
+    if let Some(holder) = confirm(arena, &operation.task.key, &mut operation.walk) {
+        return Some(holder);
+    }
+    if operation.walk.phase != Phase::Done {
+        operation.outcome = None;
+    }
+    None
 }
 
 // What a get answers that took this row, if it took one.

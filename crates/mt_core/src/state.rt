@@ -3,7 +3,7 @@
 //! It owns its nodes, its tape and its operations. Errors: refusals of `begin`, which change nothing.
 //! Units: steps by their numbers, which begin at 1.
 
-ghost use Rattle.std.specs.Prelude.{◌≡◌, ◌≢◌, ◌<◌, ◌≤◌, ℕ, IfOk, OnErr, length, Some};
+ghost use Rattle.std.specs.Prelude.{◌≡◌, ◌≢◌, ◌<◌, ◌≤◌, ℕ, IfOk, OnOk, OnErr, length, Some};
 ghost use Rattle.std.specs.Option.{option_map};
 ghost use Rattle.mt_rows.specs.Tenants.{tenant_map};
 ghost use Rattle.mt_state.specs.Views.{op_at, contents_of};
@@ -16,7 +16,7 @@ ghost use Rattle.mt_core.specs.Shapes.{IsShape};
 ghost use Rattle.mt_core.specs.Shows.{phase_at, noted_at};
 ghost use Rattle.mt_core.specs.Alone.{Runs, IsAlone, EndsAlone};
 ghost use Rattle.mt_core.specs.Drains.{Drains};
-ghost use Rattle.mt_core.specs.Tidies.{Tidies};
+ghost use Rattle.mt_core.specs.Tidies.{Tidies, TidiesInto, HandsOutRest};
 ghost use Rattle.mt_operation.specs.Operations.{OperationView};
 
 use crate::answers::Ticket;
@@ -70,6 +70,14 @@ impl State {
         self.admit(prepare(self.inner.alloc, worker, tenant, command))
     }
 
+    /// Makes room for so many more operations, which `begin` and `admit` need no memory for then. An
+    /// error comes where memory is refused.
+    pub fn reserve(&mut self, more: usize) -> Result<(), AllocError>
+        ensures { self.new ≡ self.old }
+    {
+        self.inner.reserve(more)
+    }
+
     /// Begins the operation of an opening. Errors are those of `begin`.
     pub fn admit(&mut self, opening: Opening) -> Result<Ticket, Refusal>
         requires { MayAdmit self.old opening.made }
@@ -89,7 +97,9 @@ impl State {
 
     /// The same; what is left of the operation is handed out, to be freed by the caller.
     pub fn take_into(&mut self, ticket: Ticket, displaced: &mut Displaced) -> Result<Answer, Ticket>
-        ensures { TellsTake self.old self.new ticket result }
+        ensures told { TellsTake self.old self.new ticket result }
+        ensures rest { OnOk result (HandsOutRest displaced.old displaced.new) }
+        ensures kept { OnErr result (displaced.new ≡ displaced.old) }
     {
         self.inner.take(ticket, displaced)
     }
@@ -167,15 +177,15 @@ impl State {
     pub fn tidy(&mut self)
         ensures { Tidies self.old self.new }
     {
-        let mut displaced = Displaced::new(self.inner.alloc);
-        self.inner.tidy(&mut displaced);
+        self.inner.tidy();
     }
 
-    /// The same; the writes are handed out, to be freed by the caller, as far as there is room for them.
+    /// Hands these writes out, to be freed by the caller: the oldest first, as far as there is room for
+    /// them. Nothing is freed here, and the others stay till a later tidying.
     pub fn tidy_into(&mut self, displaced: &mut Displaced)
-        ensures { Tidies self.old self.new }
+        ensures { TidiesInto self.old self.new displaced.old displaced.new }
     {
-        self.inner.tidy(displaced);
+        self.inner.tidy_into(displaced);
     }
 
     /// Makes one step of an operation, which leaves every other tenant's map as it was.

@@ -10,6 +10,7 @@ ghost use Rattle.mt_interior.specs.Places.{place_of, IsPlace, IsNew};
 ghost use Rattle.mt_interior.specs.Fences.{HoldsSlice, IsWithinBounds, bounds};
 
 use arrayvec::ArrayVec;
+use mt_lists::counts::count_up_to;
 use mt_version::Version;
 use std::marker::Model;
 
@@ -148,8 +149,7 @@ impl Interior {
         ensures value { result ≡ place_of self.now.separators slice }
         ensures parts { IsPlace self.now.separators slice result }
     {
-        self.separators
-            .partition_point(|separator| *separator <= slice)
+        count_up_to(&self.separators, slice)
     }
 
     /// The number of the child whose range holds the slice.

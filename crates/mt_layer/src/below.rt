@@ -3,7 +3,7 @@
 //! Errors: `AllocError`. Units: bytes.
 
 ghost use Rattle.std.specs.Prelude.{◌≡◌, ℕ, ◌<◌, ◌≤◌, ◌+◌, ◌*◌, IfOk, length, take, drop};
-ghost use Rattle.mt_slices.specs.Slices.{slice_at, mark_at};
+ghost use Rattle.mt_slices.specs.Slices.{mark_at};
 ghost use Rattle.mt_border.specs.declared.entry.Pair.{Pair as AnyPair};
 ghost use Rattle.mt_border.specs.declared.entry.Held.TheVariants.{Stable};
 ghost use Rattle.mt_border.specs.Entry.{IsStablePair};
@@ -12,22 +12,11 @@ ghost use Rattle.mt_layer.specs.Moves.{entry_below};
 
 use mt_arena::Prefix;
 use mt_border::{Border, Entry, Held, Pair, Suffix};
-use mt_slices::{Mark, StoredKey};
+use mt_slices::{Mark, StoredKey, slice_at};
 use std::alloc::{AllocError, Global};
 
 // The bytes of a slice.
 const SLICE_BYTES: usize = 8;
-
-// The first eight bytes as a number, the highest first. Zeros stand for those that are missing.
-#[tactic(auto, using(mt_slices::proofs::Padding::written_padded), unfolding(mt_slices::specs::Slices::slice_at))]
-fn slice_at(bytes: &[u8]) -> u64
-    ensures { result ≡ slice_at bytes.now }
-{
-    let own = bytes.len().min(SLICE_BYTES);
-    let mut padded = [0; SLICE_BYTES];
-    padded[..own].copy_from_slice(&bytes[..own]);
-    u64::from_be_bytes(padded)
-}
 
 // How many of the first eight bytes there are, or that more follow.
 fn mark_at(bytes: &[u8]) -> Mark

@@ -93,7 +93,7 @@ taken_named old mid new before after name o answer t d f held a = record {
 }
   where
     table : new.table ≡ set old.table o None
-    table = d.table ∙ ap (λ (v : StateView). v.table) t.gone
+    table = d.leaves.table ∙ ap (λ (v : StateView). v.table) t.gone
 
     other : (n q : ℕ) → operation_of after n ≡ Some q → n ≢ name
     other n q e same = none-some q (sym f.freed ∙ ap (operation_of after) (sym same) ∙ e)

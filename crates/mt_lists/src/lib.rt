@@ -1,7 +1,7 @@
-//! Lists of numbers that rise: what they are, and what edits leave of them.
+//! Lists of numbers that rise: what they are, what edits leave of them, and where a number stands.
 //!
-//! Nothing here runs: `specs/Rising.antt` says when a list rises, and the laws are contracts of
-//! functions that do nothing.
+//! `specs/Rising.antt` says when a list rises. The laws are contracts of functions that do nothing.
 #![tactic(auto)]
 
+pub mod counts;
 pub mod laws;

@@ -2,3 +2,4 @@ pub mod Tables
 pub mod Links
 pub mod QueueLaws
 pub mod TableMoves
+pub mod BodySteps

@@ -1,3 +1,4 @@
+pub mod Bodies
 pub mod Names
 pub mod Walks
 pub mod Tasks

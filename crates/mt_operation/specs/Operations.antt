@@ -58,6 +58,10 @@ begun task splits = record { task = task; walk = walk_from_top (not (is_get (ask
 abbrev pub moved : Operation → ℕ → Walk → Operation
 moved op step walk = record op { walk = record walk { first = if op.walk.first == 0 then step else op.walk.first }; last = step }
 
+-- an operation for which a step of this number is counted, as its first where none had the number that is named
+abbrev pub counted : Operation → ℕ → ℕ → Operation
+counted op step first = record op { walk = record op.walk { first = if first == 0 then step else first }; last = step }
+
 -- the same with this outcome, or with none
 abbrev pub noted : Operation → Option Outcome → Operation
 noted op outcome = record op { outcome = outcome }

@@ -1,7 +1,7 @@
 //! One operation: its task, and what it remembers between its steps.
 
 ghost use Rattle.std.specs.Prelude.{◌≡◌};
-ghost use Rattle.mt_operation.specs.Operations.{begun, IsUnsplit, moved, is_unfinished};
+ghost use Rattle.mt_operation.specs.Operations.{begun, IsUnsplit, moved, counted, is_unfinished};
 
 use crate::outcome::Outcome;
 use crate::prepared::Prepared;
@@ -59,6 +59,13 @@ impl Operation {
     {
         let first = self.walk.first;
         self.walk = *walk;
+        self.count(step, first);
+    }
+
+    /// Notes that the step of this number was made, and was the first one where none had this name.
+    pub(crate) fn count(&mut self, step: u64, first: u64)
+        ensures { self.new ≡ counted self.old step first }
+    {
         self.walk.first = if first == 0 { step } else { first };
         self.last = step;
     }

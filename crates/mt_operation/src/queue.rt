@@ -3,18 +3,21 @@
 //! Each seat names its neighbours in the order of first steps. What these functions do to the links
 //! and to one operation is said seat by seat; `table.rt` keeps what holds of all of them.
 
-ghost use Rattle.std.specs.Prelude.{◌≡◌, ◌≢◌, ◌<◌, true, false, Some, None};
+ghost use Rattle.std.specs.Prelude.{◌≡◌, ◌≢◌, ◌<◌, true, false, Some, None, IfOk, IfErr, IsSome};
+ghost use Rattle.std.specs.Option.{ForSome};
+ghost use Rattle.std.specs.Fn.{FnOnceTakesAtMut, FnOnceReturnsAtMut};
 ghost use Rattle.mt_operation.specs.declared.queue.Seat.{Seat as AnySeat};
 ghost use Rattle.mt_operation.specs.Operations.{moved, noted, made_ready, with_splits, with_nothing_ready};
 ghost use Rattle.mt_operation.specs.Tables.{prepared_in};
 ghost use Rattle.mt_operation.specs.Seats.{seat_at, operation_in, is_still, IsEndOrSeat};
+ghost use Rattle.mt_operation.specs.Bodies.{SeatStepsBy, SeatStopsBy};
 ghost use Rattle.mt_operation.specs.Queues.{SetsAfter, SetsBefore, CutsOut, LinksLast, Becomes};
 
 use crate::operation::Operation;
 use crate::outcome::Outcome;
 use crate::prepared::Prepared;
 use crate::splits::Splits;
-use crate::walk::Walk;
+use crate::walk::{Phase, Walk};
 use slab::Slab;
 use std::mem;
 
@@ -71,6 +74,42 @@ pub(crate) fn move_with_at(
         }
         None => false,
     }
+}
+
+/// What became of a step: the phase to which it has brought its operation, and whether it was the
+/// operation's first.
+#[derive(Clone, Copy)]
+pub(crate) struct Stepped {
+    pub phase: Phase,
+    pub is_first: bool,
+}
+
+/// An operation makes the step of this number in place, as `makes` does it, where nobody is in its
+/// way; else the error tells who.
+pub(crate) fn step_at<F: FnOnce(&mut Operation) -> Option<usize>>(
+    seats: &mut Slab<Seat>,
+    id: usize,
+    step: u64,
+    makes: F,
+) -> Result<Stepped, usize>
+    requires there { IsSome (operation_in (seat_at seats.old.slots id)) }
+    requires may { ForSome (operation_in (seat_at seats.old.slots id)) (FnOnceTakesAtMut F.FnOnce makes) }
+    ensures made { IfOk result (λ stepped. SeatStepsBy (FnOnceReturnsAtMut F.FnOnce makes) seats.old.slots seats.new.slots id step stepped) }
+    ensures blocked { IfErr result (λ holder. SeatStopsBy (FnOnceReturnsAtMut F.FnOnce makes) seats.old.slots seats.new.slots id holder) }
+{
+    let Some(seat) = seats.get_mut(id) else {
+        unreachable!();
+    };
+    let operation = &mut seat.operation;
+    let first = operation.walk.first;
+    if let Some(holder) = makes(operation) {
+        return Err(holder);
+    }
+    operation.count(step, first);
+    Ok(Stepped {
+        phase: operation.walk.phase,
+        is_first: first == 0,
+    })
 }
 
 /// An operation has made ready what it is about to place.

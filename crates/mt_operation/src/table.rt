@@ -6,21 +6,23 @@
 //! out of it. Invariant: `IsTable` of `specs/Queues.antt`. Memory: one seat for each operation, as
 //! many as stood open at once.
 
-ghost use Rattle.std.specs.Prelude.{◌≡◌, ◌≢◌, ◌≤◌, ℕ, [], IfOk, IfErr, OnErr, OnSome, IfNone, Some, None, slice_set, option_copied};
+ghost use Rattle.std.specs.Prelude.{◌≡◌, ◌≢◌, ◌≤◌, ℕ, [], IfOk, IfErr, IsSome, OnErr, OnSome, IfNone, Some, None, slice_set, option_copied};
+ghost use Rattle.std.specs.Option.{ForSome};
+ghost use Rattle.std.specs.Fn.{FnOnceTakesAtMut, FnOnceReturnsAtMut};
 ghost use Rattle.mt_operation.specs.declared.operation.Operation.{Operation as AnyOperation};
 
 use crate::operation::Operation;
 use crate::outcome::Outcome;
 use crate::prepared::Prepared;
 use crate::queue::{
-    Ends, Seat, cut, link_last, make_ready_at, move_at, move_with_at, swap_splits_at,
+    Ends, Seat, cut, link_last, make_ready_at, move_at, move_with_at, step_at, swap_splits_at,
     take_prepared_at,
 };
 use crate::splits::Splits;
-use crate::walk::Walk;
+use crate::walk::{Phase, Walk};
 use mt_rows::Refusal;
 use slab::Slab;
-use std::alloc::Global;
+use std::alloc::{AllocError, Global};
 use std::marker::Model;
 
 /// The operations by their ids: those that were begun and whose answer was not taken.
@@ -44,6 +46,7 @@ impl Model for Operations {
 
 impl Operations {
     ghost use Rattle.mt_operation.specs.Operations.{moved, noted, made_ready, with_splits, with_nothing_ready};
+    ghost use Rattle.mt_operation.specs.Bodies.{StepsBy, IsStoppedBy, LeavesStopped};
     ghost use Rattle.mt_operation.specs.Tables.{op_at, prepared_in, MayMove, IsFloorNeeded};
 
     /// A table of no operation.
@@ -86,6 +89,13 @@ impl Operations {
         Ok(id)
     }
 
+    /// Makes room for so many more operations, which `keep` needs no memory for then.
+    pub fn reserve(&mut self, more: usize) -> Result<(), AllocError>
+        ensures { self.new ≡ self.old }
+    {
+        self.seats.reserve(more)
+    }
+
     /// Takes an operation out.
     pub fn remove(&mut self, id: usize) -> Option<Operation>
         ensures value { result ≡ op_at self.old id }
@@ -119,6 +129,35 @@ impl Operations {
     {
         if move_with_at(&mut self.seats, id, step, walk, outcome) {
             link_last(&mut self.seats, &mut self.ends, id);
+        }
+    }
+
+    /// An operation makes the step of this number in its place, by `makes`; its first step stays the one
+    /// that it was. Answers the phase at which it stands then. An error tells who is in its way, as
+    /// `makes` told it, and nothing has happened.
+    #[inline]
+    pub fn step_by<F: FnOnce(&mut Operation) -> Option<usize>>(
+        &mut self,
+        id: usize,
+        step: u64,
+        makes: F,
+    ) -> Result<Phase, usize>
+        requires there { IsSome (op_at self.old id) }
+        requires step { MayMove self.old id step }
+        requires may { ForSome (op_at self.old id) (FnOnceTakesAtMut F.FnOnce makes) }
+        requires leaves { LeavesStopped (FnOnceReturnsAtMut F.FnOnce makes) self.old id }
+        ensures made { IfOk result (λ phase. StepsBy (FnOnceReturnsAtMut F.FnOnce makes) self.old self.new id step phase) }
+        ensures stopped { IfErr result (λ holder. IsStoppedBy (FnOnceReturnsAtMut F.FnOnce makes) self.old id holder) }
+        ensures unchanged_on_err { OnErr result (self.new ≡ self.old) }
+    {
+        match step_at(&mut self.seats, id, step, makes) {
+            Ok(stepped) => {
+                if stepped.is_first {
+                    link_last(&mut self.seats, &mut self.ends, id);
+                }
+                Ok(stepped.phase)
+            }
+            Err(holder) => Err(holder),
         }
     }
 

@@ -1,8 +1,8 @@
 //! What puts and gets do in an index that is empty at first, and what the table of operations keeps.
 
-ghost use Rattle.std.specs.Prelude.{◌≡◌, ℕ};
+ghost use Rattle.std.specs.Prelude.{◌≡◌, ℕ, IsSome};
 ghost use Rattle.mt_descent.specs.Kept.{IsAtBorder};
-ghost use Rattle.mt_operation.specs.Tables.{MayMove};
+ghost use Rattle.mt_operation.specs.Tables.{MayMove, op_at};
 
 use crate::phases::{Store, answer, begin, empty_store, get, place, put, put_of, walk_down};
 use mt_arena::Arena;
@@ -81,7 +81,8 @@ fn a_put_meets_another_one_and_a_get(rt: HostRuntime) {
 
 // A table with a put of `k`, and its id.
 fn table_of(rt: &impl Abort, alloc: Global) -> (Operations, usize)
-    ensures { (o : ℕ) → MayMove result.0 o 5 }
+    ensures may { (o : ℕ) → MayMove result.0 o 5 }
+    ensures there { IsSome (op_at result.0 result.1) }
 {
     let mut table = Operations::new(alloc);
     match table.keep(Operation::new(alloc, put_of(rt, alloc, b"k", b"v"))) {
@@ -102,6 +103,37 @@ fn make_steps(table: &mut Operations, id: usize) -> u64
     let reply = Reply::Absent;
     table.go_on_with(id, 6, &walk, Some(Outcome { reply, at: 6 }));
     floor
+}
+
+// Its first step is made in its place, where nobody is in the way.
+fn step_in_place(table: &mut Operations, id: usize, holder: Option<usize>) -> Result<Phase, usize>
+    requires may { (o : ℕ) → MayMove table.old o 5 }
+    requires there { IsSome (op_at table.old id) }
+{
+    table.step_by(id, 5, |operation| {
+        if holder.is_none() {
+            operation.walk.phase = Phase::Lock;
+        }
+        holder
+    })
+}
+
+#[test]
+fn a_step_is_made_in_its_place(rt: HostRuntime) {
+    let (mut table, id) = table_of(&rt, rt.alloc());
+    assert!(rt; matches!(step_in_place(&mut table, id, None), Ok(Phase::Lock)));
+    assert!(rt;
+        table
+            .get(id)
+            .is_some_and(|operation| operation.first() == 5)
+    );
+    let (mut table, id) = table_of(&rt, rt.alloc());
+    assert!(rt; matches!(step_in_place(&mut table, id, Some(7)), Err(7)));
+    assert!(rt;
+        table
+            .get(id)
+            .is_some_and(|operation| operation.first() == 0)
+    );
 }
 
 // What it has made ready is taken once, and its splits are exchanged for others and back.

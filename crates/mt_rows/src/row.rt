@@ -196,7 +196,8 @@ pub(crate) fn column_at(
     }
 }
 
-// The columns at these indexes.
+// The columns at these indexes. It is kept apart, so that a row shown whole pays nothing for it.
+#[inline(never)]
 fn picked(alloc: Global, columns: &[Column], indexes: &[u8]) -> Result<Vec<Column>, AllocError>
     ensures { IfOk result (λ cs. cs.items ≡ map (column columns.now) indexes.now) }
 {

@@ -10,7 +10,7 @@ ghost use Rattle.std.specs.Cmp.{partial_equiv_from_equiv};
 ghost use Rattle.std.specs.Cmp.Lexicographic.{pointwise, slice_cmp, nat_list_eq_equiv, nat_list_cmp_total, texts_ties, texts_po};
 ghost use Rattle.mt_slices.specs.Keys.{IsStoredKey, stored_key, tenant_of, user_key_of};
 ghost use Rattle.mt_slices.specs.Marks.{IsMark};
-ghost use Rattle.mt_slices.specs.Slices.{HasLayer, slice_of, mark_of, suffix_of, rest_of, piece_of, piece_bytes, piece_cmp, first_pieces, pieces, joined};
+ghost use Rattle.mt_slices.specs.Slices.{padded, slice_at, HasLayer, slice_of, mark_of, suffix_of, rest_of, piece_of, piece_bytes, piece_cmp, first_pieces, pieces, joined};
 
 use crate::mark::Mark;
 use std::alloc::{AllocError, Global};
@@ -124,16 +124,11 @@ impl StoredKey {
 
     /// The eight bytes of the layer as a number, the highest first. Zeros stand for those that the
     /// key lacks.
-    #[tactic(auto, using(crate::proofs::Padding::written_padded), unfolding(crate::specs::Slices::slice_at))]
     pub fn slice(&self, layer: usize) -> u64
         requires { HasLayer self.now layer }
         ensures { result ≡ slice_of self.now layer }
     {
-        let rest = self.rest(layer);
-        let own = rest.len().min(SLICE_BYTES);
-        let mut padded = [0; SLICE_BYTES];
-        padded[..own].copy_from_slice(&rest[..own]);
-        u64::from_be_bytes(padded)
+        slice_at(self.rest(layer))
     }
 
     /// How many of the eight bytes of the layer are the key's own.
@@ -177,6 +172,28 @@ impl StoredKey {
     {
         &self.bytes[SLICE_BYTES * layer..]
     }
+}
+
+/// The first eight bytes as a number, the highest first. Zeros stand for those that are missing.
+#[tactic(auto, unfolding(crate::specs::Slices::slice_at))]
+pub fn slice_at(bytes: &[u8]) -> u64
+    ensures { result ≡ slice_at bytes.now }
+{
+    u64::from_be_bytes(first_eight(bytes))
+}
+
+// The first eight bytes; zeros stand for those that are missing. Where none is, they are copied at
+// once.
+fn first_eight(bytes: &[u8]) -> [u8; SLICE_BYTES]
+    ensures { result ≡ padded bytes.now }
+{
+    let mut padded = [0; SLICE_BYTES];
+    if bytes.len() < SLICE_BYTES {
+        padded[..bytes.len()].copy_from_slice(bytes);
+        return padded;
+    }
+    padded.copy_from_slice(&bytes[..SLICE_BYTES]);
+    padded
 }
 
 impl PartialEq for StoredKey {

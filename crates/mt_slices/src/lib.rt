@@ -9,5 +9,5 @@
 pub mod key;
 pub mod mark;
 
-pub use key::{KeyRefusal, StoredKey, USER_KEY_BYTES};
+pub use key::{KeyRefusal, StoredKey, USER_KEY_BYTES, slice_at};
 pub use mark::Mark;

@@ -34,9 +34,12 @@ fn a_tape_keeps_the_writes_since_its_floor(rt: HostRuntime) {
     tape.release();
     assert_eq!(rt; (tape.len(), tape.reserved()), (2, 0));
     let mut given_up = Vec::with_capacity(alloc, 1).expect(&rt, "memory");
-    tape.trim(6, &mut given_up);
+    tape.trim_into(6, &mut given_up);
     assert_eq!(rt; (tape.len(), tape.floor(), given_up.len()), (1, 6, 1));
+    let mut no_room = Vec::new(alloc);
+    tape.trim_into(9, &mut no_room);
+    assert_eq!(rt; (tape.len(), tape.floor(), no_room.len()), (1, 6, 0));
     assert!(rt; tape.entries().all(|entry| entry.step == 9));
-    tape.trim(9, &mut given_up);
-    assert!(rt; tape.is_empty() && tape.last_write() == 9 && given_up.len() == 1);
+    tape.trim(9);
+    assert!(rt; tape.is_empty() && tape.last_write() == 9);
 }

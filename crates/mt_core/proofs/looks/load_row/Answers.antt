@@ -2,5 +2,5 @@
 use Rattle.mt_core.proofs.LookSteps.{tells_shown}
 use Rattle.mt_core.proofs.looks.load_row.Goals as goal
 
-pub returns-in-Ok-clause-is : goal.returns-in-Ok-clause-is
-returns-in-Ok-clause-is c = tells_shown (λ r. r.now) c.in_ok-row.row c.in-Ok.reply _ (record c.args.operation.now { walk = c.args.walk.now }) c.args.step c.load.new.walk c.told.result c.requires.get c.in_ok-row.ensures.is c.in-Ok.ensures c.told.ensures
+pub returns-in-Ok-shown : goal.returns-in-Ok-shown
+returns-in-Ok-shown c = tells_shown (λ r. r.now) c.in-Ok.row c.in-Ok-shown.reply c.args.arena.now c.args.operation.now c.args.step c.load.new.walk c.told.result c.requires.get c.in-Ok.ensures.is c.in-Ok-shown.ensures c.told.ensures

@@ -1,51 +1,26 @@
--- A get that confirms what it took: the lemma of the step, where it is done, and where it goes on its way.
-use Rattle.std.proofs.Common.{◌≡◌}
+-- A get that confirms what it took: the lemma of the step, at what the body made of it.
+use Rattle.std.proofs.Common.{◌≡◌, sym, subst}
+use Rattle.mt_operation.specs.declared.operation.Operation.{Operation}
 use Rattle.mt_operation.specs.declared.walk.Phase.TheVariants.{Confirm}
 use Rattle.mt_core.specs.States.{core_of}
-use Rattle.mt_core.proofs.Following.{phase_is}
-use Rattle.mt_core.proofs.ReadSteps.{free_moves, blocked, confirm_hands, confirm_kept, confirm_way, done_if, done_unless, confirm_gives_done, confirm_gives_back}
+use Rattle.mt_core.specs.Looks.{Looks, MayConfirm, TellsConfirmed}
+use Rattle.mt_core.proofs.ReadSteps.{body_moves, body_phase, body_gives, confirm_hands, confirm_kept, confirm_comes}
 use Rattle.mt_core.proofs.inner.Inner.confirm.Goals as goal
 
-pub confirm-requires : goal.confirm-requires
-confirm-requires c = record {
-  kept = confirm_kept (core_of c.self.inside) _ c.args.id c.self.view_is c.self.invariant c.requires.few c.open-operation.result.now c.open-operation.ensures
-      (phase_is (core_of c.self.inside) _ c.args.id (λ p. p ≡ Confirm) c.self.view_is c.open-operation.result.now c.open-operation.ensures c.requires.next);
-}
+pub step_by-came-requires-clause-step : goal.step_by-came-requires-clause-step
+step_by-came-requires-clause-step c = body_moves (core_of c.self.inside) _ c.args.id c.self.view_is c.self.invariant c.requires.few (λ p. p ≡ Confirm) confirm_hands c.requires.next
 
-pub go_on-requires : goal.go_on-requires
-go_on-requires c = free_moves (core_of c.self.inside) _ c.args.id c.self.view_is c.self.invariant c.requires.few c.open-operation.result.now c.open-operation.ensures
-    (confirm_hands _ (phase_is (core_of c.self.inside) _ c.args.id (λ p. p ≡ Confirm) c.self.view_is c.open-operation.result.now c.open-operation.ensures c.requires.next))
-
-pub go_on_with-requires : goal.go_on_with-requires
-go_on_with-requires c = free_moves (core_of c.self.inside) _ c.args.id c.self.view_is c.self.invariant c.requires.few c.open-operation.result.now c.open-operation.ensures
-    (confirm_hands _ (phase_is (core_of c.self.inside) _ c.args.id (λ p. p ≡ Confirm) c.self.view_is c.open-operation.result.now c.open-operation.ensures c.requires.next))
-
-pub returns-in-Some : goal.returns-in-Some
-returns-in-Some c = blocked (core_of c.self.inside) _ c.args.id c.self.view_is c.self.invariant c.requires.few c.open-operation.result.now c.open-operation.ensures
-    (confirm_hands _ (phase_is (core_of c.self.inside) _ c.args.id (λ p. p ≡ Confirm) c.self.view_is c.open-operation.result.now c.open-operation.ensures c.requires.next)) c.in-Some.holder
-    (confirm_way (core_of c.self.inside) _ c.args.id c.self.view_is c.self.invariant c.requires.few c.open-operation.result.now c.open-operation.ensures
-    (phase_is (core_of c.self.inside) _ c.args.id (λ p. p ≡ Confirm) c.self.view_is c.open-operation.result.now c.open-operation.ensures c.requires.next) c.in-Some.holder c.in-Some.ensures.again.1) c.again.result c.again.ensures
+pub step_by-came-requires-clause-may : goal.step_by-came-requires-clause-may
+step_by-came-requires-clause-may c = λ op there p e.
+    let phase = body_phase (core_of c.self.inside) _ c.args.id c.self.view_is c.self.invariant c.requires.few (λ p. p ≡ Confirm) confirm_hands c.requires.next op there in
+    subst (MayConfirm (core_of c.self.inside).arena) (sym e) (record { phase = phase; kept = confirm_kept (core_of c.self.inside) _ c.args.id c.self.view_is c.self.invariant c.requires.few op there phase })
 
 pub invariant_of-self : goal.invariant_of-self
-invariant_of-self c = (confirm_gives_done (core_of c.self.inside) _ c.args.id c.self.view_is c.self.invariant c.requires.few c.open-operation.result.now c.open-operation.ensures
-    (phase_is (core_of c.self.inside) _ c.args.id (λ p. p ≡ Confirm) c.self.view_is c.open-operation.result.now c.open-operation.ensures c.requires.next)
-    c.confirm.new.walk c.in_default.ensures.same c.in_default.ensures.is c.in_default.ensures.kept (done_if _ c.if-eq.ensures) c.go_on.new.self
-    (c.go_on.ensures.moves _ c.open-operation.ensures)).0
-
-pub returns-then-eq : goal.returns-then-eq
-returns-then-eq c = (confirm_gives_done (core_of c.self.inside) _ c.args.id c.self.view_is c.self.invariant c.requires.few c.open-operation.result.now c.open-operation.ensures
-    (phase_is (core_of c.self.inside) _ c.args.id (λ p. p ≡ Confirm) c.self.view_is c.open-operation.result.now c.open-operation.ensures c.requires.next)
-    c.confirm.new.walk c.in_default.ensures.same c.in_default.ensures.is c.in_default.ensures.kept (done_if _ c.if-eq.ensures) c.go_on.new.self
-    (c.go_on.ensures.moves _ c.open-operation.ensures)).1
-
-pub invariant_of-self-2 : goal.invariant_of-self-2
-invariant_of-self-2 c = (confirm_gives_back (core_of c.self.inside) _ c.args.id c.self.view_is c.self.invariant c.requires.few c.open-operation.result.now c.open-operation.ensures
-    (phase_is (core_of c.self.inside) _ c.args.id (λ p. p ≡ Confirm) c.self.view_is c.open-operation.result.now c.open-operation.ensures c.requires.next)
-    c.confirm.new.walk c.in_default.ensures.same c.in_default.ensures.is c.in_default.ensures.kept (done_unless _ c.if-eq.ensures) c.go_on_with.new.self
-    (c.go_on_with.ensures.moves _ c.open-operation.ensures)).0
+invariant_of-self c = (body_gives (core_of c.self.inside) _ c.args.id c.self.view_is c.self.invariant c.requires.few (λ p. p ≡ Confirm) confirm_hands c.requires.next _ (TellsConfirmed (core_of c.self.inside).arena) (λ op there. confirm_comes (core_of c.self.inside) _ c.args.id c.self.view_is c.self.invariant c.requires.few op there) c.step_by-came.new.self c.step_by-came.result c.step_by-came.ensures.made c.step_by-came.ensures.stopped c.step_by-came.ensures.unchanged_on_err
+    (λ op r after e. subst (λ (x : Operation). Looks (core_of c.self.inside).arena (TellsConfirmed (core_of c.self.inside).arena) x r after) e.shows (subst (λ (y : Operation). Looks (core_of c.self.inside).arena (TellsConfirmed (core_of c.self.inside).arena) e.shown.now r y) e.leaves e.met))
+    c.count.new.steps c.count.result c.count.ensures).0
 
 pub returns : goal.returns
-returns c = (confirm_gives_back (core_of c.self.inside) _ c.args.id c.self.view_is c.self.invariant c.requires.few c.open-operation.result.now c.open-operation.ensures
-    (phase_is (core_of c.self.inside) _ c.args.id (λ p. p ≡ Confirm) c.self.view_is c.open-operation.result.now c.open-operation.ensures c.requires.next)
-    c.confirm.new.walk c.in_default.ensures.same c.in_default.ensures.is c.in_default.ensures.kept (done_unless _ c.if-eq.ensures) c.go_on_with.new.self
-    (c.go_on_with.ensures.moves _ c.open-operation.ensures)).1
+returns c = (body_gives (core_of c.self.inside) _ c.args.id c.self.view_is c.self.invariant c.requires.few (λ p. p ≡ Confirm) confirm_hands c.requires.next _ (TellsConfirmed (core_of c.self.inside).arena) (λ op there. confirm_comes (core_of c.self.inside) _ c.args.id c.self.view_is c.self.invariant c.requires.few op there) c.step_by-came.new.self c.step_by-came.result c.step_by-came.ensures.made c.step_by-came.ensures.stopped c.step_by-came.ensures.unchanged_on_err
+    (λ op r after e. subst (λ (x : Operation). Looks (core_of c.self.inside).arena (TellsConfirmed (core_of c.self.inside).arena) x r after) e.shows (subst (λ (y : Operation). Looks (core_of c.self.inside).arena (TellsConfirmed (core_of c.self.inside).arena) e.shown.now r y) e.leaves e.met))
+    c.count.new.steps c.count.result c.count.ensures).1

@@ -1,33 +1,28 @@
--- A step down of an operation: the lemma of the step, at the walk that the call gave.
+-- A step down of an operation: the lemma of the step, at what the body made of it.
+use Rattle.std.proofs.Common.{sym, subst}
+use Rattle.mt_operation.specs.declared.operation.Operation.{Operation}
 use Rattle.mt_state.specs.Views.{past_of}
 use Rattle.mt_state.specs.Ways.{IsDescent}
 use Rattle.mt_state.proofs.Reading.{descent_free}
 use Rattle.mt_core.specs.States.{core_of}
-use Rattle.mt_core.proofs.Following.{phase_is}
-use Rattle.mt_core.proofs.ReadSteps.{free_moves, blocked, descent_kept, descent_gives}
+use Rattle.mt_core.specs.Looks.{Looks, MayDescend, TellsDescended}
+use Rattle.mt_core.proofs.ReadSteps.{body_moves, body_phase, body_gives, descent_kept, descent_comes}
 use Rattle.mt_core.proofs.inner.Inner.descend.Goals as goal
 
-pub descend-requires-clause-kept : goal.descend-requires-clause-kept
-descend-requires-clause-kept c = (
-  past_of (core_of c.self.inside),
-  descent_kept (core_of c.self.inside) _ c.args.id c.self.view_is c.self.invariant c.requires.few c.open-operation.result.now c.open-operation.ensures
-      (phase_is (core_of c.self.inside) _ c.args.id IsDescent c.self.view_is c.open-operation.result.now c.open-operation.ensures c.requires.next),
-)
+pub step_by-came-requires-clause-step : goal.step_by-came-requires-clause-step
+step_by-came-requires-clause-step c = body_moves (core_of c.self.inside) _ c.args.id c.self.view_is c.self.invariant c.requires.few IsDescent descent_free c.requires.next
 
-pub go_on-requires : goal.go_on-requires
-go_on-requires c = free_moves (core_of c.self.inside) _ c.args.id c.self.view_is c.self.invariant c.requires.few c.open-operation.result.now c.open-operation.ensures
-    (descent_free _ (phase_is (core_of c.self.inside) _ c.args.id IsDescent c.self.view_is c.open-operation.result.now c.open-operation.ensures c.requires.next))
-
-pub returns-in-Some : goal.returns-in-Some
-returns-in-Some c = blocked (core_of c.self.inside) _ c.args.id c.self.view_is c.self.invariant c.requires.few c.open-operation.result.now c.open-operation.ensures
-    (descent_free _ (phase_is (core_of c.self.inside) _ c.args.id IsDescent c.self.view_is c.open-operation.result.now c.open-operation.ensures c.requires.next)) c.in-Some.holder c.in-Some.ensures.again c.again.result c.again.ensures
+pub step_by-came-requires-clause-may : goal.step_by-came-requires-clause-may
+step_by-came-requires-clause-may c = λ op there p e.
+    let phase = body_phase (core_of c.self.inside) _ c.args.id c.self.view_is c.self.invariant c.requires.few IsDescent descent_free c.requires.next op there in
+    subst (MayDescend (core_of c.self.inside).arena) (sym e) (record { phase = phase; kept = (past_of (core_of c.self.inside), descent_kept (core_of c.self.inside) _ c.args.id c.self.view_is c.self.invariant c.requires.few op there phase); unremoved = c.self.invariant.unremoved })
 
 pub invariant_of-self : goal.invariant_of-self
-invariant_of-self c = (descent_gives (core_of c.self.inside) _ c.args.id c.self.view_is c.self.invariant c.requires.few c.open-operation.result.now c.open-operation.ensures c.descend.new.walk
-    (phase_is (core_of c.self.inside) _ c.args.id IsDescent c.self.view_is c.open-operation.result.now c.open-operation.ensures c.requires.next) c.in_default.ensures.goes c.in_default.ensures.kept
-    (λ height made point. c.in_default.ensures.nears height made c.open-operation.result.now.splits point) c.go_on.new.self (c.go_on.ensures.moves _ c.open-operation.ensures)).0
+invariant_of-self c = (body_gives (core_of c.self.inside) _ c.args.id c.self.view_is c.self.invariant c.requires.few IsDescent descent_free c.requires.next _ (TellsDescended (core_of c.self.inside).arena) (λ op there. descent_comes (core_of c.self.inside) _ c.args.id c.self.view_is c.self.invariant c.requires.few op there) c.step_by-came.new.self c.step_by-came.result c.step_by-came.ensures.made c.step_by-came.ensures.stopped c.step_by-came.ensures.unchanged_on_err
+    (λ op r after e. subst (λ (x : Operation). Looks (core_of c.self.inside).arena (TellsDescended (core_of c.self.inside).arena) x r after) e.shows (subst (λ (y : Operation). Looks (core_of c.self.inside).arena (TellsDescended (core_of c.self.inside).arena) e.shown.now r y) e.leaves e.met))
+    c.count.new.steps c.count.result c.count.ensures).0
 
 pub returns : goal.returns
-returns c = (descent_gives (core_of c.self.inside) _ c.args.id c.self.view_is c.self.invariant c.requires.few c.open-operation.result.now c.open-operation.ensures c.descend.new.walk
-    (phase_is (core_of c.self.inside) _ c.args.id IsDescent c.self.view_is c.open-operation.result.now c.open-operation.ensures c.requires.next) c.in_default.ensures.goes c.in_default.ensures.kept
-    (λ height made point. c.in_default.ensures.nears height made c.open-operation.result.now.splits point) c.go_on.new.self (c.go_on.ensures.moves _ c.open-operation.ensures)).1
+returns c = (body_gives (core_of c.self.inside) _ c.args.id c.self.view_is c.self.invariant c.requires.few IsDescent descent_free c.requires.next _ (TellsDescended (core_of c.self.inside).arena) (λ op there. descent_comes (core_of c.self.inside) _ c.args.id c.self.view_is c.self.invariant c.requires.few op there) c.step_by-came.new.self c.step_by-came.result c.step_by-came.ensures.made c.step_by-came.ensures.stopped c.step_by-came.ensures.unchanged_on_err
+    (λ op r after e. subst (λ (x : Operation). Looks (core_of c.self.inside).arena (TellsDescended (core_of c.self.inside).arena) x r after) e.shows (subst (λ (y : Operation). Looks (core_of c.self.inside).arena (TellsDescended (core_of c.self.inside).arena) e.shown.now r y) e.leaves e.met))
+    c.count.new.steps c.count.result c.count.ensures).1

@@ -11,8 +11,8 @@ give_up-requires c = done_told (core_of c.self.inside) c.args.ticket.id c.self.i
 pub invariant_of-self : goal.invariant_of-self
 invariant_of-self c = taken_state (core_of c.self.inside) c.args.ticket.id _ c.in-Some.answer c.self.invariant c.in-Some.ensures.taken
 
-pub returns-in-Some : goal.returns-in-Some
-returns-in-Some c = takes_by (core_of c.self.inside) _ c.args.ticket.id _ c.in-Some.answer (ap shown c.self.view_is) c.self.invariant c.in-Some.ensures.taken
+pub returns-in-Some-clause-told : goal.returns-in-Some-clause-told
+returns-in-Some-clause-told c = takes_by (core_of c.self.inside) _ c.args.ticket.id _ c.in-Some.answer (ap shown c.self.view_is) c.self.invariant c.in-Some.ensures.taken
 
-pub returns-in-None : goal.returns-in-None
-returns-in-None c = let kept = keeps_by (core_of c.self.inside) _ c.args.ticket.id _ (ap shown c.self.view_is) c.in-None.ensures.«open» in (refl, kept.0, kept.1)
+pub returns-in-None-clause-told : goal.returns-in-None-clause-told
+returns-in-None-clause-told c = let kept = keeps_by (core_of c.self.inside) _ c.args.ticket.id _ (ap shown c.self.view_is) c.in-None.ensures.«open» in (refl, kept.0, kept.1)
