@@ -1,5 +1,5 @@
 -- What is asked of an arena, as a test runs, before operation 5 makes a call.
-use Rattle.std.specs.Prelude.{◌≡◌, ◌≢◌, ℕ, ◌<◌, true, false, length, Some, None}
+use Rattle.std.specs.Prelude.{◌≡◌, ◌≢◌, ℕ, ◌<◌, true, false, [], length, Some, None}
 use Rattle.mt_slices.specs.Slices.{slice_of, mark_of}
 use Rattle.mt_rows.specs.Rows.{Bytes}
 use Rattle.mt_border.specs.Entries.{IsMissing}
@@ -54,3 +54,10 @@ pub record Meet (v : ArenaView) (left right : ℕ) : Type 0 where
   pub exact : (at v right).reach ≡ (at v right).high
   pub above : (at v left).low < (at v right).low
   pub range : HasRange (at v right)
+
+-- an empty border node that is live and is not split
+pub record IsBare (v : ArenaView) (k : ℕ) : Type 0 where
+  pub live : (at v k).version.deleted ≡ false
+  pub border : (at v k).level ≡ 0
+  pub whole : (at v k).version.splitting ≡ false
+  pub empty : (at v k).slots ≡ []

@@ -14,9 +14,9 @@ ghost use Rattle.mt_arena.specs.Layers.{slot_at};
 ghost use Rattle.mt_arena.specs.Settled.{IsSettled};
 ghost use Rattle.mt_arena.specs.Splits.{Inserts};
 ghost use Rattle.mt_arena.specs.Several.{MaySplit};
-ghost use Rattle.mt_arena.specs.Removals.{MayUnlink};
+ghost use Rattle.mt_arena.specs.Removals.{AreBeside, MayUnlink};
 ghost use Rattle.mt_arena.specs.Accesses.{at, tree_of, MayChange};
-ghost use Rattle.mt_arena_tests.specs.Checked.{IsOwn, KeepsUp, IsEven, Takes, AreHalves, Meet};
+ghost use Rattle.mt_arena_tests.specs.Checked.{IsOwn, KeepsUp, IsEven, Takes, AreHalves, Meet, IsBare};
 
 use mt_arena::{Arena, Node, Standing};
 use mt_border::laws::suffix_fits_mark;
@@ -45,6 +45,16 @@ impl Model for Checked {
     ghost invariant = { λ c. length c.arena.nodes ≡ c.count };
 }
 
+// A row of one empty column.
+fn row_of(rt: &impl Abort, alloc: Global) -> Row {
+    let mut columns = Vec::new(alloc);
+    columns
+        .push(Column::new(Vec::new(alloc)))
+        .expect(rt, "memory");
+    assert!(rt; Row::fits(&columns));
+    Row::new(alloc, columns).expect(rt, "memory")
+}
+
 /// The entry of a key's pair in the top tree, with a row of one column, placed by step 6.
 pub fn entry_of(rt: &impl Abort, alloc: Global, key: &StoredKey) -> Entry
     ensures entry { IsEntry result }
@@ -54,11 +64,7 @@ pub fn entry_of(rt: &impl Abort, alloc: Global, key: &StoredKey) -> Entry
     suffix_fits_mark();
     assert!(rt; !key.as_bytes().is_empty());
     let suffix = Suffix::new(Vec::from_slice(alloc, key.suffix(0)).expect(rt, "memory"));
-    let mut columns = Vec::new(alloc);
-    let column = Column::new(Vec::new(alloc));
-    columns.push(column).expect(rt, "memory");
-    assert!(rt; Row::fits(&columns));
-    let (row, stamp) = (Row::new(alloc, columns).expect(rt, "memory"), 6);
+    let (row, stamp) = (row_of(rt, alloc), 6);
     let (slice, mark) = (key.slice(0), key.mark(0));
     let held = Held::Stable(Pair { suffix, row, stamp });
     Entry { slice, mark, held }
@@ -420,27 +426,51 @@ impl Checked {
         self.arena.drop_key(node, 0, 5)
     }
 
-    // Whether an empty border node may be taken out.
-    fn may_unlink(&self, parent: usize, left: usize, node: usize) -> bool
-        ensures { IsTrue result → MayUnlink self.now parent left node 5 }
+    // Whether it is an empty border node that is live and is not split.
+    fn is_bare(&self, node: usize) -> bool
+        requires there { node < length self.now.nodes }
+        ensures { IsTrue result → IsBare self.now node }
     {
-        if !self.holds(parent) || !self.holds(left) || !self.holds(node) {
-            return false;
+        let seen = self.arena.node(node);
+        let version = seen.version();
+        match seen.border() {
+            Some(border) => {
+                !version.is_deleted() && !version.is_splitting() && border.is_empty()
+            }
+            None => false,
         }
-        let (above, seen) = (self.arena.node(parent), self.arena.node(node));
-        let (Some(border), Some(interior)) = (seen.border(), above.interior()) else {
+    }
+
+    // Whether a live node has the two as children, the second one just behind the first.
+    fn are_beside(&self, parent: usize, left: usize, node: usize) -> bool
+        requires there { parent < length self.now.nodes }
+        requires node_there { node < length self.now.nodes }
+        ensures { IsTrue result → AreBeside (at self.now parent) left node }
+    {
+        let Some(interior) = self.arena.node(parent).interior() else {
             return false;
         };
-        let (children, place) = (interior.children(), interior.place_of(seen.low()));
-        !seen.version().is_deleted()
-            && !seen.version().is_splitting()
-            && border.is_empty()
-            && self.arena.node(left).next() == Some(node)
-            && !above.version().is_deleted()
+        let (children, place) = (
+            interior.children(),
+            interior.place_of(self.arena.node(node).low()),
+        );
+        !interior.version().is_deleted()
             && 0 < place
             && place < children.len()
             && children[place - 1] == left
             && children[place] == node
+    }
+
+    // Whether an empty border node may be taken out.
+    fn may_unlink(&self, parent: usize, left: usize, node: usize) -> bool
+        ensures { IsTrue result → MayUnlink self.now parent left node 5 }
+    {
+        self.holds(parent)
+            && self.holds(left)
+            && self.holds(node)
+            && self.is_bare(node)
+            && self.arena.node(left).next() == Some(node)
+            && self.are_beside(parent, left, node)
     }
 
     /// Takes an empty border node out, by step 9.

@@ -58,6 +58,12 @@ fn expect_all(rt: &impl Abort, alloc: Global, tree: &Checked, count: u8) {
     }
 }
 
+// The root is two levels above the border nodes, and has two children.
+fn has_three_levels(rt: &impl Abort, tree: &Checked) {
+    let root = tree.root(rt);
+    assert!(rt; tree.seen(rt, root).level() == 2 && tree.children(rt, root).len() == 2);
+}
+
 // The sixteenth key splits the root, and every eighth one then the last border node, and in the end the
 // root with its 16 children.
 #[test]
@@ -68,8 +74,7 @@ fn a_tree_grows_to_three_levels(rt: HostRuntime) {
         put(&rt, alloc, &mut tree, name);
     }
     expect_all(&rt, alloc, &tree, 136);
-    let root = tree.root(&rt);
-    assert!(rt; tree.seen(&rt, root).level() == 2 && tree.children(&rt, root).len() == 2);
+    has_three_levels(&rt, &tree);
 }
 
 // Takes the border node out in which a key belongs, with all its keys.
@@ -103,6 +108,13 @@ fn shrink(rt: &impl Abort, tree: &mut Checked) {
     tree.unlock(rt, child);
 }
 
+// The tree is its first node alone.
+fn is_first_node(rt: &impl Abort, tree: &Checked) {
+    assert_eq!(rt; tree.root(rt), 0);
+    let root = tree.seen(rt, 0);
+    assert!(rt; root.level() == 0 && root.high().is_none() && root.next().is_none());
+}
+
 // A tree of three border nodes loses the second one and the last one, and then the root above.
 #[test]
 fn a_tree_shrinks_to_its_first_node(rt: HostRuntime) {
@@ -117,7 +129,5 @@ fn a_tree_shrinks_to_its_first_node(rt: HostRuntime) {
     }
     shrink(&rt, &mut tree);
     expect_all(&rt, alloc, &tree, 8);
-    assert_eq!(rt; tree.root(&rt), 0);
-    let root = tree.seen(&rt, 0);
-    assert!(rt; root.level() == 0 && root.high().is_none() && root.next().is_none());
+    is_first_node(&rt, &tree);
 }

@@ -3,7 +3,7 @@
 ghost use Rattle.std.specs.Prelude.{◌≡◌, ◌+◌, ◌<◌, max, IfOk, OnErr};
 ghost use Rattle.mt_state.specs.Begins.{MayBegin};
 ghost use Rattle.mt_book.specs.Periods.{IsOfWorker};
-ghost use Rattle.mt_book.specs.Calls.{Calls, Begins, Ends, Led, IsTaken, asked_by, answers_of};
+ghost use Rattle.mt_book.specs.Calls.{Asked, IsOpeningOf, Calls, Begins, Ends, Led, IsTaken, asked_by, answers_of};
 
 use crate::desks::{Admission, Admitted, Desk, Stepping, Taken, Taking};
 use crate::gates::{Gate, passed};
@@ -167,6 +167,61 @@ fn answered<L: Ledger, R: Wait, D: Desk<L>>(
     unreachable!()
 }
 
+// The answer, where it is one to the command, begun behind these steps; a desk that gives another one
+// lies, and is looked at for ever.
+fn believed<L: Ledger, R: Wait, D: Desk<L>>(
+    rt: &R,
+    desk: &mut D,
+    answer: Answer,
+    command: &Command,
+    seen: u64,
+) -> Answer
+    ensures desk { desk.new ≡ desk.old }
+    ensures answer { result ≡ answer }
+    ensures command { answer.command ≡ command.now }
+    ensures later { seen < answer.first }
+{
+    if !answer.command.is_same(command) || answer.first <= seen {
+        return never(rt, desk);
+    }
+    answer
+}
+
+// Begins the operation of an opening, steps it to its end and takes its answer.
+fn ran<L: Ledger, R: Wait, D: Desk<L>, G: Gate>(
+    rt: &R,
+    desk: &mut D,
+    pass: &mut Pass<L>,
+    opening: Opening,
+    gate: &G,
+    aside: &mut Aside,
+) -> Result<Answer, CallFault>
+    requires { IsOfWorker pass.old.worker opening.made }
+    ensures periods { (asked : Asked) → asked.worker ≡ pass.old.worker → IsOpeningOf asked opening → Calls D.does desk.old desk.new pass.old.seen asked result }
+    ensures command { IfOk result (λ answer. answer.command ≡ aside.old.command) }
+    ensures later { IfOk result (λ answer. pass.old.seen < answer.first) }
+    ensures seen { IfOk result (λ answer. pass.new.seen ≡ max pass.old.seen answer.last) }
+    ensures unseen { OnErr result (pass.new.seen ≡ pass.old.seen) }
+    ensures share { pass.new.share.amount ≡ pass.old.share.amount + answers_of result }
+    ensures worker { pass.new.worker ≡ pass.old.worker }
+{
+    let Begun {
+        ticket,
+        phase,
+        shown,
+    } = match start(rt, desk, pass, opening) {
+        Ok(begun) => begun,
+        Err(refusal) => return Err(CallFault::Refused(refusal)),
+    };
+    if !stepped(rt, desk, pass, gate, &ticket, phase, shown) {
+        return Err(CallFault::Spent(ticket));
+    }
+    let answer = answered(rt, desk, pass, ticket, &mut aside.displaced);
+    let answer = believed(rt, desk, answer, &aside.command, pass.seen);
+    pass.seen = pass.seen.max(answer.last);
+    Ok(answer)
+}
+
 /// Runs a get or a put to its answer: a begin, its steps and a take, each in a lock period of its own,
 /// with the gate called before each step while the lock is free. All that the begin needs of the
 /// command is made before the first period, and what the last one displaces is freed behind it.
@@ -196,21 +251,5 @@ pub fn call<L: Ledger, R: Wait, D: Desk<L>, G: Gate>(
         return Err(CallFault::Refused(Refusal::Memory));
     };
     let opening = prepare(alloc, pass.worker, tenant, command);
-    let Begun {
-        ticket,
-        phase,
-        shown,
-    } = match start(rt, desk, pass, opening) {
-        Ok(begun) => begun,
-        Err(refusal) => return Err(CallFault::Refused(refusal)),
-    };
-    if !stepped(rt, desk, pass, gate, &ticket, phase, shown) {
-        return Err(CallFault::Spent(ticket));
-    }
-    let answer = answered(rt, desk, pass, ticket, &mut aside.displaced);
-    if !answer.command.is_same(&aside.command) || answer.first <= pass.seen {
-        return never(rt, desk);
-    }
-    pass.seen = pass.seen.max(answer.last);
-    Ok(answer)
+    ran(rt, desk, pass, opening, gate, &mut aside)
 }

@@ -83,6 +83,47 @@ fn one_of_two<L: Ledger, R: Wait + Clock>(
     told
 }
 
+// The passes of the two gets, of which the first one is held.
+fn two_calls<L: Ledger, R: Wait + Abort>(
+    rt: &R,
+    alloc: Global,
+    book: &Mutex<Book<L>>,
+) -> Vec<(bool, Pass<L>)> {
+    let mut calls = Vec::new(alloc);
+    for is_held in [true, false] {
+        let pass = open_pass(rt, book, 0).expect(rt, "a pass");
+        calls.push((is_held, pass)).expect(rt, "memory");
+    }
+    calls
+}
+
+// The second get is made between the steps of the first one.
+fn is_between(rt: &impl Abort, told: &[(u64, u64)]) {
+    match told {
+        [(first, last), (other_first, other_last)] => {
+            assert!(rt; 0 < *first && first < other_first && other_last < last)
+        }
+        _ => panic!(rt; "two gets were made"),
+    }
+}
+
+// Makes the two gets, each by its thread.
+fn make_both<L: Ledger + Send + Sync, R: Threads + Wait + Clock + Abort + Sync>(
+    rt: &R,
+    alloc: Global,
+    book: &Mutex<Book<L>>,
+) {
+    let turn = &AtomicU64::new(0);
+    let told = thread::map_vec(
+        rt,
+        two_calls(rt, alloc, book),
+        &|(is_held, mut pass): (bool, Pass<L>)| {
+            one_of_two(rt, alloc, book, turn, is_held, &mut pass)
+        },
+    );
+    is_between(rt, told.expect(rt, "memory").as_slice());
+}
+
 fn run<L: Ledger + Send + Sync, R: Threads + Wait + Clock + Abort + Sync>(
     rt: &R,
     alloc: Global,
@@ -92,32 +133,7 @@ fn run<L: Ledger + Send + Sync, R: Threads + Wait + Clock + Abort + Sync>(
     requires parts { (blank.parts ≡ L.parts) × (L.parts ≡ 65536) }
 {
     let book = Mutex::new(Book::<L>::new(blank, new_store(rt, alloc)?));
-    let (shared, turn) = (&book, &AtomicU64::new(0));
-    let mut calls = Vec::new(alloc);
-    for is_held in [true, false] {
-        let Some(pass) = open_pass(rt, shared, 0) else {
-            panic!(rt; "no pass is left");
-        };
-        calls.push((is_held, pass))?;
-    }
-    let told = thread::map_vec(
-        rt,
-        calls,
-        &|(is_held, mut pass): (bool, Pass<L>)| {
-            one_of_two(rt, alloc, shared, turn, is_held, &mut pass)
-        },
-    )?;
-    let mut order = Vec::new(alloc);
-    for (first, last) in told {
-        order.push(first)?;
-        order.push(last)?;
-    }
-    match order.as_slice() {
-        [first, last, other_first, other_last] => {
-            assert!(rt; 0 < *first && first < other_first && other_last < last)
-        }
-        _ => panic!(rt; "two gets were made"),
-    }
+    make_both(rt, alloc, &book);
     Ok(())
 }
 

@@ -74,7 +74,62 @@ fn put_all<L: Ledger, R: Wait>(
     (pass, done)
 }
 
-// Four threads make their puts; tells the total, and how many passes came back where one was missing.
+// Four passes of the only worker; another one has none.
+fn four_passes<L: Ledger, R: Wait + Abort>(
+    rt: &R,
+    alloc: Global,
+    book: &Mutex<Book<L>>,
+) -> Vec<Pass<L>> {
+    let mut passes = Vec::new(alloc);
+    for _ in 0..4u32 {
+        let pass = open_pass(rt, book, 0).expect(rt, "a pass");
+        passes.push(pass).expect(rt, "memory");
+    }
+    assert!(rt; open_pass(rt, book, 1).is_none());
+    passes
+}
+
+// The passes of the threads, each of which made all its puts.
+fn passes_of<L: Ledger>(rt: &impl Abort, alloc: Global, done: Vec<(Pass<L>, u32)>) -> Vec<Pass<L>> {
+    let mut passes = Vec::new(alloc);
+    for (pass, count) in done {
+        assert_eq!(rt; count, PUTS);
+        passes.push(pass).expect(rt, "memory");
+    }
+    passes
+}
+
+// Three of four passes gather nothing, and come back.
+fn expect_back<L: Ledger, R: Wait + Abort>(
+    rt: &R,
+    book: &Mutex<Book<L>>,
+    passes: Vec<Pass<L>>,
+) -> Vec<Pass<L>>
+    requires { L.parts ≡ 65536 }
+{
+    let back = match gather(rt, book, passes) {
+        Ok(_) => panic!(rt; "a pass is missing"),
+        Err(back) => back,
+    };
+    assert_eq!(rt; back.len(), 3);
+    back
+}
+
+// All passes gather a thousand answers, but not where one is missing.
+fn gather_all<L: Ledger, R: Wait + Abort>(rt: &R, book: &Mutex<Book<L>>, passes: Vec<Pass<L>>)
+    requires { L.parts ≡ 65536 }
+{
+    let mut passes = passes;
+    let held = passes.pop().expect(rt, "a pass");
+    let mut back = expect_back(rt, book, passes);
+    back.push(held).expect(rt, "memory");
+    match gather(rt, book, back) {
+        Ok(total) => assert_eq!(rt; total, 1000),
+        Err(_) => panic!(rt; "all passes are here"),
+    }
+}
+
+// Four threads make their puts.
 fn run<L: Ledger + Send + Sync, R: Threads + Wait + Abort + Sync>(
     rt: &R,
     alloc: Global,
@@ -84,38 +139,13 @@ fn run<L: Ledger + Send + Sync, R: Threads + Wait + Abort + Sync>(
     requires parts { (blank.parts ≡ L.parts) × (L.parts ≡ 65536) }
 {
     let book = Mutex::new(Book::<L>::new(blank, new_store(rt, alloc)?));
-    let shared = &book;
-    let mut passes = Vec::new(alloc);
-    for _ in 0..4u32 {
-        let Some(pass) = open_pass(rt, shared, 0) else {
-            panic!(rt; "no pass is left");
-        };
-        passes.push(pass)?;
-    }
-    assert!(rt; open_pass(rt, shared, 1).is_none());
+    let (shared, passes) = (&book, four_passes(rt, alloc, &book));
     let done = thread::map_vec(
         rt,
         passes,
         &|pass: Pass<L>| put_all(rt, alloc, shared, pass),
-    )?;
-    let mut back = Vec::new(alloc);
-    for (pass, count) in done {
-        assert_eq!(rt; count, PUTS);
-        back.push(pass)?;
-    }
-    let Some(held) = back.pop() else {
-        panic!(rt; "the passes are gone");
-    };
-    let mut back = match gather(rt, shared, back) {
-        Ok(_) => panic!(rt; "a pass is missing"),
-        Err(back) => back,
-    };
-    assert_eq!(rt; back.len(), 3);
-    back.push(held)?;
-    match gather(rt, shared, back) {
-        Ok(total) => assert_eq!(rt; total, 1000),
-        Err(_) => panic!(rt; "all passes are here"),
-    }
+    );
+    gather_all(rt, shared, passes_of(rt, alloc, done.expect(rt, "memory")));
     Ok(())
 }
 
@@ -125,19 +155,46 @@ fn four_threads_make_a_thousand_answers(rt: HostRuntime) -> Result<(), Fail> {
     Ok(())
 }
 
-// What a get of this key is told, through this pass.
-fn shown<L: Ledger, R: Wait + Abort, D: Desk<L>>(
+// The reply to a command, through this pass.
+fn told<L: Ledger, R: Wait + Abort, D: Desk<L>>(
     rt: &R,
     alloc: Global,
     desk: &mut D,
     pass: &mut Pass<L>,
-    key: u8,
-) -> Result<Reply, AllocError> {
-    let command = get_of(alloc, key)?;
+    command: Command,
+) -> Reply
+    requires { MayBegin command }
+{
     match call(rt, alloc, desk, pass, 7, command, &NoGate {}) {
-        Ok(answer) => Ok(answer.reply),
-        Err(_) => panic!(rt; "the get is refused"),
+        Ok(answer) => answer.reply,
+        Err(_) => panic!(rt; "the command is refused"),
     }
+}
+
+// Whether a get of the key finds a row, through this pass; else the key is absent.
+fn is_found<L: Ledger, R: Wait + Abort, D: Desk<L>>(
+    rt: &R,
+    alloc: Global,
+    desk: &mut D,
+    pass: &mut Pass<L>,
+) -> bool {
+    let command = get_of(alloc, 107).expect(rt, "memory");
+    match told(rt, alloc, desk, pass, command) {
+        Reply::Found(_) => true,
+        Reply::Absent => false,
+        _ => panic!(rt; "no reply to a get"),
+    }
+}
+
+// Whether a put of the key is told that the key is new.
+fn is_new<L: Ledger, R: Wait + Abort, D: Desk<L>>(
+    rt: &R,
+    alloc: Global,
+    desk: &mut D,
+    pass: &mut Pass<L>,
+) -> bool {
+    let command = put_of(alloc, 107, 118).expect(rt, "memory");
+    matches!(&told(rt, alloc, desk, pass, command), Reply::New)
 }
 
 // A put through a pass is read back through it, and through another.
@@ -147,29 +204,19 @@ fn read_back<L: Ledger, R: Wait + Abort, D: Desk<L>>(
     desk: &mut D,
     mine: &mut Pass<L>,
     other: &mut Pass<L>,
-) -> Result<(), AllocError> {
-    assert!(rt; matches!(shown(rt, alloc, desk, mine, 107)?, Reply::Absent));
-    let command = put_of(alloc, 107, 118)?;
-    match call(rt, alloc, desk, mine, 7, command, &NoGate {}) {
-        Ok(answer) => assert!(rt; matches!(&answer.reply, Reply::New)),
-        Err(_) => panic!(rt; "the put is refused"),
-    }
-    assert!(rt; matches!(shown(rt, alloc, desk, mine, 107)?, Reply::Found(_)));
-    assert!(rt; matches!(shown(rt, alloc, desk, other, 107)?, Reply::Found(_)));
-    Ok(())
+) {
+    assert!(rt; !is_found(rt, alloc, desk, mine));
+    assert!(rt; is_new(rt, alloc, desk, mine));
+    assert!(rt; is_found(rt, alloc, desk, mine));
+    assert!(rt; is_found(rt, alloc, desk, other));
 }
 
 // Through a lock.
-fn read_back_locked<L: Ledger, R: Wait + Abort>(
-    rt: &R,
-    alloc: Global,
-    book: &Mutex<Book<L>>,
-) -> Result<(), AllocError> {
-    let (Some(mut mine), Some(mut other)) = (open_pass(rt, book, 0), open_pass(rt, book, 0)) else {
-        panic!(rt; "no pass is left");
-    };
+fn read_back_locked<L: Ledger, R: Wait + Abort>(rt: &R, alloc: Global, book: &Mutex<Book<L>>) {
+    let mut mine = open_pass(rt, book, 0).expect(rt, "a pass");
+    let mut other = open_pass(rt, book, 0).expect(rt, "a pass");
     let mut desk = book;
-    read_back(rt, alloc, &mut desk, &mut mine, &mut other)
+    read_back(rt, alloc, &mut desk, &mut mine, &mut other);
 }
 
 fn locked<L: Ledger, R: Wait + Abort>(rt: &R, alloc: Global, blank: Blank) -> Result<(), AllocError>
@@ -177,7 +224,8 @@ fn locked<L: Ledger, R: Wait + Abort>(rt: &R, alloc: Global, blank: Blank) -> Re
     requires parts { (blank.parts ≡ L.parts) × (L.parts ≡ 65536) }
 {
     let book = Mutex::new(Book::<L>::new(blank, new_store(rt, alloc)?));
-    read_back_locked(rt, alloc, &book)
+    read_back_locked(rt, alloc, &book);
+    Ok(())
 }
 
 // Over a book that is owned alone.
@@ -186,10 +234,10 @@ fn alone<L: Ledger, R: Wait + Abort>(rt: &R, alloc: Global, blank: Blank) -> Res
     requires parts { (blank.parts ≡ L.parts) × (L.parts ≡ 65536) }
 {
     let mut book = Book::<L>::new(blank, new_store(rt, alloc)?);
-    let (Some(mut mine), Some(mut other)) = (book.open_pass(0), book.open_pass(0)) else {
-        panic!(rt; "no pass is left");
-    };
-    read_back(rt, alloc, &mut book, &mut mine, &mut other)
+    let mut mine = book.open_pass(0).expect(rt, "a pass");
+    let mut other = book.open_pass(0).expect(rt, "a pass");
+    read_back(rt, alloc, &mut book, &mut mine, &mut other);
+    Ok(())
 }
 
 #[test]

@@ -34,9 +34,10 @@ impl<'a> Iterator for Entries<'a> {
     ghost remaining = { item_count (λ rest. rest) };
 
     fn next(&mut self) -> Option<EntryRef<'a>> {
-        let (slice, slices) = self.slices.split_first()?;
-        let (mark, marks) = self.marks.split_first()?;
-        let (held, helds) = self.helds.split_first()?;
+        let rows = (self.slices, self.marks, self.helds);
+        let ([slice, slices @ ..], [mark, marks @ ..], [held, helds @ ..]) = rows else {
+            return None;
+        };
         self.slices = slices;
         self.marks = marks;
         self.helds = helds;

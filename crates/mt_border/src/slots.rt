@@ -137,10 +137,10 @@ impl Slots {
 }
 
 // Moves what stands from place `keep` on into an empty row.
-fn move_row_tail<T: MadeWith<A> + Drop, A: Copy>(
-    left: &mut ArrayVec<T, SLOTS, A>,
+fn move_row_tail<T: MadeWith<Global> + Drop>(
+    left: &mut ArrayVec<T, SLOTS, Global>,
     keep: usize,
-    right: &mut ArrayVec<T, SLOTS, A>,
+    right: &mut ArrayVec<T, SLOTS, Global>,
 )
     requires within { keep ≤ array_vec_len left.old }
     requires empty { right.old.items ≡ [] }

@@ -46,9 +46,7 @@ pub(crate) fn separator_of(slots: &Slots, slice: u64, mark: Mark) -> u64
     ensures { IsSeparator (slices_with slots.now slice mark) result }
 {
     let mut slices: ArrayVec<u64, 16> = ArrayVec::new();
-    for own in slots.slices() {
-        slices.push(*own);
-    }
+    slices.try_extend_from_slice(slots.slices()).unwrap();
     slices.insert(place_of(slots, slice, mark), slice);
     let cut = cut_of(&slices);
     slices[cut]

@@ -1,10 +1,7 @@
 -- A begin that was not refused: the invariant with an operation more, and what it tells: for `Inner::admit`.
-use Rattle.std.proofs.Common.{◌≡◌, ◌≢◌, ℕ, false, Option, None, Some, IsSome, Result, Ok, refl, sym, ap, subst, ◌∙◌, arith}
-use Rattle.std.specs.Option.{is_none, option_map}
-use Rattle.std.specs.Result.{result_map_both}
+use Rattle.std.proofs.Common.{◌≡◌, ◌≢◌, ℕ, None, Some, IsSome, Ok, refl, sym, ap, subst, ◌∙◌, arith}
+use Rattle.std.specs.Option.{option_map}
 use Rattle.std.proofs.lemmas.Option.{none-some}
-use Rattle.mt_rows.specs.declared.refusal.Refusal.{Refusal}
-use Rattle.mt_rows.specs.declared.tenants.Account.{Account}
 use Rattle.mt_rows.specs.Accounts.{account_of}
 use Rattle.mt_rows.specs.Rows.{Bytes}
 use Rattle.mt_slices.specs.Keys.{IsStoredKey}
@@ -23,7 +20,7 @@ use Rattle.mt_state.specs.Invariant.{StateInvariant, one_if_prepared}
 use Rattle.mt_state.specs.Begins.{Begins}
 use Rattle.mt_state.proofs.Shown.{shown_at, shown_there}
 use Rattle.mt_core.specs.declared.answers.Ticket.{Ticket}
-use Rattle.mt_core.specs.Admitted.{IsAdmitted, OpeningView, IsOpening, IsRightOpening, TellsAdmitted}
+use Rattle.mt_core.specs.Admitted.{IsAdmitted, OpeningView, IsAccepted, TellsAdmitted}
 use Rattle.mt_core.proofs.Tabling.{with_table, begun_sound}
 
 -- a stored key goes through the top tree
@@ -37,36 +34,23 @@ through_top v key arena stored =
       begun = goes.begun;
     }
 
--- an opening's operation, in a state that shows this
-module _ (c : Core) (now : StateView) (opening : OpeningView) (tenant : ℕ) (made : Result Operation Refusal) (op : Operation) (is : shown c ≡ now)
-    (opening_is : ◌≡◌ {A = OpeningView} (record { tenant = tenant; made = result_map_both view_of (λ r. r) made }) opening) (right : IsRightOpening tenant made) (made_is : made ≡ Ok op) where
-  -- it is one of the opening's tenant
-  opened : IsOpening tenant op
-  opened = subst (IsRightOpening tenant) made_is right
-
-  -- as the opening shows it
-  shows : opening.made ≡ Ok (view_of op)
-  shows = ap (λ (v : OpeningView). v.made) (sym opening_is) ∙ ap (result_map_both view_of (λ r. r)) made_is
-
+-- an opening's operation that a state accepts which shows this
+module _ (c : Core) (now : StateView) (opening : OpeningView) (op : Operation) (is : shown c ≡ now) (accepted : IsAccepted now opening op) where
   module _ (h : StateInvariant c) (arena : IsArena c.arena.nodes c.arena.trees) (o : ℕ) (table : Table) (vacant : operation_at c.table o ≡ None) (there : operation_at table o ≡ Some op)
       (others : (q : ℕ) → q ≢ o → operation_at table q ≡ operation_at c.table q) where
     a : IsAdmitted op
-    a = opened.admitted
+    a = accepted.right.admitted
 
-    known_tenant : is_none (account_of c.accounts tenant) ≡ false → IsSome (account_of c.accounts op.task.tenant)
-    known_tenant known = some (account_of c.accounts op.task.tenant) (ap (λ t. is_none (account_of c.accounts t)) opened.tenant_is ∙ known)
-      where
-        some : (x : Option Account) → is_none x ≡ false → IsSome x
-        some None e = absurd (cc)
-        some (Some x) e = refl
+    known_tenant : IsSome (account_of c.accounts op.task.tenant)
+    known_tenant = subst (λ t. IsSome (account_of c.accounts t)) (sym accepted.right.tenant_is) (subst (λ (v : StateView). IsSome (account_of v.accounts opening.tenant)) (sym is) accepted.tenant)
 
-    kept_begun : is_none (account_of c.accounts tenant) ≡ false → IsKeptOf (with_table c c.answers table) o op
-    kept_begun known = record {
+    kept_begun : IsKeptOf (with_table c c.answers table) o op
+    kept_begun = record {
       always = record {
         stored = a.stored;
         owner = a.owner;
         columns = a.columns;
-        tenant = known_tenant known;
+        tenant = known_tenant;
         writes = ap (λ (w : Walk). w.writes) a.walk;
         kind = subst (λ (w : Walk). IsOfKind w.phase w.writes) (sym a.walk) tt;
         order = let first = ap (λ (w : Walk). w.first) a.walk in omega (arith, first);
@@ -84,14 +68,14 @@ module _ (c : Core) (now : StateView) (opening : OpeningView) (tenant : ℕ) (ma
     }
 
     -- the invariant with it
-    pub begun_keeps : is_none (account_of c.accounts tenant) ≡ false → StateInvariant (with_table c c.answers table)
-    begun_keeps known = begun_sound c o op table h vacant there others (ap (λ (w : Walk). w.first) a.walk) (ap (λ (w : Walk). one_if_prepared (Some (record op { walk = w }))) a.walk) (kept_begun known)
+    pub begun_keeps : StateInvariant (with_table c c.answers table)
+    begun_keeps = begun_sound c o op table h vacant there others (ap (λ (w : Walk). w.first) a.walk) (ap (λ (w : Walk). one_if_prepared (Some (record op { walk = w }))) a.walk) kept_begun
 
     -- and what is told of it
     pub begun_tells : (ticket : Ticket) → ticket.id ≡ o → TellsAdmitted now (shown (with_table c c.answers table)) opening (Ok ticket)
     begun_tells ticket ticket_is = (
       view_of op,
-      shows,
+      accepted.made,
       subst (λ (v : StateView). Begins v (shown (with_table c c.answers table)) ticket.id op.task.worker op.task.tenant (ask op.task)) is
           (subst (λ i. Begins (shown c) (shown (with_table c c.answers table)) i op.task.worker op.task.tenant (ask op.task)) (sym ticket_is) (record {
             free = shown_at c.table o ∙ ap (option_map view_of) vacant;

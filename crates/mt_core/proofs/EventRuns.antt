@@ -1,5 +1,5 @@
 -- What stands before the first event of a run, and after one event more: for `run_events`.
-use Rattle.std.proofs.Common.{◌≡◌, ℕ, zero, suc, ◌+◌, ◌<◌, [], ◌∷◌, ◌++◌, List, length, take, get_or, Option, Some, None, is_some, sym, ap, subst, ◌∙◌, arith}
+use Rattle.std.proofs.Common.{◌≡◌, ℕ, zero, suc, ◌+◌, ◌<◌, [], ◌∷◌, ◌++◌, List, length, take, get_or, Option, Some, None, is_some, refl, sym, ap, subst, ◌∙◌, arith}
 use mathlib.Core.Path.{fun_ext}
 use Rattle.std.specs.List.{zip}
 use Rattle.std.specs.Ordering.{nat_cmp, is_eq}
@@ -26,25 +26,29 @@ no_value e = cc
 unnamed : (names : BTreeMap ℕ (Option Ticket)) → names.entries ≡ [] → named names ≡ no_names
 unnamed names none = fun_ext (λ o. ap (λ es. id_in (lookup (λ q. is_eq (nat_cmp o q)) es)) none)
 
--- no event leads to the new state itself
-pub leads_first : (logs : ℕ) (accounts : Accounts) (v : StateView) (names : BTreeMap ℕ (Option Ticket)) → v ≡ new_state logs accounts → names.entries ≡ []
-    → BringsTo no_names (new_state logs accounts) [] (named names) v
-leads_first logs accounts v names is none = (unnamed names none, is)
+-- no event leads to the state itself
+pub leads_first : (v : StateView) (names : BTreeMap ℕ (Option Ticket)) → names.entries ≡ [] → BringsTo no_names v [] (named names) v
+leads_first v names none = (unnamed names none, refl)
 
 -- nor are there names by ids
 pub by_id_first : (ids : BTreeMap ℕ ℕ) (names : BTreeMap ℕ (Option Ticket)) → names.entries ≡ [] → AreById ids (named names)
 by_id_first ids names none o n e = absurd (no_value (sym (ap (λ w. w o) (unnamed names none)) ∙ e))
 
-history_of : (logs : ℕ) (accounts : Accounts) (run : Run) (names : Names) (v : StateView) → BringsTo no_names (new_state logs accounts) run names v
-    → History (λ t. quota_in (account_of accounts t)) no_pairs (story_of 0 run) names v
-history_of logs accounts run names v leads = keeps_run run no_names names (new_state logs accounts) v leads (λ t. quota_in (account_of accounts t)) no_pairs 0 [] (history_new logs accounts)
+-- a state in which nothing has happened
+abbrev pub IsNew : StateView → Type 0
+IsNew v = (logs : ℕ) × (accounts : Accounts) × (v ≡ new_state logs accounts)
+
+history_of : (start : StateView) (new : IsNew start) (run : Run) (names : Names) (v : StateView) → BringsTo no_names start run names v
+    → History (λ t. quota_in (account_of new.1 t)) no_pairs (story_of 0 run) names v
+history_of start (logs, accounts, is) run names v leads =
+    keeps_run run no_names names (new_state logs accounts) v (subst (λ (s : StateView). BringsTo no_names s run names v) is leads) (λ t. quota_in (account_of accounts t)) no_pairs 0 [] (history_new logs accounts)
 
 -- after a run that was told, every operation has a name, and every name its operation
-pub named_after : (logs : ℕ) (accounts : Accounts) (run : Run) (names : Names) (v : StateView) → BringsTo no_names (new_state logs accounts) run names v → AreNamed names v.table
-named_after logs accounts run names v leads = (history_of logs accounts run names v leads).all
+pub named_after : (start : StateView) → IsNew start → (run : Run) (names : Names) (v : StateView) → BringsTo no_names start run names v → AreNamed names v.table
+named_after start new run names v leads = (history_of start new run names v leads).all
 
-pub held_after : (logs : ℕ) (accounts : Accounts) (run : Run) (names : Names) (v : StateView) → BringsTo no_names (new_state logs accounts) run names v → AreHeld names v.table
-held_after logs accounts run names v leads o n e = ap is_some ((history_of logs accounts run names v leads).told o n e).1
+pub held_after : (start : StateView) → IsNew start → (run : Run) (names : Names) (v : StateView) → BringsTo no_names start run names v → AreHeld names v.table
+held_after start new run names v leads o n e = ap is_some ((history_of start new run names v leads).told o n e).1
 
 zip_suc : (es : List Event) (ts : List Told) (i : ℕ) (e : Event) (t : Told) → i < length es → e ≡ get_or es i e → length ts ≡ i → zip (take (suc i) es) (ts ++ t ∷ []) ≡ zip (take i es) ts ++ (e, t) ∷ []
 zip_suc [] ts i e t lt same is = absurd (omega arith)

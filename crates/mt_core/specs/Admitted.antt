@@ -62,6 +62,13 @@ abbrev pub TellsAdmitted : StateView → StateView → OpeningView → Result Ti
 TellsAdmitted old new opening (Ok ticket) = (op : OperationView) × (opening.made ≡ Ok op) × Begins old new ticket.id op.worker op.tenant op.command
 TellsAdmitted old new opening (Err refusal) = new ≡ old
 
+-- the operation of an opening may be begun, where there is memory for it
+pub record IsAccepted (v : StateView) (opening : OpeningView) (op : Operation) : Type 0 where
+  pub made : opening.made ≡ Ok (view_of op)
+  pub right : IsOpening opening.tenant op
+  pub tenant : IsSome (account_of v.accounts opening.tenant)
+  pub steps : v.steps ≢ 2 ^ 59
+
 -- why an opening is refused whose tenant is there: its own fault; else no step has a number any more, or memory
 abbrev pub IsRefusalMade : StateView → Result OperationView Refusal → Refusal → Type 0
 IsRefusalMade v (Err fault) refusal = refusal ≡ fault

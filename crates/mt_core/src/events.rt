@@ -3,11 +3,11 @@
 //! Events name operations by numbers of the caller's choice; the run keeps their tickets. Errors: the
 //! memory of the run's own lists; the state that it was run on is dropped then.
 
-ghost use Rattle.std.specs.Prelude.{◌≡◌, ◌≤◌, ◌↔◌, ℕ, IsTrue, IsSome, Some, None, IfOk, OnOk, length};
+ghost use Rattle.std.specs.Prelude.{◌≡◌, ◌≤◌, ◌↔◌, ℕ, IsTrue, IsSome, Some, None, [], IfOk, OnOk, length};
 ghost use Rattle.std.specs.Ordering.{nat_cmp};
 ghost use Rattle.std.specs.BTreeMap.{get};
 ghost use Rattle.std.specs.List.{All, zip};
-ghost use Rattle.mt_rows.specs.Accounts.{account_of};
+ghost use Rattle.mt_rows.specs.Accounts.{Accounts, account_of};
 ghost use Rattle.mt_runs.specs.declared.event.Event.TheVariants.{Begin, Step};
 ghost use Rattle.mt_runs.specs.Runs.{story_of};
 ghost use Rattle.mt_runs.specs.Placings.{no_pairs, HasOneOrder};
@@ -80,12 +80,29 @@ pub fn run_events(
         tickets: BTreeMap::new(alloc),
         names: BTreeMap::new(alloc),
     };
+    let told = tell_all(alloc, &mut state, &mut roster, events)?;
+    Ok((state, ToldList { told }))
+}
+
+// Lets events happen to a new state, one after the other.
+fn tell_all(
+    alloc: Global,
+    state: &mut State,
+    roster: &mut Roster,
+    events: &[Event],
+) -> Result<Vec<Told>, AllocError>
+    requires new { (given : ℕ) × (accounts : Accounts) × (state.old ≡ new_state given accounts) }
+    requires unnamed { roster.old.tickets.entries ≡ [] }
+    requires workers { All (IsServed (length state.old.logs)) events.now }
+    ensures count { IfOk result (λ told. length told.items ≡ length events.now) }
+    ensures run { IfOk result (λ told. BringsTo no_names state.old (zip events.now told.items) (named roster.new.tickets) state.new) }
+{
     let mut told = Vec::new(alloc);
     for event in events {
-        let answer = tell(&mut state, &mut roster, event)?;
+        let answer = tell(state, roster, event)?;
         told.push(answer)?;
     }
-    Ok((state, ToldList { told }))
+    Ok(told)
 }
 
 // Lets one event happen.

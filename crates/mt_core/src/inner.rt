@@ -4,8 +4,9 @@
 //! operation is shown whole, with what it remembers on its way; `State` shows its steps and its reply
 //! alone. Units: steps by their numbers, which begin at 1.
 
-ghost use Rattle.std.specs.Prelude.{◌≡◌, ◌≢◌, ◌+◌, ◌<◌, ◌≤◌, ◌^◌, ℕ, IsSome, IfOk, OnOk, OnErr, length, slice_set, Some, None, []};
+ghost use Rattle.std.specs.Prelude.{◌≡◌, ◌≢◌, ◌+◌, ◌<◌, ◌≤◌, ◌^◌, ℕ, IsSome, IfOk, IfErr, OnOk, OnErr, length, slice_set, Some, None, []};
 ghost use Rattle.std.specs.Option.{option_map};
+ghost use Rattle.mt_rows.specs.Accounts.{account_of};
 ghost use Rattle.mt_arena.specs.Arena.{IsArena};
 ghost use Rattle.mt_state.specs.Views.{shown};
 ghost use Rattle.mt_state.specs.Invariant.{StateInvariant};
@@ -14,7 +15,7 @@ ghost use Rattle.mt_state.specs.Ways.{IsDescent};
 ghost use Rattle.mt_state.specs.Writes.{IsClimb, IsLayerPhase};
 ghost use Rattle.mt_core.specs.Looks.{Looks, MayDescend, MaySearch, MayLoad, MayConfirm, TellsDescended, TellsSearched, TellsLoaded, TellsConfirmed};
 ghost use Rattle.mt_core.specs.Tickets.{TellsTake, TellsCancel};
-ghost use Rattle.mt_core.specs.Admitted.{MayAdmit, TellsAdmitted, RefusesOpening};
+ghost use Rattle.mt_core.specs.Admitted.{MayAdmit, TellsAdmitted, RefusesOpening, IsAccepted, IsRefusedFor};
 ghost use Rattle.mt_core.specs.Rights.{IsRightState};
 ghost use Rattle.mt_core.specs.Shows.{phase_at, phase_in, noted_at};
 ghost use Rattle.mt_core.specs.Alone.{Runs, IsAlone, EndsAlone};
@@ -99,16 +100,22 @@ impl Inner {
         ensures refused { RefusesOpening (shown self.old) opening result }
     {
         self.arena.facts();
-        let Opening { tenant, made } = opening;
-        if self.tenants.account(tenant).is_none() {
-            return Err(Refusal::NoTenant);
-        }
-        let operation = made?;
-        if self.steps >= MAX_STEPS {
-            return Err(Refusal::Spent);
-        }
+        let operation = self.accepted(opening)?;
         let id = self.operations.keep(operation)?;
         Ok(Ticket { id })
+    }
+
+    // The operation of an opening, where nothing but memory can refuse it; else the first cause.
+    fn accepted(&self, opening: Opening) -> Result<Operation, Refusal>
+        ensures accepts { IfOk result (λ op. IsAccepted (shown self.now) opening op) }
+        ensures refused { IfErr result (λ refusal. IsRefusedFor (account_of (shown self.now).accounts opening.tenant) (shown self.now) opening.made refusal) }
+    {
+        let Opening { tenant, made } = opening;
+        match self.tenants.account(tenant) {
+            None => Err(Refusal::NoTenant),
+            Some(_) if made.is_ok() && self.steps >= MAX_STEPS => Err(Refusal::Spent),
+            Some(_) => made,
+        }
     }
 
     /// Makes room for so many more operations.

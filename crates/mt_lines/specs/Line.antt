@@ -1,5 +1,5 @@
 -- The lines of the language: which line, if any, some bytes are.
-use Rattle.std.specs.Prelude.{ℕ, if◌then◌else◌, List, codes, Option, Some, None}
+use Rattle.std.specs.Prelude.{ℕ, if◌then◌else◌, List, [], ◌∷◌, codes, Option, Some, None}
 use Rattle.mt_rows.specs.declared.command.Command.{Command}
 use Rattle.mt_rows.specs.declared.command.Command.TheVariants.{Get, Put}
 use Rattle.mt_operation.specs.declared.walk.Phase.{Phase}
@@ -45,6 +45,11 @@ phase_word word =
     else if is_text word (phases.name_of MarkLayer) then Some MarkLayer
     else if is_text word (phases.name_of Unlock) then Some Unlock
     else None
+
+-- the phase of the first row whose word this is
+abbrev pub phase_in : {Name : Type 0} → (Name → List ℕ) → List (Name × Phase) → List ℕ → Option Phase
+phase_in text [] word = None
+phase_in text (row ∷ rows) word = if is_text word (text row.0) then Some row.1 else phase_in text rows word
 
 -- tenant T Q
 unfoldable pub tenant_line : List (List ℕ) → Option Line

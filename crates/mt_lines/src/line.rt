@@ -4,7 +4,7 @@
 
 ghost use Rattle.std.specs.Prelude.{◌≡◌, IfOk, codes};
 ghost use Rattle.mt_lines.specs.Words.{Means, words_of, each, column_word};
-ghost use Rattle.mt_lines.specs.Line.{index_word, phase_word, tenant_line, get_words, put_words, command_words, begin_line, name_alone, step_line, run_line, until_line, shape_line, line_of_words, line_of};
+ghost use Rattle.mt_lines.specs.Line.{index_word, phase_word, phase_in, tenant_line, get_words, put_words, command_words, begin_line, name_alone, step_line, run_line, until_line, shape_line, line_of_words, line_of};
 
 use crate::fault::LineFault;
 use crate::words;
@@ -210,61 +210,50 @@ fn shape(rest: &[u8]) -> Result<Line, LineFault>
     Ok(Line::Shape)
 }
 
+// The phases, each behind the word that names it.
+const PHASES: [(&str, Phase); 25] = [
+    ("enter", Phase::Enter),
+    ("pick", Phase::Pick),
+    ("child", Phase::Child),
+    ("verify", Phase::Verify),
+    ("search", Phase::Search),
+    ("load", Phase::Load),
+    ("confirm", Phase::Confirm),
+    ("forward", Phase::Forward),
+    ("lock", Phase::Lock),
+    ("judge", Phase::Judge),
+    ("store", Phase::Store),
+    ("publish", Phase::Publish),
+    ("splitstart", Phase::SplitStart),
+    ("splitmove", Phase::SplitMove),
+    ("splitprev", Phase::SplitPrev),
+    ("lockparent", Phase::LockParent),
+    ("insertchild", Phase::InsertChild),
+    ("interiorsplit", Phase::InteriorSplit),
+    ("reparent", Phase::Reparent),
+    ("rootgrow", Phase::RootGrow),
+    ("makelayer", Phase::MakeLayer),
+    ("markunstable", Phase::MarkUnstable),
+    ("link", Phase::Link),
+    ("marklayer", Phase::MarkLayer),
+    ("unlock", Phase::Unlock),
+];
+
 #[tactic(auto, unfolding(crate::specs::Line::phase_word))]
 fn phase(word: &[u8]) -> Result<Phase, LineFault>
     ensures { Means (λ phase. phase) result (phase_word word.now) }
 {
-    if words::is_text(word, "enter") {
-        Ok(Phase::Enter)
-    } else if words::is_text(word, "pick") {
-        Ok(Phase::Pick)
-    } else if words::is_text(word, "child") {
-        Ok(Phase::Child)
-    } else if words::is_text(word, "verify") {
-        Ok(Phase::Verify)
-    } else if words::is_text(word, "search") {
-        Ok(Phase::Search)
-    } else if words::is_text(word, "load") {
-        Ok(Phase::Load)
-    } else if words::is_text(word, "confirm") {
-        Ok(Phase::Confirm)
-    } else if words::is_text(word, "forward") {
-        Ok(Phase::Forward)
-    } else if words::is_text(word, "lock") {
-        Ok(Phase::Lock)
-    } else if words::is_text(word, "judge") {
-        Ok(Phase::Judge)
-    } else if words::is_text(word, "store") {
-        Ok(Phase::Store)
-    } else if words::is_text(word, "publish") {
-        Ok(Phase::Publish)
-    } else if words::is_text(word, "splitstart") {
-        Ok(Phase::SplitStart)
-    } else if words::is_text(word, "splitmove") {
-        Ok(Phase::SplitMove)
-    } else if words::is_text(word, "splitprev") {
-        Ok(Phase::SplitPrev)
-    } else if words::is_text(word, "lockparent") {
-        Ok(Phase::LockParent)
-    } else if words::is_text(word, "insertchild") {
-        Ok(Phase::InsertChild)
-    } else if words::is_text(word, "interiorsplit") {
-        Ok(Phase::InteriorSplit)
-    } else if words::is_text(word, "reparent") {
-        Ok(Phase::Reparent)
-    } else if words::is_text(word, "rootgrow") {
-        Ok(Phase::RootGrow)
-    } else if words::is_text(word, "makelayer") {
-        Ok(Phase::MakeLayer)
-    } else if words::is_text(word, "markunstable") {
-        Ok(Phase::MarkUnstable)
-    } else if words::is_text(word, "link") {
-        Ok(Phase::Link)
-    } else if words::is_text(word, "marklayer") {
-        Ok(Phase::MarkLayer)
-    } else if words::is_text(word, "unlock") {
-        Ok(Phase::Unlock)
-    } else {
-        Err(LineFault::BadLine)
+    phase_in(&PHASES, word)
+}
+
+// The phase of the first row whose word this is.
+fn phase_in(rows: &[(&str, Phase)], word: &[u8]) -> Result<Phase, LineFault>
+    ensures { Means (λ phase. phase) result (phase_in (λ name. name.now) rows.now word.now) }
+{
+    for (name, phase) in rows {
+        if words::is_text(word, name) {
+            return Ok(*phase);
+        }
     }
+    Err(LineFault::BadLine)
 }

@@ -38,6 +38,15 @@ pub enum Response {
     BadLine,
 }
 
+/// The text of a response, with the end of its line.
+pub fn text_of(alloc: Global, response: &Response) -> Result<String, AllocError>
+    ensures { IfOk result (λ text. IsText response.now (string_bytes text)) }
+{
+    let mut text = String::new(alloc);
+    push_response(alloc, &mut text, response)?;
+    Ok(text)
+}
+
 /// Adds the text of a response, with the end of its line. After an error part of it may stand.
 pub fn push_response(
     alloc: Global,

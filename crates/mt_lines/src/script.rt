@@ -19,7 +19,7 @@ ghost use Rattle.mt_lines.specs.declared.script.ScriptFault.TheVariants.{Memory}
 
 use crate::buffer::LineBuffer;
 use crate::line::parse;
-use crate::response::{Response, push_response};
+use crate::response::{Response, text_of};
 use crate::session::Session;
 use mt_streams::{Sink, Source, write_whole};
 use std::alloc::{AllocError, Global};
@@ -171,9 +171,7 @@ fn answer_text(
     ensures { IfOk result (λ text. Answers false (meaning_in (whole_line line.now)) session.old session.new (string_bytes text)) }
 {
     let response = response_to(alloc, session, line.line())?;
-    let mut text = String::new(alloc);
-    push_response(alloc, &mut text, &response)?;
-    Ok(text)
+    text_of(alloc, &response)
 }
 
 // What a line is answered, where it is not too long.

@@ -1,8 +1,8 @@
 //! What a script has done so far: the store with the names of its operations, and, before the first
 //! begin, the tenants that are gathered for it.
 
-ghost use Rattle.std.specs.Prelude.{◌≡◌, IfOk};
-ghost use Rattle.mt_lines.specs.Sessions.{fresh, TellsTenant, TellsBeginLine, TellsLine};
+ghost use Rattle.std.specs.Prelude.{◌≡◌, IfOk, OnOk, None};
+ghost use Rattle.mt_lines.specs.Sessions.{fresh, store_at_begin, TellsTenant, TellsBeginLine, TellsLine};
 
 use crate::line::Line;
 use crate::response::Response;
@@ -86,9 +86,17 @@ impl Session {
         if !self.store.may_begin(name, &command) {
             return Ok(Response::BadLine);
         }
+        self.make_store(alloc)?;
+        self.store.begin(name, tenant, command)
+    }
+
+    // Makes the store of the tenants that are gathered; from then on none are.
+    fn make_store(&mut self, alloc: Global) -> Result<(), AllocError>
+        ensures { OnOk result (self.new ≡ record { store = store_at_begin self.old.store self.old.gathered; gathered = None }) }
+    {
         if let Some(tenants) = self.gathered.take() {
             self.store = NamedStore::new(alloc, tenants)?;
         }
-        self.store.begin(name, tenant, command)
+        Ok(())
     }
 }

@@ -16,165 +16,167 @@ fn expect_bytes(rt: &impl Abort, what: &str, is_whole: bool, written: &[u8], wan
     assert!(rt; is_whole && written == wanted.as_bytes(), "{what}");
 }
 
+// What a script shows, the script, and its answers.
+const WHOLE_SCRIPTS: [(&str, &str, &str); 11] = [
+    (
+        "an empty store",
+        "tenant 7 100\nbegin 1 7 get 6b\nstep 1\nstep 1\nstep 1\n",
+        "ok\nbegun 1\nmoved\nmoved\ndone absent\n",
+    ),
+    (
+        "the empty key",
+        "tenant 7 100\nbegin 1 7 put - 0=76\nrun 1\nbegin 1 7 get -\nrun 1\nshape\n",
+        "ok\nbegun 1\ndone new\nbegun 1\ndone found 0=76\ntree - layer 0\n  border 1 0000000700000000:4 0000000700000000:4\n",
+    ),
+    (
+        "a put and a get",
+        "tenant 7 100\nbegin 1 7 put 6b 0=76\nrun 1\nbegin 2 7 get 6b\nrun 2\n",
+        "ok\nbegun 1\ndone new\nbegun 2\ndone found 0=76\n",
+    ),
+    (
+        "a get that meets a change looks again",
+        "tenant 7 100\nbegin 2 7 put 6b 0=76\nrun 2\nbegin 1 7 get 6b\nuntil 1 confirm\nbegin 2 7 put 6b 0=77\nrun 2\nrun 1\n",
+        "ok\nbegun 2\ndone new\nbegun 1\nat confirm\nbegun 2\ndone replaced\ndone found 0=77\n",
+    ),
+    (
+        "a put that was not placed is not seen",
+        "tenant 7 100\nbegin 1 7 put 6b 0=76\nuntil 1 publish\nbegin 2 7 get 6b\nrun 2\nrun 1\n",
+        "ok\nbegun 1\nat publish\nbegun 2\ndone absent\ndone new\n",
+    ),
+    (
+        "a get that meets a mark",
+        "tenant 7 100\nbegin 1 7 put 6b 0=76\nuntil 1 unlock\nbegin 2 7 get 6b\nrun 2\nrun 1\nrun 2\n",
+        "ok\nbegun 1\nat unlock\nbegun 2\nagain 1\ndone new\ndone found 0=76\n",
+    ),
+    (
+        "a quota of one pair",
+        "tenant 7 1\nbegin 1 7 put 6b 0=76\nrun 1\nbegin 1 7 put 6c 0=76\nrun 1\nbegin 1 7 put 6b 0=\nrun 1\n",
+        "ok\nbegun 1\ndone new\nbegun 1\ndone full\nbegun 1\ndone replaced\n",
+    ),
+    (
+        "again says the holder's own name",
+        "tenant 7 100\nbegin 5 7 put 6b 0=76\nuntil 5 unlock\nbegin 9 7 get 6b\nbegin 2 7 get 6b\nstep 9\nstep 2\nrun 5\nbegin 5 7 get 6b\nrun 9\nrun 2\nrun 5\n",
+        "ok\nbegun 5\nat unlock\nbegun 9\nbegun 2\nagain 5\nagain 5\ndone new\nbegun 5\ndone found 0=76\ndone found 0=76\ndone found 0=76\n",
+    ),
+    (
+        "no tenant is taken behind a begin",
+        "tenant 7 100\ntenant 8 2\ntenant 7 5\ntenant 9 0\ntenant 9 1048577\nbegin 1 9 get 61\ntenant 9 5\nbegin 1 7 put 61 0=76\nrun 1\ntenant 9 5\nbegin 1 8 get 61\nrun 1\nbegin 1 7 get 61\nrun 1\n",
+        "ok\nok\nrefused E3\nrefused E7\nrefused E7\nrefused E4\nbad line\nbegun 1\ndone new\nbad line\nbegun 1\ndone absent\nbegun 1\ndone found 0=76\n",
+    ),
+    (
+        "tenants are taken behind a bad begin, each with its own quota",
+        "tenant 7 1\nbegin 0 7 get 61\nbegin 1 7 remove 61\ntenant 7 5\ntenant 8 5\nbegin 1 7 put 61 0=76\nrun 1\nbegin 1 7 put 62 0=76\nrun 1\nbegin 1 8 put 62 0=76\nrun 1\n",
+        "ok\nbad line\nbad line\nrefused E3\nok\nbegun 1\ndone new\nbegun 1\ndone full\nbegun 1\ndone new\n",
+    ),
+    (
+        "a put waits for the lock of another, and a get for nobody",
+        "tenant 7 100\nbegin 1 7 put 6b 0=76\nuntil 1 publish\nbegin 2 7 put 6c 0=76\nrun 2\nbegin 3 7 get 6b\nrun 3\nrun 1\nrun 2\n",
+        "ok\nbegun 1\nat publish\nbegun 2\nagain 1\nbegun 3\ndone absent\ndone new\ndone new\n",
+    ),
+];
+
 #[test]
 fn whole_scripts(rt: HostRuntime) {
-    // (what it shows, the script, its answers)
-    let cases: [(&str, &str, &str); 11] = [
-        (
-            "an empty store",
-            "tenant 7 100\nbegin 1 7 get 6b\nstep 1\nstep 1\nstep 1\n",
-            "ok\nbegun 1\nmoved\nmoved\ndone absent\n",
-        ),
-        (
-            "the empty key",
-            "tenant 7 100\nbegin 1 7 put - 0=76\nrun 1\nbegin 1 7 get -\nrun 1\nshape\n",
-            "ok\nbegun 1\ndone new\nbegun 1\ndone found 0=76\ntree - layer 0\n  border 1 0000000700000000:4 0000000700000000:4\n",
-        ),
-        (
-            "a put and a get",
-            "tenant 7 100\nbegin 1 7 put 6b 0=76\nrun 1\nbegin 2 7 get 6b\nrun 2\n",
-            "ok\nbegun 1\ndone new\nbegun 2\ndone found 0=76\n",
-        ),
-        (
-            "a get that meets a change looks again",
-            "tenant 7 100\nbegin 2 7 put 6b 0=76\nrun 2\nbegin 1 7 get 6b\nuntil 1 confirm\nbegin 2 7 put 6b 0=77\nrun 2\nrun 1\n",
-            "ok\nbegun 2\ndone new\nbegun 1\nat confirm\nbegun 2\ndone replaced\ndone found 0=77\n",
-        ),
-        (
-            "a put that was not placed is not seen",
-            "tenant 7 100\nbegin 1 7 put 6b 0=76\nuntil 1 publish\nbegin 2 7 get 6b\nrun 2\nrun 1\n",
-            "ok\nbegun 1\nat publish\nbegun 2\ndone absent\ndone new\n",
-        ),
-        (
-            "a get that meets a mark",
-            "tenant 7 100\nbegin 1 7 put 6b 0=76\nuntil 1 unlock\nbegin 2 7 get 6b\nrun 2\nrun 1\nrun 2\n",
-            "ok\nbegun 1\nat unlock\nbegun 2\nagain 1\ndone new\ndone found 0=76\n",
-        ),
-        (
-            "a quota of one pair",
-            "tenant 7 1\nbegin 1 7 put 6b 0=76\nrun 1\nbegin 1 7 put 6c 0=76\nrun 1\nbegin 1 7 put 6b 0=\nrun 1\n",
-            "ok\nbegun 1\ndone new\nbegun 1\ndone full\nbegun 1\ndone replaced\n",
-        ),
-        (
-            "again says the holder's own name",
-            "tenant 7 100\nbegin 5 7 put 6b 0=76\nuntil 5 unlock\nbegin 9 7 get 6b\nbegin 2 7 get 6b\nstep 9\nstep 2\nrun 5\nbegin 5 7 get 6b\nrun 9\nrun 2\nrun 5\n",
-            "ok\nbegun 5\nat unlock\nbegun 9\nbegun 2\nagain 5\nagain 5\ndone new\nbegun 5\ndone found 0=76\ndone found 0=76\ndone found 0=76\n",
-        ),
-        (
-            "no tenant is taken behind a begin",
-            "tenant 7 100\ntenant 8 2\ntenant 7 5\ntenant 9 0\ntenant 9 1048577\nbegin 1 9 get 61\ntenant 9 5\nbegin 1 7 put 61 0=76\nrun 1\ntenant 9 5\nbegin 1 8 get 61\nrun 1\nbegin 1 7 get 61\nrun 1\n",
-            "ok\nok\nrefused E3\nrefused E7\nrefused E7\nrefused E4\nbad line\nbegun 1\ndone new\nbad line\nbegun 1\ndone absent\nbegun 1\ndone found 0=76\n",
-        ),
-        (
-            "tenants are taken behind a bad begin, each with its own quota",
-            "tenant 7 1\nbegin 0 7 get 61\nbegin 1 7 remove 61\ntenant 7 5\ntenant 8 5\nbegin 1 7 put 61 0=76\nrun 1\nbegin 1 7 put 62 0=76\nrun 1\nbegin 1 8 put 62 0=76\nrun 1\n",
-            "ok\nbad line\nbad line\nrefused E3\nok\nbegun 1\ndone new\nbegun 1\ndone full\nbegun 1\ndone new\n",
-        ),
-        (
-            "a put waits for the lock of another, and a get for nobody",
-            "tenant 7 100\nbegin 1 7 put 6b 0=76\nuntil 1 publish\nbegin 2 7 put 6c 0=76\nrun 2\nbegin 3 7 get 6b\nrun 3\nrun 1\nrun 2\n",
-            "ok\nbegun 1\nat publish\nbegun 2\nagain 1\nbegun 3\ndone absent\ndone new\ndone new\n",
-        ),
-    ];
-    for (what, script, wanted) in cases {
+    for (what, script, wanted) in &WHOLE_SCRIPTS {
         expect_answers(&rt, rt.alloc(), what, script.as_bytes(), wanted);
     }
 }
 
+// A script, and its answers.
+const SINGLE_LINES: [(&str, &str); 49] = [
+    ("", ""),
+    ("\n\r\n# a comment\n", ""),
+    (" ", "bad line\n"),
+    (" # no comment\n", "bad line\n"),
+    ("\r", "bad line\n"),
+    ("shape\r\n", "tree - layer 0\n  border 0\n"),
+    ("  shape  ", "tree - layer 0\n  border 0\n"),
+    ("shape\r", "bad line\n"),
+    ("shape 1\n", "bad line\n"),
+    ("shape\t\n", "bad line\n"),
+    ("Shape\n", "bad line\n"),
+    ("tenant  7   100\n", "ok\n"),
+    ("tenant 007 0100\n", "ok\n"),
+    ("tenant 4294967295 1\n", "ok\n"),
+    ("tenant 4294967296 1\n", "bad line\n"),
+    ("tenant +7 100\n", "bad line\n"),
+    ("tenant -7 100\n", "bad line\n"),
+    ("tenant 7\n", "bad line\n"),
+    ("tenant 7 1 1\n", "bad line\n"),
+    (
+        "tenant 7 0\ntenant 7 1048577\ntenant 7 1048576\ntenant 7 0\n",
+        "refused E7\nrefused E7\nok\nrefused E3\n",
+    ),
+    ("begin 1 8 get 61\ntenant 8 5\n", "refused E4\nbad line\n"),
+    ("begin 1 8 get\ntenant 8 5\n", "bad line\nok\n"),
+    ("step 1\nrun 1\nuntil 1 enter\n", "none\nnone\nnone\n"),
+    (
+        "step 0\nstep 1000000\nstep 999999\n",
+        "bad line\nbad line\nnone\n",
+    ),
+    (
+        "step\nstep 1 1\nrun\nrun x\nuntil 1\n",
+        "bad line\nbad line\nbad line\nbad line\nbad line\n",
+    ),
+    (
+        "until 1 Enter\nuntil 1 fill\nuntil 1 snap\nuntil 1 unlock\n",
+        "bad line\nbad line\nbad line\nnone\n",
+    ),
+    ("tenant 7 5\nbegin 1 7 put 61\n", "ok\nbad line\n"),
+    ("tenant 7 5\nbegin 1 7 put 61 0\n", "ok\nbad line\n"),
+    ("tenant 7 5\nbegin 1 7 put 61 =76\n", "ok\nbad line\n"),
+    ("tenant 7 5\nbegin 1 7 put 61 256=76\n", "ok\nbad line\n"),
+    ("tenant 7 5\nbegin 1 7 put 61 0=7\n", "ok\nbad line\n"),
+    ("tenant 7 5\nbegin 1 7 put 61 0=7g\n", "ok\nbad line\n"),
+    ("tenant 7 5\nbegin 1 7 put 61 0=76=77\n", "ok\nbad line\n"),
+    ("tenant 7 5\nbegin 1 7 put 6 0=76\n", "ok\nbad line\n"),
+    ("tenant 7 5\nbegin 1 7 put -- 0=76\n", "ok\nbad line\n"),
+    (
+        "tenant 7 5\nbegin 1 7 put 61 1=76 0=76\n",
+        "ok\nrefused E5\n",
+    ),
+    (
+        "tenant 7 5\nbegin 1 7 put 61 0=76 0=76\n",
+        "ok\nrefused E5\n",
+    ),
+    ("tenant 7 5\nbegin 1 7 get 61 1 1\n", "ok\nrefused E5\n"),
+    ("tenant 7 5\nbegin 1 7 get 61 256\n", "ok\nbad line\n"),
+    ("tenant 7 5\nbegin 1 7 get 61 16\n", "ok\nrefused E5\n"),
+    (
+        "tenant 7 5\nbegin 1 7 get aB 00\nrun 1\n",
+        "ok\nbegun 1\ndone absent\n",
+    ),
+    (
+        "tenant 7 5\nbegin 1 7 put Fe 0=aBcD\nrun 1\nbegin 1 7 get fE 0\nrun 1\n",
+        "ok\nbegun 1\ndone new\nbegun 1\ndone found 0=abcd\n",
+    ),
+    (
+        "tenant 7 5\nbegin 1 7 remove 61\nbegin 1 7 scan - 1\nbegin 1 7 gets 61\n",
+        "ok\nbad line\nbad line\nbad line\n",
+    ),
+    (
+        "tenant 7 5\nbegin 1 7 get 61\nbegin 1 7 get 61\nrun 1\nrun 1\n",
+        "ok\nbegun 1\nbad line\ndone absent\nnone\n",
+    ),
+    (
+        "tenant 7 5\nbegin 1 7 put 61 0=\nbegin 2 7 put 62 0=\nbegin 2 9 put 62 0=\nrun 1\nbegin 2 7 put 62 0=\nrun 2\n",
+        "ok\nbegun 1\nbegun 2\nbad line\ndone new\nbad line\ndone new\n",
+    ),
+    (
+        "tenant 7 5\nbegin 1 9 put 61 0=\nbegin 1 7 put 61 0=\nrun 1\n",
+        "ok\nrefused E4\nbegun 1\ndone new\n",
+    ),
+    ("\u{0}\n\u{ff}\n", "bad line\nbad line\n"),
+    ("step 1 # no comment\nrun 1", "bad line\nnone\n"),
+    (
+        "begin 2 8 get 61\nbegin 2 8 remove 61\n",
+        "refused E4\nbad line\n",
+    ),
+];
+
 #[test]
 fn single_lines(rt: HostRuntime) {
-    // (the script, its answers)
-    let cases: [(&str, &str); 49] = [
-        ("", ""),
-        ("\n\r\n# a comment\n", ""),
-        (" ", "bad line\n"),
-        (" # no comment\n", "bad line\n"),
-        ("\r", "bad line\n"),
-        ("shape\r\n", "tree - layer 0\n  border 0\n"),
-        ("  shape  ", "tree - layer 0\n  border 0\n"),
-        ("shape\r", "bad line\n"),
-        ("shape 1\n", "bad line\n"),
-        ("shape\t\n", "bad line\n"),
-        ("Shape\n", "bad line\n"),
-        ("tenant  7   100\n", "ok\n"),
-        ("tenant 007 0100\n", "ok\n"),
-        ("tenant 4294967295 1\n", "ok\n"),
-        ("tenant 4294967296 1\n", "bad line\n"),
-        ("tenant +7 100\n", "bad line\n"),
-        ("tenant -7 100\n", "bad line\n"),
-        ("tenant 7\n", "bad line\n"),
-        ("tenant 7 1 1\n", "bad line\n"),
-        (
-            "tenant 7 0\ntenant 7 1048577\ntenant 7 1048576\ntenant 7 0\n",
-            "refused E7\nrefused E7\nok\nrefused E3\n",
-        ),
-        ("begin 1 8 get 61\ntenant 8 5\n", "refused E4\nbad line\n"),
-        ("begin 1 8 get\ntenant 8 5\n", "bad line\nok\n"),
-        ("step 1\nrun 1\nuntil 1 enter\n", "none\nnone\nnone\n"),
-        (
-            "step 0\nstep 1000000\nstep 999999\n",
-            "bad line\nbad line\nnone\n",
-        ),
-        (
-            "step\nstep 1 1\nrun\nrun x\nuntil 1\n",
-            "bad line\nbad line\nbad line\nbad line\nbad line\n",
-        ),
-        (
-            "until 1 Enter\nuntil 1 fill\nuntil 1 snap\nuntil 1 unlock\n",
-            "bad line\nbad line\nbad line\nnone\n",
-        ),
-        ("tenant 7 5\nbegin 1 7 put 61\n", "ok\nbad line\n"),
-        ("tenant 7 5\nbegin 1 7 put 61 0\n", "ok\nbad line\n"),
-        ("tenant 7 5\nbegin 1 7 put 61 =76\n", "ok\nbad line\n"),
-        ("tenant 7 5\nbegin 1 7 put 61 256=76\n", "ok\nbad line\n"),
-        ("tenant 7 5\nbegin 1 7 put 61 0=7\n", "ok\nbad line\n"),
-        ("tenant 7 5\nbegin 1 7 put 61 0=7g\n", "ok\nbad line\n"),
-        ("tenant 7 5\nbegin 1 7 put 61 0=76=77\n", "ok\nbad line\n"),
-        ("tenant 7 5\nbegin 1 7 put 6 0=76\n", "ok\nbad line\n"),
-        ("tenant 7 5\nbegin 1 7 put -- 0=76\n", "ok\nbad line\n"),
-        (
-            "tenant 7 5\nbegin 1 7 put 61 1=76 0=76\n",
-            "ok\nrefused E5\n",
-        ),
-        (
-            "tenant 7 5\nbegin 1 7 put 61 0=76 0=76\n",
-            "ok\nrefused E5\n",
-        ),
-        ("tenant 7 5\nbegin 1 7 get 61 1 1\n", "ok\nrefused E5\n"),
-        ("tenant 7 5\nbegin 1 7 get 61 256\n", "ok\nbad line\n"),
-        ("tenant 7 5\nbegin 1 7 get 61 16\n", "ok\nrefused E5\n"),
-        (
-            "tenant 7 5\nbegin 1 7 get aB 00\nrun 1\n",
-            "ok\nbegun 1\ndone absent\n",
-        ),
-        (
-            "tenant 7 5\nbegin 1 7 put Fe 0=aBcD\nrun 1\nbegin 1 7 get fE 0\nrun 1\n",
-            "ok\nbegun 1\ndone new\nbegun 1\ndone found 0=abcd\n",
-        ),
-        (
-            "tenant 7 5\nbegin 1 7 remove 61\nbegin 1 7 scan - 1\nbegin 1 7 gets 61\n",
-            "ok\nbad line\nbad line\nbad line\n",
-        ),
-        (
-            "tenant 7 5\nbegin 1 7 get 61\nbegin 1 7 get 61\nrun 1\nrun 1\n",
-            "ok\nbegun 1\nbad line\ndone absent\nnone\n",
-        ),
-        (
-            "tenant 7 5\nbegin 1 7 put 61 0=\nbegin 2 7 put 62 0=\nbegin 2 9 put 62 0=\nrun 1\nbegin 2 7 put 62 0=\nrun 2\n",
-            "ok\nbegun 1\nbegun 2\nbad line\ndone new\nbad line\ndone new\n",
-        ),
-        (
-            "tenant 7 5\nbegin 1 9 put 61 0=\nbegin 1 7 put 61 0=\nrun 1\n",
-            "ok\nrefused E4\nbegun 1\ndone new\n",
-        ),
-        ("\u{0}\n\u{ff}\n", "bad line\nbad line\n"),
-        ("step 1 # no comment\nrun 1", "bad line\nnone\n"),
-        (
-            "begin 2 8 get 61\nbegin 2 8 remove 61\n",
-            "refused E4\nbad line\n",
-        ),
-    ];
-    for (script, wanted) in cases {
+    for (script, wanted) in &SINGLE_LINES {
         expect_answers(&rt, rt.alloc(), script, script.as_bytes(), wanted);
     }
 }
@@ -209,70 +211,71 @@ type LongRow = (&'static str, u8, u8, usize, &'static str, &'static str);
 const EMPTY_TREE: &str = "tree - layer 0\n  border 0\n";
 
 // In the last four, of the longest line that is one, spaces count, and the line's end doesn't.
+const LONG_LINES: [LongRow; 10] = [
+    (
+        "as long as a line may be",
+        b' ',
+        b'x',
+        65_536,
+        "\n",
+        "bad line\n",
+    ),
+    ("a byte too long", b' ', b'x', 65_537, "\r\n", "bad line\n"),
+    (
+        "a line behind a long one",
+        b' ',
+        b'x',
+        200_000,
+        "\nshape\n",
+        "bad line\ntree - layer 0\n  border 0\n",
+    ),
+    ("a comment a byte too long", b'#', b'x', 65_537, "\n", ""),
+    (
+        "a line behind a long comment",
+        b'#',
+        b'x',
+        200_000,
+        "\r\nshape\n",
+        EMPTY_TREE,
+    ),
+    ("a long comment without an end", b'#', b'x', 200_000, "", ""),
+    (
+        "the longest line",
+        b' ',
+        b' ',
+        65_531,
+        "shape\r\n",
+        EMPTY_TREE,
+    ),
+    (
+        "a space more",
+        b' ',
+        b' ',
+        65_532,
+        "shape\r\n",
+        "bad line\n",
+    ),
+    (
+        "the longest line without an end",
+        b' ',
+        b' ',
+        65_531,
+        "shape",
+        EMPTY_TREE,
+    ),
+    (
+        "a space more without an end",
+        b' ',
+        b' ',
+        65_532,
+        "shape",
+        "bad line\n",
+    ),
+];
+
 #[test]
 fn long_lines(rt: HostRuntime) {
-    let rows: [LongRow; 10] = [
-        (
-            "as long as a line may be",
-            b' ',
-            b'x',
-            65_536,
-            "\n",
-            "bad line\n",
-        ),
-        ("a byte too long", b' ', b'x', 65_537, "\r\n", "bad line\n"),
-        (
-            "a line behind a long one",
-            b' ',
-            b'x',
-            200_000,
-            "\nshape\n",
-            "bad line\ntree - layer 0\n  border 0\n",
-        ),
-        ("a comment a byte too long", b'#', b'x', 65_537, "\n", ""),
-        (
-            "a line behind a long comment",
-            b'#',
-            b'x',
-            200_000,
-            "\r\nshape\n",
-            EMPTY_TREE,
-        ),
-        ("a long comment without an end", b'#', b'x', 200_000, "", ""),
-        (
-            "the longest line",
-            b' ',
-            b' ',
-            65_531,
-            "shape\r\n",
-            EMPTY_TREE,
-        ),
-        (
-            "a space more",
-            b' ',
-            b' ',
-            65_532,
-            "shape\r\n",
-            "bad line\n",
-        ),
-        (
-            "the longest line without an end",
-            b' ',
-            b' ',
-            65_531,
-            "shape",
-            EMPTY_TREE,
-        ),
-        (
-            "a space more without an end",
-            b' ',
-            b' ',
-            65_532,
-            "shape",
-            "bad line\n",
-        ),
-    ];
-    for row in &rows {
+    for row in &LONG_LINES {
         expect_long(&rt, rt.alloc(), row);
     }
 }

@@ -43,38 +43,40 @@ fn expect_row(rt: &impl Abort, alloc: Global, row: &Row) {
     );
 }
 
+// A tree of two levels, one of three, and a split that a full quota refuses.
+const TREES: [Row; 3] = [
+    (
+        "a root over two halves",
+        100,
+        "",
+        0x61,
+        0x70,
+        "shape\n",
+        "tree - layer 0\n  interior 0000000769000000\n    border 8 0000000761000000:5 0000000768000000:5\n    border 8 0000000769000000:5 0000000770000000:5\n",
+    ),
+    (
+        "an interior node over two",
+        200,
+        "00",
+        0x01,
+        0x88,
+        "shape\n",
+        THREE_LEVELS,
+    ),
+    (
+        "a full quota splits without the key",
+        15,
+        "",
+        0x61,
+        0x6f,
+        "begin 1 7 put 70 0=76\nuntil 1 splitmove\nrun 1\nbegin 1 7 get 6f\nuntil 1 verify\nrun 1\nshape\n",
+        "begun 1\nat splitmove\ndone full\nbegun 1\nat verify\ndone found 0=76\ntree - layer 0\n  interior 0000000769000000\n    border 8 0000000761000000:5 0000000768000000:5\n    border 7 0000000769000000:5 000000076f000000:5\n",
+    ),
+];
+
 #[test]
 fn trees_grow(rt: HostRuntime) {
-    let rows: [Row; 3] = [
-        (
-            "a root over two halves",
-            100,
-            "",
-            0x61,
-            0x70,
-            "shape\n",
-            "tree - layer 0\n  interior 0000000769000000\n    border 8 0000000761000000:5 0000000768000000:5\n    border 8 0000000769000000:5 0000000770000000:5\n",
-        ),
-        (
-            "an interior node over two",
-            200,
-            "00",
-            0x01,
-            0x88,
-            "shape\n",
-            THREE_LEVELS,
-        ),
-        (
-            "a full quota splits without the key",
-            15,
-            "",
-            0x61,
-            0x6f,
-            "begin 1 7 put 70 0=76\nuntil 1 splitmove\nrun 1\nbegin 1 7 get 6f\nuntil 1 verify\nrun 1\nshape\n",
-            "begun 1\nat splitmove\ndone full\nbegun 1\nat verify\ndone found 0=76\ntree - layer 0\n  interior 0000000769000000\n    border 8 0000000761000000:5 0000000768000000:5\n    border 7 0000000769000000:5 000000076f000000:5\n",
-        ),
-    ];
-    for row in &rows {
+    for row in &TREES {
         expect_row(&rt, rt.alloc(), row);
     }
 }

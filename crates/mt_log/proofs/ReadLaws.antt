@@ -49,6 +49,11 @@ pub parts_joined : (o p q r s new a b d t : Bytes) → p ≡ o ++ 0 ∷ [] → q
 parts_joined o p q r s new a b d t e f g h i =
     i ∙ ap (λ (l : Bytes). l ++ t) (h ∙ ap (λ (l : Bytes). l ++ d) (g ∙ ap (λ (l : Bytes). l ++ b) (f ∙ ap (λ (l : Bytes). l ++ a) e))) ∙ regroup o a b d t
 
+-- and fields that were written one behind the other
+pub fields_joined : (o p q r new a b d t : Bytes) → p ≡ o ++ a → q ≡ p ++ b → r ≡ q ++ d → new ≡ r ++ t → new ≡ o ++ (a ++ (b ++ (d ++ t)))
+fields_joined o p q r new a b d t e f g h =
+    h ∙ ap (λ (l : Bytes). l ++ t) (g ∙ ap (λ (l : Bytes). l ++ d) (f ∙ ap (λ (l : Bytes). l ++ b) e)) ∙ simp append_assoc
+
 -- and a body behind its length
 pub told_joined : (o s new bytes : Bytes) (len : ℕ) → len ≡ length bytes → s ≡ o ++ to_be_bytes w32 len → new ≡ s ++ bytes → new ≡ o ++ told_body bytes
 told_joined o s new bytes len is e f =

@@ -138,5 +138,3 @@ test_of_batch from to records are within =
 -- what a list needs that is made after the test
 pub are_records : (from to : ℕ) (records : List Record) → rise_within from to records ≡ true → AreRecords records
 are_records from to records e = (records_from_test from to records e).0
-
-pub ruleset batch_tests = (are_records)

@@ -212,7 +212,7 @@ fn resume_of(bytes: &[u8]) -> Result<(LogBatch, &[u8]), DecodeFault>
 }
 
 // A batch of records, behind its first byte.
-#[tactic(auto, using(crate::proofs::Tests::batch_tests), unfolding(crate::specs::Reading::records_at))]
+#[tactic(auto, unfolding(crate::specs::Reading::records_at))]
 fn records_of(alloc: Global, bytes: &[u8]) -> Result<(LogBatch, &[u8]), DecodeFault>
     ensures { Gives (λ x. (x.0, x.1.now)) result (records_at bytes.now) }
 {

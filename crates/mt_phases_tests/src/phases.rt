@@ -16,7 +16,7 @@ use mt_descent::{child, confirm, enter, forward, load, lock, pick, search, verif
 use mt_insert::laws::holds_once_locked;
 use mt_insert::*;
 use mt_operation::{Phase, Prepared, Request, Splits, Task, Walk};
-use mt_rows::{Change, Column, Key, NamedColumns, Tenants};
+use mt_rows::{Change, Column, Key, NamedColumns, Row, Tenants};
 use mt_slices::StoredKey;
 use mt_tape::Tape;
 use std::alloc::Global;
@@ -83,15 +83,20 @@ pub fn answer(rt: &impl Abort, arena: &Arena, key: &StoredKey, walk: &mut Walk) 
     }
 }
 
+// The first byte of a row of one column.
+fn first_byte(row: &Row) -> Option<u8> {
+    match row.columns() {
+        [column] => column.as_bytes().first().copied(),
+        _ => None,
+    }
+}
+
 // Takes the row that was found.
 fn take(rt: &impl Abort, arena: &Arena, key: &StoredKey, walk: &mut Walk) -> (u64, u8)
     requires { IsAtLoad arena.now key.now walk.old }
 {
     let byte = match load(arena, key, walk) {
-        Ok(Some(row)) => match row.columns() {
-            [column] => column.as_bytes().first().copied(),
-            _ => None,
-        },
+        Ok(Some(row)) => first_byte(row),
         _ => None,
     };
     assert!(rt; confirm(arena, key, walk).is_none() && walk.phase == Phase::Done);
@@ -304,15 +309,23 @@ fn split(rt: &impl Abort, on: &mut Store, task: &Task, prepared: Prepared) -> us
     steps
 }
 
+// What is left of a put that holds its node; how many steps its climb has.
+fn finish(rt: &impl Abort, on: &mut Store, task: &Task, prepared: Prepared) -> usize
+    requires put { IsPut task.now }
+    requires kept { KeptReady on.old.walk.phase on.old.arena 5 task.now prepared on.old.walk }
+{
+    match on.walk.phase {
+        Phase::Store => replace(rt, on, task, prepared),
+        Phase::Publish => place(rt, on, task, prepared),
+        Phase::SplitStart => return split(rt, on, task, prepared),
+        _ => panic!(rt; "nothing is ready"),
+    }
+    0
+}
+
 /// A whole put; how many steps its climb has, if its node is split.
 pub fn put(rt: &impl Abort, on: &mut Store, name: &[u8], value: &[u8]) -> usize {
     let task = put_of(rt, on.alloc, name, value);
     let prepared = begin(rt, on, &task);
-    match on.walk.phase {
-        Phase::Store => replace(rt, on, &task, prepared),
-        Phase::Publish => place(rt, on, &task, prepared),
-        Phase::SplitStart => return split(rt, on, &task, prepared),
-        _ => panic!(rt; "nothing is ready"),
-    }
-    0
+    finish(rt, on, &task, prepared)
 }

@@ -3,11 +3,12 @@
 ghost use Rattle.std.specs.Prelude.{◌≡◌, ℕ, IsSome};
 ghost use Rattle.mt_descent.specs.Kept.{IsAtBorder};
 ghost use Rattle.mt_operation.specs.Tables.{MayMove, op_at};
+ghost use Rattle.mt_insert.specs.Puts.{IsPut};
 
 use crate::phases::{Store, answer, begin, empty_store, get, place, put, put_of, walk_down};
 use mt_arena::Arena;
 use mt_descent::lock;
-use mt_operation::{Halves, Operation, Operations, Outcome, Phase, Splits, Task, Walk};
+use mt_operation::{Halves, Operation, Operations, Outcome, Phase, Request, Splits, Task, Walk};
 use mt_rows::{Command, Reply};
 use mt_slices::StoredKey;
 use std::alloc::Global;
@@ -58,25 +59,27 @@ fn meet_holder(rt: &impl Abort, arena: &mut Arena, key: &StoredKey, walk: &mut W
 
 // A put changes the node to which a get has come, which looks again after Confirm and Forward. Another
 // put meets the lock of the first, and then finds it given back.
-fn tell_of_meetings(rt: &impl Abort, on: &mut Store) {
-    let task = put_of(rt, on.alloc, b"k", b"v");
-    let key = StoredKey::new(on.alloc, 7, b"l").expect(rt, "memory");
-    let mut get = walk_down(rt, &on.arena, &key, Phase::Search);
-    let mut other = walk_down(rt, &on.arena, &key, Phase::Lock);
-    let prepared = begin(rt, on, &task);
-    meet_holder(rt, &mut on.arena, &key, &mut other);
+fn tell_of_meetings(rt: &impl Abort, on: &mut Store, task: &Task, key: &StoredKey)
+    requires { IsPut task.now }
+{
+    let mut get = walk_down(rt, &on.arena, key, Phase::Search);
+    let mut other = walk_down(rt, &on.arena, key, Phase::Lock);
+    let prepared = begin(rt, on, task);
+    meet_holder(rt, &mut on.arena, key, &mut other);
     match on.walk.phase {
-        Phase::Publish => place(rt, on, &task, prepared),
+        Phase::Publish => place(rt, on, task, prepared),
         _ => panic!(rt; "the node is full, or has the key"),
     }
-    assert!(rt; answer(rt, &on.arena, &key, &mut get) == Err(4));
+    assert!(rt; answer(rt, &on.arena, key, &mut get) == Err(4));
     assert!(rt; put(rt, on, b"l", b"w") == 0);
 }
 
 #[test]
 fn a_put_meets_another_one_and_a_get(rt: HostRuntime) {
     let mut on = empty_store(&rt, rt.alloc());
-    tell_of_meetings(&rt, &mut on);
+    let task = put_of(&rt, rt.alloc(), b"k", b"v");
+    let key = StoredKey::new(rt.alloc(), 7, b"l").expect(&rt, "memory");
+    tell_of_meetings(&rt, &mut on, &task, &key);
 }
 
 // A table with a put of `k`, and its id.
@@ -118,61 +121,102 @@ fn step_in_place(table: &mut Operations, id: usize, holder: Option<usize>) -> Re
     })
 }
 
+// With this holder in the way or none, the step is told so, and the operation's first one is this.
+fn tells_step(
+    rt: &impl Abort,
+    table: &mut Operations,
+    id: usize,
+    holder: Option<usize>,
+    told: Result<Phase, usize>,
+    first: u64,
+)
+    requires may { (o : ℕ) → MayMove table.old o 5 }
+    requires there { IsSome (op_at table.old id) }
+{
+    assert!(rt; step_in_place(table, id, holder) == told);
+    assert!(rt;
+        table
+            .get(id)
+            .is_some_and(|operation| operation.first() == first)
+    );
+}
+
 #[test]
 fn a_step_is_made_in_its_place(rt: HostRuntime) {
     let (mut table, id) = table_of(&rt, rt.alloc());
-    assert!(rt; matches!(step_in_place(&mut table, id, None), Ok(Phase::Lock)));
-    assert!(rt;
-        table
-            .get(id)
-            .is_some_and(|operation| operation.first() == 5)
-    );
+    tells_step(&rt, &mut table, id, None, Ok(Phase::Lock), 5);
     let (mut table, id) = table_of(&rt, rt.alloc());
-    assert!(rt; matches!(step_in_place(&mut table, id, Some(7)), Err(7)));
-    assert!(rt;
-        table
-            .get(id)
-            .is_some_and(|operation| operation.first() == 0)
-    );
+    tells_step(&rt, &mut table, id, Some(7), Err(7), 0);
 }
 
 // What it has made ready is taken once, and its splits are exchanged for others and back.
-fn exchange(rt: &impl Abort, alloc: Global, table: &mut Operations, id: usize) {
-    let mut on = empty_store(rt, alloc);
-    table.make_ready(id, begin(rt, &mut on, &put_of(rt, alloc, b"k", b"v")));
+fn exchange(rt: &impl Abort, table: &mut Operations, id: usize, splits: &mut Splits) {
     let halves = Halves { left: 3, right: 8 };
-    on.splits.halves.push(halves).expect(rt, "memory");
+    splits.halves.push(halves).expect(rt, "memory");
     for given in [0, 1] {
         assert!(rt; table.take_prepared(id).is_some() == (given == 0));
-        table.swap_splits(id, &mut on.splits);
-        assert!(rt; on.splits.halves.len() == given);
+        table.swap_splits(id, splits);
+        assert!(rt; splits.halves.len() == given);
     }
 }
 
-// Whether it is a put of `k` that made step 5 first and step 6 last, and was answered then.
-fn is_answered(mut operation: Operation) -> bool {
+// It makes ready what a put of `k` in a store of its own places.
+fn make_ready(rt: &impl Abort, alloc: Global, table: &mut Operations, id: usize) {
+    let mut on = empty_store(rt, alloc);
+    let task = put_of(rt, alloc, b"k", b"v");
+    let prepared = begin(rt, &mut on, &task);
+    table.make_ready(id, prepared);
+    exchange(rt, table, id, &mut on.splits);
+}
+
+// Whether it made step 5 first and step 6 last, and was answered then.
+fn is_answered(operation: &Operation) -> bool {
     let at = match &operation.outcome {
         Some(outcome) if matches!(&outcome.reply, Reply::Absent) => outcome.at,
         _ => 0,
     };
-    let done = !operation.is_unfinished() && (operation.first(), operation.last, at) == (5, 6, 6);
+    !operation.is_unfinished() && (operation.first(), operation.last, at) == (5, 6, 6)
+}
+
+// Whether step 9 follows step 5 and is no last one.
+fn goes_on(operation: &mut Operation) -> bool {
     operation.go_on(9, &Walk::new(true, 0));
-    let more = operation.is_unfinished() && (operation.first(), operation.last) == (5, 9);
+    operation.is_unfinished() && (operation.first(), operation.last) == (5, 9)
+}
+
+fn request_of(operation: Operation) -> Request {
     let Operation { task, .. } = operation;
     let Task { request, .. } = task;
-    let named = !request.is_get() && request.key().as_bytes() == b"k".as_slice();
+    request
+}
+
+// Whether it is one of `k` and no get.
+fn is_named(request: &Request) -> bool {
+    !request.is_get() && request.key().as_bytes() == b"k".as_slice()
+}
+
+// Whether it is a put of `k` that was answered, and may go on.
+fn is_answered_put(mut operation: Operation) -> bool {
+    let (done, more) = (is_answered(&operation), goes_on(&mut operation));
+    let request = request_of(operation);
+    let named = is_named(&request);
     let is_put = matches!(&request.into_command(), Command::Put { .. });
     done && more && named && is_put
+}
+
+// It is there until it is taken out.
+fn take_out(rt: &impl Abort, table: &mut Operations, id: usize) {
+    assert!(rt; table.get(id).is_some());
+    assert!(rt; table.remove(id).is_some_and(is_answered_put));
+    assert!(rt; table.get(id).is_none());
 }
 
 #[test]
 fn an_operation_is_kept_until_it_is_answered(rt: HostRuntime) {
     let (mut table, id) = table_of(&rt, rt.alloc());
     assert!(rt; make_steps(&mut table, id) == 4);
-    exchange(&rt, rt.alloc(), &mut table, id);
-    assert!(rt; table.get(id).is_some());
-    assert!(rt; table.remove(id).is_some_and(is_answered));
-    assert!(rt; table.get(id).is_none());
+    make_ready(&rt, rt.alloc(), &mut table, id);
+    take_out(&rt, &mut table, id);
 }
 
 #[test]

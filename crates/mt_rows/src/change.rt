@@ -145,7 +145,7 @@ fn column_after(
     ensures { IfOk result (λ c. c ≡ unwrap_or (named change.now index) (column old.now index)) }
 {
     match named_at(change, index) {
-        Some(column) => Ok(column.clone()?),
+        Some(column) => column.clone(),
         None => column_at(alloc, old, index),
     }
 }

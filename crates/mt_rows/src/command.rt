@@ -78,38 +78,40 @@ impl Command {
     pub fn is_same(&self, other: &Command) -> bool
         ensures { IsTrue result ↔ (self.now ≡ other.now) }
     {
+        if self.key() != other.key() {
+            return false;
+        }
         match (self, other) {
             (
-                Command::Get { key, columns },
+                Command::Get { columns, .. },
                 Command::Get {
-                    key: other_key,
                     columns: other_columns,
+                    ..
                 },
-            ) => key == other_key && columns.as_slice() == other_columns.as_slice(),
+            ) => columns.as_slice() == other_columns.as_slice(),
             (
-                Command::Put { key, change },
+                Command::Put { change, .. },
                 Command::Put {
-                    key: other_key,
                     change: other_change,
+                    ..
                 },
-            ) => key == other_key && change.as_slice() == other_change.as_slice(),
-            (Command::Remove { key }, Command::Remove { key: other_key }) => key == other_key,
+            ) => change.as_slice() == other_change.as_slice(),
+            (Command::Remove { .. }, Command::Remove { .. }) => true,
             (
                 Command::Scan {
-                    from,
                     after,
                     count,
                     columns,
+                    ..
                 },
                 Command::Scan {
-                    from: other_from,
                     after: other_after,
                     count: other_count,
                     columns: other_columns,
+                    ..
                 },
             ) => {
-                from == other_from
-                    && after == other_after
+                after == other_after
                     && count == other_count
                     && columns.as_slice() == other_columns.as_slice()
             }
@@ -122,33 +124,26 @@ impl Command {
         ensures { IfOk result (λ command. command ≡ self.now) }
     {
         match self {
-            Command::Get { key, columns } => {
-                let (key, columns) = (key.clone()?, columns.clone()?);
-                Ok(Command::Get { key, columns })
-            }
-            Command::Put { key, change } => {
-                let (key, change) = (key.clone()?, change.clone()?);
-                Ok(Command::Put { key, change })
-            }
-            Command::Remove { key } => {
-                let key = key.clone()?;
-                Ok(Command::Remove { key })
-            }
+            Command::Get { key, columns } => Ok(Command::Get {
+                key: key.clone()?,
+                columns: columns.clone()?,
+            }),
+            Command::Put { key, change } => Ok(Command::Put {
+                key: key.clone()?,
+                change: change.clone()?,
+            }),
+            Command::Remove { key } => Ok(Command::Remove { key: key.clone()? }),
             Command::Scan {
                 from,
                 after,
                 count,
                 columns,
-            } => {
-                let (from, columns) = (from.clone()?, columns.clone()?);
-                let (after, count) = (*after, *count);
-                Ok(Command::Scan {
-                    from,
-                    after,
-                    count,
-                    columns,
-                })
-            }
+            } => Ok(Command::Scan {
+                from: from.clone()?,
+                after: *after,
+                count: *count,
+                columns: columns.clone()?,
+            }),
         }
     }
 }

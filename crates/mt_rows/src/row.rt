@@ -191,7 +191,7 @@ pub(crate) fn column_at(
     ensures { IfOk result (λ c. c ≡ column columns.now index) }
 {
     match columns.get(index) {
-        Some(column) => Ok(column.clone()?),
+        Some(column) => column.clone(),
         None => Ok(Column::new(Vec::new(alloc))),
     }
 }

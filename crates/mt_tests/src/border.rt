@@ -6,7 +6,6 @@ ghost use Rattle.mt_border.specs.Entry.{IsRest};
 use crate::rows::row_of;
 use mt_border::FoundKind::{self, Link, OtherLong, ThisKey};
 use mt_border::{Border, Entry, Find, Held, Pair, Suffix};
-use mt_rows::Row;
 use mt_slices::Mark;
 use mt_version::Version;
 use std::alloc::Global;
@@ -17,23 +16,32 @@ fn put(rt: &impl Abort, alloc: Global, border: &mut Border, mark: Mark, bytes: &
     requires mark { IsMark mark }
     requires rest { IsRest mark bytes.now }
 {
-    let suffix = Suffix::new(Vec::from_slice(alloc, bytes).expect(rt, "memory"));
-    let (row, slice, stamp) = (row_of(rt, alloc, b"v"), 9, 1);
-    let held = Held::Stable(Pair { suffix, row, stamp });
+    let slice = 9;
     assert!(rt; !border.is_full());
     if let Find::Missing = border.find(slice, mark, bytes) {
+        let suffix = Suffix::new(Vec::from_slice(alloc, bytes).expect(rt, "memory"));
+        let (row, stamp) = (row_of(rt, alloc, b"v"), 1);
+        let held = Held::Stable(Pair { suffix, row, stamp });
         border.publish(Entry { slice, mark, held });
     }
 }
 
-// Puts another row in the place of the first key's, and takes the key out.
-fn change(border: &mut Border, row: Row) -> Option<(Row, Entry)> {
+// Puts another row in the place of the first key's by step 6, and takes the key out.
+fn change(rt: &impl Abort, alloc: Global, border: &mut Border) -> Option<Entry> {
     let Some(Held::Stable(_)) = border.load(0) else {
         return None;
     };
-    let old = border.store(0, row, 6);
+    let _ = border.store(0, row_of(rt, alloc, b"w"), 6);
     border.load(0)?;
-    Some((old, border.drop_key(0)))
+    Some(border.drop_key(0))
+}
+
+// Whether a key was taken out whose row is of step 6.
+fn is_of_step_6(taken: &Option<Entry>) -> bool {
+    match taken {
+        Some(entry) => matches!(&entry.held, Held::Stable(pair) if pair.stamp == 6),
+        None => false,
+    }
 }
 
 // Makes the pair of the key of the suffix xyz a link to tree 5, and gives it back.
@@ -52,6 +60,14 @@ fn make_link(border: &mut Border) -> Option<Pair> {
     }
 }
 
+// Whether it is the pair of the suffix xyz, of step 1.
+fn is_of_xyz(linked: &Option<Pair>) -> bool {
+    match linked {
+        Some(pair) => pair.stamp == 1 && pair.suffix.as_bytes() == b"xyz".as_slice(),
+        None => false,
+    }
+}
+
 // The key of the slice 9 with this mark and suffix is found so, or is missing.
 fn finds(rt: &impl Abort, border: &Border, mark: Mark, suffix: &[u8], wanted: Option<FoundKind>)
     requires mark { IsMark mark }
@@ -64,25 +80,39 @@ fn finds(rt: &impl Abort, border: &Border, mark: Mark, suffix: &[u8], wanted: Op
     assert!(rt; kind == wanted);
 }
 
+// A longer key is put in, and then a shorter one, which stands before it.
+fn put_both(rt: &impl Abort, alloc: Global, border: &mut Border) {
+    put(rt, alloc, border, Mark::Long, b"xyz");
+    finds(rt, border, Mark::Short(8), &[], None);
+    put(rt, alloc, border, Mark::Short(8), &[]);
+    assert!(rt; matches!(border.last(), Some(entry) if entry.mark == Mark::Long));
+    finds(rt, border, Mark::Short(8), &[], Some(ThisKey));
+    finds(rt, border, Mark::Long, b"xyz", Some(ThisKey));
+    finds(rt, border, Mark::Long, b"xy", Some(OtherLong));
+}
+
 // The longer key gives way to a link, and the shorter one goes.
+fn give_way(rt: &impl Abort, alloc: Global, border: &mut Border) {
+    let is_linked = is_of_xyz(&make_link(border));
+    assert!(rt; is_linked);
+    finds(rt, border, Mark::Long, b"xyz", Some(Link));
+    let is_changed = is_of_step_6(&change(rt, alloc, border));
+    assert!(rt; is_changed && border.len() == 1 && border.entries().count() == 1);
+    assert!(rt; matches!(border.first(), Some(entry) if entry.mark == Mark::Long));
+}
+
 #[test]
 fn keys_of_one_slice_are_told_apart(rt: HostRuntime) {
-    let alloc = rt.alloc();
-    let mut border = Border::new(alloc, 0, None, Version::root_border());
-    put(&rt, alloc, &mut border, Mark::Long, b"xyz");
-    finds(&rt, &border, Mark::Short(8), &[], None);
-    put(&rt, alloc, &mut border, Mark::Short(8), &[]);
-    assert!(rt; matches!(border.last(), Some(entry) if entry.mark == Mark::Long));
-    finds(&rt, &border, Mark::Short(8), &[], Some(ThisKey));
-    finds(&rt, &border, Mark::Long, b"xyz", Some(ThisKey));
-    finds(&rt, &border, Mark::Long, b"xy", Some(OtherLong));
-    let linked = make_link(&mut border).expect(&rt, "a pair");
-    assert!(rt; linked.stamp == 1 && linked.suffix.as_bytes() == b"xyz".as_slice());
-    finds(&rt, &border, Mark::Long, b"xyz", Some(Link));
-    let (_old, entry) = change(&mut border, row_of(&rt, alloc, b"w")).expect(&rt, "a key");
-    assert!(rt; matches!(&entry.held, Held::Stable(pair) if pair.stamp == 6));
-    assert!(rt; border.len() == 1 && border.entries().count() == 1);
-    assert!(rt; matches!(border.first(), Some(entry) if entry.mark == Mark::Long));
+    let mut border = Border::new(rt.alloc(), 0, None, Version::root_border());
+    put_both(&rt, rt.alloc(), &mut border);
+    give_way(&rt, rt.alloc(), &mut border);
+}
+
+// An empty node from 3 to 7 tells its neighbours, parent and version.
+fn tells_fields(rt: &impl Abort, border: &Border) {
+    assert_eq!(rt; (border.previous(), border.next()), (Some(1), Some(2)));
+    assert_eq!(rt; (border.parent(), border.high()), (Some(4), Some(7)));
+    assert!(rt; border.version().is_locked() && border.low() == 3 && border.is_empty());
 }
 
 #[test]
@@ -93,7 +123,5 @@ fn a_node_tells_what_was_set(rt: HostRuntime) {
     border.set_parent(Some(4));
     border.set_high(Some(7));
     border.set_version(border.version().locked());
-    assert_eq!(rt; (border.previous(), border.next()), (Some(1), Some(2)));
-    assert_eq!(rt; (border.parent(), border.high()), (Some(4), Some(7)));
-    assert!(rt; border.version().is_locked() && border.low() == 3 && border.is_empty());
+    tells_fields(&rt, &border);
 }

@@ -13,7 +13,7 @@ use std::process::Abort;
 pub fn row_of(rt: &impl Abort, alloc: Global, column: &[u8]) -> Row {
     let column = Vec::from_slice(alloc, column).expect(rt, "memory");
     let mut columns = Vec::new(alloc);
-    assert!(rt; columns.push(Column::new(column)).is_ok());
+    columns.push(Column::new(column)).expect(rt, "memory");
     assert!(rt; Row::fits(&columns));
     Row::new(alloc, columns).expect(rt, "memory")
 }
@@ -94,53 +94,64 @@ fn run(map: &mut PlainMap, alloc: Global, quota: u32, command: Command) -> Resul
     Ok(map.apply(alloc, quota, command)?)
 }
 
-// A copy of the command tells this reply or refusal.
-fn tells(rt: &impl Abort, alloc: Global, map: &mut PlainMap, case: Case) {
-    let (quota, key, asked, wanted) = case;
-    let command = command_of(alloc, key_of(rt, alloc, key), asked).expect(rt, "memory");
+// A copy of the command, which is the same.
+fn copy_of(rt: &impl Abort, command: &Command) -> Command {
     let copy = command.copied().expect(rt, "memory");
-    assert!(rt; copy.is_same(&command) && copy.key() == command.key());
+    assert!(rt; copy.is_same(command) && copy.key() == command.key());
+    copy
+}
+
+// What was answered is this reply or refusal.
+fn is_told(rt: &impl Abort, alloc: Global, answer: &Result<Reply, Refusal>, wanted: &str) {
     let mut told = String::new(alloc);
-    let written = match run(map, alloc, quota, copy) {
-        Ok(reply) => push_reply(&mut told, &reply),
+    let written = match answer {
+        Ok(reply) => push_reply(&mut told, reply),
         Err(refusal) => write!(told, "{refusal}"),
     };
     assert!(rt; written.is_ok() && told.as_str() == wanted, "{wanted}");
 }
 
+// A copy of the command tells this reply or refusal.
+fn tells(rt: &impl Abort, alloc: Global, map: &mut PlainMap, case: Case) {
+    let (quota, key, asked, wanted) = case;
+    let command = command_of(alloc, key_of(rt, alloc, key), asked).expect(rt, "memory");
+    let answer = run(map, alloc, quota, copy_of(rt, &command));
+    is_told(rt, alloc, &answer, wanted);
+}
+
 const LONG: &[u8] = &[b'v'; 1_025];
 
 // Gaps in a row are empty, and what a put doesn't name is kept; a full tenant replaces and adds nothing.
+const CASES: [Case; 16] = [
+    (1, b"k", Put(&[(2, b"v")]), "New"),
+    (1, b"k", Put(&[(0, b"a")]), "Replaced"),
+    (1, b"k", Get(&[]), "|a||v"),
+    (1, b"k", Get(&[0, 2, 5]), "|a|v|"),
+    (1, b"q", Put(&[(0, b"v")]), "Full"),
+    (1, b"k", Remove, "Removed"),
+    (1, b"", Put(&[(0, b"v")]), "New"),
+    (3, b"q", Put(&[(0, b"v")]), "New"),
+    (3, b"a", Put(&[(0, b"w")]), "New"),
+    (3, b"a", Scan(false, 2), "1|w1|v"),
+    (3, b"a", Scan(true, 5), "1|v"),
+    (3, &[b'k'; 252], Put(&[(16, LONG)]), "E1"),
+    (3, b"k", Put(&[(1, b"v"), (1, b"w")]), "E5"),
+    (3, b"k", Put(&[(0, LONG)]), "E6"),
+    (3, b"k", Get(&[3, 2]), "E5"),
+    (3, b"k", Scan(false, 65), "E8"),
+];
+
 #[test]
 fn commands_are_answered_or_refused(rt: HostRuntime) {
     let mut map = PlainMap::new(rt.alloc());
-    let cases: [Case; 16] = [
-        (1, b"k", Put(&[(2, b"v")]), "New"),
-        (1, b"k", Put(&[(0, b"a")]), "Replaced"),
-        (1, b"k", Get(&[]), "|a||v"),
-        (1, b"k", Get(&[0, 2, 5]), "|a|v|"),
-        (1, b"q", Put(&[(0, b"v")]), "Full"),
-        (1, b"k", Remove, "Removed"),
-        (1, b"", Put(&[(0, b"v")]), "New"),
-        (3, b"q", Put(&[(0, b"v")]), "New"),
-        (3, b"a", Put(&[(0, b"w")]), "New"),
-        (3, b"a", Scan(false, 2), "1|w1|v"),
-        (3, b"a", Scan(true, 5), "1|v"),
-        (3, &[b'k'; 252], Put(&[(16, LONG)]), "E1"),
-        (3, b"k", Put(&[(1, b"v"), (1, b"w")]), "E5"),
-        (3, b"k", Put(&[(0, LONG)]), "E6"),
-        (3, b"k", Get(&[3, 2]), "E5"),
-        (3, b"k", Scan(false, 65), "E8"),
-    ];
-    for case in cases {
+    for case in CASES {
         tells(&rt, rt.alloc(), &mut map, case);
     }
     assert!(rt; map.len() == 3 && Refusal::NoStore.number() == 20);
 }
 
-#[test]
-fn tenants_keep_their_quotas_and_counts(rt: HostRuntime) {
-    let mut tenants = Tenants::new(rt.alloc());
+// Tenants 7 and 8 come; a quota is from 1 to 1,048,576.
+fn add_two(rt: &impl Abort, tenants: &mut Tenants) {
     for (tenant, quota, told) in [
         (7, 1_048_577, Err(Refusal::Quota)),
         (7, 1, Ok(())),
@@ -150,6 +161,10 @@ fn tenants_keep_their_quotas_and_counts(rt: HostRuntime) {
         assert!(rt; tenants.add(tenant, quota) == told);
     }
     assert!(rt; tenants.quota(8) == Ok(1_048_576) && tenants.quota(9) == Err(Refusal::NoTenant));
+}
+
+// Tenant 7 counts a pair, which is all it may have, and then none.
+fn counts_one(rt: &impl Abort, tenants: &mut Tenants) {
     assert!(rt; tenants.count_new(7));
     assert!(rt; !tenants.count_new(7) && tenants.count(7) == Ok(1));
     tenants.count_removed(7);
@@ -157,14 +172,34 @@ fn tenants_keep_their_quotas_and_counts(rt: HostRuntime) {
 }
 
 #[test]
-fn a_change_merges_and_a_row_is_shared(rt: HostRuntime) {
-    let alloc = rt.alloc();
-    let list = named(alloc, &[(1, b"v")]).expect(&rt, "memory");
-    let change = Change::new(list).expect(&rt, "a change");
-    let row = row_of(&rt, alloc, b"w");
-    let merged = merge(alloc, Some(&row), &change).expect(&rt, "memory");
+fn tenants_keep_their_quotas_and_counts(rt: HostRuntime) {
+    let mut tenants = Tenants::new(rt.alloc());
+    add_two(&rt, &mut tenants);
+    counts_one(&rt, &mut tenants);
+}
+
+// A change of column 1.
+fn change_of(rt: &impl Abort, alloc: Global) -> Change {
+    let list = named(alloc, &[(1, b"v")]).expect(rt, "memory");
+    Change::new(list).expect(rt, "a change")
+}
+
+// The column of the change stands behind that of the row.
+fn is_merged(rt: &impl Abort, merged: &Row, row: &Row, change: &Change) {
     assert!(rt; merged.columns().len() == 2 && merged.columns()[0] == row.columns()[0]);
-    assert!(rt; change.columns().len() == 1 && change.into_list().as_slice().len() == 1);
-    let found = Reply::Found(row.share().expect(&rt, "memory"));
+    assert!(rt; change.columns().len() == 1);
+}
+
+// A pair that is new is a change, and a row that is found is none.
+fn tells_changes(rt: &impl Abort, found: &Reply) {
     assert!(rt; Reply::New.is_change() && !found.is_change() && !Row::fits(&[]));
+}
+
+#[test]
+fn a_change_merges_and_a_row_is_shared(rt: HostRuntime) {
+    let (row, change) = (row_of(&rt, rt.alloc(), b"w"), change_of(&rt, rt.alloc()));
+    let merged = merge(rt.alloc(), Some(&row), &change).expect(&rt, "memory");
+    is_merged(&rt, &merged, &row, &change);
+    tells_changes(&rt, &Reply::Found(row.share().expect(&rt, "memory")));
+    assert!(rt; change.into_list().as_slice().len() == 1);
 }

@@ -22,12 +22,26 @@ fn each_change_of_a_version_leaves_its_word(rt: HostRuntime) {
 #[test]
 fn a_version_tells_its_flags_and_its_age(rt: HostRuntime) {
     let child = Version::child_border();
-    assert!(rt; child.is_border() && child.is_stable() && Version::root_interior().is_root());
     let locked = child.locked();
-    assert!(rt; locked.is_locked() && locked.same_but_lock(child) && !child.is_deleted());
     let marked = child.marked_inserting();
-    assert!(rt; marked.is_inserting() && !marked.is_splitting() && !marked.is_stable());
     let split = locked.marked_splitting().unlocked();
+    let told = [
+        child.is_border(),
+        child.is_stable(),
+        Version::root_interior().is_root(),
+        locked.is_locked(),
+        locked.same_but_lock(child),
+        marked.is_inserting(),
+        split.is_later(child),
+    ];
+    assert_eq!(rt; told, [true; 7]);
+    let denied = [
+        child.is_deleted(),
+        marked.is_splitting(),
+        marked.is_stable(),
+        child.is_later(split),
+        split.same_but_lock(child),
+    ];
+    assert_eq!(rt; denied, [false; 5]);
     assert_eq!(rt; (split.inserts(), split.splits()), (0, 1));
-    assert!(rt; split.is_later(child) && !child.is_later(split) && !split.same_but_lock(child));
 }

@@ -5,6 +5,12 @@ use Rattle.mt_arena.proofs.Pairs.{read}
 use Rattle.mt_arena.proofs.Growing.{sound_half, step_half, content_half}
 use Rattle.mt_arena.proofs.arena.Arena.alloc_node.Goals as goal
 
+pub invariant_of-self : goal.invariant_of-self
+invariant_of-self c =
+    let room = c.in_err-make_room.ensures in
+    rw (room.nodes, room.trees, room.retired)
+    (record { arena = c.self.invariant.arena; retired = c.self.invariant.retired; enough = omega (arith, c.self.invariant.enough, room.no_less) })
+
 pub invariant_of-self-2 : goal.invariant_of-self-2
 invariant_of-self-2 c =
     let held = rw (← c.self.view_is) at c.requires.held in

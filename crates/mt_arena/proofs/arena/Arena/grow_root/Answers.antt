@@ -8,6 +8,12 @@ use Rattle.mt_arena.proofs.Heights.{level_few}
 use Rattle.mt_arena.proofs.Topping.{read_tree, sound_grown, step_grown, content_grown, settled_grown}
 use Rattle.mt_arena.proofs.arena.Arena.grow_root.Goals as goal
 
+pub invariant_of-self : goal.invariant_of-self
+invariant_of-self c =
+    let room = c.in_err-make_room.ensures in
+    rw (room.nodes, room.trees, room.retired)
+    (record { arena = c.self.invariant.arena; retired = c.self.invariant.retired; enough = omega (arith, c.self.invariant.enough, room.no_less) })
+
 pub put_top-requires-clause-not_too_high : goal.put_top-requires-clause-not_too_high
 put_top-requires-clause-not_too_high c =
     let may = rw (← c.self.view_is) at c.requires in

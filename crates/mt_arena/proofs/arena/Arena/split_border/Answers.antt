@@ -4,6 +4,16 @@ use Rattle.mt_arena.specs.Arena.{ArenaView}
 use Rattle.mt_arena.proofs.Two.{written, two_long}
 use Rattle.mt_arena.proofs.arena.Arena.split_border.Goals as goal
 
+pub halve_with-requires-clause-missing : goal.halve_with-requires-clause-missing
+halve_with-requires-clause-missing c =
+    let may = rw (← c.self.view_is) at c.requires.may in
+    rw c.deref_mut.ensures.value may.missing
+
+pub halve_with-requires-clause-separator : goal.halve_with-requires-clause-separator
+halve_with-requires-clause-separator c =
+    let may = rw (← c.self.view_is) at c.requires.may in
+    rw c.deref_mut.ensures.value may.separator
+
 pub invariant_of-self : goal.invariant_of-self
 invariant_of-self c =
     let may = rw (← c.self.view_is) at c.requires.may in

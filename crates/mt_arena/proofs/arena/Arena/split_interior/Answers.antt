@@ -1,8 +1,14 @@
-use Rattle.std.proofs.Common.{ap, length, arith}
+use Rattle.std.proofs.Common.{refl, ap, length, arith}
 use Rattle.mt_arena.specs.Arena.{ArenaView}
 use Rattle.mt_arena.proofs.Inserting.{apart_j, is_new}
 use Rattle.mt_arena.proofs.Parting.{sound_parts, step_parts, content_parts}
 use Rattle.mt_arena.proofs.arena.Arena.split_interior.Goals as goal
+
+pub invariant_of-self : goal.invariant_of-self
+invariant_of-self c =
+    let room = c.in_err-make_room.ensures in
+    rw (room.nodes, room.trees, room.retired)
+    (record { arena = c.self.invariant.arena; retired = c.self.invariant.retired; enough = omega (arith, c.self.invariant.enough, room.no_less) })
 
 pub part_parent-requires-clause-differ : goal.part_parent-requires-clause-differ
 part_parent-requires-clause-differ c = apart_j c.self.inside.nodes.items c.args.parent c.args.left c.args.right c.self.invariant.arena.nodes (rw (← c.self.view_is) at c.requires).inserts
@@ -18,6 +24,11 @@ invariant_of-self-2 c =
     let room = c.in_ok-make_room.ensures in
     rw (c.part_parent.ensures, room.nodes, room.trees, room.retired)
     (sound_parts v _ _ c.args.parent c.args.left c.args.right c.args.operation c.self.invariant may (omega (arith, room.room, ap length room.nodes)))
+
+pub returns-clause-is : goal.returns-clause-is
+returns-clause-is c =
+    let room = c.in_ok-make_room.ensures in
+    rw (← c.self.view_is, c.part_parent.ensures, room.nodes, room.trees, room.retired) refl
 
 pub returns-clause-step : goal.returns-clause-step
 returns-clause-step c =

@@ -1,5 +1,5 @@
--- That an operation whose name can't be kept is cancelled, for `NamedStore::begin`.
-use Rattle.std.proofs.Common.{refl, sym, ap, subst}
+-- That an operation whose name can't be kept is cancelled, and what a refusal is told, for `NamedStore::begin`.
+use Rattle.std.proofs.Common.{refl, sym, ap, subst, rules}
 use Rattle.std.specs.Prelude.{is_some}
 use Rattle.mt_core.specs.declared.answers.Ticket.{Ticket}
 use Rattle.mt_core.specs.Tickets.{IsStill, Cancels}
@@ -18,3 +18,6 @@ pub invariant_of-self : goal.invariant_of-self
 invariant_of-self c = subst (λ (n : Tickets). HaveOneName c.cancel.new.state.table n) (sym c.in-Err-insert.ensures.back.1)
     (named_same c.self.inside.state.table c.cancel.new.state.table c.self.inside.names
     (λ q. ap is_some (cancelled_same c.self.inside.state c.begin.new.self c.cancel.new.state c.in-Ok.ticket.id 0 c.args.tenant c.args.command c.in-Ok.ensures.told (cancels c) q)) c.self.invariant)
+
+pub returns-in-Err-clause-told : goal.returns-in-Err-clause-told
+returns-in-Err-clause-told c = search rules
