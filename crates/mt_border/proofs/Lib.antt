@@ -4,6 +4,7 @@ pub mod RowEdits
 pub mod Writes
 pub mod Cuts
 pub mod Counts
+pub mod Finds
 pub mod Parts
 pub mod ContentsLists
 pub mod ContentsMaps

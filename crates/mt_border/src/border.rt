@@ -109,6 +109,7 @@ impl Border {
     }
 
     /// Where the key with this slice, mark and suffix stands. An unstable pair is found as a pair.
+    #[inline(always)]
     pub fn find(&self, slice: u64, mark: Mark, suffix: &[u8]) -> Find
         requires mark { IsMark mark }
         requires rest { IsRest mark suffix.now }

@@ -3,7 +3,7 @@
 //! An entry is plain data, made by whoever fills a slot; what it has to keep, `IsEntry`, is asked
 //! for where it enters a node. It owns its suffix, which lies on the heap, and a share of its row.
 
-ghost use Rattle.std.specs.Prelude.{◌≡◌, ◌↔◌, ℕ, IsTrue};
+ghost use Rattle.std.specs.Prelude.{◌≡◌, ℕ};
 
 use mt_rows::Row;
 use mt_slices::Mark;
@@ -148,12 +148,6 @@ pub enum Find {
 impl<'a> EntryRef<'a> {
     ghost use Rattle.mt_border.specs.Entry.{IsKind, IsEntry, IsRest};
     ghost use Rattle.mt_border.specs.Rows.{entry_seen};
-
-    pub(crate) fn has(self, slice: u64, mark: Mark) -> bool
-        ensures { IsTrue result ↔ ((self.entry.slice ≡ slice) × (self.entry.mark ≡ mark)) }
-    {
-        self.slice == slice && self.mark == mark
-    }
 
     /// What the entry holds of the key that has its slice and mark, and this suffix.
     pub(crate) fn kind(self, suffix: &[u8]) -> FoundKind

@@ -1,6 +1,6 @@
 //! Where a key stands, or would stand, among entries in the order of their keys.
 
-ghost use Rattle.std.specs.Prelude.{◌≡◌, ℕ, ◌<◌, ◌≤◌, IfNone, IfSome, length};
+ghost use Rattle.std.specs.Prelude.{◌≡◌, ◌<◌, ◌≤◌, IfNone, IfSome, length};
 ghost use Rattle.mt_slices.specs.Marks.{IsMark};
 ghost use Rattle.mt_border.specs.Entry.{order_at};
 ghost use Rattle.mt_border.specs.Entries.{IsAt, IsBorder, IsMissing, place_in};
@@ -33,10 +33,15 @@ pub(crate) fn search(slots: &Slots, slice: u64, mark: Mark) -> Option<usize>
     ensures found { IfSome result (λ place. IsAt slots.now slice mark place) }
     ensures missing { IfNone result (IsMissing slots.now slice mark) }
 {
-    let place = place_of(slots, slice, mark);
-    if place < slots.len() && slots.entry(place).has(slice, mark) {
-        Some(place)
-    } else {
-        None
+    let slices = slots.slices();
+    let marks = slots.marks();
+    for place in count_below(slices, slice)..slices.len() {
+        if slices[place] != slice {
+            return None;
+        }
+        if marks[place].get() == mark {
+            return Some(place);
+        }
     }
+    None
 }

@@ -1,5 +1,5 @@
 -- Where the steps of an operation that holds nothing lead, and what a load shows: for `descend` and `load_row`.
-use Rattle.std.proofs.Common.{◌≡◌, ℕ, true, List, Option, Some, None, IsNone, IfNone, IfSome, ◌+◌, inl, refl, sym, ap, subst, ◌∙◌}
+use Rattle.std.proofs.Common.{◌≡◌, ℕ, true, List, Option, Some, None, IsNone, IfNone, ◌+◌, inl, refl, sym, ap, subst, ◌∙◌}
 use Rattle.std.specs.Option.{option_map}
 use Rattle.std.proofs.lemmas.Option.{same_Some}
 use Rattle.mt_rows.specs.declared.reply.Reply.{Reply}
@@ -20,13 +20,12 @@ use Rattle.mt_operation.specs.declared.splits.Splits.{Splits}
 use Rattle.mt_descent.specs.Pasts.{Past}
 use Rattle.mt_descent.specs.Kept.{IsKept}
 use Rattle.mt_descent.specs.Moves.{Continues, Verifies, Loads, walk_here, after_enter, after_forward}
-use Rattle.mt_state.specs.Promises.{IsInTheWay}
 use Rattle.mt_state.specs.Notes.{columns_asked}
 use Rattle.mt_state.specs.Ways.{Descends, ShowsTaken}
 use Rattle.mt_state.proofs.Descents.{Leads, descends, entered, verified, forwarded, stayed}
 use Rattle.mt_state.proofs.Replies.{get_asks}
 use Rattle.mt_core.specs.Points.{IsAtPoint}
-use Rattle.mt_core.specs.Looks.{Looks, led_to, TellsDescended, TellsLoaded}
+use Rattle.mt_core.specs.Looks.{led_to, TellsDescended, TellsLoaded}
 
 -- a walk that enters a tree goes on so
 pub enter_goes : (r : Option ℕ) (v : ArenaView) (before after : Walk) → before.phase ≡ Enter → IfNone r (after ≡ after_enter (tree_at v.trees before.place.tree).standing before (tree_at v.trees before.place.tree).root (at v (tree_at v.trees before.place.tree).root).version)
@@ -81,8 +80,7 @@ tells_shown f taken reply v op step after told gets loads is says = record {
 }
 
 -- what a step makes of an operation of which it leads the walk down
-pub looks_down : (v : ArenaView) (op : Operation) (w : Walk) (r : Option ℕ) → IfSome r (λ holder. IsInTheWay v op.walk.phase holder × (w ≡ op.walk)) → IfNone r (Descends op.walk w)
-    → ((height made : ℕ) (splits : Splits) → IfNone r (IsAtPoint height made v op.walk splits → IsAtPoint height (made + 1) v w splits)) → ((past : Past) → IfNone r (IsKept v past op.task.key None w))
-    → Looks v (TellsDescended v) op r (led_to op w op.outcome)
-looks_down v op w None again goes nears kept = record { goes = goes; nears = nears; kept = kept; others = refl }
-looks_down v op w (Some holder) again goes nears kept = (again.0, ap (λ (x : Walk). led_to op x op.outcome) again.1)
+pub looks_down : (v : ArenaView) (op : Operation) (w : Walk) → Descends op.walk w
+    → ((height made : ℕ) (splits : Splits) → IsAtPoint height made v op.walk splits → IsAtPoint height (made + 1) v w splits) → ((past : Past) → IsKept v past op.task.key None w)
+    → TellsDescended v op (led_to op w op.outcome)
+looks_down v op w goes nears kept = record { goes = goes; nears = nears; kept = kept; others = refl }

@@ -3,13 +3,12 @@ use Rattle.std.proofs.Common.{◌≡◌, ℕ, ◌⊎◌, inl, inr, false, Option
 use Rattle.std.specs.Option.{option_map}
 use Rattle.std.proofs.lemmas.Option.{same_Some}
 use Rattle.mt_operation.specs.declared.walk.Phase.{Phase}
-use Rattle.mt_operation.specs.declared.walk.Phase.TheVariants.{Enter, Pick, Child, Verify, Forward, SplitPrev, LockParent, InsertChild, InteriorSplit, Reparent, RootGrow, MakeLayer, MarkUnstable, Link, MarkLayer, Done}
+use Rattle.mt_operation.specs.declared.walk.Phase.TheVariants.{SplitPrev, LockParent, InsertChild, InteriorSplit, Reparent, RootGrow, MakeLayer, MarkUnstable, Link, MarkLayer, Done}
 use Rattle.mt_operation.specs.declared.operation.Operation.{Operation}
 use Rattle.mt_operation.specs.Operations.{view_of, is_done}
 use Rattle.mt_operation.specs.Tables.{op_at as operation_at}
 use Rattle.mt_state.specs.Views.{Core, shown}
 use Rattle.mt_state.specs.Promises.{HasStep}
-use Rattle.mt_state.specs.Ways.{IsDescent}
 use Rattle.mt_state.specs.Writes.{IsClimb, IsLayerPhase}
 use Rattle.mt_state.proofs.Shown.{shown_there}
 use Rattle.mt_core.specs.Shows.{next_phase, phase_in}
@@ -28,23 +27,7 @@ next_in : (w : Option Operation) (phase : Phase) → phase_in (option_map view_o
 next_in None phase e = absurd (cc)
 next_in (Some op) phase e = let n = next_of op.walk.phase phase e in (op, refl, n.0, n.1)
 
--- the phases in which an operation goes down
-pub descends : (p : Phase) → (p ≡ Enter) ⊎ (p ≡ Pick) ⊎ (p ≡ Child) ⊎ (p ≡ Verify) ⊎ (p ≡ Forward) → IsDescent p
-descends p h = elim h [
-  | inl e ↦ subst IsDescent (sym e) tt
-  | inr rest ↦ elim rest [
-    | inl e ↦ subst IsDescent (sym e) tt
-    | inr rest ↦ elim rest [
-      | inl e ↦ subst IsDescent (sym e) tt
-      | inr rest ↦ elim rest [
-        | inl e ↦ subst IsDescent (sym e) tt
-        | inr e ↦ subst IsDescent (sym e) tt
-      ]
-    ]
-  ]
-]
-
--- and those in which its right halves come to their parents
+-- the phases in which an operation's right halves come to their parents
 pub climbs : (p : Phase) → (p ≡ SplitPrev) ⊎ (p ≡ LockParent) ⊎ (p ≡ InsertChild) ⊎ (p ≡ InteriorSplit) ⊎ (p ≡ Reparent) ⊎ (p ≡ RootGrow) → IsClimb p
 climbs p h = elim h [
   | inl e ↦ subst IsClimb (sym e) tt
@@ -85,7 +68,8 @@ module _ (c now : Core) (o : ℕ) (is : c ≡ now) (found : Option Phase) (phase
   pub next_left : HasStep (shown now) o
   next_left = (view_of next.0, shown_there now.table o next.0 next.1, next.3)
 
-  -- it is at this phase
+-- an operation that is at this phase
+module _ (now : Core) (o : ℕ) (phase : Phase) (next : IsNext now o (λ p. p ≡ phase)) where
   pub next_at : (P : Phase → Type 0) → P phase → IsNext now o P
   next_at P holds = (next.0, next.1, subst P (sym next.2) holds)
 

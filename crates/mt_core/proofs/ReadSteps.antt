@@ -1,7 +1,7 @@
 -- What the steps of an operation that holds nothing ask of the invariant, and what they tell: for `Inner::descend`, `search`, `load` and `confirm`.
 use denote.Enum.Bare.{sameb, same_true}
 use Rattle.mt_operation.specs.contracts.walk.Phase.{the_type}
-use Rattle.std.proofs.Common.{rules, ◌≡◌, ◌≢◌, ℕ, ◌+◌, ◌<◌, ◌≤◌, ◌⊎◌, inl, inr, Bool, true, false, set, Result, Ok, Err, IfOk, IfErr, OnErr, Option, Some, None, refl, sym, ap, subst, ◌∙◌}
+use Rattle.std.proofs.Common.{rules, ◌≡◌, ◌≢◌, ℕ, ◌+◌, ◌<◌, ◌≤◌, ◌⊎◌, inl, inr, Bool, true, false, not, set, Option, Some, None, refl, sym, ap, subst, ◌∙◌, arith}
 use Rattle.std.specs.Prelude.{◌^◌}
 use Rattle.mt_rows.specs.declared.reply.Reply.TheVariants.{Absent, NoMemory}
 use Rattle.mt_rows.specs.Rows.{Columns}
@@ -13,14 +13,15 @@ use Rattle.mt_border.specs.declared.entry.FoundKind.TheVariants.{ThisKey, OtherL
 use Rattle.mt_arena.specs.Arena.{IsArena}
 use Rattle.mt_arena.specs.Accesses.{at}
 use Rattle.mt_operation.specs.declared.walk.Phase.{Phase}
-use Rattle.mt_operation.specs.declared.walk.Phase.TheVariants.{Search, Load, Confirm, Done}
+use Rattle.mt_operation.specs.declared.walk.Phase.TheVariants.{Enter, Pick, Child, Verify, Forward, Search, Load, Confirm, Done}
 use Rattle.mt_operation.specs.declared.walk.Walk.{Walk}
 use Rattle.mt_operation.specs.declared.outcome.Outcome.{Outcome}
 use Rattle.mt_operation.specs.declared.operation.Operation.{Operation}
 use Rattle.mt_operation.specs.Tasks.{ask}
-use Rattle.mt_operation.specs.Operations.{view_of, is_done, moved, counted, noted}
-use Rattle.mt_operation.specs.Tables.{Table, MayMove, op_at as operation_at}
-use Rattle.mt_operation.specs.Bodies.{Body, StepsBy, IsStoppedBy}
+use Rattle.mt_operation.specs.Operations.{view_of, is_done, is_unfinished, moved, counted, noted}
+use Rattle.mt_operation.specs.declared.steps.Made.{Made}
+use Rattle.mt_operation.specs.declared.steps.Made.TheVariants.{Step, Blocked, Nothing}
+use Rattle.mt_operation.specs.Tables.{Table, AreBefore, op_at as operation_at}
 use Rattle.mt_operation.proofs.Tables.{set_is}
 use Rattle.mt_descent.specs.Pasts.{Past, IsNow}
 use Rattle.mt_descent.specs.Kept.{IsAtBorder, IsAtLoad as WalksLoad, IsAtConfirm as WalksConfirm, KeptAt, IsKept}
@@ -40,27 +41,17 @@ use Rattle.mt_state.proofs.Still.{IsFree, holds_nothing, nothing_changes}
 use Rattle.mt_state.proofs.Reading.{way_of, descend_done, search_missing, search_found}
 use Rattle.mt_state.proofs.Loading.{load_taken, load_stopped}
 use Rattle.mt_state.proofs.Confirming.{get_of, confirm_done, confirm_back}
-use Rattle.mt_core.specs.Nexts.{IsNext, Counts, ending}
-use Rattle.mt_core.specs.Looks.{Looks, led_to, TellsDescended, TellsSearched, TellsLoaded, TellsConfirmed}
+use Rattle.mt_core.specs.Nexts.{IsNoLook, ending}
+use Rattle.mt_core.specs.Looks.{Looks, LooksAt, MayDescend, MayLook, led_to, TellsDescended, TellsSearched, TellsLoaded, TellsConfirmed}
 use Rattle.mt_core.specs.Points.{IsAtPoint, Nears, StepsOn}
 use Rattle.mt_core.proofs.Points.{point_first, nears_by}
-use Rattle.mt_core.proofs.Following.{phase_is, may_move, holder_open, in_the_way}
+use Rattle.mt_core.proofs.Following.{holder_open, in_the_way}
 use Rattle.mt_core.proofs.LookPoints.{search_nears, load_nears, confirm_nears}
 
 -- who holds nothing has a step left
 free_unfinished : (p : Phase) → IsFree p → is_done p ≡ false
 free_unfinished Done f = absurd f
 free_unfinished _ f = refl
-
--- by the phase
-pub search_hands : (p : Phase) → p ≡ Search → IsFree p
-search_hands p e = subst IsFree (sym e) tt
-
-pub load_hands : (p : Phase) → p ≡ Load → IsFree p
-load_hands p e = subst IsFree (sym e) tt
-
-pub confirm_hands : (p : Phase) → p ≡ Confirm → IsFree p
-confirm_hands p e = subst IsFree (sym e) tt
 
 -- phases that a comparison finds to be the same, or not
 pub confirm_if : (p : Phase) → true ≡ sameb the_type p Confirm → p ≡ Confirm
@@ -103,10 +94,6 @@ abbrev stepped : Core → Table → Core
 stepped c table = record c { steps = c.steps + 1; table = table }
 
 module _ (c now : Core) (o : ℕ) (is : c ≡ now) (h : StateInvariant c) (room : now.steps < 2 ^ 59) (op : Operation) (there : operation_at c.table o ≡ Some op) where
-  -- the next step may be made by an operation that holds nothing
-  pub free_moves : IsFree op.walk.phase → MayMove c.table o (c.steps + 1)
-  free_moves free = may_move c o h op there (free_unfinished op.walk.phase free)
-
   -- where another operation is in the way, nothing happens
   pub blocked : IsFree op.walk.phase → (holder : ℕ) → IsInTheWay c.arena op.walk.phase holder → (answer : Move) → answer ≡ Again holder → StepsOn now now o answer
   blocked free holder way answer again =
@@ -307,28 +294,79 @@ module _ (c now : Core) (o : ℕ) (is : c ≡ now) (h : StateInvariant c) (room 
         (confirm_gives_back at_confirm after.walk t.same t.confirms t.kept other table (led_table after after.walk None (t.goes_on other) table e))
   ]
 
--- a step by a body, whatever comes of it
-module _ (c now : Core) (o : ℕ) (is : c ≡ now) (h : StateInvariant c) (room : now.steps < 2 ^ 59) (P : Phase → Type 0) (free : (phase : Phase) → P phase → IsFree phase) (next : IsNext now o P) where
-  -- the operation may make it
-  pub body_moves : MayMove c.table o (c.steps + 1)
-  body_moves = let n = subst (λ (x : Core). IsNext x o P) (sym is) next in free_moves c now o is h room n.0 n.1 (free n.0.walk.phase n.2)
+  -- who is about to look may do so
+  may_descend : IsDescent op.walk.phase → MayDescend c.arena op
+  may_descend phase = record { phase = phase; kept = (past_of c, descent_kept phase); unremoved = h.unremoved }
 
-  -- the phase of the operation that is there
-  pub body_phase : (op : Operation) → operation_at c.table o ≡ Some op → P op.walk.phase
-  body_phase op there = phase_is c now o P is op there next
+  pub may_look : (p : Phase) → op.walk.phase ≡ p → MayLook p c.arena op
+  may_look Enter e = may_descend (subst IsDescent (sym e) tt)
+  may_look Pick e = may_descend (subst IsDescent (sym e) tt)
+  may_look Child e = may_descend (subst IsDescent (sym e) tt)
+  may_look Verify e = may_descend (subst IsDescent (sym e) tt)
+  may_look Forward e = may_descend (subst IsDescent (sym e) tt)
+  may_look Search e = record { phase = e; kept = search_kept e }
+  may_look Load e = record { phase = e; get = load_gets e; columns = asked_columns; kept = load_kept e }
+  may_look Confirm e = record { phase = e; kept = confirm_kept e }
+  may_look _ e = tt
 
-  -- the state after it, counted where it is made
-  pub body_gives : (Makes : Body) (Tells : Operation → Operation → Type 0) → ((op : Operation) (there : operation_at c.table o ≡ Some op) → P op.walk.phase → Comes c now o is h room op there Tells)
-      → (table : Table) (came : Result Phase ℕ) → IfOk came (λ phase. StepsBy Makes c.table table o (c.steps + 1) phase) → IfErr came (λ holder. IsStoppedBy Makes c.table o holder) → OnErr came (table ≡ c.table)
-      → ((op : Operation) (r : Option ℕ) (after : Operation) → Makes op r after → Looks c.arena Tells op r after)
-      → (steps : ℕ) (answer : Move) → Counts c.steps came steps answer → StateInvariant (record c { steps = steps; table = table }) × StepsOn now (record c { steps = steps; table = table }) o answer
-  body_gives Makes Tells comes table (Ok phase) made stopped unchanged looks steps answer counts =
-      let m = looks made.op None made.after made.makes in
-      subst (λ (n : ℕ). StateInvariant (record c { steps = n; table = table }) × StepsOn now (record c { steps = n; table = table }) o answer) (sym counts.0)
-      (comes made.op made.there (body_phase made.op made.there) made.after m table made.table answer (counts.1 ∙ ap ending made.phase))
-  body_gives Makes Tells comes table (Err holder) made stopped unchanged looks steps answer counts =
-      let m = looks stopped.op (Some holder) stopped.op stopped.makes in
-      let same : record c { steps = steps; table = table } ≡ c = ap (λ (n : ℕ). record c { steps = n; table = table }) counts.0 ∙ ap (λ (t : Table). record c { table = t }) unchanged in (
-        subst StateInvariant (sym same) h,
-        subst (λ (x : Core). StepsOn now x o answer) (sym (same ∙ is)) (blocked c now o is h room stopped.op stopped.there (free stopped.op.walk.phase (body_phase stopped.op stopped.there)) holder m.0 answer counts.1),
-      )
+  -- a look is made by an operation with a step left
+  pub look_unfinished : (p : Phase) → op.walk.phase ≡ p → (step : ℕ) (after : Operation) → LooksAt p c.arena step op Step after → is_unfinished op ≡ true
+  look_unfinished Done e step after t = absurd (let no_step : ◌≡◌ {A = Made} Step Nothing = t.0 in cc)
+  look_unfinished _ e step after t = ap (λ (q : Phase). not (is_done q)) e
+
+  -- and leaves it as it was where none is made
+  looks_leave : (Tells : Operation → Operation → Type 0) (made : Made) (after : Operation) → made ≢ Step → Looks c.arena Tells op made after → after ≡ op
+  looks_leave Tells Step after other t = absurd (other refl)
+  looks_leave Tells (Blocked holder) after other t = t.1
+  looks_leave Tells Nothing after other t = absurd t
+
+  pub look_leaves : (p : Phase) (step : ℕ) (made : Made) (after : Operation) → made ≢ Step → LooksAt p c.arena step op made after → after ≡ op
+  look_leaves Enter step made after other t = looks_leave (TellsDescended c.arena) made after other t
+  look_leaves Pick step made after other t = looks_leave (TellsDescended c.arena) made after other t
+  look_leaves Child step made after other t = looks_leave (TellsDescended c.arena) made after other t
+  look_leaves Verify step made after other t = looks_leave (TellsDescended c.arena) made after other t
+  look_leaves Forward step made after other t = looks_leave (TellsDescended c.arena) made after other t
+  look_leaves Search step made after other t = looks_leave (TellsSearched c.arena step) made after other t
+  look_leaves Load step made after other t = looks_leave (TellsLoaded c.arena step) made after other t
+  look_leaves Confirm step made after other t = looks_leave (TellsConfirmed c.arena) made after other t
+  look_leaves _ step made after other t = t.1
+
+  -- what a look gives that was made
+  pub look_comes : IsArena c.arena.nodes c.arena.trees → (p : Phase) → op.walk.phase ≡ p → Comes (λ x after. LooksAt p c.arena (c.steps + 1) x Step after)
+  look_comes arena Enter e = descent_comes (subst IsDescent (sym e) tt)
+  look_comes arena Pick e = descent_comes (subst IsDescent (sym e) tt)
+  look_comes arena Child e = descent_comes (subst IsDescent (sym e) tt)
+  look_comes arena Verify e = descent_comes (subst IsDescent (sym e) tt)
+  look_comes arena Forward e = descent_comes (subst IsDescent (sym e) tt)
+  look_comes arena Search e = search_comes arena e
+  look_comes arena Load e = load_comes arena e
+  look_comes arena Confirm e = confirm_comes e
+  look_comes arena _ e = λ after t. absurd (let no_step : ◌≡◌ {A = Made} Step Nothing = t.0 in cc)
+
+  -- where somebody is in the way, that one is told
+  pub look_blocked : (p : Phase) → op.walk.phase ≡ p → (step holder : ℕ) (after : Operation) → LooksAt p c.arena step op (Blocked holder) after → (answer : Move) → answer ≡ Again holder → StepsOn now now o answer
+  look_blocked Enter e step holder after t = blocked (subst IsFree (sym e) tt) holder t.0
+  look_blocked Pick e step holder after t = blocked (subst IsFree (sym e) tt) holder t.0
+  look_blocked Child e step holder after t = blocked (subst IsFree (sym e) tt) holder t.0
+  look_blocked Verify e step holder after t = blocked (subst IsFree (sym e) tt) holder t.0
+  look_blocked Forward e step holder after t = blocked (subst IsFree (sym e) tt) holder t.0
+  look_blocked Search e step holder after t = blocked (subst IsFree (sym e) tt) holder t.0
+  look_blocked Load e step holder after t = blocked (subst IsFree (sym e) tt) holder t.0
+  look_blocked Confirm e step holder after t = blocked (subst IsFree (sym e) tt) holder t.0
+  look_blocked _ e step holder after t = λ answer again. absurd (let no_block : ◌≡◌ {A = Made} (Blocked holder) Nothing = t.0 in cc)
+
+  -- and a step that is left to others is no look
+  pub look_left : (p : Phase) (step : ℕ) (after : Operation) → LooksAt p c.arena step op Nothing after → IsNoLook p
+  look_left Enter step after t = absurd t
+  look_left Pick step after t = absurd t
+  look_left Child step after t = absurd t
+  look_left Verify step after t = absurd t
+  look_left Forward step after t = absurd t
+  look_left Search step after t = absurd t
+  look_left Load step after t = absurd t
+  look_left Confirm step after t = absurd t
+  look_left _ step after t = tt
+
+-- no first step has the number of the next step
+pub are_before : (c : Core) (h : StateInvariant c) → AreBefore c.table (c.steps + 1)
+are_before c h q op there = let k = (h.ops q op there).always in omega (arith, k.order, k.made)

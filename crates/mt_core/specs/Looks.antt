@@ -7,7 +7,10 @@ use Rattle.mt_rows.specs.declared.reply.Reply.TheVariants.{Absent, NoMemory}
 use Rattle.mt_border.specs.declared.entry.Find.{Find}
 use Rattle.mt_arena.specs.Arena.{ArenaView}
 use Rattle.mt_arena.specs.Accesses.{at}
-use Rattle.mt_operation.specs.declared.walk.Phase.TheVariants.{Search, Load, Confirm, Done}
+use Rattle.mt_operation.specs.declared.walk.Phase.{Phase}
+use Rattle.mt_operation.specs.declared.walk.Phase.TheVariants.{Enter, Pick, Child, Verify, Forward, Search, Load, Confirm, Done}
+use Rattle.mt_operation.specs.declared.steps.Made.{Made}
+use Rattle.mt_operation.specs.declared.steps.Made.TheVariants.{Step, Blocked, Nothing}
 use Rattle.mt_operation.specs.declared.walk.Walk.{Walk}
 use Rattle.mt_operation.specs.declared.outcome.Outcome.{Outcome}
 use Rattle.mt_operation.specs.declared.splits.Splits.{Splits}
@@ -23,9 +26,10 @@ use Rattle.mt_state.specs.Invariant.{IsUnremoved}
 use Rattle.mt_core.specs.Points.{IsAtPoint}
 
 -- what a step makes of an operation that holds nothing, where nobody is in its way; else it is as it was
-abbrev pub Looks : ArenaView → (Operation → Operation → Type 0) → Operation → Option ℕ → Operation → Type 0
-Looks v Tells op None after = Tells op after
-Looks v Tells op (Some holder) after = IsInTheWay v op.walk.phase holder × (after ≡ op)
+abbrev pub Looks : ArenaView → (Operation → Operation → Type 0) → Operation → Made → Operation → Type 0
+Looks v Tells op Step after = Tells op after
+Looks v Tells op (Blocked holder) after = IsInTheWay v op.walk.phase holder × (after ≡ op)
+Looks v Tells op Nothing after = ⊥
 
 -- an operation has walked on, and has this outcome or none; all else of it is as it was
 abbrev pub led_to : Operation → Walk → Option Outcome → Operation
@@ -82,3 +86,27 @@ pub record TellsConfirmed (v : ArenaView) (op after : Operation) : Type 0 where
   pub kept : (past : Past) (row : Option Columns) → IsAtConfirm v past op.task.key row op.walk → IsKept v past op.task.key row after.walk
   pub done : after.walk.phase ≡ Done → after ≡ led_to op after.walk op.outcome
   pub goes_on : after.walk.phase ≢ Done → after ≡ led_to op after.walk None
+
+-- an operation may make the next step by a look, by its phase, or that step is none
+abbrev pub MayLook : Phase → ArenaView → Operation → Type 0
+MayLook Enter v op = MayDescend v op
+MayLook Pick v op = MayDescend v op
+MayLook Child v op = MayDescend v op
+MayLook Verify v op = MayDescend v op
+MayLook Forward v op = MayDescend v op
+MayLook Search v op = MaySearch v op
+MayLook Load v op = MayLoad v op
+MayLook Confirm v op = MayConfirm v op
+MayLook _ v op = Unit {0}
+
+-- what the step of this number makes of it then; nothing, where it is none
+abbrev pub LooksAt : Phase → ArenaView → ℕ → Operation → Made → Operation → Type 0
+LooksAt Enter v step op made after = Looks v (TellsDescended v) op made after
+LooksAt Pick v step op made after = Looks v (TellsDescended v) op made after
+LooksAt Child v step op made after = Looks v (TellsDescended v) op made after
+LooksAt Verify v step op made after = Looks v (TellsDescended v) op made after
+LooksAt Forward v step op made after = Looks v (TellsDescended v) op made after
+LooksAt Search v step op made after = Looks v (TellsSearched v step) op made after
+LooksAt Load v step op made after = Looks v (TellsLoaded v step) op made after
+LooksAt Confirm v step op made after = Looks v (TellsConfirmed v) op made after
+LooksAt _ v step op made after = (made ≡ Nothing) × (after ≡ op)

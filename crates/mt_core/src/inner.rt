@@ -4,16 +4,15 @@
 //! operation is shown whole, with what it remembers on its way; `State` shows its steps and its reply
 //! alone. Units: steps by their numbers, which begin at 1.
 
-ghost use Rattle.std.specs.Prelude.{◌≡◌, ◌≢◌, ◌+◌, ◌<◌, ◌≤◌, ◌^◌, ℕ, IsSome, IfOk, IfErr, OnOk, OnErr, length, slice_set, Some, None, []};
+ghost use Rattle.std.specs.Prelude.{◌≡◌, ◌≢◌, ◌+◌, ◌<◌, ◌≤◌, ◌^◌, IsSome, IfOk, IfErr, OnOk, OnErr, length, slice_set, Some, None, []};
 ghost use Rattle.std.specs.Option.{option_map};
 ghost use Rattle.mt_rows.specs.Accounts.{account_of};
 ghost use Rattle.mt_arena.specs.Arena.{IsArena};
 ghost use Rattle.mt_state.specs.Views.{shown};
 ghost use Rattle.mt_state.specs.Invariant.{StateInvariant};
 ghost use Rattle.mt_state.specs.Begins.{new_state, HaveNoPairs};
-ghost use Rattle.mt_state.specs.Ways.{IsDescent};
 ghost use Rattle.mt_state.specs.Writes.{IsClimb, IsLayerPhase};
-ghost use Rattle.mt_core.specs.Looks.{Looks, MayDescend, MaySearch, MayLoad, MayConfirm, TellsDescended, TellsSearched, TellsLoaded, TellsConfirmed};
+ghost use Rattle.mt_core.specs.Looks.{LooksAt, MayLook};
 ghost use Rattle.mt_core.specs.Tickets.{TellsTake, TellsCancel};
 ghost use Rattle.mt_core.specs.Admitted.{MayAdmit, TellsAdmitted, RefusesOpening, IsAccepted, IsRefusedFor};
 ghost use Rattle.mt_core.specs.Rights.{IsRightState};
@@ -22,7 +21,7 @@ ghost use Rattle.mt_core.specs.Alone.{Runs, IsAlone, EndsAlone};
 ghost use Rattle.mt_core.specs.Points.{StepsOn};
 ghost use Rattle.mt_core.specs.Drains.{Drains};
 ghost use Rattle.mt_core.specs.Tidies.{Tidies, TidiesInto, HandsOutRest};
-ghost use Rattle.mt_core.specs.Nexts.{IsNext, Counts, ending};
+ghost use Rattle.mt_core.specs.Nexts.{IsNext, IsNoLook, ending};
 ghost use Rattle.mt_operation.specs.declared.operation.Operation.{Operation as AnyOperation};
 ghost use Rattle.mt_operation.specs.Operations.{OperationView, view_of};
 ghost use Rattle.mt_operation.specs.Tables.{op_at as operation_at};
@@ -32,13 +31,13 @@ use crate::climbs::{Climbed, climb_on};
 use crate::displaced::Displaced;
 use crate::drains::{least_of, none_given, records_after};
 use crate::layers::build_on;
-use crate::looks::{confirm_row, descend, load_row, no_memory, search_key};
+use crate::looks::{look, no_memory};
 use crate::openings::{Opening, give_back, give_up};
 use mt_arena::Arena;
 use mt_descent::lock;
 use mt_insert::{Judged, judge, publish, split_move, split_start, store, unlock, unlock_all};
 use mt_layer::leave;
-use mt_operation::{Operation, Operations, Outcome, Phase, Prepared, Splits};
+use mt_operation::{Operation, Operations, Outcome, Phase, Prepared, Splits, Stepped};
 use mt_rows::{Batch, Refusal, Reply, Tenants};
 use mt_runs::Answer;
 use mt_state::Move;
@@ -232,24 +231,73 @@ impl Inner {
         unreachable!()
     }
 
-    /// Makes one step of an operation. Each phase is a call of its own, so that none pays for the frame
-    /// of another.
+    /// Makes one step of an operation.
     pub(crate) fn step(&mut self, id: usize) -> Move
         ensures { StepsOn self.old self.new id result }
     {
-        let Some(phase) = next_phase(&self.operations, id) else {
-            return Move::NoSuch;
-        };
         if self.steps >= MAX_STEPS {
-            return Move::Spent;
+            return self.spent(id);
         }
-        match phase {
-            Phase::Enter | Phase::Pick | Phase::Child | Phase::Verify | Phase::Forward => {
-                self.descend(id)
+        match self.look(id) {
+            Ok(answer) => answer,
+            Err(phase) => self.write(id, phase),
+        }
+    }
+
+    // What an operation is told where no step can be numbered any more.
+    #[inline(never)]
+    fn spent(&self, id: usize) -> Move
+        requires { 2 ^ 59 ≤ self.now.steps }
+        ensures { StepsOn self.now self.now id result }
+    {
+        match next_phase(&self.operations, id) {
+            Some(_) => Move::Spent,
+            None => Move::NoSuch,
+        }
+    }
+
+    // Makes the step in its place where it is a look. An error tells the operation's phase where it is
+    // none, and nothing has happened.
+    #[inline]
+    fn look(&mut self, id: usize) -> Result<Move, Phase>
+        requires few { self.old.steps < 2 ^ 59 }
+        ensures looks { IfOk result (λ answer. StepsOn self.old self.new id answer) }
+        ensures others { IfErr result (λ phase. IsNext self.old id (λ p. p ≡ phase) × IsNoLook phase) }
+        ensures unchanged_on_err { OnErr result (self.new ≡ self.old) }
+    {
+        self.arena.facts();
+        let step = self.steps + 1;
+        let alloc = self.alloc;
+        let arena = &self.arena;
+        let stepped = self.operations.step_by(
+            id,
+            step,
+            |operation|
+                requires { MayLook operation.old.walk.phase arena.now operation.old }
+                ensures { LooksAt operation.old.walk.phase arena.entry.now step operation.old result operation.new }
+            { look(alloc, arena, operation, step) },
+        );
+        match stepped {
+            Stepped::To(phase) => {
+                self.steps = step;
+                Ok(ending(phase))
             }
-            Phase::Search => self.search(id),
-            Phase::Load => self.load(id),
-            Phase::Confirm => self.confirm(id),
+            Stepped::Blocked(holder) => Ok(again(holder)),
+            Stepped::Left(phase) => Err(phase),
+            Stepped::Absent => Ok(Move::NoSuch),
+        }
+    }
+
+    // Makes a step that is no look, where one is left. Each phase is a call of its own, so that none pays for the frame of
+    // another.
+    #[inline(never)]
+    fn write(&mut self, id: usize, phase: Phase) -> Move
+        requires next { IsNext self.old id (λ p. p ≡ phase) }
+        requires others { IsNoLook phase }
+        requires few { self.old.steps < 2 ^ 59 }
+        ensures { StepsOn self.old self.new id result }
+    {
+        match phase {
             Phase::Lock => self.lock(id),
             Phase::Judge => self.judge(id),
             Phase::Store => self.store(id),
@@ -267,6 +315,7 @@ impl Inner {
             }
             Phase::Unlock => self.unlock(id),
             Phase::Done => Move::NoSuch,
+            _ => unreachable!(),
         }
     }
 
@@ -276,94 +325,6 @@ impl Inner {
         ensures arena { IsArena self.now.arena.nodes self.now.arena.trees }
     {
         self.arena.facts();
-    }
-
-    // Goes down the tree, or on to the next node.
-    #[inline(never)]
-    fn descend(&mut self, id: usize) -> Move
-        requires next { IsNext self.old id IsDescent }
-        requires few { self.old.steps < 2 ^ 59 }
-        ensures { StepsOn self.old self.new id result }
-    {
-        self.arena.facts();
-        let step = self.steps + 1;
-        let arena = &self.arena;
-        let came = self.operations.step_by(
-            id,
-            step,
-            |operation|
-                requires { MayDescend arena.now operation.old }
-                ensures { Looks arena.entry.now (TellsDescended arena.entry.now) operation.old result operation.new }
-            { descend(arena, operation) },
-        );
-        count(&mut self.steps, came)
-    }
-
-    // Looks for the key.
-    #[inline(never)]
-    fn search(&mut self, id: usize) -> Move
-        requires next { IsNext self.old id (λ phase. phase ≡ Phase.Search) }
-        requires few { self.old.steps < 2 ^ 59 }
-        ensures { StepsOn self.old self.new id result }
-    {
-        self.arena.facts();
-        let step = self.steps + 1;
-        let arena = &self.arena;
-        let came = self.operations.step_by(
-            id,
-            step,
-            |operation|
-                requires { MaySearch arena.now operation.old }
-                ensures { Looks arena.entry.now (TellsSearched arena.entry.now step) operation.old result operation.new }
-            {
-                search_key(arena, operation, step);
-                None
-            },
-        );
-        count(&mut self.steps, came)
-    }
-
-    // Takes the row of the slot that was found.
-    #[inline(never)]
-    fn load(&mut self, id: usize) -> Move
-        requires next { IsNext self.old id (λ phase. phase ≡ Phase.Load) }
-        requires few { self.old.steps < 2 ^ 59 }
-        ensures { StepsOn self.old self.new id result }
-    {
-        self.arena.facts();
-        let step = self.steps + 1;
-        let alloc = self.alloc;
-        let arena = &self.arena;
-        let came = self.operations.step_by(
-            id,
-            step,
-            |operation|
-                requires { MayLoad arena.now operation.old }
-                ensures { Looks arena.entry.now (TellsLoaded arena.entry.now step) operation.old result operation.new }
-            { load_row(alloc, arena, operation, step) },
-        );
-        count(&mut self.steps, came)
-    }
-
-    // Compares the version with the one that was remembered.
-    #[inline(never)]
-    fn confirm(&mut self, id: usize) -> Move
-        requires next { IsNext self.old id (λ phase. phase ≡ Phase.Confirm) }
-        requires few { self.old.steps < 2 ^ 59 }
-        ensures { StepsOn self.old self.new id result }
-    {
-        self.arena.facts();
-        let step = self.steps + 1;
-        let arena = &self.arena;
-        let came = self.operations.step_by(
-            id,
-            step,
-            |operation|
-                requires { MayConfirm arena.now operation.old }
-                ensures { Looks arena.entry.now (TellsConfirmed arena.entry.now) operation.old result operation.new }
-            { confirm_row(arena, operation) },
-        );
-        count(&mut self.steps, came)
     }
 
     // Takes the lock of the border node.
@@ -660,20 +621,6 @@ impl Inner {
         self.operations.swap_splits(id, &mut splits);
         self.operations.go_on(id, self.steps, &walk);
         Move::Done
-    }
-}
-
-// What a step answers that came to a phase, and is counted then, or in whose way somebody was.
-fn count(steps: &mut u64, came: Result<Phase, usize>) -> Move
-    requires { steps.old < 2 ^ 59 }
-    ensures { Counts steps.old came steps.new result }
-{
-    match came {
-        Ok(phase) => {
-            *steps += 1;
-            ending(phase)
-        }
-        Err(holder) => again(holder),
     }
 }
 

@@ -1,42 +1,67 @@
 //! The steps of an operation that holds nothing: where it goes down, and what a get takes.
 
-ghost use Rattle.std.specs.Prelude.{◌≡◌, ◌+◌, ℕ, true, List, Option, None, IfOk, IfErr, IfSome, IfNone};
+ghost use Rattle.std.specs.Prelude.{◌≡◌, ◌+◌, ℕ, List, Option, None, IfOk, IfSome, IfNone};
 ghost use Rattle.std.specs.Option.{option_map};
 ghost use Rattle.mt_rows.specs.Rows.{shown as columns_shown};
 ghost use Rattle.mt_rows.specs.Commands.{HasColumns};
-ghost use Rattle.mt_rows.specs.Maps.{is_get};
 ghost use Rattle.mt_arena.specs.Accesses.{at};
 ghost use Rattle.mt_operation.specs.Tasks.{ask, command_of};
-ghost use Rattle.mt_descent.specs.Moves.{IsBlocked, IsBlockedAt, Continues, Loads};
 ghost use Rattle.mt_descent.specs.Pasts.{Past};
-ghost use Rattle.mt_descent.specs.Kept.{IsKept, IsAtBorder, IsAtLoad};
+ghost use Rattle.mt_descent.specs.Kept.{IsKept};
 ghost use Rattle.mt_state.specs.Promises.{IsInTheWay};
 ghost use Rattle.mt_state.specs.Notes.{columns_asked};
 ghost use Rattle.mt_state.specs.Ways.{IsDescent, Descends};
 ghost use Rattle.mt_state.specs.Invariant.{IsUnremoved};
 ghost use Rattle.mt_operation.specs.declared.splits.Splits.{Splits as AnySplits};
-ghost use Rattle.mt_core.specs.Looks.{Looks, MayDescend, MaySearch, MayLoad, MayConfirm, TellsDescended, TellsSearched, TellsLoaded, TellsConfirmed};
+ghost use Rattle.mt_core.specs.Looks.{Looks, LooksAt, MayLook, MayDescend, MaySearch, MayLoad, MayConfirm, TellsDescended, TellsSearched, TellsLoaded, TellsConfirmed};
 ghost use Rattle.mt_core.specs.Points.{IsAtPoint};
 
 use mt_arena::Arena;
 use mt_descent::{child, confirm, enter, forward, load, pick, search, verify};
-use mt_operation::{Operation, Outcome, Phase, Request, Walk};
+use mt_operation::{Made, Operation, Outcome, Phase, Request, Walk};
 use mt_rows::{Reply, Row};
 use mt_slices::StoredKey;
 use std::alloc::{AllocError, Global};
 
-/// Goes down the tree, or on to the next node, by the walk's phase. A number is that of the operation
-/// that is in the way: then no step is made.
-pub(crate) fn descend(arena: &Arena, operation: &mut Operation) -> Option<usize>
-    requires { MayDescend arena.now operation.old }
+/// Makes the step of this number of an operation that holds nothing, but for a lock; all other steps
+/// it leaves to others.
+#[inline]
+pub(crate) fn look(alloc: Global, arena: &Arena, operation: &mut Operation, step: u64) -> Made
+    requires { MayLook operation.old.walk.phase arena.now operation.old }
+    ensures { LooksAt operation.old.walk.phase arena.now step operation.old result operation.new }
+{
+    match operation.walk.phase {
+        Phase::Enter => descend(arena, operation, Phase::Enter),
+        Phase::Pick => descend(arena, operation, Phase::Pick),
+        Phase::Child => descend(arena, operation, Phase::Child),
+        Phase::Verify => descend(arena, operation, Phase::Verify),
+        Phase::Forward => descend(arena, operation, Phase::Forward),
+        Phase::Search => search_key(arena, operation, step),
+        Phase::Load => load_row(alloc, arena, operation, step),
+        Phase::Confirm => confirm_row(arena, operation),
+        _ => Made::Nothing,
+    }
+}
+
+// Goes down the tree, or on to the next node. A caller that knows the phase names it, so that its step
+// is put in the place of the call.
+#[inline(always)]
+fn descend(arena: &Arena, operation: &mut Operation, phase: Phase) -> Made
+    requires phase { phase ≡ operation.old.walk.phase }
+    requires may { MayDescend arena.now operation.old }
     ensures { Looks arena.now (TellsDescended arena.now) operation.old result operation.new }
 {
-    go_down(arena, &operation.task.key, &mut operation.walk)
+    match go_down(arena, &operation.task.key, &mut operation.walk, phase) {
+        Some(holder) => Made::Blocked(holder),
+        None => Made::Step,
+    }
 }
 
 // The walk of an operation that goes down.
-fn go_down(arena: &Arena, key: &StoredKey, walk: &mut Walk) -> Option<usize>
-    requires phase { IsDescent walk.old.phase }
+#[inline(always)]
+fn go_down(arena: &Arena, key: &StoredKey, walk: &mut Walk, phase: Phase) -> Option<usize>
+    requires phase { phase ≡ walk.old.phase }
+    requires descends { IsDescent phase }
     requires kept { (past : Past) × IsKept arena.now past key.now None walk.old }
     requires unremoved { IsUnremoved arena.now }
     ensures again { IfSome result (λ holder. IsInTheWay arena.now walk.old.phase holder × (walk.new ≡ walk.old)) }
@@ -45,7 +70,7 @@ fn go_down(arena: &Arena, key: &StoredKey, walk: &mut Walk) -> Option<usize>
     ensures kept { (past : Past) → IfNone result (IsKept arena.now past key.now None walk.new) }
 {
     arena.facts();
-    match walk.phase {
+    match phase {
         Phase::Enter => enter(arena, key, walk),
         Phase::Pick => {
             pick(arena, key, walk);
@@ -58,32 +83,28 @@ fn go_down(arena: &Arena, key: &StoredKey, walk: &mut Walk) -> Option<usize>
     }
 }
 
-/// Looks for the key by the step of this number, and notes that it is missing where it is.
-pub(crate) fn search_key(arena: &Arena, operation: &mut Operation, step: u64)
+// Looks for the key by the step of this number, and notes that it is missing where it is.
+fn search_key(arena: &Arena, operation: &mut Operation, step: u64) -> Made
     requires { MaySearch arena.now operation.old }
-    ensures { TellsSearched arena.now step operation.old operation.new }
+    ensures { Looks arena.now (TellsSearched arena.now step) operation.old result operation.new }
 {
     search(arena, &operation.task.key, &mut operation.walk, step);
     if operation.walk.phase == Phase::Confirm {
         operation.outcome = Some(absent(step));
     }
+    Made::Step
 }
 
-/// Takes what a get finds in its slot by the step of this number, and notes what it answers where
-/// nothing changes till it has confirmed it. Where there is no memory for the row that it shows, it is
-/// done. A number is that of the operation that is in the way: then no step is made.
-pub(crate) fn load_row(
-    alloc: Global,
-    arena: &Arena,
-    operation: &mut Operation,
-    step: u64,
-) -> Option<usize>
+// Takes what a get finds in its slot by the step of this number, and notes what it answers where
+// nothing changes till it has confirmed it. Where there is no memory for the row that it shows, it is
+// done.
+fn load_row(alloc: Global, arena: &Arena, operation: &mut Operation, step: u64) -> Made
     requires { MayLoad arena.now operation.old }
     ensures { Looks arena.now (TellsLoaded arena.now step) operation.old result operation.new }
 {
     let row = match load(arena, &operation.task.key, &mut operation.walk) {
         Ok(row) => row,
-        Err(holder) => return Some(holder),
+        Err(holder) => return Made::Blocked(holder),
     };
     match shown(alloc, row, &operation.task.request) {
         Ok(reply) => operation.outcome = told(reply, operation.walk.right_at),
@@ -92,22 +113,22 @@ pub(crate) fn load_row(
             operation.outcome = Some(no_memory(step));
         }
     }
-    None
+    Made::Step
 }
 
-/// Compares the version with the one that was remembered: the get is done, or what it noted is
-/// forgotten. A number is that of the operation that is in the way: then no step is made.
-pub(crate) fn confirm_row(arena: &Arena, operation: &mut Operation) -> Option<usize>
+// Compares the version with the one that was remembered: the get is done, or what it noted is
+// forgotten.
+fn confirm_row(arena: &Arena, operation: &mut Operation) -> Made
     requires { MayConfirm arena.now operation.old }
     ensures { Looks arena.now (TellsConfirmed arena.now) operation.old result operation.new }
 {
     if let Some(holder) = confirm(arena, &operation.task.key, &mut operation.walk) {
-        return Some(holder);
+        return Made::Blocked(holder);
     }
     if operation.walk.phase != Phase::Done {
         operation.outcome = None;
     }
-    None
+    Made::Step
 }
 
 // What a get answers that took this row, if it took one.

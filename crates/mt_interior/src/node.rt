@@ -30,14 +30,16 @@ const SEPARATOR_PLACES: usize = SEPARATORS + 1;
 const CHILD_PLACES: usize = SEPARATOR_PLACES + 1;
 
 /// An interior node.
+// The version stands first, as in a border node, so that it is read without asking which of the two
+// kinds a node is.
 #[derive(Drop)]
 pub struct Interior {
+    version: Version,
     separators: ArrayVec<u64, SEPARATOR_PLACES>,
     children: ArrayVec<usize, CHILD_PLACES>,
     parent: Option<usize>,
     low: u64,
     high: Option<u64>,
-    version: Version,
 }
 
 impl Model for Interior {
@@ -66,12 +68,12 @@ impl Interior {
         ensures { result ≡ childless low high version }
     {
         Interior {
+            version,
             separators: ArrayVec::new(),
             children: ArrayVec::new(),
             parent: None,
             low,
             high,
-            version,
         }
     }
 

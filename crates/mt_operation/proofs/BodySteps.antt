@@ -1,15 +1,19 @@
 -- A step that a body makes in a seat, and what it makes of the table: for step_by of table.rt.
-use Rattle.std.proofs.Common.{◌≡◌, ℕ, true, false, set, Some, None, refl, sym, ap, subst, ◌∙◌}
+use Rattle.std.proofs.Common.{◌≡◌, ◌≢◌, ℕ, Bool, true, false, set, Some, None, refl, sym, ap, subst, ◌∙◌}
 use Rattle.std.proofs.lemmas.Option.{same_Some}
+use Rattle.mt_operation.specs.declared.walk.Phase.{Phase}
 use Rattle.mt_operation.specs.declared.operation.Operation.{Operation}
 use Rattle.mt_operation.specs.declared.queue.Seat.{Seat}
 use Rattle.mt_operation.specs.declared.queue.Ends.{Ends}
-use Rattle.mt_operation.specs.declared.queue.Stepped.{Stepped}
+use Rattle.mt_operation.specs.declared.steps.Made.{Made}
+use Rattle.mt_operation.specs.declared.steps.Made.TheVariants.{Step, Blocked as BlockedBy, Nothing}
+use Rattle.mt_operation.specs.declared.steps.Stepped.{Stepped}
+use Rattle.mt_operation.specs.declared.steps.Stepped.TheVariants.{To, Blocked, Left, Absent}
 use Rattle.mt_operation.specs.Operations.{counted}
-use Rattle.mt_operation.specs.Tables.{Table, op_at, MayMove}
+use Rattle.mt_operation.specs.Tables.{Table, op_at, AreBefore, MayMove}
 use Rattle.mt_operation.specs.Seats.{Seats, seat_at, operation_in, table_of, is_still, IsEndOrSeat}
 use Rattle.mt_operation.specs.Queues.{IsTable, LinksLast, Becomes}
-use Rattle.mt_operation.specs.Bodies.{Body, StepsBy, IsStoppedBy, LeavesStopped, SeatStepsBy, SeatStopsBy}
+use Rattle.mt_operation.specs.Bodies.{Body, MovesUnfinished, LeavesElse, MovesBy, StaysBy, StepsBy, SeatMovesBy, SeatStaysBy, SeatStepsBy}
 use Rattle.mt_operation.proofs.Tables.{set_same}
 use Rattle.mt_operation.proofs.Links.{op_seat}
 use Rattle.mt_operation.proofs.TableMoves.{became_table, last_new, moved_there, moved_last, moved_first, moved_later}
@@ -19,53 +23,112 @@ module _ (Makes : Body) (p0 p1 : Seats) (now : Table) (o : ℕ) (is : table_of p
   shown_there : (seat : Seat) → seat_at p0 o ≡ Some seat → op_at now o ≡ Some seat.operation
   shown_there seat at = ap (λ t. op_at t o) (sym is) ∙ op_seat p0 o ∙ ap operation_in at
 
-  module _ (holder : ℕ) (s : SeatStopsBy Makes p0 p1 o holder) (leaves : LeavesStopped Makes now o) where
+  module _ (leaves : LeavesElse Makes now o) (is_first : Bool) (made : Made) (other : made ≢ Step) (s : SeatStaysBy Makes p0 p1 o is_first made) where
     same : s.after ≡ s.seat.operation
-    same = leaves s.seat.operation s.after holder (shown_there s.seat s.there) s.makes
+    same = leaves s.seat.operation s.after made other (shown_there s.seat s.there) s.makes
 
-    -- where somebody is in the way, nothing has changed
-    pub stopped_same : p1 ≡ p0
-    stopped_same = s.slots ∙ ap (λ (op : Operation). set p0 o (Some (record s.seat { operation = op }))) same ∙ set_same p0 o (Some s.seat) s.there
+    -- where the body makes no step, nothing has changed
+    stays_same : p1 ≡ p0
+    stays_same = s.slots ∙ ap (λ (op : Operation). set p0 o (Some (record s.seat { operation = op }))) same ∙ set_same p0 o (Some s.seat) s.there
 
-    pub stopped_by : IsStoppedBy Makes now o holder
-    stopped_by = record { op = s.seat.operation; there = shown_there s.seat s.there; makes = subst (λ op. Makes s.seat.operation (Some holder) op) same s.makes }
+    stays_by : StaysBy Makes now o made
+    stays_by = record { op = s.seat.operation; there = shown_there s.seat s.there; makes = subst (λ op. Makes s.seat.operation made op) same s.makes }
 
-  module _ (ends : Ends) (step : ℕ) (stepped : Stepped) (h : IsTable p0 ends) (may : MayMove now o step) (s : SeatStepsBy Makes p0 p1 o step stepped) where
+  module _ (ends : Ends) (step : ℕ) (h : IsTable p0 ends) (later : AreBefore now step) (moves : MovesUnfinished Makes now o) (is_first : Bool) (phase : Phase) (s : SeatMovesBy Makes p0 p1 o step is_first phase) where
     abbrev to : Operation → Operation
     to op = counted s.after step op.walk.first
 
     becomes : Becomes p0 p1 o to
     becomes seat at = s.slots ∙ ap (λ (x : Seat). set p0 o (Some (record x { operation = to x.operation }))) (same_Some s.seat seat (sym s.there ∙ at))
 
-    still_is : is_still (seat_at p0 o) ≡ stepped.is_first
+    still_is : is_still (seat_at p0 o) ≡ is_first
     still_is = ap is_still s.there ∙ sym s.first
 
-    pub first_there : stepped.is_first ≡ true → IsEndOrSeat p1 (Some o)
-    first_there first = moved_there p0 p1 ends now o step s.after.walk is h may to (λ op. refl) becomes (still_is ∙ first)
+    may : MayMove now o step
+    may = record {
+      later = later;
+      unfinished = λ op there. moves op s.after there (subst (λ (x : Operation). Makes x Step s.after) (same_Some s.seat.operation op (sym (shown_there s.seat s.there) ∙ there)) s.makes);
+    }
 
-    pub first_last : stepped.is_first ≡ true → IsEndOrSeat p1 ends.last
-    first_last first = moved_last p0 p1 ends now o step s.after.walk is h may to (λ op. refl) becomes (still_is ∙ first)
+    move_there : is_first ≡ true → IsEndOrSeat p1 (Some o)
+    move_there first = moved_there p0 p1 ends now o step s.after.walk is h may to (λ op. refl) becomes (still_is ∙ first)
 
-    pub first_new : stepped.is_first ≡ true → ends.last ≡ Some o → ⊥
-    first_new first = last_new p0 ends o h (still_is ∙ first)
+    move_last : is_first ≡ true → IsEndOrSeat p1 ends.last
+    move_last first = moved_last p0 p1 ends now o step s.after.walk is h may to (λ op. refl) becomes (still_is ∙ first)
+
+    move_new : is_first ≡ true → ends.last ≡ Some o → ⊥
+    move_new first = last_new p0 ends o h (still_is ∙ first)
 
     -- the table stays one
-    pub first_table : (p2 : Seats) (e1 : Ends) → stepped.is_first ≡ true → LinksLast p1 ends p2 e1 o → IsTable p2 e1
-    first_table p2 e1 first l = moved_first p0 p1 ends now o step s.after.walk is h may to (λ op. refl) becomes p2 e1 (still_is ∙ first) l
+    move_first : (p2 : Seats) (e1 : Ends) → is_first ≡ true → LinksLast p1 ends p2 e1 o → IsTable p2 e1
+    move_first p2 e1 first l = moved_first p0 p1 ends now o step s.after.walk is h may to (λ op. refl) becomes p2 e1 (still_is ∙ first) l
 
-    pub later_table : stepped.is_first ≡ false → IsTable p1 ends
-    later_table later = moved_later p0 p1 ends now o step s.after.walk is h may to (λ op. refl) becomes (λ none. absurd (gone none)) (still_is ∙ later)
+    move_later : is_first ≡ false → IsTable p1 ends
+    move_later still = moved_later p0 p1 ends now o step s.after.walk is h may to (λ op. refl) becomes (λ none. absurd (gone none)) (still_is ∙ still)
       where
         gone : seat_at p0 o ≡ None → ⊥
         gone none = let e = sym none ∙ s.there in cc
 
     -- and shows what the body made
-    pub steps_by : (p2 : Seats) → table_of p2 ≡ table_of p1 → StepsBy Makes now (table_of p2) o step stepped.phase
-    steps_by p2 shows = record {
+    moves_by : (p2 : Seats) → table_of p2 ≡ table_of p1 → MovesBy Makes now (table_of p2) o step phase
+    moves_by p2 shows = record {
       op = s.seat.operation;
       there = shown_there s.seat s.there;
       after = s.after;
       makes = s.makes;
-      phase = s.phase;
+      phase_is = s.phase_is;
       table = shows ∙ became_table p0 p1 o to becomes p0 now s.seat.operation is refl (shown_there s.seat s.there);
     }
+
+  -- whatever comes of it
+  module _ (ends : Ends) (step : ℕ) (h : IsTable p0 ends) (later : AreBefore now step) (moves : MovesUnfinished Makes now o) (leaves : LeavesElse Makes now o) (is_first : Bool) where
+    no_first : (b : Bool) → b ≡ false → b ≡ true → ⊥
+    no_first b e f = let no : false ≡ true = sym e ∙ f in cc
+
+    -- the operation that makes its first step is to be put behind all others
+    pub first_there : (stepped : Stepped) → SeatStepsBy Makes p0 p1 o step is_first stepped → is_first ≡ true → IsEndOrSeat p1 (Some o)
+    first_there (To phase) s first = move_there ends step h later moves is_first phase s first
+    first_there (Blocked holder) s first = absurd (no_first is_first s.first first)
+    first_there (Left phase) s first = absurd (no_first is_first s.0.first first)
+    first_there Absent s first = absurd (no_first is_first s.2 first)
+
+    pub first_last : (stepped : Stepped) → SeatStepsBy Makes p0 p1 o step is_first stepped → is_first ≡ true → IsEndOrSeat p1 ends.last
+    first_last (To phase) s first = move_last ends step h later moves is_first phase s first
+    first_last (Blocked holder) s first = absurd (no_first is_first s.first first)
+    first_last (Left phase) s first = absurd (no_first is_first s.0.first first)
+    first_last Absent s first = absurd (no_first is_first s.2 first)
+
+    pub first_new : (stepped : Stepped) → SeatStepsBy Makes p0 p1 o step is_first stepped → is_first ≡ true → ends.last ≡ Some o → ⊥
+    first_new (To phase) s first = move_new ends step h later moves is_first phase s first
+    first_new (Blocked holder) s first = absurd (no_first is_first s.first first)
+    first_new (Left phase) s first = absurd (no_first is_first s.0.first first)
+    first_new Absent s first = absurd (no_first is_first s.2 first)
+
+    -- the table stays one
+    pub first_table : (stepped : Stepped) → SeatStepsBy Makes p0 p1 o step is_first stepped → is_first ≡ true → (p2 : Seats) (e1 : Ends) → LinksLast p1 ends p2 e1 o → IsTable p2 e1
+    first_table (To phase) s first p2 e1 l = move_first ends step h later moves is_first phase s p2 e1 first l
+    first_table (Blocked holder) s first p2 e1 l = absurd (no_first is_first s.first first)
+    first_table (Left phase) s first p2 e1 l = absurd (no_first is_first s.0.first first)
+    first_table Absent s first p2 e1 l = absurd (no_first is_first s.2 first)
+
+    pub later_table : (stepped : Stepped) → SeatStepsBy Makes p0 p1 o step is_first stepped → is_first ≡ false → IsTable p1 ends
+    later_table (To phase) s still = move_later ends step h later moves is_first phase s still
+    later_table (Blocked holder) s still = subst (λ (p : Seats). IsTable p ends) (sym (stays_same leaves is_first (BlockedBy holder) (λ e. absurd (cc)) s)) h
+    later_table (Left phase) s still = subst (λ (p : Seats). IsTable p ends) (sym (stays_same leaves is_first Nothing (λ e. absurd (cc)) s.0)) h
+    later_table Absent s still = subst (λ (p : Seats). IsTable p ends) (sym s.1) h
+
+    -- and shows what has come of it
+    pub steps_by : (stepped : Stepped) → SeatStepsBy Makes p0 p1 o step is_first stepped → (p2 : Seats) → table_of p2 ≡ table_of p1 → StepsBy Makes now (table_of p2) o step stepped
+    unfolding stays_by
+    steps_by (To phase) s p2 shows = moves_by ends step h later moves is_first phase s p2 shows
+    steps_by (Blocked holder) s p2 shows = (
+      stays_by leaves is_first (BlockedBy holder) (λ e. absurd (cc)) s,
+      shows ∙ ap table_of (stays_same leaves is_first (BlockedBy holder) (λ e. absurd (cc)) s) ∙ is,
+    )
+    steps_by (Left phase) s p2 shows =
+        let same_op = same leaves is_first Nothing (λ e. absurd (cc)) s.0 in (
+          stays_by leaves is_first Nothing (λ e. absurd (cc)) s.0,
+          s.1 ∙ ap (λ (op : Operation). op.walk.phase) same_op,
+          shows ∙ ap table_of (stays_same leaves is_first Nothing (λ e. absurd (cc)) s.0) ∙ is,
+        )
+    steps_by Absent s p2 shows = (ap (λ t. op_at t o) (sym is) ∙ op_seat p0 o ∙ ap operation_in s.0, shows ∙ ap table_of s.1 ∙ is)

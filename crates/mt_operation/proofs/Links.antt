@@ -96,6 +96,23 @@ pub before_named : (seats : Seats) (ends : Ends) (s : Option ℕ) (o : ℕ) (sea
 before_named seats ends s o seat to is at =
     subst (λ t. SetsBefore seats ends (set seats o (Some (record { operation = seat.operation; before = to; after = seat.after }))) ends t to) (sym is) (before_written seats ends o seat to at)
 
+-- what was written last is what stays
+written_again : (seats : Seats) (o : ℕ) (a b : Option Seat) → set (set seats o a) o b ≡ set seats o b
+written_again [] o a b = refl
+written_again (x ∷ seats) zero a b = refl
+written_again (x ∷ seats) (suc o) a b = ap (λ (t : Seats). x ∷ t) (written_again seats o a b)
+
+-- both links of a seat, one after the other
+pub put_behind_seat : (seats : Seats) (ends : Ends) (o : ℕ) (seat : Seat) (before : Option ℕ) → seat_at seats o ≡ Some seat
+    → (mid : Seats) × SetsAfter seats ends mid ends (Some o) None × SetsBefore mid ends (set seats o (Some (record { operation = seat.operation; before = before; after = None }))) ends (Some o) before
+put_behind_seat seats ends o seat before at =
+    let one : Seat = record { operation = seat.operation; before = seat.before; after = None } in
+    let both : Seat = record { operation = seat.operation; before = before; after = None } in (
+      set seats o (Some one),
+      after_written seats ends o seat None at,
+      subst (λ (p : Seats). SetsBefore (set seats o (Some one)) ends p ends (Some o) before) (written_again seats o (Some one) (Some both)) (before_written (set seats o (Some one)) ends o one before (set_is seats o one seat at)),
+    )
+
 -- an operation that has become another, by what it was and by what it is
 pub becomes_by : (seats : Seats) (o : ℕ) (seat : Seat) (f : Operation → Operation) (op : Operation) → seat_at seats o ≡ Some seat → op ≡ f seat.operation
     → Becomes seats (set seats o (Some (record seat { operation = op }))) o f

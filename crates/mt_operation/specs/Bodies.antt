@@ -1,50 +1,70 @@
 -- Steps that a body makes of an operation in its place, and what they make of the table.
-use Rattle.std.specs.Prelude.{◌≡◌, ℕ, ◌==◌, Option, Some, None, slice_set}
+use Rattle.std.specs.Prelude.{◌≡◌, ◌≢◌, ℕ, ◌==◌, Bool, true, false, Some, None, slice_set}
 use Rattle.mt_operation.specs.declared.walk.Phase.{Phase}
+use Rattle.mt_operation.specs.declared.steps.Made.{Made}
+use Rattle.mt_operation.specs.declared.steps.Made.TheVariants.{Step, Blocked as BlockedBy, Nothing}
+use Rattle.mt_operation.specs.declared.steps.Stepped.{Stepped}
+use Rattle.mt_operation.specs.declared.steps.Stepped.TheVariants.{To, Blocked, Left, Absent}
 use Rattle.mt_operation.specs.declared.operation.Operation.{Operation}
 use Rattle.mt_operation.specs.declared.queue.Seat.{Seat}
-use Rattle.mt_operation.specs.declared.queue.Stepped.{Stepped}
-use Rattle.mt_operation.specs.Operations.{counted}
+use Rattle.mt_operation.specs.Operations.{counted, is_unfinished}
 use Rattle.mt_operation.specs.Tables.{Table, op_at}
 use Rattle.mt_operation.specs.Seats.{Seats, seat_at}
 
--- what a body may make of an operation, and who it says is in the way, if anybody is
+-- what a body may make of an operation
 abbrev pub Body : Type 1
-Body = Operation → Option ℕ → Operation → Type 0
+Body = Operation → Made → Operation → Type 0
 
--- by the step of this number an operation of a table has become what a body makes of it, with nobody in its way, and stands at this phase
-pub record StepsBy (Makes : Body) (old new : Table) (o step : ℕ) (came : Phase) : Type 0 where
+-- the body makes steps of an operation that has one left, and leaves it as it was where it makes none
+abbrev pub MovesUnfinished : Body → Table → ℕ → Type 0
+MovesUnfinished Makes table o = (op after : Operation) → op_at table o ≡ Some op → Makes op Step after → is_unfinished op ≡ true
+
+abbrev pub LeavesElse : Body → Table → ℕ → Type 0
+LeavesElse Makes table o = (op after : Operation) (made : Made) → made ≢ Step → op_at table o ≡ Some op → Makes op made after → after ≡ op
+
+-- by the step of this number an operation of a table has become what a body makes of it, and stands at this phase
+pub record MovesBy (Makes : Body) (old new : Table) (o step : ℕ) (phase : Phase) : Type 0 where
   pub op : Operation
   pub there : op_at old o ≡ Some op
   pub after : Operation
-  pub makes : Makes op None after
-  pub phase : came ≡ after.walk.phase
+  pub makes : Makes op Step after
+  pub phase_is : phase ≡ after.walk.phase
   pub table : new ≡ slice_set old o (Some (counted after step op.walk.first))
 
--- an operation of a table made no step by a body, since this one is in its way
-pub record IsStoppedBy (Makes : Body) (table : Table) (o holder : ℕ) : Type 0 where
+-- an operation of a table is as it was, and this is what a body has made of it
+pub record StaysBy (Makes : Body) (table : Table) (o : ℕ) (made : Made) : Type 0 where
   pub op : Operation
   pub there : op_at table o ≡ Some op
-  pub makes : Makes op (Some holder) op
+  pub makes : Makes op made op
 
--- the body leaves an operation as it was where somebody is in its way
-abbrev pub LeavesStopped : Body → Table → ℕ → Type 0
-LeavesStopped Makes table o = (op after : Operation) (holder : ℕ) → op_at table o ≡ Some op → Makes op (Some holder) after → after ≡ op
+-- what has come of a step that a body was to make
+abbrev pub StepsBy : Body → Table → Table → ℕ → ℕ → Stepped → Type 0
+StepsBy Makes old new o step (To phase) = MovesBy Makes old new o step phase
+StepsBy Makes old new o step (Blocked holder) = StaysBy Makes old o (BlockedBy holder) × (new ≡ old)
+StepsBy Makes old new o step (Left phase) = (s : StaysBy Makes old o Nothing) × (phase ≡ s.op.walk.phase) × (new ≡ old)
+StepsBy Makes old new o step Absent = (op_at old o ≡ None) × (new ≡ old)
 
 -- the step of a body in a seat
-pub record SeatStepsBy (Makes : Body) (old new : Seats) (o step : ℕ) (stepped : Stepped) : Type 0 where
+pub record SeatMovesBy (Makes : Body) (old new : Seats) (o step : ℕ) (is_first : Bool) (phase : Phase) : Type 0 where
   pub seat : Seat
   pub there : seat_at old o ≡ Some seat
   pub after : Operation
-  pub makes : Makes seat.operation None after
-  pub phase : stepped.phase ≡ after.walk.phase
-  pub first : stepped.is_first ≡ (seat.operation.walk.first == 0)
+  pub makes : Makes seat.operation Step after
+  pub phase_is : phase ≡ after.walk.phase
+  pub first : is_first ≡ (seat.operation.walk.first == 0)
   pub slots : new ≡ slice_set old o (Some (record seat { operation = counted after step seat.operation.walk.first }))
 
--- what it leaves there where somebody is in its way
-pub record SeatStopsBy (Makes : Body) (old new : Seats) (o holder : ℕ) : Type 0 where
+-- what it leaves there where it makes none
+pub record SeatStaysBy (Makes : Body) (old new : Seats) (o : ℕ) (is_first : Bool) (made : Made) : Type 0 where
   pub seat : Seat
   pub there : seat_at old o ≡ Some seat
   pub after : Operation
-  pub makes : Makes seat.operation (Some holder) after
+  pub makes : Makes seat.operation made after
+  pub first : is_first ≡ false
   pub slots : new ≡ slice_set old o (Some (record seat { operation = after }))
+
+abbrev pub SeatStepsBy : Body → Seats → Seats → ℕ → ℕ → Bool → Stepped → Type 0
+SeatStepsBy Makes old new o step is_first (To phase) = SeatMovesBy Makes old new o step is_first phase
+SeatStepsBy Makes old new o step is_first (Blocked holder) = SeatStaysBy Makes old new o is_first (BlockedBy holder)
+SeatStepsBy Makes old new o step is_first (Left phase) = (s : SeatStaysBy Makes old new o is_first Nothing) × (phase ≡ s.after.walk.phase)
+SeatStepsBy Makes old new o step is_first Absent = (seat_at old o ≡ None) × (new ≡ old) × (is_first ≡ false)

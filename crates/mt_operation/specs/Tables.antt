@@ -17,10 +17,13 @@ abbrev pub prepared_in : Option Operation → Option Prepared
 prepared_in None = None
 prepared_in (Some op) = op.prepared
 
--- the step may be made by the operation of an id: no first step of the table's operations has its number or a later one, and the operation has a
--- step left
+-- no first step of the table's operations has this number or a later one
+abbrev pub AreBefore : Table → ℕ → Type 0
+AreBefore table step = (q : ℕ) (op : Operation) → op_at table q ≡ Some op → op.walk.first < step
+
+-- the step may be made by the operation of an id: first steps are before it, and the operation has a step left
 pub record MayMove (table : Table) (o step : ℕ) : Type 0 where
-  pub later : (q : ℕ) (op : Operation) → op_at table q ≡ Some op → op.walk.first < step
+  pub later : AreBefore table step
   pub unfinished : (op : Operation) → op_at table o ≡ Some op → is_unfinished op ≡ true
 
 -- every operation of the table that has made a step made its first one after this number

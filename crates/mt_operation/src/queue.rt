@@ -3,21 +3,22 @@
 //! Each seat names its neighbours in the order of first steps. What these functions do to the links
 //! and to one operation is said seat by seat; `table.rt` keeps what holds of all of them.
 
-ghost use Rattle.std.specs.Prelude.{◌≡◌, ◌≢◌, ◌<◌, true, false, Some, None, IfOk, IfErr, IsSome};
+ghost use Rattle.std.specs.Prelude.{◌≡◌, ◌≢◌, ◌<◌, false, Some, None};
 ghost use Rattle.std.specs.Option.{ForSome};
 ghost use Rattle.std.specs.Fn.{FnOnceTakesAtMut, FnOnceReturnsAtMut};
 ghost use Rattle.mt_operation.specs.declared.queue.Seat.{Seat as AnySeat};
 ghost use Rattle.mt_operation.specs.Operations.{moved, noted, made_ready, with_splits, with_nothing_ready};
 ghost use Rattle.mt_operation.specs.Tables.{prepared_in};
-ghost use Rattle.mt_operation.specs.Seats.{seat_at, operation_in, is_still, IsEndOrSeat};
-ghost use Rattle.mt_operation.specs.Bodies.{SeatStepsBy, SeatStopsBy};
+ghost use Rattle.mt_operation.specs.Seats.{Seats, seat_at, operation_in, is_still, IsEndOrSeat};
+ghost use Rattle.mt_operation.specs.Bodies.{SeatStepsBy};
 ghost use Rattle.mt_operation.specs.Queues.{SetsAfter, SetsBefore, CutsOut, LinksLast, Becomes};
 
 use crate::operation::Operation;
 use crate::outcome::Outcome;
 use crate::prepared::Prepared;
 use crate::splits::Splits;
-use crate::walk::{Phase, Walk};
+use crate::steps::{Made, Stepped};
+use crate::walk::Walk;
 use slab::Slab;
 use std::mem;
 
@@ -76,40 +77,47 @@ pub(crate) fn move_with_at(
     }
 }
 
-/// What became of a step: the phase to which it has brought its operation, and whether it was the
-/// operation's first.
+/// What has come of a step in a seat, and whether it was made and was the operation's first.
 #[derive(Clone, Copy)]
-pub(crate) struct Stepped {
-    pub phase: Phase,
+pub(crate) struct SeatStep {
+    pub stepped: Stepped,
     pub is_first: bool,
 }
 
-/// An operation makes the step of this number in place, as `makes` does it, where nobody is in its
-/// way; else the error tells who.
-pub(crate) fn step_at<F: FnOnce(&mut Operation) -> Option<usize>>(
+/// An operation makes the step of this number in place, as `makes` does it.
+#[inline]
+pub(crate) fn step_at<F: FnOnce(&mut Operation) -> Made>(
     seats: &mut Slab<Seat>,
     id: usize,
     step: u64,
     makes: F,
-) -> Result<Stepped, usize>
-    requires there { IsSome (operation_in (seat_at seats.old.slots id)) }
+) -> SeatStep
     requires may { ForSome (operation_in (seat_at seats.old.slots id)) (FnOnceTakesAtMut F.FnOnce makes) }
-    ensures made { IfOk result (λ stepped. SeatStepsBy (FnOnceReturnsAtMut F.FnOnce makes) seats.old.slots seats.new.slots id step stepped) }
-    ensures blocked { IfErr result (λ holder. SeatStopsBy (FnOnceReturnsAtMut F.FnOnce makes) seats.old.slots seats.new.slots id holder) }
+    ensures { SeatStepsBy (FnOnceReturnsAtMut F.FnOnce makes) seats.old.slots seats.new.slots id step result.is_first result.stepped }
 {
     let Some(seat) = seats.get_mut(id) else {
-        unreachable!();
+        return SeatStep {
+            stepped: Stepped::Absent,
+            is_first: false,
+        };
     };
     let operation = &mut seat.operation;
     let first = operation.walk.first;
-    if let Some(holder) = makes(operation) {
-        return Err(holder);
+    let stepped = match makes(operation) {
+        Made::Step => {
+            operation.count(step, first);
+            return SeatStep {
+                stepped: Stepped::To(operation.walk.phase),
+                is_first: first == 0,
+            };
+        }
+        Made::Blocked(holder) => Stepped::Blocked(holder),
+        Made::Nothing => Stepped::Left(operation.walk.phase),
+    };
+    SeatStep {
+        stepped,
+        is_first: false,
     }
-    operation.count(step, first);
-    Ok(Stepped {
-        phase: operation.walk.phase,
-        is_first: first == 0,
-    })
 }
 
 /// An operation has made ready what it is about to place.
@@ -167,9 +175,19 @@ pub(crate) fn link_last(seats: &mut Slab<Seat>, ends: &mut Ends, id: usize)
 {
     let before = ends.last;
     set_after(seats, ends, before, Some(id));
-    set_after(seats, ends, Some(id), None);
-    set_before(seats, ends, Some(id), before);
+    put_behind(seats, ends, id, before);
     set_before(seats, ends, None, Some(id));
+}
+
+// Names another neighbour before a seat, or none, and none after it.
+fn put_behind(seats: &mut Slab<Seat>, ends: &Ends, id: usize, before: Option<usize>)
+    requires { IsEndOrSeat seats.old.slots (Some id) }
+    ensures { (mid : Seats) × SetsAfter seats.old.slots ends.now mid ends.now (Some id) None × SetsBefore mid ends.now seats.new.slots ends.now (Some id) before }
+{
+    if let Some(seat) = seats.get_mut(id) {
+        seat.before = before;
+        seat.after = None;
+    }
 }
 
 // Makes neighbours of two that had one between them.

@@ -6,7 +6,7 @@
 //! out of it. Invariant: `IsTable` of `specs/Queues.antt`. Memory: one seat for each operation, as
 //! many as stood open at once.
 
-ghost use Rattle.std.specs.Prelude.{◌≡◌, ◌≢◌, ◌≤◌, ℕ, [], IfOk, IfErr, IsSome, OnErr, OnSome, IfNone, Some, None, slice_set, option_copied};
+ghost use Rattle.std.specs.Prelude.{◌≡◌, ◌≢◌, ◌≤◌, ℕ, [], IfOk, IfErr, OnErr, OnSome, IfNone, Some, None, slice_set, option_copied};
 ghost use Rattle.std.specs.Option.{ForSome};
 ghost use Rattle.std.specs.Fn.{FnOnceTakesAtMut, FnOnceReturnsAtMut};
 ghost use Rattle.mt_operation.specs.declared.operation.Operation.{Operation as AnyOperation};
@@ -19,7 +19,8 @@ use crate::queue::{
     take_prepared_at,
 };
 use crate::splits::Splits;
-use crate::walk::{Phase, Walk};
+use crate::steps::{Made, Stepped};
+use crate::walk::Walk;
 use mt_rows::Refusal;
 use slab::Slab;
 use std::alloc::{AllocError, Global};
@@ -46,8 +47,8 @@ impl Model for Operations {
 
 impl Operations {
     ghost use Rattle.mt_operation.specs.Operations.{moved, noted, made_ready, with_splits, with_nothing_ready};
-    ghost use Rattle.mt_operation.specs.Bodies.{StepsBy, IsStoppedBy, LeavesStopped};
-    ghost use Rattle.mt_operation.specs.Tables.{op_at, prepared_in, MayMove, IsFloorNeeded};
+    ghost use Rattle.mt_operation.specs.Bodies.{StepsBy, MovesUnfinished, LeavesElse};
+    ghost use Rattle.mt_operation.specs.Tables.{op_at, prepared_in, AreBefore, MayMove, IsFloorNeeded};
 
     /// A table of no operation.
     pub fn new(alloc: Global) -> Self
@@ -133,32 +134,26 @@ impl Operations {
     }
 
     /// An operation makes the step of this number in its place, by `makes`; its first step stays the one
-    /// that it was. Answers the phase at which it stands then. An error tells who is in its way, as
-    /// `makes` told it, and nothing has happened.
+    /// that it was. Nothing happens where `makes` tells that somebody is in the way or that the step is
+    /// not its own, and where no operation has the id.
     #[inline]
-    pub fn step_by<F: FnOnce(&mut Operation) -> Option<usize>>(
+    pub fn step_by<F: FnOnce(&mut Operation) -> Made>(
         &mut self,
         id: usize,
         step: u64,
         makes: F,
-    ) -> Result<Phase, usize>
-        requires there { IsSome (op_at self.old id) }
-        requires step { MayMove self.old id step }
+    ) -> Stepped
+        requires later { AreBefore self.old step }
         requires may { ForSome (op_at self.old id) (FnOnceTakesAtMut F.FnOnce makes) }
-        requires leaves { LeavesStopped (FnOnceReturnsAtMut F.FnOnce makes) self.old id }
-        ensures made { IfOk result (λ phase. StepsBy (FnOnceReturnsAtMut F.FnOnce makes) self.old self.new id step phase) }
-        ensures stopped { IfErr result (λ holder. IsStoppedBy (FnOnceReturnsAtMut F.FnOnce makes) self.old id holder) }
-        ensures unchanged_on_err { OnErr result (self.new ≡ self.old) }
+        requires moves { MovesUnfinished (FnOnceReturnsAtMut F.FnOnce makes) self.old id }
+        requires leaves { LeavesElse (FnOnceReturnsAtMut F.FnOnce makes) self.old id }
+        ensures { StepsBy (FnOnceReturnsAtMut F.FnOnce makes) self.old self.new id step result }
     {
-        match step_at(&mut self.seats, id, step, makes) {
-            Ok(stepped) => {
-                if stepped.is_first {
-                    link_last(&mut self.seats, &mut self.ends, id);
-                }
-                Ok(stepped.phase)
-            }
-            Err(holder) => Err(holder),
+        let step = step_at(&mut self.seats, id, step, makes);
+        if step.is_first {
+            link_last(&mut self.seats, &mut self.ends, id);
         }
+        step.stepped
     }
 
     /// An operation has made this ready. Nothing happens where no operation has the id.

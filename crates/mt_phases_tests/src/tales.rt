@@ -8,7 +8,9 @@ ghost use Rattle.mt_insert.specs.Puts.{IsPut};
 use crate::phases::{Store, answer, begin, empty_store, get, place, put, put_of, walk_down};
 use mt_arena::Arena;
 use mt_descent::lock;
-use mt_operation::{Halves, Operation, Operations, Outcome, Phase, Request, Splits, Task, Walk};
+use mt_operation::{
+    Halves, Made, Operation, Operations, Outcome, Phase, Request, Splits, Stepped, Task, Walk,
+};
 use mt_rows::{Command, Reply};
 use mt_slices::StoredKey;
 use std::alloc::Global;
@@ -108,32 +110,23 @@ fn make_steps(table: &mut Operations, id: usize) -> u64
     floor
 }
 
-// Its first step is made in its place, where nobody is in the way.
-fn step_in_place(table: &mut Operations, id: usize, holder: Option<usize>) -> Result<Phase, usize>
-    requires may { (o : ℕ) → MayMove table.old o 5 }
-    requires there { IsSome (op_at table.old id) }
+// Its first step is made in its place, where this is what is made of it.
+fn step_in_place(table: &mut Operations, id: usize, made: Made) -> Stepped
+    requires { (o : ℕ) → MayMove table.old o 5 }
 {
     table.step_by(id, 5, |operation| {
-        if holder.is_none() {
-            operation.walk.phase = Phase::Lock;
+        match made {
+            Made::Step => operation.walk.phase = Phase::Lock,
+            _ => {}
         }
-        holder
+        made
     })
 }
 
-// With this holder in the way or none, the step is told so, and the operation's first one is this.
-fn tells_step(
-    rt: &impl Abort,
-    table: &mut Operations,
-    id: usize,
-    holder: Option<usize>,
-    told: Result<Phase, usize>,
-    first: u64,
-)
-    requires may { (o : ℕ) → MayMove table.old o 5 }
-    requires there { IsSome (op_at table.old id) }
-{
-    assert!(rt; step_in_place(table, id, holder) == told);
+// So this comes of it, and the number of its first step is this one.
+fn tells_step(rt: &impl Abort, alloc: Global, made: Made, comes: Stepped, first: u64) {
+    let (mut table, id) = table_of(rt, alloc);
+    assert!(rt; step_in_place(&mut table, id, made) == comes);
     assert!(rt;
         table
             .get(id)
@@ -143,10 +136,15 @@ fn tells_step(
 
 #[test]
 fn a_step_is_made_in_its_place(rt: HostRuntime) {
+    for (made, comes, first) in [
+        (Made::Step, Stepped::To(Phase::Lock), 5),
+        (Made::Blocked(7), Stepped::Blocked(7), 0),
+        (Made::Nothing, Stepped::Left(Phase::Enter), 0),
+    ] {
+        tells_step(&rt, rt.alloc(), made, comes, first);
+    }
     let (mut table, id) = table_of(&rt, rt.alloc());
-    tells_step(&rt, &mut table, id, None, Ok(Phase::Lock), 5);
-    let (mut table, id) = table_of(&rt, rt.alloc());
-    tells_step(&rt, &mut table, id, Some(7), Err(7), 0);
+    assert!(&rt; step_in_place(&mut table, id ^ 1, Made::Step) == Stepped::Absent);
 }
 
 // What it has made ready is taken once, and its splits are exchanged for others and back.

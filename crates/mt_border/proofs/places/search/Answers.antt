@@ -1,19 +1,27 @@
--- the entry at the key's place was compared, or there is none
-use Rattle.std.proofs.Common.{get_or, ap, sym, ◌∙◌, arith}
-use Rattle.std.proofs.lemmas.List.{get_or_default}
+-- what was passed has not the slice and the mark, and nothing behind an entry of another slice has it
+use Rattle.std.proofs.Common.{rules, ◌<◌, length, ap, arith}
+use Rattle.std.proofs.lemmas.List.{length-map}
 use Rattle.mt_border.specs.declared.entry.Entry.{Entry}
-use Rattle.mt_border.specs.Rows.{entry_seen}
-use Rattle.mt_border.proofs.Edits.{missing_from}
+use Rattle.mt_border.proofs.Counts.{slices_count}
+use Rattle.mt_border.proofs.Finds.{none_lower, none_more, missing_behind}
 use Rattle.mt_border.proofs.places.search.Goals as goal
-use Rattle.mt_border.proofs.places.search.Goals.{else-place-len-via-then-place-len+else-has, else-place-len-via-else-place-len}
 
-pub returns-else-place-len-clause-missing : goal.returns-else-place-len-clause-missing
-returns-else-place-len-clause-missing c = missing_from _ c.args.slice c.args.mark c.requires.border (λ k d at within slice_is mark_is.
-    elim c.else-place-len.branch [
-      | else-place-len-via-then-place-len+else-has w ↦
-          let seen = entry_seen w.entry.result in
-          let read = get_or_default c.args.slots.now k d seen within ∙ ap (λ i. get_or c.args.slots.now i seen) (sym (c.place_of-place.ensures.place ∙ at)) ∙ sym w.entry.ensures in
-          let has = w.has.ensures.1 (sym (ap (λ (e : Entry). e.slice) read) ∙ slice_is, sym (ap (λ (e : Entry). e.mark) read) ∙ mark_is) in
-          absurd (cc (has, w.if-has.false))
-      | else-place-len-via-else-place-len w ↦ omega (arith, at, w.if-place-len.false, c.len.ensures, c.place_of-place.ensures.place)
-    ])
+pub loop-place-init : goal.loop-place-init
+loop-place-init c =
+    let es = c.args.slots.now in
+    none_lower es c.args.slice c.count_below-place.result c.args.mark (slices_count es c.args.slice _ c.requires.border (rw c.slices-slices.ensures at c.count_below-place.ensures)).below
+
+pub returns-then-slices-place-clause-missing : goal.returns-then-slices-place-clause-missing
+returns-then-slices-place-clause-missing c =
+    let es = c.args.slots.now in
+    let count = slices_count es c.args.slice _ c.requires.border (rw c.slices-slices.ensures at c.count_below-place.ensures) in
+    let size = length-map es (λ (e : Entry). e.slice) in
+    let within : c.loop-place.place < length es = omega (arith, ap length c.slices-slices.ensures, c.loop-place-test.true, size) in
+    missing_behind es c.args.slice c.count_below-place.result c.loop-place.place c.args.mark c.requires.border (λ lt. count.above (omega (arith, lt, size))) c.loop-place.auto.place within (rw (← c.slices-slices.ensures) c.if-slices-place.true) c.loop-place.invariant
+
+pub loop-place-preserved : goal.loop-place-preserved
+loop-place-preserved c =
+    let es = c.args.slots.now in
+    let size = length-map es (λ (e : Entry). e.slice) in
+    let within : c.loop-place.place < length es = omega (arith, ap length c.slices-slices.ensures, c.loop-place-test.true, size) in
+    none_more es c.args.slice c.loop-place.place c.args.mark c.get.result c.loop-place.invariant within (rw (c.get.ensures, ← c.marks-marks.ensures) c.index-marks-place.is) (search rules)

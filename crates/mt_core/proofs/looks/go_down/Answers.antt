@@ -1,4 +1,5 @@
 -- Where a step goes that comes to a root, compares the version of the interior node, or reads the next border node, for `go_down`; and how each brings on.
+use Rattle.std.proofs.Common.{sym, ◌∙◌}
 use Rattle.mt_arena.specs.Accesses.{at}
 use Rattle.mt_descent.specs.Kept.{slice_in}
 use Rattle.mt_core.proofs.LookSteps.{enter_goes, verify_goes, forward_goes}
@@ -6,16 +7,16 @@ use Rattle.mt_core.proofs.LookPoints.{enter_nears, verify_nears}
 use Rattle.mt_core.proofs.looks.go_down.Goals as goal
 
 pub returns-in-Enter-clause-goes : goal.returns-in-Enter-clause-goes
-returns-in-Enter-clause-goes c = enter_goes c.enter.result c.args.arena.now _ _ c.in-Enter.is c.enter.ensures.is c.enter.ensures.same
+returns-in-Enter-clause-goes c = enter_goes c.enter.result c.args.arena.now _ _ (sym c.requires.phase ∙ c.in-Enter.is) c.enter.ensures.is c.enter.ensures.same
 
 pub returns-in-Enter-clause-nears : goal.returns-in-Enter-clause-nears
-returns-in-Enter-clause-nears c = enter_nears c.args.arena.now c.facts.ensures.arena c.requires.unremoved c.args.key.now c.requires.kept.0 _ _ c.requires.kept.1 c.enter.result c.in-Enter.is c.enter.ensures.is
+returns-in-Enter-clause-nears c = enter_nears c.args.arena.now c.facts.ensures.arena c.requires.unremoved c.args.key.now c.requires.kept.0 _ _ c.requires.kept.1 c.enter.result (sym c.requires.phase ∙ c.in-Enter.is) c.enter.ensures.is
 
 pub returns-in-Verify-clause-goes : goal.returns-in-Verify-clause-goes
-returns-in-Verify-clause-goes c = verify_goes c.verify.result _ _ _ c.in-Verify.is c.verify.ensures.is c.verify.ensures.same
+returns-in-Verify-clause-goes c = verify_goes c.verify.result _ _ _ (sym c.requires.phase ∙ c.in-Verify.is) c.verify.ensures.is c.verify.ensures.same
 
 pub returns-in-Verify-clause-nears : goal.returns-in-Verify-clause-nears
-returns-in-Verify-clause-nears c = verify_nears c.args.arena.now c.facts.ensures.arena c.requires.unremoved c.args.key.now c.requires.kept.0 _ _ c.requires.kept.1 c.verify.result c.in-Verify.is c.verify.ensures.is
+returns-in-Verify-clause-nears c = verify_nears c.args.arena.now c.facts.ensures.arena c.requires.unremoved c.args.key.now c.requires.kept.0 _ _ c.requires.kept.1 c.verify.result (sym c.requires.phase ∙ c.in-Verify.is) c.verify.ensures.is
 
 pub returns-in-Forward-clause-goes : goal.returns-in-Forward-clause-goes
-returns-in-Forward-clause-goes c = forward_goes c.forward.result (slice_in c.args.key.now c.args.walk.now) (at c.args.arena.now) _ _ c.in-Forward.is c.forward.ensures.last c.forward.ensures.is c.forward.ensures.same
+returns-in-Forward-clause-goes c = forward_goes c.forward.result (slice_in c.args.key.now c.args.walk.now) (at c.args.arena.now) _ _ (sym c.requires.phase ∙ c.in-Forward.is) c.forward.ensures.last c.forward.ensures.is c.forward.ensures.same
