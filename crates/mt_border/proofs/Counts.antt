@@ -1,12 +1,12 @@
 -- A search over the slices first and over the marks then ends at the place of a key: for the places of keys.
-use Rattle.std.proofs.Common.{◌+◌, Bool, true, false, count_by, inl, inr, ◌∙◌, ◌≡◌, ◌≢◌, ℕ, zero, suc, ◌<◌, ◌≤◌, List, [], ◌∷◌, length, get_or, refl, arith}
-use Rattle.std.specs.Prelude.{nat_lt, if◌then◌else◌}
-use Rattle.std.proofs.lemmas.Bool.{cases_lt}
-use Rattle.std.proofs.lemmas.Bool.Decides.{nat_tests}
+use Rattle.std.proofs.Common.{count_by, ◌≡◌, ◌≢◌, ℕ, zero, suc, ◌<◌, ◌≤◌, List, [], ◌∷◌, length, get_or, refl, arith}
+use Rattle.std.specs.Prelude.{nat_lt}
 use Rattle.std.proofs.lemmas.List.{length-map}
-use Rattle.std.proofs.lemmas.List.Sums.{sum_by-cons}
 use Rattle.std.specs.List.{All}
 use Rattle.std.proofs.lemmas.List.Elements.{All-head, All-tail}
+use Rattle.mt_lists.specs.Rising.{NeverFalls}
+use Rattle.mt_lists.specs.declared.counts.TheConstants.{MOST}
+use Rattle.mt_lists.proofs.Counting.{IsCount, count_is}
 use Rattle.mt_slices.specs.declared.mark.Mark.{Mark}
 use Rattle.mt_slices.specs.Marks.{IsMark, mark_rank}
 use Rattle.mt_border.specs.declared.entry.Entry.{Entry}
@@ -15,49 +15,16 @@ use Rattle.mt_border.specs.Entries.{orders, slices, marks, IsBorder}
 use Rattle.mt_border.proofs.Orders.{mark_rank-le, order_low, order_high}
 use Rattle.mt_border.proofs.Cuts.{marks_of, slices_rise}
 
--- a step of the count
-counted : (test : Bool) (n : ℕ) → test ≡ true → (if test then 1 else 0) + n ≡ suc n
-counted true n passed = omega arith
-counted false n untrue = absurd (cc untrue)
+-- the slices of a node's entries never fall, and are few
+pub slices_fall : (es : List Entry) (found : List ℕ) → IsBorder es → found ≡ slices es → NeverFalls found
+slices_fall es found border is = let size = length-map es (λ (e : Entry). e.slice) in rw is (λ i j le within. slices_rise es i j border.rising (marks_of es border) le (omega (arith, within, size)))
 
-not_counted : (test : Bool) (n : ℕ) → test ≡ false → (if test then 1 else 0) + n ≡ n
-not_counted true n untrue = absurd (cc untrue)
-not_counted false n failed = omega arith
+pub slices_few : (es : List Entry) (found : List ℕ) → IsBorder es → found ≡ slices es → length found ≤ MOST
+slices_few es found border is = let size = length-map es (λ (e : Entry). e.slice) in rw is (omega (arith, size, border.within))
 
-none_below : (xs : List ℕ) (s : ℕ) → ((i : ℕ) → i < length xs → s ≤ get_or xs i 0) → count_by (λ x. nat_lt x s) xs ≡ 0
-none_below [] s high = refl
-none_below (x ∷ xs) s high = let here = high 0 (omega arith) in
-    sum_by-cons (λ y. if nat_lt y s then 1 else 0) x xs ∙ not_counted (nat_lt x s) (count_by (λ y. nat_lt y s) xs) (grind (arith, nat_tests)) ∙ none_below xs s (λ i within. high (suc i) (omega (arith, within)))
-
--- how many numbers of a list that doesn't fall are below a bound: those before them are, and those behind aren't
-pub record IsCount (xs : List ℕ) (s n : ℕ) : Type 0 where
-  pub within : n ≤ length xs
-  pub below : (k : ℕ) → k < n → get_or xs k 0 < s
-  pub above : n < length xs → s ≤ get_or xs n 0
-
-more : (x : ℕ) (xs : List ℕ) (s n : ℕ) → x < s → IsCount xs s n → IsCount (x ∷ xs) s (suc n)
-more x xs s n lower rest = record {
-  within = omega (arith, rest.within);
-  below = below;
-  above = λ lt. rest.above (omega (arith, lt));
-}
-  where
-    below : (k : ℕ) → k < suc n → get_or (x ∷ xs) k 0 < s
-    below zero lt = lower
-    below (suc k) lt = rest.below k (omega (arith, lt))
-
-count_is : (xs : List ℕ) (s : ℕ) → ((i j : ℕ) → i ≤ j → j < length xs → get_or xs i 0 ≤ get_or xs j 0) → IsCount xs s (count_by (λ x. nat_lt x s) xs)
-count_is [] s rise = record { within = omega arith; below = λ k lt. absurd (omega (arith, lt)); above = λ lt. absurd (omega (arith, lt)) }
-count_is (x ∷ xs) s rise = elim (cases_lt x s) [
-  | inl lower ↦
-      let rest = count_is xs s (λ i j le within. rise (suc i) (suc j) (omega (arith, le)) (omega (arith, within))) in
-      rw (sum_by-cons (λ y. if nat_lt y s then 1 else 0) x xs ∙ counted (nat_lt x s) (count_by (λ y. nat_lt y s) xs) (grind (arith, nat_tests))) (more x xs s (count_by (λ y. nat_lt y s) xs) lower rest)
-  | inr high ↦ rw (none_below (x ∷ xs) s (λ i within. omega (arith, high, rise 0 i (omega arith) within))) (record { within = omega arith; below = λ k lt. absurd (omega (arith, lt)); above = λ _. high })
-]
-
--- so of the slices of a node's entries
+-- so how many of them are below one
 pub slices_count : (es : List Entry) (s n : ℕ) → IsBorder es → n ≡ count_by (λ x. nat_lt x s) (slices es) → IsCount (slices es) s n
-slices_count es s n border is = let size = length-map es (λ (e : Entry). e.slice) in rw is (count_is (slices es) s (λ i j le within. slices_rise es i j border.rising (marks_of es border) le (omega (arith, within, size))))
+slices_count es s n border is = rw is (count_is (slices es) s (slices_fall es (slices es) border refl))
 
 -- where an entry stands in the order, by its slice and its mark
 order_read : (es : List Entry) (n : ℕ) (mark : Mark) → n < length es → mark ≡ get_or (marks es) n mark

@@ -5,9 +5,15 @@ use Rattle.std.proofs.lemmas.List.{length-map}
 use Rattle.mt_border.specs.declared.entry.Entry.{Entry}
 use Rattle.mt_border.proofs.Edits.{place_in-is}
 use Rattle.mt_border.proofs.Cuts.{marks_of}
-use Rattle.mt_border.proofs.Counts.{slices_count, mark_read, lower_slices, other_slice, lower_mark, other_mark}
+use Rattle.mt_border.proofs.Counts.{slices_fall, slices_few, slices_count, mark_read, lower_slices, other_slice, lower_mark, other_mark}
 use Rattle.mt_border.proofs.places.place_of.Goals as goal
 use Rattle.mt_border.proofs.places.place_of.Goals.{then-slices-place-via-then-slices-place, then-slices-place-via-else-slices-place+then-not-is_before}
+
+pub count_below-place-requires-clause-rises : goal.count_below-place-requires-clause-rises
+count_below-place-requires-clause-rises c = slices_fall c.args.slots.now _ c.requires.border c.slices-slices.ensures
+
+pub count_below-place-requires-clause-few : goal.count_below-place-requires-clause-few
+count_below-place-requires-clause-few c = slices_few c.args.slots.now _ c.requires.border c.slices-slices.ensures
 
 pub loop-place-init : goal.loop-place-init
 loop-place-init c =

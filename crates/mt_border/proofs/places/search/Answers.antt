@@ -2,9 +2,15 @@
 use Rattle.std.proofs.Common.{rules, ◌<◌, length, ap, arith}
 use Rattle.std.proofs.lemmas.List.{length-map}
 use Rattle.mt_border.specs.declared.entry.Entry.{Entry}
-use Rattle.mt_border.proofs.Counts.{slices_count}
+use Rattle.mt_border.proofs.Counts.{slices_fall, slices_few, slices_count}
 use Rattle.mt_border.proofs.Finds.{none_lower, none_more, missing_behind}
 use Rattle.mt_border.proofs.places.search.Goals as goal
+
+pub count_below-place-requires-clause-rises : goal.count_below-place-requires-clause-rises
+count_below-place-requires-clause-rises c = slices_fall c.args.slots.now _ c.requires.border c.slices-slices.ensures
+
+pub count_below-place-requires-clause-few : goal.count_below-place-requires-clause-few
+count_below-place-requires-clause-few c = slices_few c.args.slots.now _ c.requires.border c.slices-slices.ensures
 
 pub loop-place-init : goal.loop-place-init
 loop-place-init c =

@@ -6,9 +6,15 @@ use Rattle.mt_border.specs.Entries.{IsMissing}
 use Rattle.mt_border.specs.Node.{entries_of}
 use Rattle.mt_border.proofs.Edits.{border_take, border_drop}
 use Rattle.mt_border.proofs.Cuts.{marks_of, least_left, least_right}
-use Rattle.mt_border.proofs.Counts.{slices_count}
+use Rattle.mt_border.proofs.Counts.{slices_fall, slices_few, slices_count}
 use Rattle.mt_border.proofs.Parts.{parted_at}
 use Rattle.mt_border.proofs.border.Border.split_without.Goals as goal
+
+pub count_below-keep-requires-clause-rises : goal.count_below-keep-requires-clause-rises
+count_below-keep-requires-clause-rises c = slices_fall c.self.inside.slots _ c.self.invariant c.slices.ensures
+
+pub count_below-keep-requires-clause-few : goal.count_below-keep-requires-clause-few
+count_below-keep-requires-clause-few c = slices_few c.self.inside.slots _ c.self.invariant c.slices.ensures
 
 pub invariant_of-self : goal.invariant_of-self
 invariant_of-self c =

@@ -1,9 +1,17 @@
 -- a count of the separators that are at most the slice is its place
-use Rattle.std.proofs.Common.{ℕ, List, ap, ◌∙◌}
+use Rattle.std.proofs.Common.{ℕ, List, ap, subst, sym, ◌∙◌, length, arith}
+use Rattle.mt_lists.specs.Rising.{NeverFalls}
+use Rattle.mt_lists.proofs.Rises.{rising_upto}
 use Rattle.mt_interior.specs.Node.{InteriorNode}
 use Rattle.mt_interior.specs.Places.{place_of}
 use Rattle.mt_interior.proofs.PlaceLemmas.{place_of-parts}
 use Rattle.mt_interior.proofs.node.Interior.place_of.Goals as goal
+
+pub count_up_to-requires-clause-rises : goal.count_up_to-requires-clause-rises
+count_up_to-requires-clause-rises c = subst NeverFalls (sym c.deref.ensures.0) (λ i j upto within. rising_upto c.self.inside.separators.items i j c.self.invariant.rising upto within)
+
+pub count_up_to-requires-clause-few : goal.count_up_to-requires-clause-few
+count_up_to-requires-clause-few c = omega (arith, ap (λ (xs : List ℕ). length xs) c.deref.ensures.0, c.self.invariant.between, c.self.invariant.room)
 
 pub returns-clause-value : goal.returns-clause-value
 returns-clause-value c = c.count_up_to.ensures ∙ ap (λ (xs : List ℕ). place_of xs c.args.slice) (c.deref.ensures.0 ∙ ap (λ (n : InteriorNode). n.separators) c.self.view_is)
