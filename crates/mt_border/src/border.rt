@@ -20,7 +20,6 @@ use crate::iter::Entries;
 use crate::places::{place_of, search};
 use crate::slots::Slots;
 use crate::split::separator_of;
-use mt_lists::counts::count_below;
 use mt_rows::Row;
 use mt_slices::Mark;
 use mt_version::Version;
@@ -253,7 +252,7 @@ impl Border {
         ensures others_on_the_right { right.new ≡ record right.old { slots = right.new.slots } }
     {
         let separator = self.separator(slice, mark);
-        let keep = count_below(self.slots.slices(), separator);
+        let keep = self.slots.count_below(separator);
         self.slots.move_tail(keep, &mut right.slots);
         separator
     }

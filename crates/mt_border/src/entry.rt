@@ -149,12 +149,17 @@ impl<'a> EntryRef<'a> {
     ghost use Rattle.mt_border.specs.Entry.{IsKind, IsEntry, IsRest};
     ghost use Rattle.mt_border.specs.Rows.{entry_seen};
 
-    /// What the entry holds of the key that has its slice and mark, and this suffix.
+    /// What the entry holds of the key that has its slice and mark, and this suffix. Where a key ends in
+    /// its slice, that is the key itself, and what is held is not read.
+    #[inline(always)]
     pub(crate) fn kind(self, suffix: &[u8]) -> FoundKind
         requires entry { IsEntry (entry_seen self) }
         requires rest { IsRest self.mark suffix.now }
         ensures { IsKind (entry_seen self.entry) suffix.now result }
     {
+        if self.mark != Mark::Long {
+            return FoundKind::ThisKey;
+        }
         match self.held {
             Held::Link(_) => FoundKind::Link,
             Held::Stable(pair) | Held::Unstable(pair, _) => {

@@ -6,7 +6,6 @@ ghost use Rattle.mt_border.specs.Entry.{order_at};
 ghost use Rattle.mt_border.specs.Entries.{IsAt, IsBorder, IsMissing, place_in};
 
 use crate::slots::Slots;
-use mt_lists::counts::count_below;
 use mt_slices::Mark;
 
 /// How many entries stand before the slice and the mark.
@@ -18,7 +17,7 @@ pub(crate) fn place_of(slots: &Slots, slice: u64, mark: Mark) -> usize
 {
     let slices = slots.slices();
     let marks = slots.marks();
-    for place in count_below(slices, slice)..slices.len() {
+    for place in slots.count_below(slice)..slices.len() {
         if slices[place] != slice || !marks[place].get().is_before(mark) {
             return place;
         }
@@ -28,14 +27,13 @@ pub(crate) fn place_of(slots: &Slots, slice: u64, mark: Mark) -> usize
 
 /// The place of the entry that has the slice and the mark.
 pub(crate) fn search(slots: &Slots, slice: u64, mark: Mark) -> Option<usize>
-    requires border { IsBorder slots.now }
-    requires mark { IsMark mark }
+    requires { IsBorder slots.now }
     ensures found { IfSome result (λ place. IsAt slots.now slice mark place) }
     ensures missing { IfNone result (IsMissing slots.now slice mark) }
 {
     let slices = slots.slices();
     let marks = slots.marks();
-    for place in count_below(slices, slice)..slices.len() {
+    for place in slots.count_below(slice)..slices.len() {
         if slices[place] != slice {
             return None;
         }

@@ -4,7 +4,8 @@
 //!
 //! Invariant: the rows have one length, and the entry of a slot is what stands at its place in each.
 
-ghost use Rattle.std.specs.Prelude.{◌≡◌, ◌<◌, ◌≤◌, [], length, take, drop, insert, remove, slice_get, slice_index_or};
+ghost use Rattle.std.specs.Prelude.{◌≡◌, ◌<◌, ◌≤◌, [], length, take, drop, insert, remove, slice_get, slice_index_or, count_by, nat_lt};
+ghost use Rattle.mt_lists.specs.Rising.{NeverFalls};
 ghost use Rattle.std.specs.Option.{option_map};
 ghost use Rattle.arrayvec.specs.ArrayVec.{array_vec_len};
 
@@ -12,6 +13,7 @@ use crate::border::SLOTS;
 use crate::entry::{Entry, EntryRef, Held, SlotMark};
 use crate::iter::Entries;
 use arrayvec::ArrayVec;
+use mt_lists::padded::PaddedList;
 use std::alloc::Global;
 use std::default::MadeWith;
 use std::marker::Model;
@@ -19,7 +21,7 @@ use std::marker::Model;
 /// The entries in the order of their keys.
 #[derive(Debug, Drop)]
 pub(crate) struct Slots {
-    slices: ArrayVec<u64, SLOTS, Global>,
+    slices: PaddedList,
     marks: ArrayVec<SlotMark, SLOTS, Global>,
     pub(crate) helds: ArrayVec<Held, SLOTS, Global>,
 }
@@ -31,9 +33,9 @@ impl Model for Slots {
 
     ghost Value = { List Entry };
 
-    ghost view = { λ s. entries_in s.slices.items s.marks.items s.helds.items };
+    ghost view = { λ s. entries_in s.slices s.marks.items s.helds.items };
 
-    ghost invariant = { λ s. AreRows s.slices.items s.marks.items s.helds.items };
+    ghost invariant = { λ s. AreRows s.slices s.marks.items s.helds.items };
 }
 
 impl Slots {
@@ -44,7 +46,7 @@ impl Slots {
         ensures { result ≡ [] }
     {
         Slots {
-            slices: ArrayVec::new_in(alloc),
+            slices: PaddedList::new(),
             marks: ArrayVec::new_in(alloc),
             helds: ArrayVec::new_in(alloc),
         }
@@ -59,7 +61,16 @@ impl Slots {
     pub(crate) fn slices(&self) -> &[u64]
         ensures { result.now ≡ slices self.now }
     {
-        &self.slices
+        self.slices.as_slice()
+    }
+
+    /// How many slots stand before the slice.
+    pub(crate) fn count_below(&self, slice: u64) -> usize
+        requires rises { NeverFalls (slices self.now) }
+        requires few { length self.now ≤ SLOTS }
+        ensures { result ≡ count_by (λ s. nat_lt s slice) (slices self.now) }
+    {
+        self.slices.count_below(slice)
     }
 
     pub(crate) fn marks(&self) -> &[SlotMark]
@@ -72,7 +83,7 @@ impl Slots {
         ensures { result ≡ self.now }
     {
         Entries {
-            slices: &self.slices,
+            slices: self.slices.as_slice(),
             marks: &self.marks,
             helds: &self.helds,
         }
@@ -84,7 +95,7 @@ impl Slots {
         ensures { entry_seen result ≡ slice_index_or self.now slot (entry_seen result) }
     {
         EntryRef {
-            slice: self.slices[slot],
+            slice: self.slices.as_slice()[slot],
             mark: self.marks[slot].get(),
             held: &self.helds[slot],
         }
@@ -130,7 +141,7 @@ impl Slots {
         ensures kept { self.new ≡ take keep self.old }
         ensures moved { right.new ≡ drop keep self.old }
     {
-        move_row_tail(&mut self.slices, keep, &mut right.slices);
+        right.slices = self.slices.split_off(keep);
         move_row_tail(&mut self.marks, keep, &mut right.marks);
         move_row_tail(&mut self.helds, keep, &mut right.helds);
     }

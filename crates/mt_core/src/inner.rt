@@ -288,8 +288,8 @@ impl Inner {
         }
     }
 
-    // Makes a step that is no look, where one is left. Each phase is a call of its own, so that none pays for the frame of
-    // another.
+    // Makes a step that is no look, where one is left. Each phase is a call of its own, so that none
+    // pays for the frame of another.
     #[inline(never)]
     fn write(&mut self, id: usize, phase: Phase) -> Move
         requires next { IsNext self.old id (λ p. p ≡ phase) }

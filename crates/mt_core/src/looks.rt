@@ -1,6 +1,6 @@
 //! The steps of an operation that holds nothing: where it goes down, and what a get takes.
 
-ghost use Rattle.std.specs.Prelude.{◌≡◌, ◌+◌, ℕ, List, Option, None, IfOk, IfSome, IfNone};
+ghost use Rattle.std.specs.Prelude.{◌≡◌, ◌+◌, ℕ, List, Option, Some, None, IfOk, IfSome, IfNone};
 ghost use Rattle.std.specs.Option.{option_map};
 ghost use Rattle.mt_rows.specs.Rows.{shown as columns_shown};
 ghost use Rattle.mt_rows.specs.Commands.{HasColumns};
@@ -90,9 +90,18 @@ fn search_key(arena: &Arena, operation: &mut Operation, step: u64) -> Made
 {
     search(arena, &operation.task.key, &mut operation.walk, step);
     if operation.walk.phase == Phase::Confirm {
-        operation.outcome = Some(absent(step));
+        note_missing(&mut operation.outcome, step);
     }
     Made::Step
+}
+
+// Notes that a key was missing at this step. It is a call of its own, so that a search that finds its
+// key keeps no room for what stood there before.
+#[inline(never)]
+fn note_missing(noted: &mut Option<Outcome>, step: u64)
+    ensures { noted.new ≡ Some (record { reply = Reply.Absent; at = step }) }
+{
+    *noted = Some(absent(step));
 }
 
 // Takes what a get finds in its slot by the step of this number, and notes what it answers where

@@ -10,7 +10,7 @@ ghost use Rattle.mt_interior.specs.Places.{place_of, IsPlace, IsNew};
 ghost use Rattle.mt_interior.specs.Fences.{HoldsSlice, IsWithinBounds, bounds};
 
 use arrayvec::ArrayVec;
-use mt_lists::counts::count_up_to;
+use mt_lists::padded::{PLACES, PaddedList};
 use mt_version::Version;
 use std::marker::Model;
 
@@ -25,9 +25,7 @@ const LEFT_CHILDREN: usize = 9;
 
 // A split first puts one more separator and child in, and then parts them. A node has one child more
 // than separators.
-const SEPARATOR_PLACES: usize = SEPARATORS + 1;
-
-const CHILD_PLACES: usize = SEPARATOR_PLACES + 1;
+const CHILD_PLACES: usize = PLACES + 1;
 
 /// An interior node.
 // The version stands first, as in a border node, so that it is read without asking which of the two
@@ -35,7 +33,7 @@ const CHILD_PLACES: usize = SEPARATOR_PLACES + 1;
 #[derive(Drop)]
 pub struct Interior {
     version: Version,
-    separators: ArrayVec<u64, SEPARATOR_PLACES>,
+    separators: PaddedList,
     children: ArrayVec<usize, CHILD_PLACES>,
     parent: Option<usize>,
     low: u64,
@@ -48,7 +46,7 @@ impl Model for Interior {
     ghost Value = { InteriorNode };
 
     ghost view = { λ n. record {
-      separators = n.separators.items;
+      separators = n.separators;
       children = n.children.items;
       parent = n.parent;
       low = n.low;
@@ -56,7 +54,7 @@ impl Model for Interior {
       version = n.version;
     } };
 
-    ghost invariant = { λ n. IsInterior n.separators.items n.children.items };
+    ghost invariant = { λ n. IsInterior n.separators n.children.items };
 }
 
 impl Interior {
@@ -69,7 +67,7 @@ impl Interior {
     {
         Interior {
             version,
-            separators: ArrayVec::new(),
+            separators: PaddedList::new(),
             children: ArrayVec::new(),
             parent: None,
             low,
@@ -151,7 +149,7 @@ impl Interior {
         ensures value { result ≡ place_of self.now.separators slice }
         ensures parts { IsPlace self.now.separators slice result }
     {
-        count_up_to(&self.separators, slice)
+        self.separators.count_up_to(slice)
     }
 
     /// The number of the child whose range holds the slice.
@@ -205,11 +203,11 @@ impl Interior {
     {
         let place = self.place_of(separator);
         if place < LEFT_SEPARATORS {
-            self.separators[LEFT_SEPARATORS - 1]
+            self.separators()[LEFT_SEPARATORS - 1]
         } else if place == LEFT_SEPARATORS {
             separator
         } else {
-            self.separators[LEFT_SEPARATORS]
+            self.separators()[LEFT_SEPARATORS]
         }
     }
 
@@ -227,9 +225,11 @@ impl Interior {
         let place = self.place_of(separator);
         self.separators.insert(place, separator);
         self.children.insert(place + 1, child);
-        move_tail(&mut self.separators, LEFT_SEPARATORS, &mut right.separators);
+        let mut upper = self.separators.split_off(LEFT_SEPARATORS);
+        let middle = upper.remove(0);
+        right.separators = upper;
         move_tail(&mut self.children, LEFT_CHILDREN, &mut right.children);
-        right.separators.remove(0)
+        middle
     }
 }
 

@@ -160,8 +160,7 @@ impl StoredKey {
         // The slices and marks of all layers down to this one, and the suffix, give the key back.
         ensures rejoined { joined (first_pieces self.now (layer + 1)) ++ suffix_of self.now layer ≡ self.now }
     {
-        let rest = self.rest(layer);
-        &rest[rest.len().min(SLICE_BYTES)..]
+        self.rest(layer).get(SLICE_BYTES..).unwrap_or(&[])
     }
 
     // The bytes from the layer on.
@@ -179,21 +178,22 @@ impl StoredKey {
 pub fn slice_at(bytes: &[u8]) -> u64
     ensures { result ≡ slice_at bytes.now }
 {
-    u64::from_be_bytes(first_eight(bytes))
+    if bytes.len() < SLICE_BYTES {
+        return short_slice(bytes);
+    }
+    let mut whole = [0; SLICE_BYTES];
+    whole.copy_from_slice(&bytes[..SLICE_BYTES]);
+    u64::from_be_bytes(whole)
 }
 
-// The first eight bytes; zeros stand for those that are missing. Where none is, they are copied at
-// once.
-fn first_eight(bytes: &[u8]) -> [u8; SLICE_BYTES]
-    ensures { result ≡ padded bytes.now }
+// The slice of fewer than eight bytes.
+fn short_slice(bytes: &[u8]) -> u64
+    requires { length bytes.now < SLICE_BYTES }
+    ensures { result ≡ slice_at bytes.now }
 {
     let mut padded = [0; SLICE_BYTES];
-    if bytes.len() < SLICE_BYTES {
-        padded[..bytes.len()].copy_from_slice(bytes);
-        return padded;
-    }
-    padded.copy_from_slice(&bytes[..SLICE_BYTES]);
-    padded
+    padded[..bytes.len()].copy_from_slice(bytes);
+    u64::from_be_bytes(padded)
 }
 
 impl PartialEq for StoredKey {

@@ -1,24 +1,24 @@
 -- the first entry that is not before the key stands at its place
-use Rattle.std.proofs.Common.{◌<◌, length, arith, ap, below_more}
+use Rattle.std.proofs.Common.{refl, ◌<◌, length, arith, ap, below_more}
 use Rattle.std.proofs.lemmas.Bool.Decides.{nat_tests}
 use Rattle.std.proofs.lemmas.List.{length-map}
 use Rattle.mt_border.specs.declared.entry.Entry.{Entry}
 use Rattle.mt_border.proofs.Edits.{place_in-is}
 use Rattle.mt_border.proofs.Cuts.{marks_of}
-use Rattle.mt_border.proofs.Counts.{slices_fall, slices_few, slices_count, mark_read, lower_slices, other_slice, lower_mark, other_mark}
+use Rattle.mt_border.proofs.Counts.{slices_fall, slices_count, mark_read, lower_slices, other_slice, lower_mark, other_mark}
 use Rattle.mt_border.proofs.places.place_of.Goals as goal
 use Rattle.mt_border.proofs.places.place_of.Goals.{then-slices-place-via-then-slices-place, then-slices-place-via-else-slices-place+then-not-is_before}
 
 pub count_below-place-requires-clause-rises : goal.count_below-place-requires-clause-rises
-count_below-place-requires-clause-rises c = slices_fall c.args.slots.now _ c.requires.border c.slices-slices.ensures
+count_below-place-requires-clause-rises c = slices_fall c.args.slots.now _ c.requires.border refl
 
 pub count_below-place-requires-clause-few : goal.count_below-place-requires-clause-few
-count_below-place-requires-clause-few c = slices_few c.args.slots.now _ c.requires.border c.slices-slices.ensures
+count_below-place-requires-clause-few c = c.requires.border.within
 
 pub loop-place-init : goal.loop-place-init
 loop-place-init c =
     let es = c.args.slots.now in
-    let count = slices_count es c.args.slice _ c.requires.border (rw c.slices-slices.ensures at c.count_below-place.ensures) in
+    let count = slices_count es c.args.slice _ c.requires.border c.count_below-place.ensures in
     let size = length-map es (λ (e : Entry). e.slice) in
     lower_slices es c.args.slice _ c.args.mark c.requires.border (omega (arith, count.within, size)) count.below
 
@@ -32,7 +32,7 @@ is_before-requires-clause-this c =
 pub returns-then-slices-place-clause-place : goal.returns-then-slices-place-clause-place
 returns-then-slices-place-clause-place c =
     let es = c.args.slots.now in
-    let count = slices_count es c.args.slice _ c.requires.border (rw c.slices-slices.ensures at c.count_below-place.ensures) in
+    let count = slices_count es c.args.slice _ c.requires.border c.count_below-place.ensures in
     let size = length-map es (λ (e : Entry). e.slice) in
     let within : c.loop-place.place < length es = omega (arith, ap length c.slices-slices.ensures, c.loop-place-test.true, size) in
     place_in-is _ _ c.loop-place.place (omega (arith, within)) c.loop-place.invariant (λ _. elim c.then-slices-place.branch [

@@ -1,24 +1,24 @@
 -- each side is a part of the entries, cut where their slices reach the separator
-use Rattle.std.proofs.Common.{◌≡◌, length, ap, arith}
+use Rattle.std.proofs.Common.{refl, ◌≡◌, length, ap, arith}
 use Rattle.std.proofs.lemmas.List.{length-take, length-drop, length-map}
 use Rattle.mt_border.specs.declared.entry.Entry.{Entry}
 use Rattle.mt_border.specs.Entries.{IsMissing}
 use Rattle.mt_border.specs.Node.{entries_of}
 use Rattle.mt_border.proofs.Edits.{border_take, border_drop}
 use Rattle.mt_border.proofs.Cuts.{marks_of, least_left, least_right}
-use Rattle.mt_border.proofs.Counts.{slices_fall, slices_few, slices_count}
+use Rattle.mt_border.proofs.Counts.{slices_fall, slices_count}
 use Rattle.mt_border.proofs.Parts.{parted_at}
 use Rattle.mt_border.proofs.border.Border.split_without.Goals as goal
 
 pub count_below-keep-requires-clause-rises : goal.count_below-keep-requires-clause-rises
-count_below-keep-requires-clause-rises c = slices_fall c.self.inside.slots _ c.self.invariant c.slices.ensures
+count_below-keep-requires-clause-rises c = slices_fall c.self.inside.slots _ c.self.invariant refl
 
 pub count_below-keep-requires-clause-few : goal.count_below-keep-requires-clause-few
-count_below-keep-requires-clause-few c = slices_few c.self.inside.slots _ c.self.invariant c.slices.ensures
+count_below-keep-requires-clause-few c = c.self.invariant.within
 
 pub invariant_of-self : goal.invariant_of-self
 invariant_of-self c =
-    let count = slices_count c.self.inside.slots c.separator-separator.result _ c.self.invariant (rw c.slices.ensures at c.count_below-keep.ensures) in
+    let count = slices_count c.self.inside.slots c.separator-separator.result _ c.self.invariant c.count_below-keep.ensures in
     let size = length-map c.self.inside.slots (λ (e : Entry). e.slice) in
     rw c.move_tail.ensures.kept (border_take _ c.count_below-keep.result c.self.invariant.rising c.self.invariant.each (omega (arith, count.within, size, c.self.invariant.within)))
 
@@ -28,7 +28,7 @@ invariant_of-right c = rw c.move_tail.ensures.moved (border_drop _ c.count_below
 pub returns-clause-parted : goal.returns-clause-parted
 returns-clause-parted c =
     let es = c.self.inside.slots in
-    let count = slices_count c.self.inside.slots c.separator-separator.result _ c.self.invariant (rw c.slices.ensures at c.count_below-keep.ensures) in
+    let count = slices_count c.self.inside.slots c.separator-separator.result _ c.self.invariant c.count_below-keep.ensures in
     let size = length-map es (λ (e : Entry). e.slice) in
     rw (← c.self.view_is, c.move_tail.ensures.kept, c.move_tail.ensures.moved)
     (parted_at es _ c.count_below-keep.result c.self.invariant.rising (marks_of _ c.self.invariant) (omega (arith, count.within, size)) count.below (λ lt. count.above (omega (arith, lt, size))))
@@ -37,7 +37,7 @@ pub returns-clause-two_on_the_left : goal.returns-clause-two_on_the_left
 returns-clause-two_on_the_left c =
     let es = c.self.inside.slots in
     let entries_are = ap entries_of c.self.view_is in
-    let count = slices_count c.self.inside.slots c.separator-separator.result _ c.self.invariant (rw c.slices.ensures at c.count_below-keep.ensures) in
+    let count = slices_count c.self.inside.slots c.separator-separator.result _ c.self.invariant c.count_below-keep.ensures in
     let size = length-map es (λ (e : Entry). e.slice) in
     let full : length es ≡ 15 = rw entries_are c.requires.full in
     let missing : IsMissing es c.args.slice c.args.mark = rw entries_are c.requires.missing in
@@ -49,7 +49,7 @@ pub returns-clause-two_on_the_right : goal.returns-clause-two_on_the_right
 returns-clause-two_on_the_right c =
     let es = c.self.inside.slots in
     let entries_are = ap entries_of c.self.view_is in
-    let count = slices_count c.self.inside.slots c.separator-separator.result _ c.self.invariant (rw c.slices.ensures at c.count_below-keep.ensures) in
+    let count = slices_count c.self.inside.slots c.separator-separator.result _ c.self.invariant c.count_below-keep.ensures in
     let full : length es ≡ 15 = rw entries_are c.requires.full in
     let missing : IsMissing es c.args.slice c.args.mark = rw entries_are c.requires.missing in
     let separator = rw (← entries_are) at c.separator-separator.ensures in

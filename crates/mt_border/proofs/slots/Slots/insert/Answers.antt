@@ -6,8 +6,7 @@ use Rattle.mt_border.proofs.slots.Slots.insert.Goals as goal
 pub insert-requires : goal.insert-requires
 insert-requires c =
     let size = sizes-rows _ _ _ _ c.self.invariant c.self.view_is in
-    let room : length c.self.inside.slices.items < 15 = omega (arith, size.0, c.requires.room) in
-    (omega arith, (omega (arith, size.0, c.requires.in_bounds), room))
+    record { in_bounds = omega (arith, size.0, c.requires.in_bounds); room = omega (arith, size.0, c.requires.room) }
 
 pub insert-requires-2 : goal.insert-requires-2
 insert-requires-2 c =
@@ -24,5 +23,5 @@ insert-requires-3 c =
 pub returns : goal.returns
 returns c =
     let rows = c.self.invariant in
-    rw (c.insert.ensures.items, c.insert-2.ensures.items, c.insert-3.ensures.items, c.new.ensures, ← c.self.view_is)
+    rw (c.insert.ensures, c.insert-2.ensures.items, c.insert-3.ensures.items, c.new.ensures, ← c.self.view_is)
     (insert-rows _ _ _ c.args.slot c.args.entry rows.marks_are rows.helds_are)

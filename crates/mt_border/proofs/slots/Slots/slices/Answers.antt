@@ -7,4 +7,4 @@ use Rattle.mt_border.proofs.slots.Slots.slices.Goals as goal
 pub returns : goal.returns
 returns c =
     let rows = c.self.invariant in
-    c.deref.ensures.0 ∙ sym (slices-rows _ _ _ rows.marks_are rows.helds_are) ∙ ap slices c.self.view_is
+    c.as_slice.ensures.value ∙ sym (slices-rows _ _ _ rows.marks_are rows.helds_are) ∙ ap slices c.self.view_is
