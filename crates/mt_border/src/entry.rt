@@ -157,10 +157,26 @@ impl<'a> EntryRef<'a> {
         requires rest { IsRest self.mark suffix.now }
         ensures { IsKind (entry_seen self.entry) suffix.now result }
     {
-        if self.mark != Mark::Long {
-            return FoundKind::ThisKey;
+        match self.mark {
+            Mark::Short(_) => FoundKind::ThisKey,
+            Mark::Long => self.held.kind(suffix),
         }
-        match self.held {
+    }
+}
+
+impl Held {
+    ghost use Rattle.mt_slices.specs.declared.mark.Mark.{Mark};
+    ghost use Rattle.mt_border.specs.declared.entry.Pair.{Pair};
+    ghost use Rattle.mt_border.specs.declared.entry.Entry.{Entry};
+    ghost use Rattle.mt_border.specs.Entry.{CanHold, IsKind, IsStablePair, IsUnlinked, IsLinked};
+
+    /// What is held of the long key of the slot's slice that goes on with the suffix. It is a call of its
+    /// own, so that a search for a key that ends in its slice makes no suffix.
+    #[inline(never)]
+    fn kind(&self, suffix: &[u8]) -> FoundKind
+        ensures { (e : Entry) → e.mark ≡ Mark.Long → e.held ≡ self.now → IsKind e suffix.now result }
+    {
+        match self {
             Held::Link(_) => FoundKind::Link,
             Held::Stable(pair) | Held::Unstable(pair, _) => {
                 if pair.suffix.as_bytes() == suffix {
@@ -171,12 +187,6 @@ impl<'a> EntryRef<'a> {
             }
         }
     }
-}
-
-impl Held {
-    ghost use Rattle.mt_slices.specs.declared.mark.Mark.{Mark};
-    ghost use Rattle.mt_border.specs.declared.entry.Pair.{Pair};
-    ghost use Rattle.mt_border.specs.Entry.{CanHold, IsStablePair, IsUnlinked, IsLinked};
 
     /// Puts another row and its stamp into a pair, and gives the old row back.
     pub(crate) fn put_row(&mut self, row: Row, stamp: u64) -> Row

@@ -314,6 +314,25 @@ module _ (c now : Core) (o : ℕ) (is : c ≡ now) (h : StateInvariant c) (room 
   look_unfinished Done e step after t = absurd (let no_step : ◌≡◌ {A = Made} Step Nothing = t.0 in cc)
   look_unfinished _ e step after t = ap (λ (q : Phase). not (is_done q)) e
 
+  -- it leaves the number of the first step
+  loaded_first : (step : ℕ) (after : Operation) → TellsLoaded c.arena step op after → after.walk.first ≡ op.walk.first
+  loaded_first step after t = walk_first t.told ∙ ap (λ (w : Walk). w.first) t.loads.is
+    where
+      walk_first : ((after.walk ≡ t.walk) × ShowsTaken op t.row t.walk after.outcome) ⊎ ((after.walk ≡ record t.walk { phase = Done }) × Says after.outcome NoMemory step) → after.walk.first ≡ t.walk.first
+      walk_first (inl told) = ap (λ (w : Walk). w.first) told.0
+      walk_first (inr told) = ap (λ (w : Walk). w.first) told.0
+
+  pub look_first : (p : Phase) (step : ℕ) (after : Operation) → LooksAt p c.arena step op Step after → after.walk.first ≡ op.walk.first
+  look_first Enter step after t = t.goes.same.first
+  look_first Pick step after t = t.goes.same.first
+  look_first Child step after t = t.goes.same.first
+  look_first Verify step after t = t.goes.same.first
+  look_first Forward step after t = t.goes.same.first
+  look_first Search step after t = t.same.first
+  look_first Load step after t = loaded_first step after t
+  look_first Confirm step after t = t.same.first
+  look_first _ step after t = absurd (let no_step : ◌≡◌ {A = Made} Step Nothing = t.0 in cc)
+
   -- and leaves it as it was where none is made
   looks_leave : (Tells : Operation → Operation → Type 0) (made : Made) (after : Operation) → made ≢ Step → Looks c.arena Tells op made after → after ≡ op
   looks_leave Tells Step after other t = absurd (other refl)

@@ -20,7 +20,7 @@ use Rattle.mt_operation.proofs.TableMoves.{became_table, last_new, moved_there, 
 
 module _ (Makes : Body) (p0 p1 : Seats) (now : Table) (o : ℕ) (is : table_of p0 ≡ now) where
   -- the operation of a seat, as the table shows it
-  shown_there : (seat : Seat) → seat_at p0 o ≡ Some seat → op_at now o ≡ Some seat.operation
+  pub shown_there : (seat : Seat) → seat_at p0 o ≡ Some seat → op_at now o ≡ Some seat.operation
   shown_there seat at = ap (λ t. op_at t o) (sym is) ∙ op_seat p0 o ∙ ap operation_in at
 
   module _ (leaves : LeavesElse Makes now o) (is_first : Bool) (made : Made) (other : made ≢ Step) (s : SeatStaysBy Makes p0 p1 o is_first made) where

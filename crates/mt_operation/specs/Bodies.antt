@@ -15,10 +15,15 @@ use Rattle.mt_operation.specs.Seats.{Seats, seat_at}
 abbrev pub Body : Type 1
 Body = Operation → Made → Operation → Type 0
 
--- the body makes steps of an operation that has one left, and leaves it as it was where it makes none
+-- the body makes steps of an operation that has one left
 abbrev pub MovesUnfinished : Body → Table → ℕ → Type 0
 MovesUnfinished Makes table o = (op after : Operation) → op_at table o ≡ Some op → Makes op Step after → is_unfinished op ≡ true
 
+-- they leave the number of its first step
+abbrev pub KeepsFirst : Body → Table → ℕ → Type 0
+KeepsFirst Makes table o = (op after : Operation) → op_at table o ≡ Some op → Makes op Step after → after.walk.first ≡ op.walk.first
+
+-- and it leaves it as it was where it makes none
 abbrev pub LeavesElse : Body → Table → ℕ → Type 0
 LeavesElse Makes table o = (op after : Operation) (made : Made) → made ≢ Step → op_at table o ≡ Some op → Makes op made after → after ≡ op
 
@@ -43,6 +48,10 @@ StepsBy Makes old new o step (To phase) = MovesBy Makes old new o step phase
 StepsBy Makes old new o step (Blocked holder) = StaysBy Makes old o (BlockedBy holder) × (new ≡ old)
 StepsBy Makes old new o step (Left phase) = (s : StaysBy Makes old o Nothing) × (phase ≡ s.op.walk.phase) × (new ≡ old)
 StepsBy Makes old new o step Absent = (op_at old o ≡ None) × (new ≡ old)
+
+-- the same of the operation in a seat
+abbrev pub SeatKeepsFirst : Body → Seats → ℕ → Type 0
+SeatKeepsFirst Makes seats o = (seat : Seat) (after : Operation) → seat_at seats o ≡ Some seat → Makes seat.operation Step after → after.walk.first ≡ seat.operation.walk.first
 
 -- the step of a body in a seat
 pub record SeatMovesBy (Makes : Body) (old new : Seats) (o step : ℕ) (is_first : Bool) (phase : Phase) : Type 0 where

@@ -1,6 +1,6 @@
 //! One operation: its task, and what it remembers between its steps.
 
-ghost use Rattle.std.specs.Prelude.{◌≡◌};
+ghost use Rattle.std.specs.Prelude.{◌≡◌, ◌==◌};
 ghost use Rattle.mt_operation.specs.Operations.{begun, IsUnsplit, moved, counted, is_unfinished};
 
 use crate::outcome::Outcome;
@@ -11,12 +11,13 @@ use crate::walk::{Phase, Walk};
 use std::alloc::Global;
 
 /// An operation that was begun and whose answer was not taken. Its first step has the number
-/// `walk.first`, and its last one so far the number `last`; both are 0 where it has made none.
+/// `walk.first`, and its last one so far the number `last`; both are 0 where it has made none. Each step
+/// writes these two, so they stand first.
 #[derive(Drop)]
 pub struct Operation {
-    pub task: Task,
     pub walk: Walk,
     pub last: u64,
+    pub task: Task,
     pub outcome: Option<Outcome>,
     pub prepared: Option<Prepared>,
     pub splits: Splits,
@@ -59,14 +60,21 @@ impl Operation {
     {
         let first = self.walk.first;
         self.walk = *walk;
-        self.count(step, first);
+        self.walk.first = first;
+        self.count(step);
     }
 
-    /// Notes that the step of this number was made, and was the first one where none had this name.
-    pub(crate) fn count(&mut self, step: u64, first: u64)
-        ensures { self.new ≡ counted self.old step first }
+    /// Notes that the step of this number was made; whether it was the first one.
+    #[inline(always)]
+    pub(crate) fn count(&mut self, step: u64) -> bool
+        ensures is { self.new ≡ counted self.old step self.old.walk.first }
+        ensures first { result ≡ (self.old.walk.first == 0) }
     {
-        self.walk.first = if first == 0 { step } else { first };
         self.last = step;
+        let is_first = self.walk.first == 0;
+        if is_first {
+            self.walk.first = step;
+        }
+        is_first
     }
 }

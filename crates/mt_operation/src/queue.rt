@@ -10,7 +10,7 @@ ghost use Rattle.mt_operation.specs.declared.queue.Seat.{Seat as AnySeat};
 ghost use Rattle.mt_operation.specs.Operations.{moved, noted, made_ready, with_splits, with_nothing_ready};
 ghost use Rattle.mt_operation.specs.Tables.{prepared_in};
 ghost use Rattle.mt_operation.specs.Seats.{Seats, seat_at, operation_in, is_still, IsEndOrSeat};
-ghost use Rattle.mt_operation.specs.Bodies.{SeatStepsBy};
+ghost use Rattle.mt_operation.specs.Bodies.{SeatKeepsFirst, SeatStepsBy};
 ghost use Rattle.mt_operation.specs.Queues.{SetsAfter, SetsBefore, CutsOut, LinksLast, Becomes};
 
 use crate::operation::Operation;
@@ -93,22 +93,22 @@ pub(crate) fn step_at<F: FnOnce(&mut Operation) -> Made>(
     makes: F,
 ) -> SeatStep
     requires may { ForSome (operation_in (seat_at seats.old.slots id)) (FnOnceTakesAtMut F.FnOnce makes) }
+    requires first { SeatKeepsFirst (FnOnceReturnsAtMut F.FnOnce makes) seats.old.slots id }
     ensures { SeatStepsBy (FnOnceReturnsAtMut F.FnOnce makes) seats.old.slots seats.new.slots id step result.is_first result.stepped }
 {
-    let Some(seat) = seats.get_mut(id) else {
+    if !seats.contains(id) {
         return SeatStep {
             stepped: Stepped::Absent,
             is_first: false,
         };
-    };
-    let operation = &mut seat.operation;
-    let first = operation.walk.first;
+    }
+    let operation = &mut seats[id].operation;
     let stepped = match makes(operation) {
         Made::Step => {
-            operation.count(step, first);
+            let is_first = operation.count(step);
             return SeatStep {
                 stepped: Stepped::To(operation.walk.phase),
-                is_first: first == 0,
+                is_first,
             };
         }
         Made::Blocked(holder) => Stepped::Blocked(holder),

@@ -47,7 +47,7 @@ impl Model for Operations {
 
 impl Operations {
     ghost use Rattle.mt_operation.specs.Operations.{moved, noted, made_ready, with_splits, with_nothing_ready};
-    ghost use Rattle.mt_operation.specs.Bodies.{StepsBy, MovesUnfinished, LeavesElse};
+    ghost use Rattle.mt_operation.specs.Bodies.{StepsBy, MovesUnfinished, KeepsFirst, LeavesElse};
     ghost use Rattle.mt_operation.specs.Tables.{op_at, prepared_in, AreBefore, MayMove, IsFloorNeeded};
 
     /// A table of no operation.
@@ -133,9 +133,9 @@ impl Operations {
         }
     }
 
-    /// An operation makes the step of this number in its place, by `makes`; its first step stays the one
-    /// that it was. Nothing happens where `makes` tells that somebody is in the way or that the step is
-    /// not its own, and where no operation has the id.
+    /// An operation makes the step of this number in its place, by `makes`, which leaves the number of its
+    /// first step. Nothing happens where `makes` tells that somebody is in the way or that the step is not
+    /// its own, and where no operation has the id.
     #[inline]
     pub fn step_by<F: FnOnce(&mut Operation) -> Made>(
         &mut self,
@@ -146,6 +146,7 @@ impl Operations {
         requires later { AreBefore self.old step }
         requires may { ForSome (op_at self.old id) (FnOnceTakesAtMut F.FnOnce makes) }
         requires moves { MovesUnfinished (FnOnceReturnsAtMut F.FnOnce makes) self.old id }
+        requires first { KeepsFirst (FnOnceReturnsAtMut F.FnOnce makes) self.old id }
         requires leaves { LeavesElse (FnOnceReturnsAtMut F.FnOnce makes) self.old id }
         ensures { StepsBy (FnOnceReturnsAtMut F.FnOnce makes) self.old self.new id step result }
     {

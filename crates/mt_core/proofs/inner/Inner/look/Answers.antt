@@ -8,7 +8,7 @@ use Rattle.mt_core.specs.States.{core_of}
 use Rattle.mt_core.specs.Looks.{LooksAt, MayLook}
 use Rattle.mt_core.specs.Nexts.{IsNoLook, ending}
 use Rattle.mt_core.specs.Points.{StepsOn}
-use Rattle.mt_core.proofs.ReadSteps.{are_before, may_look, look_unfinished, look_leaves, look_comes, look_blocked, look_left}
+use Rattle.mt_core.proofs.ReadSteps.{are_before, may_look, look_unfinished, look_first, look_leaves, look_comes, look_blocked, look_left}
 use Rattle.mt_core.proofs.inner.Inner.look.Goals as goal
 
 pub step_by-stepped-requires-clause-later : goal.step_by-stepped-requires-clause-later
@@ -19,6 +19,10 @@ step_by-stepped-requires-clause-may c = λ op there p e. subst (λ (x : Operatio
 
 pub step_by-stepped-requires-clause-moves : goal.step_by-stepped-requires-clause-moves
 step_by-stepped-requires-clause-moves c = λ op after there e. look_unfinished (core_of c.self.inside) _ c.args.id c.self.view_is c.self.invariant c.requires.few op there op.walk.phase refl (c.self.inside.steps + 1) after
+    (subst (λ (x : Operation). LooksAt x.walk.phase (core_of c.self.inside).arena (c.self.inside.steps + 1) x (Step) after) e.shows (subst (λ (y : Operation). LooksAt e.shown.now.walk.phase (core_of c.self.inside).arena (c.self.inside.steps + 1) e.shown.now (Step) y) e.leaves e.met))
+
+pub step_by-stepped-requires-clause-first : goal.step_by-stepped-requires-clause-first
+step_by-stepped-requires-clause-first c = λ op after there e. look_first (core_of c.self.inside) _ c.args.id c.self.view_is c.self.invariant c.requires.few op there op.walk.phase (c.self.inside.steps + 1) after
     (subst (λ (x : Operation). LooksAt x.walk.phase (core_of c.self.inside).arena (c.self.inside.steps + 1) x (Step) after) e.shows (subst (λ (y : Operation). LooksAt e.shown.now.walk.phase (core_of c.self.inside).arena (c.self.inside.steps + 1) e.shown.now (Step) y) e.leaves e.met))
 
 pub step_by-stepped-requires-clause-leaves : goal.step_by-stepped-requires-clause-leaves
