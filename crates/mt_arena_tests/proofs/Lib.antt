@@ -1,2 +1,3 @@
 pub mod Settling
 pub mod FirstSlot
+pub mod LongKeys

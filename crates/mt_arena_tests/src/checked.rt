@@ -1,5 +1,5 @@
-//! An arena of one tree on which operation 5 alone is at work: each call is made only where its
-//! conditions hold, which is asked as the test runs.
+//! An arena on which operation 5 alone is at work: each call is made only where its conditions hold,
+//! which is asked as the test runs.
 
 ghost use Rattle.std.specs.Prelude.{◌≡◌, ℕ, ◌<◌, [], length, IsTrue};
 ghost use Rattle.mt_rows.specs.Rows.{Bytes};
@@ -15,7 +15,7 @@ ghost use Rattle.mt_arena.specs.Settled.{IsSettled};
 ghost use Rattle.mt_arena.specs.Splits.{Inserts};
 ghost use Rattle.mt_arena.specs.Several.{MaySplit};
 ghost use Rattle.mt_arena.specs.Removals.{AreBeside, MayUnlink};
-ghost use Rattle.mt_arena.specs.Accesses.{at, tree_of, MayChange};
+ghost use Rattle.mt_arena.specs.Accesses.{at, tree_of, IsHeld, IsOpen, MayChange};
 ghost use Rattle.mt_arena_tests.specs.Checked.{IsOwn, KeepsUp, IsEven, Takes, AreHalves, Meet, IsBare};
 
 use mt_arena::{Arena, Node, Standing};
@@ -30,8 +30,8 @@ use std::process::Abort;
 /// An arena and the number of its nodes.
 #[derive(Drop)]
 pub struct Checked {
-    arena: Arena,
-    count: usize,
+    pub(crate) arena: Arena,
+    pub(crate) count: usize,
 }
 
 impl Model for Checked {
@@ -93,11 +93,28 @@ impl Checked {
         tree < self.arena.trees().len() && matches!(self.arena.tree(tree).standing, Standing::Live)
     }
 
+    // Whether nobody makes the node's tree.
+    fn is_open(&self, node: usize) -> bool
+        requires { node < length self.now.nodes }
+        ensures { IsTrue result → IsOpen self.now node 5 }
+    {
+        let tree = self.arena.node(node).tree();
+        tree < self.arena.trees().len()
+            && !matches!(self.arena.tree(tree).standing, Standing::Made { .. })
+    }
+
+    // Whether the operation holds the node.
+    fn is_held(&self, node: usize) -> bool
+        ensures { IsTrue result → IsHeld self.now node 5 }
+    {
+        node < self.count && self.arena.node(node).holder() == Some(5)
+    }
+
     // Whether the operation holds the node, which is of a live tree.
-    fn holds(&self, node: usize) -> bool
+    pub(crate) fn holds(&self, node: usize) -> bool
         ensures { IsTrue result → IsOwn self.now node }
     {
-        node < self.count && self.arena.node(node).holder() == Some(5) && self.is_in_live_tree(node)
+        self.is_held(node) && self.is_in_live_tree(node)
     }
 
     /// Takes the lock of a node.
@@ -181,7 +198,7 @@ impl Checked {
 
     /// Gives the lock of a node back.
     pub fn unlock(&mut self, rt: &impl Abort, node: usize) {
-        assert!(rt; self.holds(node) && self.is_settled(node));
+        assert!(rt; self.is_held(node) && self.is_open(node) && self.is_settled(node));
         let version = self.arena.node(node).version();
         assert!(rt; version.inserts() < 1_000_000 && version.splits() < 1_000_000);
         self.arena.unlock(node, 5);
@@ -218,9 +235,9 @@ impl Checked {
         panic!(rt; "the tree is too high")
     }
 
-    /// The root of the tree.
+    /// The root of the top tree.
     pub fn root(&self, rt: &impl Abort) -> usize {
-        assert!(rt; self.arena.trees().len() == 1);
+        assert!(rt; !self.arena.trees().is_empty());
         self.arena.tree(0).root
     }
 
