@@ -1,0 +1,4 @@
+pub mod CommandLemmas
+pub mod MatchLemmas
+pub mod OptionLemmas
+pub mod RuleLemmas

@@ -1,0 +1,55 @@
+-- What the getters of clap's matches give, by what the command line has.
+use Rattle.std.proofs.Common.{◌≡◌, ℕ, ◌≤◌, ◌<◌, ◌^◌, List, [], Bor, Option, Some, None, Result, Ok, Err, map, option_map, codes, MatchResult, IfOk, IfErr, Vec, Global, unwrap_or, refl, ap, sym, subst, ◌∙◌, arith}
+use Rattle.std.specs.Str.Parse.{ParsesUnsigned}
+use Rattle.clap.specs.Words.{without_minus, ReadsOne, Text, matched_of, one_of, one_text, raw_values, rows_of}
+use Rattle.clap.specs.declared.parser.matches.Found.{Found}
+use Rattle.clap.proofs.CallerReads.{signed_reads}
+use Rattle.clap.proofs.WalkLemmas.{one_text-rows, raw_values-rows}
+use Rattle.mt_command_line.specs.CommandLine.{found_in, given_for, tenant_words}
+use Rattle.mt_command_line.specs.Reads.{HasNumber, IsGiven, Names}
+use Rattle.mt_options.specs.Tenants.{AreTenants, IsFirstFault}
+use Rattle.mt_options.specs.declared.tenants.TenantQuota.{TenantQuota}
+use Rattle.mt_options.specs.declared.tenants.TenantsFault.{TenantsFault}
+
+-- what the words of an id name, by the rows of the matches
+pub names : (f : Found) (o : Option (Bor (List (Bor Text)))) (d r : Bor (List (Bor Text))) (result : Result (Vec TenantQuota Global) TenantsFault)
+    → option_map (λ s. map (λ v. v.now) s.now) o ≡ option_map raw_values (matched_of f (codes "tenants")) → r ≡ unwrap_or o d → d.now ≡ []
+    → IfOk result (λ ts. AreTenants (map (λ w. w.now) r.now) ts.items) → IfErr result (IsFirstFault (map (λ w. w.now) r.now))
+    → Names (rows_of f) result
+names f o d r result got is none ok err = go result ok err
+  where
+    values : (o : Option (Bor (List (Bor Text)))) → map (λ w. w.now) (unwrap_or o d).now ≡ unwrap_or (option_map (λ s. map (λ v. v.now) s.now) o) []
+    values None = ap (map (λ w. w.now)) none
+    values (Some s) = refl
+
+    same : map (λ w. w.now) r.now ≡ tenant_words (rows_of f)
+    same = ap (λ (b : Bor (List (Bor Text))). map (λ w. w.now) b.now) is
+        ∙ (values o ∙ ap (λ x. unwrap_or x []) (got ∙ raw_values-rows f (codes "tenants")))
+
+    go : (result : Result (Vec TenantQuota Global) TenantsFault) → IfOk result (λ ts. AreTenants (map (λ w. w.now) r.now) ts.items)
+        → IfErr result (IsFirstFault (map (λ w. w.now) r.now)) → Names (rows_of f) result
+    go (Ok ts) ok err = subst (λ ws. AreTenants ws ts.items) same ok
+    go (Err fault) ok err = subst (λ ws. IsFirstFault ws fault) same err
+
+-- the number of an option is the one that is found for it
+pub number_is : (E : Type 0) (G : List ℕ → Result ℕ E → Type 0) (k least most d : ℕ) (f : Found) (name : Text) (words : List Text) (o : Option ℕ)
+    → ((t : List ℕ) (x : Result ℕ E) → G t x → ParsesUnsigned k 10 t x) → most < 2 ^ k
+    → ((t : List ℕ) → one_text f name ≡ Some t → ReadsOne G t o) → HasNumber f name least most → rows_of f ≡ found_in words
+    → IsGiven name least most (found_in words) (unwrap_or o d)
+number_is E G k least most d f name words o only fits got has rows =
+    let read = got (without_minus has.0) has.1 in
+    let given : given_for name (found_in words) ≡ Some (without_minus has.0) = sym (one_text-rows f name ∙ ap (one_of name) rows) ∙ has.1 in
+    go o read (signed_reads E G k least most has.0 o read only fits has.2) given
+  where
+    go : (o : Option ℕ) → ReadsOne G (without_minus has.0) o → (n : ℕ) × (o ≡ Some n) × (least ≤ n) × (n ≤ most)
+        → given_for name (found_in words) ≡ Some (without_minus has.0) → IsGiven name least most (found_in words) (unwrap_or o d)
+    go (Some v) read n given =
+        let parsed = only (without_minus has.0) (Ok v) read in
+        let same : v ≡ n.0 = ap (λ (x : Option ℕ). unwrap_or x 0) n.1 in
+        (without_minus has.0, given, parsed.0.0, parsed.1, omega (arith, same, n.2), omega (arith, same, n.3))
+    go None read n given = cc
+
+-- what holds of either end, end by end
+pub parted : {T E : Type 0} (r : Result T E) (P : T → Type 0) (Q : E → Type 0) → MatchResult r P Q → IfOk r P × IfErr r Q
+parted (Ok x) P Q h = (h, tt)
+parted (Err e) P Q h = (tt, h)

@@ -1,0 +1,27 @@
+use Rattle.std.proofs.Common.{◌≡◌, ◌∙◌, arith, codes, subst, rules}
+use Rattle.std.specs.Str.Parse.{ParsesUnsigned, ExplainsUnsignedError, HasUnsignedDigitsIfOk}
+use Rattle.clap.specs.Words.{found_of}
+use Rattle.mt_options.specs.Tenants.{AreTenants}
+use Rattle.mt_command_line.specs.CommandLine.{found_in, tenant_words}
+use Rattle.mt_command_line.specs.Reads.{IsGiven}
+use Rattle.mt_command_line.proofs.MatchLemmas.{number_is}
+use Rattle.mt_command_line.proofs.reading.options_of.Goals as goal
+
+pub returns : goal.returns
+returns c = λ words are.
+    let found = found_of c.args.matches.now in
+    let port = number_is _ (λ bs r. ParsesUnsigned 16 10 bs r × ExplainsUnsignedError 10 bs r × HasUnsignedDigitsIfOk bs r) 16 0 65535 7411
+    found (codes "port") words c.get_one.result (λ t x g. g.0) (omega arith) c.get_one.ensures.value are.port are.rows in
+    let workers = number_is _ (λ bs r. ParsesUnsigned 8 10 bs r × ExplainsUnsignedError 10 bs r × HasUnsignedDigitsIfOk bs r) 8 1 64 4
+    found (codes "workers") words c.get_one-2.result (λ t x g. g.0) (omega arith) c.get_one-2.ensures.value are.workers are.rows in
+    let sessions = number_is _ (λ bs r. ParsesUnsigned 32 10 bs r × ExplainsUnsignedError 10 bs r × HasUnsignedDigitsIfOk bs r) 32 0 4294967295 0
+    found (codes "sessions") words c.get_one-3.result (λ t x g. g.0) (omega arith) c.get_one-3.ensures.value are.sessions are.rows in
+    let given : IsGiven (codes "workers") 1 64 (found_in words) c.unwrap_or-2.result = rw c.unwrap_or-2.ensures workers in
+    let same : c.clamp.result ≡ c.unwrap_or-2.result = c.clamp.ensures ∙ omega (arith, given.4, given.5) in
+    record {
+      faultless = are.faultless;
+      port = rw c.unwrap_or.ensures port;
+      workers = rw same given;
+      sessions = rw c.unwrap_or-3.ensures sessions;
+      tenants = subst (λ rows. AreTenants (tenant_words rows) c.in-Ok.tenants.items) are.rows (search rules);
+    }

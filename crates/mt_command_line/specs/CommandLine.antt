@@ -1,0 +1,58 @@
+-- What the program takes: three options with defaults, and one word or more that name tenants. The words of clap say
+-- what a parse of a command line makes of such rules (`Rattle.clap.specs.Words`).
+use Rattle.std.specs.Prelude.{ℕ, List, [], ◌∷◌, Option, Some, codes, unwrap_or, pos, true}
+use Rattle.clap.specs.Lexer.{usize_max}
+use Rattle.clap.specs.Words.{App, Kinds, Row, Rule, Text, all_of, fault_of, matches_of, new_app, new_rule, one_of, with_rule}
+use Rattle.clap.specs.declared.builder.ArgAction.TheVariants.{Append, Set}
+use Rattle.clap.specs.declared.builder.value_parser.ValueParser.TheVariants.{Signed}
+
+-- an option `--NAME N`, with a number from `least` to `most`, and with its default
+abbrev pub number_rule : Text → ℕ → ℕ → Text → Rule
+number_rule name least most value = record (new_rule name) {
+  long = Some name;
+  value_names = 1;
+  action = Some Set;
+  parser = Some (Signed (pos least) (pos most));
+  defaults = value ∷ [];
+}
+
+-- `--port`, 7411 if it isn't given
+abbrev pub port_rule : Rule
+port_rule = number_rule (codes "port") 0 65535 (codes "7411")
+
+-- `--workers`, 4
+abbrev pub workers_rule : Rule
+workers_rule = number_rule (codes "workers") 1 64 (codes "4")
+
+-- `--sessions`, 0
+abbrev pub sessions_rule : Rule
+sessions_rule = number_rule (codes "sessions") 0 4294967295 (codes "0")
+
+-- all other words, of which there has to be one
+abbrev pub tenants_rule : Rule
+tenants_rule = record (new_rule (codes "tenants")) {
+  value_names = 1;
+  required = true;
+  action = Some Append;
+  range = Some (record { start_inclusive = 1; end_inclusive = usize_max });
+}
+
+-- what the program takes
+unfoldable pub server : App
+server = with_rule (with_rule (with_rule (with_rule (new_app (codes "mt_server")) port_rule) workers_rule) sessions_rule) tenants_rule
+
+-- what clap finds in a command line, rule by rule; its first word is the program's name
+unfoldable pub found_in : List Text → List Row
+found_in words = matches_of server words
+
+-- the kinds of fault that clap may tell of a command line, none where it has none; a wish for help is one
+unfoldable pub faults_in : List Text → Kinds
+faults_in words = fault_of server words
+
+-- the words that name tenants, from the left, of what is found
+abbrev pub tenant_words : List Row → List Text
+tenant_words rows = unwrap_or (all_of (codes "tenants") rows) []
+
+-- what is found for an option, or its default
+abbrev pub given_for : Text → List Row → Option Text
+given_for name rows = one_of name rows

@@ -1,0 +1,76 @@
+//! What the program takes.
+
+ghost use Rattle.std.specs.Prelude.{◌≡◌, IfOk, false};
+ghost use Rattle.clap.specs.Words.{app_of, rule_of};
+ghost use Rattle.mt_command_line.specs.CommandLine.{port_rule, workers_rule, sessions_rule, tenants_rule, server};
+
+use clap::{Arg, ArgAction, Command, value_parser};
+use std::alloc::{AllocError, Global};
+
+// `--port`.
+fn port_arg<'a>(alloc: Global) -> Arg<'a>
+    ensures rule { rule_of result ≡ port_rule }
+    ensures local { result.global ≡ false }
+{
+    Arg::new(alloc, "port")
+        .long("port")
+        .value_name("P")
+        .action(ArgAction::Set)
+        .value_parser(value_parser!(u16))
+        .default_value("7411")
+        .help("The port of 127.0.0.1 to listen on; 0 takes a free one")
+}
+
+// `--workers`.
+fn workers_arg<'a>(alloc: Global) -> Arg<'a>
+    ensures rule { rule_of result ≡ workers_rule }
+    ensures local { result.global ≡ false }
+{
+    Arg::new(alloc, "workers")
+        .long("workers")
+        .value_name("N")
+        .action(ArgAction::Set)
+        .value_parser(value_parser!(u8).range(1..=64))
+        .default_value("4")
+        .help("How many connections are served at a time, 1 to 64")
+}
+
+// `--sessions`.
+fn sessions_arg<'a>(alloc: Global) -> Arg<'a>
+    ensures rule { rule_of result ≡ sessions_rule }
+    ensures local { result.global ≡ false }
+{
+    Arg::new(alloc, "sessions")
+        .long("sessions")
+        .value_name("S")
+        .action(ArgAction::Set)
+        .value_parser(value_parser!(u32))
+        .default_value("0")
+        .help("How many connections to accept before it ends; 0: no end")
+}
+
+// The words that name tenants.
+fn tenants_arg<'a>(alloc: Global) -> Arg<'a>
+    ensures rule { rule_of result ≡ tenants_rule }
+    ensures local { result.global ≡ false }
+{
+    Arg::new(alloc, "tenants")
+        .value_name("T:Q")
+        .required(true)
+        .action(ArgAction::Append)
+        .num_args(1..)
+        .help("A tenant's number and its quota, 1 to 1048576 pairs; each tenant once")
+}
+
+/// The command that reads the words.
+pub(crate) fn command_of<'a>(alloc: Global) -> Result<Command<'a>, AllocError>
+    ensures { IfOk result (λ c. app_of c ≡ server) }
+{
+    Command::new(alloc, "mt_server")
+        .bin_name("mt_server")?
+        .about("Serves the maps of many tenants over 127.0.0.1")
+        .arg(port_arg(alloc))?
+        .arg(workers_arg(alloc))?
+        .arg(sessions_arg(alloc))?
+        .arg(tenants_arg(alloc))
+}

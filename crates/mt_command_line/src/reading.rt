@@ -1,0 +1,59 @@
+//! Options from the words of a command line.
+
+ghost use Rattle.std.specs.Prelude.{List, IfOk, IfErr, MatchResult, map};
+ghost use Rattle.clap.specs.Words.{Text, found_of, rows_of};
+ghost use Rattle.mt_command_line.specs.Reads.{AreMatches, AsksFor, IsTold, Names};
+
+use crate::command::command_of;
+use crate::faults::OptionsFault;
+use clap::ArgMatches;
+use clap::error::ErrorKind;
+use mt_options::{MAX_WORKERS, Options, TenantQuota, TenantsFault, read_tenants};
+use mt_rows::Refusal;
+use std::alloc::Global;
+
+// The tenants that the matches name.
+fn tenants_of(alloc: Global, matches: &ArgMatches<'_>) -> Result<Vec<TenantQuota>, TenantsFault>
+    ensures { Names (rows_of (found_of matches.now)) result }
+{
+    read_tenants(alloc, matches.get_strs("tenants").unwrap_or(&[]))
+}
+
+// What the matches ask for.
+fn options_of(alloc: Global, matches: &ArgMatches<'_>) -> Result<Options, OptionsFault>
+    ensures { (words : List Text) → AreMatches words matches.now → MatchResult result (AsksFor words) (IsTold words) }
+{
+    let tenants = match tenants_of(alloc, matches) {
+        Ok(tenants) => tenants,
+        Err(TenantsFault::Malformed(at)) => return Err(OptionsFault::Malformed(at)),
+        Err(TenantsFault::Refused(_, Refusal::Memory)) => return Err(OptionsFault::Memory),
+        Err(TenantsFault::Refused(at, refusal)) => return Err(OptionsFault::Refused(at, refusal)),
+    };
+    Ok(Options {
+        port: matches.get_one::<u16>("port").unwrap_or(7411),
+        workers: matches
+            .get_one::<u8>("workers")
+            .unwrap_or(4)
+            .clamp(1, MAX_WORKERS),
+        sessions: matches.get_one::<u32>("sessions").unwrap_or(0),
+        tenants,
+    })
+}
+
+/// Reads the words of a command line, the first of which is the program's name. The options are judged
+/// before the tenants, and these from the left.
+pub fn read_options(alloc: Global, words: &[String]) -> Result<Options, OptionsFault>
+    ensures ok { IfOk result (AsksFor (map (λ w. w.bytes.items) words.now)) }
+    ensures err { IfErr result (IsTold (map (λ w. w.bytes.items) words.now)) }
+{
+    let command = command_of(alloc)?;
+    match command.try_get_matches_from(words) {
+        Ok(matches) => options_of(alloc, &matches),
+        Err(error) => {
+            if error.kind() == ErrorKind::OutOfMemory {
+                return Err(OptionsFault::Memory);
+            }
+            Err(OptionsFault::Words(error))
+        }
+    }
+}

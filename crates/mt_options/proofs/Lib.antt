@@ -1,0 +1,2 @@
+pub mod TenantLemmas
+pub mod WordLemmas

@@ -1,0 +1,13 @@
+use Rattle.std.proofs.Common.{◌≡◌, ◌∷◌, drop, ◌+◌, ◌∙◌, ap, arith, add-one, sym, drop-cons, get_or}
+use Rattle.mt_options.specs.Words.{digits_behind}
+use Rattle.mt_options.proofs.WordLemmas.{too_great}
+use Rattle.mt_options.proofs.words.number.Goals as goal
+
+pub returns-then-longer-from : goal.returns-then-longer-from
+returns-then-longer-from c =
+    let word = c.args.word.now in
+    let i = c.loop-byte.byte-index in
+    let parted : drop i word ≡ get_or word i 0 ∷ drop (i + 1) word = rw add-one (drop-cons word i 0 c.loop-byte-test.true) in
+    sym (too_great c.loop-byte.value (get_or word i 0) word (drop (i + 1) word)
+    (c.loop-byte.invariant.value ∙ ap (digits_behind c.loop-byte.value) parted)
+    (omega arith))

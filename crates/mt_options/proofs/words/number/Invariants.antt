@@ -1,0 +1,12 @@
+use Rattle.std.proofs.Common.{◌≡◌, ◌≤◌, drop}
+use Rattle.std.specs.Str.{all_ascii_digits}
+use Rattle.mt_options.specs.Words.{digits_behind}
+use Rattle.mt_options.proofs.words.number.Given as goal
+
+-- the digits so far write the value
+abbrev pub invariant-loop-byte : goal.invariant-loop-byte
+invariant-loop-byte l = record {
+  digits : all_ascii_digits l.word ≡ all_ascii_digits (drop l.byte-index l.word);
+  value : digits_behind 0 l.word ≡ digits_behind l.value (drop l.byte-index l.word);
+  small : l.value ≤ 4294967295;
+}

@@ -1,0 +1,23 @@
+//! All that a server is asked to do.
+
+ghost use Rattle.std.specs.Prelude.{◌≤◌};
+
+use crate::tenants::TenantQuota;
+
+/// The greatest number of connections that are served at a time.
+pub const MAX_WORKERS: u8 = 64;
+
+/// Where a server listens, how much it serves before it ends, and whom.
+#[derive(Drop)]
+pub struct Options {
+    /// The port of 127.0.0.1; 0 takes a free one.
+    pub port: u16,
+    /// How many connections are served at a time.
+    pub workers: u8,
+    /// How many connections are accepted before it ends; 0: it doesn't end.
+    pub sessions: u32,
+    /// The tenants, each with its quota.
+    pub tenants: Vec<TenantQuota>,
+
+    ghost few: { (1 ≤ workers) × (workers ≤ 64) },
+}

@@ -1,0 +1,69 @@
+//! Serves the maps of many tenants over 127.0.0.1.
+//!
+//! The exit status is 0 at the end of its sessions, and for `--help`; 1 where a socket, a device, memory
+//! or the output failed; 2 where an option or a tenant is refused. With 1 and 2 it says on standard error
+//! what failed.
+#![tactic(auto)]
+
+use log::sink::Console;
+use log::{Level, Logged, warn};
+use mt_command_line::{OptionsFault, read_options, remedy};
+use mt_service::{ServerFault, run_server};
+use std::env;
+use std::io::{self, ErrorKind};
+use std::marker::Brand;
+use std::net::TcpListener;
+use std::process::ExitCode;
+use std::sync::ledger::Blank;
+
+fn main(rt: HostRuntime) -> ExitCode {
+    let words = match arguments(&rt) {
+        Ok(words) => words,
+        Err(error) if error.kind() == ErrorKind::OutOfMemory => {
+            return ExitCode::from(OptionsFault::Memory.tell(&rt));
+        }
+        Err(_) => {
+            let _ = eprintln!(rt; "mt_server: a word of the command line is no text");
+            return ExitCode::from(2);
+        }
+    };
+    let options = match read_options(rt.alloc(), words.as_slice()) {
+        Ok(options) => options,
+        Err(fault) => return ExitCode::from(fault.tell(&rt)),
+    };
+    let listener = match TcpListener::bind(&rt, ("127.0.0.1", options.port)) {
+        Ok(listener) => listener,
+        Err(error) => return ended(&rt, Err(ServerFault::Socket(error))),
+    };
+    let (blank, mut out) = (Blank::new(65_536), io::writer(&rt));
+    let end = run_server::<Brand, _, _>(&rt, rt.alloc(), blank, listener, &options, &mut out);
+    ended(&rt, end)
+}
+
+// All words of the command line. Words that are no text are an error.
+fn arguments(rt: &HostRuntime) -> io::Result<Vec<String>> {
+    Ok(env::args(rt)?.collect(rt.alloc())?)
+}
+
+// Says how the server ended, where that isn't as all should, and gives the exit status.
+fn ended(rt: &HostRuntime, end: Result<u64, ServerFault>) -> ExitCode {
+    let fault = match end {
+        Ok(others) => {
+            if others != 0 {
+                let logged = Logged::new(rt, Level::Warn, Console(rt));
+                warn!(logged; "{others} sessions ended otherwise than by the end of their requests");
+            }
+            return ExitCode::SUCCESS;
+        }
+        Err(fault) => fault,
+    };
+    // Nothing more can be done where standard error fails too; the status says it.
+    let _ = match &fault {
+        ServerFault::Refused(refusal) => eprintln!(rt;
+            "mt_server: {refusal}: {}",
+            remedy(*refusal)
+        ),
+        _ => eprintln!(rt; "mt_server: {fault}"),
+    };
+    ExitCode::from(fault.status())
+}

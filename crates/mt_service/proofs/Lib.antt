@@ -1,0 +1,2 @@
+pub mod AccountLemmas
+pub mod LineLemmas

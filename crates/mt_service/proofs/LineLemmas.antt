@@ -1,0 +1,30 @@
+-- Parts of a server's output; for `run_server`.
+use Rattle.std.proofs.Common.{ℕ, ◌++◌, Option, Result, Ok, Err, OnErr, refl, ap, sym, ◌∙◌, append_assoc}
+use Rattle.std.specs.Io.KnownBytes.{Appends}
+use Rattle.mt_rows.specs.Rows.{Bytes}
+use Rattle.mt_streams.proofs.StreamLemmas.{Appends-trans}
+use Rattle.mt_service.specs.Lines.{first_line, last_line, Begins, SaysAll, SaysPart}
+
+-- what holds in any case holds where there is an error
+pub on_any : {T E P : Type 0} (r : Result T E) → P → OnErr r P
+on_any (Ok x) p = tt
+on_any (Err e) p = p
+
+-- a beginning of the first line
+pub says_less : (held holds : Option Bytes) (port sessions : ℕ) → Begins held holds (first_line port) → SaysPart held holds sessions
+says_less held holds port sessions (written, (lost, parts), appended) =
+    (port, 0, (written, (lost ++ last_line sessions 0, sym (append_assoc written lost (last_line sessions 0)) ∙ ap (λ (text : Bytes). text ++ last_line sessions 0) parts), appended))
+
+-- the first line
+pub says_first : (held holds : Option Bytes) (port sessions : ℕ) → Appends held holds (first_line port) → SaysPart held holds sessions
+says_first held holds port sessions appended = (port, 0, (first_line port, (last_line sessions 0, refl), appended))
+
+-- the first line and a beginning of the last one
+pub says_more : (held mid holds : Option Bytes) (port sessions answers : ℕ) → Appends held mid (first_line port) → Begins mid holds (last_line sessions answers) → SaysPart held holds sessions
+says_more held mid holds port sessions answers first (written, (lost, parts), appended) =
+    let whole = append_assoc (first_line port) written lost ∙ ap (λ (text : Bytes). first_line port ++ text) parts in
+    (port, answers, (first_line port ++ written, (lost, whole), Appends-trans held mid holds (first_line port) written first appended))
+
+-- both lines
+pub says_all : (held mid holds : Option Bytes) (port sessions answers : ℕ) → Appends held mid (first_line port) → Appends mid holds (last_line sessions answers) → SaysAll held holds sessions
+says_all held mid holds port sessions answers first last = (port, answers, Appends-trans held mid holds (first_line port) (last_line sessions answers) first last)

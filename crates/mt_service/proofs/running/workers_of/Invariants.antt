@@ -1,0 +1,6 @@
+use Rattle.std.proofs.Common.{◌≡◌, vec_len}
+use Rattle.mt_service.proofs.running.workers_of.Given as goal
+
+-- one worker a turn
+abbrev pub invariant-loop : goal.invariant-loop
+invariant-loop g l = vec_len l.workers ≡ l.counter

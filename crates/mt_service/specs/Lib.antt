@@ -1,0 +1,5 @@
+pub mod Accounts
+pub mod Asking
+pub mod Faults
+pub mod Lines
+pub mod Telling

@@ -1,0 +1,20 @@
+-- What a session is told of a call's result.
+use Rattle.std.specs.Prelude.{ℕ, max, Result, Ok, Err}
+use Rattle.mt_rows.specs.declared.reply.Reply.{Reply}
+use Rattle.mt_rows.specs.declared.refusal.Refusal.TheVariants.{Spent}
+use Rattle.mt_runs.specs.declared.event.Answer.{Answer}
+use Rattle.mt_book.specs.declared.calls.CallFault.{CallFault}
+use Rattle.mt_book.specs.declared.calls.CallFault.TheVariants as faults
+use Rattle.mt_session.specs.declared.caller.CallerFault.{CallerFault}
+use Rattle.mt_session.specs.declared.caller.CallerFault.TheVariants as callers
+
+-- the reply of its answer, or the refusal; Spent where all step numbers are given
+abbrev pub told_of : Result Answer CallFault → Result Reply CallerFault
+told_of (Ok answer) = Ok answer.reply
+told_of (Err (faults.Refused refusal)) = Err (callers.Refused refusal)
+told_of (Err (faults.Spent ticket)) = Err (callers.Refused Spent)
+
+-- the last step that a pass knows of after the call
+abbrev pub seen_after : ℕ → Result Answer CallFault → ℕ
+seen_after seen (Ok answer) = max seen answer.last
+seen_after seen (Err fault) = seen

@@ -1,0 +1,27 @@
+//! The accounts of the tenants that are served.
+
+ghost use Rattle.std.specs.Prelude.{◌≡◌, IfOk, IfErr, length};
+ghost use Rattle.mt_state.specs.Begins.{HaveNoPairs};
+ghost use Rattle.mt_service.specs.Accounts.{AreAccountsOf};
+ghost use Rattle.mt_service.specs.Faults.{IsOfTenants};
+
+use crate::faults::ServerFault;
+use mt_options::TenantQuota;
+use mt_rows::Tenants;
+use std::alloc::Global;
+
+/// The accounts of these tenants, without pairs; or the refusal of the first that can't be added.
+pub(crate) fn accounts_of(alloc: Global, tenants: &[TenantQuota]) -> Result<Tenants, ServerFault>
+    ensures accounts { IfOk result (AreAccountsOf (length tenants.now) tenants.now) }
+    ensures empty { IfOk result HaveNoPairs }
+    ensures fault { IfErr result (IsOfTenants tenants.now) }
+{
+    let mut accounts = Tenants::new(alloc);
+    for one in tenants {
+        match accounts.add(one.tenant, one.quota) {
+            Ok(()) => {}
+            Err(refusal) => return Err(ServerFault::from(refusal)),
+        }
+    }
+    Ok(accounts)
+}

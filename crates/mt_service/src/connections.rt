@@ -1,0 +1,41 @@
+//! A connection's socket: how it is set up, and how it is left.
+
+use std::io::{self, Read};
+use std::net::{Shutdown, TcpStream};
+use std::time::{Clock, Duration, Instant};
+
+/// A client that takes nothing of its replies for so many seconds is given up.
+const WRITE_SECONDS: u64 = 30;
+
+/// After a bad frame the connection is read on for so many seconds at most, so that the reply arrives.
+const LINGER_SECONDS: u64 = 1;
+
+/// And for so many bytes at most.
+const LINGER_BYTES: usize = 65_536;
+
+/// Replies are sent at once, and a client that takes none is given up. Where the system refuses
+/// either, the session is right all the same, and slower or longer.
+pub(crate) fn set_up(stream: &TcpStream) {
+    let _ = stream.set_nodelay(true);
+    let _ = stream.set_write_timeout(Some(Duration::from_secs(WRITE_SECONDS)));
+}
+
+/// Ends the writing half and reads what the client still sends, within bounds. A socket that is closed
+/// with bytes unread is reset, and a reset may overtake the reply.
+pub(crate) fn linger<R: Clock>(rt: &R, stream: &TcpStream) -> io::Result<()> {
+    stream.shutdown(Shutdown::Write)?;
+    let began = Instant::now(rt)?;
+    let mut reader = stream;
+    let mut room = [0u8; 4096];
+    let mut read = 0usize;
+    for _ in 0..LINGER_BYTES {
+        let left = Duration::from_secs(LINGER_SECONDS).saturating_sub(began.elapsed(rt)?);
+        stream.set_read_timeout(Some(left))?;
+        let count = reader.read(&mut room)?;
+        read = read.saturating_add(count);
+        if count == 0 || read >= LINGER_BYTES {
+            break;
+        }
+    }
+    Ok(())
+}

@@ -1,0 +1,72 @@
+//! Why a server ended before its time.
+
+ghost use Rattle.mt_service.specs.declared.faults.ServerFault.TheVariants.{Memory as MemoryFault};
+ghost use Rattle.std.specs.Prelude.{◌≡◌};
+
+use mt_rows::Refusal;
+use std::alloc::{AllocError, AllocFailed};
+use std::io;
+use thiserror::Error;
+
+/// Why a server ended before its time.
+#[derive(Debug, Drop, Error)]
+pub enum ServerFault {
+    /// A tenant can't be served.
+    #[error("{0}")]
+    Refused(Refusal),
+    /// A growth of its own was refused.
+    #[error("E2: out of memory")]
+    Memory,
+    /// The listener failed.
+    #[error("the socket failed: {0}")]
+    Socket(io::Error),
+    /// The output failed.
+    #[error("the output failed: {0}")]
+    Output(io::Error),
+    /// Passes were lost, so that no total can be told.
+    #[error("passes were lost")]
+    Passes,
+}
+
+impl ServerFault {
+    /// The exit status: 2 where a tenant is refused, else 1.
+    pub fn status(&self) -> u8 {
+        match self {
+            ServerFault::Refused(_) => 2,
+            ServerFault::Memory
+            | ServerFault::Socket(_)
+            | ServerFault::Output(_)
+            | ServerFault::Passes => 1,
+        }
+    }
+}
+
+/// `Memory` where memory was refused, else `Refused`.
+impl From<Refusal> for ServerFault {
+    ghost use Rattle.mt_service.specs.Faults.{fault_of};
+
+    ghost from_gives = { λ refusal fault. fault ≡ fault_of refusal };
+
+    fn from(refusal: Refusal) -> ServerFault {
+        match refusal {
+            Refusal::Memory => ServerFault::Memory,
+            _ => ServerFault::Refused(refusal),
+        }
+    }
+}
+
+impl From<AllocError> for ServerFault {
+    ghost from_gives = { λ _ e. e ≡ MemoryFault };
+
+    fn from(_e: AllocError) -> ServerFault {
+        ServerFault::Memory
+    }
+}
+
+impl<T: Drop> From<AllocFailed<T>> for ServerFault {
+    ghost from_gives = { λ _ e. e ≡ MemoryFault };
+
+    fn from(_e: AllocFailed<T>) -> ServerFault {
+        ServerFault::Memory
+    }
+}

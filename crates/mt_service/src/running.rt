@@ -1,0 +1,193 @@
+//! The server: from a listener to the sum of its answers.
+
+ghost use Rattle.std.specs.Prelude.{◌≡◌, ◌<◌, ◌^◌, IfOk, IfErr, OnOk, OnErr, vec_len};
+ghost use Rattle.std.specs.List.{sum_by};
+ghost use Rattle.std.specs.Io.KnownBytes.{Appends};
+ghost use Rattle.mt_book.specs.declared.passes.Pass.{Pass};
+ghost use Rattle.mt_crew.specs.declared.crew.Served.{Served};
+ghost use Rattle.mt_streams.specs.Failures.{Failed, NoFewer};
+ghost use Rattle.mt_service.specs.declared.workers.SessionWorker.{SessionWorker};
+ghost use Rattle.mt_service.specs.Faults.{IsOfWriting, IsOfServing, HasCause};
+ghost use Rattle.mt_service.specs.Lines.{first_line, last_line, Begins, SaysAll, SaysPart};
+
+use crate::accounts::accounts_of;
+use crate::callers::DeskCaller;
+use crate::faults::ServerFault;
+use crate::workers::SessionWorker;
+use mt_book::{Book, Pass, gather, open_pass};
+use mt_core::State;
+use mt_crew::{Crew, CrewFault, Served, others_of, run_crew};
+use mt_options::Options;
+use mt_streams::{Sink, write_whole};
+use std::alloc::{AllocError, Global};
+use std::marker::{Send, Sync};
+use std::net::TcpListener;
+use std::sync::ledger::{Blank, Ledger};
+use std::sync::{Mutex, Wait};
+use std::thread::Threads;
+use std::time::Clock;
+
+/// What a crew's sessions come to: the answers of all passes, and how many sessions ended otherwise
+/// than `Closed`.
+#[derive(Clone, Copy, Debug, PartialEq, Eq)]
+pub struct Totals {
+    pub answers: u64,
+    pub others: u64,
+}
+
+/// Serves the connections of a listener, as many as the options say, and writes where it listens and,
+/// at the end, how many sessions and answers there were. It answers the number of sessions that ended
+/// otherwise than `Closed`.
+///
+/// After an error the output has a beginning of these two lines.
+pub fn run_server<L: Ledger + Send + Sync, R: Threads + Wait + Clock + Sync, W: Sink>(
+    rt: &R,
+    alloc: Global,
+    blank: Blank,
+    listener: TcpListener,
+    options: &Options,
+    out: &mut W,
+) -> Result<u64, ServerFault>
+    requires name { blank.name ≡ L.name }
+    requires parts { (blank.parts ≡ L.parts) × (L.parts ≡ 65536) }
+    ensures ok { OnOk result (SaysAll (W.contents out.old) (W.contents out.new) options.now.sessions) }
+    ensures err { OnErr result (SaysPart (W.contents out.old) (W.contents out.new) options.now.sessions) }
+    ensures cause { IfErr result (HasCause options.now.tenants.items (Failed (W.failures out.old) (W.failures out.new))) }
+{
+    let tenants = accounts_of(alloc, options.tenants.as_slice())?;
+    let port = match listener.local_addr() {
+        Ok(addr) => addr.port(),
+        Err(error) => return Err(ServerFault::Socket(error)),
+    };
+    let book = Mutex::new(Book::<L>::new(blank, State::new(alloc, 0, tenants)?));
+    say_first(alloc, out, port)?;
+    let Totals { answers, others } = serve_all(rt, alloc, &book, &listener, options)?;
+    say_last(alloc, out, options.sessions, answers)?;
+    Ok(others)
+}
+
+// Writes where the server listens.
+fn say_first<W: Sink>(alloc: Global, out: &mut W, port: u16) -> Result<(), ServerFault>
+    ensures ok { OnOk result (Appends (W.contents out.old) (W.contents out.new) (first_line port)) }
+    ensures err { OnErr result (Begins (W.contents out.old) (W.contents out.new) (first_line port)) }
+    ensures failures { NoFewer (W.failures out.old) (W.failures out.new) }
+    ensures cause { IfErr result (IsOfWriting (Failed (W.failures out.old) (W.failures out.new))) }
+{
+    match format!(in alloc; "listening 127.0.0.1:{port}\n") {
+        Ok(line) => say(out, line.as_str()),
+        Err(_) => Err(ServerFault::Memory),
+    }
+}
+
+// Writes what the server came to.
+fn say_last<W: Sink>(
+    alloc: Global,
+    out: &mut W,
+    sessions: u32,
+    answers: u64,
+) -> Result<(), ServerFault>
+    ensures ok { OnOk result (Appends (W.contents out.old) (W.contents out.new) (last_line sessions answers)) }
+    ensures err { OnErr result (Begins (W.contents out.old) (W.contents out.new) (last_line sessions answers)) }
+    ensures failures { NoFewer (W.failures out.old) (W.failures out.new) }
+    ensures cause { IfErr result (IsOfWriting (Failed (W.failures out.old) (W.failures out.new))) }
+{
+    match format!(in alloc; "sessions {sessions} answers {answers}\n") {
+        Ok(line) => say(out, line.as_str()),
+        Err(_) => Err(ServerFault::Memory),
+    }
+}
+
+// Writes a line.
+fn say<W: Sink>(out: &mut W, line: &str) -> Result<(), ServerFault>
+    ensures ok { OnOk result (Appends (W.contents out.old) (W.contents out.new) line.now) }
+    ensures err { OnErr result (Begins (W.contents out.old) (W.contents out.new) line.now) }
+    ensures failures { NoFewer (W.failures out.old) (W.failures out.new) }
+    ensures cause { IfErr result (IsOfWriting (Failed (W.failures out.old) (W.failures out.new))) }
+{
+    match write_whole(out, line.as_bytes()) {
+        Ok(()) => Ok(()),
+        Err(error) => Err(ServerFault::Output(error)),
+    }
+}
+
+// Serves the listener's connections by a crew, and adds up what its workers come back with.
+fn serve_all<L: Ledger + Send + Sync, R: Threads + Wait + Clock + Sync>(
+    rt: &R,
+    alloc: Global,
+    book: &Mutex<Book<L>>,
+    listener: &TcpListener,
+    options: &Options,
+) -> Result<Totals, ServerFault>
+    requires { L.parts ≡ 65536 }
+    ensures { IfErr result IsOfServing }
+{
+    let workers = workers_of(rt, alloc, book, options)?;
+    match run_crew(rt, alloc, listener, options.sessions, workers) {
+        Ok(
+            Crew {
+                accepted: _,
+                served,
+            },
+        ) => totals_of(rt, alloc, book, served),
+        Err(CrewFault::Memory) => Err(ServerFault::Memory),
+        Err(CrewFault::Socket(error)) => Err(ServerFault::Socket(error)),
+    }
+}
+
+// So many workers as the options say, each with a pass.
+fn workers_of<'a, L: Ledger, R: Wait + Clock>(
+    rt: &'a R,
+    alloc: Global,
+    book: &'a Mutex<Book<L>>,
+    options: &'a Options,
+) -> Result<Vec<SessionWorker<'a, L, R>>, ServerFault>
+    ensures workers { IfOk result (λ workers. vec_len workers ≡ options.now.workers) }
+    ensures fault { IfErr result IsOfServing }
+{
+    let mut workers = Vec::new(alloc);
+    for _ in 0..options.workers {
+        let Some(pass) = open_pass(rt, book, 0) else {
+            return Err(ServerFault::Passes);
+        };
+        let caller = DeskCaller::new(rt, book, pass, options.tenants.as_slice());
+        workers.push(SessionWorker { rt, caller })?;
+    }
+    Ok(workers)
+}
+
+/// What the workers come to, whose passes are given back to the book: the sum of the passes' shares, and
+/// that of the workers' counts. `Memory` and `Passes` (where these are not all passes that were opened)
+/// are the only errors; after either the passes are lost.
+pub fn totals_of<L: Ledger, R: Wait + Clock>(
+    rt: &R,
+    alloc: Global,
+    book: &Mutex<Book<L>>,
+    served: Vec<Served<SessionWorker<'_, L, R>>>,
+) -> Result<Totals, ServerFault>
+    requires parts { L.parts ≡ 65536 }
+    requires few { vec_len served < 2 ^ 32 }
+    ensures answers { IfOk result (λ totals. totals.answers ≡ sum_by (λ (one : Served (SessionWorker L R)). one.worker.caller.pass.share.amount) served.entry.items) }
+    ensures others { IfOk result (λ totals. totals.others ≡ sum_by (λ (one : Served (SessionWorker L R)). one.others) served.entry.items) }
+    ensures fault { IfErr result IsOfServing }
+{
+    let others = others_of(served.as_slice());
+    let passes = passes_of(alloc, served)?;
+    match gather(rt, book, passes) {
+        Ok(answers) => Ok(Totals { answers, others }),
+        Err(_) => Err(ServerFault::Passes),
+    }
+}
+
+// The passes that the workers hold.
+fn passes_of<L: Ledger, R: Wait + Clock>(
+    alloc: Global,
+    served: Vec<Served<SessionWorker<'_, L, R>>>,
+) -> Result<Vec<Pass<L>>, AllocError>
+    ensures { IfOk result (λ passes. sum_by (λ (pass : Pass L). pass.share.amount) passes.items ≡ sum_by (λ (one : Served (SessionWorker L R)). one.worker.caller.pass.share.amount) served.entry.items) }
+{
+    let mut passes = Vec::new(alloc);
+    for one in served {
+        passes.push(one.worker.caller.into_pass())?;
+    }
+    Ok(passes)
+}

@@ -1,0 +1,37 @@
+//! A worker of the crew: it serves a stream's session with the pass that its caller holds.
+
+use crate::callers::DeskCaller;
+use crate::connections::{linger, set_up};
+use mt_book::Book;
+use mt_crew::Worker;
+use mt_session::{Ended, serve};
+use std::alloc::Global;
+use std::net::TcpStream;
+use std::sync::ledger::Ledger;
+use std::sync::{Mutex, Wait};
+use std::time::Clock;
+
+/// A worker with a caller of its own, which it lends to one session after the other. A session asks it
+/// for nothing before its own Open was answered.
+#[derive(Drop)]
+pub struct SessionWorker<'a, L: Ledger, R: Wait + Clock> {
+    pub rt: &'a R,
+    pub caller: DeskCaller<'a, L, R, &'a Mutex<Book<L>>>,
+}
+
+impl<L: Ledger, R: Wait + Clock> Worker for SessionWorker<'_, L, R> {
+    fn serve(&mut self, alloc: Global, stream: &TcpStream) -> bool {
+        set_up(stream);
+        let mut reader = stream;
+        let mut writer = stream;
+        match serve(alloc, &mut reader, &mut writer, &mut self.caller) {
+            Ok(Ended::Closed) => true,
+            Ok(Ended::Refused) => {
+                // What fails here fails a connection that is given up in any case.
+                let _ = linger(self.rt, stream);
+                false
+            }
+            Ok(Ended::Cut) | Err(_) => false,
+        }
+    }
+}
