@@ -12,15 +12,13 @@ use Rattle.mt_rows.specs.Accounts.{Accounts, account_of}
 use Rattle.mt_rows.specs.Maps.{reply_of, map_after}
 use Rattle.mt_rows.specs.Tenants.{Contents, tenant_map}
 use Rattle.mt_runs.specs.Placings.{Maps}
-use Rattle.mt_session.specs.declared.caller.CallerFault.{CallerFault}
 use Rattle.mt_session.specs.declared.caller.CallerFault.TheVariants.{Refused, Stuck}
-use Rattle.mt_session.specs.Exchanges.{Calls}
 use Rattle.mt_arena.specs.NodeView.{NodeView}
 use Rattle.mt_arena.specs.Arena.{ArenaView, live_count}
 use Rattle.mt_arena.specs.Accesses.{at}
 use Rattle.mt_operation.specs.Operations.{OperationView}
 use Rattle.mt_state.specs.Views.{StateView, contents_of, quota_in, quota_of, granted, granted_in}
-use Rattle.mt_state.specs.Begins.{Begins, begun, new_state}
+use Rattle.mt_state.specs.Begins.{Begins, MayBegin, begun, new_state}
 use Rattle.mt_state.specs.Refused.{IsFault, IsAdmissible, IsRefusal}
 use Rattle.mt_state.proofs.HistoryStart.{content-new, tenant_map-empty}
 use Rattle.mt_core.specs.declared.answers.Ticket.{Ticket}
@@ -28,9 +26,9 @@ use Rattle.mt_core.specs.Alone.{IsAlone, IsRun, most_steps}
 use Rattle.mt_core.specs.Rights.{IsRightState}
 use Rattle.mt_alone.specs.declared.runs.Unfinished.{Unfinished}
 use Rattle.mt_alone.specs.declared.runs.Unfinished.TheVariants as unfinished
-use Rattle.mt_alone.specs.TenantMaps.{TenantMaps, tenant_maps, fresh_maps, with_map, after_command, MapsCall}
+use Rattle.mt_alone.specs.TenantMaps.{TenantMaps, tenant_maps, fresh_maps, with_map, after_command}
 use Rattle.mt_alone.specs.Runs.{Keeps, IsIdle, IsOnly, IsSettled, TellsRun, Finishes}
-use Rattle.mt_alone.specs.Callers.{alone_view, maps_in, AreOpen, IsThere, IsRightAlone, HasNumbers, AloneExchange, Clears, Answers}
+use Rattle.mt_alone.specs.Callers.{maps_in, AreOpen, IsThere, HasNumbers, Answers}
 use Rattle.mt_alone.proofs.RunLemmas.{keeps_same, keeps_on}
 
 no_value : {A : Type 0} {a : A} → ◌≡◌ {A = Option A} None (Some a) → ⊥
@@ -64,21 +62,8 @@ same_maps old new opened k same =
 no_numbers : (v : StateView) → HasNumbers v → v.steps ≡ 2 ^ 59 → ⊥
 no_numbers v has all = omega (arith, has, all)
 
--- the command that is stuck: none is; it is finished; it is stuck as before
-pub clears_none : (v : StateView) (stuck : Option Ticket) → stuck ≡ None → AreOpen v stuck → Clears v v None (Ok tt)
-clears_none v stuck none alone = record { keeps = keeps_same v; stands = refl; alone = subst (AreOpen v) none alone; ends = refl }
-
-pub clears_done : (old new : StateView) (ticket : Ticket) (reply : Reply) → AreOpen old (Some ticket) → Finishes old new ticket.id (Ok reply) → Clears old new None (Ok tt)
-clears_done old new ticket reply alone f = record { keeps = f.keeps; stands = f.stands alone.1; alone = λ left. f.ends; ends = refl }
-
 still_open : (v : StateView) (o : ℕ) (ticket : Ticket) → ticket.id ≡ o → IsOnly v o → IsSettled v o → AreOpen v (Some ticket)
 still_open v o ticket same only settled = (subst (IsOnly v) (sym same) only, subst (IsSettled v) (sym same) settled)
-
-pub clears_spent : (old new : StateView) (ticket back : Ticket) → AreOpen old (Some ticket) → Finishes old new ticket.id (Err (unfinished.Spent back)) → Clears old new (Some back) (Err (Refused refusals.Spent))
-clears_spent old new ticket back alone f = record { keeps = f.keeps; stands = f.stands alone.1; alone = still_open new ticket.id back f.ends.0 f.ends.1 (f.settled alone.1); ends = f.ends.2 }
-
-pub clears_stuck : (old new : StateView) (ticket back : Ticket) → AreOpen old (Some ticket) → Finishes old new ticket.id (Err (unfinished.Stuck back)) → Clears old new (Some back) (Err Stuck)
-clears_stuck old new ticket back alone f = record { keeps = f.keeps; stands = f.stands alone.1; alone = still_open new ticket.id back f.ends.0 f.ends.1 f.ends.2; ends = tt }
 
 -- a begin that is refused
 refused_for : (v : StateView) (tenant : ℕ) (command : Command) (refusal : Refusal) → HasNumbers v → IsSome (account_of v.accounts tenant) → IsRefusal v tenant command refusal → IsFault command refusal
@@ -103,7 +88,7 @@ live_le (n ∷ nodes) = let rest = live_le nodes in let one = by n.version.delet
     by false = omega arith
 
 -- a begin in a state in which no operation is open, as long as a number is left
-module _ (old mid : StateView) (o tenant : ℕ) (command : Command) (right : IsRightState old) (idle : old.steps ≢ 2 ^ 59 → IsIdle old) (b : Begins old mid o 0 tenant command) (may : IsAdmissible old tenant command) where
+module _ (old mid : StateView) (o tenant : ℕ) (command : Command) (right : IsRightState old) (idle : old.steps ≢ 2 ^ 59 → IsIdle old) (point : MayBegin command) (b : Begins old mid o 0 tenant command) (may : IsAdmissible old tenant command) where
   abbrev op : OperationView
   op = begun 0 tenant command
 
@@ -112,10 +97,6 @@ module _ (old mid : StateView) (o tenant : ℕ) (command : Command) (right : IsR
 
   begin_keeps : Keeps old mid
   begin_keeps = subst (Keeps old) (sym b.stands) (record { steps = omega arith; nodes = omega arith; logs = refl; tenants = λ t. refl })
-
-  -- its operation is the only one
-  pub begun_only : IsOnly mid o
-  begun_only = record { unfinished = (op, b.there, refl); others = λ q ne. b.others q ne ∙ idle may.numbered q }
 
   -- and nobody holds a node
   free_before : (k : ℕ) → k < length old.arena.nodes → (at old.arena k).holder ≡ None
@@ -194,14 +175,6 @@ module _ (old mid : StateView) (o tenant : ℕ) (command : Command) (right : IsR
     );
   }
 
-  -- no number is left for its next step
-  pub answers_spent : (new : StateView) (ticket : Ticket) → Finishes mid new o (Err (unfinished.Spent ticket)) → Answers old new tenant command (Err (Refused refusals.Spent)) None
-  answers_spent new ticket f = record {
-    keeps = keeps new (Err (unfinished.Spent ticket)) f;
-    alone = λ left. absurd (left f.ends.2);
-    by_maps = λ numbers. absurd (no_numbers new numbers f.ends.2);
-  }
-
   -- there is no memory for a node
   pub answers_stuck : (new : StateView) (ticket : Ticket) → Finishes mid new o (Err (unfinished.Stuck ticket)) → Answers old new tenant command (Err Stuck) (Some ticket)
   answers_stuck new ticket f = record {
@@ -212,7 +185,7 @@ module _ (old mid : StateView) (o tenant : ℕ) (command : Command) (right : IsR
       granted_is new (Err (unfinished.Stuck ticket)) f,
       elim (told new (Err (unfinished.Stuck ticket)) f numbers) [
         | inl none ↦ inr (same_maps old new (Some tenant) (keeps new (Err (unfinished.Stuck ticket)) f) none)
-        | inr run ↦ inl (maps_now new (Err (unfinished.Stuck ticket)) f run.0 run.1)
+        | inr run ↦ inl (point, maps_now new (Err (unfinished.Stuck ticket)) f run.0 run.1)
       ],
     );
   }
@@ -224,39 +197,6 @@ answers_not_begun v stuck tenant command alone is_there = record {
   alone = alone;
   by_maps = λ numbers. let q = has_quota v tenant is_there in (q.0, q.1, inr refl);
 }
-
--- one before which another one stays stuck
-pub answers_behind : (old new : StateView) (stuck : Option Ticket) (tenant : ℕ) (command : Command) (fault : CallerFault) → IsSome (account_of old.accounts tenant) → Clears old new stuck (Err fault) → Answers old new tenant command (Err fault) stuck
-answers_behind old new stuck tenant command Stuck is_there c = record {
-  keeps = c.keeps;
-  alone = c.alone;
-  by_maps = λ numbers. let q = has_quota old tenant is_there in (q.0, q.1, inr (same_maps old new (Some tenant) c.keeps c.stands));
-}
-answers_behind old new stuck tenant command (Refused refusal) is_there c = record {
-  keeps = c.keeps;
-  alone = c.alone;
-  by_maps = λ numbers. absurd (no_numbers new numbers c.ends);
-}
-
--- and one that is run when none is stuck any more
-pub answers_after : (old mid new : StateView) (before stuck : Option Ticket) (tenant : ℕ) (command : Command) (result : Result Reply CallerFault) → Clears old mid before (Ok tt) → Answers mid new tenant command result stuck → Answers old new tenant command result stuck
-answers_after old mid new before stuck tenant command result c a = record {
-  keeps = keeps_on old mid new c.keeps a.keeps;
-  alone = a.alone;
-  by_maps = λ numbers. subst (λ (m : TenantMaps). MapsCall (Some tenant) m command result (maps_in new (Some tenant))) (same_maps old mid (Some tenant) c.keeps c.stands) (a.by_maps numbers);
-}
-
--- what is told of a command where no tenant is opened, and of one of the opened tenant
-pub call_unopened : (v : StateView) (stuck : Option Ticket) (command : Command) → AloneExchange (alone_view v None stuck) (Calls command (Err (Refused refusals.NotOpen))) (alone_view v None stuck)
-call_unopened v stuck command = record { keeps = keeps_same v; by_maps = λ numbers. (refl, refl) }
-
-pub call_answered : (old new : StateView) (stuck now : Option Ticket) (tenant : ℕ) (command : Command) (result : Result Reply CallerFault) → Answers old new tenant command result now
-    → AloneExchange (alone_view old (Some tenant) stuck) (Calls command result) (alone_view new (Some tenant) now)
-call_answered old new stuck now tenant command result a = record { keeps = a.keeps; by_maps = a.by_maps }
-
--- the caller is right after it
-pub right_behind : (old new : StateView) (stuck now : Option Ticket) (opened : Option ℕ) → IsRightAlone old opened stuck → Keeps old new → AreOpen new now → IsRightAlone new opened now
-right_behind old new stuck now opened h k alone = record { logs = k.logs ∙ h.logs; alone = alone; there = there_stays old new opened k h.there }
 
 -- numbers were left before where they are now
 pub numbers_back : (old new : StateView) → Keeps old new → HasNumbers new → HasNumbers old

@@ -5,8 +5,8 @@ use Rattle.mt_alone.specs.TenantMaps.{MapsExchange}
 use Rattle.mt_alone.specs.Callers.{maps_of}
 use Rattle.mt_alone.proofs.serving.serve_tenants.Goals as goal
 
-pub returns : goal.returns
-returns g c numbers =
+pub returns-clause-serves : goal.returns-clause-serves
+returns-clause-serves g c numbers =
     let r = c.args.reader.now in
     let q = c.serve_alone-ended.new.reader in
     let w = c.args.writer.now in
