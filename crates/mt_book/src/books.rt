@@ -1,7 +1,8 @@
 //! The book: the state, and the total of the answers that were taken of it.
 
-ghost use Rattle.std.specs.Prelude.{◌≡◌, ◌+◌, ◌<◌, ◌≤◌, ◌↔◌, false, true, max, IfOk, IfErr, OnErr, OnOk, IsOk, IfSome, IfNone, IsSome, length, vec_len};
+ghost use Rattle.std.specs.Prelude.{◌≡◌, ◌+◌, ◌<◌, ◌≤◌, ◌↔◌, false, true, max, IfOk, IfErr, OnErr, OnOk, IsOk, IfSome, IfNone, IsTrue, IsSome, length, vec_len};
 ghost use Rattle.std.specs.List.{sum_by};
+ghost use Rattle.mt_rows.specs.Accounts.{account_of};
 ghost use Rattle.mt_state.specs.Promises.{Tells};
 ghost use Rattle.mt_state.specs.Begins.{IsWorker, MayBegin};
 ghost use Rattle.mt_core.specs.Tickets.{TellsBegin, TellsTake, TellsCancel, TellsRefusal};
@@ -158,6 +159,13 @@ impl<L: Ledger> Book<L> {
         ensures { result ≡ self.now.state.answers }
     {
         self.state.answers()
+    }
+
+    /// Whether there is such a tenant.
+    pub fn has_tenant(&self, tenant: u32) -> bool
+        ensures { IsTrue result ↔ IsSome (account_of self.now.state.accounts tenant) }
+    {
+        self.state.has_tenant(tenant)
     }
 
     /// How many logs are served, 0 where none are kept.

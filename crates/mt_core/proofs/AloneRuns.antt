@@ -20,6 +20,7 @@ use Rattle.mt_state.specs.Views.{StateView, Shown, contents_of, op_at, map_of, q
 use Rattle.mt_state.specs.Steps.{MayFollow, IsSameAsked, change_in, told_change}
 use Rattle.mt_state.specs.Notes.{Notes}
 use Rattle.mt_state.specs.Invariant.{is_unplaced}
+use Rattle.mt_state.proofs.Granted.{quota_stays}
 use Rattle.mt_state.proofs.Moved.{first_is}
 use Rattle.mt_state.specs.Promises.{IsQuiet, IsPlacing, IsAnswer, IsStep}
 use Rattle.mt_core.specs.Alone.{IsAlone, IsRun}
@@ -197,7 +198,7 @@ sets old op Unlock _ told o follows notes is changes = absurd follows
 sets old op Done q told o follows notes is changes = absurd follows
 
 -- from such a phase on nothing is placed, and the outcome stays
-stays : (old : StateView) (op : OperationView) (p q : Phase) (told : Option Outcome) (outcome : Outcome) → op.outcome ≡ Some outcome → is_unplaced p ≡ false → MayFollow p q → Notes old op p q told
+pub stays : (old : StateView) (op : OperationView) (p q : Phase) (told : Option Outcome) (outcome : Outcome) → op.outcome ≡ Some outcome → is_unplaced p ≡ false → MayFollow p q → Notes old op p q told
     → (is_unplaced q ≡ false) × (told ≡ op.outcome)
 stays old op SplitPrev LockParent told outcome is placed follows notes = (refl, notes)
 stays old op SplitPrev _ told outcome is placed follows notes = absurd follows
@@ -270,11 +271,11 @@ module _ (old v w : StateView) (o : ℕ) (op : OperationView) (made : ℕ) (done
   -- a step that places the operation's change makes it of the maps of before
   placed_run : HasLeft old v s.before → (p : IsPlacing v w s.before s.after) → IsRun old w op p.reply
   placed_run u p = record {
-    told = p.told ∙ ap (λ x. reply_of (quota_of v s.before.tenant) s.before.command (tenant_map s.before.tenant x)) u.contents ∙ same_reply v old s.before op asked r.grows.quotas (contents_of old);
+    told = p.told ∙ ap (λ x. reply_of (quota_of v s.before.tenant) s.before.command (tenant_map s.before.tenant x)) u.contents ∙ same_reply v old s.before op asked (quota_stays old v r.grows) (contents_of old);
     makes = λ t.
         p.makes t
         ∙ ap (λ x. maps_after_one (quota_of v) (Some (record { tenant = s.before.tenant; command = s.before.command })) (λ u. tenant_map u x) t) u.contents
-        ∙ same_maps v old s.before op asked r.grows.quotas (contents_of old) t;
+        ∙ same_maps v old s.before op asked (quota_stays old v r.grows) (contents_of old) t;
   }
 
   -- and nothing is placed behind it
@@ -347,7 +348,7 @@ module _ (old v : StateView) (o : ℕ) (op : OperationView) (made : ℕ) (r : Is
       let is : told.reply ≡ reply_of (quota_of old op.tenant) op.command (tenant_map op.tenant (contents_of old)) =
       (answer.placed real).looks look
       ∙ ap (reply_of (quota_of v r.after.tenant) r.after.command) (u.maps r.after.tenant told.at (omega (arith, answer.since, first_begun)) (omega (arith, answer.upto, upto)))
-      ∙ same_reply v old r.after op r.asked r.grows.quotas (contents_of old) in
+      ∙ same_reply v old r.after op r.asked (quota_stays old v r.grows) (contents_of old) in
       record {
         told = is;
         makes = λ t. ap (tenant_map t) u.contents ∙ maps_stay old op (ap is_change (sym is) ∙ look) t;

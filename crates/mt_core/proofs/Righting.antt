@@ -6,8 +6,9 @@ use Rattle.mt_operation.specs.Operations.{view_of}
 use Rattle.mt_operation.specs.Tables.{op_at as operation_at}
 use Rattle.mt_state.specs.Views.{Core, StateView, shown}
 use Rattle.mt_state.specs.Invariant.{StateInvariant}
-use Rattle.mt_state.proofs.Shown.{inside_of}
+use Rattle.mt_state.proofs.Shown.{inside_of, shown_there}
 use Rattle.mt_core.specs.Rights.{IsRightOperation, IsRightState}
+use Rattle.mt_core.proofs.Following.{holder_open}
 use Rattle.mt_core.proofs.Taking.{done_answer, ended_done}
 
 module _ (c : Core) (h : StateInvariant c) where
@@ -32,6 +33,9 @@ module _ (c : Core) (h : StateInvariant c) where
     tape = record { rises = h.tape.rises; made = h.tape.made; legal = h.tape.legal; keys = h.tape.keys; logs = h.tape.logs };
     operations = λ o view there. let w = inside_of c.table o view there in subst (IsRightOperation (shown c)) w.2 (right_inside o w.0 w.1);
     accounts = λ t a there. let counted = h.counts t a there in record { count = counted.0; quota = counted.1 };
+    holders = λ k o inside holds.
+        let w = h.holders k o inside holds in
+        (view_of w.0, shown_there c.table o w.0 w.1, holder_open w.0.walk.phase w.0.walk w.0.splits k w.2);
   }
 
 -- all that a state tells is right

@@ -1,5 +1,5 @@
 -- What holds of every state, by what it shows.
-use Rattle.std.specs.Prelude.{◌≡◌, ℕ, ◌+◌, ◌<◌, ◌≤◌, true, Some}
+use Rattle.std.specs.Prelude.{◌≡◌, ℕ, ◌+◌, ◌<◌, ◌≤◌, true, Some, length}
 use Rattle.std.specs.List.{All, Contains}
 use Rattle.std.specs.FinMap.{len}
 use Rattle.mt_rows.specs.declared.tenants.Account.{Account}
@@ -12,11 +12,12 @@ use Rattle.mt_tape.specs.declared.entry.Entry.{Entry as TapeEntry}
 use Rattle.mt_tape.specs.Tapes.{RisesOver, last_write}
 use Rattle.mt_tape.specs.Histories.{IsLegalTape}
 use Rattle.mt_insert.specs.Puts.{change_of}
+use Rattle.mt_arena.specs.Accesses.{at}
 use Rattle.mt_operation.specs.declared.outcome.Outcome.{Outcome}
 use Rattle.mt_operation.specs.Operations.{OperationView, is_done}
 use Rattle.mt_state.specs.Views.{StateView, contents_of, op_at}
 use Rattle.mt_state.specs.Steps.{change_in}
-use Rattle.mt_state.specs.Promises.{IsAnswer}
+use Rattle.mt_state.specs.Promises.{IsAnswer, HasStep}
 use Rattle.mt_state.specs.Invariant.{AreLogs, made_count}
 
 -- the steps of the tape rise over its floor and were made, each entry tells what its step did to a user's key, and it goes back as far as the logs need it
@@ -48,9 +49,11 @@ pub record IsRightAccount (v : StateView) (tenant : ℕ) (account : Account) : T
   pub count : account.count ≡ len (tenant_map tenant (contents_of v))
   pub quota : account.count ≤ account.quota
 
--- all of it; and each answer that was taken, and each operation that has made a step, made one of its own
+-- All of it; each answer that was taken, and each operation that has made a step, made one of its own; and who holds a node is an operation that has a
+-- step left.
 pub record IsRightState (v : StateView) : Type 0 where
   pub answers : v.answers + made_count v.table ≤ v.steps
   pub tape : IsRightTape v
   pub operations : (o : ℕ) (op : OperationView) → op_at v.table o ≡ Some op → IsRightOperation v op
   pub accounts : (t : ℕ) (account : Account) → account_of v.accounts t ≡ Some account → IsRightAccount v t account
+  pub holders : (k o : ℕ) → k < length v.arena.nodes → (at v.arena k).holder ≡ Some o → HasStep v o

@@ -4,7 +4,7 @@
 //! operation is shown whole, with what it remembers on its way; `State` shows its steps and its reply
 //! alone. Units: steps by their numbers, which begin at 1.
 
-ghost use Rattle.std.specs.Prelude.{◌≡◌, ◌≢◌, ◌+◌, ◌<◌, ◌≤◌, ◌^◌, IsSome, IfOk, IfErr, OnOk, OnErr, length, slice_set, Some, None, []};
+ghost use Rattle.std.specs.Prelude.{◌≡◌, ◌≢◌, ◌+◌, ◌<◌, ◌≤◌, ◌^◌, ◌↔◌, IsTrue, IsSome, IfOk, IfErr, OnOk, OnErr, length, slice_set, Some, None, []};
 ghost use Rattle.std.specs.Option.{option_map};
 ghost use Rattle.mt_rows.specs.Accounts.{account_of};
 ghost use Rattle.mt_arena.specs.Arena.{IsArena};
@@ -169,6 +169,13 @@ impl Inner {
             (Phase::Confirm, Some(outcome)) => Some(&outcome.reply),
             _ => None,
         }
+    }
+
+    /// Whether there is such a tenant.
+    pub(crate) fn has_tenant(&self, tenant: u32) -> bool
+        ensures { IsTrue result ↔ IsSome (account_of (shown self.now).accounts tenant) }
+    {
+        self.tenants.account(tenant).is_some()
     }
 
     /// What holds of every state.

@@ -3,8 +3,9 @@
 //! It owns its nodes, its tape and its operations. Errors: refusals of `begin`, which change nothing.
 //! Units: steps by their numbers, which begin at 1.
 
-ghost use Rattle.std.specs.Prelude.{◌≡◌, ◌≢◌, ◌<◌, ◌≤◌, ℕ, IfOk, OnOk, OnErr, length, Some};
+ghost use Rattle.std.specs.Prelude.{◌≡◌, ◌≢◌, ◌<◌, ◌≤◌, ◌↔◌, ℕ, IfOk, OnOk, OnErr, IsTrue, IsSome, length, Some};
 ghost use Rattle.std.specs.Option.{option_map};
+ghost use Rattle.mt_rows.specs.Accounts.{account_of};
 ghost use Rattle.mt_rows.specs.Tenants.{tenant_map};
 ghost use Rattle.mt_state.specs.Views.{op_at, contents_of};
 ghost use Rattle.mt_state.specs.Promises.{Tells};
@@ -154,9 +155,16 @@ impl State {
         self.inner.log_count()
     }
 
+    /// Whether there is such a tenant, for which operations may be begun.
+    pub fn has_tenant(&self, tenant: u32) -> bool
+        ensures { IsTrue result ↔ IsSome (account_of self.now.accounts tenant) }
+    {
+        self.inner.has_tenant(tenant)
+    }
+
     /// What holds of every state: its tape is legal, and goes back before the first step of each open
     /// operation; a finished one's reply is right at its number; a change that was placed has its entry;
-    /// the accounts count the pairs.
+    /// the accounts count the pairs; who holds a node is an operation that has a step left.
     pub fn facts(&self)
         ensures { IsRightState self.now }
     {

@@ -26,7 +26,7 @@ use Rattle.mt_session.specs.Sessions.{IsReply, AreReplies, Transcript, call_told
 use Rattle.mt_session.specs.Plain.{PlainTenants, place_of, PlainOpens, TenantCalls, PlainCalls, PlainExchanges, IsAmple}
 
 -- a command that is taken has no fault
-fault_not_taken : (command : Command) (fault : Refusal) → IsTaken command → IsFirstFault command fault → ⊥
+pub fault_not_taken : (command : Command) (fault : Refusal) → IsTaken command → IsFirstFault command fault → ⊥
 fault_not_taken command KeyLong t p = p t.key
 fault_not_taken command Column t p = p.1 t.columns
 fault_not_taken command ColumnLong t p = p.2 t.short
@@ -34,7 +34,7 @@ fault_not_taken command ScanCount t p = p.3 t.count
 fault_not_taken command _ t p = absurd p
 
 -- a command has one first fault
-fault_same : (command : Command) (f g : Refusal) → IsFirstFault command f → IsFirstFault command g → f ≡ g
+pub fault_same : (command : Command) (f g : Refusal) → IsFirstFault command f → IsFirstFault command g → f ≡ g
 fault_same command KeyLong KeyLong p q = refl
 fault_same command KeyLong Column p q = absurd (p q.0)
 fault_same command KeyLong ColumnLong p q = absurd (p q.0)

@@ -13,6 +13,7 @@ use Rattle.mt_state.specs.Views.{StateView, Shown, op_at, map_of, changed_at}
 use Rattle.mt_state.specs.Promises.{IsStep}
 use Rattle.mt_state.specs.Begins.{IsAnswerOf, IsEnded, Takes}
 use Rattle.mt_state.specs.Histories.{Names, Renames, StoryTells, History}
+use Rattle.mt_state.proofs.Granted.{quota_stays}
 use Rattle.mt_state.proofs.HistorySteps.{right_after, own_told, other_told, made_after}
 
 no_value : {A : Type 0} {a : A} → ◌≡◌ {A = Option A} None (Some a) → ⊥
@@ -62,7 +63,7 @@ module _ (quotas : Quotas) (first : Maps) (story : Story) (names : Names) (old n
   pub history_moved : ((a : Answer) → answer ≡ Some a → ⊥) → History quotas first (with_step story o answer) names new
   history_moved goes_on = record {
     right = right_now;
-    quota = λ t. s.grows.quotas t ∙ h.quota t;
+    quota = λ t. quota_stays old new s.grows t ∙ h.quota t;
     count = count_now;
     made = made_after quotas first story old new o n done answer h.right h.quota h.count h.made s told_before ends;
     told = λ q m e. elim (cases_eq q o) [
@@ -85,7 +86,7 @@ module _ (quotas : Quotas) (first : Maps) (story : Story) (names : Names) (old n
   pub history_done : (last : StateView) (now : Names) (a : Answer) → Takes new last n a → Renames names now o None → History quotas first (with_step story o answer) now last
   history_done last now a t r = subst (History quotas first (with_step story o answer) now) (sym t.gone) (record {
     right = right_now;
-    quota = λ u. s.grows.quotas u ∙ h.quota u;
+    quota = λ u. quota_stays old new s.grows u ∙ h.quota u;
     count = count_now;
     made = made_after quotas first story old new o n done answer h.right h.quota h.count h.made s told_before ends;
     told = λ q m e.

@@ -24,6 +24,7 @@ use Rattle.mt_state.specs.Notes.{Notes}
 use Rattle.mt_state.specs.Promises.{IsQuiet, IsPlacing, IsAnswer, IsStep}
 use Rattle.mt_state.specs.Begins.{IsAnswerOf}
 use Rattle.mt_state.specs.Histories.{StoryTells}
+use Rattle.mt_state.proofs.Granted.{quota_stays}
 use Rattle.mt_state.proofs.HistoryChanges.{told_change-of, told_change-is, placed_after, same_at_end, same_when_placed}
 use Rattle.mt_state.proofs.HistoryMaps.{AreMade, map_of-now, map-quiet, changed-quiet, made-quiet, map-placing, changed-placing, made-placing}
 
@@ -152,7 +153,7 @@ module _ (quotas : Quotas) (first : Maps) (story : Story) (old new : StateView) 
 
   -- the answer's reply, by the tenant's quota of the run
   quota_now : quota_of new s.before.tenant ≡ quotas s.before.tenant
-  quota_now = s.grows.quotas s.before.tenant ∙ quota s.before.tenant
+  quota_now = quota_stays old new s.grows s.before.tenant ∙ quota s.before.tenant
 
   -- the answer of a step that ends its operation is right
   right_answer : (a : Answer) → answer ≡ Some a → IsAnswer new s.after (record { reply = a.reply; at = a.at })

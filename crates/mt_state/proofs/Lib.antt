@@ -1,4 +1,5 @@
 pub mod Shown
+pub mod Granted
 pub mod Rely
 pub mod Answered
 pub mod Moving

@@ -28,17 +28,18 @@ use Rattle.mt_operation.specs.Operations.{view_of, is_done}
 use Rattle.mt_operation.specs.Tables.{op_at as operation_at}
 use Rattle.mt_insert.specs.Puts.{IsPut, change_of, row_over, write_of}
 use Rattle.mt_insert.specs.Moves.{pushed}
-use Rattle.mt_state.specs.Views.{Core, shown, map_of, quota_of, quota_in, KeepsPast}
+use Rattle.mt_state.specs.Views.{Core, shown, map_of, quota_of, granted_in, KeepsPast}
 use Rattle.mt_state.specs.Notes.{key_asked}
 use Rattle.mt_state.specs.Promises.{IsPlacing, IsAnswer}
 use Rattle.mt_state.specs.Kept.{IsKeptOf, IsPlacedOnce}
 use Rattle.mt_state.specs.Invariant.{IsStampOf, IsTape, AreStamps, IsCountedUpTo, HoldsAt, IsUnremoved, StateInvariant, StateGuarantee, one_if_prepared}
 use Rattle.mt_state.specs.Moves.{IsMove}
 use Rattle.mt_state.proofs.Telling.{logs_later, map_now}
+use Rattle.mt_state.proofs.Granted.{quota_same}
 
--- the accounts after the step: quotas stay, and each count is that of the pairs
+-- the accounts after the step: tenants and quotas stay, and each count is that of the pairs
 pub record Counts (c : Core) (accounts : Accounts) (contents : Contents) : Type 0 where
-  pub quotas : (t : ℕ) → quota_in (account_of accounts t) ≡ quota_in (account_of c.accounts t)
+  pub quotas : (t : ℕ) → granted_in (account_of accounts t) ≡ granted_in (account_of c.accounts t)
   pub there : (t : ℕ) → IsSome (account_of c.accounts t) → IsSome (account_of accounts t)
   pub counted : (t : ℕ) (a : Account) → account_of accounts t ≡ Some a → (a.count ≡ len (tenant_map t contents)) × (a.count ≤ a.quota)
 
@@ -193,7 +194,7 @@ module _ (c : Core) (o : ℕ) (before after : Operation) (arena : ArenaView) (ac
         changes = λ e. (
           is_changed-push c.tape.entries wrote,
           told
-              ∙ ap (λ q. reply_of q (ask before.task) (tenant_map before.task.tenant (content_of c.arena))) (sym (p.counts.quotas before.task.tenant))
+              ∙ ap (λ q. reply_of q (ask before.task) (tenant_map before.task.tenant (content_of c.arena))) (sym (quota_same (account_of accounts before.task.tenant) (account_of c.accounts before.task.tenant) (p.counts.quotas before.task.tenant)))
               ∙ ap (reply_of (quota_of (shown new) before.task.tenant) (ask before.task)) (sym map_before)
               ∙ ap (λ (t : Task). reply_of (quota_of (shown new) t.tenant) (ask t) (map_of (shown new) t.tenant (c.steps + 1 - 1))) (sym task),
         );

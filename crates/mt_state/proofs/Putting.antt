@@ -54,7 +54,7 @@ use Rattle.mt_insert.specs.Puts.{IsPut, row_over}
 use Rattle.mt_insert.specs.Kept.{HoldsBorder, IsAtUnlock}
 use Rattle.mt_insert.specs.Moves.{walk_placed, entry_of, pushed, Places}
 use Rattle.mt_insert.proofs.Places.{may_store, may_publish}
-use Rattle.mt_state.specs.Views.{StateView, Core, shown, quota_of, quota_in}
+use Rattle.mt_state.specs.Views.{StateView, Core, shown, quota_of, quota_in, granted_in}
 use Rattle.mt_state.specs.Steps.{MayFollow}
 use Rattle.mt_state.specs.Notes.{Notes}
 use Rattle.mt_state.specs.Kept.{IsOfKind, IsOpenOperation, IsStoring, IsPublishing, MayUnlock, IsUnlocking, IsKeptAt, has_splits, IsPlacedOnce, IsKeptOf}
@@ -70,7 +70,7 @@ use Rattle.mt_state.proofs.OneNode.{stepped, counted_live, replaced_at, replaced
 use Rattle.mt_state.proofs.Locking.{ready_one, room_for}
 
 -- one pair more leaves the quota, and the account there
-quota_more : (a : Option Account) → quota_in (option_map one_more a) ≡ quota_in a
+quota_more : (a : Option Account) → granted_in (option_map one_more a) ≡ granted_in a
 quota_more None = refl
 quota_more (Some account) = refl
 
@@ -170,8 +170,8 @@ module _ (c : Core) (now : StateView) (o : ℕ) (is : shown c ≡ now) (h : Stat
       → HasRoom (account_of c.accounts op.task.tenant) → account_of accounts op.task.tenant ≡ option_map one_more (account_of c.accounts op.task.tenant) → OthersStay c.accounts accounts op.task.tenant → Counts c accounts all
   counted_new accounts all row e none has_room more others = record {
     quotas = λ t. elim (cases_eq t op.task.tenant) [
-      | inl same ↦ ap (λ u. quota_in (account_of accounts u)) same ∙ ap quota_in more ∙ quota_more (account_of c.accounts op.task.tenant) ∙ ap (λ u. quota_in (account_of c.accounts u)) (sym same)
-      | inr other ↦ ap quota_in (others t other)
+      | inl same ↦ ap (λ u. granted_in (account_of accounts u)) same ∙ ap granted_in more ∙ quota_more (account_of c.accounts op.task.tenant) ∙ ap (λ u. granted_in (account_of c.accounts u)) (sym same)
+      | inr other ↦ ap granted_in (others t other)
     ];
     there = λ t some. elim (cases_eq t op.task.tenant) [
       | inl same ↦ ap (λ u. is_some (account_of accounts u)) same ∙ ap is_some more ∙ some_more (account_of c.accounts op.task.tenant) ∙ ap (λ u. is_some (account_of c.accounts u)) (sym same) ∙ some

@@ -30,15 +30,16 @@ use Rattle.mt_state.specs.Views.{StateView, Core, shown, past_of, map_of, quota_
 use Rattle.mt_state.specs.Promises.{IsAnswer}
 use Rattle.mt_state.specs.Kept.{IsOpenOperation, IsOnItsWay, HasAnswer, MayUnlock, IsClimbing, IsLayering, IsReturning, IsKeptAt, IsPlacedOnce, IsKeptOf}
 use Rattle.mt_state.specs.Invariant.{IsUnremoved, StateGuarantee}
+use Rattle.mt_state.proofs.Granted.{quota_stays}
 
 -- what is placed stays so
 pub placed_stays : (old new : StateView) → KeepsPast old new → (t : ℕ) (c : Command) (at : ℕ) (reply : Reply) → at ≤ old.steps → IsPlaced old t c at reply → IsPlaced new t c at reply
 placed_stays old new g t c at reply le h = record {
   changes = λ e. let w = h.changes e in (
     g.changes at le ∙ w.0,
-    w.1 ∙ ap (λ q. reply_of q c (map_of old t (at - 1))) (sym (g.quotas t)) ∙ ap (reply_of (quota_of new t) c) (sym (g.maps t (at - 1) (omega arith))),
+    w.1 ∙ ap (λ q. reply_of q c (map_of old t (at - 1))) (sym (quota_stays old new g t)) ∙ ap (reply_of (quota_of new t) c) (sym (g.maps t (at - 1) (omega arith))),
   );
-  looks = λ e. h.looks e ∙ ap (λ q. reply_of q c (map_of old t at)) (sym (g.quotas t)) ∙ ap (reply_of (quota_of new t) c) (sym (g.maps t at le));
+  looks = λ e. h.looks e ∙ ap (λ q. reply_of q c (map_of old t at)) (sym (quota_stays old new g t)) ∙ ap (reply_of (quota_of new t) c) (sym (g.maps t at le));
 }
 
 -- so is an answer

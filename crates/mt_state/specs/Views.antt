@@ -68,6 +68,13 @@ abbrev pub quota_in : Option Account → ℕ
 quota_in None = 0
 quota_in (Some account) = account.quota
 
+-- a tenant's quota, if it has an account
+abbrev pub granted_in : Option Account → Option ℕ
+granted_in account = option_map (λ a. a.quota) account
+
+abbrev pub granted : StateView → ℕ → Option ℕ
+granted v t = granted_in (account_of v.accounts t)
+
 -- how many pairs a tenant may have
 abbrev pub quota_of : StateView → ℕ → ℕ
 quota_of v t = quota_in (account_of v.accounts t)
@@ -77,9 +84,9 @@ pub record IsPlaced (v : StateView) (tenant : ℕ) (command : Command) (at : ℕ
   pub changes : is_change reply ≡ true → (changed_at v at ≡ true) × (reply ≡ reply_of (quota_of v tenant) command (map_of v tenant (at - 1)))
   pub looks : is_change reply ≡ false → reply ≡ reply_of (quota_of v tenant) command (map_of v tenant at)
 
--- what stays of what was: no number falls, and the maps, the changes and the quotas of all steps made stay
+-- what stays of what was: no number falls, the maps and the changes of all steps made stay, and so do the tenants with their quotas
 pub record KeepsPast (old new : StateView) : Type 0 where
   pub steps : old.steps ≤ new.steps
-  pub quotas : (t : ℕ) → quota_of new t ≡ quota_of old t
+  pub quotas : (t : ℕ) → granted new t ≡ granted old t
   pub maps : (t m : ℕ) → m ≤ old.steps → map_of new t m ≡ map_of old t m
   pub changes : (m : ℕ) → m ≤ old.steps → changed_at new m ≡ changed_at old m

@@ -1,0 +1,207 @@
+-- What a caller over one state answers, by what the runs of its commands leave: for `Alone` and its private functions.
+use Rattle.std.proofs.Common.{◌≡◌, ◌≢◌, ℕ, ◌+◌, ◌<◌, ◌≤◌, inl, inr, Bool, true, false, cond, eqb, List, [], ◌∷◌, length, Option, Some, None, Result, Ok, Err, is_some, refl, sym, ap, subst, ◌∙◌, arith}
+use mathlib.Core.Path.{fun_ext}
+use Rattle.std.specs.Prelude.{◌^◌, IsSome}
+use Rattle.std.proofs.lemmas.Bool.{eqb-true}
+use Rattle.mt_rows.specs.declared.command.Command.{Command}
+use Rattle.mt_rows.specs.declared.reply.Reply.{Reply}
+use Rattle.mt_rows.specs.declared.refusal.Refusal.{Refusal}
+use Rattle.mt_rows.specs.declared.refusal.Refusal.TheVariants as refusals
+use Rattle.mt_rows.specs.declared.tenants.Account.{Account}
+use Rattle.mt_rows.specs.Accounts.{Accounts, account_of}
+use Rattle.mt_rows.specs.Maps.{reply_of, map_after}
+use Rattle.mt_rows.specs.Tenants.{Contents, tenant_map}
+use Rattle.mt_runs.specs.Placings.{Maps}
+use Rattle.mt_session.specs.declared.caller.CallerFault.TheVariants.{Refused, Stuck}
+use Rattle.mt_arena.specs.NodeView.{NodeView}
+use Rattle.mt_arena.specs.Arena.{ArenaView, live_count}
+use Rattle.mt_arena.specs.Accesses.{at}
+use Rattle.mt_operation.specs.Operations.{OperationView}
+use Rattle.mt_state.specs.Views.{StateView, contents_of, quota_in, quota_of, granted, granted_in}
+use Rattle.mt_state.specs.Begins.{Begins, MayBegin, begun, new_state}
+use Rattle.mt_state.specs.Refused.{IsFault, IsAdmissible, IsRefusal}
+use Rattle.mt_state.proofs.HistoryStart.{content-new, tenant_map-empty}
+use Rattle.mt_core.specs.declared.answers.Ticket.{Ticket}
+use Rattle.mt_core.specs.Alone.{IsAlone, IsRun, most_steps}
+use Rattle.mt_core.specs.Rights.{IsRightState}
+use Rattle.mt_alone.specs.declared.runs.Unfinished.{Unfinished}
+use Rattle.mt_alone.specs.declared.runs.Unfinished.TheVariants as unfinished
+use Rattle.mt_alone.specs.TenantMaps.{TenantMaps, tenant_maps, fresh_maps, with_map, after_command}
+use Rattle.mt_alone.specs.Runs.{Keeps, IsIdle, IsOnly, IsSettled, TellsRun, Finishes}
+use Rattle.mt_alone.specs.Callers.{maps_in, AreOpen, IsThere, HasNumbers, Answers}
+use Rattle.mt_alone.proofs.RunLemmas.{keeps_same, keeps_on}
+
+no_value : {A : Type 0} {a : A} → ◌≡◌ {A = Option A} None (Some a) → ⊥
+no_value e = cc
+
+-- a tenant that is there has a quota
+has_quota : (v : StateView) (tenant : ℕ) → IsSome (account_of v.accounts tenant) → (quota : ℕ) × (granted v tenant ≡ Some quota) × (quota_of v tenant ≡ quota)
+has_quota v tenant some = known (account_of v.accounts tenant) some
+  where
+    known : (a : Option Account) → IsSome a → (quota : ℕ) × (granted_in a ≡ Some quota) × (quota_in a ≡ quota)
+    known None e = absurd (cc)
+    known (Some a) e = (a.quota, refl, refl)
+
+-- and is there after what keeps the tenants
+some_granted : (a : Option Account) → is_some (granted_in a) ≡ is_some a
+some_granted None = refl
+some_granted (Some a) = refl
+
+there_stays : (old new : StateView) (opened : Option ℕ) → Keeps old new → IsThere old opened → IsThere new opened
+there_stays old new None k there = tt
+there_stays old new (Some tenant) k there =
+    sym (some_granted (account_of new.accounts tenant)) ∙ ap is_some (k.tenants tenant) ∙ some_granted (account_of old.accounts tenant) ∙ there
+
+-- the maps are those that they were where the contents are
+same_maps : (old new : StateView) (opened : Option ℕ) → Keeps old new → contents_of new ≡ contents_of old → maps_in new opened ≡ maps_in old opened
+same_maps old new opened k same =
+    ap (λ (q : ℕ → Option ℕ). tenant_maps q (λ t. tenant_map t (contents_of new)) opened) (fun_ext k.tenants)
+    ∙ ap (λ (x : Contents). tenant_maps (granted old) (λ t. tenant_map t x) opened) same
+
+-- no number is left where all are given
+no_numbers : (v : StateView) → HasNumbers v → v.steps ≡ 2 ^ 59 → ⊥
+no_numbers v has all = omega (arith, has, all)
+
+still_open : (v : StateView) (o : ℕ) (ticket : Ticket) → ticket.id ≡ o → IsOnly v o → IsSettled v o → AreOpen v (Some ticket)
+still_open v o ticket same only settled = (subst (IsOnly v) (sym same) only, subst (IsSettled v) (sym same) settled)
+
+-- a begin that is refused
+refused_for : (v : StateView) (tenant : ℕ) (command : Command) (refusal : Refusal) → HasNumbers v → IsSome (account_of v.accounts tenant) → IsRefusal v tenant command refusal → IsFault command refusal
+refused_for v tenant command refusals.NoTenant numbers there is = absurd (let none = ap is_some is in cc)
+refused_for v tenant command refusals.Spent numbers there is = absurd (no_numbers v numbers is.2)
+refused_for v tenant command refusals.Memory numbers there is = is.1
+refused_for v tenant command _ numbers there is = is.1
+
+pub answers_refused : (v : StateView) (tenant : ℕ) (command : Command) (refusal : Refusal) → IsSome (account_of v.accounts tenant) → AreOpen v None → IsRefusal v tenant command refusal → Answers v v tenant command (Err (Refused refusal)) None
+answers_refused v tenant command refusal there alone is = record {
+  keeps = keeps_same v;
+  alone = alone;
+  by_maps = λ numbers. let q = has_quota v tenant there in (q.0, q.1, (refused_for v tenant command refusal numbers there is, refl));
+}
+
+live_le : (nodes : List NodeView) → live_count nodes ≤ length nodes
+live_le [] = omega arith
+live_le (n ∷ nodes) = let rest = live_le nodes in let one = by n.version.deleted in omega (arith, rest, one)
+  where
+    by : (deleted : Bool) → cond deleted 0 1 ≤ 1
+    by true = omega arith
+    by false = omega arith
+
+-- a begin in a state in which no operation is open, as long as a number is left
+module _ (old mid : StateView) (o tenant : ℕ) (command : Command) (right : IsRightState old) (idle : old.steps ≢ 2 ^ 59 → IsIdle old) (point : MayBegin command) (b : Begins old mid o 0 tenant command) (may : IsAdmissible old tenant command) where
+  abbrev op : OperationView
+  op = begun 0 tenant command
+
+  arena_stands : mid.arena ≡ old.arena
+  arena_stands = ap (λ (v : StateView). v.arena) b.stands
+
+  begin_keeps : Keeps old mid
+  begin_keeps = subst (Keeps old) (sym b.stands) (record { steps = omega arith; nodes = omega arith; logs = refl; tenants = λ t. refl })
+
+  -- and nobody holds a node
+  free_before : (k : ℕ) → k < length old.arena.nodes → (at old.arena k).holder ≡ None
+  free_before k inside = known (at old.arena k).holder refl
+    where
+      known : (holder : Option ℕ) → (at old.arena k).holder ≡ holder → holder ≡ None
+      known None e = refl
+      known (Some q) e = absurd (no_value (sym (idle may.numbered q) ∙ (right.holders k q inside e).1))
+
+  begun_alone : mid.steps + most_steps mid ≤ 2 ^ 59 → IsAlone mid o op
+  begun_alone numbers = record {
+    there = b.there;
+    first = refl;
+    enters = refl;
+    free = subst (λ (v : ArenaView). (k : ℕ) → k < length v.nodes → (at v k).holder ≡ None) (sym arena_stands) free_before;
+    numbers = numbers;
+  }
+
+  module _ (new : StateView) (result : Result Reply Unfinished) (f : Finishes mid new o result) where
+    keeps : Keeps old new
+    keeps = keeps_on old mid new begin_keeps f.keeps
+
+    told : HasNumbers new → TellsRun (record old { table = mid.table }) new op result
+    told numbers =
+        subst (λ (v : StateView). TellsRun v new op result) b.stands
+        (f.alone op (begun_alone (let live = live_le mid.arena.nodes in omega (arith, live, f.keeps.steps, f.keeps.nodes, numbers))))
+
+    there : IsSome (account_of old.accounts tenant)
+    there = may.there
+
+    abbrev quota : ℕ
+    quota = (has_quota old tenant there).0
+
+    quota_is : quota_of old tenant ≡ quota
+    quota_is = (has_quota old tenant there).2
+
+    abbrev was : TenantMaps
+    was = maps_in old (Some tenant)
+
+    -- the map after the command
+    map_now : (reply : Reply) → IsRun (record old { table = mid.table }) new op reply → (t : ℕ) → tenant_map t (contents_of new) ≡ with_map tenant (map_after quota command (was.maps tenant)) was.maps t
+    map_now reply run t = run.makes t ∙ by (eqb t tenant) refl
+      where
+        by : (b : Bool) → eqb t tenant ≡ b → cond b (map_after (quota_of old t) command (was.maps t)) (was.maps t) ≡ cond b (map_after quota command (was.maps tenant)) (was.maps t)
+        by false e = refl
+        by true e =
+            ap (λ u. map_after (quota_of old u) command (was.maps u)) (eqb-true t tenant e)
+            ∙ ap (λ q. map_after q command (was.maps tenant)) quota_is
+
+    maps_now : (reply : Reply) → IsRun (record old { table = mid.table }) new op reply → maps_in new (Some tenant) ≡ after_command tenant quota command was
+    maps_now reply run =
+        ap (λ (q : ℕ → Option ℕ). tenant_maps q (λ t. tenant_map t (contents_of new)) (Some tenant)) (fun_ext keeps.tenants)
+        ∙ ap (λ (m : Maps). tenant_maps (granted old) m (Some tenant)) (fun_ext (map_now reply run))
+
+    reply_now : (reply : Reply) → IsRun (record old { table = mid.table }) new op reply → reply ≡ reply_of quota command (was.maps tenant)
+    reply_now reply run = run.told ∙ ap (λ q. reply_of q command (was.maps tenant)) quota_is
+
+    granted_is : was.quotas tenant ≡ Some quota
+    granted_is = (has_quota old tenant there).1
+
+  -- it is answered
+  pub answers_done : (new : StateView) (reply : Reply) → Finishes mid new o (Ok reply) → Answers old new tenant command (Ok reply) None
+  answers_done new reply f = record {
+    keeps = keeps new (Ok reply) f;
+    alone = λ left. f.ends;
+    by_maps = λ numbers. (
+      quota new (Ok reply) f,
+      granted_is new (Ok reply) f,
+      (
+        may.taken,
+        elim (told new (Ok reply) f numbers) [
+          | inl none ↦ inr (none.0, same_maps old new (Some tenant) (keeps new (Ok reply) f) none.1)
+          | inr run ↦ inl (reply_now new (Ok reply) f reply run, maps_now new (Ok reply) f reply run)
+        ],
+      ),
+    );
+  }
+
+  -- there is no memory for a node
+  pub answers_stuck : (new : StateView) (ticket : Ticket) → Finishes mid new o (Err (unfinished.Stuck ticket)) → Answers old new tenant command (Err Stuck) (Some ticket)
+  answers_stuck new ticket f = record {
+    keeps = keeps new (Err (unfinished.Stuck ticket)) f;
+    alone = still_open new o ticket f.ends.0 f.ends.1 f.ends.2;
+    by_maps = λ numbers. (
+      quota new (Err (unfinished.Stuck ticket)) f,
+      granted_is new (Err (unfinished.Stuck ticket)) f,
+      elim (told new (Err (unfinished.Stuck ticket)) f numbers) [
+        | inl none ↦ inr (same_maps old new (Some tenant) (keeps new (Err (unfinished.Stuck ticket)) f) none)
+        | inr run ↦ inl (point, maps_now new (Err (unfinished.Stuck ticket)) f run.0 run.1)
+      ],
+    );
+  }
+
+-- a command that can't be begun: nothing changes
+pub answers_not_begun : (v : StateView) (stuck : Option Ticket) (tenant : ℕ) (command : Command) → AreOpen v stuck → IsSome (account_of v.accounts tenant) → Answers v v tenant command (Err Stuck) stuck
+answers_not_begun v stuck tenant command alone is_there = record {
+  keeps = keeps_same v;
+  alone = alone;
+  by_maps = λ numbers. let q = has_quota v tenant is_there in (q.0, q.1, inr refl);
+}
+
+-- numbers were left before where they are now
+pub numbers_back : (old new : StateView) → Keeps old new → HasNumbers new → HasNumbers old
+numbers_back old new k numbers = omega (arith, k.steps, k.nodes, numbers)
+
+-- all maps are empty in a new state
+pub maps_new : (accounts : Accounts) → maps_in (new_state 0 accounts) None ≡ fresh_maps (λ t. granted_in (account_of accounts t))
+maps_new accounts = ap (λ (m : Maps). tenant_maps (λ t. granted_in (account_of accounts t)) m None) (fun_ext (λ t. ap (tenant_map t) content-new ∙ tenant_map-empty t))

@@ -1,0 +1,3 @@
+pub mod RunLemmas
+pub mod Callers
+pub mod Texts

@@ -1,0 +1,73 @@
+-- What a caller over one state shows, keeps and answers.
+use Rattle.std.specs.Prelude.{◌≡◌, ◌≢◌, ℕ, ◌+◌, ◌*◌, ◌^◌, ◌≤◌, [], Option, Some, None, IsSome, Result, Ok, Err, length}
+use Rattle.mt_rows.specs.declared.command.Command.{Command}
+use Rattle.mt_rows.specs.declared.reply.Reply.{Reply}
+use Rattle.mt_rows.specs.Accounts.{account_of}
+use Rattle.mt_rows.specs.Tenants.{tenant_map}
+use Rattle.mt_session.specs.declared.caller.CallerFault.{CallerFault}
+use Rattle.mt_session.specs.declared.caller.CallerFault.TheVariants.{Refused, Stuck}
+use Rattle.mt_session.specs.Exchanges.{Exchange}
+use Rattle.mt_state.specs.Views.{StateView, contents_of, granted}
+use Rattle.mt_core.specs.declared.answers.Ticket.{Ticket}
+use Rattle.mt_alone.specs.TenantMaps.{TenantMaps, tenant_maps, MapsCall, MapsExchange}
+use Rattle.mt_alone.specs.Runs.{Keeps, IsIdle, IsOnly, IsSettled}
+
+-- the state, the opened tenant, and the ticket of the command that is stuck
+pub record AloneView : Type 0 where
+  pub state : StateView
+  pub opened : Option ℕ
+  pub stuck : Option Ticket
+
+abbrev pub alone_view : StateView → Option ℕ → Option Ticket → AloneView
+alone_view state opened stuck = record { state = state; opened = opened; stuck = stuck }
+
+-- the maps of a state's tenants
+abbrev pub maps_in : StateView → Option ℕ → TenantMaps
+maps_in v opened = tenant_maps (granted v) (λ t. tenant_map t (contents_of v)) opened
+
+abbrev pub maps_of : AloneView → TenantMaps
+maps_of a = maps_in a.state a.opened
+
+-- no operation is open but the one that is stuck, which places nothing any more; once all numbers are given, one may be that has none for its next step
+abbrev pub AreOpen : StateView → Option Ticket → Type 0
+AreOpen v None = v.steps ≢ 2 ^ 59 → IsIdle v
+AreOpen v (Some ticket) = IsOnly v ticket.id × IsSettled v ticket.id
+
+-- the opened tenant is there
+abbrev pub IsThere : StateView → Option ℕ → Type 0
+IsThere v None = Unit {0}
+IsThere v (Some tenant) = IsSome (account_of v.accounts tenant)
+
+-- what holds of every caller
+pub record IsRightAlone (state : StateView) (opened : Option ℕ) (stuck : Option Ticket) : Type 0 where
+  pub logs : state.logs ≡ []
+  pub alone : AreOpen state stuck
+  pub there : IsThere state opened
+
+-- numbers are left for a whole run, however many of the nodes are live
+abbrev pub HasNumbers : StateView → Type 0
+HasNumbers v = v.steps + 256 * (length v.arena.nodes + 64) ≤ 2 ^ 59
+
+-- what is answered: as long as numbers are left for a whole run, what the tenants' maps answer
+pub record AloneExchange (old : AloneView) (exchange : Exchange) (new : AloneView) : Type 0 where
+  pub keeps : Keeps old.state new.state
+  pub by_maps : HasNumbers new.state → MapsExchange (maps_of old) exchange (maps_of new)
+
+-- the command that is stuck is done with, or is stuck as before, and its refusal is that no number is left
+abbrev pub ClearsTo : StateView → Option Ticket → Result (Unit {0}) CallerFault → Type 0
+ClearsTo new stuck (Ok done) = stuck ≡ None
+ClearsTo new stuck (Err (Refused refusal)) = new.steps ≡ 2 ^ 59
+ClearsTo new stuck (Err Stuck) = Unit {0}
+
+-- the command that is stuck is run on, which changes no map
+pub record Clears (old new : StateView) (stuck : Option Ticket) (result : Result (Unit {0}) CallerFault) : Type 0 where
+  pub keeps : Keeps old new
+  pub stands : contents_of new ≡ contents_of old
+  pub alone : AreOpen new stuck
+  pub ends : ClearsTo new stuck result
+
+-- a command is run by itself for a tenant
+pub record Answers (old new : StateView) (tenant : ℕ) (command : Command) (result : Result Reply CallerFault) (stuck : Option Ticket) : Type 0 where
+  pub keeps : Keeps old new
+  pub alone : AreOpen new stuck
+  pub by_maps : HasNumbers new → MapsCall (Some tenant) (maps_in old (Some tenant)) command result (maps_in new (Some tenant))

@@ -1,0 +1,3 @@
+pub mod TenantMaps
+pub mod Runs
+pub mod Callers
