@@ -1,0 +1,65 @@
+//! Clients: frames worked out by hand, and how they are sent.
+
+use std::io::{self, Read, Write};
+use std::net::{Net, TcpStream};
+use std::time::Duration;
+
+/// Tenant 7 is opened.
+pub(crate) const OPEN: &[u8] = b"\x00\x00\x00\x05\x01\x00\x00\x00\x07";
+
+pub(crate) const OPENED: &[u8] = b"\x00\x00\x00\x01\x00";
+
+/// `v` is put under `k`, where nothing was.
+pub(crate) const PUT: &[u8] = b"\x00\x00\x00\x09\x03\x00\x01k\x01\x00\x00\x01v";
+
+pub(crate) const NEW: &[u8] = b"\x00\x00\x00\x01\x03";
+
+/// `k` is asked for, and `v` stands there.
+pub(crate) const GET: &[u8] = b"\x00\x00\x00\x05\x02\x00\x01k\x00";
+
+pub(crate) const ABSENT: &[u8] = b"\x00\x00\x00\x01\x01";
+
+pub(crate) const FOUND: &[u8] = b"\x00\x00\x00\x05\x02\x01\x00\x01v";
+
+/// No frame of a request.
+pub(crate) const BAD: &[u8] = b"\x00\x00\x80\x01";
+
+pub(crate) const BAD_FRAME: &[u8] = b"\x00\x00\x00\x01\x90";
+
+/// A connection to a server, which is given up where it is silent for a minute.
+pub(crate) fn connect<R: Net<Stream = TcpStream>>(rt: &R, port: u16) -> io::Result<TcpStream> {
+    let stream = TcpStream::connect(rt, ("127.0.0.1", port))?;
+    stream.set_read_timeout(Some(Duration::from_secs(60)))?;
+    Ok(stream)
+}
+
+/// `k` is removed.
+pub(crate) const REMOVE: &[u8] = b"\x00\x00\x00\x04\x04\x00\x01k";
+
+/// Whether the request is answered with this reply, of at most 16 bytes.
+pub(crate) fn is_told(stream: &TcpStream, request: &[u8], reply: &[u8]) -> io::Result<bool> {
+    is_told_behind(stream, request, &[], reply)
+}
+
+/// The same, where more is sent behind the request.
+pub(crate) fn is_told_behind(
+    stream: &TcpStream,
+    request: &[u8],
+    more: &[u8],
+    reply: &[u8],
+) -> io::Result<bool> {
+    let mut client = stream;
+    client.write_all(request)?;
+    client.write_all(more)?;
+    let mut room = [0u8; 16];
+    let wanted = reply.len().min(16);
+    client.read_exact(&mut room[..wanted])?;
+    Ok(&room[..wanted] == reply)
+}
+
+/// Whether nothing more comes, and the server has ended the connection.
+pub(crate) fn is_at_end(stream: &TcpStream) -> io::Result<bool> {
+    let mut client = stream;
+    let mut room = [0u8; 1];
+    Ok(client.read(&mut room)? == 0)
+}

@@ -1,0 +1,153 @@
+//! Whole servers, with their clients in threads of the same process.
+
+ghost use Rattle.std.specs.Prelude.{◌≡◌};
+
+use crate::clients::{
+    ABSENT, BAD, BAD_FRAME, FOUND, GET, NEW, OPEN, OPENED, PUT, REMOVE, connect, is_at_end,
+    is_told, is_told_behind,
+};
+use crate::words::options_of;
+use mt_options::Options;
+use mt_service::run_server;
+use std::alloc::Global;
+use std::marker::{Brand, Send, Sync};
+use std::net::{Net, TcpListener, TcpStream};
+use std::process::Abort;
+use std::sync::Wait;
+use std::sync::ledger::{Blank, Ledger};
+use std::thread::Threads;
+use std::time::Clock;
+use std::{io, thread};
+
+// Serves to the end; what the server wrote, and how many sessions ended otherwise than closed.
+fn serve_all<L: Ledger + Send + Sync, R: Threads + Wait + Clock + Sync>(
+    rt: &R,
+    alloc: Global,
+    blank: Blank,
+    listener: TcpListener,
+    options: &Options,
+) -> Option<(Vec<u8>, u64)>
+    requires name { blank.name ≡ L.name }
+    requires parts { (blank.parts ≡ L.parts) × (L.parts ≡ 65536) }
+{
+    let mut out = Vec::new(alloc);
+    match run_server::<L, R, Vec<u8>>(rt, alloc, blank, listener, options, &mut out) {
+        Ok(others) => Some((out, others)),
+        Err(_) => None,
+    }
+}
+
+// What the server wrote is where it listens, and then this.
+fn expect_text<R: Abort>(rt: &R, alloc: Global, port: u16, written: &[u8], last: &str) {
+    let wanted = format!(in alloc; "listening 127.0.0.1:{port}\n{last}\n").expect(rt, "memory");
+    assert_eq!(rt; written, wanted.as_bytes());
+}
+
+// What the two clients of a server do, which are connected from the beginning, one behind the other.
+#[derive(Clone, Copy)]
+enum Scene {
+    /// One puts and reads back, and leaves; the other one reads that.
+    InTurn,
+    /// One reads what the other puts, with both sessions open.
+    AtOnce,
+    /// One sends no frame of a request, and much behind it.
+    BadFrame,
+    /// One leaves inside a frame.
+    MidFrame,
+    /// One asks for a removal, which can't be begun yet.
+    Removal,
+}
+
+// Plays a scene; whether each client was told what it should be.
+fn play(scene: Scene, first: TcpStream, second: TcpStream) -> io::Result<bool> {
+    let wanted = match scene {
+        Scene::InTurn => FOUND,
+        _ => ABSENT,
+    };
+    let is_right = match scene {
+        Scene::InTurn => is_told(&first, OPEN, OPENED)? && puts_and_gets(&first)?,
+        Scene::AtOnce => {
+            return Ok(
+                is_told(&first, OPEN, OPENED)?
+                    && is_told(&second, OPEN, OPENED)?
+                    && puts_and_gets(&second)?
+                    && is_told(&first, GET, FOUND)?,
+            );
+        }
+        Scene::BadFrame => {
+            is_told(&first, OPEN, OPENED)?
+                && is_told_behind(&first, BAD, &[0; 40_000], BAD_FRAME)?
+                && is_at_end(&first)?
+        }
+        Scene::MidFrame => is_told_behind(&first, OPEN, &PUT[..7], OPENED)?,
+        Scene::Removal => { is_told_behind(&first, OPEN, REMOVE, OPENED)? && is_at_end(&first)? }
+    };
+    drop(first);
+    Ok(is_right && is_told(&second, OPEN, OPENED)? && is_told(&second, GET, wanted)?)
+}
+
+fn puts_and_gets(client: &TcpStream) -> io::Result<bool> {
+    Ok(is_told(client, PUT, NEW)? && is_told(client, GET, FOUND)?)
+}
+
+impl Scene {
+    // The words of its server, the last line of the output, and how many sessions end otherwise than
+    // closed.
+    fn ends(self) -> (&'static str, &'static str, u64) {
+        match self {
+            Scene::InTurn | Scene::AtOnce => (TWO_WORKERS, "sessions 2 answers 3", 0),
+            Scene::BadFrame | Scene::MidFrame | Scene::Removal => {
+                (ONE_WORKER, "sessions 2 answers 1", 1)
+            }
+        }
+    }
+}
+
+const TWO_WORKERS: &str = "mt_server --port 0 --workers 2 --sessions 2 7:100";
+
+const ONE_WORKER: &str = "mt_server --port 0 --workers 1 --sessions 2 7:100";
+
+// A server and its clients, who are all told what they should be, and so is the output.
+fn serve_scene<L: Ledger + Send + Sync, R>(rt: &R, alloc: Global, blank: Blank, scene: Scene)
+where
+    R: Net<Listener = TcpListener, Stream = TcpStream> + Threads + Wait + Clock + Abort + Sync,
+    requires name { blank.name ≡ L.name }
+    requires parts { (blank.parts ≡ L.parts) × (L.parts ≡ 65536) }
+{
+    let (line, last, others) = scene.ends();
+    let options = options_of(rt, alloc, line);
+    let (listener, port, first, second) = connected(rt).expect(rt, "a socket");
+    let (served, played) = thread::join(
+        rt,
+        move ||
+            requires name { blank.name ≡ L.name }
+            requires parts { (blank.parts ≡ L.parts) × (L.parts ≡ 65536) }
+        { serve_all::<L, R>(rt, alloc, blank, listener, &options) },
+        move || play(scene, first, second),
+    );
+    assert!(rt; played.expect(rt, "a socket"), "{last}");
+    let (written, ended) = served.expect(rt, "the server ends well");
+    expect_text(rt, alloc, port, written.as_slice(), last);
+    assert_eq!(rt; ended, others, "{last}");
+}
+
+// A listener, its port, and two clients that are connected to it.
+fn connected<R: Net<Listener = TcpListener, Stream = TcpStream>>(
+    rt: &R,
+) -> io::Result<(TcpListener, u16, TcpStream, TcpStream)> {
+    let listener = TcpListener::bind(rt, ("127.0.0.1", 0u16))?;
+    let port = listener.local_addr()?.port();
+    let first = connect(rt, port)?;
+    let second = connect(rt, port)?;
+    Ok((listener, port, first, second))
+}
+
+#[test]
+fn servers_serve_their_clients(rt: HostRuntime) {
+    let alloc = rt.alloc();
+    serve_scene::<Brand, _>(&rt, alloc, Blank::new(65_536), Scene::InTurn);
+    serve_scene::<Brand, _>(&rt, alloc, Blank::new(65_536), Scene::AtOnce);
+    serve_scene::<Brand, _>(&rt, alloc, Blank::new(65_536), Scene::BadFrame);
+    serve_scene::<Brand, _>(&rt, alloc, Blank::new(65_536), Scene::MidFrame);
+    serve_scene::<Brand, _>(&rt, alloc, Blank::new(65_536), Scene::Removal);
+}
