@@ -28,7 +28,7 @@ use Rattle.mt_alone.specs.declared.runs.Unfinished.{Unfinished}
 use Rattle.mt_alone.specs.declared.runs.Unfinished.TheVariants as unfinished
 use Rattle.mt_alone.specs.TenantMaps.{TenantMaps, tenant_maps, fresh_maps, with_map, after_command}
 use Rattle.mt_alone.specs.Runs.{Keeps, IsIdle, IsOnly, IsSettled, TellsRun, Finishes}
-use Rattle.mt_alone.specs.Callers.{maps_in, AreOpen, IsThere, HasNumbers, Answers}
+use Rattle.mt_alone.specs.Callers.{maps_in, AreOpen, HasNumbers, Answers}
 use Rattle.mt_alone.proofs.RunLemmas.{keeps_same, keeps_on}
 
 no_value : {A : Type 0} {a : A} → ◌≡◌ {A = Option A} None (Some a) → ⊥
@@ -42,16 +42,6 @@ has_quota v tenant some = known (account_of v.accounts tenant) some
     known None e = absurd (cc)
     known (Some a) e = (a.quota, refl, refl)
 
--- and is there after what keeps the tenants
-some_granted : (a : Option Account) → is_some (granted_in a) ≡ is_some a
-some_granted None = refl
-some_granted (Some a) = refl
-
-there_stays : (old new : StateView) (opened : Option ℕ) → Keeps old new → IsThere old opened → IsThere new opened
-there_stays old new None k there = tt
-there_stays old new (Some tenant) k there =
-    sym (some_granted (account_of new.accounts tenant)) ∙ ap is_some (k.tenants tenant) ∙ some_granted (account_of old.accounts tenant) ∙ there
-
 -- the maps are those that they were where the contents are
 same_maps : (old new : StateView) (opened : Option ℕ) → Keeps old new → contents_of new ≡ contents_of old → maps_in new opened ≡ maps_in old opened
 same_maps old new opened k same =
@@ -62,6 +52,7 @@ same_maps old new opened k same =
 no_numbers : (v : StateView) → HasNumbers v → v.steps ≡ 2 ^ 59 → ⊥
 no_numbers v has all = omega (arith, has, all)
 
+-- a command that is stuck is the only one that is open
 still_open : (v : StateView) (o : ℕ) (ticket : Ticket) → ticket.id ≡ o → IsOnly v o → IsSettled v o → AreOpen v (Some ticket)
 still_open v o ticket same only settled = (subst (IsOnly v) (sym same) only, subst (IsSettled v) (sym same) settled)
 

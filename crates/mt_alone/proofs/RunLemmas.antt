@@ -15,7 +15,7 @@ use Rattle.mt_operation.specs.declared.walk.Phase.{Phase}
 use Rattle.mt_operation.specs.declared.walk.Phase.TheVariants.{InteriorSplit, RootGrow}
 use Rattle.mt_operation.specs.Operations.{OperationView}
 use Rattle.mt_operation.proofs.Tables.{set_there, set_none}
-use Rattle.mt_state.specs.declared.moves.Move.TheVariants.{Moved, Again, NoMemory as NoMemoryMove, Done as DoneMove, Spent as SpentMove, NoSuch}
+use Rattle.mt_state.specs.declared.moves.Move.TheVariants.{Again, NoMemory as NoMemoryMove, Done as DoneMove, Spent as SpentMove, NoSuch}
 use Rattle.mt_state.specs.Views.{StateView, Shown, contents_of, op_at, granted_in}
 use Rattle.mt_state.specs.Steps.{change_in, told_change}
 use Rattle.mt_state.specs.Invariant.{is_unplaced}
@@ -95,10 +95,7 @@ carried (suc made) old new o has (mid, chain, s) =
 only_on : (old new : StateView) (o : ℕ) → IsOnly old o → IsCarried old new o → IsOnly new o
 only_on old new o only c = record { unfinished = c.unfinished; others = λ q ne. c.beside q ne ∙ only.others q ne }
 
--- such a run answers no Moved, no NoSuch, and not that another operation is in the way
-pub not_moved : (old new : StateView) (o : ℕ) → Runs old new o Moved → ⊥
-not_moved old new o r = r.ends refl
-
+-- such a run answers no NoSuch, and not that another operation is in the way
 pub not_absent : (old new : StateView) (o : ℕ) → IsOnly old o → Runs old new o NoSuch → ⊥
 not_absent old new o only r = r.tells.1 (carried r.made old r.mid o only.unfinished r.chain).unfinished
 
