@@ -1,0 +1,701 @@
+"""A client of the Rebjauts key-value server: this one file, with Python's standard library alone.
+
+    with rebjauts.Connection(port=7411) as connection:
+        connection.open(7)
+        connection.put(b"greeting", {0: b"hello"})
+        connection.get(b"greeting")                  # [b"hello"]
+
+The first part spells requests and reads replies, as pure functions over bytes. The second part is the
+connection. docs/CLIENTS.md says what the bytes mean.
+
+Keys, columns and counts past the server's limits are not looked for here: the server refuses them by
+name. Only what can't be spelled at all is refused by this module (`NotSpellable`).
+"""
+
+from __future__ import annotations
+
+import enum
+import selectors
+import socket
+import struct
+from collections.abc import Iterable, Iterator, Mapping, Sequence
+from dataclasses import dataclass
+from typing import ClassVar, NoReturn
+
+DEFAULT_HOST = "127.0.0.1"
+DEFAULT_PORT = 7411
+
+# The longest bodies of frames, in bytes.
+REQUEST_BYTES = 32_768
+REPLY_BYTES = 1_066_882
+
+# What the server takes; a reply that goes past these is no reply.
+KEY_BYTES = 251
+COLUMNS = 16
+COLUMN_BYTES = 1_024
+SCAN_PAIRS = 64
+
+
+# ---- Errors --------------------------------------------------------------------------------------
+
+
+class RebjautsError(Exception):
+    """What all errors of this module are."""
+
+
+class NotSpellable(RebjautsError, ValueError):
+    """A request that has no bytes: a field is longer than its length can say, or the frame too long."""
+
+
+class NotAReply(RebjautsError):
+    """Bytes that are no reply, or a reply that its request can't have: the connection is closed."""
+
+
+class ConnectionFault(RebjautsError):
+    """The connection couldn't be made, or is no more."""
+
+
+class CannotConnect(ConnectionFault):
+    """No connection to the server could be made."""
+
+
+class ConnectionEnded(ConnectionFault):
+    """The connection ended, or took too long, with `unanswered` requests begun and not answered.
+
+    Each of these may have taken effect, or not: the first few may have, the others then haven't.
+    """
+
+    def __init__(self, why: str, unanswered: int = 0) -> None:
+        super().__init__(f"{why}; requests without a reply: {unanswered}")
+        self.unanswered = unanswered
+
+
+class Full(RebjautsError):
+    """The tenant has as many pairs as its quota allows, and the key isn't among them."""
+
+    def __init__(self) -> None:
+        super().__init__("full: remove keys, or start the server with a larger quota for this tenant")
+
+
+class NoMemory(RebjautsError):
+    """The server had no memory for the command: nothing changed."""
+
+    def __init__(self) -> None:
+        super().__init__("no memory: nothing changed; try again later, or give the server more memory")
+
+
+class Refused(RebjautsError):
+    """A refusal: its number, its name, and what to do about it. Nothing changed."""
+
+    number: int = 0
+    name: ClassVar[str] = "Unknown"
+    remedy: ClassVar[str] = "this client doesn't know the refusal: use one of the server's own version"
+
+    def __init__(self, number: int | None = None) -> None:
+        if number is not None:
+            self.number = number
+        super().__init__(f"E{self.number} {self.name}: {self.remedy}")
+
+
+class KeyLong(Refused):
+    number, name = 1, "KeyLong"
+    remedy = "a key has at most 251 bytes: use a shorter one"
+
+
+class Memory(Refused):
+    number, name = 2, "Memory"
+    remedy = "the server had no memory to begin: try again later, or give it more memory"
+
+
+class TenantThere(Refused):
+    number, name = 3, "TenantThere"
+    remedy = "a tenant is named twice at the server's start: name each once"
+
+
+class NoTenant(Refused):
+    number, name = 4, "NoTenant"
+    remedy = "the server serves no such tenant: open another, or start it with this one"
+
+
+class ColumnRefused(Refused):
+    number, name = 5, "Column"
+    remedy = "name columns 0 to 15, each once, in rising order, and at least one in a put"
+
+
+class ColumnLong(Refused):
+    number, name = 6, "ColumnLong"
+    remedy = "a column has at most 1,024 bytes: part the value into several columns or keys"
+
+
+class Quota(Refused):
+    number, name = 7, "Quota"
+    remedy = "a quota is 1 to 1,048,576 pairs: start the server with such a one"
+
+
+class ScanCount(Refused):
+    number, name = 8, "ScanCount"
+    remedy = "a scan shows 1 to 64 pairs: ask for fewer, and go on after the last key"
+
+
+class Spent(Refused):
+    number, name = 9, "Spent"
+    remedy = "the server has counted to its end: start it anew; a put may have taken effect"
+
+
+class Device(Refused):
+    number, name = 10, "Device"
+    remedy = "the server's disk failed: look after it before you rely on what was settled"
+
+
+class WrongTurn(Refused):
+    number, name = 11, "WrongTurn"
+    remedy = "a log was given out of turn: this is a fault of the server, report it"
+
+
+class BadLog(Refused):
+    number, name = 12, "BadLog"
+    remedy = "a log of the store isn't in the format: restore the store from a copy"
+
+
+class StampsFall(Refused):
+    number, name = 13, "StampsFall"
+    remedy = "the store's logs don't fit together: restore the store from a copy"
+
+
+class OverQuota(Refused):
+    number, name = 14, "OverQuota"
+    remedy = "the store has more pairs than the quota allows: start the server with a larger one"
+
+
+class LogCount(Refused):
+    number, name = 15, "LogCount"
+    remedy = "the store's logs are not all there: bring back those that are missing"
+
+
+class BadFrame(Refused):
+    number, name = 16, "BadFrame"
+    remedy = "the bytes were no request, and the session has ended: mend the client, connect again"
+
+
+class NotOpen(Refused):
+    number, name = 17, "NotOpen"
+    remedy = "open a tenant first"
+
+
+class OpenTwice(Refused):
+    number, name = 18, "OpenTwice"
+    remedy = "a tenant is open already: make another connection for another tenant"
+
+
+class NoRoom(Refused):
+    number, name = 19, "NoRoom"
+    remedy = "no server answers this any more: use a newer one"
+
+
+class NoStore(Refused):
+    number, name = 20, "NoStore"
+    remedy = "the server keeps nothing on disk: there is nothing to settle"
+
+
+REFUSALS: dict[int, type[Refused]] = {
+    kind.number: kind for kind in Refused.__subclasses__()
+}
+
+
+def refusal_of(number: int) -> Refused:
+    """The refusal of this number, 1 to 127."""
+    kind = REFUSALS.get(number)
+    return kind() if kind else Refused(number)
+
+
+# ---- Requests and replies ------------------------------------------------------------------------
+
+
+@dataclass(frozen=True)
+class Open:
+    tenant: int
+
+
+@dataclass(frozen=True)
+class Get:
+    key: bytes
+    columns: Sequence[int] = ()
+
+
+@dataclass(frozen=True)
+class Put:
+    """The columns are pairs of index and bytes, and are spelled in this order."""
+
+    key: bytes
+    columns: Sequence[tuple[int, bytes]]
+
+
+@dataclass(frozen=True)
+class Remove:
+    key: bytes
+
+
+@dataclass(frozen=True)
+class Scan:
+    """Up to `count` pairs, from the key `start` on, or behind it."""
+
+    start: bytes
+    count: int
+    after: bool = False
+    columns: Sequence[int] = ()
+
+
+@dataclass(frozen=True)
+class Settle:
+    pass
+
+
+Request = Open | Get | Put | Remove | Scan | Settle
+
+
+class Told(enum.Enum):
+    """Replies without fields."""
+
+    OK = 0x00
+    ABSENT = 0x01
+    NEW = 0x03
+    REPLACED = 0x04
+    REMOVED = 0x05
+    FULL = 0x08
+    NO_MEMORY = 0x09
+
+
+@dataclass(frozen=True)
+class Found:
+    columns: list[bytes]
+
+
+@dataclass(frozen=True)
+class Pairs:
+    pairs: list[tuple[bytes, list[bytes]]]
+
+
+@dataclass(frozen=True)
+class Settled:
+    number: int
+
+
+@dataclass(frozen=True)
+class RefusedReply:
+    number: int
+
+
+Reply = Told | Found | Pairs | Settled | RefusedReply
+
+
+class Written(enum.Enum):
+    """What a put did: the key wasn't there, or it was."""
+
+    NEW = "new"
+    REPLACED = "replaced"
+
+
+# ---- Requests as bytes ---------------------------------------------------------------------------
+
+
+def _number(value: int, width: int, what: str) -> bytes:
+    """A number in so many bytes, the heaviest first."""
+    try:
+        return value.to_bytes(width, "big")
+    except OverflowError:
+        raise NotSpellable(f"{what} {value} doesn't fit {8 * width} bits") from None
+
+
+def _string(text: bytes, what: str) -> bytes:
+    """A key or a column: its length in two bytes, then itself."""
+    return _number(len(text), 2, f"the length of {what},") + text
+
+
+def _asked(columns: Sequence[int]) -> bytes:
+    """The columns asked for; none for all."""
+    indexes = b"".join(_number(index, 1, "the column's index") for index in columns)
+    return _number(len(columns), 1, "the number of columns") + indexes
+
+
+def _body(request: Request) -> bytes:
+    match request:
+        case Open(tenant):
+            return b"\x01" + _number(tenant, 4, "the tenant")
+        case Get(key, columns):
+            return b"\x02" + _string(key, "the key") + _asked(columns)
+        case Put(key, columns):
+            named = b"".join(
+                _number(index, 1, "the column's index") + _string(value, "a column")
+                for index, value in columns
+            )
+            count = _number(len(columns), 1, "the number of columns")
+            return b"\x03" + _string(key, "the key") + count + named
+        case Remove(key):
+            return b"\x04" + _string(key, "the key")
+        case Scan(start, count, after, columns):
+            front = b"\x05" + (b"\x01" if after else b"\x00") + _string(start, "the key")
+            return front + _number(count, 1, "the number of pairs") + _asked(columns)
+        case Settle():
+            return b"\x06"
+    raise TypeError(f"{request!r} is no request")
+
+
+def encode_request(request: Request) -> bytes:
+    """The request's frame. `NotSpellable` where it has none."""
+    body = _body(request)
+    if len(body) > REQUEST_BYTES:
+        raise NotSpellable(f"the request has {len(body)} bytes, and a frame holds {REQUEST_BYTES}")
+    return struct.pack(">I", len(body)) + body
+
+
+# ---- Replies from bytes --------------------------------------------------------------------------
+
+
+class _Fields:
+    """The fields of a body, read from the front."""
+
+    def __init__(self, body: bytes) -> None:
+        self._body = body
+        self._at = 0
+
+    def bytes(self, count: int) -> bytes:
+        end = self._at + count
+        if end > len(self._body):
+            raise NotAReply("a reply is shorter than its fields say")
+        field = self._body[self._at:end]
+        self._at = end
+        return field
+
+    def number(self, width: int) -> int:
+        return int.from_bytes(self.bytes(width), "big")
+
+    def string(self, limit: int, what: str) -> bytes:
+        length = self.number(2)
+        if length > limit:
+            raise NotAReply(f"{what} of {length} bytes, over {limit}")
+        return self.bytes(length)
+
+    def row(self) -> list[bytes]:
+        count = self.number(1)
+        if not 1 <= count <= COLUMNS:
+            raise NotAReply(f"a row of {count} columns")
+        return [self.string(COLUMN_BYTES, "a column") for _ in range(count)]
+
+    def pairs(self) -> list[tuple[bytes, list[bytes]]]:
+        count = self.number(1)
+        if count > SCAN_PAIRS:
+            raise NotAReply(f"{count} pairs, over {SCAN_PAIRS}")
+        pairs = [(self.string(KEY_BYTES, "a key"), self.row()) for _ in range(count)]
+        keys = [key for key, _ in pairs]
+        if any(before >= after for before, after in zip(keys, keys[1:])):
+            raise NotAReply("keys that don't rise")
+        return pairs
+
+    def end(self) -> None:
+        if self._at < len(self._body):
+            raise NotAReply("a reply is longer than its fields say")
+
+
+def _reply_of(body: bytes) -> Reply:
+    fields = _Fields(body)
+    kind = fields.number(1)
+    reply: Reply
+    if kind == 0x02:
+        reply = Found(fields.row())
+    elif kind == 0x06:
+        reply = Pairs(fields.pairs())
+    elif kind == 0x07:
+        reply = Settled(fields.number(8))
+    elif kind > 0x80:
+        reply = RefusedReply(kind - 0x80)
+    else:
+        try:
+            reply = Told(kind)
+        except ValueError:
+            raise NotAReply(f"a reply begins with {kind:02x}") from None
+    fields.end()
+    return reply
+
+
+def decode_reply(data: bytes | bytearray, start: int = 0) -> tuple[Reply, int] | None:
+    """The reply that begins at `start`, and where it ends; None where more bytes are wanted.
+
+    `NotAReply` where the bytes are no beginning of a reply.
+    """
+    if len(data) < start + 4:
+        return None
+    length = int.from_bytes(data[start:start + 4], "big")
+    if not 1 <= length <= REPLY_BYTES:
+        raise NotAReply(f"a reply's length is {length}")
+    end = start + 4 + length
+    if len(data) < end:
+        return None
+    return _reply_of(bytes(data[start + 4:end])), end
+
+
+# ---- What a reply means to its request -----------------------------------------------------------
+
+
+def _out_of_place(request: Request, reply: Reply) -> NoReturn:
+    raise NotAReply(f"{type(request).__name__} was answered {reply}")
+
+
+def result_of(request: Request, reply: Reply):
+    """What the reply gives who asked: a value, or one of `Refused`, `Full`, `NoMemory` is raised.
+
+    None for an Open, a row or None for a Get, `Written` for a Put, whether the key was there for a
+    Remove, a list of pairs for a Scan, a number for a Settle.
+    """
+    match request, reply:
+        case _, RefusedReply(number):
+            raise refusal_of(number)
+        case Put(), Told.FULL:
+            raise Full()
+        case (Get() | Put() | Remove() | Scan()), Told.NO_MEMORY:
+            raise NoMemory()
+        case (Open(), Told.OK) | (Get(), Told.ABSENT):
+            return None
+        case Get(), Found(columns):
+            return columns
+        case Put(), Told.NEW:
+            return Written.NEW
+        case Put(), Told.REPLACED:
+            return Written.REPLACED
+        case Remove(), Told.REMOVED:
+            return True
+        case Remove(), Told.ABSENT:
+            return False
+        case Scan(), Pairs(pairs):
+            return pairs
+        case Settle(), Settled(number):
+            return number
+    _out_of_place(request, reply)
+
+
+def put_request(key: bytes, columns: Mapping[int, bytes]) -> Put:
+    """A put of these columns, in the order of their indexes."""
+    return Put(key, sorted(columns.items()))
+
+
+# ---- The connection ------------------------------------------------------------------------------
+
+# How many requests may wait for replies at a time, and how many bytes for being sent.
+IN_FLIGHT = 256
+UNSENT_BYTES = 65_536
+_RECEIVE_BYTES = 262_144
+
+
+class Connection:
+    """A connection to a server: one tenant, one thread at a time, replies in the order of requests.
+
+    It sends and receives at the same time: the server stops reading while its replies aren't taken,
+    so a client that sent without reading could wait for ever. `timeout` bounds each wait for the
+    server, in seconds; None waits for ever. After `ConnectionFault` or `NotAReply` it is closed.
+    """
+
+    def __init__(
+        self, host: str = DEFAULT_HOST, port: int = DEFAULT_PORT, timeout: float | None = None
+    ) -> None:
+        try:
+            self._socket = socket.create_connection((host, port), timeout)
+        except OSError as error:
+            raise CannotConnect(f"no connection to {host}:{port}: {error}") from error
+        self._socket.setsockopt(socket.IPPROTO_TCP, socket.TCP_NODELAY, 1)
+        self._socket.setblocking(False)
+        self._selector = selectors.DefaultSelector()
+        self._selector.register(self._socket, selectors.EVENT_READ)
+        self._timeout = timeout
+        self._unsent = bytearray()
+        self._received = bytearray()
+        self._read_at = 0
+        self._waiting = 0
+        self._is_open = True
+
+    def __enter__(self) -> Connection:
+        return self
+
+    def __exit__(self, *_: object) -> None:
+        self.close()
+
+    def close(self) -> None:
+        """Ends the connection. Requests without a reply may have taken effect."""
+        if self._is_open:
+            self._is_open = False
+            self._selector.close()
+            self._socket.close()
+
+    def open(self, tenant: int) -> None:
+        """Opens a tenant: once for each connection, and before anything else."""
+        self._ask(Open(tenant))
+
+    def get(self, key: bytes, columns: Sequence[int] = ()) -> list[bytes] | None:
+        """The key's row, or its named columns in their order; None where the key isn't there."""
+        return self._ask(Get(key, columns))
+
+    def put(self, key: bytes, columns: Mapping[int, bytes]) -> Written:
+        """Sets these columns of the key in one change, and leaves its others as they are."""
+        return self._ask(put_request(key, columns))
+
+    def remove(self, key: bytes) -> bool:
+        """Takes the key away; whether it was there."""
+        return self._ask(Remove(key))
+
+    def scan(
+        self, start: bytes, count: int, after: bool = False, columns: Sequence[int] = ()
+    ) -> list[tuple[bytes, list[bytes]]]:
+        """Up to `count` pairs in the order of their keys, from `start` on, or behind it."""
+        return self._ask(Scan(start, count, after, columns))
+
+    def settle(self) -> int:
+        """Waits until all that was answered before is on the disk; how far the logs reach."""
+        return self._ask(Settle())
+
+    def pipeline(self) -> Pipeline:
+        """Gathers requests, which are sent together at the end of its `with`."""
+        return Pipeline(self)
+
+    def replies(self, requests: Iterable[Request], in_flight: int = IN_FLIGHT) -> Iterator[Reply]:
+        """Sends the requests, and gives the reply to each, in their order.
+
+        The requests are taken one by one as replies come; at most `in_flight` have no reply at a time.
+        Who leaves before the last reply closes the connection.
+        """
+        return self._exchange(map(encode_request, requests), in_flight)
+
+    def _ask(self, request: Request):
+        (reply,) = self._exchange([encode_request(request)], 1)
+        return self._judge(request, reply)
+
+    def _judge(self, request: Request, reply: Reply):
+        try:
+            return result_of(request, reply)
+        except NotAReply:
+            self.close()
+            raise
+
+    def _exchange(self, frames: Iterable[bytes], in_flight: int) -> Iterator[Reply]:
+        if not self._is_open:
+            raise ConnectionEnded("the connection is closed")
+        if self._waiting:
+            raise RuntimeError("an exchange of this connection is under way")
+        source = iter(frames)
+        try:
+            while True:
+                self._take_frames(source, in_flight)
+                if not self._waiting:
+                    return
+                reply = self._next_reply()
+                self._waiting -= 1
+                yield reply
+        finally:
+            if self._waiting:
+                self.close()
+                self._waiting = 0
+
+    def _take_frames(self, source: Iterator[bytes], in_flight: int) -> None:
+        while self._waiting < in_flight and len(self._unsent) < UNSENT_BYTES:
+            frame = next(source, None)
+            if frame is None:
+                return
+            self._unsent += frame
+            self._waiting += 1
+
+    def _next_reply(self) -> Reply:
+        while True:
+            found = decode_reply(self._received, self._read_at)
+            if found is not None:
+                reply, self._read_at = found
+                return reply
+            del self._received[:self._read_at]
+            self._read_at = 0
+            self._move()
+
+    def _move(self) -> None:
+        """Sends what can be sent, and receives at least one byte or sends at least one."""
+        if self._send() > 0:
+            return
+        events = selectors.EVENT_READ | (selectors.EVENT_WRITE if self._unsent else 0)
+        self._selector.modify(self._socket, events)
+        if not self._selector.select(self._timeout):
+            raise ConnectionEnded(f"the server took over {self._timeout} seconds", self._waiting)
+        self._receive()
+
+    def _send(self) -> int:
+        if not self._unsent:
+            return 0
+        try:
+            count = self._socket.send(self._unsent)
+        except BlockingIOError:
+            return 0
+        except OSError:
+            # The server has ended the session. What it answered before can still be received.
+            self._unsent.clear()
+            return 0
+        del self._unsent[:count]
+        return count
+
+    def _receive(self) -> None:
+        try:
+            data = self._socket.recv(_RECEIVE_BYTES)
+        except BlockingIOError:
+            return
+        except OSError as error:
+            raise ConnectionEnded(f"the connection failed: {error}", self._waiting) from error
+        if not data:
+            raise ConnectionEnded("the server ended the connection", self._waiting)
+        self._received += data
+
+
+class Pipeline:
+    """Requests that are sent together: `results` has one entry for each, in their order.
+
+    An entry is what the call of the same name of `Connection` gives, or the error that it would raise.
+    They are sent at the end of the `with`, unless its body raised. Where the connection ends before
+    the last reply, `results` has those that came, and the `with` raises `ConnectionEnded`.
+    """
+
+    def __init__(self, connection: Connection) -> None:
+        self._connection = connection
+        self._requests: list[Request] = []
+        self._frames: list[bytes] = []
+        self.results: list = []
+
+    def __enter__(self) -> Pipeline:
+        return self
+
+    def __exit__(self, kind: type[BaseException] | None, *_: object) -> None:
+        if kind is None:
+            self._send()
+
+    def open(self, tenant: int) -> None:
+        self.add(Open(tenant))
+
+    def get(self, key: bytes, columns: Sequence[int] = ()) -> None:
+        self.add(Get(key, columns))
+
+    def put(self, key: bytes, columns: Mapping[int, bytes]) -> None:
+        self.add(put_request(key, columns))
+
+    def remove(self, key: bytes) -> None:
+        self.add(Remove(key))
+
+    def scan(
+        self, start: bytes, count: int, after: bool = False, columns: Sequence[int] = ()
+    ) -> None:
+        self.add(Scan(start, count, after, columns))
+
+    def settle(self) -> None:
+        self.add(Settle())
+
+    def add(self, request: Request) -> None:
+        """Adds a request; `NotSpellable` where it has no bytes."""
+        self._frames.append(encode_request(request))
+        self._requests.append(request)
+
+    def _send(self) -> None:
+        replies = self._connection._exchange(self._frames, IN_FLIGHT)
+        for request, reply in zip(self._requests, replies):
+            try:
+                self.results.append(self._connection._judge(request, reply))
+            except (Refused, Full, NoMemory) as refused:
+                self.results.append(refused)
