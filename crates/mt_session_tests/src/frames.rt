@@ -1,7 +1,7 @@
 //! Requests and replies.
 
-use crate::bytes::{bytes_of, framed, many};
 use mt_rows::{Column, ColumnIndexes, Command, Key, NamedColumns, Refusal};
+use mt_test_streams::{bytes_of, framed, many};
 use mt_wire::{
     EncodeFault, Front, RefusalNumber, ReplyFront, Request, WireReply, decode, decode_reply,
     encode, encode_request,
@@ -40,7 +40,7 @@ fn expect_front(rt: &impl Abort, alloc: Global, asks: bool, bytes: &[u8], text: 
 // This is told of these bytes, with and without a byte behind them, and they are written again where they
 // are a message; each front of them is less than a frame.
 fn expect_frame(rt: &impl Abort, alloc: Global, asks: bool, hex: &str, text: &str) {
-    let mut longer = bytes_of(rt, alloc, hex);
+    let mut longer = bytes_of(alloc, hex).expect(rt, "bytes");
     for cut in 0..longer.len() {
         expect_front(rt, alloc, asks, &longer[..cut], "Partial");
     }
@@ -149,7 +149,7 @@ fn a_message_is_read_up_to_its_limits(rt: HostRuntime) {
         (false, "06 40", "0001 ee 01 0000", 64, true),
         (false, "06 41", "0001 ee 01 0000", 65, false),
     ] {
-        let frame = framed(&rt, alloc, front, unit, times);
+        let frame = framed(alloc, front, unit, times).expect(&rt, "bytes");
         let again = again(alloc, asks, &frame).expect(&rt, "memory");
         let want = if is_whole { frame.as_slice() } else { b"" };
         assert!(rt; again.as_slice() == want, "{front}");
@@ -158,12 +158,12 @@ fn a_message_is_read_up_to_its_limits(rt: HostRuntime) {
 
 // Calls that get this many columns, remove a key of this many bytes, and put a column of so many.
 fn requests(rt: &impl Abort, alloc: Global, columns: u32, key: u32, column: u32) -> [Request; 3] {
-    let column = Column::new(many(rt, alloc, "76", column));
+    let column = Column::new(many(alloc, "76", column).expect(rt, "bytes"));
     let mut change = Vec::new(alloc);
     assert!(rt; change.push((0, column)).is_ok());
     let change = NamedColumns::new(change);
-    let columns = ColumnIndexes::new(many(rt, alloc, "00", columns));
-    let removed = Key::new(many(rt, alloc, "6b", key));
+    let columns = ColumnIndexes::new(many(alloc, "00", columns).expect(rt, "bytes"));
+    let removed = Key::new(many(alloc, "6b", key).expect(rt, "bytes"));
     let key = Key::new(Vec::new(alloc));
     let put = Command::Put { key, change };
     let key = Key::new(Vec::new(alloc));

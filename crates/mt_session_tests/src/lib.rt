@@ -2,14 +2,11 @@
 //! maps, from worked bytes to worked bytes.
 //!
 //! They stand in a crate of their own, since a crate with tests is proved twice. What no clause says: that
-//! frames and sessions come to these bytes at all, and how many writes a session takes.
+//! frames and sessions come to these bytes at all, that each reply is written before more is asked, and
+//! how many writes a session takes.
 #![tactic(auto)]
 
-#[cfg(test)]
-mod bytes;
 #[cfg(test)]
 mod frames;
 #[cfg(test)]
 mod sessions;
-#[cfg(test)]
-mod streams;

@@ -1,85 +1,76 @@
-//! Worked sessions: what is asked, what is told, and how each ends; however its bytes are cut, and whatever
-//! read or write fails. How many writes a session takes.
+//! Worked sessions over plain maps: however their bytes are cut, whatever read or write fails, with
+//! interruptions, and with a client that waits for each reply. How many writes a session takes.
 
-use crate::bytes::{bytes_of, framed, many};
-use crate::streams::session;
-use std::alloc::Global;
+use mt_rows::PlainMap;
+use mt_session::{Ended, PlainCaller, PlainTenant, ServeFault, serve};
+use mt_streams::{Sink, Source};
+use mt_test_streams::{ALL, ROWS, TestServer, Way, bytes_of, framed, many, session, wrong_row};
+use std::alloc::{AllocError, Global};
 use std::process::Abort;
 use std::test::Fail;
 
-const ROWS: [&str; 16] = [
-    // nothing
-    "> > closed",
-    // Open 7 and a get of `a`, whole and cut
-    "00000005 01 00000007 00000005 02 0001 61 00 > 00000001 00 00000001 01 > closed",
-    "00000005 01 00000007 00000005 02 00 > 00000001 00 > cut",
-    "0000 > > cut",
-    // a get, a put without columns and a Settle before Open
-    "00000005 02 0001 61 00 > 00000001 91 > closed",
-    "00000005 03 0001 61 00 00000001 06 > 00000001 91 00000001 91 > closed",
-    // a put of `k`, a get of it, a Settle
-    "00000005 01 00000007 00000009 03 0001 6b 01 00 0001 76 00000005 02 0001 6b 00 00000001 06 \
-    > 00000001 00 00000001 03 00000005 02 01 0001 76 00000001 94 > closed",
-    // the same put, a scan, a remove twice, a second Open
+// Rows that ask for a removal or for a scan.
+const MORE_ROWS: [&str; 2] = [
+    // a put, a scan, a remove twice, a second Open
     "00000005 01 00000007 00000009 03 0001 6b 01 00 0001 76 00000006 05 00 0000 02 00 \
     00000004 04 0001 6b 00000004 04 0001 6b 00000005 01 00000007 \
     > 00000001 00 00000001 03 00000009 06 01 0001 6b 01 0001 76 00000001 05 00000001 01 00000001 92 > closed",
     // a put without columns, a scan of no pairs; the session goes on
     "00000005 01 00000007 00000005 03 0001 61 00 00000006 05 00 0000 00 00 00000005 02 0001 61 00 \
     > 00000001 00 00000001 85 00000001 88 00000001 01 > closed",
-    // a tenant that isn't in the list, and then one that is
-    "00000005 01 00000009 00000001 06 00000005 01 00000008 00000005 02 0001 61 00 \
-    > 00000001 84 00000001 91 00000001 00 00000001 01 > closed",
-    // a length past the longest, with nothing behind it
-    "00008001 > 00000001 90 > refused",
-    // a length of 0, a body of no kind, a byte behind a body, a scan that starts at neither, each before a Settle
-    "00000005 01 00000007 00000000 00000001 06 > 00000001 00 00000001 90 > refused",
-    "00000005 01 00000007 00000001 0f 00000001 06 > 00000001 00 00000001 90 > refused",
-    "00000005 01 00000007 00000006 02 0001 61 00 00 00000001 06 > 00000001 00 00000001 90 > refused",
-    "00000005 01 00000007 00000006 05 02 0000 02 00 00000001 06 > 00000001 00 00000001 90 > refused",
-    // a bad body that isn't whole
-    "00000005 01 00000007 00000002 0f > 00000001 00 > cut",
 ];
 
-// A number that is never reached.
-const ALL: usize = 1_000_000;
-
-// A session over such streams ends with this fault, having told a beginning of the text; or it tells the
-// whole text and ends as it should.
-fn expect(
-    rt: &impl Abort,
-    alloc: Global,
-    streams: [usize; 4],
-    fault: &str,
-    (asked, told, end): (&[u8], &[u8], &str),
-) {
-    let (writer, ended) = session(alloc, asked, streams);
-    assert!(rt; told.starts_with(&writer.text));
-    assert!(rt; ended == fault || (ended == end && writer.text.as_slice() == told));
+// Tenants 7 and 8, without pairs, of which the first may have a hundred and the second one.
+fn two_tenants(alloc: Global) -> Result<PlainCaller, AllocError> {
+    let mut tenants = Vec::new(alloc);
+    for (tenant, quota) in [(7, 100), (8, 1)] {
+        tenants.push(PlainTenant {
+            tenant,
+            quota,
+            map: PlainMap::new(alloc),
+        })?;
+    }
+    Ok(PlainCaller::new(tenants))
 }
 
-// The session of a row byte by byte, at every cut in two, and with each read and each write failing.
-fn expect_row(rt: &impl Abort, alloc: Global, row: (&[u8], &[u8], &str)) {
-    expect(rt, alloc, [1, 1, ALL, ALL], "", row);
-    for good in 0..row.0.len() + 1 {
-        expect(rt, alloc, [good, ALL, ALL, ALL], "", row);
-        expect(rt, alloc, [1, 1, good, ALL], "read", row);
+// Sessions over plain maps.
+struct Plain;
+
+impl TestServer for Plain {
+    fn serve_new<R: Source, W: Sink>(
+        &self,
+        alloc: Global,
+        reader: &mut R,
+        writer: &mut W,
+    ) -> Result<Ended, ServeFault> {
+        match two_tenants(alloc) {
+            Ok(mut caller) => serve(alloc, reader, writer, &mut caller),
+            Err(_) => Err(ServeFault::Memory),
+        }
     }
-    for good in 0..row.1.len() {
-        expect(rt, alloc, [1, 1, ALL, good], "write", row);
+}
+
+// All rows are told in this way.
+fn expect_rows(rt: &impl Abort, alloc: Global, way: Way) {
+    for rows in [ROWS.as_slice(), &MORE_ROWS] {
+        assert_eq!(rt; wrong_row(&Plain, alloc, rows, way), None);
     }
 }
 
 #[test]
 fn each_row_however_it_is_cut_and_whatever_fails(rt: HostRuntime) {
-    let alloc = rt.alloc();
-    for row in ROWS {
-        let (asked, rest) = row.split_once("> ").expect(&rt, "what is told");
-        let (told, ended) = rest.split_once("> ").expect(&rt, "how it ends");
-        let asked = bytes_of(&rt, alloc, asked);
-        let told = bytes_of(&rt, alloc, told);
-        expect_row(&rt, alloc, (&asked, &told, ended));
-    }
+    expect_rows(&rt, rt.alloc(), Way::InPieces);
+    expect_rows(&rt, rt.alloc(), Way::WithFaults);
+}
+
+#[test]
+fn an_interruption_ends_no_session(rt: HostRuntime) {
+    expect_rows(&rt, rt.alloc(), Way::Interrupted);
+}
+
+#[test]
+fn each_reply_is_written_before_the_next_request_is_read(rt: HostRuntime) {
+    expect_rows(&rt, rt.alloc(), Way::InTurns);
 }
 
 // A put and a thousand gets of a row, in one read: their replies have 58 bytes each, and are told by one
@@ -91,10 +82,12 @@ fn answers_are_written_together_up_to_a_mark(rt: HostRuntime) -> Result<(), Fail
         ("03 0001 6b 01 00 0032", 50, 1),
         ("03 0001 6b 01 00 03e8", 1_000, 16),
     ] {
-        let mut asked = bytes_of(&rt, alloc, "00000005 01 00000007");
-        asked.extend_from_slice(&framed(&rt, alloc, front, "76", size))?;
-        asked.extend_from_slice(&many(&rt, alloc, "00000005 02 0001 6b 00", 1_000))?;
-        let (writer, ended) = session(alloc, &asked, [65_536, ALL, 2, ALL]);
+        let mut asked = bytes_of(alloc, "00000005 01 00000007").expect(&rt, "bytes");
+        let put = framed(alloc, front, "76", size).expect(&rt, "bytes");
+        asked.extend_from_slice(&put)?;
+        let gets = many(alloc, "00000005 02 0001 6b 00", 1_000).expect(&rt, "bytes");
+        asked.extend_from_slice(&gets)?;
+        let (writer, ended) = session(&Plain, alloc, &asked, [65_536, ALL, 2, ALL]);
         assert_eq!(rt; ended, "closed");
         assert_eq!(rt; writer.good.saturating_add(writes), ALL);
         assert_eq!(rt; writer.text.len(), 10 + 1_000 * (8 + size as usize));

@@ -1,15 +1,16 @@
-//! Readers that cut and fail, writers that take little and fail, and sessions over them.
+//! Readers that cut and fail, and writers that take little and fail.
 
-use mt_rows::PlainMap;
-use mt_session::{Ended, PlainCaller, PlainTenant, ServeFault, serve};
-use std::alloc::{AllocError, Global};
+use std::alloc::Global;
 use std::io;
 use std::io::{ErrorKind, Read, Write};
 
-// A reader that gives at most `first` bytes in its first read, at most `later` in each one behind it, and
-// fails once it has made `good` reads.
+/// A number that no session reaches.
+pub const ALL: usize = 1_000_000;
+
+/// A reader that gives at most `first` bytes in its first read, at most `later` in each one behind it, and
+/// fails once it has made `good` reads.
 #[derive(Drop)]
-struct Pieces<'a> {
+pub struct Pieces<'a> {
     rest: &'a [u8],
     first: usize,
     later: usize,
@@ -68,52 +69,23 @@ impl Write for Written {
     }
 }
 
-// Tenants 7 and 8, without pairs, each of which may have 100.
-fn two_tenants(alloc: Global) -> Result<PlainCaller, AllocError> {
-    let mut tenants = Vec::new(alloc);
-    for tenant in 7..9 {
-        tenants.push(PlainTenant {
-            tenant,
-            quota: 100,
-            map: PlainMap::new(alloc),
-        })?;
-    }
-    Ok(PlainCaller::new(tenants))
-}
-
-/// Runs a session over new maps: its first read gives so many bytes, each later one and each write at most
-/// `size`, and so many reads and writes go well. Gives what was written, and how it ended.
-pub fn session(
+/// Streams for what is asked: the first read gives at most `first` bytes, each later one and each write at
+/// most `size`, and so many reads and writes go well.
+pub fn streams(
     alloc: Global,
     asked: &[u8],
     [first, size, reads, writes]: [usize; 4],
-) -> (Written, &'static str) {
-    let mut reader = Pieces {
+) -> (Pieces<'_>, Written) {
+    let reader = Pieces {
         rest: asked,
         first,
         later: size,
         good: reads,
     };
-    let mut writer = Written {
+    let writer = Written {
         text: Vec::new(alloc),
         most: size,
         good: writes,
     };
-    let ended = match two_tenants(alloc) {
-        Ok(mut caller) => name_of(&serve(alloc, &mut reader, &mut writer, &mut caller)),
-        Err(_) => "memory",
-    };
-    (writer, ended)
-}
-
-// The name of an end.
-fn name_of(ended: &Result<Ended, ServeFault>) -> &'static str {
-    match ended {
-        Ok(Ended::Closed) => "closed",
-        Ok(Ended::Cut) => "cut",
-        Ok(Ended::Refused) => "refused",
-        Err(ServeFault::Read) => "read",
-        Err(ServeFault::Write) => "write",
-        Err(ServeFault::Memory) => "memory",
-    }
+    (reader, writer)
 }

@@ -1,0 +1,33 @@
+//! Frames: a length of four bytes, and a body.
+
+ghost use Rattle.std.specs.Prelude.{◌≤◌, length};
+
+use crate::hexadecimal::{bytes_of, many};
+use std::alloc::{AllocError, Global};
+
+/// The frame of a body: its front, and so many times a unit; none as `bytes_of`.
+pub fn framed(alloc: Global, front: &str, unit: &str, times: u32) -> Option<Vec<u8>> {
+    let front = bytes_of(alloc, front)?;
+    let rest = many(alloc, unit, times)?;
+    joined(alloc, &front, &rest).ok()
+}
+
+// The frame of a body of two parts.
+fn joined(alloc: Global, front: &[u8], rest: &[u8]) -> Result<Vec<u8>, AllocError> {
+    let len = u32::try_from(front.len().saturating_add(rest.len())).unwrap_or(u32::MAX);
+    let mut frame = Vec::from_slice(alloc, &len.to_be_bytes())?;
+    frame.extend_from_slice(front)?;
+    frame.extend_from_slice(rest)?;
+    Ok(frame)
+}
+
+/// How many bytes the first frame of these has, of those that are there.
+pub fn front_len(bytes: &[u8]) -> usize
+    ensures { result ≤ length bytes.now }
+{
+    if bytes.len() < 4 {
+        return bytes.len();
+    }
+    let body = u32::from_be_bytes([bytes[0], bytes[1], bytes[2], bytes[3]]);
+    bytes.len().min((body as usize).saturating_add(4))
+}

@@ -1,0 +1,67 @@
+//! Worked sessions: what is asked, what is told, and how each ends.
+
+use crate::hexadecimal::bytes_of;
+use std::alloc::Global;
+
+/// Sessions over new tenants 7 and 8, of which the first may have a hundred pairs and the second one:
+/// without removals and without scans.
+pub const ROWS: [&str; 18] = [
+    // nothing
+    "> > closed",
+    // Open 7 and a get of `a`, whole and cut
+    "00000005 01 00000007 00000005 02 0001 61 00 > 00000001 00 00000001 01 > closed",
+    "00000005 01 00000007 00000005 02 00 > 00000001 00 > cut",
+    "0000 > > cut",
+    // a get, a put without columns and a Settle before Open
+    "00000005 02 0001 61 00 > 00000001 91 > closed",
+    "00000005 03 0001 61 00 00000001 06 > 00000001 91 00000001 91 > closed",
+    // a put of `k`, a get of it, a put over it, a Settle
+    "00000005 01 00000007 00000009 03 0001 6b 01 00 0001 76 00000005 02 0001 6b 00 \
+    00000009 03 0001 6b 01 00 0001 77 00000001 06 \
+    > 00000001 00 00000001 03 00000005 02 01 0001 76 00000001 04 00000001 94 > closed",
+    // a put without columns, after which the session goes on
+    "00000005 01 00000007 00000005 03 0001 61 00 00000005 02 0001 61 00 > 00000001 00 00000001 85 00000001 01 > closed",
+    // a tenant that isn't in the list, and then one that is
+    "00000005 01 00000009 00000001 06 00000005 01 00000008 00000005 02 0001 61 00 \
+    > 00000001 84 00000001 91 00000001 00 00000001 01 > closed",
+    // a get before Open; a tenant that isn't in the list, and then one that is; a second Open
+    "00000005 02 0001 61 00 00000005 01 00000009 00000005 01 00000008 00000005 02 0001 61 00 00000005 01 00000007 \
+    > 00000001 91 00000001 84 00000001 00 00000001 01 00000001 92 > closed",
+    // tenant 8 may have one pair
+    "00000005 01 00000008 00000009 03 0001 6b 01 00 0001 76 00000009 03 0001 6c 01 00 0001 76 00000005 02 0001 6c 00 \
+    > 00000001 00 00000001 03 00000001 08 00000001 01 > closed",
+    // two keys of the same first eight bytes
+    "00000005 01 00000007 00000012 03 000a 61616161616161616162 01 00 0001 76 \
+    00000012 03 000a 61616161616161616163 01 00 0001 77 0000000e 02 000a 61616161616161616162 00 \
+    > 00000001 00 00000001 03 00000001 03 00000005 02 01 0001 76 > closed",
+    // a length past the longest, with nothing behind it
+    "00008001 > 00000001 90 > refused",
+    // a length of 0, a body of no kind, a byte behind a body, a scan that starts at neither, each before a Settle
+    "00000005 01 00000007 00000000 00000001 06 > 00000001 00 00000001 90 > refused",
+    "00000005 01 00000007 00000001 0f 00000001 06 > 00000001 00 00000001 90 > refused",
+    "00000005 01 00000007 00000006 02 0001 61 00 00 00000001 06 > 00000001 00 00000001 90 > refused",
+    "00000005 01 00000007 00000006 05 02 0000 02 00 00000001 06 > 00000001 00 00000001 90 > refused",
+    // a bad body that isn't whole
+    "00000005 01 00000007 00000002 0f > 00000001 00 > cut",
+];
+
+/// A worked session.
+#[derive(Drop)]
+pub struct Row<'a> {
+    /// The bytes that are asked.
+    pub asked: Vec<u8>,
+    /// The bytes that are told.
+    pub told: Vec<u8>,
+    /// The name of its end.
+    pub end: &'a str,
+}
+
+/// The session that a text writes: what is asked, what is told and its end, with `> ` between them. None
+/// as `bytes_of`.
+pub fn row_of<'a>(alloc: Global, text: &'a str) -> Option<Row<'a>> {
+    let (asked, rest) = text.split_once("> ")?;
+    let (told, end) = rest.split_once("> ")?;
+    let asked = bytes_of(alloc, asked)?;
+    let told = bytes_of(alloc, told)?;
+    Some(Row { asked, told, end })
+}
