@@ -1,7 +1,7 @@
--- What a `MemDisk` shows: the state of an honest disk, and which of its calls it fails.
-use Rattle.std.specs.Prelude.{◌≡◌, ◌⊎◌, ℕ, ◌≤◌, List, [], ◌∷◌, ◌++◌, map, Vec, Option, Some}
+-- What a `MemDisk` shows: the state of an honest disk, and the plan by which its calls fail.
+use Rattle.std.specs.Prelude.{ℕ, List, [], ◌∷◌, ◌++◌, map, Vec}
 use Rattle.std.specs.declared.alloc.Global.{Global}
-use Rattle.mt_disk.specs.Disk.{Range, Moment, DiskState}
+use Rattle.mt_disk.specs.Disk.{Range, Moment, DiskState, Plan}
 use Rattle.mt_disk.specs.declared.mem.MemDisk.{MemDisk}
 
 -- what it keeps of a moment
@@ -16,16 +16,6 @@ moments_and past durable dirty = map moment_of past ++ record { durable = durabl
 abbrev pub mem_state : MemDisk → DiskState
 mem_state m = record { image = m.image.items; now = record { durable = m.durable.items; dirty = m.dirty.items }; past = map moment_of m.past.items }
 
--- the number of its last call, and which calls it is told to fail
-pub record Plan : Type 0 where
-  pub calls : ℕ
-  pub fail : Option ℕ
-  pub stop : Option ℕ
-
 -- the plan of a `MemDisk`
 abbrev pub plan_of : MemDisk → Plan
 plan_of m = record { calls = m.calls; fail = m.fail; stop = m.stop }
-
--- whether a call is told to fail: it is the one numbered `fail`, or the one numbered `stop` or a later one
-abbrev pub IsToldToFail : Option ℕ → Option ℕ → ℕ → Type 0
-IsToldToFail fail stop call = (fail ≡ Some call) ⊎ ((first : ℕ) × (stop ≡ Some first) × (first ≤ call))

@@ -1,11 +1,11 @@
 //! The rules of a disk, as a trait.
 //!
-//! Each clause but `count` and `honest` begins with the premise that the disk is honest, that is, keeps
+//! Each clause but `count`, `honest` and `plan` begins with the premise that the disk is honest, that is, keeps
 //! these rules. Contracts see a disk as a `DiskState`; its list of moments is the clock.
 //! Units: bytes. Errors: `DeviceFailed`, after which all calls may still be made.
 
-ghost use Rattle.std.specs.Prelude.{◌≡◌, ◌+◌, ◌≤◌, ℕ, Bool, IsTrue, length, take, IfOk, OnOk, OnErr};
-ghost use Rattle.mt_disk.specs.Disk.{DiskState, Attempts, CountsFailure, GoesUp, Reads, synced, overwritten, cut_range};
+ghost use Rattle.std.specs.Prelude.{◌≡◌, ◌+◌, ◌≤◌, ℕ, Bool, IsTrue, Option, length, take, IfOk, OnOk, OnErr};
+ghost use Rattle.mt_disk.specs.Disk.{DiskState, Plan, FollowsPlan, Attempts, CountsFailure, GoesUp, Reads, synced, overwritten, cut_range};
 
 /// The disk failed during this call.
 #[derive(Clone, Copy, Debug, PartialEq, Eq)]
@@ -22,10 +22,14 @@ pub trait Disk {
     /// How many calls have failed.
     ghost failures: { Self → ℕ };
 
+    /// The number of its last call and which calls it is told to fail; none where nobody tells it.
+    ghost plan: { Self → Option Plan };
+
     /// The number of bytes.
     fn len(&mut self) -> Result<usize, DeviceFailed>
         ensures count { CountsFailure result (failures self.old) (failures self.new) }
         ensures honest { is_honest self.new ≡ is_honest self.old }
+        ensures plan { FollowsPlan result (plan self.old) (plan self.new) }
         ensures same { IsTrue (is_honest self.old) → state self.new ≡ state self.old }
         ensures told { IsTrue (is_honest self.old) → IfOk result (λ n. n ≡ length (state self.old).image) };
 
@@ -34,6 +38,7 @@ pub trait Disk {
     fn read(&mut self, at: usize, out: &mut [u8]) -> Result<(), DeviceFailed>
         ensures count { CountsFailure result (failures self.old) (failures self.new) }
         ensures honest { is_honest self.new ≡ is_honest self.old }
+        ensures plan { FollowsPlan result (plan self.old) (plan self.new) }
         ensures same { IsTrue (is_honest self.old) → state self.new ≡ state self.old }
         ensures told { IsTrue (is_honest self.old)
             → OnOk result (Reads at (state self.old).image out.old out.new) };
@@ -43,6 +48,7 @@ pub trait Disk {
     fn write_at(&mut self, at: usize, bytes: &[u8]) -> Result<(), DeviceFailed>
         ensures count { CountsFailure result (failures self.old) (failures self.new) }
         ensures honest { is_honest self.new ≡ is_honest self.old }
+        ensures plan { FollowsPlan result (plan self.old) (plan self.new) }
         ensures crash { IsTrue (is_honest self.old)
             → Attempts (at, at + length bytes.now) result (state self.old) (state self.new) }
         ensures image { IsTrue (is_honest self.old)
@@ -53,6 +59,7 @@ pub trait Disk {
     fn cut(&mut self, len: usize) -> Result<(), DeviceFailed>
         ensures count { CountsFailure result (failures self.old) (failures self.new) }
         ensures honest { is_honest self.new ≡ is_honest self.old }
+        ensures plan { FollowsPlan result (plan self.old) (plan self.new) }
         ensures crash { IsTrue (is_honest self.old)
             → Attempts (cut_range len (state self.old)) result (state self.old) (state self.new) }
         ensures image { IsTrue (is_honest self.old)
@@ -64,6 +71,7 @@ pub trait Disk {
     fn sync(&mut self) -> Result<(), DeviceFailed>
         ensures count { CountsFailure result (failures self.old) (failures self.new) }
         ensures honest { is_honest self.new ≡ is_honest self.old }
+        ensures plan { FollowsPlan result (plan self.old) (plan self.new) }
         ensures done { IsTrue (is_honest self.old) → OnOk result (state self.new ≡ synced (state self.old)) }
         ensures failed { IsTrue (is_honest self.old) → OnErr result (state self.new ≡ state self.old) };
 }

@@ -1,6 +1,6 @@
 //! A real file. Of it nothing is claimed but the count of its failures.
 
-ghost use Rattle.std.specs.Prelude.{◌≡◌, [], false};
+ghost use Rattle.std.specs.Prelude.{◌≡◌, [], false, None};
 ghost use Rattle.mt_disk.specs.Disk.{CountsFailure, found_with};
 
 use crate::disk::{DeviceFailed, Disk, count_failure};
@@ -43,6 +43,8 @@ impl Disk for FileDisk {
     ghost state = { λ _. found_with [] };
 
     ghost failures = { λ f. f.failures };
+
+    ghost plan = { λ _. None };
 
     fn len(&mut self) -> Result<usize, DeviceFailed> {
         let len = self.file.metadata().map(|metadata| metadata.len() as usize);

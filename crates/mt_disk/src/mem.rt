@@ -7,10 +7,10 @@
 //!
 //! It keeps each moment that it had, since the clock is real data: for tests, on small files.
 
-ghost use Rattle.std.specs.Prelude.{ℕ, map, ◌≡◌, ◌+◌, ◌<◌, ◌≤◌, ◌↔◌, [], ◌∷◌, ◌++◌, true, false, length, take, drop, IsTrue, IfOk, OnOk, OnErr, is_ok, None};
+ghost use Rattle.std.specs.Prelude.{ℕ, map, ◌≡◌, ◌+◌, ◌<◌, ◌≤◌, ◌↔◌, [], ◌∷◌, ◌++◌, true, false, length, take, drop, IsTrue, IfOk, OnOk, OnErr, is_ok, None, Some};
 ghost use Rattle.std.specs.List.{slice_get};
-ghost use Rattle.mt_disk.specs.Disk.{MayLeave, Reads, found_with, is_dirty, overwritten, CountsFailure, GoesUp};
-ghost use Rattle.mt_disk.specs.Mem.{moment_of, moments_and, IsToldToFail};
+ghost use Rattle.mt_disk.specs.Disk.{MayLeave, Reads, IsToldToFail, found_with, is_dirty, overwritten, CountsFailure, GoesUp};
+ghost use Rattle.mt_disk.specs.Mem.{moment_of, moments_and};
 
 use crate::disk::{DeviceFailed, Disk, count_failure};
 use std::alloc::{AllocError, Global};
@@ -220,13 +220,15 @@ fn overwrite(alloc: Global, image: &mut Vec<u8>, at: usize, bytes: &[u8]) -> Res
 }
 
 impl Disk for MemDisk {
-    ghost use Rattle.mt_disk.specs.Mem.{mem_state};
+    ghost use Rattle.mt_disk.specs.Mem.{mem_state, plan_of};
 
     ghost is_honest = { λ _. true };
 
     ghost state = { mem_state };
 
     ghost failures = { λ m. m.failures };
+
+    ghost plan = { λ m. Some (plan_of m) };
 
     fn len(&mut self) -> Result<usize, DeviceFailed> {
         let allowed = next_call(&mut self.calls, self.fail, self.stop);

@@ -8,14 +8,15 @@ use Rattle.std.proofs.lemmas.Bool.Decides.{nat_tests}
 use Rattle.std.proofs.lemmas.List.{append-nil, nil_from_length}
 use Rattle.std.proofs.lemmas.List.Elements.{All-from_recursion, recursion_from_All, All-weaker}
 use Rattle.mt_rows.specs.Rows.{Bytes, Columns, IsRow}
+use Rattle.mt_rows.specs.Commands.{IsKey}
 use Rattle.mt_rows.specs.declared.record.Record.{Record}
 use Rattle.mt_rows.specs.declared.record.Batch.{Batch}
 use Rattle.mt_log.specs.declared.batch.LogBatch.{LogBatch}
 use Rattle.mt_log.specs.declared.batch.LogBatch.TheVariants.{Records, Resume}
 use Rattle.mt_log.specs.Format.{string, row_bytes, change_bytes, record_bytes, body, told_body}
-use Rattle.mt_log.specs.Contents.{IsRowOrNone, AreLogged, IsLogBatch, from_of}
-use Rattle.mt_log.specs.Reading.{◌>>=◌, byte_at, number_at, taken_at, string_at, each_at, is_row, row_at, written_at, change_kind_at, change_at, record_of, record_at, rise_within, are_steps, records_at, resume_at, batch_kind_at, batch_in, batch_at}
-use Rattle.mt_log.proofs.Tests.{row_from_test, test_from_row, steps_from_test, test_from_steps, kept_from_test, test_from_kept, records_from_test, test_of_batch}
+use Rattle.mt_log.specs.Contents.{IsRowOrNone, IsRecord, IsLogBatch}
+use Rattle.mt_log.specs.Reading.{◌>>=◌, byte_at, number_at, taken_at, string_at, each_at, is_row, row_at, written_at, change_kind_at, change_at, key_at, record_of, record_at, is_step, records_at, resume_at, batch_kind_at, batch_in, batch_at}
+use Rattle.mt_log.proofs.Tests.{row_from_test, test_from_row, at_most_from_test, test_from_at_most}
 use Rattle.mt_log.proofs.FieldLaws.{IsBytes, bind_some, guard_ended, choose, some_is, Takes, Takes-then, Takes-more, byte_takes, wide32, wide64, number_takes, number_again, taken_takes, taken_fits, taken_again, string_takes, string_again, each_takes, each_again}
 
 -- ---- rows
@@ -80,33 +81,41 @@ change_again (Some row) rest h = rw (row_again row rest h) refl
 
 -- ---- records
 
--- a record whose fields fit their bytes
-abbrev Fits : Record → Type 0
-Fits r = (r.stamp < 2 ^ 64) × (r.tenant < 2 ^ 32) × (length r.key < 2 ^ 16) × IsRowOrNone r.row
+key_takes : (bytes : Bytes) (x : Bytes × Bytes) → IsBytes bytes → key_at bytes ≡ Some x → Takes bytes (string x.0) x.1 × IsKey x.0
+unfolding key_at
+key_takes bytes x fits e =
+    let a = bind_some (string_at bytes) (λ key. cond (not (nat_lt 251 (length key.0))) (Some key) None) x e in
+    let g = guard_ended (not (nat_lt 251 (length a.0.0))) a.0 x a.2 in
+    let t = string_takes bytes a.0.0 a.0.1 fits a.1 in
+    subst (λ (y : Bytes × Bytes). Takes bytes (string y.0) y.1 × IsKey y.0) g.1 (t.0, at_most_from_test (length a.0.0) 251 g.0)
 
-record_takes : (bytes : Bytes) (x : Record × Bytes) → IsBytes bytes → record_at bytes ≡ Some x → Takes bytes (record_bytes x.0) x.1 × Fits x.0
+key_again : (key rest : Bytes) → IsKey key → key_at (string key ++ rest) ≡ Some (key, rest)
+unfolding key_at
+key_again key rest short = rw (string_again key rest (omega (arith, short)), test_from_at_most (length key) 251 short) refl
+
+record_takes : (bytes : Bytes) (x : Record × Bytes) → IsBytes bytes → record_at bytes ≡ Some x → Takes bytes (record_bytes x.0) x.1 × IsRecord x.0
 unfolding record_at
 record_takes bytes x fits e =
-    let a = bind_some (number_at w64 bytes) (λ stamp. number_at w32 stamp.1 >>= λ tenant. string_at tenant.1 >>= λ key. change_at key.1 >>= λ row. Some (record_of stamp.0 tenant.0 key.0 row.0, row.1)) x e in
-    let b = bind_some (number_at w32 a.0.1) (λ tenant. string_at tenant.1 >>= λ key. change_at key.1 >>= λ row. Some (record_of a.0.0 tenant.0 key.0 row.0, row.1)) x a.2 in
-    let d = bind_some (string_at b.0.1) (λ key. change_at key.1 >>= λ row. Some (record_of a.0.0 b.0.0 key.0 row.0, row.1)) x b.2 in
+    let a = bind_some (number_at w64 bytes) (λ stamp. number_at w32 stamp.1 >>= λ tenant. key_at tenant.1 >>= λ key. change_at key.1 >>= λ row. Some (record_of stamp.0 tenant.0 key.0 row.0, row.1)) x e in
+    let b = bind_some (number_at w32 a.0.1) (λ tenant. key_at tenant.1 >>= λ key. change_at key.1 >>= λ row. Some (record_of a.0.0 tenant.0 key.0 row.0, row.1)) x a.2 in
+    let d = bind_some (key_at b.0.1) (λ key. change_at key.1 >>= λ row. Some (record_of a.0.0 b.0.0 key.0 row.0, row.1)) x b.2 in
     let f = bind_some (change_at d.0.1) (λ row. Some (record_of a.0.0 b.0.0 d.0.0 row.0, row.1)) x d.2 in
     let s = number_takes w64 (2 ^ 64) wide64 bytes a.0.0 a.0.1 fits a.1 in
     let t = number_takes w32 (2 ^ 32) wide32 a.0.1 b.0.0 b.0.1 s.0.rest_fits b.1 in
-    let u = string_takes b.0.1 d.0.0 d.0.1 t.0.rest_fits d.1 in
+    let u = key_takes b.0.1 d.0 t.0.rest_fits d.1 in
     let v = change_takes d.0.1 f.0 u.0.rest_fits f.1 in
     let last = Takes-then b.0.1 (string d.0.0) d.0.1 (change_bytes f.0.0) f.0.1 u.0 v.0 in
     let middle = Takes-then a.0.1 (to_be_bytes w32 b.0.0) b.0.1 (string d.0.0 ++ change_bytes f.0.0) f.0.1 t.0 last in
     let whole = Takes-then bytes (to_be_bytes w64 a.0.0) a.0.1 (to_be_bytes w32 b.0.0 ++ (string d.0.0 ++ change_bytes f.0.0)) f.0.1 s.0 middle in
     let made : Record × Bytes = (record_of a.0.0 b.0.0 d.0.0 f.0.0, f.0.1) in
-    subst (λ (y : Record × Bytes). Takes bytes (record_bytes y.0) y.1 × Fits y.0) (some_is made x f.2) (whole, (s.1, t.1, u.1, v.1))
+    subst (λ (y : Record × Bytes). Takes bytes (record_bytes y.0) y.1 × IsRecord y.0) (some_is made x f.2) (whole, record { stamp = s.1; tenant = t.1; key = u.1; row = v.1 })
 
-record_again : (r : Record) (rest : Bytes) → Fits r → record_at (record_bytes r ++ rest) ≡ Some (r, rest)
+record_again : (r : Record) (rest : Bytes) → IsRecord r → record_at (record_bytes r ++ rest) ≡ Some (r, rest)
 unfolding record_at
 record_again r rest fits =
     let change = change_bytes r.row ++ rest in
     ap (λ (t : Bytes). record_at (to_be_bytes w64 r.stamp ++ (to_be_bytes w32 r.tenant ++ t))) (append_assoc (string r.key) (change_bytes r.row) rest)
-    ∙ rw (number_again w64 (2 ^ 64) wide64 r.stamp (to_be_bytes w32 r.tenant ++ (string r.key ++ change)) fits.0, number_again w32 (2 ^ 32) wide32 r.tenant (string r.key ++ change) fits.1, string_again r.key change fits.2, change_again r.row rest fits.3) refl
+    ∙ rw (number_again w64 (2 ^ 64) wide64 r.stamp (to_be_bytes w32 r.tenant ++ (string r.key ++ change)) fits.stamp, number_again w32 (2 ^ 32) wide32 r.tenant (string r.key ++ change) fits.tenant, key_again r.key change fits.key, change_again r.row rest fits.row) refl
 
 -- ---- batches, by their first byte
 
@@ -117,32 +126,19 @@ Reads kind bytes x = Takes (kind ∷ bytes) (body x.0) x.1 × (length (body x.0)
 abbrev batch_of : ℕ → ℕ → List Record → Batch
 batch_of from to records = record { from = from; to = to; records = records }
 
--- records that were read and passed the test are a batch's
-are_logged : (from to : ℕ) (records : List Record) → AllByRecursion Fits records → rise_within from to records ≡ true → AreLogged from to records
-are_logged from to records fits e =
-    let both = records_from_test from to records e in
-    let all = All-from_recursion Fits records fits in
-    record {
-      limits = both.0;
-      within = both.1;
-      each = λ k d lt. (let f = all k d lt in record { tenant = f.1; key = both.0.keys k d lt; row = f.3 });
-    }
-
 records_takes : (bytes : Bytes) (x : LogBatch × Bytes) → IsBytes bytes → records_at bytes ≡ Some x → Reads 0 bytes x
 unfolding records_at
 records_takes bytes x fits e =
-    let a = bind_some (number_at w64 bytes) (λ from. number_at w64 from.1 >>= λ to. number_at w32 to.1 >>= λ count. each_at record_at count.0 count.1 >>= λ records. cond (are_steps from.0 to.0 && rise_within from.0 to.0 records.0) (Some (Records (batch_of from.0 to.0 records.0), records.1)) None) x e in
-    let b = bind_some (number_at w64 a.0.1) (λ to. number_at w32 to.1 >>= λ count. each_at record_at count.0 count.1 >>= λ records. cond (are_steps a.0.0 to.0 && rise_within a.0.0 to.0 records.0) (Some (Records (batch_of a.0.0 to.0 records.0), records.1)) None) x a.2 in
-    let d = bind_some (number_at w32 b.0.1) (λ count. each_at record_at count.0 count.1 >>= λ records. cond (are_steps a.0.0 b.0.0 && rise_within a.0.0 b.0.0 records.0) (Some (Records (batch_of a.0.0 b.0.0 records.0), records.1)) None) x b.2 in
-    let f = bind_some (each_at record_at d.0.0 d.0.1) (λ records. cond (are_steps a.0.0 b.0.0 && rise_within a.0.0 b.0.0 records.0) (Some (Records (batch_of a.0.0 b.0.0 records.0), records.1)) None) x d.2 in
+    let a = bind_some (number_at w64 bytes) (λ from. number_at w64 from.1 >>= λ to. number_at w32 to.1 >>= λ count. each_at record_at count.0 count.1 >>= λ records. cond (is_step to.0) (Some (Records (batch_of from.0 to.0 records.0), records.1)) None) x e in
+    let b = bind_some (number_at w64 a.0.1) (λ to. number_at w32 to.1 >>= λ count. each_at record_at count.0 count.1 >>= λ records. cond (is_step to.0) (Some (Records (batch_of a.0.0 to.0 records.0), records.1)) None) x a.2 in
+    let d = bind_some (number_at w32 b.0.1) (λ count. each_at record_at count.0 count.1 >>= λ records. cond (is_step b.0.0) (Some (Records (batch_of a.0.0 b.0.0 records.0), records.1)) None) x b.2 in
+    let f = bind_some (each_at record_at d.0.0 d.0.1) (λ records. cond (is_step b.0.0) (Some (Records (batch_of a.0.0 b.0.0 records.0), records.1)) None) x d.2 in
     let made : LogBatch × Bytes = (Records (batch_of a.0.0 b.0.0 f.0.0), f.0.1) in
-    let g = guard_ended (are_steps a.0.0 b.0.0 && rise_within a.0.0 b.0.0 f.0.0) made x f.2 in
-    let tests = and_parts (are_steps a.0.0 b.0.0) (rise_within a.0.0 b.0.0 f.0.0) g.0 in
-    let steps = steps_from_test a.0.0 b.0.0 tests.0 in
+    let g = guard_ended (is_step b.0.0) made x f.2 in
     let s = number_takes w64 (2 ^ 64) wide64 bytes a.0.0 a.0.1 fits a.1 in
     let t = number_takes w64 (2 ^ 64) wide64 a.0.1 b.0.0 b.0.1 s.0.rest_fits b.1 in
     let u = number_takes w32 (2 ^ 32) wide32 b.0.1 d.0.0 d.0.1 t.0.rest_fits d.1 in
-    let v = each_takes record_at record_bytes Fits record_takes d.0.0 d.0.1 f.0 u.0.rest_fits f.1 in
+    let v = each_takes record_at record_bytes IsRecord record_takes d.0.0 d.0.1 f.0 u.0.rest_fits f.1 in
     let texts = flat_map record_bytes f.0.0 in
     let last : Takes b.0.1 (to_be_bytes w32 (length f.0.0) ++ texts) f.0.1 = subst (λ (k : ℕ). Takes b.0.1 (to_be_bytes w32 k ++ texts) f.0.1) (sym v.1) (Takes-then b.0.1 (to_be_bytes w32 d.0.0) d.0.1 texts f.0.1 u.0 v.0) in
     let middle = Takes-then a.0.1 (to_be_bytes w64 b.0.0) b.0.1 (to_be_bytes w32 (length f.0.0) ++ texts) f.0.1 t.0 last in
@@ -150,19 +146,17 @@ records_takes bytes x fits e =
     let few : length f.0.0 < 2 ^ 32 = omega (arith, u.1, v.1) in
     subst (Reads 0 bytes) g.1 (
       Takes-more 0 bytes (to_be_bytes w64 a.0.0 ++ (to_be_bytes w64 b.0.0 ++ (to_be_bytes w32 (length f.0.0) ++ texts))) f.0.1 whole,
-      λ short. record { order = steps.0; last = steps.1; records = are_logged a.0.0 b.0.0 f.0.0 v.2 tests.1; few = few; short = short },
+      λ short. record { first = s.1; last = at_most_from_test b.0.0 (2 ^ 59) g.0; each = All-from_recursion IsRecord f.0.0 v.2; few = few; short = short },
     )
 
 resume_takes : (bytes : Bytes) (x : LogBatch × Bytes) → IsBytes bytes → resume_at bytes ≡ Some x → Reads 1 bytes x
 unfolding resume_at
 resume_takes bytes x fits e =
-    let a = bind_some (number_at w64 bytes) (λ from. number_at w64 from.1 >>= λ to. number_at w64 to.1 >>= λ kept. cond (are_steps from.0 to.0 && not (nat_lt to.0 kept.0)) (Some (Resume from.0 to.0 kept.0, kept.1)) None) x e in
-    let b = bind_some (number_at w64 a.0.1) (λ to. number_at w64 to.1 >>= λ kept. cond (are_steps a.0.0 to.0 && not (nat_lt to.0 kept.0)) (Some (Resume a.0.0 to.0 kept.0, kept.1)) None) x a.2 in
-    let d = bind_some (number_at w64 b.0.1) (λ kept. cond (are_steps a.0.0 b.0.0 && not (nat_lt b.0.0 kept.0)) (Some (Resume a.0.0 b.0.0 kept.0, kept.1)) None) x b.2 in
+    let a = bind_some (number_at w64 bytes) (λ from. number_at w64 from.1 >>= λ to. number_at w64 to.1 >>= λ kept. cond (is_step to.0) (Some (Resume from.0 to.0 kept.0, kept.1)) None) x e in
+    let b = bind_some (number_at w64 a.0.1) (λ to. number_at w64 to.1 >>= λ kept. cond (is_step to.0) (Some (Resume a.0.0 to.0 kept.0, kept.1)) None) x a.2 in
+    let d = bind_some (number_at w64 b.0.1) (λ kept. cond (is_step b.0.0) (Some (Resume a.0.0 b.0.0 kept.0, kept.1)) None) x b.2 in
     let made : LogBatch × Bytes = (Resume a.0.0 b.0.0 d.0.0, d.0.1) in
-    let g = guard_ended (are_steps a.0.0 b.0.0 && not (nat_lt b.0.0 d.0.0)) made x d.2 in
-    let tests = and_parts (are_steps a.0.0 b.0.0) (not (nat_lt b.0.0 d.0.0)) g.0 in
-    let steps = steps_from_test a.0.0 b.0.0 tests.0 in
+    let g = guard_ended (is_step b.0.0) made x d.2 in
     let s = number_takes w64 (2 ^ 64) wide64 bytes a.0.0 a.0.1 fits a.1 in
     let t = number_takes w64 (2 ^ 64) wide64 a.0.1 b.0.0 b.0.1 s.0.rest_fits b.1 in
     let u = number_takes w64 (2 ^ 64) wide64 b.0.1 d.0.0 d.0.1 t.0.rest_fits d.1 in
@@ -170,7 +164,7 @@ resume_takes bytes x fits e =
     let whole = Takes-then bytes (to_be_bytes w64 a.0.0) a.0.1 (to_be_bytes w64 b.0.0 ++ to_be_bytes w64 d.0.0) d.0.1 s.0 middle in
     subst (Reads 1 bytes) g.1 (
       Takes-more 1 bytes (to_be_bytes w64 a.0.0 ++ (to_be_bytes w64 b.0.0 ++ to_be_bytes w64 d.0.0)) d.0.1 whole,
-      λ short. record { order = steps.0; last = steps.1; within = kept_from_test b.0.0 d.0.0 tests.1 },
+      λ short. record { first = s.1; last = at_most_from_test b.0.0 (2 ^ 59) g.0; past = u.1 },
     )
 
 kind_takes : (kind : ℕ) (bytes : Bytes) (x : LogBatch × Bytes) → IsBytes bytes → batch_kind_at kind bytes ≡ Some x → Reads kind bytes x
@@ -181,72 +175,54 @@ kind_takes kind bytes x fits e =
     choose (eqb kind 1) _ _ _ e1 (λ t h. at 1 t (resume_takes bytes x fits h)) (λ _ h. absurd cc))
 
 -- what is read as a body is spelled so
-body_takes : (mark : ℕ) (bytes : Bytes) (b : LogBatch) → IsBytes bytes → batch_in mark bytes ≡ Some b → (bytes ≡ body b) × (from_of b ≡ mark) × (length (body b) < 2 ^ 32 → IsLogBatch b)
+body_takes : (bytes : Bytes) (b : LogBatch) → IsBytes bytes → batch_in bytes ≡ Some b → (bytes ≡ body b) × (length (body b) < 2 ^ 32 → IsLogBatch b)
 unfolding batch_in
-body_takes mark bytes b fits e =
-    let k = bind_some (byte_at bytes) (λ kind. batch_kind_at kind.0 kind.1 >>= λ x. cond (eqb (length x.1) 0 && eqb (from_of x.0) mark) (Some x.0) None) b e in
-    let x = bind_some (batch_kind_at k.0.0 k.0.1) (λ x. cond (eqb (length x.1) 0 && eqb (from_of x.0) mark) (Some x.0) None) b k.2 in
-    let g = guard_ended (eqb (length x.0.1) 0 && eqb (from_of x.0.0) mark) x.0.0 b x.2 in
-    let tests = and_parts (eqb (length x.0.1) 0) (eqb (from_of x.0.0) mark) g.0 in
+body_takes bytes b fits e =
+    let k = bind_some (byte_at bytes) (λ kind. batch_kind_at kind.0 kind.1 >>= λ x. cond (eqb (length x.1) 0) (Some x.0) None) b e in
+    let x = bind_some (batch_kind_at k.0.0 k.0.1) (λ x. cond (eqb (length x.1) 0) (Some x.0) None) b k.2 in
+    let g = guard_ended (eqb (length x.0.1) 0) x.0.0 b x.2 in
     let first = byte_takes bytes k.0.0 k.0.1 fits k.1 in
     let second = kind_takes k.0.0 k.0.1 x.0 first.0.rest_fits x.1 in
-    let nothing : x.0.1 ≡ [] = nil_from_length x.0.1 (eqb-true _ _ tests.0) in
+    let nothing : x.0.1 ≡ [] = nil_from_length x.0.1 (eqb-true _ _ g.0) in
     let whole : bytes ≡ body x.0.0 = first.0.parts ∙ second.0.parts ∙ ap (λ (t : Bytes). body x.0.0 ++ t) nothing ∙ append-nil (body x.0.0) in
-    subst (λ (y : LogBatch). (bytes ≡ body y) × (from_of y ≡ mark) × (length (body y) < 2 ^ 32 → IsLogBatch y)) g.1 (whole, eqb-true _ _ tests.1, second.1)
+    subst (λ (y : LogBatch). (bytes ≡ body y) × (length (body y) < 2 ^ 32 → IsLogBatch y)) g.1 (whole, second.1)
 
--- a batch that begins at this step, whole behind its length
-pub batch_takes : (mark : ℕ) (bytes : Bytes) (b : LogBatch) (rest : Bytes) → IsBytes bytes → batch_at mark bytes ≡ Some (b, rest) → (bytes ≡ told_body (body b) ++ rest) × (from_of b ≡ mark) × IsLogBatch b
+-- a batch, whole behind its length
+pub batch_takes : (bytes : Bytes) (b : LogBatch) (rest : Bytes) → IsBytes bytes → batch_at bytes ≡ Some (b, rest) → (bytes ≡ told_body (body b) ++ rest) × IsLogBatch b
 unfolding batch_at
-batch_takes mark bytes b rest fits e =
-    let n = bind_some (number_at w32 bytes) (λ n. taken_at n.0 n.1 >>= λ text. batch_in mark text.0 >>= λ x. Some (x, text.1)) (b, rest) e in
-    let t = bind_some (taken_at n.0.0 n.0.1) (λ text. batch_in mark text.0 >>= λ x. Some (x, text.1)) (b, rest) n.2 in
-    let x = bind_some (batch_in mark t.0.0) (λ x. Some (x, t.0.1)) (b, rest) t.2 in
+batch_takes bytes b rest fits e =
+    let n = bind_some (number_at w32 bytes) (λ n. taken_at n.0 n.1 >>= λ text. batch_in text.0 >>= λ x. Some (x, text.1)) (b, rest) e in
+    let t = bind_some (taken_at n.0.0 n.0.1) (λ text. batch_in text.0 >>= λ x. Some (x, text.1)) (b, rest) n.2 in
+    let x = bind_some (batch_in t.0.0) (λ x. Some (x, t.0.1)) (b, rest) t.2 in
     let number = number_takes w32 (2 ^ 32) wide32 bytes n.0.0 n.0.1 fits n.1 in
     let taken = taken_takes n.0.0 n.0.1 t.0.0 t.0.1 number.0.rest_fits t.1 in
     let inside = taken_fits n.0.0 n.0.1 t.0.0 t.0.1 number.0.rest_fits t.1 in
-    let read = body_takes mark t.0.0 x.0 inside x.1 in
+    let read = body_takes t.0.0 x.0 inside x.1 in
     let len : length (body x.0) ≡ n.0.0 = ap length (sym read.0) ∙ taken.1 in
     let both = Takes-then bytes (to_be_bytes w32 n.0.0) n.0.1 t.0.0 t.0.1 number.0 taken.0 in
     let parts : bytes ≡ told_body (body x.0) ++ t.0.1 = both.parts ∙ ap (λ (k : ℕ). (to_be_bytes w32 k ++ t.0.0) ++ t.0.1) (sym len) ∙ ap (λ (l : Bytes). (to_be_bytes w32 (length (body x.0)) ++ l) ++ t.0.1) read.0 in
     let made : LogBatch × Bytes = (x.0, t.0.1) in
-    subst (λ (y : LogBatch × Bytes). (bytes ≡ told_body (body y.0) ++ y.1) × (from_of y.0 ≡ mark) × IsLogBatch y.0) (some_is made (b, rest) x.2) (parts, read.1, read.2 (omega (arith, len, number.1)))
+    subst (λ (y : LogBatch × Bytes). (bytes ≡ told_body (body y.0) ++ y.1) × IsLogBatch y.0) (some_is made (b, rest) x.2) (parts, read.1 (omega (arith, len, number.1)))
 
 -- ---- what is spelled so is read
 
-fits_of : (from to : ℕ) (records : List Record) → to ≤ 2 ^ 59 → AreLogged from to records → AllByRecursion Fits records
-fits_of from to records last are = recursion_from_All Fits records (λ k d lt.
-    let within = are.within k d lt in
-    let each = are.each k d lt in
-    let stamp = within.1 in
-    let key = each.key in
-    (omega arith, each.tenant, omega arith, each.row))
-
-same_number : (n : ℕ) → eqb n n ≡ true
-same_number n = grind (arith, nat_tests)
-
-body_again : (mark : ℕ) (b : LogBatch) → from_of b ≡ mark → IsLogBatch b → batch_in mark (body b) ≡ Some b
+body_again : (b : LogBatch) → IsLogBatch b → batch_in (body b) ≡ Some b
 unfolding batch_in batch_kind_at records_at resume_at
-body_again mark (Records b) turn is =
-    let from = b.from in
-    let to = b.to in
+body_again (Records b) is =
     let texts = flat_map record_bytes b.records ++ [] in
-    let order = is.order in
     let last = is.last in
-    let few = is.few in
-    ap (λ (t : Bytes). batch_in mark (0 ∷ (to_be_bytes w64 b.from ++ (to_be_bytes w64 b.to ++ (to_be_bytes w32 (length b.records) ++ t))))) (sym (append-nil (flat_map record_bytes b.records)))
-    ∙ rw (number_again w64 (2 ^ 64) wide64 b.from (to_be_bytes w64 b.to ++ (to_be_bytes w32 (length b.records) ++ texts)) (omega arith), number_again w64 (2 ^ 64) wide64 b.to (to_be_bytes w32 (length b.records) ++ texts) (omega arith), number_again w32 (2 ^ 32) wide32 (length b.records) texts few, each_again record_at record_bytes Fits record_again b.records [] (fits_of b.from b.to b.records last is.records), test_from_steps b.from b.to order last, test_of_batch b.from b.to b.records is.records.limits is.records.within, turn, same_number mark) refl
-body_again mark (Resume from to kept) turn is =
-    let order = is.order in
+    ap (λ (t : Bytes). batch_in (0 ∷ (to_be_bytes w64 b.from ++ (to_be_bytes w64 b.to ++ (to_be_bytes w32 (length b.records) ++ t))))) (sym (append-nil (flat_map record_bytes b.records)))
+    ∙ rw (number_again w64 (2 ^ 64) wide64 b.from (to_be_bytes w64 b.to ++ (to_be_bytes w32 (length b.records) ++ texts)) is.first, number_again w64 (2 ^ 64) wide64 b.to (to_be_bytes w32 (length b.records) ++ texts) (omega arith), number_again w32 (2 ^ 32) wide32 (length b.records) texts is.few, each_again record_at record_bytes IsRecord record_again b.records [] (recursion_from_All IsRecord b.records is.each), test_from_at_most b.to (2 ^ 59) last) refl
+body_again (Resume from to kept) is =
     let last = is.last in
-    let small = is.within in
-    rw (wide64.again from (omega arith), wide64.again to (omega arith), wide64.again kept (omega arith), test_from_steps from to order last, test_from_kept to kept small, turn, same_number mark) refl
+    rw (wide64.again from is.first, wide64.again to (omega arith), wide64.again kept is.past, test_from_at_most to (2 ^ 59) last) refl
 
 -- its length fits four bytes
 pub short_body : (b : LogBatch) → IsLogBatch b → length (body b) < 2 ^ 32
 short_body (Records b) is = is.short
 short_body (Resume from to kept) is = omega arith
 
-pub batch_again : (mark : ℕ) (b : LogBatch) (rest : Bytes) → from_of b ≡ mark → IsLogBatch b → batch_at mark (told_body (body b) ++ rest) ≡ Some (b, rest)
+pub batch_again : (b : LogBatch) (rest : Bytes) → IsLogBatch b → batch_at (told_body (body b) ++ rest) ≡ Some (b, rest)
 unfolding batch_at
-batch_again mark b rest turn is =
-    rw (number_again w32 (2 ^ 32) wide32 (length (body b)) (body b ++ rest) (short_body b is), taken_again (body b) rest, body_again mark b turn is) refl
+batch_again b rest is =
+    rw (number_again w32 (2 ^ 32) wide32 (length (body b)) (body b ++ rest) (short_body b is), taken_again (body b) rest, body_again b is) refl

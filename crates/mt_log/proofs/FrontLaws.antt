@@ -1,13 +1,15 @@
 -- An image has one front, or is no log; and what an append or an opening may leave has the old front or the new one.
-use Rattle.std.proofs.Common.{◌≡◌, ◌≢◌, ◌⊎◌, inl, inr, ⊎_elim, ℕ, List, [], ◌∷◌, ◌++◌, length, drop, get_or, refl, sym, ◌∙◌, ap, subst, arith, append_assoc}
-use Rattle.std.specs.List.{flat_map}
+use Rattle.std.proofs.Common.{◌≡◌, ◌≢◌, ◌⊎◌, ◌≤◌, ◌^◌, inl, inr, ⊎_elim, ℕ, List, [], ◌∷◌, ◌++◌, length, drop, get_or, refl, sym, ◌∙◌, ap, subst, arith, append_assoc}
+use Rattle.std.specs.List.{flat_map, AllByRecursion}
 use Rattle.std.proofs.lemmas.List.{flat_map_more}
 use Rattle.mt_rows.specs.Rows.{Bytes}
 use Rattle.mt_disk.specs.Disk.{DiskState, LeavesOnly, synced}
 use Rattle.mt_disk.proofs.CrashLaws.{after_sync, joined, widened}
 use Rattle.mt_log.specs.declared.batch.LogBatch.{LogBatch}
+use Rattle.mt_log.specs.declared.batch.LogBatch.TheVariants.{Records, Resume}
+use Rattle.mt_rows.specs.declared.record.Batch.{Batch}
 use Rattle.mt_log.specs.Format.{header, body, told_body, open_batch, batch_bytes}
-use Rattle.mt_log.specs.Contents.{Contents, IsContents, IsLogBatch, from_of, to_of, Join, end_of, mark_of, log_bytes, with_batch}
+use Rattle.mt_log.specs.Contents.{Contents, IsContents, IsBatch, IsLogBatch, JoinsAndRises, Rises, from_of, to_of, Join, end_of, log_bytes, with_batch}
 use Rattle.mt_log.specs.Fronts.{HasFront, IsBadGate, IsBadLog, IsShut, IsTorn, IsBeforeOrAfter, IsLeft, IsOldOrNew, IsFound}
 use Rattle.mt_log.proofs.FieldLaws.{some_is}
 use Rattle.mt_log.proofs.BatchLaws.{batch_again}
@@ -15,7 +17,7 @@ use Rattle.mt_log.specs.Reading.{batch_at}
 
 -- ---- batches that join
 
-pub join_more : (mark : ℕ) (bs : List LogBatch) (b : LogBatch) → Join mark bs → from_of b ≡ end_of mark bs → IsLogBatch b → Join mark (bs ++ b ∷ [])
+pub join_more : (mark : ℕ) (bs : List LogBatch) (b : LogBatch) → Join mark bs → from_of b ≡ end_of mark bs → Rises b → Join mark (bs ++ b ∷ [])
 join_more mark [] b join turn is = (turn, is, tt)
 join_more mark (x ∷ bs) b join turn is = (join.0, join.1, join_more (to_of x) bs b join.2 turn is)
 
@@ -27,11 +29,33 @@ pub end_more : (mark : ℕ) (bs : List LogBatch) (b : LogBatch) → end_of mark 
 end_more mark [] b = refl
 end_more mark (x ∷ bs) b = end_more (to_of x) bs b
 
-pub contents_front : (c : Contents) (b : LogBatch) → IsContents (with_batch b c) → IsContents c
-contents_front c b is = record { worker = is.worker; logs = is.logs; join = join_front 0 c.batches b is.join }
+-- batches in the format, and one more
+pub each_more : (bs : List LogBatch) (b : LogBatch) → AllByRecursion IsLogBatch bs → IsLogBatch b → AllByRecursion IsLogBatch (bs ++ b ∷ [])
+each_more [] b each is = (is, tt)
+each_more (x ∷ bs) b each is = (each.0, each_more bs b each.1 is)
 
-pub contents_more : (c : Contents) (b : LogBatch) → IsContents c → from_of b ≡ mark_of c → IsLogBatch b → IsContents (with_batch b c)
-contents_more c b is turn batch = record { worker = is.worker; logs = is.logs; join = join_more 0 c.batches b is.join turn batch }
+each_front : (bs : List LogBatch) (b : LogBatch) → AllByRecursion IsLogBatch (bs ++ b ∷ []) → AllByRecursion IsLogBatch bs
+each_front [] b each = tt
+each_front (x ∷ bs) b each = (each.0, each_front bs b each.1)
+
+-- a batch that an append takes is in the format, and rises
+pub in_format : (b : Batch) → IsBatch b → IsLogBatch (Records b)
+in_format b is =
+    let order = is.order in
+    let last = is.last in
+    record { first = omega arith; last = is.last; each = is.records.each; few = is.few; short = is.short }
+
+pub batch_in_order : (b : Batch) → IsBatch b → Rises (Records b)
+batch_in_order b is = (is.order, record { rising = is.records.limits.stamps; within = is.records.within })
+
+pub in_steps : (from to kept : ℕ) → from ≤ to → to ≤ 2 ^ 59 → kept ≤ to → IsLogBatch (Resume from to kept)
+in_steps from to kept order last small = record { first = omega arith; last = last; past = omega arith }
+
+pub contents_front : (c : Contents) (b : LogBatch) → IsContents (with_batch b c) → IsContents c
+contents_front c b is = record { worker = is.worker; logs = is.logs; batches = each_front c.batches b is.batches }
+
+pub contents_more : (c : Contents) (b : LogBatch) → IsContents c → IsLogBatch b → IsContents (with_batch b c)
+contents_more c b is batch = record { worker = is.worker; logs = is.logs; batches = each_more c.batches b is.batches batch }
 
 -- a log with one batch more, as bytes
 pub more_bytes : (c : Contents) (b : LogBatch) → log_bytes (with_batch b c) ≡ log_bytes c ++ batch_bytes b
@@ -39,40 +63,40 @@ more_bytes c b = sym (flat_map_more batch_bytes (header c.worker c.logs) c.batch
 
 -- ---- one front
 
-one_batch : (mark : ℕ) (b c : LogBatch) (x y : Bytes) → from_of b ≡ mark → from_of c ≡ mark → IsLogBatch b → IsLogBatch c → told_body (body b) ++ x ≡ told_body (body c) ++ y → (b ≡ c) × (x ≡ y)
-one_batch mark b c x y turn_b turn_c is_b is_c e =
-    let same = some_is (b, x) (c, y) (sym (batch_again mark b x turn_b is_b) ∙ ap (batch_at mark) e ∙ batch_again mark c y turn_c is_c) in
+one_batch : (b c : LogBatch) (x y : Bytes) → IsLogBatch b → IsLogBatch c → told_body (body b) ++ x ≡ told_body (body c) ++ y → (b ≡ c) × (x ≡ y)
+one_batch b c x y is_b is_c e =
+    let same = some_is (b, x) (c, y) (sym (batch_again b x is_b) ∙ ap batch_at e ∙ batch_again c y is_c) in
     (ap (λ (p : LogBatch × Bytes). p.0) same, ap (λ (p : LogBatch × Bytes). p.1) same)
 
 abbrev first : Bytes → ℕ
 first bytes = get_or bytes 0 0
 
 -- batches before a gate that isn't open are these alone
-once : (mark : ℕ) (bs cs : List LogBatch) (g k : ℕ) (t u : Bytes) → Join mark bs → Join mark cs → g ≢ 1 → k ≢ 1 → flat_map batch_bytes bs ++ (g ∷ t) ≡ flat_map batch_bytes cs ++ (k ∷ u) → (bs ≡ cs) × (g ≡ k)
-once mark [] [] g k t u join_b join_c shut_g shut_k same = (refl, ap first same)
-once mark [] (c ∷ cs) g k t u join_b join_c shut_g shut_k same = absurd (shut_g (ap first same))
-once mark (b ∷ bs) [] g k t u join_b join_c shut_g shut_k same = absurd (shut_k (sym (ap first same)))
-once mark (b ∷ bs) (c ∷ cs) g k t u join_b join_c shut_g shut_k same =
+once : (bs cs : List LogBatch) (g k : ℕ) (t u : Bytes) → AllByRecursion IsLogBatch bs → AllByRecursion IsLogBatch cs → g ≢ 1 → k ≢ 1 → flat_map batch_bytes bs ++ (g ∷ t) ≡ flat_map batch_bytes cs ++ (k ∷ u) → (bs ≡ cs) × (g ≡ k)
+once [] [] g k t u join_b join_c shut_g shut_k same = (refl, ap first same)
+once [] (c ∷ cs) g k t u join_b join_c shut_g shut_k same = absurd (shut_g (ap first same))
+once (b ∷ bs) [] g k t u join_b join_c shut_g shut_k same = absurd (shut_k (sym (ap first same)))
+once (b ∷ bs) (c ∷ cs) g k t u join_b join_c shut_g shut_k same =
     let behind = ap (λ (l : Bytes). drop 1 l) same in
-    let parts = one_batch mark b c (flat_map batch_bytes bs ++ (g ∷ t)) (flat_map batch_bytes cs ++ (k ∷ u)) join_b.0 join_c.0 join_b.1 join_c.1
+    let parts = one_batch b c (flat_map batch_bytes bs ++ (g ∷ t)) (flat_map batch_bytes cs ++ (k ∷ u)) join_b.0 join_c.0
     (sym (append_assoc (told_body (body b)) (flat_map batch_bytes bs) (g ∷ t)) ∙ behind ∙ append_assoc (told_body (body c)) (flat_map batch_bytes cs) (k ∷ u)) in
-    let rest = once (to_of b) bs cs g k t u join_b.2 (subst (λ (x : LogBatch). Join (to_of x) cs) (sym parts.0) join_c.2) shut_g shut_k parts.1 in
+    let rest = once bs cs g k t u join_b.1 join_c.1 shut_g shut_k parts.1 in
     ((λ i. parts.0 i ∷ rest.0 i), rest.1)
 
 -- and no gate is bad behind them
-clash : (mark : ℕ) (bs cs : List LogBatch) (g : ℕ) (t rest : Bytes) → Join mark bs → Join mark cs → g ≢ 1 → IsBadGate (end_of mark cs) rest → flat_map batch_bytes bs ++ (g ∷ t) ≡ flat_map batch_bytes cs ++ rest → ⊥
-clash mark [] [] g t rest join_b join_c shut (inl none) same = omega (arith, ap length same, ap length none)
-clash mark [] [] g t rest join_b join_c shut (inr bad) same = shut (ap first (same ∙ bad.1))
-clash mark [] (c ∷ cs) g t rest join_b join_c shut bad same = shut (ap first same)
-clash mark (b ∷ bs) [] g t rest join_b join_c shut (inl none) same = omega (arith, ap length same, ap length none)
-clash mark (b ∷ bs) [] g t rest join_b join_c shut (inr bad) same =
+clash : (bs cs : List LogBatch) (g : ℕ) (t rest : Bytes) → AllByRecursion IsLogBatch bs → AllByRecursion IsLogBatch cs → g ≢ 1 → IsBadGate rest → flat_map batch_bytes bs ++ (g ∷ t) ≡ flat_map batch_bytes cs ++ rest → ⊥
+clash [] [] g t rest join_b join_c shut (inl none) same = omega (arith, ap length same, ap length none)
+clash [] [] g t rest join_b join_c shut (inr bad) same = shut (ap first (same ∙ bad.1))
+clash [] (c ∷ cs) g t rest join_b join_c shut bad same = shut (ap first same)
+clash (b ∷ bs) [] g t rest join_b join_c shut (inl none) same = omega (arith, ap length same, ap length none)
+clash (b ∷ bs) [] g t rest join_b join_c shut (inr bad) same =
     let behind : (told_body (body b) ++ flat_map batch_bytes bs) ++ (g ∷ t) ≡ bad.0 = ap (λ (l : Bytes). drop 1 l) (same ∙ bad.1) in
-    bad.2 b (flat_map batch_bytes bs ++ (g ∷ t)) join_b.0 join_b.1 (sym behind ∙ append_assoc (told_body (body b)) (flat_map batch_bytes bs) (g ∷ t))
-clash mark (b ∷ bs) (c ∷ cs) g t rest join_b join_c shut bad same =
+    bad.2 b (flat_map batch_bytes bs ++ (g ∷ t)) join_b.0 (sym behind ∙ append_assoc (told_body (body b)) (flat_map batch_bytes bs) (g ∷ t))
+clash (b ∷ bs) (c ∷ cs) g t rest join_b join_c shut bad same =
     let behind = ap (λ (l : Bytes). drop 1 l) same in
-    let parts = one_batch mark b c (flat_map batch_bytes bs ++ (g ∷ t)) (flat_map batch_bytes cs ++ rest) join_b.0 join_c.0 join_b.1 join_c.1
+    let parts = one_batch b c (flat_map batch_bytes bs ++ (g ∷ t)) (flat_map batch_bytes cs ++ rest) join_b.0 join_c.0
     (sym (append_assoc (told_body (body b)) (flat_map batch_bytes bs) (g ∷ t)) ∙ behind ∙ append_assoc (told_body (body c)) (flat_map batch_bytes cs) rest) in
-    clash (to_of b) bs cs g t rest join_b.2 (subst (λ (x : LogBatch). Join (to_of x) cs) (sym parts.0) join_c.2) shut (subst (λ (x : LogBatch). IsBadGate (end_of (to_of x) cs) rest) (sym parts.0) bad) parts.1
+    clash bs cs g t rest join_b.1 join_c.1 shut bad parts.1
 
 same_header : (v w m n : ℕ) (x y : Bytes) → header v m ++ x ≡ header w n ++ y → (v ≡ w) × (m ≡ n) × (x ≡ y)
 same_header v w m n x y e = (ap (λ (l : Bytes). get_or l 6 0) e, ap (λ (l : Bytes). get_or l 7 0) e, ap (λ (l : Bytes). drop 8 l) e)
@@ -83,7 +107,7 @@ same_contents c d p q r i = record { worker = p i; logs = q i; batches = r i }
 one_whole : (c d : Contents) (g k : ℕ) (t u : Bytes) → IsContents c → IsContents d → g ≢ 1 → k ≢ 1 → log_bytes c ++ (g ∷ t) ≡ log_bytes d ++ (k ∷ u) → (c ≡ d) × (g ≡ k)
 one_whole c d g k t u is_c is_d shut_g shut_k e =
     let heads = same_header c.worker d.worker c.logs d.logs (flat_map batch_bytes c.batches ++ (g ∷ t)) (flat_map batch_bytes d.batches ++ (k ∷ u)) e in
-    let tails = once 0 c.batches d.batches g k t u is_c.join is_d.join shut_g shut_k heads.2 in
+    let tails = once c.batches d.batches g k t u is_c.batches is_d.batches shut_g shut_k heads.2 in
     (same_contents c d heads.0 heads.1 tails.0, tails.1)
 
 -- an image has one front
@@ -92,13 +116,18 @@ one_front c d image one other = (one_whole c d one.gate other.gate one.behind ot
 
 -- and an image that has one is a log
 pub front_not_bad : (c : Contents) (image : Bytes) (number offset : ℕ) → HasFront c image → IsBadLog image number offset → ⊥
-front_not_bad c image number offset front (inl none) =
-    none.0 c.worker c.logs (flat_map batch_bytes c.batches ++ (front.gate ∷ front.behind)) front.contents.worker front.contents.logs front.whole
+front_not_bad c image number offset front (inl (inl none, at)) =
+    none.0 c.worker c.logs (flat_map batch_bytes c.batches ++ (front.gate ∷ front.behind)) front.whole
+front_not_bad c image number offset front (inl (inr strange, at)) =
+    let heads = same_header c.worker number c.logs strange.logs (flat_map batch_bytes c.batches ++ (front.gate ∷ front.behind)) strange.more (sym front.whole ∙ strange.whole) in
+    let below = front.contents.worker in
+    let most = front.contents.logs in
+    strange.wrong (omega (arith, heads.0, heads.1, below)) (omega (arith, heads.1, most))
 front_not_bad c image number offset front (inr bad) =
     let d = bad.0 in
     let after = bad.1 in
     let heads = same_header c.worker d.worker c.logs d.logs (flat_map batch_bytes c.batches ++ (front.gate ∷ front.behind)) (flat_map batch_bytes d.batches ++ after.rest) (sym front.whole ∙ after.whole) in
-    clash 0 c.batches d.batches front.gate front.behind after.rest front.contents.join after.contents.join front.is_shut after.bad heads.2
+    clash c.batches d.batches front.gate front.behind after.rest front.contents.batches after.contents.batches front.is_shut after.bad heads.2
 
 -- ---- what may be left
 
@@ -109,6 +138,14 @@ shut_whole c b image shut = shut.whole ∙ ap (λ (l : Bytes). l ++ (0 ∷ shut.
 pub left_front : (c : Contents) (b : LogBatch) (image : Bytes) → IsContents (with_batch b c) → IsLeft c b image → HasFront c image ⊎ HasFront (with_batch b c) image
 left_front c b image is (inl torn) = inl (record { contents = contents_front c b is; gate = torn.gate; behind = torn.behind; is_shut = torn.is_shut; whole = torn.whole })
 left_front c b image is (inr shut) = inr (record { contents = is; gate = 0; behind = shut.behind; is_shut = λ e. omega (arith, e); whole = shut_whole c b image shut })
+
+-- and so its front joins and rises where the new one does
+pub left_joins : (c front : Contents) (b : LogBatch) (image : Bytes) → IsContents (with_batch b c) → JoinsAndRises (with_batch b c) → IsLeft c b image → HasFront front image → JoinsAndRises front
+left_joins c front b image is joins left has =
+    ⊎_elim
+    (λ old. subst JoinsAndRises (one_front c front image old has) (join_front 0 c.batches b joins))
+    (λ new. subst JoinsAndRises (one_front (with_batch b c) front image new has) joins)
+    (left_front c b image is left)
 
 -- which of the two a front is that was read
 abbrev IsWhich : Contents → LogBatch → Contents → ℕ → Bytes → Type 0

@@ -1,5 +1,5 @@
 -- What is read of a log from gate to gate, and what an opening made of it.
-use Rattle.std.proofs.Common.{◌≡◌, inr, ℕ, zero, suc, ◌+◌, ◌-◌, ◌<◌, ◌≤◌, Bool, true, IsTrue, ◌↔◌, ◌^◌, Some, None, List, [], ◌∷◌, ◌++◌, length, take, drop, get_or, Vec, refl, sym, ◌∙◌, ap, subst, arith, append_assoc, length-append, Result, Ok, Err, OnOk, OnErr}
+use Rattle.std.proofs.Common.{◌≡◌, inl, inr, ℕ, zero, suc, ◌+◌, ◌-◌, ◌<◌, ◌≤◌, Bool, true, IsTrue, ◌↔◌, ◌^◌, Some, None, List, [], ◌∷◌, ◌++◌, length, take, drop, get_or, Vec, refl, sym, ◌∙◌, ap, subst, arith, append_assoc, length-append, Result, Ok, Err, OnOk, OnErr}
 use Rattle.std.specs.declared.alloc.Global.{Global}
 use Rattle.std.specs.List.{flat_map, All}
 use Rattle.std.specs.Prelude.{nat_lt}
@@ -15,14 +15,14 @@ use Rattle.mt_log.specs.declared.fault.ReadFault.{ReadFault}
 use Rattle.mt_log.specs.declared.fault.ReadFault.TheVariants as reads
 use Rattle.mt_log.specs.declared.reader.Found.{Found}
 use Rattle.mt_log.specs.Format.{header, record_bytes, body, told_body, batch_bytes}
-use Rattle.mt_log.specs.Contents.{Contents, IsContents, IsRecord, IsBatch, IsLogBatch, from_of, to_of, log_bytes, with_batch, contents_of}
+use Rattle.mt_log.specs.Contents.{Contents, IsContents, IsRecord, IsBatch, IsLogBatch, to_of, log_bytes, with_batch, contents_of}
 use Rattle.mt_log.specs.Fronts.{IsBadGate, IsBadLog, IsShut, IsTorn, IsBeforeOrAfter, IsLeft, IsOldOrNew, IsFound, IsAtRest}
 use Rattle.mt_log.specs.Reading.{batch_at, are_steps, rise_within}
 use Rattle.mt_log.specs.Stops.{IsOpenBatch, StandBefore, IsRead, IsBadRead}
 use Rattle.mt_log.specs.Logs.{ReadsSynced, FailsToRead, Opened, GivesDiskBack, fault_with}
 use Rattle.mt_log.proofs.Tests.{below, steps_from_test, records_from_test, test_of_batch}
 use Rattle.mt_log.proofs.BatchLaws.{batch_again}
-use Rattle.mt_log.proofs.FrontLaws.{join_more, end_more, opening, only_synced}
+use Rattle.mt_log.proofs.FrontLaws.{each_more, end_more, opening, only_synced}
 
 -- what holds at Ok, or at an error, whatever the result
 pub on_ok : {T E : Type 0} (result : Result T E) {P : Type 0} → P → OnOk result P
@@ -80,13 +80,12 @@ batch_rises b is = test_of_batch b.from b.to b.records is.records.limits is.reco
 -- ---- gates
 
 -- a batch that was read behind an open gate
-pub open_batch_is : (mark gate : ℕ) (behind rest : Bytes) (b : LogBatch) (len : ℕ) → gate ≡ 1 → behind ≡ told_body (body b) ++ rest → from_of b ≡ mark → IsLogBatch b → len ≡ 1 + (length behind - length rest) → IsOpenBatch mark (gate ∷ behind) b len
-open_batch_is mark gate behind rest b len is_open parts turn is len_is =
+pub open_batch_is : (gate : ℕ) (behind rest : Bytes) (b : LogBatch) (len : ℕ) → gate ≡ 1 → behind ≡ told_body (body b) ++ rest → IsLogBatch b → len ≡ 1 + (length behind - length rest) → IsOpenBatch (gate ∷ behind) b len
+open_batch_is gate behind rest b len is_open parts is len_is =
     let whole : gate ∷ behind ≡ batch_bytes b ++ rest = ap (λ (g : ℕ). g ∷ behind) is_open ∙ ap (λ (l : Bytes). 1 ∷ l) parts in
     let sum : length behind ≡ length (told_body (body b)) + length rest = ap length parts ∙ length-append (told_body (body b)) rest in
     let size : length (batch_bytes b) ≡ len = omega arith in
     record {
-      turn = turn;
       batch = is;
       parts = whole ∙ ap (λ (l : Bytes). batch_bytes b ++ l) (sym (ap (drop len) whole ∙ drop_at (batch_bytes b) rest len size));
       within = omega arith;
@@ -94,16 +93,16 @@ open_batch_is mark gate behind rest b len is_open parts turn is len_is =
     }
 
 -- where none was read, none stands
-pub bad_gate_is : (mark gate : ℕ) (behind : Bytes) → gate ≡ 1 → batch_at mark behind ≡ None → IsBadGate mark (gate ∷ behind)
-bad_gate_is mark gate behind is_open none =
-    inr (behind, ap (λ (g : ℕ). g ∷ behind) is_open, λ b more turn is e. (let both : Some (b, more) ≡ None = sym (batch_again mark b more turn is) ∙ ap (batch_at mark) (sym e) ∙ none in absurd cc))
+pub bad_gate_is : (gate : ℕ) (behind : Bytes) → gate ≡ 1 → batch_at behind ≡ None → IsBadGate (gate ∷ behind)
+bad_gate_is gate behind is_open none =
+    inr (behind, ap (λ (g : ℕ). g ∷ behind) is_open, λ b more is e. (let both : Some (b, more) ≡ None = sym (batch_again b more is) ∙ ap batch_at (sym e) ∙ none in absurd cc))
 
 -- before the first gate
 pub stand_none : (bytes : Bytes) → StandBefore 0 0 bytes []
-stand_none bytes = record { join = tt; last = refl; parts = refl; len = refl; within = omega arith }
+stand_none bytes = record { each = tt; last = refl; parts = refl; len = refl; within = omega arith }
 
 -- one batch more
-pub stand_more : (place mark : ℕ) (bytes : Bytes) (bs : List LogBatch) (b : LogBatch) (len : ℕ) → StandBefore place mark bytes bs → IsOpenBatch mark (drop place bytes) b len → StandBefore (place + len) (to_of b) bytes (bs ++ b ∷ [])
+pub stand_more : (place mark : ℕ) (bytes : Bytes) (bs : List LogBatch) (b : LogBatch) (len : ℕ) → StandBefore place mark bytes bs → IsOpenBatch (drop place bytes) b len → StandBefore (place + len) (to_of b) bytes (bs ++ b ∷ [])
 stand_more place mark bytes bs b len stand is =
     let front = flat_map batch_bytes bs in
     let here = stand.within in
@@ -115,7 +114,7 @@ stand_more place mark bytes bs b len stand is =
     let more : front ++ batch_bytes b ≡ flat_map batch_bytes (bs ++ b ∷ []) = flat_map_more batch_bytes [] bs b in
     let total : length front + length (batch_bytes b) ≡ length (flat_map batch_bytes (bs ++ b ∷ [])) = sym (length-append front (batch_bytes b)) ∙ ap length more in
     record {
-      join = join_more 0 bs b stand.join (is.turn ∙ stand.last) is.batch;
+      each = each_more bs b stand.each is.batch;
       last = sym (end_more 0 bs b);
       parts = stand.parts ∙ ap (λ (l : Bytes). front ++ l) (is.parts ∙ ap (λ (l : Bytes). batch_bytes b ++ l) (drop-drop len place bytes)) ∙ sym (append_assoc front (batch_bytes b) (drop (place + len) bytes)) ∙ ap (λ (l : Bytes). l ++ drop (place + len) bytes) more;
       len = omega arith;
@@ -123,17 +122,17 @@ stand_more place mark bytes bs b len stand is =
     }
 
 -- the batches of a log stop at what isn't in the format
-pub stopped_bad : (image rest : Bytes) (worker logs place mark : ℕ) (bs : List LogBatch) → worker < logs → logs ≤ 64 → image ≡ header worker logs ++ rest → StandBefore place mark rest bs → IsBadGate mark (drop place rest) → IsBadLog image worker (8 + place)
+pub stopped_bad : (image rest : Bytes) (worker logs place mark : ℕ) (bs : List LogBatch) → worker < logs → logs ≤ 64 → image ≡ header worker logs ++ rest → StandBefore place mark rest bs → IsBadGate (drop place rest) → IsBadLog image worker (8 + place)
 stopped_bad image rest worker logs place mark bs below most head stand bad =
     let c : Contents = record { worker = worker; logs = logs; batches = bs } in
     let at = stand.len in
     inr (
       c,
       record {
-        contents = record { worker = below; logs = most; join = stand.join };
+        contents = record { worker = below; logs = most; batches = stand.each };
         rest = drop place rest;
         whole = head ∙ ap (λ (l : Bytes). header worker logs ++ l) stand.parts;
-        bad = subst (λ m. IsBadGate m (drop place rest)) stand.last bad;
+        bad = bad;
       },
       refl,
       omega arith,

@@ -71,11 +71,11 @@ steps_from_test from to e =
 pub test_from_steps : (from to : ℕ) → from ≤ to → to ≤ 2 ^ 59 → are_steps from to ≡ true
 test_from_steps from to order last = and_from (not (nat_lt to from)) (not (nat_lt (2 ^ 59) to)) (at_most from to order) (at_most to (2 ^ 59) last)
 
-pub kept_from_test : (to kept : ℕ) → not (nat_lt to kept) ≡ true → kept ≤ to
-kept_from_test to kept e = not_below kept to e
+pub at_most_from_test : (a b : ℕ) → not (nat_lt b a) ≡ true → a ≤ b
+at_most_from_test a b e = not_below a b e
 
-pub test_from_kept : (to kept : ℕ) → kept ≤ to → not (nat_lt to kept) ≡ true
-test_from_kept to kept h = at_most kept to h
+pub test_from_at_most : (a b : ℕ) → a ≤ b → not (nat_lt b a) ≡ true
+test_from_at_most a b h = at_most a b h
 
 -- ---- stamps
 
@@ -134,7 +134,3 @@ test_from_records last to (r ∷ records) are from up_to =
 pub test_of_batch : (from to : ℕ) (records : List Record) → AreRecords records → All (Within from to) records → rise_within from to records ≡ true
 test_of_batch from to records are within =
     test_from_records from to records are (first_within from to records within) (All-weaker (Within from to) (λ (r : Record). r.stamp ≤ to) (λ r h. h.1) records within)
-
--- what a list needs that is made after the test
-pub are_records : (from to : ℕ) (records : List Record) → rise_within from to records ≡ true → AreRecords records
-are_records from to records e = (records_from_test from to records e).0

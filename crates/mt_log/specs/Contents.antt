@@ -1,6 +1,7 @@
--- What a log says: whose it is, and its batches, each of which begins where the one before it ends.
-use Rattle.std.specs.Prelude.{◌≡◌, ℕ, ◌<◌, ◌≤◌, ◌^◌, List, [], ◌∷◌, ◌++◌, length, Option, Some, None}
-use Rattle.std.specs.List.{flat_map, All}
+-- What a log says: whose it is, and its batches; and what the batches of its own appends are.
+use Rattle.std.specs.Prelude.{◌≡◌, ℕ, ◌<◌, ◌≤◌, ◌^◌, List, [], ◌∷◌, ◌++◌, map, length, Option, Some, None}
+use Rattle.std.specs.List.{flat_map, All, AllByRecursion}
+use Rattle.std.specs.List.Sorted.{IsStrictlyIncreasing}
 use Rattle.mt_rows.specs.Rows.{Bytes, Columns, IsRow}
 use Rattle.mt_rows.specs.Commands.{IsKey}
 use Rattle.mt_rows.specs.Limits.{AreRecords}
@@ -18,6 +19,7 @@ IsRowOrNone (Some row) = IsRow row
 
 -- a record whose fields have their limits
 pub record IsRecord (r : Record) : Type 0 where
+  pub stamp : r.stamp < 2 ^ 64
   pub tenant : r.tenant < 2 ^ 32
   pub key : IsKey r.key
   pub row : IsRowOrNone r.row
@@ -28,7 +30,15 @@ pub record AreLogged (from to : ℕ) (records : List Record) : Type 0 where
   pub within : All (λ r. (from < r.stamp) × (r.stamp ≤ to)) records
   pub each : All IsRecord records
 
--- a batch of records that has a place in a log; its number of records and its length fit four bytes
+-- a batch of records in the format: it ends at a step, and its numbers, its records and its length fit
+pub record IsRecordBatch (b : Batch) : Type 0 where
+  pub first : b.from < 2 ^ 64
+  pub last : b.to ≤ 2 ^ 59
+  pub each : All IsRecord b.records
+  pub few : length b.records < 2 ^ 32
+  pub short : length (body (Records b)) < 2 ^ 32
+
+-- a batch that an append takes: it is in the format, its steps are in order, its stamps rise within them
 pub record IsBatch (b : Batch) : Type 0 where
   pub order : b.from ≤ b.to
   pub last : b.to ≤ 2 ^ 59
@@ -36,16 +46,26 @@ pub record IsBatch (b : Batch) : Type 0 where
   pub few : length b.records < 2 ^ 32
   pub short : length (body (Records b)) < 2 ^ 32
 
--- a resume batch that has a place in a log
+-- a resume batch in the format: it ends at a step, and its numbers fit
 pub record IsResume (from to kept : ℕ) : Type 0 where
-  pub order : from ≤ to
+  pub first : from < 2 ^ 64
   pub last : to ≤ 2 ^ 59
-  pub within : kept ≤ to
+  pub past : kept < 2 ^ 64
 
--- a batch that has a place in a log
+-- a batch in the format, whatever its steps and its stamps say
 abbrev pub IsLogBatch : LogBatch → Type 0
-IsLogBatch (Records b) = IsBatch b
+IsLogBatch (Records b) = IsRecordBatch b
 IsLogBatch (Resume from to kept) = IsResume from to kept
+
+-- records in order: stamps rise strictly, each over `from` and at most `to`
+pub record AreInOrder (from to : ℕ) (records : List Record) : Type 0 where
+  pub rising : IsStrictlyIncreasing (map (λ r. r.stamp) records)
+  pub within : All (λ r. (from < r.stamp) × (r.stamp ≤ to)) records
+
+-- a batch that rises: `from` is at most `to`, its stamps rise between them, no more than `to` is kept
+abbrev pub Rises : LogBatch → Type 0
+Rises (Records b) = (b.from ≤ b.to) × AreInOrder b.from b.to b.records
+Rises (Resume from to kept) = (from ≤ to) × (kept ≤ to)
 
 -- over which step a batch goes
 abbrev pub from_of : LogBatch → ℕ
@@ -57,12 +77,12 @@ abbrev pub to_of : LogBatch → ℕ
 to_of (Records b) = b.to
 to_of (Resume from to kept) = to
 
--- batches one behind the other: the first begins at this step, each later one where the last one ends
+-- batches that rise, and join: the first begins at this step, each later one where the last one ends
 abbrev pub Join : ℕ → List LogBatch → Type 0
 Join mark [] = Unit {0}
-Join mark (b ∷ bs) = (from_of b ≡ mark) × IsLogBatch b × Join (to_of b) bs
+Join mark (b ∷ bs) = (from_of b ≡ mark) × Rises b × Join (to_of b) bs
 
--- where they end
+-- where batches end, whether they join or not: where the last one does
 abbrev pub end_of : ℕ → List LogBatch → ℕ
 end_of mark [] = mark
 end_of mark (b ∷ bs) = end_of (to_of b) bs
@@ -73,11 +93,15 @@ pub record Contents : Type 0 where
   pub logs : ℕ
   pub batches : List LogBatch
 
--- one of 1 to 64 logs, whose batches join from step 0 on
+-- one of 1 to 64 logs, whose batches are in the format
 pub record IsContents (c : Contents) : Type 0 where
   pub worker : c.worker < c.logs
   pub logs : c.logs ≤ 64
-  pub join : Join 0 c.batches
+  pub batches : AllByRecursion IsLogBatch c.batches
+
+-- a log whose batches rise, and join from step 0 on
+abbrev pub JoinsAndRises : Contents → Type 0
+JoinsAndRises c = Join 0 c.batches
 
 -- its mark: the step at which its last batch ends, or 0
 abbrev pub mark_of : Contents → ℕ

@@ -4,7 +4,7 @@ use Rattle.mt_rows.specs.Rows.{Bytes}
 use Rattle.mt_disk.specs.Disk.{DiskState, IsDurable}
 use Rattle.mt_log.specs.declared.batch.LogBatch.{LogBatch}
 use Rattle.mt_log.specs.Format.{header, body, told_body, open_batch}
-use Rattle.mt_log.specs.Contents.{Contents, IsContents, IsLogBatch, from_of, mark_of, log_bytes, with_batch}
+use Rattle.mt_log.specs.Contents.{Contents, IsContents, IsLogBatch, log_bytes, with_batch}
 
 -- The front of an image: its batches with an open gate, up to the first gate that isn't 01. Whatever
 -- stands behind that gate counts for nothing.
@@ -15,29 +15,36 @@ pub record HasFront (c : Contents) (image : Bytes) : Type 0 where
   pub is_shut : gate ≢ 1
   pub whole : image ≡ log_bytes c ++ (gate ∷ behind)
 
--- no header stands at the front
+-- no header stands at the front, whatever worker and number of logs it might name
 abbrev pub HasNoHeader : Bytes → Type 0
-HasNoHeader image = (worker logs : ℕ) (more : Bytes) → worker < logs → logs ≤ 64 → image ≡ header worker logs ++ more → ⊥
+HasNoHeader image = (worker logs : ℕ) (more : Bytes) → image ≡ header worker logs ++ more → ⊥
 
--- no batch that begins at this step stands here, whole behind its length
-abbrev pub HasNoBatch : ℕ → Bytes → Type 0
-HasNoBatch mark bytes = (b : LogBatch) (more : Bytes) → from_of b ≡ mark → IsLogBatch b → bytes ≡ told_body (body b) ++ more → ⊥
+-- a header stands there that names this worker, but as one of no 1 to 64 logs
+pub record IsOfNoLogs (image : Bytes) (worker : ℕ) : Type 0 where
+  pub logs : ℕ
+  pub more : Bytes
+  pub whole : image ≡ header worker logs ++ more
+  pub wrong : worker < logs → logs ≤ 64 → ⊥
+
+-- no batch in the format stands here, whole behind its length
+abbrev pub HasNoBatch : Bytes → Type 0
+HasNoBatch bytes = (b : LogBatch) (more : Bytes) → IsLogBatch b → bytes ≡ told_body (body b) ++ more → ⊥
 
 -- no gate stands here, or an open one before no batch
-abbrev pub IsBadGate : ℕ → Bytes → Type 0
-IsBadGate mark bytes = (bytes ≡ []) ⊎ ((behind : Bytes) × (bytes ≡ 1 ∷ behind) × HasNoBatch mark behind)
+abbrev pub IsBadGate : Bytes → Type 0
+IsBadGate bytes = (bytes ≡ []) ⊎ ((behind : Bytes) × (bytes ≡ 1 ∷ behind) × HasNoBatch behind)
 
 -- behind these batches the image isn't in the format
 pub record IsBadAfter (c : Contents) (image : Bytes) : Type 0 where
   pub contents : IsContents c
   pub rest : Bytes
   pub whole : image ≡ log_bytes c ++ rest
-  pub bad : IsBadGate (mark_of c) rest
+  pub bad : IsBadGate rest
 
--- An image that is no log: at 0 it has no header, or at the gate behind a worker's last good batch it
--- isn't in the format.
+-- An image that is no log: at 0 it has no header, and the number is 0; or one of no 1 to 64 logs; or at
+-- the gate behind a worker's last good batch it isn't in the format. Then the number is the header's worker.
 abbrev pub IsBadLog : Bytes → ℕ → ℕ → Type 0
-IsBadLog image number offset = (HasNoHeader image × (number ≡ 0) × (offset ≡ 0)) ⊎ ((c : Contents) × IsBadAfter c image × (number ≡ c.worker) × (offset ≡ length (log_bytes c)))
+IsBadLog image number offset = ((HasNoHeader image × (number ≡ 0)) ⊎ IsOfNoLogs image number) × (offset ≡ 0) ⊎ ((c : Contents) × IsBadAfter c image × (number ≡ c.worker) × (offset ≡ length (log_bytes c)))
 
 -- these bytes, and then a closed gate
 pub record IsShut (front image : Bytes) : Type 0 where

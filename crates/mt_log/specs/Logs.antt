@@ -15,7 +15,7 @@ use Rattle.mt_log.specs.declared.fault.OpenFault.{OpenFault}
 use Rattle.mt_log.specs.declared.fault.OpenFault.TheVariants as opens
 use Rattle.mt_log.specs.declared.fault.ReadFault.{ReadFault}
 use Rattle.mt_log.specs.declared.fault.ReadFault.TheVariants as reads
-use Rattle.mt_log.specs.Contents.{Contents, IsContents, from_of, to_of, mark_of, log_bytes, with_batch, no_batches, contents_of}
+use Rattle.mt_log.specs.Contents.{Contents, IsContents, Rises, from_of, to_of, mark_of, log_bytes, with_batch, no_batches, contents_of}
 use Rattle.mt_log.specs.Fronts.{HasFront, IsBadLog, IsLeft, IsOldOrNew, IsAtRest}
 
 -- a log file that has these contents, at rest on its disk
@@ -39,6 +39,7 @@ LeavesBeforeOrAfter is_honest state old b disk = IsTrue (is_honest old.disk) →
 -- the log has the batch behind what it had, and is at rest again
 pub record Appended {D : Type 0} (is_honest : D → Bool) (state : D → DiskState) (failures : D → ℕ) (old : LogFile D) (b : LogBatch) (new : LogFile D) : Type 0 where
   pub turn : from_of b ≡ old.mark
+  pub rises : Rises b
   pub mark : new.mark ≡ to_of b
   pub has : IsTrue (is_honest old.disk) → (c : Contents) → IsLogOf state c old → IsLogOf state (with_batch b c) new
   pub leaves : LeavesBeforeOrAfter is_honest state old b new.disk
@@ -48,6 +49,7 @@ pub record Appended {D : Type 0} (is_honest : D → Bool) (state : D → DiskSta
 -- the disk failed, once, in a call that appends a batch
 pub record FailedIn {D : Type 0} (is_honest : D → Bool) (state : D → DiskState) (failures : D → ℕ) (old : LogFile D) (b : LogBatch) (disk : D) : Type 0 where
   pub turn : from_of b ≡ old.mark
+  pub rises : Rises b
   pub leaves : LeavesBeforeOrAfter is_honest state old b disk
   pub count : GoesUp (failures old.disk) (failures disk)
   pub honest : is_honest disk ≡ is_honest old.disk

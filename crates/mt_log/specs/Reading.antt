@@ -8,7 +8,6 @@ use Rattle.mt_log.specs.declared.batch.LogBatch.{LogBatch}
 use Rattle.mt_log.specs.declared.batch.LogBatch.TheVariants.{Records, Resume}
 use Rattle.mt_log.specs.declared.fault.DecodeFault.{DecodeFault}
 use Rattle.mt_log.specs.declared.fault.DecodeFault.TheVariants as faults
-use Rattle.mt_log.specs.Contents.{from_of}
 
 -- a step and, where it gives something, the next
 infixl 10 ◌>>=◌
@@ -81,6 +80,12 @@ change_at bytes = do
   kind ← byte_at bytes
   change_kind_at kind.0 kind.1
 
+-- a user key
+unfoldable pub key_at : Bytes → Option (Bytes × Bytes)
+key_at bytes = do
+  key ← string_at bytes
+  if not (nat_lt 251 (length key.0)) then Some key else None
+
 -- a record of these fields
 abbrev pub record_of : ℕ → ℕ → Bytes → Option Columns → Record
 record_of stamp tenant key row = record { stamp = stamp; tenant = tenant; key = key; row = row }
@@ -89,7 +94,7 @@ unfoldable pub record_at : Bytes → Option (Record × Bytes)
 record_at bytes = do
   stamp ← number_at w64 bytes
   tenant ← number_at w32 stamp.1
-  key ← string_at tenant.1
+  key ← key_at tenant.1
   row ← change_at key.1
   Some (record_of stamp.0 tenant.0 key.0 row.0, row.1)
 
@@ -98,9 +103,13 @@ abbrev pub rise_within : ℕ → ℕ → List Record → Bool
 rise_within last to [] = true
 rise_within last to (r ∷ records) = nat_lt last r.stamp && not (nat_lt to r.stamp) && not (nat_lt 251 (length r.key)) && rise_within r.stamp to records
 
--- whether steps stand in a log
+-- whether steps are in order, and not past the greatest
 abbrev pub are_steps : ℕ → ℕ → Bool
 are_steps from to = not (nat_lt to from) && not (nat_lt (2 ^ 59) to)
+
+-- whether a step is none past the greatest
+abbrev pub is_step : ℕ → Bool
+is_step to = not (nat_lt (2 ^ 59) to)
 
 -- a batch of records, behind its first byte
 unfoldable pub records_at : Bytes → Option (LogBatch × Bytes)
@@ -109,7 +118,7 @@ records_at bytes = do
   to ← number_at w64 from.1
   count ← number_at w32 to.1
   records ← each_at record_at count.0 count.1
-  if are_steps from.0 to.0 && rise_within from.0 to.0 records.0 then Some (Records (record { from = from.0; to = to.0; records = records.0 }), records.1) else None
+  if is_step to.0 then Some (Records (record { from = from.0; to = to.0; records = records.0 }), records.1) else None
 
 -- a resume batch, behind its first byte
 unfoldable pub resume_at : Bytes → Option (LogBatch × Bytes)
@@ -117,7 +126,7 @@ resume_at bytes = do
   from ← number_at w64 bytes
   to ← number_at w64 from.1
   kept ← number_at w64 to.1
-  if are_steps from.0 to.0 && not (nat_lt to.0 kept.0) then Some (Resume from.0 to.0 kept.0, kept.1) else None
+  if is_step to.0 then Some (Resume from.0 to.0 kept.0, kept.1) else None
 
 -- by its first byte
 unfoldable pub batch_kind_at : ℕ → Bytes → Option (LogBatch × Bytes)
@@ -125,17 +134,17 @@ batch_kind_at kind rest =
     if kind == 0 then records_at rest else
     if kind == 1 then resume_at rest else None
 
--- a batch that takes all of the bytes, and begins at this step
-unfoldable pub batch_in : ℕ → Bytes → Option LogBatch
-batch_in mark bytes = do
+-- a batch that takes all of the bytes
+unfoldable pub batch_in : Bytes → Option LogBatch
+batch_in bytes = do
   kind ← byte_at bytes
   b ← batch_kind_at kind.0 kind.1
-  if length b.1 == 0 && from_of b.0 == mark then Some b.0 else None
+  if length b.1 == 0 then Some b.0 else None
 
 -- a batch behind its length
-unfoldable pub batch_at : ℕ → Bytes → Option (LogBatch × Bytes)
-batch_at mark bytes = do
+unfoldable pub batch_at : Bytes → Option (LogBatch × Bytes)
+batch_at bytes = do
   n ← number_at w32 bytes
   body ← taken_at n.0 n.1
-  b ← batch_in mark body.0
+  b ← batch_in body.0
   Some (b, body.1)

@@ -1,6 +1,6 @@
 -- What the functions say that read a log: for those that call them, whose callers see fronts alone.
 use Rattle.std.specs.Prelude.{◌≡◌, ◌≢◌, ℕ, ◌<◌, ◌≤◌, List, ◌∷◌, ◌++◌, length, drop, Option, Some, None}
-use Rattle.std.specs.List.{flat_map}
+use Rattle.std.specs.List.{flat_map, AllByRecursion}
 use Rattle.mt_rows.specs.Rows.{Bytes}
 use Rattle.mt_log.specs.declared.batch.LogBatch.{LogBatch}
 use Rattle.mt_log.specs.declared.fault.ReadFault.{ReadFault}
@@ -10,7 +10,7 @@ use Rattle.mt_log.specs.declared.reader.AtGate.TheVariants.{Shut, Open, Bad}
 use Rattle.mt_log.specs.declared.reader.Stop.{Stop}
 use Rattle.mt_log.specs.declared.reader.Found.{Found}
 use Rattle.mt_log.specs.Format.{batch_bytes}
-use Rattle.mt_log.specs.Contents.{IsLogBatch, from_of, Join, end_of, IsContents, mark_of, log_bytes, contents_of}
+use Rattle.mt_log.specs.Contents.{IsLogBatch, end_of, IsContents, mark_of, log_bytes, contents_of}
 use Rattle.mt_log.specs.Fronts.{IsBadGate, IsBadLog}
 
 -- a gate that isn't open
@@ -19,28 +19,27 @@ pub record IsShutGate (bytes : Bytes) (gate : ℕ) : Type 0 where
   pub behind : Bytes
   pub whole : bytes ≡ gate ∷ behind
 
--- an open gate and a batch that begins at this step, of so many bytes
-pub record IsOpenBatch (mark : ℕ) (bytes : Bytes) (b : LogBatch) (len : ℕ) : Type 0 where
-  pub turn : from_of b ≡ mark
+-- an open gate and a batch, of so many bytes
+pub record IsOpenBatch (bytes : Bytes) (b : LogBatch) (len : ℕ) : Type 0 where
   pub batch : IsLogBatch b
   pub parts : bytes ≡ batch_bytes b ++ drop len bytes
   pub within : len ≤ length bytes
   pub some : 0 < len
 
 -- what stands at a gate
-abbrev pub IsAtGate : ℕ → Bytes → AtGate → Type 0
-IsAtGate mark bytes (Shut gate) = IsShutGate bytes gate
-IsAtGate mark bytes (Open b len) = IsOpenBatch mark bytes b len
-IsAtGate mark bytes Bad = IsBadGate mark bytes
+abbrev pub IsAtGate : Bytes → AtGate → Type 0
+IsAtGate bytes (Shut gate) = IsShutGate bytes gate
+IsAtGate bytes (Open b len) = IsOpenBatch bytes b len
+IsAtGate bytes Bad = IsBadGate bytes
 
 -- at which gate batches stop, or that they stop at what isn't in the format
-abbrev pub StopsAt : ℕ → Bytes → Option ℕ → Type 0
-StopsAt mark bytes None = IsBadGate mark bytes
-StopsAt mark bytes (Some gate) = IsShutGate bytes gate
+abbrev pub StopsAt : Bytes → Option ℕ → Type 0
+StopsAt bytes None = IsBadGate bytes
+StopsAt bytes (Some gate) = IsShutGate bytes gate
 
--- these batches stand before a place, join from step 0 on, and go up to the mark
+-- these batches stand before a place, are in the format, and end at the mark
 pub record StandBefore (place mark : ℕ) (bytes : Bytes) (batches : List LogBatch) : Type 0 where
-  pub join : Join 0 batches
+  pub each : AllByRecursion IsLogBatch batches
   pub last : mark ≡ end_of 0 batches
   pub parts : bytes ≡ flat_map batch_bytes batches ++ drop place bytes
   pub len : place ≡ length (flat_map batch_bytes batches)
@@ -49,7 +48,7 @@ pub record StandBefore (place mark : ℕ) (bytes : Bytes) (batches : List LogBat
 -- the batches at the front of these bytes, and where they stop
 pub record IsStop (bytes : Bytes) (batches : List LogBatch) (stop : Stop) : Type 0 where
   pub stand : StandBefore stop.place stop.mark bytes batches
-  pub stops : StopsAt stop.mark (drop stop.place bytes) stop.gate
+  pub stops : StopsAt (drop stop.place bytes) stop.gate
 
 -- the front of an image, and where it ends
 pub record IsRead (image : Bytes) (found : Found) : Type 0 where

@@ -1,23 +1,70 @@
-//! What a log says: its batches, each of which begins where the one before it ends.
+//! What a log says: its batches, as they were read or are appended.
 //!
 //! Units: steps are numbered from 1; a batch goes over step `from` and up to step `to`.
 
 ghost use Rattle.std.specs.Prelude.{◌≡◌, ◌↔◌, IsTrue};
 ghost use Rattle.mt_log.specs.Contents.{IsBatch, from_of, to_of};
-ghost use Rattle.mt_log.specs.Reading.{are_steps, rise_within};
+ghost use Rattle.mt_log.specs.Reading.{are_steps, is_step, rise_within};
 
 use crate::writer::{BODY_LIMIT, RECORDS_HEAD, records_len};
 use mt_rows::key::USER_KEY_BYTES;
 use mt_rows::{Batch, Record};
+use std::marker::Model;
 
 /// The greatest number of a step.
 pub const MAX_STEP: u64 = 1 << 59;
 
-/// A batch as it stands in a log.
+/// A batch of records as it stands in a log. It is in the format, and seen as a `Batch`; but its steps
+/// and its stamps may be any, so that no `Batch` is made of it.
+#[derive(Debug, Drop)]
+pub struct LoggedBatch {
+    from: u64,
+    to: u64,
+    records: Vec<Record>,
+}
+
+impl Model for LoggedBatch {
+    ghost use Rattle.mt_rows.specs.declared.record.Batch.{Batch};
+
+    ghost Value = { Batch };
+
+    ghost view = { λ b. record { from = b.from; to = b.to; records = b.records.items } };
+}
+
+impl LoggedBatch {
+    pub(crate) fn new(from: u64, to: u64, records: Vec<Record>) -> Self
+        ensures { result ≡ record { from = from; to = to; records = records.items } }
+    {
+        LoggedBatch { from, to, records }
+    }
+
+    /// The step over which it is to go.
+    pub fn from(&self) -> u64
+        ensures { result ≡ self.now.from }
+    {
+        self.from
+    }
+
+    /// The step up to which it goes, at most 2^59.
+    pub fn to(&self) -> u64
+        ensures { result ≡ self.now.to }
+    {
+        self.to
+    }
+
+    /// Its records, in the order of the file.
+    pub fn records(&self) -> &[Record]
+        ensures { result.now ≡ self.now.records }
+    {
+        &self.records
+    }
+}
+
+/// A batch as it stands in a log: in the format, whatever its steps and its stamps say.
 #[derive(Debug, Drop)]
 pub enum LogBatch {
     /// A worker's placed changes.
-    Records(Batch),
+    Records(LoggedBatch),
     /// After a recovery: records of any log with a stamp over `kept` and at most `to` are void.
     Resume { from: u64, to: u64, kept: u64 },
 }
@@ -28,7 +75,7 @@ impl LogBatch {
         ensures { result ≡ from_of self.now }
     {
         match self {
-            LogBatch::Records(batch) => batch.from,
+            LogBatch::Records(batch) => batch.from(),
             LogBatch::Resume { from, .. } => *from,
         }
     }
@@ -38,7 +85,7 @@ impl LogBatch {
         ensures { result ≡ to_of self.now }
     {
         match self {
-            LogBatch::Records(batch) => batch.to,
+            LogBatch::Records(batch) => batch.to(),
             LogBatch::Resume { to, .. } => *to,
         }
     }
@@ -52,7 +99,7 @@ pub struct Front {
     pub batches: Vec<LogBatch>,
 }
 
-/// Whether a batch has a place in a log: its steps are in order and at most 2^59, its stamps lie over
+/// Whether an append takes a batch: its steps are in order and at most 2^59, its stamps lie over
 /// `from` and up to `to`, and both its number of records and its length in bytes fit four bytes.
 pub fn fits(batch: &Batch) -> bool
     ensures { IsTrue result ↔ IsBatch batch.now }
@@ -71,14 +118,21 @@ pub fn fits(batch: &Batch) -> bool
 }
 
 // Whether steps are in order, and not past the greatest.
-pub(crate) fn are_steps(from: u64, to: u64) -> bool
+fn are_steps(from: u64, to: u64) -> bool
     ensures { result ≡ are_steps from to }
 {
     from <= to && to <= MAX_STEP
 }
 
+// Whether a step is none past the greatest.
+pub(crate) fn is_step(to: u64) -> bool
+    ensures { result ≡ is_step to }
+{
+    to <= MAX_STEP
+}
+
 // Whether stamps rise strictly over `from` and up to `to`, and keys are user keys.
-pub(crate) fn rise_within(from: u64, to: u64, records: &[Record]) -> bool
+fn rise_within(from: u64, to: u64, records: &[Record]) -> bool
     ensures { result ≡ rise_within from to records.now }
 {
     let mut last = from;

@@ -15,7 +15,8 @@ pub enum OpenFault<D: Disk> {
     /// A growth was refused. The file was synced at most, and not written.
     Memory(D),
     /// What stands at this offset, in bytes, isn't in the format: the header at 0, or the gate of a
-    /// batch. The number is that of the log's worker, 0 where it has no header.
+    /// batch. The number is the worker that the header names, also one that isn't below the number of
+    /// logs; 0 where no header stands.
     BadLog { disk: D, number: u8, offset: u64 },
 }
 

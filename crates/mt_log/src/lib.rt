@@ -14,6 +14,6 @@ mod opening;
 mod reader;
 mod writer;
 
-pub use batch::{Front, LogBatch, fits};
+pub use batch::{Front, LogBatch, LoggedBatch, fits};
 pub use fault::{AppendFault, OpenFault, ResumeFault};
 pub use log_file::LogFile;

@@ -4,7 +4,7 @@ ghost use Rattle.std.specs.Prelude.{◌≡◌, ◌<◌, ◌≤◌, ◌^◌, ◌+
 ghost use Rattle.mt_disk.specs.Disk.{CountsFailure, GoesUp, synced};
 ghost use Rattle.mt_log.specs.declared.batch.LogBatch.{LogBatch};
 ghost use Rattle.mt_log.specs.Format.{body, told_body};
-ghost use Rattle.mt_log.specs.Contents.{IsBatch, IsLogBatch, from_of, to_of, log_bytes, no_batches};
+ghost use Rattle.mt_log.specs.Contents.{IsBatch, IsLogBatch, Rises, from_of, to_of, log_bytes, no_batches};
 ghost use Rattle.mt_log.specs.Fronts.{IsAtRest};
 ghost use Rattle.mt_log.specs.Logs.{Created, Appended, FailedIn, GivesBack, GivesLogBack, Opened, GivesDiskBack, ReadsSynced, FailsToRead, fault_with};
 
@@ -48,7 +48,7 @@ impl<D: Disk> LogFile<D> {
         }
     }
 
-    /// Opens a log, and gives its front. Its end is set right: a gate that was torn is closed, and
+    /// Opens a log, and gives its front, whether its batches rise and join or not. Its end is set right: a gate that was torn is closed, and
     /// what stands behind it is cut off.
     pub fn open(alloc: Global, mut disk: D) -> Result<(LogFile<D>, Front), OpenFault<D>>
         ensures ok { IfOk result (λ r. Opened D.is_honest D.state D.failures disk r.0 r.1) }
@@ -145,9 +145,9 @@ impl<D: Disk> LogFile<D> {
     // Adds a batch that goes up to `to`, spelled behind its length and before the next closed gate.
     fn add_block(&mut self, block: &[u8], to: u64) -> Result<(), DeviceFailed>
         requires { self.old.end < 2 ^ 60 }
-        ensures ok { (b : LogBatch) → block.now ≡ told_body (body b) ++ 0 ∷ [] → IsLogBatch b → from_of b ≡ self.old.mark → to_of b ≡ to
+        ensures ok { (b : LogBatch) → block.now ≡ told_body (body b) ++ 0 ∷ [] → IsLogBatch b → Rises b → from_of b ≡ self.old.mark → to_of b ≡ to
             → OnOk result (Appended D.is_honest D.state D.failures self.old b self.new) }
-        ensures err { (b : LogBatch) → block.now ≡ told_body (body b) ++ 0 ∷ [] → from_of b ≡ self.old.mark
+        ensures err { (b : LogBatch) → block.now ≡ told_body (body b) ++ 0 ∷ [] → Rises b → from_of b ≡ self.old.mark
             → OnErr result (FailedIn D.is_honest D.state D.failures self.old b self.new.disk) }
     {
         add(&mut self.disk, self.end, block)?;

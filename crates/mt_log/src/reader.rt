@@ -4,18 +4,22 @@
 ghost use Rattle.std.specs.Prelude.{◌≡◌, ◌<◌, ◌≤◌, ◌^◌, [], ◌∷◌, ◌++◌, length, drop, IfSome, IfNone, IfOk, IfErr};
 ghost use Rattle.mt_log.specs.Format.{header};
 ghost use Rattle.mt_log.specs.Fronts.{HasNoHeader};
-ghost use Rattle.mt_log.specs.Reading.{Gives, each_at, string_at, row_at, written_at, change_kind_at, change_at, record_at, records_at, resume_at, batch_kind_at, batch_in, batch_at};
+ghost use Rattle.mt_log.specs.Reading.{Gives, each_at, string_at, row_at, written_at, change_kind_at, change_at, key_at, record_at, records_at, resume_at, batch_kind_at, batch_in, batch_at};
 ghost use Rattle.mt_log.specs.Stops.{IsAtGate, IsStop, IsRead, IsBadRead};
 
-use crate::batch::{Front, LogBatch, are_steps, rise_within};
+use crate::batch::{Front, LogBatch, LoggedBatch, is_step};
 use crate::fault::{DecodeFault, ReadFault};
 use crate::fields::{slice_of, string_of, u8_at, u32_at, u64_at};
 use crate::gate::OPEN;
-use mt_rows::{Batch, Column, Key, Record, Records, Row};
+use mt_rows::key::USER_KEY_BYTES;
+use mt_rows::{Column, Key, Record, Row};
 use std::alloc::{AllocError, Global};
 
 /// The bytes of a header.
 pub const HEADER_BYTES: usize = 8;
+
+// The greatest number of logs.
+const MAX_LOGS: u8 = 64;
 
 /// A log's front as it was read: the gate at `end` is its first that isn't open.
 #[derive(Drop)]
@@ -63,6 +67,12 @@ pub fn front_of(alloc: Global, bytes: &[u8]) -> Result<Found, ReadFault>
             offset: 0,
         });
     };
+    if worker >= logs || logs > MAX_LOGS {
+        return Err(ReadFault::Bad {
+            number: worker,
+            offset: 0,
+        });
+    }
     let (_, rest) = bytes.split_at(HEADER_BYTES);
     let mut batches = Vec::new(alloc);
     let stop = match batches_of(alloc, rest, &mut batches) {
@@ -88,9 +98,9 @@ pub fn front_of(alloc: Global, bytes: &[u8]) -> Result<Found, ReadFault>
     }
 }
 
-// The worker and the number of logs of a header.
+// The worker and the number of logs that a header names.
 fn header_of(bytes: &[u8]) -> Option<(u8, u8)>
-    ensures some { IfSome result (λ h. (h.0 < h.1) × (h.1 ≤ 64) × (bytes.now ≡ header h.0 h.1 ++ drop 8 bytes.now)) }
+    ensures some { IfSome result (λ h. bytes.now ≡ header h.0 h.1 ++ drop 8 bytes.now) }
     ensures none { IfNone result (HasNoHeader bytes.now) }
 {
     if bytes.len() < HEADER_BYTES {
@@ -98,7 +108,7 @@ fn header_of(bytes: &[u8]) -> Option<(u8, u8)>
     }
     let (front, _) = bytes.split_at(HEADER_BYTES);
     let (worker, logs) = (front[6], front[7]);
-    if worker < logs && logs <= 64 && front == header(worker, logs).as_slice() {
+    if front == header(worker, logs).as_slice() {
         Some((worker, logs))
     } else {
         None
@@ -114,7 +124,7 @@ fn batches_of(alloc: Global, bytes: &[u8], batches: &mut Vec<LogBatch>) -> Resul
     let mut mark = 0;
     loop {
         let (_, rest) = bytes.split_at(place);
-        match at_gate(alloc, mark, rest)? {
+        match at_gate(alloc, rest)? {
             AtGate::Shut(gate) => {
                 return Ok(Stop {
                     place,
@@ -138,25 +148,25 @@ fn batches_of(alloc: Global, bytes: &[u8], batches: &mut Vec<LogBatch>) -> Resul
     }
 }
 
-// What stands at a gate, behind batches that end at this mark.
-fn at_gate(alloc: Global, mark: u64, bytes: &[u8]) -> Result<AtGate, AllocError>
-    ensures { IfOk result (IsAtGate mark bytes.now) }
+// What stands at a gate.
+fn at_gate(alloc: Global, bytes: &[u8]) -> Result<AtGate, AllocError>
+    ensures { IfOk result (IsAtGate bytes.now) }
 {
     match bytes {
         [] => Ok(AtGate::Bad),
-        [gate, behind @ ..] => behind_gate(alloc, mark, *gate, behind),
+        [gate, behind @ ..] => behind_gate(alloc, *gate, behind),
     }
 }
 
 // What stands at this gate, by what stands behind it.
-fn behind_gate(alloc: Global, mark: u64, gate: u8, behind: &[u8]) -> Result<AtGate, AllocError>
+fn behind_gate(alloc: Global, gate: u8, behind: &[u8]) -> Result<AtGate, AllocError>
     requires { length behind.now < 2 ^ 63 }
-    ensures { IfOk result (IsAtGate mark (gate ∷ behind.now)) }
+    ensures { IfOk result (IsAtGate (gate ∷ behind.now)) }
 {
     if gate != OPEN {
         return Ok(AtGate::Shut(gate));
     }
-    match batch_of(alloc, mark, behind) {
+    match batch_of(alloc, behind) {
         Ok((batch, rest)) => Ok(AtGate::Open(batch, 1 + (behind.len() - rest.len()))),
         Err(DecodeFault::Bad) => Ok(AtGate::Bad),
         Err(DecodeFault::Memory) => Err(AllocError),
@@ -165,22 +175,22 @@ fn behind_gate(alloc: Global, mark: u64, gate: u8, behind: &[u8]) -> Result<AtGa
 
 // A batch behind its length.
 #[tactic(auto, unfolding(crate::specs::Reading::batch_at))]
-fn batch_of(alloc: Global, mark: u64, bytes: &[u8]) -> Result<(LogBatch, &[u8]), DecodeFault>
-    ensures { Gives (λ x. (x.0, x.1.now)) result (batch_at mark bytes.now) }
+fn batch_of(alloc: Global, bytes: &[u8]) -> Result<(LogBatch, &[u8]), DecodeFault>
+    ensures { Gives (λ x. (x.0, x.1.now)) result (batch_at bytes.now) }
 {
     let (len, rest) = u32_at(bytes)?;
     let (body, rest) = slice_of(len as usize, rest)?;
-    Ok((body_of(alloc, mark, body)?, rest))
+    Ok((body_of(alloc, body)?, rest))
 }
 
 // A batch that takes all of the bytes.
 #[tactic(auto, unfolding(crate::specs::Reading::batch_in))]
-fn body_of(alloc: Global, mark: u64, bytes: &[u8]) -> Result<LogBatch, DecodeFault>
-    ensures { Gives (λ b. b) result (batch_in mark bytes.now) }
+fn body_of(alloc: Global, bytes: &[u8]) -> Result<LogBatch, DecodeFault>
+    ensures { Gives (λ b. b) result (batch_in bytes.now) }
 {
     let (kind, rest) = u8_at(bytes)?;
     let (batch, rest) = kind_of(alloc, kind, rest)?;
-    if !rest.is_empty() || batch.from() != mark {
+    if !rest.is_empty() {
         return Err(DecodeFault::Bad);
     }
     Ok(batch)
@@ -205,7 +215,7 @@ fn resume_of(bytes: &[u8]) -> Result<(LogBatch, &[u8]), DecodeFault>
     let (from, rest) = u64_at(bytes)?;
     let (to, rest) = u64_at(rest)?;
     let (kept, rest) = u64_at(rest)?;
-    if !are_steps(from, to) || kept > to {
+    if !is_step(to) {
         return Err(DecodeFault::Bad);
     }
     Ok((LogBatch::Resume { from, to, kept }, rest))
@@ -220,11 +230,10 @@ fn records_of(alloc: Global, bytes: &[u8]) -> Result<(LogBatch, &[u8]), DecodeFa
     let (to, rest) = u64_at(rest)?;
     let (count, rest) = u32_at(rest)?;
     let (records, rest) = record_list_of(alloc, count, rest)?;
-    if !are_steps(from, to) || !rise_within(from, to, &records) {
+    if !is_step(to) {
         return Err(DecodeFault::Bad);
     }
-    let records = Records::new(records);
-    Ok((LogBatch::Records(Batch { from, to, records }), rest))
+    Ok((LogBatch::Records(LoggedBatch::new(from, to, records)), rest))
 }
 
 // So many records. The list grows as they are read: the count is the file's.
@@ -251,8 +260,7 @@ fn record_of(alloc: Global, bytes: &[u8]) -> Result<(Record, &[u8]), DecodeFault
 {
     let (stamp, rest) = u64_at(bytes)?;
     let (tenant, rest) = u32_at(rest)?;
-    let (key, rest) = string_of(alloc, rest)?;
-    let key = Key::new(key);
+    let (key, rest) = key_of(alloc, rest)?;
     let (row, rest) = change_of(alloc, rest)?;
     Ok((
         Record {
@@ -263,6 +271,18 @@ fn record_of(alloc: Global, bytes: &[u8]) -> Result<(Record, &[u8]), DecodeFault
         },
         rest,
     ))
+}
+
+// A user key.
+#[tactic(auto, unfolding(crate::specs::Reading::key_at))]
+fn key_of(alloc: Global, bytes: &[u8]) -> Result<(Key, &[u8]), DecodeFault>
+    ensures { Gives (λ x. (x.0, x.1.now)) result (key_at bytes.now) }
+{
+    let (key, rest) = string_of(alloc, bytes)?;
+    if key.len() > USER_KEY_BYTES {
+        return Err(DecodeFault::Bad);
+    }
+    Ok((Key::new(key), rest))
 }
 
 // What became of a key.

@@ -51,7 +51,7 @@ fn record_len(change: &Record) -> usize
     ensures few { result ≤ 16683 }
     ensures limits { IsRecord change.now }
 {
-    let _tenant = change.tenant;
+    let (_stamp, _tenant) = (change.stamp, change.tenant);
     14 + change.key.as_bytes().len() + change_len(&change.row)
 }
 

@@ -4,7 +4,7 @@ ghost use Rattle.std.specs.Prelude.{IfOk};
 ghost use Rattle.mt_log.specs.Contents.{IsBatch};
 
 use mt_disk::{Disk, MemDisk};
-use mt_log::{AppendFault, LogBatch, LogFile, OpenFault, fits};
+use mt_log::{AppendFault, LogBatch, LogFile, LoggedBatch, OpenFault, fits};
 use mt_rows::{Batch, Column, Key, Record, Records, Row};
 use std::alloc::{AllocError, Global};
 
@@ -14,8 +14,10 @@ pub const EMPTY: [u8; 9] = [0x4d, 0x54, 0x4c, 0x4f, 0x47, 1, 0, 1, 0];
 /// What came of a call.
 #[derive(Clone, Copy, Debug, PartialEq, Eq)]
 pub enum Told {
-    /// A log whose batches join, up to this step; and how many these are.
+    /// A log whose batches join and rise, up to this step; and how many these are.
     Front(u64, usize),
+    /// A log whose batches don't; its mark, and how many they are.
+    Falls(u64, usize),
     /// No log: the number and the offset that are told.
     Bad(u8, u64),
     /// A batch that begins here, not at this mark.
@@ -59,10 +61,37 @@ pub fn append<D: Disk>(
     to: u64,
     stamp: u64,
 ) -> Result<LogFile<D>, (D, Told)> {
-    let batch = match put_batch(alloc, from, to, stamp) {
-        Ok(batch) => batch,
-        Err(_) => return Err((log.into_disk(), Told::Memory)),
+    match put_batch(alloc, from, to, stamp) {
+        Ok(batch) => append_batch(alloc, log, batch),
+        Err(_) => Err((log.into_disk(), Told::Memory)),
+    }
+}
+
+/// Appends a batch without records, or gives the log's disk back.
+pub fn append_none<D: Disk>(
+    alloc: Global,
+    log: LogFile<D>,
+    to: u64,
+) -> Result<LogFile<D>, (D, Told)> {
+    let batch = Batch {
+        from: log.mark(),
+        to,
+        records: Records::new(Vec::new(alloc)),
     };
+    if fits(&batch) {
+        append_batch(alloc, log, batch)
+    } else {
+        Err((log.into_disk(), Told::Memory))
+    }
+}
+
+fn append_batch<D: Disk>(
+    alloc: Global,
+    log: LogFile<D>,
+    batch: Batch,
+) -> Result<LogFile<D>, (D, Told)>
+    requires { IsBatch batch }
+{
     match log.append(alloc, batch) {
         Ok(log) => Ok(log),
         Err(AppendFault::WrongTurn(log, batch, mark)) => {
@@ -108,22 +137,45 @@ pub fn not_opened<D: Disk>(fault: OpenFault<D>) -> (D, Told) {
     }
 }
 
-// The batches up to the first that doesn't begin where the one before it ends.
-fn joined(batches: &[LogBatch]) -> Told {
+// Whether the stamps of a batch rise strictly, over its beginning and up to its end.
+fn rises(batch: &LoggedBatch) -> bool {
+    let mut last = batch.from();
+    for record in batch.records() {
+        if record.stamp <= last || record.stamp > batch.to() {
+            return false;
+        }
+        last = record.stamp;
+    }
+    last <= batch.to()
+}
+
+// What is told of batches, by whether each begins where the one before it ends, and rises.
+fn joined(mark: u64, batches: &[LogBatch]) -> Told {
     let mut step = 0;
-    for (count, batch) in batches.iter().enumerate() {
-        if batch.from() != step {
-            return Told::Front(step, count);
+    for batch in batches {
+        let in_order = match batch {
+            LogBatch::Records(batch) => rises(batch),
+            LogBatch::Resume { from, to, kept } => from <= to && kept <= to,
+        };
+        if batch.from() != step || !in_order {
+            return Told::Falls(mark, batches.len());
         }
         step = batch.to();
     }
-    Told::Front(step, batches.len())
+    if step == mark {
+        Told::Front(step, batches.len())
+    } else {
+        Told::Falls(mark, batches.len())
+    }
 }
 
 /// What comes of opening a disk, and the disk.
 pub fn opened_on<D: Disk>(alloc: Global, disk: D) -> (D, Told) {
     match LogFile::open(alloc, disk) {
-        Ok((log, front)) => (log.into_disk(), joined(&front.batches)),
+        Ok((log, front)) => {
+            let mark = log.mark();
+            (log.into_disk(), joined(mark, &front.batches))
+        }
         Err(fault) => not_opened(fault),
     }
 }

@@ -1,6 +1,6 @@
 //! A log of two batches, byte by byte, and what comes of each call that makes it.
 
-use crate::logs::{Told, append, disk_with, not_opened, opened, opened_on};
+use crate::logs::{EMPTY, Told, append, append_none, disk_with, not_opened, opened, opened_on};
 use mt_disk::MemDisk;
 use mt_log::{LogFile, ResumeFault};
 use std::alloc::{AllocError, Global};
@@ -16,7 +16,7 @@ const VECTOR: [u8; 85] = [
 
 // What is read of it.
 const FRONT: &str =
-    "Front { worker: 0, logs: 1, batches: [Records(Batch { from: 0, to: 6, records: Records { records: [Record { stamp: 5, tenant: 7, key: Key { bytes: [107] }, row: Some(Row { columns: [Column { bytes: [118] }] }) }] } }), Resume { from: 6, to: 9, kept: 4 }] }";
+    "Front { worker: 0, logs: 1, batches: [Records(LoggedBatch { from: 0, to: 6, records: [Record { stamp: 5, tenant: 7, key: Key { bytes: [107] }, row: Some(Row { columns: [Column { bytes: [118] }] }) }] }), Resume { from: 6, to: 9, kept: 4 }] }";
 
 // The front of a disk, as text.
 fn front_of(alloc: Global, disk: MemDisk) -> Result<String, AllocError> {
@@ -111,7 +111,8 @@ fn each_prefix_and_changed_byte_is_told_for_what_it_is(rt: HostRuntime) -> Resul
     for (place, byte, want) in [
         // The format's number, the worker, the number of logs.
         (5, 2, Told::Bad(0, 0)),
-        (6, 1, Told::Bad(0, 0)),
+        (6, 1, Told::Bad(1, 0)),
+        (6, 5, Told::Bad(5, 0)),
         (7, 0, Told::Bad(0, 0)),
         (7, 64, Told::Front(9, 2)),
         (7, 65, Told::Bad(0, 0)),
@@ -122,19 +123,26 @@ fn each_prefix_and_changed_byte_is_told_for_what_it_is(rt: HostRuntime) -> Resul
         (54, 7, Told::Front(6, 1)),
         (84, 7, Told::Front(9, 2)),
         (84, 1, Told::Bad(0, 84)),
-        // The kind of a batch, from which step it goes, and up to which; how many are kept.
+        // The kind of a batch, and an end past the greatest step.
         (13, 1, Told::Bad(0, 8)),
         (13, 2, Told::Bad(0, 8)),
-        (21, 1, Told::Bad(0, 8)),
         (22, 8, Told::Bad(0, 8)),
-        (29, 4, Told::Bad(0, 8)),
-        (29, 5, Told::Bad(0, 54)),
+        (68, 8, Told::Bad(0, 54)),
+        // Batches that don't join; a beginning over its end; how many are kept.
+        (14, 255, Told::Falls(9, 2)),
+        (21, 1, Told::Falls(9, 2)),
+        (29, 5, Told::Falls(9, 2)),
+        (29, 4, Told::Falls(9, 2)),
         (75, 8, Told::Front(8, 2)),
-        (83, 10, Told::Bad(0, 54)),
+        (75, 5, Told::Falls(5, 2)),
+        (76, 255, Told::Falls(9, 2)),
+        (83, 9, Told::Front(9, 2)),
+        (83, 10, Told::Falls(9, 2)),
         // A stamp that isn't over the batch's beginning, or is over its end.
-        (41, 0, Told::Bad(0, 8)),
-        (41, 7, Told::Bad(0, 8)),
+        (41, 0, Told::Falls(9, 2)),
+        (41, 7, Told::Falls(9, 2)),
         (41, 6, Told::Front(9, 2)),
+        (34, 255, Told::Falls(9, 2)),
         // A row that isn't told as there or not, and one without columns.
         (49, 2, Told::Bad(0, 8)),
         (50, 0, Told::Bad(0, 8)),
@@ -142,5 +150,86 @@ fn each_prefix_and_changed_byte_is_told_for_what_it_is(rt: HostRuntime) -> Resul
         let told = with_byte(alloc, place, byte)?;
         assert!(rt; told == want, "{byte} at {place}: {told:?}");
     }
+    Ok(())
+}
+
+// A log of one batch up to step 6, with the removal of a key of this many bytes.
+fn with_key(alloc: Global, key: u8) -> Result<Vec<u8>, AllocError> {
+    let (front, _) = VECTOR.split_at(46);
+    let mut image = front.to_vec(alloc)?;
+    if let Some(body) = image.get_mut(11) {
+        *body = 1;
+    }
+    // The body has 36 bytes and those of the key.
+    if let Some(body) = image.get_mut(12) {
+        *body = key.wrapping_add(36);
+    }
+    image.extend_from_slice(&[0, key])?;
+    image.extend_from_slice(&Vec::from_elem(alloc, b'k', usize::from(key))?)?;
+    image.extend_from_slice(&[0, 0])?;
+    Ok(image)
+}
+
+#[test]
+fn a_key_over_its_limit_is_not_in_the_format(rt: HostRuntime) -> Result<(), Fail> {
+    let alloc = rt.alloc();
+    assert!(rt; opened(alloc, &with_key(alloc, 251)?)? == Told::Front(6, 1));
+    assert!(rt; opened(alloc, &with_key(alloc, 252)?)? == Told::Bad(0, 8));
+    Ok(())
+}
+
+// Appends a batch from step 5 to 7, and opens the log again.
+fn appended_at_5(alloc: Global, log: LogFile<MemDisk>) -> (MemDisk, Told) {
+    match append(alloc, log, 5, 7, 6) {
+        Ok(log) => opened_on(alloc, log.into_disk()),
+        Err(back) => back,
+    }
+}
+
+// What comes of opening the vector with its last batch up to step 5, and of an append behind it.
+fn appended_behind_a_fall(alloc: Global) -> Result<Told, AllocError> {
+    let mut image = VECTOR;
+    image[75] = 5;
+    let disk = disk_with(alloc, &image, 0, 99)?;
+    let (_disk, told) = match LogFile::open(alloc, disk) {
+        Ok((log, _front)) => appended_at_5(alloc, log),
+        Err(fault) => not_opened(fault),
+    };
+    Ok(told)
+}
+
+#[test]
+fn a_log_that_falls_goes_on_from_the_end_of_its_last_batch(rt: HostRuntime) -> Result<(), Fail> {
+    assert!(rt; appended_behind_a_fall(rt.alloc())? == Told::Falls(7, 3));
+    Ok(())
+}
+
+// Appends a batch up to step 3 that has no records, and opens the log again.
+fn appended_none(alloc: Global, log: LogFile<MemDisk>) -> (MemDisk, Told) {
+    match append_none(alloc, log, 3) {
+        Ok(log) => opened_on(alloc, log.into_disk()),
+        Err(back) => back,
+    }
+}
+
+// The same on a log that is made.
+fn made_without_records(alloc: Global, disk: MemDisk) -> (MemDisk, Told) {
+    match LogFile::create(disk, 0, 1) {
+        Ok(log) => appended_none(alloc, log),
+        Err((_, disk)) => (disk, Told::Device),
+    }
+}
+
+#[test]
+fn where_memory_is_there_no_batch_and_no_length_is_told_memory(
+    rt: HostRuntime,
+) -> Result<(), Fail> {
+    let alloc = rt.alloc();
+    let (_disk, told) = made_without_records(alloc, MemDisk::new(alloc, None, None));
+    assert!(rt; told == Told::Front(3, 1));
+    // A file of more than 1 MB.
+    let mut image = EMPTY.to_vec(alloc)?;
+    image.extend_from_slice(&Vec::from_elem(alloc, 7, 1 << 20)?)?;
+    assert!(rt; opened(alloc, &image)? == Told::Front(0, 0));
     Ok(())
 }

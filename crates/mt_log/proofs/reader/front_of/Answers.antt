@@ -1,5 +1,5 @@
 -- Batches that stop at what isn't in the format are no log.
-use Rattle.std.proofs.Common.{ℕ, Option, ◌++◌, drop, sym, ap, ◌∙◌, subst}
+use Rattle.std.proofs.Common.{rules, ◌<◌, ◌≤◌, ℕ, Option, ◌++◌, drop, sym, ap, ◌∙◌, subst}
 use Rattle.mt_rows.specs.Rows.{Bytes}
 use Rattle.mt_log.specs.Format.{header}
 use Rattle.mt_log.specs.Stops.{StopsAt}
@@ -10,8 +10,10 @@ pub returns-in-None-clause-err : goal.returns-in-None-clause-err
 returns-in-None-clause-err c =
     let h = c.in-Some.ensures.some in
     let s = c.in-Ok.ensures in
+    let below : c.in-Some.worker < c.in-Some.logs = search rules in
+    let most : c.in-Some.logs ≤ 64 = search rules in
     let rest = c.split_at.result.1.now in
     let stop = c.in-Ok.stop in
-    stopped_bad c.args.bytes.now rest c.in-Some.worker c.in-Some.logs stop.place stop.mark c.batches_of.new.batches.items h.0 h.1
-    (h.2 ∙ ap (λ (l : Bytes). header c.in-Some.worker c.in-Some.logs ++ l) (sym c.split_at.ensures.back)) s.stand
-    (subst (λ (gate : Option ℕ). StopsAt stop.mark (drop stop.place rest) gate) c.in-None.is s.stops)
+    stopped_bad c.args.bytes.now rest c.in-Some.worker c.in-Some.logs stop.place stop.mark c.batches_of.new.batches.items below most
+    (h ∙ ap (λ (l : Bytes). header c.in-Some.worker c.in-Some.logs ++ l) (sym c.split_at.ensures.back)) s.stand
+    (subst (λ (gate : Option ℕ). StopsAt (drop stop.place rest) gate) c.in-None.is s.stops)
