@@ -11,7 +11,7 @@ use Rattle.mt_operation.specs.declared.walk.Walk.{Walk}
 use Rattle.mt_operation.specs.declared.splits.Halves.{Halves}
 use Rattle.mt_operation.specs.declared.splits.Splits.{Splits}
 use Rattle.mt_operation.specs.declared.operation.Operation.{Operation}
-use Rattle.mt_operation.specs.Operations.{view_of, is_done, moved, with_splits}
+use Rattle.mt_operation.specs.Operations.{view_of, splits_of, is_done, moved, with_splits}
 use Rattle.mt_operation.specs.Tables.{Table, op_at as operation_at, MayMove}
 use Rattle.mt_operation.proofs.Tables.{set_is, set_there}
 use Rattle.mt_insert.specs.Splitting.{halves_at, last_of, IsAmong, HoldsSplits, AreReturnable, AreParted, NothingLags, HasSplits, HasSplitsNamed, IsParent, KeptSplit}
@@ -31,6 +31,7 @@ use Rattle.mt_core.specs.Climbs.{ClimbsOn, AreSame, TellsClimbed}
 use Rattle.mt_core.specs.declared.climbs.Climbed.TheVariants.{Blocked, NoMemory as NoMemoryClimbed}
 use Rattle.mt_core.proofs.Points.{point_first, nears_by}
 use Rattle.mt_core.proofs.Following.{set_back, Writes, IsOver, over_first, over_next, opened, may_over, next_here, holder_open, made}
+use Rattle.mt_core.proofs.Leading.{leads_over}
 use Rattle.mt_core.proofs.Retained.{retained, own_tape}
 
 -- as many operations have all ready where the one that is written has as it had
@@ -312,6 +313,7 @@ module _ (c now : Core) (o : ℕ) (is : c ≡ now) (h : StateInvariant c) (next 
             tells = climb_gives.1;
             nears = nears_by c (made c arena c.tape c.accounts all) o op after there over_all.there told.guarantee
                 (λ height n p. point_first height (n + 1) arena w t after.walk.first (told.nears height n p));
+            leads = leads_over c o h op there op.walk.phase refl c refl arena c.tape c.accounts all after over_all w (told.leads (c.steps + 1) op.task.key op.outcome) refl;
           })
 
         -- it was not made: all is as it was, but for the splits
@@ -336,19 +338,20 @@ module _ (c now : Core) (o : ℕ) (is : c ≡ now) (h : StateInvariant c) (next 
           waits : IsHeldByOther (shown c) o holder
           waits =
               let parent = held_back.4 in
-              let f = h.holders parent holder held_back.5 held_back.6 in
+              let f = h.holders parent holder held_back.6 held_back.7 in
               record {
-                other = held_back.7 holds;
+                other = held_back.8 holds;
                 unfinished = (view_of f.0, shown_there c.table holder f.0 f.1, holder_open f.0.walk.phase f.0.walk f.0.splits parent f.2);
                 op = view_of op;
                 there = shown_there c.table o op there;
-                holds = subst (λ (p : Phase). IsInTheWay c.arena p holder) (sym held_back.3) (parent, held_back.5, held_back.6);
+                holds = subst (λ (p : Phase). IsInTheWay c.arena p op.walk (splits_of op.splits) holder) (sym held_back.3) (parent, held_back.5, held_back.6, held_back.7);
               }
 
           pub blocked_steps : (answer : Move) → answer ≡ Again holder → StepsOn now stopped o answer
           blocked_steps answer says = subst (StepsOn now stopped o) (sym says) (subst (λ (v : Core). StepsOn v stopped o (Again holder)) is (record {
             tells = (ap (λ (v : Core). shown v) blocked_is, (view_of op, shown_there c.table o op there, climb_open op.walk.phase at_climb), waits);
             nears = tt;
+            leads = tt;
           }))
 
         -- there is no memory for a node
@@ -366,4 +369,5 @@ module _ (c now : Core) (o : ℕ) (is : c ≡ now) (h : StateInvariant c) (next 
               record { op = view_of op; there = shown_there c.table o op there; grows = grown_back.3; told = ap is_some kept.answer.told },
             );
             nears = tt;
+            leads = tt;
           })

@@ -1,6 +1,7 @@
 -- What each step of a climb leaves of all nodes, and what is told of a step by that: for `climb_on`, and for `Inner::split_start`, which leaves as much.
-use Rattle.std.proofs.Common.{◌≡◌, ◌≢◌, ℕ, ◌+◌, ◌*◌, ◌<◌, ◌≤◌, ◌⊎◌, inl, inr, true, false, cond, List, [], ◌∷◌, ◌++◌, length, set, refl, sym, ap, subst, ◌∙◌, arith, length-append}
+use Rattle.std.proofs.Common.{◌≡◌, ◌≢◌, ℕ, ◌+◌, ◌*◌, ◌<◌, ◌≤◌, ◌⊎◌, inl, inr, true, false, cond, List, [], ◌∷◌, ◌++◌, length, set, Option, refl, sym, ap, subst, ◌∙◌, arith, length-append}
 use Rattle.std.proofs.lemmas.Bool.{cases_eq, cases_lt}
+use Rattle.mt_rows.specs.Rows.{Bytes}
 use Rattle.mt_arena.specs.declared.tree.Tree.{Tree}
 use Rattle.mt_arena.specs.declared.tree.Standing.{Standing}
 use Rattle.mt_arena.specs.declared.tree.Standing.TheVariants.{Dead}
@@ -16,6 +17,8 @@ use Rattle.mt_operation.specs.declared.walk.Phase.TheVariants.{SplitPrev, LockPa
 use Rattle.mt_operation.specs.declared.walk.Walk.{Walk}
 use Rattle.mt_operation.specs.declared.splits.Halves.{Halves}
 use Rattle.mt_operation.specs.declared.splits.Splits.{Splits}
+use Rattle.mt_operation.specs.declared.outcome.Outcome.{Outcome}
+use Rattle.mt_operation.specs.Operations.{splits_of}
 use Rattle.mt_descent.specs.Moves.{Continues}
 use Rattle.mt_insert.specs.Splitting.{HoldsSplits, KeptSplit}
 use Rattle.mt_insert.specs.SplitMoves.{walk_at}
@@ -23,6 +26,7 @@ use Rattle.mt_state.specs.Steps.{MayFollow}
 use Rattle.mt_state.specs.Promises.{Touches, HoldsEither}
 use Rattle.mt_state.specs.Invariant.{IsCountedUpTo, IsUnremoved}
 use Rattle.mt_state.specs.Writes.{HasPairsOf, IsClimb}
+use Rattle.mt_state.specs.Phases.{LeadsTo}
 use Rattle.mt_core.specs.Points.{AreBelow, IsFresh, before_unlock, HasMade, MayHaveGrown}
 use Rattle.mt_core.specs.Climbs.{ClimbsOn}
 use Rattle.mt_core.proofs.Points.{point_at, below_at, few_at}
@@ -177,10 +181,11 @@ pub record Ensures (op : ℕ) (old new : ArenaView) (before after : Walk) (s t :
 
 -- so a step from one phase to another is told, by what it leaves of the nodes and how many steps were made
 pub climbs_on : (op : ℕ) (old new : ArenaView) (before after : Walk) (s t : Splits) (p q : Phase) → before.phase ≡ p → IsClimb p → after ≡ walk_at q before → IsClimbed q → MayFollow p q
+    → ((step : ℕ) (key : Bytes) (told : Option Outcome) → LeadsTo p old new op step key told (splits_of s) before after)
     → LeavesNodes op old new → (q ≢ Unlock → AreOnLevels old new) → t.halves.items ≢ []
     → ((height made : ℕ) → AreBelow old height → HasMade p height made old before s → HasMade q height (made + 1) new (walk_at q before) t)
     → Ensures op old new before after s t → ClimbsOn op old new before after s t
-climbs_on op old new before after s t p q at_p climb goes climbed follows leaves levels some counts_on e =
+climbs_on op old new before after s t p q at_p climb goes climbed follows leads leaves levels some counts_on e =
     let at_q : after.phase ≡ q = ap (λ (w : Walk). w.phase) goes in
     record {
       guarantee = e.guarantee;
@@ -190,6 +195,7 @@ climbs_on op old new before after s t p q at_p climb goes climbed follows leaves
       versions = versions op old new leaves;
       unremoved = unremoved op old new leaves;
       follows = subst (λ (x : Phase). MayFollow x after.phase) (sym at_p) (subst (MayFollow p) (sym at_q) follows);
+      leads = λ step key told. subst (λ (x : Phase). LeadsTo x old new op step key told (splits_of s) before after) (sym at_p) (leads step key told);
       same = e.same;
       kept = e.kept;
       some = some;

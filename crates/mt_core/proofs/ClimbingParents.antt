@@ -15,6 +15,7 @@ use Rattle.mt_operation.specs.declared.splits.Splits.{Splits}
 use Rattle.mt_insert.specs.Splitting.{halves_at, last_of, HasSplits, IsAtSplitPrev, IsAtLockParent, IsAtReparent}
 use Rattle.mt_insert.specs.SplitMoves.{walk_at, with_parent, for_parent, moved_on, after_reparent, with_named_parent, with_named_previous}
 use Rattle.mt_state.specs.Steps.{MayFollow}
+use Rattle.mt_state.specs.Phases.{GoesAbove}
 use Rattle.mt_core.specs.Points.{AreBelow, HasMade, split_level}
 use Rattle.mt_core.specs.Climbs.{ClimbsOn}
 use Rattle.mt_core.proofs.Climbing.{Stays, stays_same, LeavesNodes, AreOnLevels, each_set, leaves_set, Ensures, IsClimbed, climbs_on}
@@ -55,7 +56,7 @@ module _ (op : ℕ) (old new : ArenaView) (before after : Walk) (s t : Splits) (
     by_next (Some behind) next is =
         let made = is behind next in
         let size : length new.nodes ≡ length old.nodes = ap (λ (v : ArenaView). length v.nodes) made ∙ length-set old.nodes behind _ in
-        climbs_on op old new before after s t SplitPrev LockParent at_prev tt walk tt tt
+        climbs_on op old new before after s t SplitPrev LockParent at_prev tt walk tt tt (λ step key told. walk)
         (subst (LeavesNodes op old) (sym made) (leaves_pointed op old behind (Some (last_of s).right) (at old behind).parent))
         (λ more. no_new old new size) (some_halves old op s kept.splits t.halves.items same)
         (λ height made below few. omega (arith, few)) e
@@ -65,7 +66,7 @@ module _ (op : ℕ) (old new : ArenaView) (before after : Walk) (s t : Splits) (
 
   -- a parent is locked, or there is none
   module _ (at_lock : before.phase ≡ LockParent) (kept : IsAtLockParent old op s) where
-    module _ (p : ℕ) (is : new ≡ with_parent old p (last_of s).right op) (walk : after ≡ walk_at (for_parent (at old p)) before) (same : t.halves.items ≡ s.halves.items) where
+    module _ (p : ℕ) (named : (at old (last_of s).left).parent ≡ Some p) (free : (at old p).holder ≡ None) (is : new ≡ with_parent old p (last_of s).right op) (walk : after ≡ walk_at (for_parent (at old p)) before) (same : t.halves.items ≡ s.halves.items) where
       abbrev q : ℕ
       q = (last_of s).right
 
@@ -112,13 +113,15 @@ module _ (op : ℕ) (old new : ArenaView) (before after : Walk) (s t : Splits) (
       pub parent_locked : ClimbsOn op old new before after s t
       parent_locked =
           let b = length (at old p).separators == 15 in
-          climbs_on op old new before after s t LockParent (for_parent (at old p)) at_lock tt walk (follows b).0 (follows b).1 leaves_locked
+          climbs_on op old new before after s t LockParent (for_parent (at old p)) at_lock tt walk (follows b).0 (follows b).1
+          (λ step key told. subst (λ (parent : Option ℕ). GoesAbove parent old before after) (sym named) (free, walk)) leaves_locked
           (λ more. no_new old new (ap (λ (v : ArenaView). length v.nodes) is ∙ size_both)) (some_halves old op s kept.named.splits t.halves.items same)
           (counts_locked b) e
 
-    pub parent_missing : new ≡ old → after ≡ walk_at RootGrow before → t.halves.items ≡ s.halves.items → ClimbsOn op old new before after s t
-    parent_missing is walk same =
+    pub parent_missing : (at old (last_of s).left).parent ≡ None → new ≡ old → after ≡ walk_at RootGrow before → t.halves.items ≡ s.halves.items → ClimbsOn op old new before after s t
+    parent_missing none is walk same =
         climbs_on op old new before after s t LockParent RootGrow at_lock tt walk tt tt
+        (λ step key told. subst (λ (parent : Option ℕ). GoesAbove parent old before after) (sym none) walk)
         (subst (LeavesNodes op old) (sym is) (leaves_set op old old.nodes refl (λ k lt. stays_same op (at old k))))
         (λ more. no_new old new (ap (λ (v : ArenaView). length v.nodes) is)) (some_halves old op s kept.named.splits t.halves.items same)
         (λ height made below few. let low = level_below op height old s kept.named.splits below in omega (arith, few, low)) e
@@ -159,6 +162,6 @@ module _ (op : ℕ) (old new : ArenaView) (before after : Walk) (s t : Splits) (
     pub child_named : ClimbsOn op old new before after s t
     child_named =
         let b = s.moved + 1 == n in
-        climbs_on op old new before after s t Reparent (after_reparent (at old r) s.moved) at_reparent tt walk (goes b).0 (goes b).1 leaves_named
+        climbs_on op old new before after s t Reparent (after_reparent (at old r) s.moved) at_reparent tt walk (goes b).0 (goes b).1 (λ step key told. walk) leaves_named
         (λ more. no_new old new (ap (λ (v : ArenaView). length v.nodes) is ∙ length-set old.nodes child named)) (some_halves old op s kept.splits t.halves.items same)
         (counts_named b refl moves) e

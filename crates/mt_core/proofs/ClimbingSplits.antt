@@ -56,7 +56,7 @@ module _ (op : ℕ) (old new : ArenaView) (before after : Walk) (s t : Splits) (
       let y = with_child (inserting (at old kept.p)) (at old q).low q in
       let z = exact (at old l) in
       let some = some_halves old op s kept.at_parent.named.splits t.halves.items same in
-      climbs_on op old new before after s t InsertChild Unlock at_insert tt walk tt tt
+      climbs_on op old new before after s t InsertChild Unlock at_insert tt walk tt tt (λ step key told. walk)
       (subst (LeavesNodes op old) (sym is) (leaves_set op old (with_right old.nodes kept.p l q) (size_two old.nodes kept.p l y z) (each_two op old.nodes kept.p l y z
       (record { slots = refl; tree = refl; level = refl; deleted = refl; inserts = refl; splits = refl; touched = inr (inl (inl kept.at_parent.parent.held.holder)) })
       (record { slots = refl; tree = refl; level = refl; deleted = refl; inserts = refl; splits = refl; touched = inr (inl (inl kept.at_parent.named.splits.parted.left.held.holder)) }))))
@@ -115,7 +115,7 @@ module _ (op : ℕ) (old new : ArenaView) (before after : Walk) (s t : Splits) (
         ap (λ (b : Halves). (at new b.left).level) last ∙ (leaves.each p kept.at_parent.parent.held.there).level ∙ kept.at_parent.parent.level_is in
         let children : length (at new (last_of t).right).children ≡ length (at u (length old.nodes)).children =
         ap (λ (b : Halves). length (at new b.right).children) last ∙ ap (λ (v : ArenaView). length (at v (length old.nodes)).children) is in
-        climbs_on op old new before after s t InteriorSplit Reparent at_split tt walk tt tt leaves
+        climbs_on op old new before after s t InteriorSplit Reparent at_split tt walk tt tt (λ step key told. walk) leaves
         (λ more k from lt. (
           p,
           kept.at_parent.parent.held.there,
@@ -168,6 +168,6 @@ module _ (op : ℕ) (old new : ArenaView) (before after : Walk) (s t : Splits) (
     pub root_grown : before.phase ≡ RootGrow → new ≡ g → after ≡ walk_at Unlock before → t.halves.items ≡ s.halves.items → ClimbsOn op old new before after s t
     root_grown at_grow is walk same =
         let some = some_halves old op s kept.at_root.named.splits t.halves.items same in
-        climbs_on op old new before after s t RootGrow Unlock at_grow tt walk tt tt (subst (LeavesNodes op old) (sym is) leaves_root)
+        climbs_on op old new before after s t RootGrow Unlock at_grow tt walk tt tt (λ step key told. walk) (subst (LeavesNodes op old) (sym is) leaves_root)
         (λ more. absurd (more refl)) some
         (λ height made below few. omega (arith, few, unlock_most t.halves.items height some)) e

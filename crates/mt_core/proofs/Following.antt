@@ -6,6 +6,7 @@ use Rattle.std.proofs.lemmas.Option.{same_Some}
 use Rattle.mt_rows.specs.declared.reply.Reply.{Reply}
 use Rattle.mt_rows.specs.Accounts.{Accounts}
 use Rattle.mt_tape.specs.Tapes.{Kept}
+use Rattle.mt_arena.specs.NodeView.{NodeView}
 use Rattle.mt_arena.specs.Arena.{ArenaView}
 use Rattle.mt_arena.specs.Accesses.{at}
 use Rattle.mt_operation.specs.declared.walk.Phase.{Phase}
@@ -14,11 +15,11 @@ use Rattle.mt_operation.specs.declared.walk.Walk.{Walk}
 use Rattle.mt_operation.specs.declared.splits.Splits.{Splits}
 use Rattle.mt_operation.specs.declared.outcome.Outcome.{Outcome}
 use Rattle.mt_operation.specs.declared.operation.Operation.{Operation}
-use Rattle.mt_operation.specs.Operations.{is_done}
+use Rattle.mt_operation.specs.Operations.{SplitsView, is_done}
 use Rattle.mt_operation.specs.Tables.{Table, op_at as operation_at, MayMove}
 use Rattle.mt_operation.proofs.Tables.{set_is, set_here, set_there}
 use Rattle.mt_state.specs.Views.{Core}
-use Rattle.mt_state.specs.Promises.{IsInTheWay}
+use Rattle.mt_state.specs.Promises.{Blocks, IsInTheWay}
 use Rattle.mt_state.specs.Invariant.{HoldsAt, StateInvariant}
 use Rattle.mt_core.specs.Nexts.{IsNext}
 
@@ -95,11 +96,14 @@ holder_open Done w s k holds = absurd holds
 holder_open _ w s k holds = refl
 
 -- and who is in the way of a step holds one
-pub in_the_way : (v : ArenaView) (p : Phase) (holder : ℕ) → IsInTheWay v p holder → (k : ℕ) × (k < length v.nodes) × ((at v k).holder ≡ Some holder)
-in_the_way v Lock holder way = way
-in_the_way v LockParent holder way = way
-in_the_way v Load holder way = (way.0, way.2, way.3.by)
-in_the_way v _ holder way = (way.0, way.1, way.2.by)
+pub in_the_way : (v : ArenaView) (p : Phase) (w : Walk) (s : SplitsView) (holder : ℕ) → IsInTheWay v p w s holder → (k : ℕ) × (k < length v.nodes) × ((at v k).holder ≡ Some holder)
+in_the_way v p w s holder way = (way.0, way.2, held_by p (at v way.0) way.3)
+  where
+    held_by : (q : Phase) (n : NodeView) → Blocks q n w.slot holder → n.holder ≡ Some holder
+    held_by Lock n blocks = blocks
+    held_by LockParent n blocks = blocks
+    held_by Load n blocks = blocks.by
+    held_by _ n blocks = blocks.by
 
 -- an outcome of this reply
 pub outcome_is : (told : Outcome) (reply of : Reply) (step : ℕ) → told ≡ record { reply = reply; at = step } → reply ≡ of → told ≡ record { reply = of; at = step }

@@ -27,7 +27,7 @@ use Rattle.mt_operation.specs.declared.splits.Halves.{Halves}
 use Rattle.mt_operation.specs.declared.splits.Splits.{Splits}
 use Rattle.mt_operation.specs.declared.outcome.Outcome.{Outcome}
 use Rattle.mt_operation.specs.declared.operation.Operation.{Operation}
-use Rattle.mt_operation.specs.Operations.{is_done, moved, noted}
+use Rattle.mt_operation.specs.Operations.{SplitsView, splits_of, is_done, moved, noted}
 use Rattle.mt_operation.specs.Tables.{Table, op_at as operation_at, MayMove}
 use Rattle.mt_descent.specs.Moves.{Continues, walk_into}
 use Rattle.mt_insert.specs.Kept.{HoldsOnly, IsAtMakeLayer}
@@ -41,6 +41,7 @@ use Rattle.mt_state.specs.Views.{StateView, Core, shown}
 use Rattle.mt_state.specs.Invariant.{IsCountedUpTo, IsUnremoved, StateInvariant}
 use Rattle.mt_state.specs.Kept.{IsLeaving, IsReturning, IsKeptAt}
 use Rattle.mt_state.specs.Writes.{IsLayerPhase, GoesBelow}
+use Rattle.mt_state.specs.Phases.{GoesFromUnlock, LeadsTo, Leads}
 use Rattle.mt_state.proofs.OneNode.{replaced_all}
 use Rattle.mt_state.proofs.Telling.{Gives}
 use Rattle.mt_state.proofs.LayerSteps.{build_done, make_stopped, leave_done}
@@ -49,6 +50,7 @@ use Rattle.mt_core.specs.Nexts.{IsNext}
 use Rattle.mt_core.specs.Points.{AreBelow, IsFresh, HasMade, MayHaveGrown, IsAtPoint, Nears, StepsOn, above, before_unlock}
 use Rattle.mt_core.proofs.Climbing.{each_set, pushed_at}
 use Rattle.mt_core.proofs.Following.{Writes, over_first, may_move, phase_is, made}
+use Rattle.mt_core.proofs.Leading.{leads_over}
 use Rattle.mt_core.proofs.LookPoints.{next_layer, shallow_below}
 use Rattle.mt_core.proofs.Points.{point_first, point_at, below_at, few_at, nears_by}
 
@@ -171,8 +173,9 @@ record GoesTo (before after : Walk) (q : Phase) : Type 0 where
 builds_on : (o : ℕ) (old new : ArenaView) (key : Bytes) (before after : Walk) (p q : Phase) → before.phase ≡ p → GoesTo before after q → before.place.node < length old.nodes
     → MayFollow p q → q ≢ Done → ((halves : List Halves) → ¬ MayHaveGrown p halves) → IsFresh q new after
     → ((height n : ℕ) (s : Splits) → above height after ≡ above height before → HasMade p height n old before s → HasMade q height (n + 1) new after s)
+    → ((step : ℕ) (told : Option Outcome) (s : SplitsView) → LeadsTo p old new o step key told s before after)
     → LeavesNodes o old new → Ensures o old new key before after q → BuildsOn o old new key before after
-builds_on o old new key before after p q at_p goes within follows on ungrown fresh counts_on leaves e = record {
+builds_on o old new key before after p q at_p goes within follows on ungrown fresh counts_on leads leaves e = record {
   builds = record {
     guarantee = e.guarantee;
     contents = e.contents;
@@ -187,6 +190,7 @@ builds_on o old new key before after p q at_p goes within follows on ungrown fre
     kept = subst (λ (x : Phase). KeptLayer x new o key after) (sym goes.at) e.kept;
     holds = e.holds;
   };
+  leads = λ step told s. subst (λ (x : Phase). LeadsTo x old new o step key told s before after) (sym at_p) (leads step told s);
   nears = λ height n s point.
       let below : AreBelow old height = below_at height n old before s p at_p (ungrown s.halves.items) point in
       let some : 0 < height = omega (arith, below before.place.node within) in
@@ -213,7 +217,7 @@ module _ (o : ℕ) (old new : ArenaView) (key : Bytes) (before after : Walk) whe
       → (HoldsOnly old o before.place.node → OnOk r (HoldsOnly new o after.place.node)) → TellsBuilt o old new key before after r
   layer_made at_make h prefix e (Ok done) is goes unlocks ends same guarantee contents stamps kept holds =
       builds_on o old new key before after MakeLayer MarkUnstable at_make (linked (length old.trees) goes) h.holds.judged.held.there tt (λ no. absurd (cc)) (λ halves grown. grown) tt
-      (λ height n s alike few. omega (arith, alike, few))
+      (λ height n s alike few. omega (arith, alike, few)) (λ step told s. inl goes)
       (subst (LeavesNodes o old) (sym is) (layer_leaves o old prefix e))
       (record { guarantee = guarantee; contents = contents; stamps = stamps; same = same; kept = kept; holds = holds })
   layer_made at_make h prefix e (Err error) is goes unlocks ends same guarantee contents stamps kept holds =
@@ -223,20 +227,20 @@ module _ (o : ℕ) (old new : ArenaView) (key : Bytes) (before after : Walk) whe
   pub pair_marked : before.phase ≡ MarkUnstable → IsHeld old before.place.node o → (held : Held) → new ≡ with_slot old before.place.node before.slot held → after ≡ walk_at Link before
       → Ensures o old new key before after Link → BuildsOn o old new key before after
   pair_marked at_mark mine held is goes e = builds_on o old new key before after MarkUnstable Link at_mark (goes_to Link goes) mine.there tt (λ no. absurd (cc)) (λ halves grown. grown) tt
-      (λ height n s alike few. omega (arith, alike, few))
+      (λ height n s alike few. omega (arith, alike, few)) (λ step told s. goes)
       (subst (LeavesNodes o old) (sym is) (slot_leaves o old before.place.node before.slot mine held)) e
 
   pub pair_linked : before.phase ≡ Link → IsHeld old before.place.node o → (held : Held) → new ≡ with_slot old before.place.node before.slot held → after ≡ walk_at MarkLayer before
       → Ensures o old new key before after MarkLayer → BuildsOn o old new key before after
   pair_linked at_link mine held is goes e = builds_on o old new key before after Link MarkLayer at_link (goes_to MarkLayer goes) mine.there tt (λ no. absurd (cc)) (λ halves grown. grown) tt
-      (λ height n s alike few. omega (arith, alike, few))
+      (λ height n s alike few. omega (arith, alike, few)) (λ step told s. goes)
       (subst (LeavesNodes o old) (sym is) (slot_leaves o old before.place.node before.slot mine held)) e
 
   -- the slot is a link to the tree
   pub layer_marked : before.phase ≡ MarkLayer → IsHeld old before.place.node o → (t : ℕ) → new ≡ with_link old before.place.node before.slot t → after ≡ walk_at Unlock before
       → Ensures o old new key before after Unlock → BuildsOn o old new key before after
   layer_marked at_mark mine t is goes e = builds_on o old new key before after MarkLayer Unlock at_mark (goes_to Unlock goes) mine.there tt (λ no. absurd (cc)) (λ halves grown. grown) tt
-      (λ height n s alike few. by height n s alike few s.halves.items)
+      (λ height n s alike few. by height n s alike few s.halves.items) (λ step told s. goes)
       (subst (LeavesNodes o old) (sym is) (link_leaves o old before.place.node before.slot mine t)) e
     where
       by : (height n : ℕ) (s : Splits) → above height after ≡ above height before → HasMade MarkLayer height n old before s → (halves : List Halves) → n + 1 ≤ above height after + before_unlock halves height
@@ -269,9 +273,10 @@ module _ (c now : Core) (o : ℕ) (is : c ≡ now) (h : StateInvariant c) (x : O
 
   steps_on : (arena : ArenaView) (w : Walk) (table : Table) → Writes c.table table o (λ y. moved y (c.steps + 1) w) → Guarantee o c.arena arena
       → ((height n : ℕ) → IsAtPoint height n c.arena x.walk x.splits → IsAtPoint height (n + 1) arena w x.splits)
+      → LeadsTo x.walk.phase c.arena arena o (c.steps + 1) x.task.key x.outcome (splits_of x.splits) x.walk w
       → Gives (shown c) (made c arena c.tape c.accounts (set c.table o (Some (moved x (c.steps + 1) w)))) o false
       → StateInvariant (made c arena c.tape c.accounts table) × StepsOn now (made c arena c.tape c.accounts table) o Moved
-  steps_on arena w table writes guarantee brings g =
+  steps_on arena w table writes guarantee brings leads g =
       let after = moved x (c.steps + 1) w in
       let new = made c arena c.tape c.accounts table in
       let over = over_first c.table table o (λ y. moved y (c.steps + 1) w) x there writes in
@@ -281,13 +286,14 @@ module _ (c now : Core) (o : ℕ) (is : c ≡ now) (h : StateInvariant c) (x : O
           tells = told.1;
           nears = subst (λ (v : Core). Nears v new o Moved) is
               (nears_by c new o x after there over.there guarantee (λ height n point. point_first height (n + 1) arena w x.splits after.walk.first (brings height n point)));
+          leads = leads_over c o h x there x.walk.phase refl now is arena c.tape c.accounts table after over w leads refl;
         },
       )
 
   -- a layer that came one step nearer
   pub build_made : now.steps < 2 ^ 59 → IsNext now o IsLayerPhase → (arena : ArenaView) (w : Walk) (table : Table) → BuildsOn o c.arena arena x.task.key x.walk w → Writes c.table table o (λ y. moved y (c.steps + 1) w)
       → StateInvariant (made c arena c.tape c.accounts table) × StepsOn now (made c arena c.tape c.accounts table) o Moved
-  build_made few next arena w table t writes = steps_on arena w table writes t.builds.guarantee (λ height n. t.nears height n x.splits)
+  build_made few next arena w table t writes = steps_on arena w table writes t.builds.guarantee (λ height n. t.nears height n x.splits) (t.leads (c.steps + 1) x.outcome (splits_of x.splits))
       (build_done c o h (steps_few few) x there arena w (phase_is c now o IsLayerPhase is x there next) t.builds)
 
   -- no memory for it
@@ -297,6 +303,10 @@ module _ (c now : Core) (o : ℕ) (is : c ≡ now) (h : StateInvariant c) (x : O
       (subst (λ (all : Table). Gives (shown c) (made c arena c.tape c.accounts all) o true) (sym (writes x there))
       (subst (λ (r : Outcome). Gives (shown c) (made c arena c.tape c.accounts (set c.table o (Some (noted (moved x (c.steps + 1) w) (Some r))))) o true) (sym says)
       (make_stopped c o h (steps_few few) x there t.makes arena w (record { is = t.is; walk = t.walk; same = t.same; leaves = record { guarantee = t.step; contents = t.contents } }))))
+
+  pub stop_leads : (arena : ArenaView) (w : Walk) (told : Outcome) (table : Table) → StopsBuilding o c.arena arena x.walk w → Writes c.table table o (λ y. noted (moved y (c.steps + 1) w) (Some told))
+      → Leads (shown now) (shown (made c arena c.tape c.accounts table)) o
+  stop_leads arena w told table t writes = leads_over c o h x there MakeLayer t.makes now is arena c.tape c.accounts table _ (over_first c.table table o (λ y. noted (moved y (c.steps + 1) w) (Some told)) x there writes) w (inr t.walk) refl
 
   -- one that leaves its layer has split nothing
   unsplit : x.walk.phase ≡ Unlock → x.outcome ≡ None → x.splits.halves.items ≡ []
@@ -308,11 +318,15 @@ module _ (c now : Core) (o : ℕ) (is : c ≡ now) (h : StateInvariant c) (x : O
   pub leave_made : now.steps < 2 ^ 59 → IsNext now o (λ q. q ≡ Unlock) → x.outcome ≡ None → (arena : ArenaView) (w : Walk) (table : Table) (leaves : IsAtLeave c.arena o x.task.key x.walk)
       → w ≡ walk_into x.walk leaves.tree (x.walk.layer + 1) → GoesBelow c o x arena w → Writes c.table table o (λ y. moved y (c.steps + 1) w)
       → StateInvariant (made c arena c.tape c.accounts table) × StepsOn now (made c arena c.tape c.accounts table) o Moved
-  leave_made few next untold arena w table leaves goes t writes = steps_on arena w table writes t.leaves.guarantee brings
+  leave_made few next untold arena w table leaves goes t writes = steps_on arena w table writes t.leaves.guarantee brings leads
       (leave_done c o h (steps_few few) x there at_unlock untold arena w t)
     where
       at_unlock : x.walk.phase ≡ Unlock
       at_unlock = phase_is c now o (λ q. q ≡ Unlock) is x there next
+
+      leads : LeadsTo x.walk.phase c.arena arena o (c.steps + 1) x.task.key x.outcome (splits_of x.splits) x.walk w
+      leads = subst (λ (p : Phase). LeadsTo p c.arena arena o (c.steps + 1) x.task.key x.outcome (splits_of x.splits) x.walk w) (sym at_unlock)
+          (subst (λ (told : Option Outcome). GoesFromUnlock told x.walk w) (sym untold) (leaves.tree, leaves.taken, goes))
 
       k : ℕ
       k = x.walk.place.node

@@ -1,26 +1,30 @@
 -- Where the steps of an operation that holds nothing lead, and what a load shows: for `descend` and `load_row`.
-use Rattle.std.proofs.Common.{◌≡◌, ℕ, true, List, Option, Some, None, IsNone, IfNone, ◌+◌, inl, refl, sym, ap, subst, ◌∙◌}
+use Rattle.std.proofs.Common.{◌≡◌, ◌<◌, ℕ, true, List, length, Option, Some, None, IsNone, IfNone, IfSome, ◌+◌, inl, refl, sym, ap, subst, ◌∙◌}
 use Rattle.std.specs.Option.{option_map}
 use Rattle.std.proofs.lemmas.Option.{same_Some}
 use Rattle.mt_rows.specs.declared.reply.Reply.{Reply}
 use Rattle.mt_rows.specs.declared.reply.Reply.TheVariants.{Found}
-use Rattle.mt_rows.specs.Rows.{Columns, shown}
+use Rattle.mt_rows.specs.Rows.{Bytes, Columns, shown}
 use Rattle.mt_rows.specs.Maps.{is_get}
 use Rattle.mt_arena.specs.NodeView.{NodeView}
 use Rattle.mt_arena.specs.Forests.{tree_at}
 use Rattle.mt_arena.specs.Arena.{ArenaView}
 use Rattle.mt_arena.specs.Accesses.{at}
 use Rattle.mt_operation.specs.declared.walk.Phase.{Phase}
-use Rattle.mt_operation.specs.declared.walk.Phase.TheVariants.{Enter, Verify, Forward}
+use Rattle.mt_operation.specs.declared.walk.Phase.TheVariants.{Enter, Pick, Child, Verify, Forward}
 use Rattle.mt_operation.specs.declared.walk.Walk.{Walk}
 use Rattle.mt_operation.specs.declared.outcome.Outcome.{Outcome}
 use Rattle.mt_operation.specs.declared.operation.Operation.{Operation}
 use Rattle.mt_operation.specs.Tasks.{ask}
+use Rattle.mt_operation.specs.Operations.{SplitsView}
 use Rattle.mt_operation.specs.declared.splits.Splits.{Splits}
 use Rattle.mt_descent.specs.Pasts.{Past}
-use Rattle.mt_descent.specs.Kept.{IsKept}
-use Rattle.mt_descent.specs.Moves.{Continues, Verifies, Loads, walk_here, after_enter, after_forward}
+use Rattle.mt_descent.specs.Seen.{child_for}
+use Rattle.mt_descent.specs.Kept.{slice_in, IsKept}
+use Rattle.mt_descent.specs.Moves.{IsBlocked, AnswersAgain, Continues, Verifies, Loads, walk_here, after_enter, after_pick, after_child, after_forward}
 use Rattle.mt_state.specs.Notes.{columns_asked}
+use Rattle.mt_state.specs.Promises.{needed_node, Blocks, IsInTheWay}
+use Rattle.mt_state.specs.Phases.{GoesForward, LeadsTo}
 use Rattle.mt_state.specs.Ways.{Descends, ShowsTaken}
 use Rattle.mt_state.proofs.Descents.{Leads, descends, entered, verified, forwarded, stayed}
 use Rattle.mt_state.proofs.Replies.{get_asks}
@@ -49,6 +53,47 @@ forward_goes None slice nodes before after at_forward last is same = descends be
     by None e = subst (λ (x : Walk). Leads Forward x.phase x.writes) (sym (last e).1) (stayed before)
     by (Some j) e = subst (λ (x : Walk). Leads Forward x.phase x.writes) (sym (is j e)) (forwarded before slice j (nodes j))
 forward_goes (Some holder) slice nodes before after at_forward last is same = tt
+
+-- the table of phases leads it there: from Enter
+pub enter_leads : (r : Option ℕ) (v : ArenaView) (key : Bytes) (before after : Walk) → before.phase ≡ Enter → AnswersAgain (at v (tree_at v.trees before.place.tree).root) before after r
+    → IfNone r (after ≡ after_enter (tree_at v.trees before.place.tree).standing before (tree_at v.trees before.place.tree).root (at v (tree_at v.trees before.place.tree).root).version)
+    → (o step : ℕ) (told : Option Outcome) (s : SplitsView) → IfNone r (LeadsTo before.phase v v o step key told s before after)
+enter_leads None v key before after at_enter again is o step told s = subst (λ (p : Phase). LeadsTo p v v o step key told s before after) (sym at_enter) (again, is)
+enter_leads (Some holder) v key before after at_enter again is o step told s = tt
+
+-- from Pick
+pub pick_leads : (v : ArenaView) (key : Bytes) (before after : Walk) → before.phase ≡ Pick → after ≡ after_pick before (child_for (at v before.place.node) (slice_in key before))
+    → (o step : ℕ) (told : Option Outcome) (s : SplitsView) → LeadsTo before.phase v v o step key told s before after
+pick_leads v key before after at_pick is o step told s = subst (λ (p : Phase). LeadsTo p v v o step key told s before after) (sym at_pick) is
+
+-- from Child
+pub child_leads : (r : Option ℕ) (v : ArenaView) (key : Bytes) (before after : Walk) → before.phase ≡ Child → AnswersAgain (at v before.child) before after r → IfNone r (after ≡ after_child before (at v before.child).version)
+    → (o step : ℕ) (told : Option Outcome) (s : SplitsView) → IfNone r (LeadsTo before.phase v v o step key told s before after)
+child_leads None v key before after at_child again is o step told s = subst (λ (p : Phase). LeadsTo p v v o step key told s before after) (sym at_child) (again, is)
+child_leads (Some holder) v key before after at_child again is o step told s = tt
+
+-- from Verify
+pub verify_leads : (r : Option ℕ) (v : ArenaView) (key : Bytes) (before after : Walk) → before.phase ≡ Verify → AnswersAgain (at v before.place.node) before after r → IfNone r (Verifies (at v before.place.node) before after)
+    → (o step : ℕ) (told : Option Outcome) (s : SplitsView) → IfNone r (LeadsTo before.phase v v o step key told s before after)
+verify_leads None v key before after at_verify again is o step told s = subst (λ (p : Phase). LeadsTo p v v o step key told s before after) (sym at_verify) (again, is)
+verify_leads (Some holder) v key before after at_verify again is o step told s = tt
+
+-- and from Forward, by the next node
+pub forward_leads : (r : Option ℕ) (v : ArenaView) (key : Bytes) (before after : Walk) → before.phase ≡ Forward → ((j : ℕ) → before.next ≡ Some j → AnswersAgain (at v j) before after r)
+    → (before.next ≡ None → IsNone r × (after ≡ walk_here before)) → ((j : ℕ) → before.next ≡ Some j → IfNone r (after ≡ after_forward before (slice_in key before) j (at v j)))
+    → (o step : ℕ) (told : Option Outcome) (s : SplitsView) → IfNone r (LeadsTo before.phase v v o step key told s before after)
+forward_leads None v key before after at_forward again last is o step told s = subst (λ (p : Phase). LeadsTo p v v o step key told s before after) (sym at_forward) (by before.next refl)
+  where
+    by : (next : Option ℕ) → before.next ≡ next → GoesForward next v key before after
+    by None e = (last e).1
+    by (Some j) e = (again j e, is j e)
+forward_leads (Some holder) v key before after at_forward again last is o step told s = tt
+
+-- who is in the way of such a step is the holder of the node that it reads
+pub read_way : (v : ArenaView) (p : Phase) (before after : Walk) (s : SplitsView) (k : ℕ) (r : Option ℕ) → before.phase ≡ p → needed_node p v before s ≡ Some k → k < length v.nodes → ((holder : ℕ) → IsBlocked (at v k) holder → Blocks p (at v k) before.slot holder)
+    → AnswersAgain (at v k) before after r → IfSome r (λ holder. IsInTheWay v before.phase before s holder × (after ≡ before))
+read_way v p before after s k None at_p needs within blocks again = tt
+read_way v p before after s k (Some holder) at_p needs within blocks again = (subst (λ (q : Phase). IsInTheWay v q before s holder) (sym at_p) (k, needs, within, blocks holder again.1), again.0)
 
 -- the outcome of a reply that is right at a number
 abbrev placed_at : ℕ → Reply → Outcome
@@ -80,7 +125,7 @@ tells_shown f taken reply v op step after told gets loads is says = record {
 }
 
 -- what a step makes of an operation of which it leads the walk down
-pub looks_down : (v : ArenaView) (op : Operation) (w : Walk) → Descends op.walk w
+pub looks_down : (v : ArenaView) (op : Operation) (w : Walk) → ((o step : ℕ) (told : Option Outcome) (s : SplitsView) → LeadsTo op.walk.phase v v o step op.task.key told s op.walk w) → Descends op.walk w
     → ((height made : ℕ) (splits : Splits) → IsAtPoint height made v op.walk splits → IsAtPoint height (made + 1) v w splits) → ((past : Past) → IsKept v past op.task.key None w)
     → TellsDescended v op (led_to op w op.outcome)
-looks_down v op w goes nears kept = record { goes = goes; nears = nears; kept = kept; others = refl }
+looks_down v op w leads goes nears kept = record { leads = leads; goes = goes; nears = nears; kept = kept; others = refl }

@@ -6,6 +6,7 @@ use Rattle.mt_rows.specs.declared.reply.Reply.{Reply}
 use Rattle.mt_rows.specs.declared.reply.Reply.TheVariants.{NoMemory, New, Full, Replaced}
 use Rattle.mt_rows.specs.Rows.{Bytes, Columns}
 use Rattle.mt_rows.specs.Accounts.{Accounts, account_of, HasRoom}
+use Rattle.mt_border.specs.declared.entry.FoundKind.TheVariants.{OtherLong}
 use Rattle.mt_border.specs.Contents.{owned}
 use Rattle.mt_slices.specs.Keys.{IsStoredKey}
 use Rattle.mt_tape.specs.Tapes.{Kept}
@@ -24,14 +25,16 @@ use Rattle.mt_operation.specs.declared.operation.Operation.{Operation}
 use Rattle.mt_operation.specs.Operations.{is_done, moved, noted, made_ready, with_nothing_ready}
 use Rattle.mt_operation.specs.Tables.{Table, op_at as operation_at, MayMove}
 use Rattle.mt_descent.specs.Seen.{IsOutdated}
+use Rattle.mt_descent.specs.Kept.{IsInSlot}
 use Rattle.mt_descent.specs.Moves.{Continues, Locks, walk_into}
 use Rattle.mt_insert.specs.Puts.{IsPut}
-use Rattle.mt_insert.specs.Moves.{IsMadeReady, MeetsOther, MeetsLink, after_judge, walk_placed, released}
+use Rattle.mt_insert.specs.Moves.{StandsIn, IsMadeReady, MeetsOther, MeetsLink, after_judge, walk_placed, released}
 use Rattle.mt_insert.specs.Kept.{KeptReady, IsAtMakeLayer, IsAtStore, IsAtPublish, IsAtUnlock}
 use Rattle.mt_state.specs.declared.moves.Move.{Move}
 use Rattle.mt_state.specs.declared.moves.Move.TheVariants.{Moved, Again}
 use Rattle.mt_state.specs.Views.{Core, shown, StateView}
 use Rattle.mt_state.specs.Promises.{IsHeldByOther}
+use Rattle.mt_state.specs.Phases.{Leads}
 use Rattle.mt_state.specs.Writes.{LeavesContents, TakesLock, GivesBack, MakesReady, PlacesChange, Stores, Publishes, FindsFull, MeetsAnother, GoesBelow}
 use Rattle.mt_state.specs.Kept.{has_splits}
 use Rattle.mt_state.specs.Invariant.{StateInvariant, is_prepared}
@@ -47,9 +50,10 @@ use Rattle.mt_core.specs.Points.{AreBelow, above, before_unlock, HasMade, MayHav
 use Rattle.mt_core.proofs.Points.{point_first, point_at, below_at, fresh_at, few_at, nears_by}
 use Rattle.mt_core.proofs.LookPoints.{next_layer, shallow_below}
 use Rattle.mt_core.proofs.Following.{Writes, IsOver, over_first, over_next, opened, may_over, may_move, next_here, phase_is, made}
+use Rattle.mt_core.proofs.Leading.{leads_over, done_from}
 
 -- what a judgement that made all ready ensures
-pub ready_for : (c : Core) (o : ℕ) (x : Operation) (tape : Kept) (w : Walk) (prepared : Prepared) → IsMadeReady o x.task c.arena c.tape tape x.walk w prepared → Continues x.walk w → MakesReady c o x tape w prepared
+abbrev pub ready_for : (c : Core) (o : ℕ) (x : Operation) (tape : Kept) (w : Walk) (prepared : Prepared) → IsMadeReady o x.task c.arena c.tape tape x.walk w prepared → Continues x.walk w → MakesReady c o x tape w prepared
 ready_for c o x tape w prepared ready same = record {
   slot = ready.slot;
   walk = ready.walk;
@@ -162,8 +166,8 @@ module _ (c now : Core) (o : ℕ) (is : c ≡ now) (h : StateInvariant c) where
       (nears_by c (made c arena tape accounts table) o x after there over.there guarantee brings)
 
   -- what is told of it, and that
-  steps_on : (new : Core) → Gives (shown now) new o false → Nears now new o Moved → StateInvariant new × StepsOn now new o Moved
-  steps_on new g nears = (g.0, record { tells = g.1; nears = nears })
+  steps_on : (new : Core) → Gives (shown now) new o false → Nears now new o Moved → Leads (shown now) (shown new) o → StateInvariant new × StepsOn now new o Moved
+  steps_on new g nears leads = (g.0, record { tells = g.1; nears = nears; leads = leads })
 
   -- another operation holds the border node that is to be locked
   pub lock_waits : IsNext now o (λ q. q ≡ Lock) → (x : Operation) → operation_at c.table o ≡ Some x → (arena : ArenaView) → arena ≡ c.arena → (holder : ℕ) → (at c.arena x.walk.place.node).holder ≡ Some holder
@@ -175,6 +179,7 @@ module _ (c now : Core) (o : ℕ) (is : c ≡ now) (h : StateInvariant c) where
       subst (λ (v : StateView). IsHeldByOther v o holder) (ap shown is) (lock_blocked c o h x there (phase_is c now o (λ q. q ≡ Lock) is x there next) holder held),
     );
     nears = tt;
+    leads = tt;
   })
 
   module _ (few : now.steps < 2 ^ 59) where
@@ -192,9 +197,9 @@ module _ (c now : Core) (o : ℕ) (is : c ≡ now) (h : StateInvariant c) where
         (subst (λ (t : Kept). Gives (shown c) (made c from t c.accounts (set c.table o (Some after))) o false) (sym keeps) g)))
 
     -- a lock that was taken, or not because the node was deleted or split
-    pub lock_made : IsNext now o (λ q. q ≡ Lock) → (x : Operation) → operation_at c.table o ≡ Some x → (arena : ArenaView) (w : Walk) (table : Table) → TakesLock c o x arena w → Writes c.table table o (λ y. moved y (c.steps + 1) w)
+    pub lock_made : IsNext now o (λ q. q ≡ Lock) → (x : Operation) → operation_at c.table o ≡ Some x → (arena : ArenaView) (w : Walk) (table : Table) → (at c.arena x.walk.place.node).holder ≡ None → TakesLock c o x arena w → Writes c.table table o (λ y. moved y (c.steps + 1) w)
         → StateInvariant (made c arena c.tape c.accounts table) × StepsOn now (made c arena c.tape c.accounts table) o Moved
-    lock_made next x there arena w table t writes =
+    lock_made next x there arena w table free t writes =
         let at_lock = phase_is c now o (λ q. q ≡ Lock) is x there next in
         let within = (lock_kept c o h x there at_lock).covers.remembered.there in
         let after = moved x (c.steps + 1) w in
@@ -204,6 +209,7 @@ module _ (c now : Core) (o : ℕ) (is : c ≡ now) (h : StateInvariant c) where
         (lock_done c (shown now) o (ap shown is) h few x there at_lock arena w t.locks t.same t.leaves.guarantee t.leaves.contents t.kept t.judged t.settled))
         (nears_made x after there arena c.tape c.accounts table over t.leaves.guarantee
         (λ height n point. point_first height (n + 1) arena w x.splits after.walk.first (lock_brings o c.arena arena w x.walk x.splits t.locks at_lock within (h.unremoved.live x.walk.place.node within) height n point)))
+        (leads_over c o h x there Lock at_lock now is arena c.tape c.accounts table after over w (free, t.locks) refl)
 
     -- a lock that was given back
     pub unlock_made : IsNext now o (λ q. q ≡ Unlock) → (x : Operation) → operation_at c.table o ≡ Some x → x.outcome ≢ None → x.splits.halves.items ≡ [] → (arena : ArenaView) (w : Walk) (table : Table) → GivesBack c o x arena w → Writes c.table table o (λ y. moved y (c.steps + 1) w)
@@ -212,10 +218,16 @@ module _ (c now : Core) (o : ℕ) (is : c ≡ now) (h : StateInvariant c) where
         subst (λ (all : Table). Gives (shown now) (made c arena c.tape c.accounts all) o true) (sym (writes x there))
         (unlock_done c (shown now) o (ap shown is) h few x there (phase_is c now o (λ q. q ≡ Unlock) is x there next) told none arena w t.is t.walk t.same t.leaves.guarantee t.leaves.contents)
 
+    pub unlock_leads : IsNext now o (λ q. q ≡ Unlock) → (x : Operation) → operation_at c.table o ≡ Some x → x.outcome ≢ None → (arena : ArenaView) (w : Walk) (table : Table) → GivesBack c o x arena w → Writes c.table table o (λ y. moved y (c.steps + 1) w)
+        → Leads (shown now) (shown (made c arena c.tape c.accounts table)) o
+    unlock_leads next x there told arena w table t writes =
+        leads_over c o h x there Unlock (phase_is c now o (λ q. q ≡ Unlock) is x there next) now is arena c.tape c.accounts table _ (over_first c.table table o (λ y. moved y (c.steps + 1) w) x there writes) w
+        (done_from x.outcome x.walk w told t.walk) refl
+
     -- all that was made ready
-    pub ready_made : IsNext now o (λ q. q ≡ Judge) → (x : Operation) → operation_at c.table o ≡ Some x → (arena : ArenaView) (tape : Kept) (w : Walk) (prepared : Prepared) (mid table : Table) → arena ≡ c.arena → Guarantee o c.arena arena → MakesReady c o x tape w prepared
+    pub ready_made : IsNext now o (λ q. q ≡ Judge) → (x : Operation) → operation_at c.table o ≡ Some x → (arena : ArenaView) (tape : Kept) (w : Walk) (prepared : Prepared) (mid table : Table) → arena ≡ c.arena → Guarantee o c.arena arena → (t : MakesReady c o x tape w prepared) → StandsIn (at c.arena x.walk.place.node) x.task.key x.walk.layer t.slot
         → Writes c.table mid o (λ y. moved y (c.steps + 1) w) → Writes mid table o (λ y. made_ready y prepared) → StateInvariant (made c arena tape c.accounts table) × StepsOn now (made c arena tape c.accounts table) o Moved
-    ready_made next x there arena tape w prepared mid table stays guarantee t moves readies =
+    ready_made next x there arena tape w prepared mid table stays guarantee t stands moves readies =
         let at_judge = phase_is c now o (λ q. q ≡ Judge) is x there next in
         let after = made_ready (moved x (c.steps + 1) w) prepared in
         let over = over_next c.table mid table o (λ y. made_ready y prepared) (moved x (c.steps + 1) w) (over_first c.table mid o (λ y. moved y (c.steps + 1) w) x there moves) readies in
@@ -225,6 +237,7 @@ module _ (c now : Core) (o : ℕ) (is : c ≡ now) (h : StateInvariant c) where
         (nears_made x after there arena tape c.accounts table over guarantee
         (λ height n point. point_first height (n + 1) arena w x.splits after.walk.first
         (subst (λ (v : ArenaView). IsAtPoint height (n + 1) v w x.splits) (sym stays) (judge_brings c.arena (at c.arena x.walk.place.node) t.slot w x.walk x.splits t.walk at_judge height n point))))
+        (leads_over c o h x there Judge at_judge now is arena tape c.accounts table after over w (inl (record { slot = t.slot; stands = stands; goes = t.walk })) refl)
 
     -- another long key in the key's place
     meets_made : IsNext now o (λ q. q ≡ Judge) → (x : Operation) → operation_at c.table o ≡ Some x → (arena : ArenaView) (tape : Kept) (w : Walk) (table : Table) → tape ≡ c.tape → Guarantee o c.arena arena → MeetsOther o x.task.key c.arena arena x.walk w
@@ -239,6 +252,11 @@ module _ (c now : Core) (o : ℕ) (is : c ≡ now) (h : StateInvariant c) where
         (nears_made x after there arena tape c.accounts table over guarantee
         (λ height n point. point_first height (n + 1) arena w x.splits after.walk.first
         (subst (λ (v : ArenaView). IsAtPoint height (n + 1) v w x.splits) (sym t.same) (meet_brings c.arena t.slot w x.walk x.splits t.walk at_judge height n point))))
+        (leads_over c o h x there Judge at_judge now is arena tape c.accounts table after over w (inr (inl (record { slot = t.slot; stands = stands; goes = t.walk }))) refl)
+      where
+        stands : IsInSlot (at c.arena x.walk.place.node) t.slot x.task.key x.walk.layer OtherLong
+        stands = subst (λ (y : Walk). IsInSlot (at c.arena y.place.node) y.slot x.task.key y.layer OtherLong) t.walk
+            (subst (λ (v : ArenaView). IsInSlot (at v w.place.node) w.slot x.task.key w.layer OtherLong) t.same t.kept.in_slot)
 
     -- a link that leads on
     link_made : IsNext now o (λ q. q ≡ Judge) → (x : Operation) → operation_at c.table o ≡ Some x → (arena : ArenaView) (tape : Kept) (w : Walk) (table : Table) → tape ≡ c.tape → Continues x.walk w → LeavesContents c o arena
@@ -255,6 +273,7 @@ module _ (c now : Core) (o : ℕ) (is : c ≡ now) (h : StateInvariant c) where
         (nears_made x after there arena tape c.accounts table over leaves.guarantee
         (λ height n point. point_first height (n + 1) arena w x.splits after.walk.first
         (subst (λ (v : ArenaView). IsAtPoint height (n + 1) v w x.splits) (sym t.unlocks) (link_brings c.arena x.task.key t.tree w x.walk x.splits t.walk at_judge within stored t.kept.begun height n point))))
+        (leads_over c o h x there Judge at_judge now is arena tape c.accounts table after over w (inr (inr (inl (record { slot = t.slot; stands = t.in_slot; tree = t.tree; leads = t.leads; goes = t.walk })))) refl)
 
     -- either of them: it goes on
     pub on_made : IsNext now o (λ q. q ≡ Judge) → (x : Operation) → operation_at c.table o ≡ Some x → (arena : ArenaView) (tape : Kept) (w : Walk) (table : Table) → tape ≡ c.tape → Continues x.walk w → LeavesContents c o arena
@@ -270,6 +289,12 @@ module _ (c now : Core) (o : ℕ) (is : c ≡ now) (h : StateInvariant c) where
         subst (λ (all : Table). Gives (shown now) (made c arena tape c.accounts all) o true) (sym (moves x there))
         (subst (λ (r : Outcome). Gives (shown now) (made c arena tape c.accounts (set c.table o (Some (noted (moved x (c.steps + 1) w) (Some r))))) o true) (sym says)
         (judge_refused c (shown now) o (ap shown is) h few x there (phase_is c now o (λ q. q ≡ Judge) is x there next) arena tape w t.is keeps t.walk t.same t.leaves.guarantee t.leaves.contents))
+
+    pub refused_leads : IsNext now o (λ q. q ≡ Judge) → (x : Operation) → operation_at c.table o ≡ Some x → (arena : ArenaView) (tape : Kept) (w : Walk) (told : Outcome) (table : Table) → GivesBack c o x arena w
+        → Writes c.table table o (λ y. noted (moved y (c.steps + 1) w) (Some told)) → Leads (shown now) (shown (made c arena tape c.accounts table)) o
+    refused_leads next x there arena tape w told table t writes =
+        leads_over c o h x there Judge (phase_is c now o (λ q. q ≡ Judge) is x there next) now is arena tape c.accounts table _ (over_first c.table table o (λ y. noted (moved y (c.steps + 1) w) (Some told)) x there writes) w
+        (inr (inr (inr t.walk))) refl
 
   -- what taking out what an operation has ready ensures
   abbrev TakesOut : Table → Prepared → Type 0
@@ -360,6 +385,7 @@ module _ (c now : Core) (o : ℕ) (is : c ≡ now) (h : StateInvariant c) where
         (store_done c (shown now) o (ap shown is) h few s.0 s.1 (put_at c o h s.0 s.1 Store s.2 tt) s.2 arena tape w prepared.row before is_arena st.is st.before_is pl.places pl.walk pl.same pl.guarantee pl.kept)))
         (nears_placed Store next table prepared takes arena tape c.accounts w (Some told) last moves pl.guarantee pl.walk refl (λ grown. grown)
         (levels_stay c.arena arena s.0.walk.place.node _ sk.holds.judged.held.there (st.is sk.pair sk.stable) refl) (λ height n point. let few = few_at height n c.arena s.0.walk s.0.splits Store s.2 point in omega (arith, few)))
+        (leads_over c o h s.0 s.1 Store s.2 now is arena tape c.accounts last _ (over_last Store next table prepared takes w (Some told) last moves) w pl.walk refl)
 
   module _ (next : IsNext now o (λ q. q ≡ Publish)) (table : Table) (prepared : Prepared) (takes : TakesOut table prepared) (x : Operation) (there_x : operation_at table o ≡ Some x) where
     -- what is kept of it is what `publish` asks
@@ -378,6 +404,7 @@ module _ (c now : Core) (o : ℕ) (is : c ≡ now) (h : StateInvariant c) where
           (subst (λ (all : Table). Gives (shown now) (made c arena tape accounts all) o false) (sym (over_last Publish next table prepared takes w (Some told) last moves).is)
           (subst (λ (r : Outcome). Gives (shown now) (made c arena tape accounts (set c.table o (Some (noted (f (with_nothing_ready s.0)) (Some r))))) o false) (sym says) gives))
           (nears_placed Publish next table prepared takes arena tape accounts w (Some told) last moves guarantee goes refl (λ grown. grown) stays (λ height n point. let few = few_at height n c.arena s.0.walk s.0.splits Publish s.2 point in omega (arith, few)))
+          (leads_over c o h s.0 s.1 Publish s.2 now is arena tape accounts last _ (over_last Publish next table prepared takes w (Some told) last moves) w goes refl)
 
       -- a pair that was made live
       pub publish_made : IsArena c.arena.nodes c.arena.trees → Publishes c x arena accounts prepared.row → PlacesChange c o x arena tape w → told ≡ record { reply = New; at = c.steps + 1 }

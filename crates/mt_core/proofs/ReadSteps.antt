@@ -10,6 +10,7 @@ use Rattle.mt_rows.specs.Maps.{is_get}
 use Rattle.mt_border.specs.declared.entry.Find.{Find}
 use Rattle.mt_border.specs.declared.entry.Find.TheVariants as finds
 use Rattle.mt_border.specs.declared.entry.FoundKind.TheVariants.{ThisKey, OtherLong, Link as ToTree}
+use Rattle.mt_version.specs.Changes.{IsStable}
 use Rattle.mt_arena.specs.Arena.{IsArena}
 use Rattle.mt_arena.specs.Accesses.{at}
 use Rattle.mt_operation.specs.declared.walk.Phase.{Phase}
@@ -18,7 +19,7 @@ use Rattle.mt_operation.specs.declared.walk.Walk.{Walk}
 use Rattle.mt_operation.specs.declared.outcome.Outcome.{Outcome}
 use Rattle.mt_operation.specs.declared.operation.Operation.{Operation}
 use Rattle.mt_operation.specs.Tasks.{ask}
-use Rattle.mt_operation.specs.Operations.{view_of, is_done, is_unfinished, moved, counted, noted}
+use Rattle.mt_operation.specs.Operations.{view_of, splits_of, is_done, is_unfinished, moved, counted, noted}
 use Rattle.mt_operation.specs.declared.steps.Made.{Made}
 use Rattle.mt_operation.specs.declared.steps.Made.TheVariants.{Step, Blocked, Nothing}
 use Rattle.mt_operation.specs.Tables.{Table, AreBefore, op_at as operation_at}
@@ -31,6 +32,7 @@ use Rattle.mt_state.specs.declared.moves.Move.{Move}
 use Rattle.mt_state.specs.declared.moves.Move.TheVariants.{Moved, Again, Done as DoneMove}
 use Rattle.mt_state.specs.Views.{Core, shown, past_of}
 use Rattle.mt_state.specs.Promises.{Tells, IsInTheWay}
+use Rattle.mt_state.specs.Phases.{LeadsTo}
 use Rattle.mt_state.specs.Notes.{Says}
 use Rattle.mt_state.specs.Ways.{IsOnWay, IsDescent, Descends, ShowsTaken}
 use Rattle.mt_state.specs.Kept.{IsOfKind, IsOnItsWay, IsAtLoad, IsAtConfirm, IsKeptAt}
@@ -45,7 +47,8 @@ use Rattle.mt_core.specs.Nexts.{IsNoLook, ending}
 use Rattle.mt_core.specs.Looks.{Looks, LooksAt, MayDescend, MayLook, led_to, TellsDescended, TellsSearched, TellsLoaded, TellsConfirmed}
 use Rattle.mt_core.specs.Points.{IsAtPoint, Nears, StepsOn}
 use Rattle.mt_core.proofs.Points.{point_first, nears_by}
-use Rattle.mt_core.proofs.Following.{holder_open, in_the_way}
+use Rattle.mt_core.proofs.Following.{IsOver, holder_open, in_the_way}
+use Rattle.mt_core.proofs.Leading.{leads_over}
 use Rattle.mt_core.proofs.LookPoints.{search_nears, load_nears, confirm_nears}
 
 -- who holds nothing has a step left
@@ -95,9 +98,9 @@ stepped c table = record c { steps = c.steps + 1; table = table }
 
 module _ (c now : Core) (o : ℕ) (is : c ≡ now) (h : StateInvariant c) (room : now.steps < 2 ^ 59) (op : Operation) (there : operation_at c.table o ≡ Some op) where
   -- where another operation is in the way, nothing happens
-  pub blocked : IsFree op.walk.phase → (holder : ℕ) → IsInTheWay c.arena op.walk.phase holder → (answer : Move) → answer ≡ Again holder → StepsOn now now o answer
+  pub blocked : IsFree op.walk.phase → (holder : ℕ) → IsInTheWay c.arena op.walk.phase op.walk (splits_of op.splits) holder → (answer : Move) → answer ≡ Again holder → StepsOn now now o answer
   blocked free holder way answer again =
-      let held = in_the_way c.arena op.walk.phase holder way in
+      let held = in_the_way c.arena op.walk.phase op.walk (splits_of op.splits) holder way in
       let by = h.holders held.0 holder held.1 held.2 in
       let tells : Tells (shown c) (shown c) o (Again holder) = (
         refl,
@@ -110,7 +113,7 @@ module _ (c now : Core) (o : ℕ) (is : c ≡ now) (h : StateInvariant c) (room 
           holds = way;
         },
       ) in
-      subst (λ (a : Move). StepsOn now now o a) (sym again) (record { tells = subst (λ (x : Core). Tells (shown x) (shown x) o (Again holder)) is tells; nears = tt })
+      subst (λ (a : Move). StepsOn now now o a) (sym again) (record { tells = subst (λ (x : Core). Tells (shown x) (shown x) o (Again holder)) is tells; nears = tt; leads = tt })
 
   -- the table with the operation's walk and its outcome
   abbrev led : Walk → Option Outcome → Table
@@ -124,8 +127,19 @@ module _ (c now : Core) (o : ℕ) (is : c ≡ now) (h : StateInvariant c) (room 
   abbrev BringsOn : Walk → Type 0
   BringsOn w = (height made : ℕ) → IsAtPoint height made c.arena op.walk op.splits → IsAtPoint height (made + 1) c.arena w op.splits
 
-  moved_gives : (w : Walk) (told : Option Outcome) → Gives (shown now) (stepped c (led w told)) o false → BringsOn w → (table : Table) → table ≡ led w told → StepGives table Moved
-  moved_gives w told g brings table e = subst (λ (t : Table). StepGives t Moved) (sym e) (g.0, record { tells = g.1; nears = subst (λ (x : Core). Nears x (stepped c (led w told)) o Moved) is nears })
+  -- where the table of phases leads it
+  abbrev GoesOn : Phase → Walk → Type 0
+  GoesOn p w = LeadsTo p c.arena c.arena o (c.steps + 1) op.task.key op.outcome (splits_of op.splits) op.walk w
+
+  led_over : (w : Walk) (told : Option Outcome) → IsOver c.table (led w told) o (noted (moved op (c.steps + 1) w) told)
+  led_over w told = record { is = refl; there = set_is c.table o (noted (moved op (c.steps + 1) w) told) op there }
+
+  moved_gives : (w : Walk) (told : Option Outcome) → Gives (shown now) (stepped c (led w told)) o false → BringsOn w → GoesOn op.walk.phase w → (table : Table) → table ≡ led w told → StepGives table Moved
+  moved_gives w told g brings goes table e = subst (λ (t : Table). StepGives t Moved) (sym e) (g.0, record {
+    tells = g.1;
+    nears = subst (λ (x : Core). Nears x (stepped c (led w told)) o Moved) is nears;
+    leads = leads_over c o h op there op.walk.phase refl now is c.arena c.tape c.accounts (led w told) _ (led_over w told) w goes refl;
+  })
     where
       nears : Nears c (stepped c (led w told)) o Moved
       nears =
@@ -133,15 +147,22 @@ module _ (c now : Core) (o : ℕ) (is : c ≡ now) (h : StateInvariant c) (room 
           nears_by c (stepped c (led w told)) o op after there (set_is c.table o after op there) (nothing_changes o c.arena)
           (λ height made point. point_first height (made + 1) c.arena w op.splits after.walk.first (brings height made point))
 
-  done_gives : (w : Walk) (told : Option Outcome) → Gives (shown now) (stepped c (led w told)) o true → (table : Table) → table ≡ led w told → StepGives table DoneMove
-  done_gives w told g table e = subst (λ (t : Table). StepGives t DoneMove) (sym e) (g.0, record { tells = g.1; nears = tt })
+  done_gives : (w : Walk) (told : Option Outcome) → Gives (shown now) (stepped c (led w told)) o true → GoesOn op.walk.phase w → (table : Table) → table ≡ led w told → StepGives table DoneMove
+  done_gives w told g goes table e = subst (λ (t : Table). StepGives t DoneMove) (sym e) (g.0, record {
+    tells = g.1;
+    nears = tt;
+    leads = leads_over c o h op there op.walk.phase refl now is c.arena c.tape c.accounts (led w told) _ (led_over w told) w goes refl;
+  })
+
+  goes_at : (p : Phase) → op.walk.phase ≡ p → (w : Walk) → GoesOn p w → GoesOn op.walk.phase w
+  goes_at p at_p w = subst (λ (q : Phase). GoesOn q w) (sym at_p)
 
   -- what is kept of an operation that goes down
   pub descent_kept : IsDescent op.walk.phase → IsKept c.arena (past_of c) op.task.key None op.walk
   descent_kept descent = (way_of op.walk.phase descent c o op (h.ops o op there).kept).kept
 
   -- a step down
-  pub descent_gives : (w : Walk) → IsDescent op.walk.phase → Descends op.walk w → ((past : Past) → IsKept c.arena past op.task.key None w) → BringsOn w → (table : Table) → table ≡ set c.table o (Some (moved op (c.steps + 1) w)) → StepGives table Moved
+  pub descent_gives : (w : Walk) → IsDescent op.walk.phase → Descends op.walk w → ((past : Past) → IsKept c.arena past op.task.key None w) → BringsOn w → GoesOn op.walk.phase w → (table : Table) → table ≡ set c.table o (Some (moved op (c.steps + 1) w)) → StepGives table Moved
   descent_gives w descent goes kept brings = moved_gives w op.outcome (descend_done c (shown now) o (ap shown is) h room op there w descent goes kept) brings
 
   -- what is kept of an operation that is to search
@@ -174,13 +195,13 @@ module _ (c now : Core) (o : ℕ) (is : c ≡ now) (h : StateInvariant c) (room 
   confirm_kept at_confirm = (confirming at_confirm).1.at_border
 
   -- who is in the way of a load, and of a confirmation
-  pub load_way : op.walk.phase ≡ Load → (holder : ℕ) → IsBlockedAt (at c.arena op.walk.place.node) op.walk.slot holder → IsInTheWay c.arena op.walk.phase holder
+  pub load_way : op.walk.phase ≡ Load → (holder : ℕ) → IsBlockedAt (at c.arena op.walk.place.node) op.walk.slot holder → IsInTheWay c.arena op.walk.phase op.walk (splits_of op.splits) holder
   load_way at_load holder way =
-      subst (λ (p : Phase). IsInTheWay c.arena p holder) (sym at_load) (op.walk.place.node, op.walk.slot, (load_kept at_load).at_border.covers.remembered.there, way)
+      subst (λ (p : Phase). IsInTheWay c.arena p op.walk (splits_of op.splits) holder) (sym at_load) (op.walk.place.node, refl, (load_kept at_load).at_border.covers.remembered.there, way)
 
-  pub confirm_way : op.walk.phase ≡ Confirm → (holder : ℕ) → IsBlocked (at c.arena op.walk.place.node) holder → IsInTheWay c.arena op.walk.phase holder
+  pub confirm_way : op.walk.phase ≡ Confirm → (holder : ℕ) → IsBlocked (at c.arena op.walk.place.node) holder → IsInTheWay c.arena op.walk.phase op.walk (splits_of op.splits) holder
   confirm_way at_confirm holder way =
-      subst (λ (p : Phase). IsInTheWay c.arena p holder) (sym at_confirm) (op.walk.place.node, (confirm_kept at_confirm).covers.remembered.there, way)
+      subst (λ (p : Phase). IsInTheWay c.arena p op.walk (splits_of op.splits) holder) (sym at_confirm) (op.walk.place.node, refl, (confirm_kept at_confirm).covers.remembered.there, way)
 
   -- a search that found nothing
   pub search_gives_missing : IsArena c.arena.nodes c.arena.trees → (at_search : op.walk.phase ≡ Search) → (w : Walk) → (found : (f : Find) × FindsIn (at c.arena op.walk.place.node) op.task.key op.walk.layer f × (w ≡ after_search f op.walk (c.steps + 1)))
@@ -189,6 +210,7 @@ module _ (c now : Core) (o : ℕ) (is : c ≡ now) (h : StateInvariant c) (room 
   search_gives_missing arena at_search w found kept confirms told says table e =
       moved_gives w (Some (record { reply = Absent; at = c.steps + 1 })) (search_missing c (shown now) o (ap shown is) h room arena op there at_search w found.0 found.1 found.2 kept confirms)
       (λ height made point. search_nears c.arena op.walk w found.0 (c.steps + 1) at_search found.2 height made op.splits point)
+      (goes_at Search at_search w found)
       table (e ∙ ap (λ (x : Outcome). led w (Some x)) says)
 
   -- a search that found a slot
@@ -198,6 +220,7 @@ module _ (c now : Core) (o : ℕ) (is : c ≡ now) (h : StateInvariant c) (room 
   search_gives_found arena at_search w found kept other =
       moved_gives w op.outcome (search_found c (shown now) o (ap shown is) h room arena op there at_search w found.0 found.1 found.2 kept (loads found.0 found.2))
       (λ height made point. search_nears c.arena op.walk w found.0 (c.steps + 1) at_search found.2 height made op.splits point)
+      (goes_at Search at_search w found)
     where
       loads : (f : Find) → w ≡ after_search f op.walk (c.steps + 1) → w.phase ≡ Load
       loads finds.Missing is_after = absurd (other (ap (λ (x : Walk). x.phase) is_after))
@@ -206,18 +229,19 @@ module _ (c now : Core) (o : ℕ) (is : c ≡ now) (h : StateInvariant c) (room 
       loads (finds.Slot slot ToTree) is_after = ap (λ (x : Walk). x.phase) is_after
 
   -- a get that has confirmed what it took
-  pub confirm_gives_done : (at_confirm : op.walk.phase ≡ Confirm) → (w : Walk) → Continues op.walk w → Confirms (at c.arena op.walk.place.node) op.walk w
+  pub confirm_gives_done : (at_confirm : op.walk.phase ≡ Confirm) → IsStable (at c.arena op.walk.place.node).version → (w : Walk) → Continues op.walk w → Confirms (at c.arena op.walk.place.node) op.walk w
       → ((past : Past) (row : Option Columns) → WalksConfirm c.arena past op.task.key row op.walk → IsKept c.arena past op.task.key row w) → w.phase ≡ Done
       → (table : Table) → table ≡ set c.table o (Some (moved op (c.steps + 1) w)) → StepGives table DoneMove
-  confirm_gives_done at_confirm w same confirms kept done = done_gives w op.outcome (confirm_done c (shown now) o (ap shown is) h room op there at_confirm w same confirms kept done)
+  confirm_gives_done at_confirm stable w same confirms kept done = done_gives w op.outcome (confirm_done c (shown now) o (ap shown is) h room op there at_confirm w same confirms kept done) (goes_at Confirm at_confirm w (stable, confirms))
 
   -- or goes on its way
-  pub confirm_gives_back : (at_confirm : op.walk.phase ≡ Confirm) → (w : Walk) → Continues op.walk w → Confirms (at c.arena op.walk.place.node) op.walk w
+  pub confirm_gives_back : (at_confirm : op.walk.phase ≡ Confirm) → IsStable (at c.arena op.walk.place.node).version → (w : Walk) → Continues op.walk w → Confirms (at c.arena op.walk.place.node) op.walk w
       → ((past : Past) (row : Option Columns) → WalksConfirm c.arena past op.task.key row op.walk → IsKept c.arena past op.task.key row w) → w.phase ≢ Done
       → (table : Table) → table ≡ led w None → StepGives table Moved
-  confirm_gives_back at_confirm w same confirms kept other =
+  confirm_gives_back at_confirm stable w same confirms kept other =
       moved_gives w None (confirm_back c (shown now) o (ap shown is) h room op there at_confirm w same confirms kept other)
       (λ height made point. let k = confirming at_confirm in confirm_nears c.arena (past_of c) op.task.key k.0 op.walk w (h.ops o op there).always.stored at_confirm k.1 confirms other height made op.splits point)
+      (goes_at Confirm at_confirm w (stable, confirms))
 
   -- a load
   pub load_gives : IsArena c.arena.nodes c.arena.trees → (at_load : op.walk.phase ≡ Load) → (after : Operation) → TellsLoaded c.arena (c.steps + 1) op after
@@ -237,6 +261,7 @@ module _ (c now : Core) (o : ℕ) (is : c ≡ now) (h : StateInvariant c) (room 
           (load_taken c (shown now) o (ap shown is) h room arena op there at_load t.walk t.row after.outcome t.loads shows same_now
           (λ past stamped since. kept_loads c.arena op.task.key op.walk t.walk past t.row arena (load_kept at_load) stamped since t.loads))
           (λ height made point. load_nears c.arena op.walk t.walk t.walk.taken t.walk.right_at at_load t.loads.is height made op.splits point)
+          (goes_at Load at_load t.walk (record { row = t.row; taken = t.walk; loads = t.loads; goes = inl refl }))
           table (e ∙ ap (λ (x : Walk). led x after.outcome) same))
 
       stopped : after.walk ≡ record t.walk { phase = Done } → Says after.outcome NoMemory (c.steps + 1) → StepGives table answer
@@ -245,6 +270,7 @@ module _ (c now : Core) (o : ℕ) (is : c ≡ now) (h : StateInvariant c) (room 
           subst (StepGives table) (sym (ends ∙ ap (λ (x : Walk). ending x.phase) same))
           (done_gives walk (Some (record { reply = NoMemory; at = c.steps + 1 }))
           (load_stopped c (shown now) o (ap shown is) h room arena op there at_load walk refl (record { writes = same_now.writes; first = same_now.first }))
+          (goes_at Load at_load walk (record { row = t.row; taken = t.walk; loads = t.loads; goes = inr refl }))
           table (e ∙ ap (λ (x : Walk). led x after.outcome) same ∙ ap (led walk) says))
 
   -- what the step of a body gives, by what the body tells
@@ -259,7 +285,7 @@ module _ (c now : Core) (o : ℕ) (is : c ≡ now) (h : StateInvariant c) (room 
   pub descent_comes : IsDescent op.walk.phase → Comes (TellsDescended c.arena)
   descent_comes descent after t table e answer ends =
       subst (StepGives table) (sym (ends ∙ way_moves after.walk.phase t.goes.on_way))
-      (descent_gives after.walk descent t.goes t.kept (λ height made point. t.nears height made op.splits point) table (led_table after after.walk op.outcome t.others table e))
+      (descent_gives after.walk descent t.goes t.kept (λ height made point. t.nears height made op.splits point) (t.leads o (c.steps + 1) op.outcome (splits_of op.splits)) table (led_table after after.walk op.outcome t.others table e))
 
   -- one that searches
   pub search_comes : IsArena c.arena.nodes c.arena.trees → op.walk.phase ≡ Search → Comes (TellsSearched c.arena (c.steps + 1))
@@ -288,10 +314,10 @@ module _ (c now : Core) (o : ℕ) (is : c ≡ now) (h : StateInvariant c) (room 
   confirm_comes at_confirm after t table e answer ends = elim (done_or after.walk.phase) [
     | inl done ↦
         subst (StepGives table) (sym (ends ∙ ap ending done))
-        (confirm_gives_done at_confirm after.walk t.same t.confirms t.kept done table (led_table after after.walk op.outcome (t.done done) table e))
+        (confirm_gives_done at_confirm t.stable after.walk t.same t.confirms t.kept done table (led_table after after.walk op.outcome (t.done done) table e))
     | inr other ↦
         subst (StepGives table) (sym (ends ∙ other_moves after.walk.phase other))
-        (confirm_gives_back at_confirm after.walk t.same t.confirms t.kept other table (led_table after after.walk None (t.goes_on other) table e))
+        (confirm_gives_back at_confirm t.stable after.walk t.same t.confirms t.kept other table (led_table after after.walk None (t.goes_on other) table e))
   ]
 
   -- who is about to look may do so

@@ -36,6 +36,7 @@ use Rattle.mt_insert.specs.Splitting.{last_of, IsAmong, HoldsSplits, IsAtSplitMo
 use Rattle.mt_insert.specs.SplitMoves.{walk_at, Starts, after_parting, Returns}
 use Rattle.mt_state.specs.declared.moves.Move.TheVariants.{Moved, Done as DoneMove}
 use Rattle.mt_state.specs.Views.{Core, shown}
+use Rattle.mt_state.specs.Phases.{Leads}
 use Rattle.mt_state.specs.Kept.{IsSplitStarting, IsSplitMoving, IsUnlocking, MayUnlock, IsKeptAt, has_splits}
 use Rattle.mt_state.specs.Invariant.{HoldsLast, StateInvariant}
 use Rattle.mt_state.specs.Writes.{MovesNoPair, GivesBack, PartsKeys, PartsWith, PartsWithout, splitting as split_core}
@@ -49,6 +50,7 @@ use Rattle.mt_core.specs.Points.{AreBelow, IsFresh, above, HasMade, Nears, Steps
 use Rattle.mt_core.proofs.Points.{point_first, point_at, below_at, few_at, nears_by}
 use Rattle.mt_core.proofs.Climbing.{Stays, stays_same, IsBare, LeavesNodes, each_set, each_pushed, pushed_at, touches, stood, versions, unremoved, stays_below}
 use Rattle.mt_core.proofs.Following.{next_here, Writes, IsOver, over_first, over_next, opened, may_over, made}
+use Rattle.mt_core.proofs.Leading.{leads_over, done_from}
 
 -- a right half is made of a node that the operation holds
 module _ (c : Core) (o : ℕ) (h : StateInvariant c) (k low : ℕ) (held : IsHeld c.arena k o) where
@@ -294,11 +296,11 @@ module _ (c now : Core) (o : ℕ) (is : c ≡ now) (h : StateInvariant c) (few :
   standing p next = next_here c now o (λ q. q ≡ p) is next
 
   -- a step that moves the operation, and one that ends it
-  moves_on : (new : Core) → Gives (shown c) new o false → Nears c new o Moved → StateInvariant new × StepsOn now new o Moved
-  moves_on new gives nears = (gives.0, subst (λ (v : Core). StepsOn v new o Moved) is (record { tells = gives.1; nears = nears }))
+  moves_on : (new : Core) → Gives (shown c) new o false → Nears c new o Moved → Leads (shown c) (shown new) o → StateInvariant new × StepsOn now new o Moved
+  moves_on new gives nears leads = (gives.0, subst (λ (v : Core). StepsOn v new o Moved) is (record { tells = gives.1; nears = nears; leads = leads }))
 
-  ends_it : (new : Core) → Gives (shown c) new o true → StateInvariant new × StepsOn now new o DoneMove
-  ends_it new gives = (gives.0, subst (λ (v : Core). StepsOn v new o DoneMove) is (record { tells = gives.1; nears = tt }))
+  ends_it : (new : Core) → Gives (shown c) new o true → Leads (shown c) (shown new) o → StateInvariant new × StepsOn now new o DoneMove
+  ends_it new gives leads = (gives.0, subst (λ (v : Core). StepsOn v new o DoneMove) is (record { tells = gives.1; nears = tt; leads = leads }))
 
   -- where its splits were taken out, for others
   module _ (p : Phase) (next : IsNext now o (λ q. q ≡ p)) (table : Table) (s : Splits) (takes : Writes c.table table o (λ x. with_splits x s)) where
@@ -348,7 +350,8 @@ module _ (c now : Core) (o : ℕ) (is : c ≡ now) (h : StateInvariant c) (few :
             let opens = opened_after SplitStart next table s takes y there_y in
             let over = over_moved SplitStart next table s takes mid t gives last w moves in
             subst (λ (k : Kept). StateInvariant (made c arena k c.accounts last) × StepsOn now (made c arena k c.accounts last) o Moved) (sym same)
-            (moves_on (made c arena c.tape c.accounts last) (start_made c o h few_here n.0 n.1 n.2 arena w s t y opens starts last over) (start_nears c o h few_here n.0 n.1 n.2 arena w s t y opens starts last over))
+            (moves_on (made c arena c.tape c.accounts last) (start_made c o h few_here n.0 n.1 n.2 arena w s t y opens starts last over) (start_nears c o h few_here n.0 n.1 n.2 arena w s t y opens starts last over)
+            (leads_over c o h n.0 n.1 SplitStart n.2 c refl arena c.tape c.accounts last _ over w (inl (subst (λ (z : Operation). w ≡ walk_at SplitMove z.walk) (sym opens) starts.walk)) refl))
 
         -- there was no memory for it
         module _ (bare : Table) (drops : Writes mid bare o with_nothing_ready) where
@@ -362,8 +365,10 @@ module _ (c now : Core) (o : ℕ) (is : c ≡ now) (h : StateInvariant c) (few :
               → Writes bare last o (λ x. noted (moved x (c.steps + 1) w) (Some told)) → StateInvariant (made c arena tape c.accounts last) × StepsOn now (made c arena tape c.accounts last) o DoneMove
           start_stops back releases unsplit told says last moves =
               let n = standing SplitStart next in
-              ends_it (made c arena tape c.accounts last) (start_stopped c o h few_here n.0 n.1 n.2 arena tape w s t y (opened_after SplitStart next table s takes y there_y) back releases unsplit told says last
-              (over_next c.table bare last o (λ x. noted (moved x (c.steps + 1) w) (Some told)) (with_nothing_ready (with_splits (with_splits n.0 s) t)) over_bare moves))
+              let opens = opened_after SplitStart next table s takes y there_y in
+              let over = over_next c.table bare last o (λ x. noted (moved x (c.steps + 1) w) (Some told)) (with_nothing_ready (with_splits (with_splits n.0 s) t)) over_bare moves in
+              ends_it (made c arena tape c.accounts last) (start_stopped c o h few_here n.0 n.1 n.2 arena tape w s t y opens back releases unsplit told says last over)
+              (leads_over c o h n.0 n.1 SplitStart n.2 c refl arena tape c.accounts last _ over w (inr (subst (λ (z : Operation). w ≡ walk_done z.walk) (sym opens) back.walk)) refl)
 
   -- where what it has ready was taken out, to part the keys
   module _ (next : IsNext now o (λ q. q ≡ SplitMove)) where
@@ -401,6 +406,13 @@ module _ (c now : Core) (o : ℕ) (is : c ≡ now) (h : StateInvariant c) (few :
           over_parted : IsOver c.table last o (noted (moved (with_nothing_ready (standing SplitMove next).0) (c.steps + 1) w) (Some told))
           over_parted = over_next c.table table last o (λ x. noted (moved x (c.steps + 1) w) (Some told)) (with_nothing_ready (standing SplitMove next).0) over_taken moves
 
+          -- the walk goes on by the node behind the halves
+          parts_leads : w ≡ walk_at (after_parting (at c.arena y.walk.place.node).next) y.walk → Leads (shown c) (shown (made c arena tape accounts last)) o
+          parts_leads goes =
+              let n = standing SplitMove next in
+              leads_over c o h n.0 n.1 SplitMove n.2 c refl arena tape accounts last _ over_parted w
+              (subst (λ (z : Operation). w ≡ walk_at (after_parting (at c.arena z.walk.place.node).next) z.walk) (sym opened_move) goes) refl
+
           -- the keys were parted with the new pair
           pub move_with : IsArena c.arena.nodes c.arena.trees → PartsWith c o y arena tape accounts w prepared.row → told ≡ record { reply = New; at = c.steps + 1 }
               → StateInvariant (made c arena tape accounts last) × StepsOn now (made c arena tape accounts last) o Moved
@@ -408,6 +420,7 @@ module _ (c now : Core) (o : ℕ) (is : c ≡ now) (h : StateInvariant c) (few :
               let n = standing SplitMove next in
               moves_on (made c arena tape accounts last) (parts_with c o h few_here n.0 n.1 n.2 arena tape accounts w y opened_move told last over_parted is_arena prepared.row parts says)
               (parts_nears c o h few_here n.0 n.1 n.2 arena tape accounts w y opened_move told last over_parted _ parts.is parts.parts.walk parts.parts.guarantee)
+              (parts_leads parts.parts.walk)
 
           -- and without it
           pub move_without : accounts ≡ c.accounts → PartsWithout c o y arena tape w → told ≡ record { reply = Full; at = c.steps + 1 }
@@ -416,6 +429,7 @@ module _ (c now : Core) (o : ℕ) (is : c ≡ now) (h : StateInvariant c) (few :
               let n = standing SplitMove next in
               moves_on (made c arena tape accounts last) (parts_without c o h few_here n.0 n.1 n.2 arena tape accounts w y opened_move told last over_parted same parts says)
               (parts_nears c o h few_here n.0 n.1 n.2 arena tape accounts w y opened_move told last over_parted _ parts.is parts.parts.walk parts.parts.guarantee)
+              (parts_leads parts.parts.walk)
 
   -- where its splits were taken out, to give all locks back
   module _ (next : IsNext now o (λ q. q ≡ Unlock)) (told : (x : Operation) → operation_at now.table o ≡ Some x → x.outcome ≢ None)
@@ -438,5 +452,7 @@ module _ (c now : Core) (o : ℕ) (is : c ≡ now) (h : StateInvariant c) (few :
             → StateInvariant (made c arena c.tape c.accounts last) × StepsOn now (made c arena c.tape c.accounts last) o DoneMove
         return_steps arena w returns ends same step contents unsplit nothing last moves =
             let n = standing Unlock next in
-            ends_it (made c arena c.tape c.accounts last) (returns_made c o h few_here n.0 n.1 n.2 told_here some_here arena w s t was y (opened_after Unlock next table s takes y there_y) (came n.0 n.1) returns ends same step contents unsplit nothing last
-            (over_moved Unlock next table s takes mid t gives last w moves))
+            let opens = opened_after Unlock next table s takes y there_y in
+            let over = over_moved Unlock next table s takes mid t gives last w moves in
+            ends_it (made c arena c.tape c.accounts last) (returns_made c o h few_here n.0 n.1 n.2 told_here some_here arena w s t was y opens (came n.0 n.1) returns ends same step contents unsplit nothing last over)
+            (leads_over c o h n.0 n.1 Unlock n.2 c refl arena c.tape c.accounts last _ over w (done_from n.0.outcome n.0.walk w told_here (subst (λ (z : Operation). w ≡ walk_done z.walk) (sym opens) ends)) refl)

@@ -1,17 +1,21 @@
 -- What became of a step of a put whose keys are parted.
-use Rattle.std.specs.Prelude.{◌≡◌, ◌≢◌, ℕ, ◌+◌, ◌<◌, ◌⊎◌, true, [], length, Some}
+use Rattle.std.specs.Prelude.{◌≡◌, ◌≢◌, ℕ, ◌+◌, ◌<◌, ◌⊎◌, true, [], length, Option, Some}
+use Rattle.mt_rows.specs.Rows.{Bytes}
 use Rattle.mt_arena.specs.Contents.{counts}
 use Rattle.mt_arena.specs.Arena.{ArenaView, content_of, Guarantee}
 use Rattle.mt_arena.specs.Accesses.{at}
 use Rattle.mt_operation.specs.declared.walk.Phase.TheVariants.{LockParent}
 use Rattle.mt_operation.specs.declared.walk.Walk.{Walk}
 use Rattle.mt_operation.specs.declared.splits.Splits.{Splits}
+use Rattle.mt_operation.specs.declared.outcome.Outcome.{Outcome}
+use Rattle.mt_operation.specs.Operations.{splits_of}
 use Rattle.mt_descent.specs.Moves.{Continues}
-use Rattle.mt_insert.specs.Splitting.{HoldsSplits, KeptSplit}
+use Rattle.mt_insert.specs.Splitting.{last_of, HoldsSplits, KeptSplit}
 use Rattle.mt_state.specs.Steps.{MayFollow}
 use Rattle.mt_state.specs.Promises.{Touches, IsToGrow}
 use Rattle.mt_state.specs.Invariant.{IsCountedUpTo, IsUnremoved}
 use Rattle.mt_state.specs.Writes.{HasPairsOf}
+use Rattle.mt_state.specs.Phases.{LeadsTo}
 use Rattle.mt_core.specs.Points.{IsAtPoint}
 use Rattle.mt_core.specs.declared.climbs.Climbed.{Climbed}
 use Rattle.mt_core.specs.declared.climbs.Climbed.TheVariants.{On, Blocked, NoMemory}
@@ -25,6 +29,7 @@ pub record ClimbsOn (op : ℕ) (old new : ArenaView) (before after : Walk) (s t 
   pub versions : (steps : ℕ) → ((k : ℕ) → k < length old.nodes → IsCountedUpTo steps (at old k)) → (k : ℕ) → k < length new.nodes → IsCountedUpTo steps (at new k)
   pub unremoved : IsUnremoved old → IsUnremoved new
   pub follows : MayFollow before.phase after.phase
+  pub leads : (step : ℕ) (key : Bytes) (told : Option Outcome) → LeadsTo before.phase old new op step key told (splits_of s) before after
   pub same : Continues before after
   pub kept : KeptSplit after.phase new op t
   pub some : t.halves.items ≢ []
@@ -41,5 +46,5 @@ pub record AreSame (s t : Splits) : Type 0 where
 abbrev pub TellsClimbed : ℕ → ArenaView → ArenaView → Walk → Walk → Splits → Splits → Climbed → Type 0
 TellsClimbed op old new before after s t On = ClimbsOn op old new before after s t
 TellsClimbed op old new before after s t (Blocked holder) = (new ≡ old) × (after ≡ before) × (t ≡ s) × (before.phase ≡ LockParent)
-    × (parent : ℕ) × (parent < length old.nodes) × ((at old parent).holder ≡ Some holder) × (HoldsSplits old op s → holder ≢ op)
+    × (parent : ℕ) × ((at old (last_of s).left).parent ≡ Some parent) × (parent < length old.nodes) × ((at old parent).holder ≡ Some holder) × (HoldsSplits old op s → holder ≢ op)
 TellsClimbed op old new before after s t NoMemory = (new ≡ old) × (after ≡ before) × AreSame s t × IsToGrow before.phase

@@ -1,5 +1,5 @@
 -- What became of a step of an operation that makes a layer.
-use Rattle.std.specs.Prelude.{◌≡◌, ℕ, ◌+◌, Result, Ok, Err}
+use Rattle.std.specs.Prelude.{◌≡◌, ℕ, ◌+◌, Option, Result, Ok, Err}
 use Rattle.std.specs.declared.alloc.AllocError.{AllocError}
 use Rattle.mt_rows.specs.Rows.{Bytes}
 use Rattle.mt_arena.specs.Edits.{unlocked}
@@ -8,14 +8,18 @@ use Rattle.mt_arena.specs.Accesses.{at, with_node}
 use Rattle.mt_operation.specs.declared.walk.Phase.TheVariants.{MakeLayer}
 use Rattle.mt_operation.specs.declared.walk.Walk.{Walk}
 use Rattle.mt_operation.specs.declared.splits.Splits.{Splits}
+use Rattle.mt_operation.specs.declared.outcome.Outcome.{Outcome}
+use Rattle.mt_operation.specs.Operations.{SplitsView}
 use Rattle.mt_descent.specs.Moves.{Continues}
 use Rattle.mt_insert.specs.Moves.{walk_done}
 use Rattle.mt_state.specs.Writes.{BuildsLayer}
+use Rattle.mt_state.specs.Phases.{LeadsTo}
 use Rattle.mt_core.specs.Points.{IsAtPoint}
 
 -- the step was made: a layer came one step nearer, and it brings on whom nobody is in the way of
 pub record BuildsOn (o : ℕ) (old new : ArenaView) (key : Bytes) (before after : Walk) : Type 0 where
   pub builds : BuildsLayer o old new key before after
+  pub leads : (step : ℕ) (told : Option Outcome) (s : SplitsView) → LeadsTo before.phase old new o step key told s before after
   pub nears : (height made : ℕ) (s : Splits) → IsAtPoint height made old before s → IsAtPoint height (made + 1) new after s
 
 -- there is no memory for the tree: the lock was given back

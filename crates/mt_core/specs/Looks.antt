@@ -5,6 +5,7 @@ use Rattle.mt_rows.specs.Commands.{HasColumns}
 use Rattle.mt_rows.specs.Maps.{is_get}
 use Rattle.mt_rows.specs.declared.reply.Reply.TheVariants.{Absent, NoMemory}
 use Rattle.mt_border.specs.declared.entry.Find.{Find}
+use Rattle.mt_version.specs.Changes.{IsStable}
 use Rattle.mt_arena.specs.Arena.{ArenaView}
 use Rattle.mt_arena.specs.Accesses.{at}
 use Rattle.mt_operation.specs.declared.walk.Phase.{Phase}
@@ -19,16 +20,18 @@ use Rattle.mt_descent.specs.Pasts.{Past, IsNow}
 use Rattle.mt_descent.specs.Kept.{IsKept, IsAtBorder, IsAtLoad, IsAtConfirm}
 use Rattle.mt_descent.specs.Moves.{Continues, FindsIn, Loads, Confirms, after_search}
 use Rattle.mt_operation.specs.Tasks.{ask}
+use Rattle.mt_operation.specs.Operations.{SplitsView, splits_of}
 use Rattle.mt_state.specs.Promises.{IsInTheWay}
 use Rattle.mt_state.specs.Notes.{Says}
 use Rattle.mt_state.specs.Ways.{IsDescent, Descends, ShowsTaken}
+use Rattle.mt_state.specs.Phases.{LeadsTo}
 use Rattle.mt_state.specs.Invariant.{IsUnremoved}
 use Rattle.mt_core.specs.Points.{IsAtPoint}
 
 -- what a step makes of an operation that holds nothing, where nobody is in its way; else it is as it was
 abbrev pub Looks : ArenaView → (Operation → Operation → Type 0) → Operation → Made → Operation → Type 0
 Looks v Tells op Step after = Tells op after
-Looks v Tells op (Blocked holder) after = IsInTheWay v op.walk.phase holder × (after ≡ op)
+Looks v Tells op (Blocked holder) after = IsInTheWay v op.walk.phase op.walk (splits_of op.splits) holder × (after ≡ op)
 Looks v Tells op Nothing after = ⊥
 
 -- an operation has walked on, and has this outcome or none; all else of it is as it was
@@ -56,8 +59,9 @@ pub record MayConfirm (v : ArenaView) (op : Operation) : Type 0 where
   pub phase : op.walk.phase ≡ Confirm
   pub kept : IsAtBorder v op.task.key op.walk
 
--- a step down: the walk goes on, and comes nearer
+-- a step down: the walk goes on where the table of phases says, and comes nearer
 pub record TellsDescended (v : ArenaView) (op after : Operation) : Type 0 where
+  pub leads : (o step : ℕ) (told : Option Outcome) (s : SplitsView) → LeadsTo op.walk.phase v v o step op.task.key told s op.walk after.walk
   pub goes : Descends op.walk after.walk
   pub nears : (height made : ℕ) (splits : Splits) → IsAtPoint height made v op.walk splits → IsAtPoint height (made + 1) v after.walk splits
   pub kept : (past : Past) → IsKept v past op.task.key None after.walk
@@ -81,6 +85,7 @@ pub record TellsLoaded (v : ArenaView) (step : ℕ) (op after : Operation) : Typ
 
 -- a confirmation: what was noted is answered where the get is done, and is forgotten where it goes on
 pub record TellsConfirmed (v : ArenaView) (op after : Operation) : Type 0 where
+  pub stable : IsStable (at v op.walk.place.node).version
   pub confirms : Confirms (at v op.walk.place.node) op.walk after.walk
   pub same : Continues op.walk after.walk
   pub kept : (past : Past) (row : Option Columns) → IsAtConfirm v past op.task.key row op.walk → IsKept v past op.task.key row after.walk

@@ -14,6 +14,7 @@ use Rattle.mt_state.specs.declared.moves.Move.{Move}
 use Rattle.mt_state.specs.declared.moves.Move.TheVariants.{Moved}
 use Rattle.mt_state.specs.Views.{Core, shown}
 use Rattle.mt_state.specs.Promises.{Tells}
+use Rattle.mt_state.specs.Phases.{LeadsOn}
 
 -- every node stands on a level below this one
 abbrev pub AreBelow : ArenaView → ℕ → Type 0
@@ -109,7 +110,8 @@ abbrev pub Nears : Core → Core → ℕ → Move → Type 0
 Nears old new o Moved = (height made : ℕ) → IsUnhindered old o height made → IsUnhindered new o height (made + 1)
 Nears old new o answer = Unit {0}
 
--- what a step answers, and that it brings on whom nobody is in the way of
+-- what a step answers, where it leads, and that it brings on whom nobody is in the way of
 pub record StepsOn (old new : Core) (o : ℕ) (answer : Move) : Type 0 where
   pub tells : Tells (shown old) (shown new) o answer
   pub nears : Nears old new o answer
+  pub leads : LeadsOn (shown old) (shown new) o answer

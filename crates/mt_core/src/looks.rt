@@ -13,6 +13,9 @@ ghost use Rattle.mt_state.specs.Notes.{columns_asked};
 ghost use Rattle.mt_state.specs.Ways.{IsDescent, Descends};
 ghost use Rattle.mt_state.specs.Invariant.{IsUnremoved};
 ghost use Rattle.mt_operation.specs.declared.splits.Splits.{Splits as AnySplits};
+ghost use Rattle.mt_operation.specs.declared.outcome.Outcome.{Outcome as AnyOutcome};
+ghost use Rattle.mt_operation.specs.Operations.{SplitsView};
+ghost use Rattle.mt_state.specs.Phases.{LeadsTo};
 ghost use Rattle.mt_core.specs.Looks.{Looks, LooksAt, MayLook, MayDescend, MaySearch, MayLoad, MayConfirm, TellsDescended, TellsSearched, TellsLoaded, TellsConfirmed};
 ghost use Rattle.mt_core.specs.Points.{IsAtPoint};
 
@@ -64,7 +67,8 @@ fn go_down(arena: &Arena, key: &StoredKey, walk: &mut Walk, phase: Phase) -> Opt
     requires descends { IsDescent phase }
     requires kept { (past : Past) × IsKept arena.now past key.now None walk.old }
     requires unremoved { IsUnremoved arena.now }
-    ensures again { IfSome result (λ holder. IsInTheWay arena.now walk.old.phase holder × (walk.new ≡ walk.old)) }
+    ensures again { (s : SplitsView) → IfSome result (λ holder. IsInTheWay arena.now walk.old.phase walk.old s holder × (walk.new ≡ walk.old)) }
+    ensures leads { (o step : ℕ) (told : Option AnyOutcome) (s : SplitsView) → IfNone result (LeadsTo walk.old.phase arena.now arena.now o step key.now told s walk.old walk.new) }
     ensures goes { IfNone result (Descends walk.old walk.new) }
     ensures nears { (height made : ℕ) (splits : AnySplits) → IfNone result (IsAtPoint height made arena.now walk.old splits → IsAtPoint height (made + 1) arena.now walk.new splits) }
     ensures kept { (past : Past) → IfNone result (IsKept arena.now past key.now None walk.new) }

@@ -9,6 +9,7 @@ ghost use Rattle.mt_rows.specs.Accounts.{account_of};
 ghost use Rattle.mt_rows.specs.Tenants.{tenant_map};
 ghost use Rattle.mt_state.specs.Views.{op_at, contents_of};
 ghost use Rattle.mt_state.specs.Promises.{Tells};
+ghost use Rattle.mt_state.specs.Phases.{LeadsOn};
 ghost use Rattle.mt_state.specs.Begins.{new_state, HaveNoPairs, IsWorker, MayBegin};
 ghost use Rattle.mt_core.specs.Tickets.{TellsBegin, TellsTake, TellsCancel, TellsRefusal};
 ghost use Rattle.mt_core.specs.Admitted.{MayAdmit, TellsAdmitted, RefusesOpening};
@@ -196,9 +197,11 @@ impl State {
         self.inner.tidy_into(displaced);
     }
 
-    /// Makes one step of an operation, which leaves every other tenant's map as it was.
+    /// Makes one step of an operation, which leads where the table of phases says, and leaves every other
+    /// tenant's map as it was.
     pub fn step(&mut self, ticket: &Ticket) -> Move
         ensures tells { Tells self.old self.new ticket.now.id result }
+        ensures leads { LeadsOn self.old self.new ticket.now.id result }
         ensures tenants { (op : OperationView) (t : ℕ) → op_at self.old.table ticket.now.id ≡ Some op → t ≢ op.tenant → tenant_map t (contents_of self.new) ≡ tenant_map t (contents_of self.old) }
     {
         self.inner.step(ticket.id)

@@ -84,12 +84,11 @@ after_child w seen = record w { child_seen = seen; phase = Verify }
 abbrev pub walk_reseen : Walk → Parts → Walk
 walk_reseen w now = record w { place = record w.place { seen = now }; phase = Pick }
 
--- after Verify: on to the child where the version is the same but for the lock; anew where the node was deleted or split; else Pick again, where the
--- node is unmarked
+-- after Verify: on to the child where the version is the same but for the lock; anew where the node was deleted or split; else Pick again
 pub record Verifies (n : NodeView) (before after : Walk) : Type 0 where
   pub same : SameButLock n.version before.place.seen → after ≡ walk_onto before before.child before.child_seen
   pub outdated : ¬ SameButLock n.version before.place.seen → IsOutdated n before.place.seen → after ≡ walk_anew before
-  pub changed : ¬ SameButLock n.version before.place.seen → ¬ IsOutdated n before.place.seen → IsStable n.version × (after ≡ walk_reseen before n.version)
+  pub changed : ¬ SameButLock n.version before.place.seen → ¬ IsOutdated n before.place.seen → after ≡ walk_reseen before n.version
 
 -- what a search of the node for the key finds
 abbrev pub FindsIn : NodeView → Bytes → ℕ → Find → Type 0

@@ -69,13 +69,10 @@ fn into(walk: &mut Walk, tree: usize, layer: usize)
     walk.phase = Phase::Enter;
 }
 
-/// Reads the tree's record and its root's version, and remembers it. A dead tree leads to the top one,
-/// whatever its old root is marked with.
+/// Reads the tree's record and its root's version, and remembers it. A dead tree leads to the top one.
 pub fn enter(arena: &Arena, key: &StoredKey, walk: &mut Walk) -> Option<usize>
     requires kept { IsAtEnter arena.now key.now walk.old }
-    ensures dead { (tree_at arena.now.trees walk.old.place.tree).standing ≡ Standing.Dead → IsNone result }
-    ensures again { let tree = tree_at arena.now.trees walk.old.place.tree in
-        tree.standing ≢ Standing.Dead → AnswersAgain (at arena.now tree.root) walk.old walk.new result }
+    ensures again { AnswersAgain (at arena.now (tree_at arena.now.trees walk.old.place.tree).root) walk.old walk.new result }
     ensures is { let tree = tree_at arena.now.trees walk.old.place.tree in
         IfNone result (walk.new ≡ after_enter tree.standing walk.old tree.root (at arena.now tree.root).version) }
     ensures same { Continues walk.old walk.new }
@@ -83,15 +80,15 @@ pub fn enter(arena: &Arena, key: &StoredKey, walk: &mut Walk) -> Option<usize>
 {
     arena.facts();
     let tree = arena.tree(walk.place.tree);
-    if tree.standing == Standing::Dead {
-        into(walk, 0, 0);
-        return None;
-    }
     let root = arena.node(tree.root);
     if let Some(holder) = blocker(root) {
         return Some(holder);
     }
-    onto(walk, tree.root, root.version());
+    if tree.standing == Standing::Dead {
+        into(walk, 0, 0);
+    } else {
+        onto(walk, tree.root, root.version());
+    }
     None
 }
 
@@ -127,17 +124,19 @@ pub fn child(arena: &Arena, key: &StoredKey, walk: &mut Walk) -> Option<usize>
 }
 
 /// Compares the interior node's version with the remembered one: where it stands, the walk goes on
-/// at the child. A node that was deleted or split is waited for no more.
+/// at the child; where the node was deleted or split, it begins anew.
 pub fn verify(arena: &Arena, key: &StoredKey, walk: &mut Walk) -> Option<usize>
     requires kept { IsAtVerify arena.now key.now walk.old }
-    ensures again { IfSome result (λ holder. (walk.new ≡ walk.old) × IsBlocked (at arena.now walk.old.place.node) holder) }
-    ensures not_outdated { IfSome result (λ holder. ¬ IsOutdated (at arena.now walk.old.place.node) walk.old.place.seen) }
+    ensures again { AnswersAgain (at arena.now walk.old.place.node) walk.old walk.new result }
     ensures is { IfNone result (Verifies (at arena.now walk.old.place.node) walk.old walk.new) }
     ensures same { Continues walk.old walk.new }
     ensures kept { (past : Past) (row : Option Columns) → IfNone result (IsKept arena.now past key.now row walk.new) }
 {
     arena.facts();
     let node = arena.node(walk.place.node);
+    if let Some(holder) = blocker(node) {
+        return Some(holder);
+    }
     let now = node.version();
     if now.same_but_lock(walk.place.seen) {
         onto(walk, walk.child, walk.child_seen);
@@ -146,9 +145,6 @@ pub fn verify(arena: &Arena, key: &StoredKey, walk: &mut Walk) -> Option<usize>
     if is_outdated(node, walk.place.seen) {
         walk.phase = Phase::Enter;
         return None;
-    }
-    if let Some(holder) = blocker(node) {
-        return Some(holder);
     }
     walk.place.seen = now;
     walk.phase = Phase::Pick;

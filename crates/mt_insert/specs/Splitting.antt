@@ -18,6 +18,7 @@ use Rattle.mt_operation.specs.declared.task.Task.{Task}
 use Rattle.mt_operation.specs.declared.prepared.Prepared.{Prepared}
 use Rattle.mt_operation.specs.declared.splits.Halves.{Halves}
 use Rattle.mt_operation.specs.declared.splits.Splits.{Splits}
+use Rattle.mt_operation.specs.Operations.{SplitsView}
 use Rattle.mt_descent.specs.Kept.{GoesThrough}
 use Rattle.mt_insert.specs.Puts.{IsReady}
 
@@ -27,6 +28,10 @@ halves_at halves i = slice_index_or halves i (record { left = 0; right = 0 })
 
 abbrev pub last_of : Splits → Halves
 last_of s = halves_at s.halves.items (length s.halves.items - 1)
+
+-- the same of what is shown of splits
+abbrev pub last_half : SplitsView → Halves
+last_half s = halves_at s.halves (length s.halves - 1)
 
 -- the node is a half of one of these splits, and it is one of all nodes that the operation holds
 pub record IsHalf (halves : List Halves) (k : ℕ) : Type 0 where

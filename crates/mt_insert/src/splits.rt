@@ -256,6 +256,7 @@ pub fn lock_parent(
 ) -> Option<usize>
     requires kept { IsAtLockParent arena.old operation splits.old }
     ensures again { IfSome result (λ holder. (parent : ℕ) × ((at arena.old (last_of splits.old).left).parent ≡ Some parent) × ((at arena.old parent).holder ≡ Some holder)) }
+    ensures waits { (parent : ℕ) → (at arena.old (last_of splits.old).left).parent ≡ Some parent → result ≡ (at arena.old parent).holder }
     ensures unchanged { IfSome result (λ holder. (arena.new ≡ arena.old) × (walk.new ≡ walk.old) × (splits.new ≡ splits.old)) }
     ensures another { HoldsSplits arena.old operation splits.old → IfSome result (λ holder. holder ≢ operation) }
     ensures is { (parent : ℕ) → (at arena.old (last_of splits.old).left).parent ≡ Some parent →

@@ -1,5 +1,5 @@
 -- An operation between its steps: what is shown of it, and what each change makes of it.
-use Rattle.std.specs.Prelude.{◌≡◌, ℕ, [], Bool, true, false, not, ◌==◌, if◌then◌else◌, Option, Some, None}
+use Rattle.std.specs.Prelude.{◌≡◌, ℕ, List, [], Bool, true, false, not, ◌==◌, if◌then◌else◌, Option, Some, None}
 use Rattle.mt_rows.specs.declared.command.Command.{Command}
 use Rattle.mt_rows.specs.Maps.{is_get}
 use Rattle.mt_operation.specs.declared.walk.Phase.{Phase}
@@ -8,13 +8,28 @@ use Rattle.mt_operation.specs.declared.walk.Walk.{Walk}
 use Rattle.mt_operation.specs.declared.task.Task.{Task}
 use Rattle.mt_operation.specs.declared.outcome.Outcome.{Outcome}
 use Rattle.mt_operation.specs.declared.prepared.Prepared.{Prepared}
+use Rattle.mt_operation.specs.declared.splits.Halves.{Halves}
 use Rattle.mt_operation.specs.declared.splits.Splits.{Splits}
 use Rattle.mt_operation.specs.declared.operation.Operation.{Operation}
 use Rattle.mt_operation.specs.Tasks.{ask}
 use Rattle.mt_operation.specs.Walks.{walk_from_top}
 
+-- what is shown of splits: the halves from the lowest level up, the node above the last ones once it is locked, and how many children of the last right
+-- half name it already
+pub record SplitsView : Type 0 where
+  pub halves : List Halves
+  pub above : Option ℕ
+  pub moved : ℕ
+
+abbrev pub splits_of : Splits → SplitsView
+splits_of s = record { halves = s.halves.items; above = s.above; moved = s.moved }
+
+-- nothing is split
+abbrev pub no_splits : SplitsView
+no_splits = record { halves = []; above = None; moved = 0 }
+
 -- what is shown of an operation: whose command it is, the numbers of its first and last step so far, 0 where it has made none, what its next step
--- does, and what it answers, once that is known
+-- does, what it answers, once that is known, what it remembers of its way, and what it has split
 pub record OperationView : Type 0 where
   pub worker : ℕ
   pub tenant : ℕ
@@ -23,6 +38,8 @@ pub record OperationView : Type 0 where
   pub last : ℕ
   pub phase : Phase
   pub outcome : Option Outcome
+  pub walk : Walk
+  pub splits : SplitsView
 
 abbrev pub view_of : Operation → OperationView
 view_of op = record {
@@ -33,6 +50,8 @@ view_of op = record {
   last = op.last;
   phase = op.walk.phase;
   outcome = op.outcome;
+  walk = op.walk;
+  splits = splits_of op.splits;
 }
 
 -- no step is left at this phase

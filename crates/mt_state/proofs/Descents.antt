@@ -50,7 +50,7 @@ verified n w after e v = subst (λ (p : Phase). Leads p after.phase after.writes
   | inl same ↦ subst (λ (x : Walk). Leads Verify x.phase x.writes) (sym (v.same same)) (arrives Verify tt tt tt w.child_seen.border w.writes)
   | inr other ↦ elim (outdated_or_not n w.place.seen) [
     | inl outdated ↦ subst (λ (x : Walk). Leads Verify x.phase x.writes) (sym (v.outdated other outdated)) (tt, tt, tt)
-    | inr whole ↦ subst (λ (x : Walk). Leads Verify x.phase x.writes) (sym (v.changed other whole).1) (tt, tt, tt)
+    | inr whole ↦ subst (λ (x : Walk). Leads Verify x.phase x.writes) (sym (v.changed other whole)) (tt, tt, tt)
   ]
 ])
 

@@ -1,5 +1,5 @@
 -- One get of a new state, step by step, each as it may be: for `a_get_of_a_new_state_is_told_of_no_row`.
-use Rattle.std.proofs.Common.{◌≡◌, ◌≢◌, ℕ, zero, suc, ◌+◌, inl, inr, ◌⊎◌, Bool, true, false, cond, eqb, [], ◌∷◌, Option, Some, None, is_some, refl, sym, ap, ◌∙◌, arith}
+use Rattle.std.proofs.Common.{◌≡◌, ◌≢◌, ℕ, zero, suc, ◌+◌, ◌<◌, slice_index, inl, inr, ◌⊎◌, Bool, true, false, cond, eqb, [], ◌∷◌, Option, Some, None, is_some, refl, sym, ap, ◌∙◌, arith}
 use Rattle.std.proofs.lemmas.Bool.{ne_eqb}
 use Rattle.std.proofs.lemmas.Option.{same_Some}
 use Rattle.mt_rows.specs.declared.tenants.Account.{Account}
@@ -12,10 +12,14 @@ use Rattle.mt_rows.specs.declared.reply.Reply.TheVariants.{Found, NoMemory}
 use Rattle.mt_rows.specs.Rows.{Columns}
 use Rattle.mt_rows.specs.Maps.{is_get}
 use Rattle.mt_runs.specs.Runs.{Asked, story_of, first_of}
-use Rattle.mt_runs.specs.WrongRuns.{get_k}
+use Rattle.mt_runs.specs.WrongRuns.{key_k, get_k}
+use Rattle.mt_slices.specs.Keys.{stored_key}
+use Rattle.mt_border.proofs.ContentsKeys.{in_top_tree}
+use Rattle.mt_arena.specs.Accesses.{new_arena}
 use Rattle.mt_operation.specs.declared.walk.Phase.TheVariants.{Search, Confirm, Done}
 use Rattle.mt_operation.specs.declared.outcome.Outcome.{Outcome}
 use Rattle.mt_operation.specs.Operations.{OperationView, is_done}
+use Rattle.mt_descent.specs.Kept.{GoesThrough}
 use Rattle.mt_state.specs.Views.{StateView, op_at, quota_of}
 use Rattle.mt_state.specs.Steps.{HasMoved, change_in}
 use Rattle.mt_state.specs.Notes.{Notes}
@@ -35,6 +39,23 @@ alone stands q = cond (eqb 1 q) (Some stands) None
 
 alone_other : (stands : Option ℕ) (q : ℕ) → q ≢ 1 → alone stands q ≡ None
 alone_other stands q ne = ap (λ b. cond b (Some stands) None) (ne_eqb 1 q (λ is. ne (sym is)))
+
+-- its stored key goes through the top tree
+k_bytes : (i : ℕ) → slice_index (stored_key 7 key_k) i < 256
+k_bytes zero = omega arith
+k_bytes (suc zero) = omega arith
+k_bytes (suc (suc zero)) = omega arith
+k_bytes (suc (suc (suc zero))) = omega arith
+k_bytes (suc (suc (suc (suc zero)))) = omega arith
+k_bytes (suc (suc (suc (suc (suc i))))) = omega arith
+
+through_top : GoesThrough new_arena 0 0 (stored_key 7 key_k)
+through_top = record {
+  there = omega arith;
+  unmade = λ q making. absurd (cc);
+  of_tree = in_top_tree (stored_key 7 key_k) (record { has_tenant = omega arith; within = omega arith; are_bytes = k_bytes });
+  begun = omega arith;
+}
 
 module _ (logs : ℕ) (accounts : Accounts) where
   -- a new state after so many steps of one operation
@@ -76,16 +97,16 @@ module _ (logs : ℕ) (accounts : Accounts) where
   at_first = begun 0 7 get_k
 
   abbrev searching : OperationView
-  searching = record at_first { first = 1; last = 1; phase = Search }
+  searching = record at_first { first = 1; last = 1; phase = Search; walk = record at_first.walk { first = 1; phase = Search } }
 
   abbrev absent : Outcome
   absent = record { reply = Absent; at = 2 }
 
   abbrev confirming : OperationView
-  confirming = record searching { last = 2; phase = Confirm; outcome = Some absent }
+  confirming = record searching { last = 2; phase = Confirm; outcome = Some absent; walk = record searching.walk { right_at = 2; phase = Confirm } }
 
   abbrev ended : OperationView
-  ended = record confirming { last = 3; phase = Done }
+  ended = record confirming { last = 3; phase = Done; walk = record confirming.walk { phase = Done } }
 
   -- the key is nowhere
   right : IsAnswer (reached 3 ended) ended absent
@@ -119,7 +140,7 @@ module _ (logs : ℕ) (accounts : Accounts) where
 
   step_2 : IsStep (reached 1 searching) (reached 2 confirming) 0 false
   step_2 = step 1 searching confirming false refl (record { asked = record { worker = refl; tenant = refl; command = refl }; first = refl; last = refl; follows = tt })
-      (record { says = refl; lacks = record { layer = 0; node = 0; there = omega arith; border = refl; from = omega arith; missing = λ slot has. omega (arith, has.in_slot.in_range) } })
+      (record { says = refl; lacks = record { through = through_top; there = omega arith; tree_is = refl; border = refl; from = omega arith; missing = λ slot has. omega (arith, has.in_slot.in_range) } })
       refl refl (λ e. absurd (cc))
 
   step_3 : IsStep (reached 2 confirming) (reached 3 ended) 0 true

@@ -201,6 +201,7 @@ module _ (c : Core) (now : StateView) (o : ℕ) (is : shown c ≡ now) (h : Stat
           row = pair.row;
           number = w.right_at;
           says = shows.some pair.row asked.0 is_row asked.1;
+          from = (in_range, pair, is_held, refl, is_right);
           there = now_row;
           since = omega (arith, is_right);
           made = omega (arith, is_right, stamp.0, always.order, always.made);
@@ -229,9 +230,6 @@ module _ (c : Core) (now : StateView) (o : ℕ) (is : shown c ≡ now) (h : Stat
         | inl last ↦
             let f = loading.found last in
             inl (record {
-              layer = op.walk.layer;
-              node = op.walk.place.node;
-              slot = op.walk.slot;
               there = within;
               in_slot = subst (λ (key : Bytes). IsInSlot node op.walk.slot key op.walk.layer ToTree) key_asked_is
                   (subst (IsInSlot node op.walk.slot op.task.key op.walk.layer) (link_kind (slot_at node op.walk.slot).held tree held f.kind f.leads f.in_slot.kind_is) f.in_slot);

@@ -71,10 +71,13 @@ module _ (c : Core) (op : Operation) (k : IsOpenOperation c op) (w : Walk) where
   open_moved new told prepared = open_moved_with new told prepared op.splits
 
   -- what is shown of it
-  pub has_moved : (told : Option Outcome) (prepared : Option Prepared) → MayFollow op.walk.phase w.phase → HasMoved (view_of op) (view_of (went op (c.steps + 1) w told prepared)) (c.steps + 1)
-  has_moved told prepared follows = record {
+  pub has_moved_with : (told : Option Outcome) (prepared : Option Prepared) (s : Splits) → MayFollow op.walk.phase w.phase → HasMoved (view_of op) (view_of (went_with op (c.steps + 1) w told prepared s)) (c.steps + 1)
+  has_moved_with told prepared s follows = record {
     asked = record { worker = refl; tenant = refl; command = refl };
     first = refl;
     last = refl;
     follows = follows;
   }
+
+  pub has_moved : (told : Option Outcome) (prepared : Option Prepared) → MayFollow op.walk.phase w.phase → HasMoved (view_of op) (view_of (went op (c.steps + 1) w told prepared)) (c.steps + 1)
+  has_moved told prepared = has_moved_with told prepared op.splits

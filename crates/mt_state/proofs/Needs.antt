@@ -15,7 +15,7 @@ use Rattle.mt_operation.specs.declared.splits.Halves.{Halves}
 use Rattle.mt_operation.specs.declared.splits.Splits.{Splits}
 use Rattle.mt_operation.specs.declared.operation.Operation.{Operation}
 use Rattle.mt_operation.specs.Tasks.{ask}
-use Rattle.mt_operation.specs.Operations.{view_of, is_done}
+use Rattle.mt_operation.specs.Operations.{view_of, is_done, splits_of}
 use Rattle.mt_operation.specs.Tables.{op_at as operation_at}
 use Rattle.mt_descent.specs.Kept.{IsAtBorder, KeptAt, HoldsNothing}
 use Rattle.mt_insert.specs.Puts.{IsPut}
@@ -113,7 +113,7 @@ module _ (c : Core) (o : ℕ) (h : StateInvariant c) (op : Operation) (there : o
         unfinished = (view_of f.0, shown_there c.table holder f.0 f.1, holder_open f.0.walk.phase f.0.walk f.0.splits op.walk.place.node f.2);
         op = view_of op;
         there = shown_there c.table o op there;
-        holds = subst (λ (p : Phase). IsInTheWay c.arena p holder) (sym at_lock) (op.walk.place.node, within, held);
+        holds = subst (λ (p : Phase). IsInTheWay c.arena p op.walk (splits_of op.splits) holder) (sym at_lock) (op.walk.place.node, refl, within, held);
       }
 
   -- it holds its border node

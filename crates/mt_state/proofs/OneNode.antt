@@ -36,7 +36,7 @@ use Rattle.mt_state.specs.Invariant.{IsCountedUpTo, IsUnremoved, HoldsAt, StateI
 use Rattle.mt_state.specs.Writes.{HasPairsOf}
 use Rattle.mt_state.proofs.Quiet.{quiet, LeavesPairs, quiet_move, is_quiet}
 use Rattle.mt_state.proofs.Telling.{Gives, gives}
-use Rattle.mt_state.proofs.Moved.{went, went_with, open_moved_with, has_moved}
+use Rattle.mt_state.proofs.Moved.{went, went_with, open_moved_with, has_moved_with}
 use Rattle.mt_state.proofs.Still.{floor_made}
 
 -- what is left of a state by a step of operation o: another arena, tape, accounts, and the operation after it
@@ -245,7 +245,7 @@ module _ (c : Core) (now : StateView) (o : ℕ) (is : shown c ≡ now) (h : Stat
       }))
       (record {
         logs = refl;
-        moves = has_moved c op k.always w told prepared follows;
+        moves = has_moved_with c op k.always w told prepared s follows;
         notes = notes;
         touches = touches;
         effect = inl (is_quiet c o op after arena reserved h leaves same);

@@ -36,7 +36,7 @@ use Rattle.mt_operation.specs.Tasks.{ask}
 use Rattle.mt_operation.specs.Operations.{OperationView, view_of, is_done, moved}
 use Rattle.mt_operation.specs.Tables.{op_at as operation_at}
 use Rattle.mt_descent.specs.Pasts.{Past, IsNow}
-use Rattle.mt_descent.specs.Kept.{IsInSlot, HasSlot, IsAtBorder, KeptAt, IsKept}
+use Rattle.mt_descent.specs.Kept.{GoesThrough, IsInSlot, HasSlot, IsAtBorder, KeptAt, IsKept}
 use Rattle.mt_descent.specs.Moves.{FindsIn, after_search}
 use Rattle.mt_state.specs.Views.{StateView, Core, shown, past_of}
 use Rattle.mt_state.specs.Steps.{MayFollow, told_change}
@@ -249,9 +249,9 @@ module _ (c : Core) (now : StateView) (o : ℕ) (is : shown c ≡ now) (h : Stat
         (subst (λ (p : Phase). Notes (shown c) (view_of op) p w.phase told) (sym at_search) (subst (λ (p : Phase). Notes (shown c) (view_of op) Search p told) (sym confirms) (record {
           says = refl;
           lacks = record {
-            layer = op.walk.layer;
-            node = op.walk.place.node;
+            through = subst (GoesThrough c.arena op.walk.place.tree op.walk.layer) key_asked_is at_border.through;
             there = at_border.covers.remembered.there;
+            tree_is = at_border.covers.remembered.tree_is;
             border = at_border.border;
             from = subst (λ (key : Bytes). (at c.arena op.walk.place.node).low ≤ slice_of key op.walk.layer) key_asked_is at_border.covers.remembered.from;
             missing = subst (λ (key : Bytes). (slot : ℕ) → HasSlot (at c.arena op.walk.place.node) slot key op.walk.layer → ⊥) key_asked_is

@@ -1,13 +1,15 @@
 -- A new state, and what a begin and a take make of a state.
-use Rattle.std.specs.Prelude.{◌≡◌, ◌≢◌, ℕ, ◌+◌, ◌<◌, max, true, [], replicate, Some, None, slice_set}
+use Rattle.std.specs.Prelude.{◌≡◌, ◌≢◌, ℕ, ◌+◌, ◌<◌, max, true, not, [], replicate, Some, None, slice_set}
 use Rattle.mt_rows.specs.declared.command.Command.{Command}
 use Rattle.mt_rows.specs.declared.command.Command.TheVariants.{Get, Put}
 use Rattle.mt_rows.specs.declared.tenants.Account.{Account}
 use Rattle.mt_rows.specs.Accounts.{Accounts, account_of}
+use Rattle.mt_rows.specs.Maps.{is_get}
 use Rattle.mt_runs.specs.declared.event.Answer.{Answer}
 use Rattle.mt_arena.specs.Accesses.{new_arena}
 use Rattle.mt_operation.specs.declared.walk.Phase.TheVariants.{Enter, Done}
-use Rattle.mt_operation.specs.Operations.{OperationView, is_done}
+use Rattle.mt_operation.specs.Walks.{walk_from_top}
+use Rattle.mt_operation.specs.Operations.{OperationView, no_splits, is_done}
 use Rattle.mt_state.specs.Views.{StateView, Shown, op_at}
 use Rattle.mt_state.specs.Promises.{IsAnswer}
 
@@ -39,7 +41,17 @@ MayBegin _ = ⊥
 
 -- an operation before its first step
 abbrev pub begun : ℕ → ℕ → Command → OperationView
-begun worker tenant command = record { worker = worker; tenant = tenant; command = command; first = 0; last = 0; phase = Enter; outcome = None }
+begun worker tenant command = record {
+  worker = worker;
+  tenant = tenant;
+  command = command;
+  first = 0;
+  last = 0;
+  phase = Enter;
+  outcome = None;
+  walk = walk_from_top (not (is_get command)) 0;
+  splits = no_splits;
+}
 
 -- an operation more, at an id that was free; all else is as it was
 pub record Begins (old new : StateView) (o worker tenant : ℕ) (command : Command) : Type 0 where

@@ -12,3 +12,4 @@ pub mod Refused
 pub mod Histories
 pub mod OneGet
 pub mod Writes
+pub mod Phases

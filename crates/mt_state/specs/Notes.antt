@@ -14,9 +14,12 @@ use Rattle.mt_border.specs.declared.entry.FoundKind.TheVariants.{Link}
 use Rattle.mt_tape.specs.declared.entry.Entry.{Entry as TapeEntry}
 use Rattle.mt_tape.specs.Histories.{written_key}
 use Rattle.mt_arena.specs.Accesses.{at}
-use Rattle.mt_descent.specs.Kept.{IsInSlot, HasSlot}
+use Rattle.mt_descent.specs.Kept.{GoesThrough, IsInSlot, HasSlot}
+use Rattle.mt_descent.specs.Moves.{TakesOut}
 use Rattle.mt_operation.specs.declared.walk.Phase.{Phase}
 use Rattle.mt_operation.specs.declared.walk.Phase.TheVariants.{Enter, Search, Load, Confirm, Judge, Store, Publish, SplitStart, SplitMove, SplitPrev, LockParent, InsertChild, InteriorSplit, Reparent, RootGrow, MakeLayer, Unlock, Done}
+use Rattle.mt_operation.specs.declared.walk.Taken.TheVariants.{Row}
+use Rattle.mt_operation.specs.declared.walk.Walk.{Walk}
 use Rattle.mt_operation.specs.declared.outcome.Outcome.{Outcome}
 use Rattle.mt_operation.specs.Operations.{OperationView}
 use Rattle.mt_state.specs.Views.{StateView, contents_of, map_of}
@@ -34,29 +37,26 @@ columns_asked _ = None
 abbrev pub Says : Option Outcome → Reply → ℕ → Type 0
 Says told reply m = told ≡ Some (record { reply = reply; at = m })
 
--- a border node whose range begins at the key or before it has in no slot the key, nor a link for it
-pub record LacksKey (v : StateView) (key : Bytes) : Type 0 where
-  pub layer : ℕ
-  pub node : ℕ
-  pub there : node < length v.arena.nodes
-  pub border : (at v.arena node).level ≡ 0
-  pub from : (at v.arena node).low ≤ slice_of key layer
-  pub missing : (slot : ℕ) → HasSlot (at v.arena node) slot key layer → ⊥
+-- the border node of a walk, in the tree of the key's own first bytes, begins at the key or before it, and has in no slot the key, nor a link for it
+pub record LacksKey (v : StateView) (w : Walk) (key : Bytes) : Type 0 where
+  pub through : GoesThrough v.arena w.place.tree w.layer key
+  pub there : w.place.node < length v.arena.nodes
+  pub tree_is : (at v.arena w.place.node).tree ≡ w.place.tree
+  pub border : (at v.arena w.place.node).level ≡ 0
+  pub from : (at v.arena w.place.node).low ≤ slice_of key w.layer
+  pub missing : (slot : ℕ) → HasSlot (at v.arena w.place.node) slot key w.layer → ⊥
 
--- a border node has a link for the key
-pub record HasLink (v : StateView) (key : Bytes) : Type 0 where
-  pub layer : ℕ
-  pub node : ℕ
-  pub slot : ℕ
-  pub there : node < length v.arena.nodes
-  pub in_slot : IsInSlot (at v.arena node) slot key layer Link
+-- the slot of a walk has a link for the key
+pub record HasLink (v : StateView) (w : Walk) (key : Bytes) : Type 0 where
+  pub there : w.place.node < length v.arena.nodes
+  pub in_slot : IsInSlot (at v.arena w.place.node) w.slot key w.layer Link
 
 -- a get that goes to confirm from its search: its key stood not where it looked, and Absent has this step's number
 pub record NotesAbsent (old : StateView) (op : OperationView) (told : Option Outcome) : Type 0 where
   pub says : Says told replies.Absent (old.steps + 1)
-  pub lacks : LacksKey old (stored_key op.tenant (key_of op.command))
+  pub lacks : LacksKey old op.walk (stored_key op.tenant (key_of op.command))
 
--- What a load shows is what the get asks of one pair's row, which that pair had at this step, and after each step from the reply's number on.
+-- What a load shows is what the get asks of the row of the pair in its slot, which that pair had at this step, and after each step from the reply's number on.
 -- That number is the get's first step, or a later one by which the row was written, as the tape tells. The pair is that of the get's own key
 -- wherever nobody made a step since its search.
 pub record ShowsRow (old : StateView) (op : OperationView) (told : Option Outcome) : Type 0 where
@@ -66,6 +66,7 @@ pub record ShowsRow (old : StateView) (op : OperationView) (told : Option Outcom
   pub row : Columns
   pub number : ℕ
   pub says : Says told (replies.Found (shown columns row)) number
+  pub from : TakesOut (at old.arena op.walk.place.node) op.walk (Some row) Row number
   pub there : pairs.get (contents_of old) key ≡ Some row
   pub since : op.first ≤ number
   pub made : number ≤ old.steps
@@ -76,7 +77,7 @@ pub record ShowsRow (old : StateView) (op : OperationView) (told : Option Outcom
 -- or it shows none, since it took a link, or somebody made a step since its search
 pub record ShowsNone (old : StateView) (op : OperationView) (told : Option Outcome) : Type 0 where
   pub none : told ≡ None
-  pub why : HasLink old (stored_key op.tenant (key_of op.command)) ⊎ (op.last ≢ old.steps)
+  pub why : HasLink old op.walk (stored_key op.tenant (key_of op.command)) ⊎ (op.last ≢ old.steps)
 
 -- memory stopped the operation at this step
 abbrev pub IsStopped : StateView → Option Outcome → Type 0

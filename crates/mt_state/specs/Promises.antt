@@ -1,11 +1,12 @@
 -- What a step may do, and what it answers.
-use Rattle.std.specs.Prelude.{◌≡◌, ◌≢◌, ℕ, ◌+◌, ◌^◌, ◌<◌, ◌≤◌, ◌⊎◌, Bool, true, false, [], ◌∷◌, ◌++◌, Some, IsSome, length, slice_set}
+use Rattle.std.specs.Prelude.{◌≡◌, ◌≢◌, ℕ, ◌+◌, ◌^◌, ◌<◌, ◌≤◌, ◌⊎◌, Bool, true, false, [], ◌∷◌, ◌++◌, Option, Some, None, IsSome, length, slice_set}
 use Rattle.std.specs.FinMap as pairs
 use Rattle.mt_rows.specs.declared.reply.Reply.{Reply}
 use Rattle.mt_rows.specs.Rows.{columns_of}
 use Rattle.mt_rows.specs.Changes.{changed}
 use Rattle.mt_rows.specs.Commands.{key_of}
 use Rattle.mt_insert.specs.Puts.{change_of}
+use Rattle.mt_insert.specs.Splitting.{last_half}
 use Rattle.mt_rows.specs.Maps.{reply_of, is_change, is_no_memory}
 use Rattle.mt_rows.specs.Tenants.{tenant_map}
 use Rattle.mt_tape.specs.declared.entry.Entry.{Entry as TapeEntry}
@@ -13,11 +14,13 @@ use Rattle.mt_runs.specs.Placings.{maps_after_one}
 use Rattle.mt_arena.specs.NodeView.{NodeView}
 use Rattle.mt_arena.specs.Edits.{pointed}
 use Rattle.mt_arena.specs.Arena.{ArenaView, Guarantee}
+use Rattle.mt_arena.specs.Forests.{tree_at}
 use Rattle.mt_arena.specs.Accesses.{at}
 use Rattle.mt_operation.specs.declared.walk.Phase.{Phase}
-use Rattle.mt_operation.specs.declared.walk.Phase.TheVariants.{Load, Lock, LockParent, InteriorSplit, RootGrow}
+use Rattle.mt_operation.specs.declared.walk.Phase.TheVariants.{Enter, Child, Verify, Load, Confirm, Forward, Lock, LockParent, InteriorSplit, RootGrow}
+use Rattle.mt_operation.specs.declared.walk.Walk.{Walk}
 use Rattle.mt_operation.specs.declared.outcome.Outcome.{Outcome}
-use Rattle.mt_operation.specs.Operations.{OperationView}
+use Rattle.mt_operation.specs.Operations.{OperationView, SplitsView}
 use Rattle.mt_descent.specs.Moves.{IsBlocked, IsBlockedAt}
 use Rattle.mt_state.specs.declared.moves.Move.{Move}
 use Rattle.mt_state.specs.declared.moves.Move.TheVariants.{Moved, Again, NoMemory as NoMemoryMove, Done as DoneMove, Spent, NoSuch}
@@ -89,13 +92,29 @@ pub record IsStep (old new : StateView) (o : ℕ) (done : Bool) : Type 0 where
 abbrev pub HasStep : StateView → ℕ → Type 0
 HasStep v o = (op : OperationView) × (op_at v.table o ≡ Some op) × (is_done op.phase ≡ false)
 
--- what is in the way of the next step of an operation at this phase: a lock, where it is to lock; an unstable slot, where it is to load; else a mark;
--- and the node's holder
-abbrev pub IsInTheWay : ArenaView → Phase → ℕ → Type 0
-IsInTheWay v Lock holder = (k : ℕ) × (k < length v.nodes) × ((at v k).holder ≡ Some holder)
-IsInTheWay v LockParent holder = (k : ℕ) × (k < length v.nodes) × ((at v k).holder ≡ Some holder)
-IsInTheWay v Load holder = (k slot : ℕ) × (k < length v.nodes) × IsBlockedAt (at v k) slot holder
-IsInTheWay v phase holder = (k : ℕ) × (k < length v.nodes) × IsBlocked (at v k) holder
+-- the node that the next step of an operation reads or locks, at the phases that may have to wait for it
+abbrev pub needed_node : Phase → ArenaView → Walk → SplitsView → Option ℕ
+needed_node Enter v w s = Some (tree_at v.trees w.place.tree).root
+needed_node Child v w s = Some w.child
+needed_node Verify v w s = Some w.place.node
+needed_node Load v w s = Some w.place.node
+needed_node Confirm v w s = Some w.place.node
+needed_node Forward v w s = w.next
+needed_node Lock v w s = Some w.place.node
+needed_node LockParent v w s = (at v (last_half s).left).parent
+needed_node _ v w s = None
+
+-- how that node is in the way: by its lock, where it is to be locked; by the unstable slot, where that is to be loaded; else by its mark; each is its
+-- holder's
+abbrev pub Blocks : Phase → NodeView → ℕ → ℕ → Type 0
+Blocks Lock n slot holder = n.holder ≡ Some holder
+Blocks LockParent n slot holder = n.holder ≡ Some holder
+Blocks Load n slot holder = IsBlockedAt n slot holder
+Blocks _ n slot holder = IsBlocked n holder
+
+-- who is in the way of the next step of an operation
+abbrev pub IsInTheWay : ArenaView → Phase → Walk → SplitsView → ℕ → Type 0
+IsInTheWay v phase w s holder = (k : ℕ) × (needed_node phase v w s ≡ Some k) × (k < length v.nodes) × Blocks phase (at v k) w.slot holder
 
 -- another operation, which has a step left, is in the way
 pub record IsHeldByOther (v : StateView) (o holder : ℕ) : Type 0 where
@@ -103,7 +122,7 @@ pub record IsHeldByOther (v : StateView) (o holder : ℕ) : Type 0 where
   pub unfinished : HasStep v holder
   pub op : OperationView
   pub there : op_at v.table o ≡ Some op
-  pub holds : IsInTheWay v.arena op.phase holder
+  pub holds : IsInTheWay v.arena op.phase op.walk op.splits holder
 
 -- the operation has been placed, or has found its quota full, and is to make a node
 abbrev pub IsToGrow : Phase → Type 0

@@ -11,9 +11,9 @@ ghost use Rattle.mt_operation.specs.declared.walk.Phase.{Phase};
 ghost use Rattle.mt_operation.specs.declared.walk.Phase.TheVariants.{Search, Load, Confirm, Lock, LockParent, Done};
 ghost use Rattle.mt_operation.specs.declared.outcome.Outcome.{Outcome};
 ghost use Rattle.mt_operation.specs.declared.operation.Operation.{Operation};
-ghost use Rattle.mt_operation.specs.Operations.{OperationView, is_done};
+ghost use Rattle.mt_operation.specs.Operations.{OperationView, SplitsView, is_done};
 ghost use Rattle.mt_state.specs.Views.{StateView, Core, shown, KeepsPast};
-ghost use Rattle.mt_state.specs.Promises.{IsAnswer, IsInTheWay, Touches, IsStep};
+ghost use Rattle.mt_state.specs.Promises.{IsAnswer, IsInTheWay, needed_node, Touches, IsStep};
 ghost use Rattle.mt_state.specs.Kept.{IsKeptOf};
 ghost use Rattle.mt_state.specs.Invariant.{IsUnremoved, StateInvariant, StateGuarantee};
 ghost use Rattle.mt_operation.specs.declared.walk.Walk.{Walk};
@@ -46,11 +46,15 @@ pub fn a_step_keeps_the_invariant()
         IsTold old new o before after → old.steps < 2 ^ 59 → IsStep (shown old) (shown new) o (is_done after.walk.phase) }
 {}
 
-/// What is refused: an operation told to wait for a lock where it is only to read, and a step that
-/// changes the keys of a node which another operation holds.
+/// What is refused: an operation told to wait for a node that it doesn't need, at a phase that needs none,
+/// or for a lock where it is only to read; and a step that changes the keys of a node which another
+/// operation holds.
 pub fn wrong_steps_are_refused()
-    ensures lock_alone { (v : ArenaView) (phase : Phase) (holder : ℕ) → phase ≢ Lock → phase ≢ LockParent → phase ≢ Load →
-        ((k : ℕ) → k < length v.nodes → IsStable (at v k).version) → ¬ IsInTheWay v phase holder }
+    ensures for_another_node { (v : ArenaView) (phase : Phase) (w : Walk) (s : SplitsView) (k holder : ℕ) → needed_node phase v w s ≡ Some k →
+        (at v k).holder ≢ Some holder → ¬ IsInTheWay v phase w s holder }
+    ensures for_none { (v : ArenaView) (phase : Phase) (w : Walk) (s : SplitsView) (holder : ℕ) → needed_node phase v w s ≡ None → ¬ IsInTheWay v phase w s holder }
+    ensures lock_alone { (v : ArenaView) (phase : Phase) (w : Walk) (s : SplitsView) (k holder : ℕ) → phase ≢ Lock → phase ≢ LockParent → phase ≢ Load →
+        needed_node phase v w s ≡ Some k → IsStable (at v k).version → ¬ IsInTheWay v phase w s holder }
     ensures of_another { (o q k : ℕ) (old new : ArenaView) → Touches o old new → k < length old.nodes → q ≢ o →
         (at old k).holder ≡ Some q → (at new k).holder ≢ Some o → (at new k).slots ≡ (at old k).slots }
 {}

@@ -1,4 +1,4 @@
-use Rattle.std.proofs.Common.{◌≡◌, ℕ, Option, Some, None, refl, ap}
+use Rattle.std.proofs.Common.{◌≡◌, ℕ, Option, Some, None, refl, sym, ap}
 use Rattle.mt_arena.specs.Accesses.{at}
 use Rattle.mt_operation.specs.declared.splits.Splits.{Splits}
 use Rattle.mt_insert.specs.Splitting.{last_of, IsAtSplitPrev, IsAtLockParent, IsAtInsertChild, IsAtInteriorSplit, IsAtReparent, IsAtRootGrow}
@@ -29,14 +29,14 @@ returns-in-None c = by (at c.args.arena.now (last_of c.args.splits.now).left).pa
         let r = e.root none in
         parent_missing c.args.operation c.args.arena.now _ c.args.walk.now _ c.args.splits.now _
         (record { guarantee = e.step; contents = e.contents; same = e.same; kept = e.kept; holds = e.holds })
-        c.in-LockParent.is kept r.1 r.2
+        c.in-LockParent.is kept none r.1 r.2
         (ap (λ (s : Splits). s.halves.items) r.3)
     by (Some p) parent =
         let e = c.in-None.ensures in
         let r = e.is p parent in
         parent_locked c.args.operation c.args.arena.now _ c.args.walk.now _ c.args.splits.now _
         (record { guarantee = e.step; contents = e.contents; same = e.same; kept = e.kept; holds = e.holds })
-        c.in-LockParent.is kept p r.0 r.1
+        c.in-LockParent.is kept p parent (sym (e.waits p parent)) r.0 r.1
         (ap (λ (s : Splits). s.halves.items) r.2)
 
 pub returns-in-Some : goal.returns-in-Some
@@ -44,7 +44,7 @@ returns-in-Some c =
     let e = c.in-Some.ensures in
     let kept : IsAtLockParent c.args.arena.now c.args.operation c.args.splits.now = kept_at _ _ _ _ _ c.in-LockParent.is c.requires.kept in
     let there = (c.facts.ensures.arena.nodes.each (last_of c.args.splits.now).left kept.named.splits.parted.left.held.there).names.parent e.again.0 e.again.1 in
-    (e.unchanged.0, e.unchanged.1, e.unchanged.2, c.in-LockParent.is, e.again.0, there, e.again.2, e.another)
+    (e.unchanged.0, e.unchanged.1, e.unchanged.2, c.in-LockParent.is, e.again.0, e.again.1, there, e.again.2, e.another)
 
 pub returns-in-InsertChild : goal.returns-in-InsertChild
 returns-in-InsertChild c =

@@ -2,7 +2,7 @@
 use Rattle.std.proofs.Common.{sym, ◌∙◌}
 use Rattle.mt_arena.specs.Accesses.{at}
 use Rattle.mt_descent.specs.Kept.{slice_in}
-use Rattle.mt_core.proofs.LookSteps.{enter_goes, verify_goes, forward_goes}
+use Rattle.mt_core.proofs.LookSteps.{enter_goes, verify_goes, forward_goes, enter_leads, pick_leads, child_leads, verify_leads, forward_leads}
 use Rattle.mt_core.proofs.LookPoints.{enter_nears, verify_nears}
 use Rattle.mt_core.proofs.looks.go_down.Goals as goal
 
@@ -20,3 +20,18 @@ returns-in-Verify-clause-nears c = verify_nears c.args.arena.now c.facts.ensures
 
 pub returns-in-Forward-clause-goes : goal.returns-in-Forward-clause-goes
 returns-in-Forward-clause-goes c = forward_goes c.forward.result (slice_in c.args.key.now c.args.walk.now) (at c.args.arena.now) _ _ (sym c.requires.phase ∙ c.in-Forward.is) c.forward.ensures.last c.forward.ensures.is c.forward.ensures.same
+
+pub returns-in-Enter-clause-leads : goal.returns-in-Enter-clause-leads
+returns-in-Enter-clause-leads c = enter_leads c.enter.result c.args.arena.now c.args.key.now _ _ (sym c.requires.phase ∙ c.in-Enter.is) c.enter.ensures.again c.enter.ensures.is
+
+pub returns-in-Pick-clause-leads : goal.returns-in-Pick-clause-leads
+returns-in-Pick-clause-leads c = pick_leads c.args.arena.now c.args.key.now _ _ (sym c.requires.phase ∙ c.in-Pick.is) c.pick.ensures.is
+
+pub returns-in-Child-clause-leads : goal.returns-in-Child-clause-leads
+returns-in-Child-clause-leads c = child_leads c.child.result c.args.arena.now c.args.key.now _ _ (sym c.requires.phase ∙ c.in-Child.is) c.child.ensures.again c.child.ensures.is
+
+pub returns-in-Verify-clause-leads : goal.returns-in-Verify-clause-leads
+returns-in-Verify-clause-leads c = verify_leads c.verify.result c.args.arena.now c.args.key.now _ _ (sym c.requires.phase ∙ c.in-Verify.is) c.verify.ensures.again c.verify.ensures.is
+
+pub returns-in-Forward-clause-leads : goal.returns-in-Forward-clause-leads
+returns-in-Forward-clause-leads c = forward_leads c.forward.result c.args.arena.now c.args.key.now _ _ (sym c.requires.phase ∙ c.in-Forward.is) c.forward.ensures.again c.forward.ensures.last c.forward.ensures.is

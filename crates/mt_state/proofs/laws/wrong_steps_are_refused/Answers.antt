@@ -1,32 +1,45 @@
-use Rattle.std.proofs.Common.{◌≢◌, ℕ, ◌<◌, inl, inr, length, refl, sym, ap, ◌∙◌}
+use Rattle.std.proofs.Common.{◌≡◌, ◌≢◌, ℕ, inl, inr, Some, refl, sym, ap, subst, ◌∙◌}
 use Rattle.std.proofs.lemmas.Bool.{both_ways}
 use Rattle.std.proofs.lemmas.Option.{same_Some}
 use Rattle.mt_version.specs.Parts.{Parts}
 use Rattle.mt_version.specs.Changes.{IsMarked, IsStable}
 use Rattle.mt_arena.specs.NodeView.{NodeView}
-use Rattle.mt_arena.specs.Arena.{ArenaView}
 use Rattle.mt_arena.specs.Accesses.{at}
 use Rattle.mt_operation.specs.declared.walk.Phase.{Phase}
 use Rattle.mt_operation.specs.declared.walk.Phase.TheVariants.{Load, Lock, LockParent}
-use Rattle.mt_descent.specs.Moves.{IsBlocked}
-use Rattle.mt_state.specs.Promises.{IsInTheWay}
+use Rattle.mt_state.specs.Promises.{Blocks}
 use Rattle.mt_state.proofs.laws.wrong_steps_are_refused.Goals as goal
 
 unmarked : (p : Parts) → IsStable p → IsMarked p → ⊥
 unmarked p stable (inl inserting) = both_ways _ stable.0 inserting
 unmarked p stable (inr splitting) = both_ways _ stable.1 splitting
 
-nobody : (v : ArenaView) (holder : ℕ) → ((k : ℕ) → k < length v.nodes → IsStable (at v k).version) → (k : ℕ) × (k < length v.nodes) × IsBlocked (at v k) holder → ⊥
-nobody v holder stable w = unmarked (at v w.0).version (stable w.0 w.1) w.2.marked
+-- the holder of the node that blocks a step is the one that is told
+held_by : (p : Phase) (n : NodeView) (slot holder : ℕ) → Blocks p n slot holder → n.holder ≡ Some holder
+held_by Lock n slot holder blocks = blocks
+held_by LockParent n slot holder blocks = blocks
+held_by Load n slot holder blocks = blocks.by
+held_by _ n slot holder blocks = blocks.by
 
-by_phase : (v : ArenaView) (phase : Phase) (holder : ℕ) → phase ≢ Lock → phase ≢ LockParent → phase ≢ Load → ((k : ℕ) → k < length v.nodes → IsStable (at v k).version) → IsInTheWay v phase holder → ⊥
-by_phase v Lock holder lock parent load stable w = lock refl
-by_phase v LockParent holder lock parent load stable w = parent refl
-by_phase v Load holder lock parent load stable w = load refl
-by_phase v _ holder lock parent load stable w = nobody v holder stable w
+-- and the node is marked, where it is only to be read
+marked_by : (p : Phase) (n : NodeView) (slot holder : ℕ) → p ≢ Lock → p ≢ LockParent → p ≢ Load → Blocks p n slot holder → IsMarked n.version
+marked_by Lock n slot holder lock parent load blocks = absurd (lock refl)
+marked_by LockParent n slot holder lock parent load blocks = absurd (parent refl)
+marked_by Load n slot holder lock parent load blocks = absurd (load refl)
+marked_by _ n slot holder lock parent load blocks = blocks.marked
+
+pub returns-clause-for_another_node : goal.returns-clause-for_another_node
+returns-clause-for_another_node c = λ v phase w s k holder needs other way.
+    let same = same_Some way.0 k (sym way.1 ∙ needs) in
+    other (ap (λ j. (at v j).holder) (sym same) ∙ held_by phase (at v way.0) w.slot holder way.3)
+
+pub returns-clause-for_none : goal.returns-clause-for_none
+returns-clause-for_none c = λ v phase w s holder none way. absurd (let no = sym none ∙ way.1 in cc)
 
 pub returns-clause-lock_alone : goal.returns-clause-lock_alone
-returns-clause-lock_alone c = by_phase
+returns-clause-lock_alone c = λ v phase w s k holder lock parent load needs stable way.
+    let same = same_Some way.0 k (sym way.1 ∙ needs) in
+    unmarked (at v way.0).version (subst (λ j. IsStable (at v j).version) (sym same) stable) (marked_by phase (at v way.0) w.slot holder lock parent load way.3)
 
 pub returns-clause-of_another : goal.returns-clause-of_another
 returns-clause-of_another c = λ o q k old new touches within other held free. elim (touches k within) [

@@ -9,7 +9,7 @@ use Rattle.mt_state.proofs.Telling.{Gives}
 use Rattle.mt_core.specs.States.{core_of}
 use Rattle.mt_core.specs.Points.{StepsOn}
 use Rattle.mt_core.proofs.Following.{made, phase_is}
-use Rattle.mt_core.proofs.LayerSteps.{may_build, build_made, stop_made}
+use Rattle.mt_core.proofs.LayerSteps.{may_build, build_made, stop_made, stop_leads}
 use Rattle.mt_core.proofs.inner.Inner.build.Goals as goal
 
 pub build_on-built-requires-clause-kept : goal.build_on-built-requires-clause-kept
@@ -41,4 +41,8 @@ pub invariant_of-self-in-Err : goal.invariant_of-self-in-Err
 invariant_of-self-in-Err c = (gives_err c).0
 
 pub returns-in-Err : goal.returns-in-Err
-returns-in-Err c = record { tells = (gives_err c).1; nears = tt }
+returns-in-Err c = record {
+  tells = (gives_err c).1;
+  nears = tt;
+  leads = stop_leads (core_of c.self.inside) _ c.args.id c.self.view_is c.self.invariant _ c.open-operation.ensures _ _ _ _ c.in-Err.ensures c.go_on_with.ensures.moves;
+}

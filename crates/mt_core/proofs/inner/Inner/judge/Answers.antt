@@ -8,7 +8,7 @@ use Rattle.mt_state.proofs.Telling.{Gives}
 use Rattle.mt_core.specs.States.{core_of}
 use Rattle.mt_core.specs.Points.{StepsOn}
 use Rattle.mt_core.proofs.Following.{made, phase_is}
-use Rattle.mt_core.proofs.PutSteps.{may_step, ready_made, on_made, refused_made, ready_for}
+use Rattle.mt_core.proofs.PutSteps.{may_step, ready_made, on_made, refused_made, refused_leads, ready_for}
 use Rattle.mt_core.proofs.inner.Inner.judge.Goals as goal
 
 pub judge-judged-requires-clause-put : goal.judge-judged-requires-clause-put
@@ -31,7 +31,7 @@ after_ready c = made (core_of c.self.inside) c.judge-judged.new.arena c.judge-ju
 
 gives_ready : (c : goal.After-make_ready) → StateInvariant (after_ready c) × StepsOn c.args.self.now (after_ready c) c.args.id Moved
 gives_ready c = let e = c.judge-judged.ensures in ready_made (core_of c.self.inside) _ c.args.id c.self.view_is c.self.invariant c.requires.few c.requires.next _ c.open-operation.ensures _ _ _ _ _ _ c.in-Ready.ensures.told.0 e.step
-    (ready_for (core_of c.self.inside) c.args.id _ _ _ _ c.in-Ready.ensures.told.1 e.same) c.go_on.ensures.moves c.make_ready.ensures.readies
+    (ready_for (core_of c.self.inside) c.args.id _ _ _ _ c.in-Ready.ensures.told.1 e.same) c.in-Ready.ensures.told.1.stands c.go_on.ensures.moves c.make_ready.ensures.readies
 
 pub invariant_of-self : goal.invariant_of-self
 invariant_of-self c = (gives_ready c).0
@@ -60,4 +60,9 @@ pub invariant_of-self-in-NoMemory : goal.invariant_of-self-in-NoMemory
 invariant_of-self-in-NoMemory c = (gives_none c).0
 
 pub returns-in-NoMemory : goal.returns-in-NoMemory
-returns-in-NoMemory c = record { tells = (gives_none c).1; nears = tt }
+returns-in-NoMemory c = record {
+  tells = (gives_none c).1;
+  nears = tt;
+  leads = let e = c.judge-judged.ensures in let t = c.in-NoMemory.ensures.told in refused_leads (core_of c.self.inside) _ c.args.id c.self.view_is c.self.invariant c.requires.few c.requires.next _ c.open-operation.ensures _ _ _ _ _
+      (record { is = t.2; walk = t.1; same = e.same; leaves = record { guarantee = e.step; contents = e.contents } }) c.go_on_with.ensures.moves;
+}

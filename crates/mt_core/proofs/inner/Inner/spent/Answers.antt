@@ -13,4 +13,5 @@ returns-in-Some c = record {
     sym (ap (λ (v : Core). v.steps) c.self.view_is) ∙ omega (arith, c.requires, ap (λ (v : Core). v.steps) c.self.view_is, c.self.invariant.few),
   );
   nears = tt;
+  leads = tt;
 }

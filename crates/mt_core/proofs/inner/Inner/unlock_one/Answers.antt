@@ -5,7 +5,7 @@ use Rattle.mt_state.proofs.Needs.{unlock_kept}
 use Rattle.mt_state.proofs.Telling.{Gives}
 use Rattle.mt_core.specs.States.{core_of}
 use Rattle.mt_core.proofs.Following.{made, phase_is}
-use Rattle.mt_core.proofs.PutSteps.{may_step, told_some, splits_none, unlock_made}
+use Rattle.mt_core.proofs.PutSteps.{may_step, told_some, splits_none, unlock_made, unlock_leads}
 use Rattle.mt_core.proofs.inner.Inner.unlock_one.Goals as goal
 
 pub unlock-requires-clause-kept : goal.unlock-requires-clause-kept
@@ -24,4 +24,9 @@ pub invariant_of-self : goal.invariant_of-self
 invariant_of-self c = (gives c).0
 
 pub returns : goal.returns
-returns c = record { tells = (gives c).1; nears = tt }
+returns c = record {
+  tells = (gives c).1;
+  nears = tt;
+  leads = unlock_leads (core_of c.self.inside) _ c.args.id c.self.view_is c.self.invariant c.requires.few c.requires.next _ c.open.ensures (told_some (core_of c.self.inside) _ c.args.id c.self.view_is c.requires.told _ c.open.ensures) _ _ _
+      (record { is = c.unlock.ensures.is; walk = c.unlock.ensures.walk; same = c.unlock.ensures.same; leaves = record { guarantee = c.unlock.ensures.step; contents = c.unlock.ensures.contents } }) c.go_on.ensures.moves;
+}

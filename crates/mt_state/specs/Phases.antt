@@ -1,0 +1,121 @@
+-- The table of phases: where the step of each phase leads, and under which condition. Each walk is that of before with what the step has changed; a
+-- step that reads a marked node, or locks a locked one, is none (`IsInTheWay` of `Promises`).
+use Rattle.std.specs.Prelude.{◌≡◌, ℕ, ◌+◌, ◌⊎◌, length, Option, Some, None}
+use Rattle.mt_version.specs.Changes.{IsStable}
+use Rattle.mt_slices.specs.Keys.{stored_key}
+use Rattle.mt_rows.specs.Rows.{Bytes, Columns}
+use Rattle.mt_rows.specs.Commands.{key_of}
+use Rattle.mt_border.specs.declared.entry.Find.{Find}
+use Rattle.mt_border.specs.declared.entry.Held.TheVariants as helds
+use Rattle.mt_border.specs.declared.entry.FoundKind.TheVariants as kinds
+use Rattle.mt_arena.specs.NodeView.{NodeView}
+use Rattle.mt_arena.specs.Forests.{tree_at}
+use Rattle.mt_arena.specs.Layers.{slot_at}
+use Rattle.mt_arena.specs.Arena.{ArenaView}
+use Rattle.mt_arena.specs.Accesses.{at}
+use Rattle.mt_operation.specs.declared.walk.Phase.{Phase}
+use Rattle.mt_operation.specs.declared.walk.Phase.TheVariants.{Enter, Pick, Child, Verify, Search, Load, Confirm, Forward, Lock, Judge, Store, Publish, SplitStart, SplitMove, SplitPrev, LockParent, InsertChild, InteriorSplit, Reparent, RootGrow, MakeLayer, MarkUnstable, Link, MarkLayer, Unlock}
+use Rattle.mt_operation.specs.declared.walk.Taken.TheVariants as takens
+use Rattle.mt_operation.specs.declared.walk.Walk.{Walk}
+use Rattle.mt_operation.specs.declared.outcome.Outcome.{Outcome}
+use Rattle.mt_operation.specs.Operations.{OperationView, SplitsView}
+use Rattle.mt_descent.specs.Seen.{child_for}
+use Rattle.mt_descent.specs.Kept.{IsInSlot, slice_in}
+use Rattle.mt_descent.specs.Moves.{Verifies, FindsIn, Loads, Confirms, Locks, walk_into, walk_here, after_enter, after_pick, after_child, after_search, after_forward}
+use Rattle.mt_insert.specs.Moves.{StandsIn, after_judge, walk_placed, walk_done}
+use Rattle.mt_insert.specs.Splitting.{last_half}
+use Rattle.mt_insert.specs.SplitMoves.{walk_at, after_parting, for_parent, after_reparent}
+use Rattle.mt_layer.specs.Moves.{walk_linked}
+use Rattle.mt_state.specs.declared.moves.Move.{Move}
+use Rattle.mt_state.specs.declared.moves.Move.TheVariants.{Moved, Done as DoneMove}
+use Rattle.mt_state.specs.Views.{StateView, op_at}
+
+-- from Forward: by the next node, which is unmarked; where there is none, the walk stays at its own
+abbrev pub GoesForward : Option ℕ → ArenaView → Bytes → Walk → Walk → Type 0
+GoesForward None v key w x = x ≡ walk_here w
+GoesForward (Some j) v key w x = IsStable (at v j).version × (x ≡ after_forward w (slice_in key w) j (at v j))
+
+-- from Load: what the slot holds was taken, and is to be confirmed; or there was no memory to show it
+pub record GoesFromLoad (n : NodeView) (w x : Walk) : Type 0 where
+  pub row : Option Columns
+  pub taken : Walk
+  pub loads : Loads n w taken row
+  pub goes : (x ≡ taken) ⊎ (x ≡ walk_done taken)
+
+-- from Judge, by what the node has: the key's slot, or no slot of its slice and mark
+pub record JudgesKey (n : NodeView) (key : Bytes) (w x : Walk) : Type 0 where
+  pub slot : Option ℕ
+  pub stands : StandsIn n key w.layer slot
+  pub goes : x ≡ after_judge n slot w
+
+-- another long key in the key's place: a layer is made for both
+pub record JudgesOther (n : NodeView) (key : Bytes) (w x : Walk) : Type 0 where
+  pub slot : ℕ
+  pub stands : IsInSlot n slot key w.layer kinds.OtherLong
+  pub goes : x ≡ record w { slot = slot; phase = MakeLayer }
+
+-- a link: on in its tree
+pub record JudgesLink (n : NodeView) (key : Bytes) (w x : Walk) : Type 0 where
+  pub slot : ℕ
+  pub stands : IsInSlot n slot key w.layer kinds.Link
+  pub tree : ℕ
+  pub leads : (slot_at n slot).held ≡ helds.Link tree
+  pub goes : x ≡ walk_into w tree (w.layer + 1)
+
+-- from LockParent: a root is made where there is no parent; else the parent's room decides, which nobody held
+abbrev pub GoesAbove : Option ℕ → ArenaView → Walk → Walk → Type 0
+GoesAbove None v w x = x ≡ walk_at RootGrow w
+GoesAbove (Some p) v w x = ((at v p).holder ≡ None) × (x ≡ walk_at (for_parent (at v p)) w)
+
+-- from Unlock: the operation is done where it has an outcome; else it has made a layer, and goes on in its tree
+abbrev pub GoesFromUnlock : Option Outcome → Walk → Walk → Type 0
+GoesFromUnlock (Some told) w x = x ≡ walk_done w
+GoesFromUnlock None w x = (tree : ℕ) × (w.taken ≡ takens.Link tree) × (x ≡ walk_into w tree (w.layer + 1))
+
+-- Where the step of this number of an operation leads from each phase: of operation o for this key, with this outcome so far and these splits. Where a
+-- phase makes a growth, it may end the operation for want of memory.
+abbrev pub LeadsTo : Phase → ArenaView → ArenaView → ℕ → ℕ → Bytes → Option Outcome → SplitsView → Walk → Walk → Type 0
+LeadsTo Enter old new o step key told s w x = IsStable (at old (tree_at old.trees w.place.tree).root).version
+    × (x ≡ after_enter (tree_at old.trees w.place.tree).standing w (tree_at old.trees w.place.tree).root (at old (tree_at old.trees w.place.tree).root).version)
+LeadsTo Pick old new o step key told s w x = x ≡ after_pick w (child_for (at old w.place.node) (slice_in key w))
+LeadsTo Child old new o step key told s w x = IsStable (at old w.child).version × (x ≡ after_child w (at old w.child).version)
+LeadsTo Verify old new o step key told s w x = IsStable (at old w.place.node).version × Verifies (at old w.place.node) w x
+LeadsTo Search old new o step key told s w x = (found : Find) × FindsIn (at old w.place.node) key w.layer found × (x ≡ after_search found w step)
+LeadsTo Load old new o step key told s w x = GoesFromLoad (at old w.place.node) w x
+LeadsTo Confirm old new o step key told s w x = IsStable (at old w.place.node).version × Confirms (at old w.place.node) w x
+LeadsTo Forward old new o step key told s w x = GoesForward w.next old key w x
+LeadsTo Lock old new o step key told s w x = ((at old w.place.node).holder ≡ None) × Locks o old new w x
+LeadsTo Judge old new o step key told s w x = JudgesKey (at old w.place.node) key w x ⊎ JudgesOther (at old w.place.node) key w x ⊎ JudgesLink (at old w.place.node) key w x ⊎ (x ≡ walk_done w)
+LeadsTo Store old new o step key told s w x = x ≡ walk_placed w
+LeadsTo Publish old new o step key told s w x = x ≡ walk_placed w
+LeadsTo SplitStart old new o step key told s w x = (x ≡ walk_at SplitMove w) ⊎ (x ≡ walk_done w)
+LeadsTo SplitMove old new o step key told s w x = x ≡ walk_at (after_parting (at old w.place.node).next) w
+LeadsTo SplitPrev old new o step key told s w x = x ≡ walk_at LockParent w
+LeadsTo LockParent old new o step key told s w x = GoesAbove (at old (last_half s).left).parent old w x
+LeadsTo InsertChild old new o step key told s w x = x ≡ walk_at Unlock w
+LeadsTo InteriorSplit old new o step key told s w x = x ≡ walk_at Reparent w
+LeadsTo Reparent old new o step key told s w x = x ≡ walk_at (after_reparent (at old (last_half s).right) s.moved) w
+LeadsTo RootGrow old new o step key told s w x = x ≡ walk_at Unlock w
+LeadsTo MakeLayer old new o step key told s w x = (x ≡ walk_linked w (length old.trees)) ⊎ (x ≡ walk_done w)
+LeadsTo MarkUnstable old new o step key told s w x = x ≡ walk_at Link w
+LeadsTo Link old new o step key told s w x = x ≡ walk_at MarkLayer w
+LeadsTo MarkLayer old new o step key told s w x = x ≡ walk_at Unlock w
+LeadsTo Unlock old new o step key told s w x = GoesFromUnlock told w x
+LeadsTo _ old new o step key told s w x = ⊥
+
+-- The step of an operation from its phase by the table, as it is shown: but for the number of the first step, which it sets, its walk is the one to which the
+-- table leads.
+pub record GoesBy (old new : ArenaView) (o step : ℕ) (before after : OperationView) : Type 0 where
+  pub walk : Walk
+  pub leads : LeadsTo before.phase old new o step (stored_key before.tenant (key_of before.command)) before.outcome before.splits before.walk walk
+  pub is : after.walk ≡ record walk { first = after.first }
+
+-- the step that operation o has made leads where the table says
+abbrev pub Leads : StateView → StateView → ℕ → Type 0
+Leads old new o = (before after : OperationView) → op_at old.table o ≡ Some before → op_at new.table o ≡ Some after → GoesBy old.arena new.arena o (old.steps + 1) before after
+
+-- so does a step that moves it, and its last one
+abbrev pub LeadsOn : StateView → StateView → ℕ → Move → Type 0
+LeadsOn old new o Moved = Leads old new o
+LeadsOn old new o DoneMove = Leads old new o
+LeadsOn old new o answer = Unit {0}
