@@ -211,7 +211,7 @@ alone_stops old v w o op made Moved h alone g other s = absurd (other refl)
 alone_stops old v w o op made DoneMove h alone g other s = ends_done old v o op made h g (shown w) s.tells
 alone_stops old v w o op made (Again holder) h alone g other s =
     let held = s.tells.2 in
-    let way = in_the_way v.arena held.op.phase holder held.holds in
+    let way = in_the_way v.arena held.op.phase held.op.walk held.op.splits holder held.holds in
     absurd (held.other (g.free.free way.0 holder way.1 way.2))
 alone_stops old v w o op made Spent h alone g other s = absurd (omega (arith, s.tells.2, g.run.number, alone.numbers, few old v o op made h g))
 alone_stops old v w o op made NoSuch h alone g other s = absurd (s.tells.1 (g.run.after, g.run.there, left old v o op made h g))

@@ -11,14 +11,14 @@ use Rattle.mt_operation.specs.declared.walk.Walk.{Walk}
 use Rattle.mt_operation.specs.declared.splits.Halves.{Halves}
 use Rattle.mt_operation.specs.declared.splits.Splits.{Splits}
 use Rattle.mt_operation.specs.declared.operation.Operation.{Operation}
-use Rattle.mt_operation.specs.Operations.{view_of, splits_of, is_done, moved, with_splits}
+use Rattle.mt_operation.specs.Operations.{OperationView, view_of, splits_of, is_done, moved, with_splits}
 use Rattle.mt_operation.specs.Tables.{Table, op_at as operation_at, MayMove}
 use Rattle.mt_operation.proofs.Tables.{set_is, set_there}
 use Rattle.mt_insert.specs.Splitting.{halves_at, last_of, IsAmong, HoldsSplits, AreReturnable, AreParted, NothingLags, HasSplits, HasSplitsNamed, IsParent, KeptSplit}
 use Rattle.mt_state.specs.declared.moves.Move.{Move}
 use Rattle.mt_state.specs.declared.moves.Move.TheVariants.{Moved, Again, NoMemory}
 use Rattle.mt_state.specs.Views.{Core, Shown, shown}
-use Rattle.mt_state.specs.Promises.{IsInTheWay, IsHeldByOther, IsToGrow}
+use Rattle.mt_state.specs.Promises.{IsAnswer, IsInTheWay, IsHeldByOther, IsToGrow}
 use Rattle.mt_state.specs.Kept.{IsClimbing, IsKeptAt, IsKeptOf}
 use Rattle.mt_state.specs.Invariant.{HoldsAt, StateInvariant, one_if_prepared, prepared_count, made_count}
 use Rattle.mt_state.specs.Writes.{IsClimb, Climbs}
@@ -147,11 +147,15 @@ abbrev with_same : Core → ℕ → Operation → Splits → Core
 with_same c o op t = record c { table = set c.table o (Some (with_splits op t)) }
 
 module _ (c : Core) (o : ℕ) (op : Operation) (h : StateInvariant c) (there : operation_at c.table o ≡ Some op) (t : Splits) where
-  -- shows what it showed
-  same_shown : shown (with_same c o op t) ≡ shown c
-  same_shown = ap (λ (all : Shown). record (shown c) { table = all }) (shown_set c.table o (Some (with_splits op t)) ∙ set_back (shown_table c.table) o (view_of op) (shown_there c.table o op there))
+  -- where they are the same, as far as anything is said of them, it shows what it showed
+  same_view : AreSame op.splits t → view_of (with_splits op t) ≡ view_of op
+  same_view same = λ a. record (view_of op) { splits = record { halves = same.halves a; above = same.above a; moved = same.moved a } }
 
-  -- and where they are the same, as far as anything is said of them, the invariant stays
+  same_shown : AreSame op.splits t → shown (with_same c o op t) ≡ shown c
+  same_shown same = ap (λ (all : Shown). record (shown c) { table = all }) (shown_set c.table o (Some (with_splits op t))
+      ∙ ap (λ (x : OperationView). set (shown_table c.table) o (Some x)) (same_view same) ∙ set_back (shown_table c.table) o (view_of op) (shown_there c.table o op there))
+
+  -- and the invariant stays
   module _ (grows : IsToGrow op.walk.phase) (same : AreSame op.splits t) where
     abbrev y : Operation
     y = with_splits op t
@@ -189,7 +193,7 @@ module _ (c : Core) (o : ℕ) (op : Operation) (h : StateInvariant c) (there : o
           };
           kept = climbs_at op.walk.phase climbs new o y (record {
             climbs = grow_same op.splits t same op.walk.phase grows c.arena o climbing.climbs;
-            answer = record { outcome = climbing.answer.outcome; told = climbing.answer.told; right = right; unprepared = climbing.answer.unprepared };
+            answer = record { outcome = climbing.answer.outcome; told = climbing.answer.told; right = subst (λ (x : OperationView). IsAnswer (shown new) x climbing.answer.outcome) (sym (same_view same)) right; unprepared = climbing.answer.unprepared };
           });
           unsplit = λ none. let u = k.unsplit none in record { halves = same.halves ∙ u.halves; above = same.above ∙ u.above; moved = same.moved ∙ u.moved };
           placed = λ m is. let once = k.placed m is in record {
@@ -221,7 +225,7 @@ module _ (c : Core) (o : ℕ) (op : Operation) (h : StateInvariant c) (there : o
         | inr other ↦ let k = h.ops q x (sym (set_there c.table o q (Some y) other) ∙ at_q) in retained c c.answers c.logs c.tape new.table q x (own_tape c x k.always) k.always k
       ];
       reserved = h.reserved ∙ sym (count_back c.table o op y there refl);
-      answered = subst (λ (all : Shown). c.answers + made_count all ≤ c.steps) (sym (ap (λ v. v.table) same_shown)) h.answered;
+      answered = subst (λ (all : Shown). c.answers + made_count all ≤ c.steps) (sym (ap (λ v. v.table) (same_shown same))) h.answered;
       unremoved = h.unremoved;
       few = h.few;
     }
@@ -365,7 +369,7 @@ module _ (c now : Core) (o : ℕ) (is : c ≡ now) (h : StateInvariant c) (next 
           pub stopped_steps : StepsOn now stopped o NoMemory
           stopped_steps = subst (λ (v : Core). StepsOn v stopped o NoMemory) is (record {
             tells = (
-              ap (λ (v : Core). shown v) (stopped_is grown_back.0) ∙ same_shown c o op h there t,
+              ap (λ (v : Core). shown v) (stopped_is grown_back.0) ∙ same_shown c o op h there t grown_back.2,
               record { op = view_of op; there = shown_there c.table o op there; grows = grown_back.3; told = ap is_some kept.answer.told },
             );
             nears = tt;

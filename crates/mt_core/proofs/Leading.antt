@@ -1,6 +1,7 @@
 -- That a step leads where the table of phases says, as it is shown, by what it makes of its operation inside: for all phases.
 use Rattle.std.proofs.Common.{◌≡◌, ◌≢◌, ℕ, ◌+◌, Option, Some, None, refl, sym, ap, subst, ◌∙◌}
 use Rattle.std.proofs.lemmas.Option.{same_Some}
+use Rattle.mt_slices.specs.Keys.{stored_key}
 use Rattle.mt_rows.specs.Rows.{Bytes}
 use Rattle.mt_rows.specs.Commands.{key_of}
 use Rattle.mt_rows.specs.Accounts.{Accounts}
@@ -30,7 +31,7 @@ module _ (c : Core) (o : ℕ) (h : StateInvariant c) (op : Operation) (there : o
       let key = key_of_owner op.task.key op.task.tenant (key_of (ask op.task)) k.stored k.owner in
       let by : GoesBy c.arena new.arena o (c.steps + 1) (view_of op) (view_of after) = record {
         walk = w;
-        leads = subst (λ (q : Phase). LeadsTo q c.arena new.arena o (c.steps + 1) _ op.outcome (splits_of op.splits) op.walk w) (sym at_p)
+        leads = subst (λ (q : Phase). LeadsTo q c.arena new.arena o (c.steps + 1) (stored_key op.task.tenant (key_of (ask op.task))) op.outcome (splits_of op.splits) op.walk w) (sym at_p)
             (subst (λ (k : Bytes). LeadsTo p c.arena new.arena o (c.steps + 1) k op.outcome (splits_of op.splits) op.walk w) key goes);
         is = is;
       } in

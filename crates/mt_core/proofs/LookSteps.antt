@@ -8,20 +8,20 @@ use Rattle.mt_rows.specs.Rows.{Bytes, Columns, shown}
 use Rattle.mt_rows.specs.Maps.{is_get}
 use Rattle.mt_arena.specs.NodeView.{NodeView}
 use Rattle.mt_arena.specs.Forests.{tree_at}
-use Rattle.mt_arena.specs.Arena.{ArenaView}
+use Rattle.mt_arena.specs.Arena.{ArenaView, IsArena}
 use Rattle.mt_arena.specs.Accesses.{at}
 use Rattle.mt_operation.specs.declared.walk.Phase.{Phase}
-use Rattle.mt_operation.specs.declared.walk.Phase.TheVariants.{Enter, Pick, Child, Verify, Forward}
+use Rattle.mt_operation.specs.declared.walk.Phase.TheVariants.{Enter, Pick, Child, Verify, Load, Confirm, Forward}
 use Rattle.mt_operation.specs.declared.walk.Walk.{Walk}
 use Rattle.mt_operation.specs.declared.outcome.Outcome.{Outcome}
 use Rattle.mt_operation.specs.declared.operation.Operation.{Operation}
 use Rattle.mt_operation.specs.Tasks.{ask}
-use Rattle.mt_operation.specs.Operations.{SplitsView}
+use Rattle.mt_operation.specs.Operations.{SplitsView, splits_of}
 use Rattle.mt_operation.specs.declared.splits.Splits.{Splits}
 use Rattle.mt_descent.specs.Pasts.{Past}
 use Rattle.mt_descent.specs.Seen.{child_for}
-use Rattle.mt_descent.specs.Kept.{slice_in, IsKept}
-use Rattle.mt_descent.specs.Moves.{IsBlocked, AnswersAgain, Continues, Verifies, Loads, walk_here, after_enter, after_pick, after_child, after_forward}
+use Rattle.mt_descent.specs.Kept.{slice_in, KeptAt, IsKept}
+use Rattle.mt_descent.specs.Moves.{IsBlocked, IsBlockedAt, AnswersAgain, Continues, Verifies, Loads, walk_here, after_enter, after_pick, after_child, after_forward}
 use Rattle.mt_state.specs.Notes.{columns_asked}
 use Rattle.mt_state.specs.Promises.{needed_node, Blocks, IsInTheWay}
 use Rattle.mt_state.specs.Phases.{GoesForward, LeadsTo}
@@ -29,7 +29,7 @@ use Rattle.mt_state.specs.Ways.{Descends, ShowsTaken}
 use Rattle.mt_state.proofs.Descents.{Leads, descends, entered, verified, forwarded, stayed}
 use Rattle.mt_state.proofs.Replies.{get_asks}
 use Rattle.mt_core.specs.Points.{IsAtPoint}
-use Rattle.mt_core.specs.Looks.{led_to, TellsDescended, TellsLoaded}
+use Rattle.mt_core.specs.Looks.{led_to, MayLoad, MayConfirm, TellsDescended, TellsLoaded}
 
 -- a walk that enters a tree goes on so
 pub enter_goes : (r : Option ℕ) (v : ArenaView) (before after : Walk) → before.phase ≡ Enter → IfNone r (after ≡ after_enter (tree_at v.trees before.place.tree).standing before (tree_at v.trees before.place.tree).root (at v (tree_at v.trees before.place.tree).root).version)
@@ -94,6 +94,52 @@ pub read_way : (v : ArenaView) (p : Phase) (before after : Walk) (s : SplitsView
     → AnswersAgain (at v k) before after r → IfSome r (λ holder. IsInTheWay v before.phase before s holder × (after ≡ before))
 read_way v p before after s k None at_p needs within blocks again = tt
 read_way v p before after s k (Some holder) at_p needs within blocks again = (subst (λ (q : Phase). IsInTheWay v q before s holder) (sym at_p) (k, needs, within, blocks holder again.1), again.0)
+
+-- so at the root of its tree, at the child, at the interior node, and at the next border node
+module _ (v : ArenaView) (arena : IsArena v.nodes v.trees) (past : Past) (key : Bytes) (w after : Walk) (kept : IsKept v past key None w) (s : SplitsView) (r : Option ℕ) where
+  at_phase : (p : Phase) → w.phase ≡ p → KeptAt p v past key None w
+  at_phase p at_p = subst (λ (q : Phase). KeptAt q v past key None w) at_p kept
+
+  pub enter_way : w.phase ≡ Enter → AnswersAgain (at v (tree_at v.trees w.place.tree).root) w after r → IfSome r (λ holder. IsInTheWay v w.phase w s holder × (after ≡ w))
+  enter_way at_enter = read_way v Enter w after s (tree_at v.trees w.place.tree).root r at_enter refl (arena.forest.each w.place.tree (at_phase Enter at_enter).there).root_there (λ holder blocked. blocked)
+
+  pub child_way : w.phase ≡ Child → AnswersAgain (at v w.child) w after r → IfSome r (λ holder. IsInTheWay v w.phase w s holder × (after ≡ w))
+  child_way at_child = read_way v Child w after s w.child r at_child refl (at_phase Child at_child).picked.there (λ holder blocked. blocked)
+
+  pub verify_way : w.phase ≡ Verify → AnswersAgain (at v w.place.node) w after r → IfSome r (λ holder. IsInTheWay v w.phase w s holder × (after ≡ w))
+  verify_way at_verify = read_way v Verify w after s w.place.node r at_verify refl (at_phase Verify at_verify).above.covers.remembered.there (λ holder blocked. blocked)
+
+  no_way : IsNone r → IfSome r (λ holder. IsInTheWay v w.phase w s holder × (after ≡ w))
+  no_way none = by r none
+    where
+      by : (q : Option ℕ) → IsNone q → IfSome q (λ holder. IsInTheWay v w.phase w s holder × (after ≡ w))
+      by None is = tt
+      by (Some holder) is = absurd (cc)
+
+  pub forward_way : w.phase ≡ Forward → ((j : ℕ) → w.next ≡ Some j → AnswersAgain (at v j) w after r) → (w.next ≡ None → IsNone r × (after ≡ walk_here w)) → IfSome r (λ holder. IsInTheWay v w.phase w s holder × (after ≡ w))
+  forward_way at_forward again last = by w.next refl
+    where
+      by : (next : Option ℕ) → w.next ≡ next → IfSome r (λ holder. IsInTheWay v w.phase w s holder × (after ≡ w))
+      by None e = no_way (last e).0
+      by (Some j) e = read_way v Forward w after s j r at_forward e ((at_phase Forward at_forward).next.there j e) (λ holder blocked. blocked) (again j e)
+
+-- the operation is as it was where its walk is
+same_operation : (op : Operation) (w : Walk) → w ≡ op.walk → record op { walk = w } ≡ op
+same_operation op w same = λ a. record op { walk = same a }
+
+pub blocked_descent : (v : ArenaView) (op : Operation) (w : Walk) (holder : ℕ) → IsInTheWay v op.walk.phase op.walk (splits_of op.splits) holder × (w ≡ op.walk) → IsInTheWay v op.walk.phase op.walk (splits_of op.splits) holder × (record op { walk = w } ≡ op)
+blocked_descent v op w holder way = (way.0, same_operation op w way.1)
+
+-- who is in the way of a load, and of a confirmation
+pub blocked_load : (v : ArenaView) (op : Operation) (w : Walk) (holder : ℕ) → MayLoad v op → (w ≡ op.walk) × IsBlockedAt (at v op.walk.place.node) op.walk.slot holder
+    → IsInTheWay v op.walk.phase op.walk (splits_of op.splits) holder × (record op { walk = w } ≡ op)
+blocked_load v op w holder may again =
+    (subst (λ (p : Phase). IsInTheWay v p op.walk (splits_of op.splits) holder) (sym may.phase) (op.walk.place.node, refl, may.kept.at_border.covers.remembered.there, again.1), same_operation op w again.0)
+
+pub blocked_confirm : (v : ArenaView) (op : Operation) (w : Walk) (holder : ℕ) → MayConfirm v op → (w ≡ op.walk) × IsBlocked (at v op.walk.place.node) holder
+    → IsInTheWay v op.walk.phase op.walk (splits_of op.splits) holder × (record op { walk = w } ≡ op)
+blocked_confirm v op w holder may again =
+    (subst (λ (p : Phase). IsInTheWay v p op.walk (splits_of op.splits) holder) (sym may.phase) (op.walk.place.node, refl, may.kept.covers.remembered.there, again.1), same_operation op w again.0)
 
 -- the outcome of a reply that is right at a number
 abbrev placed_at : ℕ → Reply → Outcome

@@ -135,11 +135,14 @@ module _ (c now : Core) (o : ℕ) (is : c ≡ now) (h : StateInvariant c) (room 
   led_over w told = record { is = refl; there = set_is c.table o (noted (moved op (c.steps + 1) w) told) op there }
 
   moved_gives : (w : Walk) (told : Option Outcome) → Gives (shown now) (stepped c (led w told)) o false → BringsOn w → GoesOn op.walk.phase w → (table : Table) → table ≡ led w told → StepGives table Moved
-  moved_gives w told g brings goes table e = subst (λ (t : Table). StepGives t Moved) (sym e) (g.0, record {
-    tells = g.1;
-    nears = subst (λ (x : Core). Nears x (stepped c (led w told)) o Moved) is nears;
-    leads = leads_over c o h op there op.walk.phase refl now is c.arena c.tape c.accounts (led w told) _ (led_over w told) w goes refl;
-  })
+  moved_gives w told g brings goes table e = subst (λ (t : Table). StepGives t Moved) (sym e) (
+    g.0,
+    record {
+      tells = g.1;
+      nears = subst (λ (x : Core). Nears x (stepped c (led w told)) o Moved) is nears;
+      leads = leads_over c o h op there op.walk.phase refl now is c.arena c.tape c.accounts (led w told) _ (led_over w told) w goes refl;
+    },
+  )
     where
       nears : Nears c (stepped c (led w told)) o Moved
       nears =
@@ -148,11 +151,14 @@ module _ (c now : Core) (o : ℕ) (is : c ≡ now) (h : StateInvariant c) (room 
           (λ height made point. point_first height (made + 1) c.arena w op.splits after.walk.first (brings height made point))
 
   done_gives : (w : Walk) (told : Option Outcome) → Gives (shown now) (stepped c (led w told)) o true → GoesOn op.walk.phase w → (table : Table) → table ≡ led w told → StepGives table DoneMove
-  done_gives w told g goes table e = subst (λ (t : Table). StepGives t DoneMove) (sym e) (g.0, record {
-    tells = g.1;
-    nears = tt;
-    leads = leads_over c o h op there op.walk.phase refl now is c.arena c.tape c.accounts (led w told) _ (led_over w told) w goes refl;
-  })
+  done_gives w told g goes table e = subst (λ (t : Table). StepGives t DoneMove) (sym e) (
+    g.0,
+    record {
+      tells = g.1;
+      nears = tt;
+      leads = leads_over c o h op there op.walk.phase refl now is c.arena c.tape c.accounts (led w told) _ (led_over w told) w goes refl;
+    },
+  )
 
   goes_at : (p : Phase) → op.walk.phase ≡ p → (w : Walk) → GoesOn p w → GoesOn op.walk.phase w
   goes_at p at_p w = subst (λ (q : Phase). GoesOn q w) (sym at_p)

@@ -2,7 +2,7 @@
 use Rattle.std.proofs.Common.{sym, ◌∙◌}
 use Rattle.mt_arena.specs.Accesses.{at}
 use Rattle.mt_descent.specs.Kept.{slice_in}
-use Rattle.mt_core.proofs.LookSteps.{enter_goes, verify_goes, forward_goes, enter_leads, pick_leads, child_leads, verify_leads, forward_leads}
+use Rattle.mt_core.proofs.LookSteps.{enter_goes, verify_goes, forward_goes, enter_leads, pick_leads, child_leads, verify_leads, forward_leads, enter_way, child_way, verify_way, forward_way}
 use Rattle.mt_core.proofs.LookPoints.{enter_nears, verify_nears}
 use Rattle.mt_core.proofs.looks.go_down.Goals as goal
 
@@ -35,3 +35,15 @@ returns-in-Verify-clause-leads c = verify_leads c.verify.result c.args.arena.now
 
 pub returns-in-Forward-clause-leads : goal.returns-in-Forward-clause-leads
 returns-in-Forward-clause-leads c = forward_leads c.forward.result c.args.arena.now c.args.key.now _ _ (sym c.requires.phase ∙ c.in-Forward.is) c.forward.ensures.again c.forward.ensures.last c.forward.ensures.is
+
+pub returns-in-Enter-clause-again : goal.returns-in-Enter-clause-again
+returns-in-Enter-clause-again c s = enter_way c.args.arena.now c.facts.ensures.arena c.requires.kept.0 c.args.key.now _ _ c.requires.kept.1 s c.enter.result (sym c.requires.phase ∙ c.in-Enter.is) c.enter.ensures.again
+
+pub returns-in-Child-clause-again : goal.returns-in-Child-clause-again
+returns-in-Child-clause-again c s = child_way c.args.arena.now c.facts.ensures.arena c.requires.kept.0 c.args.key.now _ _ c.requires.kept.1 s c.child.result (sym c.requires.phase ∙ c.in-Child.is) c.child.ensures.again
+
+pub returns-in-Verify-clause-again : goal.returns-in-Verify-clause-again
+returns-in-Verify-clause-again c s = verify_way c.args.arena.now c.facts.ensures.arena c.requires.kept.0 c.args.key.now _ _ c.requires.kept.1 s c.verify.result (sym c.requires.phase ∙ c.in-Verify.is) c.verify.ensures.again
+
+pub returns-in-Forward-clause-again : goal.returns-in-Forward-clause-again
+returns-in-Forward-clause-again c s = forward_way c.args.arena.now c.facts.ensures.arena c.requires.kept.0 c.args.key.now _ _ c.requires.kept.1 s c.forward.result (sym c.requires.phase ∙ c.in-Forward.is) c.forward.ensures.again c.forward.ensures.last

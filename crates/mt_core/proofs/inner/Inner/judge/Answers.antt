@@ -63,6 +63,6 @@ pub returns-in-NoMemory : goal.returns-in-NoMemory
 returns-in-NoMemory c = record {
   tells = (gives_none c).1;
   nears = tt;
-  leads = let e = c.judge-judged.ensures in let t = c.in-NoMemory.ensures.told in refused_leads (core_of c.self.inside) _ c.args.id c.self.view_is c.self.invariant c.requires.few c.requires.next _ c.open-operation.ensures _ _ _ _ _
+  leads = let e = c.judge-judged.ensures in let t = c.in-NoMemory.ensures.told in refused_leads (core_of c.self.inside) _ c.args.id c.self.view_is c.self.invariant c.requires.few c.requires.next _ c.open-operation.ensures _ c.judge-judged.new.tape _ _ _
       (record { is = t.2; walk = t.1; same = e.same; leaves = record { guarantee = e.step; contents = e.contents } }) c.go_on_with.ensures.moves;
 }
