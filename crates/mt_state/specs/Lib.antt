@@ -12,3 +12,5 @@ pub mod Refused
 pub mod Histories
 pub mod OneGet
 pub mod Writes
+pub mod Growth
+pub mod Written
