@@ -1,5 +1,5 @@
 -- A step keeps that all maps since the floor keep their quotas, and that each entry's row is made by a change: for all phases.
-use Rattle.std.proofs.Common.{◌≡◌, ℕ, ◌+◌, ◌<◌, ◌≤◌, ◌⊎◌, inl, inr, Bool, true, false, [], ◌∷◌, ◌++◌, Option, Some, None, refl, sym, ap, subst, ◌∙◌, arith}
+use Rattle.std.proofs.Common.{◌≡◌, ℕ, ◌+◌, ◌≤◌, inl, inr, Bool, true, false, [], ◌∷◌, ◌++◌, Option, Some, None, refl, sym, ap, subst, ◌∙◌, arith}
 use Rattle.std.specs.Prelude.{if◌then◌else◌}
 use Rattle.std.specs.List.{All, Contains}
 use Rattle.std.specs.FinMap.{len}
@@ -25,7 +25,7 @@ use Rattle.mt_operation.specs.declared.operation.Operation.{Operation}
 use Rattle.mt_operation.specs.Tasks.{command_of, ask}
 use Rattle.mt_operation.specs.Operations.{view_of}
 use Rattle.mt_insert.specs.Puts.{change_of}
-use Rattle.mt_state.specs.Views.{Core, shown, granted_in, map_of, quota_of}
+use Rattle.mt_state.specs.Views.{Core, shown, granted_in, quota_of}
 use Rattle.mt_state.specs.Steps.{told_change, change_in}
 use Rattle.mt_state.specs.Promises.{IsPlacing}
 use Rattle.mt_state.specs.Kept.{IsPlacedOnce}

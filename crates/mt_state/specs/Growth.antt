@@ -1,5 +1,5 @@
 -- How many nodes and trees a step makes.
-use Rattle.std.specs.Prelude.{ℕ, ◌+◌, ◌≤◌, length}
+use Rattle.std.specs.Prelude.{◌+◌, ◌≤◌, length}
 use Rattle.mt_arena.specs.Arena.{ArenaView}
 
 -- at most one node and one tree were made, and none was taken from the lists
