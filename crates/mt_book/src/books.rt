@@ -104,7 +104,7 @@ impl<L: Ledger> Book<L> {
         displaced: &mut Displaced,
     ) -> Result<Answer, Ticket>
         ensures told { TellsTake self.old.state self.new.state ticket result }
-        ensures rest { OnOk result (HandsOutRest displaced.old displaced.new) }
+        ensures rest { OnOk result (HandsOutRest self.old.state.table ticket.id displaced.old displaced.new) }
         ensures kept { OnErr result (displaced.new ≡ displaced.old) }
         ensures answered { OnOk result (pass.new.share.amount ≡ pass.old.share.amount + 1) }
         ensures open { OnErr result (pass.new.share.amount ≡ pass.old.share.amount) }

@@ -57,6 +57,7 @@ module _ (c : Core) (now : StateView) (opening : OpeningView) (op : Operation) (
         made = let last = ap (λ (v : OperationView). v.last) a.is_begun in omega (arith, last);
         floor = λ begun. let first = ap (λ (w : Walk). w.first) a.walk in absurd (omega (arith, first, begun));
         begun = λ other. absurd (other (ap (λ (w : Walk). w.phase) a.walk));
+        short = a.short;
       };
       kept = subst (λ p. IsKeptAt p (with_table c c.answers table) o op) (sym (ap (λ (w : Walk). w.phase) a.walk)) (record {
         kept = subst (λ (w : Walk). KeptAt w.phase c.arena (past_of c) op.task.key None w) (sym a.walk) (through_top c.arena op.task.key arena a.stored);

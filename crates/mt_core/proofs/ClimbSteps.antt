@@ -190,6 +190,7 @@ module _ (c : Core) (o : ℕ) (op : Operation) (h : StateInvariant c) (there : o
             made = a.made;
             floor = a.floor;
             begun = a.begun;
+            short = a.short;
           };
           kept = climbs_at op.walk.phase climbs new o y (record {
             climbs = grow_same op.splits t same op.walk.phase grows c.arena o climbing.climbs;
@@ -228,6 +229,8 @@ module _ (c : Core) (o : ℕ) (op : Operation) (h : StateInvariant c) (there : o
       answered = subst (λ (all : Shown). c.answers + made_count all ≤ c.steps) (sym (ap (λ v. v.table) (same_shown same))) h.answered;
       unremoved = h.unremoved;
       few = h.few;
+      quotas = h.quotas;
+      written = h.written;
     }
 
 module _ (c now : Core) (o : ℕ) (is : c ≡ now) (h : StateInvariant c) (next : IsNext now o IsClimb) where
@@ -300,6 +303,7 @@ module _ (c now : Core) (o : ℕ) (is : c ≡ now) (h : StateInvariant c) (next 
               stood = told.stood;
               versions = told.versions c.steps h.versions;
               unremoved = told.unremoved h.unremoved;
+              makes = told.makes;
             };
             follows = told.follows;
             same = told.same;

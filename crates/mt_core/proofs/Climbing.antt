@@ -27,6 +27,7 @@ use Rattle.mt_state.specs.Promises.{Touches, HoldsEither}
 use Rattle.mt_state.specs.Invariant.{IsCountedUpTo, IsUnremoved}
 use Rattle.mt_state.specs.Writes.{HasPairsOf, IsClimb}
 use Rattle.mt_state.specs.Phases.{LeadsTo}
+use Rattle.mt_state.specs.Growth.{MakesFew}
 use Rattle.mt_core.specs.Points.{AreBelow, IsFresh, before_unlock, HasMade, MayHaveGrown}
 use Rattle.mt_core.specs.Climbs.{ClimbsOn}
 use Rattle.mt_core.proofs.Points.{point_at, below_at, few_at}
@@ -59,6 +60,7 @@ pub record LeavesNodes (o : ℕ) (old new : ArenaView) : Type 0 where
   pub trees : length new.trees ≡ length old.trees
   pub prefix : (t : ℕ) → (tree_at new.trees t).prefix ≡ (tree_at old.trees t).prefix
   pub standing : (t : ℕ) → (tree_at new.trees t).standing ≡ (tree_at old.trees t).standing
+  pub one : length new.nodes ≤ length old.nodes + 1
 
 -- each node that was added stands on the level of one that was there
 abbrev pub AreOnLevels : ArenaView → ArenaView → Type 0
@@ -90,6 +92,7 @@ leaves_set o old ys size each = record {
   trees = refl;
   prefix = λ t. refl;
   standing = λ t. refl;
+  one = omega (arith, size);
 }
 
 -- a node of the same tree counts as before
@@ -102,6 +105,9 @@ same_counts was now n m deleted tree standing =
 module _ (o : ℕ) (old new : ArenaView) (l : LeavesNodes o old new) where
   pub touches : Touches o old new
   touches k lt = (l.each k lt).touched
+
+  pub makes : MakesFew old new
+  makes = record { nodes_stay = l.more; one_node = l.one; trees_stay = omega (arith, l.trees); one_tree = omega (arith, l.trees) }
 
   pub stood : (k : ℕ) → k < length new.nodes → counts new.trees (at new k) ≡ true → HasPairsOf old new k ⊎ ((at new k).slots ≡ [])
   stood k within counted = elim (cases_lt k (length old.nodes)) [
@@ -200,6 +206,7 @@ climbs_on op old new before after s t p q at_p climb goes climbed follows leads 
       kept = e.kept;
       some = some;
       holds = e.holds;
+      makes = makes op old new leaves;
       nears = λ height made point.
           let below : AreBelow old height = below_at height made old before s p at_p (climb_ungrown p climb s.halves.items) point in
           point_at height (made + 1) new after t q at_q

@@ -93,6 +93,7 @@ module _ (op : ℕ) (old new : ArenaView) (before after : Walk) (s t : Splits) (
       trees = refl;
       prefix = λ t. refl;
       standing = λ t. refl;
+      one = omega (arith, size_z, length-append zs (half ∷ []));
     }
 
     half_is : at u (length old.nodes) ≡ half
@@ -163,6 +164,7 @@ module _ (op : ℕ) (old new : ArenaView) (before after : Walk) (s t : Splits) (
       trees = length-set old.trees (at old l).tree grown;
       prefix = tree_as (λ (t : Tree). t.prefix) refl;
       standing = tree_as (λ (t : Tree). t.standing) refl;
+      one = omega (arith, size_w, length-append ws (root ∷ []));
     }
 
     pub root_grown : before.phase ≡ RootGrow → new ≡ g → after ≡ walk_at Unlock before → t.halves.items ≡ s.halves.items → ClimbsOn op old new before after s t

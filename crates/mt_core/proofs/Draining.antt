@@ -78,6 +78,8 @@ drained c worker h = record {
   answered = h.answered;
   unremoved = h.unremoved;
   few = h.few;
+  quotas = h.quotas;
+  written = h.written;
 }
 
 -- the least of the numbers so far, and of one more

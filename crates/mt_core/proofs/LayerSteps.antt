@@ -42,6 +42,8 @@ use Rattle.mt_state.specs.Invariant.{IsCountedUpTo, IsUnremoved, StateInvariant}
 use Rattle.mt_state.specs.Kept.{IsLeaving, IsReturning, IsKeptAt}
 use Rattle.mt_state.specs.Writes.{IsLayerPhase, GoesBelow}
 use Rattle.mt_state.specs.Phases.{GoesFromUnlock, LeadsTo, Leads}
+use Rattle.mt_state.specs.Growth.{MakesFew}
+use Rattle.mt_state.proofs.Growing.{makes_same, makes_set}
 use Rattle.mt_state.proofs.OneNode.{replaced_all}
 use Rattle.mt_state.proofs.Telling.{Gives}
 use Rattle.mt_state.proofs.LayerSteps.{build_done, make_stopped, leave_done}
@@ -77,6 +79,7 @@ record LeavesNodes (o : ℕ) (old new : ArenaView) : Type 0 where
   each : (k : ℕ) → k < length old.nodes → Stays o (at old k) (at new k)
   fresh : (k : ℕ) → length old.nodes ≤ k → k < length new.nodes → IsRoot (at new k)
   alive : ((t : ℕ) → t < length old.trees → (tree_at old.trees t).standing ≢ Dead) → (t : ℕ) → t < length new.trees → (tree_at new.trees t).standing ≢ Dead
+  makes : MakesFew old new
 
 -- so where a tree is made
 layer_leaves : (o : ℕ) (v : ArenaView) (prefix : Bytes) (e : Entry) → LeavesNodes o v (with_layer v prefix e o)
@@ -90,6 +93,10 @@ layer_leaves o v prefix e = record {
         let last : t ≡ length v.trees = omega (arith, late, within, length-append v.trees (tree ∷ [])) in
         subst (λ (u : Tree). u.standing ≢ Dead) (sym (ap (λ i. tree_at (v.trees ++ tree ∷ []) i) last ∙ last_tree v.trees tree)) (λ dead. absurd (cc))
   ];
+  makes =
+      let nodes = length-append v.nodes (root_of (length v.trees) e ∷ []) in
+      let trees = length-append v.trees (tree ∷ []) in
+      record { nodes_stay = omega (arith, nodes); one_node = omega (arith, nodes); trees_stay = omega (arith, trees); one_tree = omega (arith, trees) };
 }
   where
     tree : Tree
@@ -105,7 +112,7 @@ module _ (o : ℕ) (v : ArenaView) (k i : ℕ) (mine : IsHeld v k o) where
 
   -- where a slot of the held node holds something else
   slot_leaves : (held : Held) → LeavesNodes o v (with_slot v k i held)
-  slot_leaves held = record { each = held_each held; fresh = held_fresh held; alive = λ alive. alive }
+  slot_leaves held = record { each = held_each held; fresh = held_fresh held; alive = λ alive. alive; makes = makes_set v k (with_held (at v k) i held) }
 
   -- and where it is a link to a tree, which is live
   link_leaves : (t : ℕ) → LeavesNodes o v (with_link v k i t)
@@ -120,6 +127,7 @@ module _ (o : ℕ) (v : ArenaView) (k i : ℕ) (mine : IsHeld v k o) where
               subst (λ (x : Tree). x.standing ≢ Dead) (sym (ap (λ j. tree_at (set v.trees t live) j) is ∙ get_or-set_same v.trees t live no_tree there)) (λ dead. absurd (cc))
           | inr other ↦ subst (λ (x : Tree). x.standing ≢ Dead) (sym (get_or-set_other v.trees t u live no_tree other)) (alive u was)
         ];
+    makes = makes_same v (with_link v k i t) (length-set v.nodes k (with_held (at v k) i (LinkTo t))) (length-set v.trees t live);
   }
     where
       live : Tree
@@ -189,6 +197,7 @@ builds_on o old new key before after p q at_p goes within follows on ungrown fre
     here = goes.here;
     kept = subst (λ (x : Phase). KeptLayer x new o key after) (sym goes.at) e.kept;
     holds = e.holds;
+    makes = leaves.makes;
   };
   leads = λ step told s. subst (λ (x : Phase). LeadsTo x old new o step key told s before after) (sym at_p) (leads step told s);
   nears = λ height n s point.

@@ -189,6 +189,7 @@ module _ (c : Core) (answers : ℕ) (logs : List ℕ) (tape : Kept) (table : Tab
     made = k.made;
     floor = t.floor;
     begun = k.begun;
+    short = k.short;
   }
 
   -- all that is kept of the operation

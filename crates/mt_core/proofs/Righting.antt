@@ -1,10 +1,19 @@
 -- What holds of every state, by its invariant: for `Inner::facts`.
-use Rattle.std.proofs.Common.{◌≡◌, ℕ, Some, ap, subst}
+use Rattle.std.proofs.Common.{◌≡◌, ℕ, ◌-◌, ◌<◌, Some, ap, subst, ◌∙◌, arith}
 use Rattle.std.specs.Prelude.{not}
+use Rattle.std.specs.List.{Contains}
+use Rattle.std.proofs.lemmas.List.Elements.{All-contains}
+use Rattle.mt_rows.proofs.ContentLaws.{get-tenant_map}
+use Rattle.mt_tape.specs.declared.entry.Entry.{Entry as TapeEntry}
+use Rattle.mt_tape.specs.Histories.{contents_at}
+use Rattle.mt_tape.proofs.EntryLaws.{rises_all}
+use Rattle.mt_tape.proofs.TapeLaws.{get-contents_at_before}
+use Rattle.mt_arena.specs.Arena.{content_of}
 use Rattle.mt_operation.specs.declared.operation.Operation.{Operation}
 use Rattle.mt_operation.specs.Operations.{view_of}
 use Rattle.mt_operation.specs.Tables.{op_at as operation_at}
 use Rattle.mt_state.specs.Views.{Core, StateView, shown}
+use Rattle.mt_state.specs.Written.{IsMadeByChange, IsWritten}
 use Rattle.mt_state.specs.Invariant.{StateInvariant}
 use Rattle.mt_state.proofs.Shown.{inside_of, shown_there}
 use Rattle.mt_core.specs.Rights.{IsRightOperation, IsRightState}
@@ -27,6 +36,16 @@ module _ (c : Core) (h : StateInvariant c) where
     };
   }
 
+  -- each entry has the row that its key had just before, and the one that a change made of it
+  written_inside : (e : TapeEntry) → Contains c.tape.entries e → IsWritten (shown c) e
+  written_inside e has =
+      let over : c.tape.floor < e.step = All-contains (λ x. c.tape.floor < x.step) c.tape.entries e (rises_all c.tape.floor c.tape.entries h.tape.rises) has in
+      record {
+        made = All-contains IsMadeByChange c.tape.entries e h.written has;
+        before = get-tenant_map e.tenant (contents_at c.tape.entries (content_of c.arena) (e.step - 1)) e.key
+            ∙ get-contents_at_before c.tape.floor (e.step - 1) c.tape.entries (content_of c.arena) e h.tape.rises has (omega (arith, over));
+      }
+
   right_shown : IsRightState (shown c)
   right_shown = record {
     answers = h.answered;
@@ -36,6 +55,8 @@ module _ (c : Core) (h : StateInvariant c) where
     holders = λ k o inside holds.
         let w = h.holders k o inside holds in
         (view_of w.0, shown_there c.table o w.0 w.1, holder_open w.0.walk.phase w.0.walk w.0.splits k w.2);
+    quotas = h.quotas;
+    written = written_inside;
   }
 
 -- all that a state tells is right

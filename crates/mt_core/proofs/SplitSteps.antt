@@ -48,7 +48,7 @@ use Rattle.mt_state.proofs.Parting.{part_done, fill_done}
 use Rattle.mt_core.specs.Nexts.{IsNext}
 use Rattle.mt_core.specs.Points.{AreBelow, IsFresh, above, HasMade, Nears, StepsOn}
 use Rattle.mt_core.proofs.Points.{point_first, point_at, below_at, few_at, nears_by}
-use Rattle.mt_core.proofs.Climbing.{Stays, stays_same, IsBare, LeavesNodes, each_set, each_pushed, pushed_at, touches, stood, versions, unremoved, stays_below}
+use Rattle.mt_core.proofs.Climbing.{Stays, stays_same, IsBare, LeavesNodes, each_set, each_pushed, pushed_at, touches, makes, stood, versions, unremoved, stays_below}
 use Rattle.mt_core.proofs.Following.{next_here, Writes, IsOver, over_first, over_next, opened, may_over, made}
 use Rattle.mt_core.proofs.Leading.{leads_over, done_from}
 
@@ -79,6 +79,7 @@ module _ (c : Core) (o : ℕ) (h : StateInvariant c) (k low : ℕ) (held : IsHel
     trees = refl;
     prefix = λ t. refl;
     standing = λ t. refl;
+    one = omega (arith, size_y, length-append ys (half ∷ []));
   }
 
   half_moves : Guarantee o c.arena parted → content_of parted ≡ content_of c.arena → MovesNoPair c o parted
@@ -88,6 +89,7 @@ module _ (c : Core) (o : ℕ) (h : StateInvariant c) (k low : ℕ) (held : IsHel
     stood = stood o c.arena parted half_leaves;
     versions = versions o c.arena parted half_leaves c.steps h.versions;
     unremoved = unremoved o c.arena parted half_leaves h.unremoved;
+    makes = makes o c.arena parted half_leaves;
   }
 
   -- no level is new

@@ -57,6 +57,8 @@ start_sound logs accounts few none = record {
   answered = omega arith;
   unremoved = record { live = live; alive = alive };
   few = omega arith;
+  quotas = λ t m a there from upto. subst (λ n. n ≤ a.quota) (sym (no_len t)) (omega arith);
+  written = λ k d lt. never k lt;
 }
   where
     stamps : AreStamps (start logs accounts)

@@ -50,6 +50,8 @@ module _ (c : Core) (o answers : ℕ) (table : Table) (h : StateInvariant c) (ot
     answered = bound;
     unremoved = h.unremoved;
     few = h.few;
+    quotas = h.quotas;
+    written = h.written;
   }
 
 -- taking an operation out, no operation more has made a step

@@ -2,20 +2,25 @@
 use Rattle.std.proofs.Common.{◌≡◌, ◌≢◌, ℕ, ◌+◌, ◌<◌, true, false, set, None, Some, refl, sym, ap, subst, ◌∙◌, arith}
 use Rattle.std.specs.Prelude.{not}
 use Rattle.std.proofs.lemmas.Option.{same_Some, none-some}
+use Rattle.mt_rows.specs.Commands.{key_of}
 use Rattle.mt_runs.specs.declared.event.Answer.{Answer}
 use Rattle.mt_operation.specs.declared.operation.Operation.{Operation}
 use Rattle.mt_operation.specs.declared.walk.Phase.{Phase}
 use Rattle.mt_operation.specs.declared.walk.Phase.TheVariants.{Enter, Done}
+use Rattle.mt_operation.specs.Tasks.{ask}
 use Rattle.mt_operation.specs.Operations.{OperationView, view_of, is_done, is_unfinished}
 use Rattle.mt_operation.specs.Tables.{Table, op_at as operation_at}
 use Rattle.mt_state.specs.Views.{Core, StateView, Shown, shown, op_at}
 use Rattle.mt_state.specs.Promises.{IsAnswer}
-use Rattle.mt_state.specs.Kept.{HasAnswer, IsKeptAt}
+use Rattle.mt_state.specs.Kept.{HasAnswer, IsKeptAt, has_splits}
 use Rattle.mt_state.specs.Invariant.{StateInvariant, HoldsAt, is_prepared}
 use Rattle.mt_state.specs.Begins.{IsAnswerOf, Takes, IsEnded}
 use Rattle.mt_state.proofs.Shown.{shown_there, shown_set, inside_of}
 use Rattle.mt_state.proofs.Answered.{answered_out}
+use Rattle.mt_state.proofs.Reading.{key_of_owner}
+use Rattle.mt_core.specs.declared.displaced.Displaced.{Displaced}
 use Rattle.mt_core.specs.Tickets.{IsStill, Cancels}
+use Rattle.mt_core.specs.Tidies.{DisplacesRestOf, HandsOutRest}
 use Rattle.mt_core.proofs.Tabling.{with_table, removed_sound, made_inside}
 
 -- an operation that is finished has its answer
@@ -63,6 +68,24 @@ takes_by c now o table answer is h gave =
           subst (IsAnswer (shown c) (view_of gave.0)) (same_Some a.outcome (record { reply = answer.reply; at = answer.at }) (sym a.told ∙ gave.2.told)) a.right;
       gone = ap (λ (t : Shown). record (shown c) { answers = c.answers + 1; table = t }) (shown_set c.table o None);
     }))
+
+-- and the rest that it hands out is that of a finished operation
+pub hands_out_by : (c : Core) (now : StateView) (o : ℕ) (table : Table) (answer : Answer) (before after : Displaced) → shown c ≡ now → StateInvariant c → GaveUp c o table answer
+    → DisplacesRestOf c.table o before after → HandsOutRest now.table o before after
+hands_out_by c now o table answer before after is h gave displaces =
+    let op = gave.0 in
+    let kept = h.ops o op gave.1 in
+    let displaced = displaces op gave.1 in
+    record {
+      op = view_of op;
+      there = ap (λ (v : StateView). op_at v.table o) (sym is) ∙ shown_there c.table o op gave.1;
+      rest = record { key = op.task.key; prepared = op.prepared; splits = op.splits };
+      is = displaced.rest;
+      key = key_of_owner op.task.key op.task.tenant (key_of (ask op.task)) kept.always.stored kept.always.owner;
+      unprepared = (done_answer c o op h gave.1 gave.2.finished).unprepared;
+      unsplit = kept.unsplit (ap has_splits gave.2.finished);
+      writes = displaced.writes;
+    }
 
 -- what it tells of an operation that is not finished
 pub keeps_by : (c : Core) (now : StateView) (o : ℕ) (table : Table) → shown c ≡ now → GaveNone c o table → (shown (with_table c c.answers table) ≡ now) × ¬ IsEnded now.table o

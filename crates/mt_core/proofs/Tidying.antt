@@ -2,6 +2,7 @@
 use Rattle.std.proofs.Common.{◌≡◌, ℕ, ◌<◌, ◌≤◌, inl, inr, List, [], ◌∷◌, Some, sym, refl, ap, subst, ◌∙◌, arith}
 use Rattle.std.specs.Prelude.{nat_lt, ◌-◌, vec_len, vec_capacity}
 use Rattle.std.specs.List.{All, Contains}
+use Rattle.std.specs.FinMap.{len}
 use Rattle.std.proofs.lemmas.Bool.{cases_lt}
 use Rattle.std.proofs.lemmas.List.Elements.{All-filter, All-weaker, Contains-push, Contains-push_cases, Contains-append_cases, Contains-append_left, Contains-append_right}
 use Rattle.mt_rows.specs.Commands.{IsKey}
@@ -16,6 +17,7 @@ use Rattle.mt_operation.specs.declared.operation.Operation.{Operation}
 use Rattle.mt_operation.specs.Operations.{OperationView, view_of}
 use Rattle.mt_operation.specs.Tables.{IsBeforeFirsts, IsFloorNeeded, op_at as operation_at}
 use Rattle.mt_state.specs.Views.{Core, StateView, shown}
+use Rattle.mt_state.specs.Written.{IsMadeByChange}
 use Rattle.mt_state.specs.Invariant.{IsStampOf, StateInvariant}
 use Rattle.mt_state.proofs.Shown.{shown_there, inside_of}
 use Rattle.mt_core.specs.declared.displaced.Displaced.{Displaced}
@@ -90,6 +92,8 @@ module _ (c : Core) (floor : ℕ) (h : StateInvariant c) (rises : c.tape.floor �
     answered = h.answered;
     unremoved = h.unremoved;
     few = h.few;
+    quotas = λ t m a there from upto. subst (λ all. len all ≤ a.quota) (sym (map_at-trim floor m c.tape.entries (content_of c.arena) t from)) (h.quotas t m a there (omega (arith, rises, from)) upto);
+    written = All-filter (λ e. nat_lt floor e.step) IsMadeByChange c.tape.entries h.written;
   }
 
 -- the floor of before is at most the one that is needed, by the operations and by the logs

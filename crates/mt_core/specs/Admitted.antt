@@ -6,7 +6,7 @@ use Rattle.mt_rows.specs.declared.refusal.Refusal.{Refusal}
 use Rattle.mt_rows.specs.declared.refusal.Refusal.TheVariants.{Memory, NoTenant, Spent}
 use Rattle.mt_rows.specs.declared.tenants.Account.{Account}
 use Rattle.mt_rows.specs.Accounts.{account_of}
-use Rattle.mt_rows.specs.Commands.{key_of, HasColumns, IsTaken}
+use Rattle.mt_rows.specs.Commands.{key_of, HasColumns, HasShortColumns, IsTaken}
 use Rattle.mt_rows.specs.Maps.{is_get}
 use Rattle.mt_border.specs.Contents.{owned}
 use Rattle.mt_operation.specs.declared.task.Request.{Request}
@@ -32,6 +32,7 @@ pub record IsAdmitted (op : Operation) : Type 0 where
   pub stored : IsStoredKey op.task.key
   pub owner : owned op.task.key ≡ (op.task.tenant, key_of (ask op.task))
   pub columns : HasColumns (ask op.task)
+  pub short : HasShortColumns (ask op.task)
 
 -- what a begin would begin, as it is shown, or for which fault it is refused; and for which tenant
 pub record OpeningView : Type 0 where

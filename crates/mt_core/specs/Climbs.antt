@@ -16,6 +16,7 @@ use Rattle.mt_state.specs.Promises.{Touches, IsToGrow}
 use Rattle.mt_state.specs.Invariant.{IsCountedUpTo, IsUnremoved}
 use Rattle.mt_state.specs.Writes.{HasPairsOf}
 use Rattle.mt_state.specs.Phases.{LeadsTo}
+use Rattle.mt_state.specs.Growth.{MakesFew}
 use Rattle.mt_core.specs.Points.{IsAtPoint}
 use Rattle.mt_core.specs.declared.climbs.Climbed.{Climbed}
 use Rattle.mt_core.specs.declared.climbs.Climbed.TheVariants.{On, Blocked, NoMemory}
@@ -34,6 +35,7 @@ pub record ClimbsOn (op : ℕ) (old new : ArenaView) (before after : Walk) (s t 
   pub kept : KeptSplit after.phase new op t
   pub some : t.halves.items ≢ []
   pub holds : HoldsSplits old op s → HoldsSplits new op t
+  pub makes : MakesFew old new
   pub nears : (height made : ℕ) → IsAtPoint height made old before s → IsAtPoint height (made + 1) new after t
 
 -- the splits are the same, as far as anything is said of them

@@ -19,6 +19,7 @@ use Rattle.mt_state.specs.Views.{StateView, contents_of, op_at}
 use Rattle.mt_state.specs.Steps.{change_in}
 use Rattle.mt_state.specs.Promises.{IsAnswer, HasStep}
 use Rattle.mt_state.specs.Invariant.{AreLogs, made_count}
+use Rattle.mt_state.specs.Written.{KeepsQuotas, IsWritten}
 
 -- the steps of the tape rise over its floor and were made, each entry tells what its step did to a user's key, and it goes back as far as the logs need it
 pub record IsRightTape (v : StateView) : Type 0 where
@@ -49,11 +50,13 @@ pub record IsRightAccount (v : StateView) (tenant : ℕ) (account : Account) : T
   pub count : account.count ≡ len (tenant_map tenant (contents_of v))
   pub quota : account.count ≤ account.quota
 
--- All of it; each answer that was taken, and each operation that has made a step, made one of its own; and who holds a node is an operation that has a
--- step left.
+-- All of it; each answer that was taken, and each operation that has made a step, made one of its own; who holds a node is an operation that has a
+-- step left; every map since the tape's floor keeps its quota; and each entry of the tape is made by a change, also once its operation was taken.
 pub record IsRightState (v : StateView) : Type 0 where
   pub answers : v.answers + made_count v.table ≤ v.steps
   pub tape : IsRightTape v
   pub operations : (o : ℕ) (op : OperationView) → op_at v.table o ≡ Some op → IsRightOperation v op
   pub accounts : (t : ℕ) (account : Account) → account_of v.accounts t ≡ Some account → IsRightAccount v t account
   pub holders : (k o : ℕ) → k < length v.arena.nodes → (at v.arena k).holder ≡ Some o → HasStep v o
+  pub quotas : KeepsQuotas v
+  pub written : (e : TapeEntry) → Contains v.tape.entries e → IsWritten v e

@@ -1,8 +1,13 @@
 -- What a tidying leaves.
-use Rattle.std.specs.Prelude.{◌≡◌, ℕ, ◌-◌, ◌<◌, ◌≤◌, List, Some, IsSome, vec_len, vec_capacity}
+use Rattle.std.specs.Prelude.{◌≡◌, ℕ, ◌-◌, ◌<◌, ◌≤◌, List, Some, None, vec_len, vec_capacity}
 use Rattle.std.specs.List.{All}
 use Rattle.mt_tape.specs.Tapes.{later_entries, HandsOut}
-use Rattle.mt_operation.specs.Operations.{OperationView}
+use Rattle.mt_operation.specs.Operations.{OperationView, IsUnsplit}
+use Rattle.mt_operation.specs.Tables.{Table, op_at as operation_at}
+use Rattle.mt_rows.specs.Commands.{key_of}
+use Rattle.mt_slices.specs.Keys.{stored_key}
+use Rattle.mt_operation.specs.declared.operation.Operation.{Operation}
+use Rattle.mt_core.specs.declared.displaced.Rest.{Rest}
 use Rattle.mt_core.specs.declared.displaced.Displaced.{Displaced}
 use Rattle.mt_state.specs.Views.{StateView, Shown, op_at, map_of, changed_at}
 
@@ -48,7 +53,23 @@ pub record TidiesInto (old new : StateView) (before after : Displaced) : Type 0 
   pub hands_out : HandsOut floor old.tape new.tape before.writes.items after.writes.items (vec_capacity before.writes - vec_len before.writes)
   pub rest : after.rest ≡ before.rest
 
--- a take that hands out the rest of its operation, in the place of any other
-pub record HandsOutRest (before after : Displaced) : Type 0 where
-  pub rest : IsSome after.rest
+-- a take that hands out the rest of its operation, in the place of any other: the stored key of its tenant and its command's key, with nothing ready
+-- and nothing split, as a finished operation is
+pub record HandsOutRest (table : Shown) (o : ℕ) (before after : Displaced) : Type 0 where
+  pub op : OperationView
+  pub there : op_at table o ≡ Some op
+  pub rest : Rest
+  pub is : after.rest ≡ Some rest
+  pub key : rest.key ≡ stored_key op.tenant (key_of op.command)
+  pub unprepared : rest.prepared ≡ None
+  pub unsplit : IsUnsplit rest.splits
   pub writes : after.writes ≡ before.writes
+
+-- inside it is all that the operation had of these
+pub record DisplacesRest (op : Operation) (before after : Displaced) : Type 0 where
+  pub rest : after.rest ≡ Some (record { key = op.task.key; prepared = op.prepared; splits = op.splits })
+  pub writes : after.writes ≡ before.writes
+
+-- of the operation that is there
+abbrev pub DisplacesRestOf : Table → ℕ → Displaced → Displaced → Type 0
+DisplacesRestOf table o before after = (op : Operation) → operation_at table o ≡ Some op → DisplacesRest op before after

@@ -20,7 +20,7 @@ ghost use Rattle.mt_core.specs.Shows.{phase_at, phase_in, noted_at};
 ghost use Rattle.mt_core.specs.Alone.{Runs, IsAlone, EndsAlone};
 ghost use Rattle.mt_core.specs.Points.{StepsOn};
 ghost use Rattle.mt_core.specs.Drains.{Drains};
-ghost use Rattle.mt_core.specs.Tidies.{Tidies, TidiesInto, HandsOutRest};
+ghost use Rattle.mt_core.specs.Tidies.{Tidies, TidiesInto, DisplacesRestOf, HandsOutRest};
 ghost use Rattle.mt_core.specs.Nexts.{IsNext, IsNoLook, ending};
 ghost use Rattle.mt_operation.specs.declared.operation.Operation.{Operation as AnyOperation};
 ghost use Rattle.mt_operation.specs.Operations.{OperationView, view_of};
@@ -131,7 +131,8 @@ impl Inner {
         displaced: &mut Displaced,
     ) -> Result<Answer, Ticket>
         ensures told { TellsTake (shown self.old) (shown self.new) ticket result }
-        ensures rest { OnOk result (HandsOutRest displaced.old displaced.new) }
+        ensures rest { OnOk result (DisplacesRestOf self.old.table ticket.id displaced.old displaced.new) }
+        ensures hands_out { OnOk result (HandsOutRest (shown self.old).table ticket.id displaced.old displaced.new) }
         ensures kept { OnErr result (displaced.new ≡ displaced.old) }
     {
         match give_up(&mut self.operations, ticket.id, displaced) {

@@ -6,7 +6,7 @@ ghost use Rattle.mt_operation.specs.Operations.{view_of, is_unfinished};
 ghost use Rattle.mt_operation.specs.Tables.{op_at as operation_at};
 ghost use Rattle.mt_state.specs.Begins.{begun, IsAnswerOf, MayBegin};
 ghost use Rattle.mt_state.specs.Refused.{Makes};
-ghost use Rattle.mt_core.specs.Tidies.{HandsOutRest};
+ghost use Rattle.mt_core.specs.Tidies.{DisplacesRest, DisplacesRestOf};
 ghost use Rattle.mt_core.specs.Admitted.{IsRequest, IsAdmitted, IsMadeOf};
 
 use crate::displaced::{Displaced, Rest};
@@ -105,7 +105,7 @@ pub(crate) fn give_up(
 ) -> Option<Answer>
     requires { (op : AnyOperation) → operation_at operations.old id ≡ Some op → is_unfinished op ≡ false → op.outcome ≢ None }
     ensures taken { IfSome result (λ answer. (op : AnyOperation) × (operation_at operations.old id ≡ Some op) × IsAnswerOf (view_of op) answer × (operations.new ≡ slice_set operations.old id None)) }
-    ensures rest { OnSome result (HandsOutRest displaced.old displaced.new) }
+    ensures rest { OnSome result (DisplacesRestOf operations.old id displaced.old displaced.new) }
     ensures kept { IfNone result (displaced.new ≡ displaced.old) }
     ensures open { IfNone result ((operations.new ≡ operations.old) × ((op : AnyOperation) → operation_at operations.old id ≡ Some op → is_unfinished op ≡ true)) }
 {
@@ -134,7 +134,7 @@ fn answer_of(operation: Operation, displaced: &mut Displaced) -> Answer
     requires done { is_unfinished operation ≡ false }
     requires told { operation.outcome ≢ None }
     ensures answers { IsAnswerOf (view_of operation) result }
-    ensures rest { HandsOutRest displaced.old displaced.new }
+    ensures rest { DisplacesRest operation displaced.old displaced.new }
 {
     let Operation {
         task,

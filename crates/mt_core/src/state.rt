@@ -100,7 +100,7 @@ impl State {
     /// The same; what is left of the operation is handed out, to be freed by the caller.
     pub fn take_into(&mut self, ticket: Ticket, displaced: &mut Displaced) -> Result<Answer, Ticket>
         ensures told { TellsTake self.old self.new ticket result }
-        ensures rest { OnOk result (HandsOutRest displaced.old displaced.new) }
+        ensures rest { OnOk result (HandsOutRest self.old.table ticket.id displaced.old displaced.new) }
         ensures kept { OnErr result (displaced.new ≡ displaced.old) }
     {
         self.inner.take(ticket, displaced)
@@ -165,7 +165,8 @@ impl State {
 
     /// What holds of every state: its tape is legal, and goes back before the first step of each open
     /// operation; a finished one's reply is right at its number; a change that was placed has its entry;
-    /// the accounts count the pairs; who holds a node is an operation that has a step left.
+    /// the accounts count the pairs, and every map since the tape's floor keeps its quota; each entry of
+    /// the tape is made by a change; who holds a node is an operation that has a step left.
     pub fn facts(&self)
         ensures { IsRightState self.now }
     {

@@ -29,6 +29,7 @@ use Rattle.mt_state.specs.Begins.{new_state, begun, Begins, Takes}
 use Rattle.mt_state.specs.Histories.{Names, no_names, BringsTo}
 use Rattle.mt_state.specs.OneGet.{one_get}
 use Rattle.mt_state.proofs.Still.{nothing_changes}
+use Rattle.mt_state.proofs.Growing.{makes_same}
 use Rattle.mt_state.proofs.HistoryStart.{content-new, tenant_map-empty}
 use Rattle.mt_state.proofs.HistoryGets.{get_absent}
 use Rattle.mt_state.proofs.HistoryNew.{nothing_found}
@@ -91,6 +92,8 @@ module _ (logs : ℕ) (accounts : Accounts) where
     ends = ends;
     answer = answer;
     present = λ t. refl;
+    floor = refl;
+    makes = makes_same (new_state logs accounts).arena (new_state logs accounts).arena refl refl;
   }
 
   abbrev at_first : OperationView

@@ -391,5 +391,6 @@ module _ (c : Core) (o : ℕ) (h : StateInvariant c) (few : c.steps < 2 ^ 59) (o
           notes = layer_notes op.walk.phase w.phase layer leads (shown c) (view_of op) op.outcome layering.untold;
           touches = t.touches;
           effect = inl (record { contents = t.contents; entries = refl; change = refl });
+          makes = t.makes;
         })
         false (sym (made_open w.phase leads))

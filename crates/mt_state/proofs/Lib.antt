@@ -2,6 +2,8 @@ pub mod Shown
 pub mod Granted
 pub mod Rely
 pub mod Answered
+pub mod Growing
+pub mod Writing
 pub mod Moving
 pub mod Telling
 pub mod Quiet

@@ -64,6 +64,7 @@ module _ (c : Core) (op : Operation) (k : IsOpenOperation c op) (w : Walk) where
       | inr (some, is) ↦ omega (arith, is, floor, k.floor some)
     ];
     begun = λ other. first_begun;
+    short = k.short;
   }
 
   pub open_moved : (new : Core) (told : Option Outcome) (prepared : Option Prepared) → new.steps ≡ c.steps + 1 → new.tape.floor ≡ c.tape.floor → ((t : ℕ) → IsSome (account_of c.accounts t) → IsSome (account_of new.accounts t)) → c.tape.floor ≤ c.steps

@@ -8,10 +8,11 @@ use Rattle.mt_operation.proofs.Tables.{set_is, set_here, set_there}
 use Rattle.mt_state.specs.Views.{Core, shown}
 use Rattle.mt_state.specs.Kept.{IsKeptOf}
 use Rattle.mt_state.specs.Invariant.{AreHolders, StateInvariant, one_if_prepared, prepared_count, made_count}
-use Rattle.mt_state.specs.Moves.{IsMove}
+use Rattle.mt_state.specs.Moves.{IsMove, IsTold}
 use Rattle.mt_state.proofs.Rely as rely
 use Rattle.mt_state.proofs.Shown.{shown_table}
 use Rattle.mt_state.proofs.Answered.{made_set}
+use Rattle.mt_state.proofs.Writing.{quotas_stay, written_stays}
 
 -- an operation with a place in the table counts once
 counted_set : (table : Table) (o : ℕ) (before after : Operation) → operation_at table o ≡ Some before → prepared_count (set table o (Some after)) + one_if_prepared (Some before) ≡ prepared_count table + one_if_prepared (Some after)
@@ -19,7 +20,7 @@ counted_set [] o before after e = absurd (cc)
 counted_set (x ∷ table) zero before after e = let is = ap one_if_prepared e in omega (arith, is)
 counted_set (x ∷ table) (suc o) before after e = let rest = counted_set table o before after e in omega (arith, rest)
 
-module _ (old new : Core) (o : ℕ) (before after : Operation) (h : StateInvariant old) (m : IsMove old new o before after) (few : old.steps < 2 ^ 59) where
+module _ (old new : Core) (o : ℕ) (before after : Operation) (h : StateInvariant old) (m : IsMove old new o before after) (t : IsTold old new o before after) (few : old.steps < 2 ^ 59) where
   -- the operation of an id is that of the step, or was there before
   abbrev Was : ℕ → Operation → Type 0
   Was q op = ((q ≡ o) × (after ≡ op)) ⊎ ((q ≢ o) × (operation_at old.table q ≡ Some op))
@@ -75,4 +76,6 @@ module _ (old new : Core) (o : ℕ) (before after : Operation) (h : StateInvaria
     answered = answered_stays;
     unremoved = m.unremoved;
     few = omega (arith, m.number);
+    quotas = quotas_stay old new o before after h m;
+    written = written_stays old new o before after h m t;
   }

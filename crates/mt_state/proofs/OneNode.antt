@@ -38,6 +38,7 @@ use Rattle.mt_state.proofs.Quiet.{quiet, LeavesPairs, quiet_move, is_quiet}
 use Rattle.mt_state.proofs.Telling.{Gives, gives}
 use Rattle.mt_state.proofs.Moved.{went, went_with, open_moved_with, has_moved_with}
 use Rattle.mt_state.proofs.Still.{floor_made}
+use Rattle.mt_state.proofs.Growing.{makes_set}
 
 -- what is left of a state by a step of operation o: another arena, tape, accounts, and the operation after it
 abbrev pub stepped : Core → ArenaView → Kept → Accounts → ℕ → Operation → Core
@@ -162,6 +163,7 @@ module _ (c : Core) (o : ℕ) (h : StateInvariant c) (k : ℕ) (within : k < len
     stood = λ j inside is_counted. inl (stood j inside is_counted);
     versions = replaced_versions counted;
     unremoved = replaced_tree c.arena k within n h.unremoved (deleted ∙ h.unremoved.live k within);
+    makes = makes_set c.arena k n;
   }
     where
       stood : (j : ℕ) → j < length (with_node c.arena k n).nodes → counts c.arena.trees (at (with_node c.arena k n) j) ≡ true → HasPairsOf c.arena (with_node c.arena k n) j
@@ -249,6 +251,7 @@ module _ (c : Core) (now : StateView) (o : ℕ) (is : shown c ≡ now) (h : Stat
         notes = notes;
         touches = touches;
         effect = inl (is_quiet c o op after arena reserved h leaves same);
+        makes = leaves.makes;
       })
       done ends
 

@@ -51,7 +51,9 @@ use Rattle.mt_state.specs.Kept.{IsOfKind, IsOpenOperation, IsSplitMoving, HasAns
 use Rattle.mt_state.specs.Invariant.{IsStampOf, IsCountedUpTo, IsUnremoved, StateInvariant}
 use Rattle.mt_state.specs.Moves.{IsMove}
 use Rattle.mt_state.specs.Writes.{PartsKeys, PartsWith, PartsWithout, splitting}
+use Rattle.mt_state.specs.Growth.{MakesFew}
 use Rattle.mt_state.proofs.Replies.{put_full, put_new}
+use Rattle.mt_state.proofs.Growing.{makes_same}
 use Rattle.mt_state.proofs.Telling.{Gives, gives, logs_later, map_now}
 use Rattle.mt_state.proofs.Moved.{went_with, first_begun, first_upto, open_moved_with, has_moved}
 use Rattle.mt_state.proofs.Still.{floor_made, unready_none}
@@ -153,6 +155,10 @@ module _ (c : Core) (o : ℕ) (h : StateInvariant c) (few : c.steps < 2 ^ 59) (o
       | inr nq ↦ inl (at_other k nl nq)
     ]
   ]
+
+  -- no node is made
+  parted_makes : MakesFew c.arena arena
+  parted_makes = makes_same c.arena arena size (ap (λ (ts : List Tree). length ts) trees)
 
   -- what counts now counted before
   was_counted : (k : ℕ) → counts arena.trees (at arena k) ≡ true → counts c.arena.trees (at c.arena k) ≡ true
@@ -291,6 +297,7 @@ module _ (c : Core) (o : ℕ) (h : StateInvariant c) (few : c.steps < 2 ^ 59) (o
       notes = notes told_full (inr refl);
       touches = parted_touches;
       effect = inl (record { contents = without; entries = refl; change = sym (ap told_change moving.untold) });
+      makes = parted_makes;
     }) false (sym (halves_open w.phase leads))
 
   -- with the new pair
@@ -373,6 +380,7 @@ module _ (c : Core) (o : ℕ) (h : StateInvariant c) (few : c.steps < 2 ^ 59) (o
           notes = notes told_new (inl refl);
           touches = parted_touches;
           effect = inr (is_placing c o op after_new arena accounts h put pair New refl replies.0 makes refl);
+          makes = parted_makes;
         })
         false (sym (halves_open w.phase leads))
 

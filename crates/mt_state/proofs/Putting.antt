@@ -68,6 +68,7 @@ use Rattle.mt_state.proofs.Reading.{key_of_owner, walk_same}
 use Rattle.mt_state.proofs.Loading.{row_of}
 use Rattle.mt_state.proofs.OneNode.{stepped, counted_live, replaced_at, replaced_holds, replaced_tree, replaced_versions, replaced_touches, few_steps, holds_here}
 use Rattle.mt_state.proofs.Locking.{ready_one, room_for}
+use Rattle.mt_state.proofs.Growing.{makes_set}
 
 -- one pair more leaves the quota, and the account there
 quota_more : (a : Option Account) → granted_in (option_map one_more a) ≡ granted_in a
@@ -283,6 +284,7 @@ module _ (c : Core) (now : StateView) (o : ℕ) (is : shown c ≡ now) (h : Stat
                 (subst (λ (q : Phase). Notes (shown c) (view_of op) p q (Some (record { reply = reply; at = c.steps + 1 }))) (sym ends) notes);
             touches = replaced_touches c.arena k within y o (inl holder);
             effect = inr (is_placing c o op the_after the_arena accounts h put pair reply changes told makes refl);
+            makes = makes_set c.arena k y;
           })
           false (sym (ap is_done ends))
 

@@ -20,6 +20,7 @@ use Rattle.mt_state.specs.Kept.{IsKeptOf}
 use Rattle.mt_state.specs.Invariant.{IsTape, AreStamps, IsStampOf, IsCountedUpTo, HoldsAt, IsUnremoved, StateInvariant, StateGuarantee, one_if_prepared}
 use Rattle.mt_state.specs.Moves.{IsMove}
 use Rattle.mt_state.specs.Writes.{HasPairsOf}
+use Rattle.mt_state.specs.Growth.{MakesFew}
 use Rattle.mt_state.proofs.Telling.{logs_later}
 
 -- what a step leaves that changes no pair
@@ -41,6 +42,7 @@ pub record LeavesPairs (c : Core) (o : ℕ) (arena : ArenaView) : Type 0 where
   pub stood : (k : ℕ) → k < length arena.nodes → counts arena.trees (at arena k) ≡ true → HasPairsOf c.arena arena k ⊎ ((at arena k).slots ≡ [])
   pub versions : (k : ℕ) → k < length arena.nodes → IsCountedUpTo (c.steps + 1) (at arena k)
   pub unremoved : IsUnremoved arena
+  pub makes : MakesFew c.arena arena
 
 -- what it brings of its own operation
 pub record IsOwn (c new : Core) (o : ℕ) (before after : Operation) : Type 0 where

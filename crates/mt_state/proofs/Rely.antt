@@ -180,6 +180,7 @@ module _ (old new : Core) (o q : ℕ) (unremoved : IsUnremoved new.arena) (g : S
     made = omega (arith, h.made, later);
     floor = λ begun. subst (λ n. n < op.walk.first) (sym g.floor) (h.floor begun);
     begun = h.begun;
+    short = h.short;
   }
 
   placed_once_stays : (m : ℕ) → IsPlacedOnce old op m → IsPlacedOnce new op m

@@ -39,6 +39,7 @@ use Rattle.mt_state.proofs.Still.{IsUnready, unready_none}
 use Rattle.mt_state.proofs.Reading.{walk_same}
 use Rattle.mt_state.proofs.OneNode.{same_counts, same_alive, returning_by, returning_told, counted_unlocked, replaced_at, replaced_touches, replaced_leaves, quiet_grows, holds_here, quiet_gives_with}
 use Rattle.mt_state.proofs.Locking.{ready_one, room_for}
+use Rattle.mt_state.proofs.Growing.{makes_same}
 
 -- a phase at which an operation holds halves whose keys are parted
 abbrev pub HasHalves : Phase → Type 0
@@ -188,6 +189,7 @@ module _ (c : Core) (o : ℕ) (h : StateInvariant c) (arena : ArenaView) where
     stood = m.stood;
     versions = λ k inside. let was = m.versions k inside in record { inserts = omega (arith, was.inserts); splits = omega (arith, was.splits) };
     unremoved = m.unremoved;
+    makes = m.makes;
   }
 
   -- the locks of some nodes of the operation were given back
@@ -231,6 +233,7 @@ module _ (c : Core) (o : ℕ) (h : StateInvariant c) (arena : ArenaView) where
       stood = λ k inside counted. inl (stood k inside counted);
       versions = returned_versions;
       unremoved = returned_tree;
+      makes = makes_same c.arena arena count (ap (λ (ts : List Tree). length ts) trees);
     }
 
     returned_touches : Touches o c.arena arena

@@ -22,6 +22,7 @@ use Rattle.mt_state.specs.Invariant.{IsTape, HoldsAt, StateInvariant, one_if_pre
 use Rattle.mt_state.proofs.Quiet.{quiet, LeavesPairs, quiet_move, is_quiet}
 use Rattle.mt_state.proofs.Telling.{Gives, gives}
 use Rattle.mt_state.proofs.Moved.{went, open_moved, has_moved}
+use Rattle.mt_state.proofs.Growing.{makes_same}
 
 -- the tape's floor is a step that was made
 pub floor_made : (c : Core) → IsTape c → c.tape.floor ≤ c.steps
@@ -46,6 +47,7 @@ leaves_all c o h = record {
   stood = λ k within counted. inl (record { there = within; counted = counted; prefix = refl; slots = refl });
   versions = λ k within. let was = h.versions k within in record { inserts = omega (arith, was.inserts); splits = omega (arith, was.splits) };
   unremoved = h.unremoved;
+  makes = makes_same c.arena c.arena refl refl;
 }
 
 -- an operation at this phase holds nothing, has nothing made ready, and has a step left
@@ -162,5 +164,6 @@ module _ (c : Core) (now : StateView) (o : ℕ) (is : shown c ≡ now) (h : Stat
         notes = notes;
         touches = λ k within. inl refl;
         effect = inl (is_quiet c o op after c.arena c.tape.reserved h leaves same);
+        makes = leaves.makes;
       })
       done ends

@@ -37,7 +37,7 @@ answer_of c o op _ h e = absurd (cc)
 pub gives : (now : StateView) (old new : Core) (o : ℕ) (before after : Operation) → shown old ≡ now → StateInvariant old → old.steps < 2 ^ 59
     → IsMove old new o before after → IsTold old new o before after → (done : Bool) → done ≡ is_done after.walk.phase → Gives now new o done
 gives now old new o before after view h few m t done ends = (
-  invariant_stays old new o before after h m few,
+  invariant_stays old new o before after h m t few,
   subst (λ v. IsStep v (shown new) o done) view (record {
     before = view_of before;
     after = view_of after;
@@ -56,5 +56,7 @@ gives now old new o before after view h few m t done ends = (
     ends = ends;
     answer = λ is. let w = answer_of new o after after.walk.phase m.kept.kept (sym ends ∙ is) in (w.outcome, w.told, w.right);
     present = λ tenant. map_now new m.tape tenant new.steps (omega arith);
+    floor = m.leaves.floor;
+    makes = t.makes;
   }),
 )

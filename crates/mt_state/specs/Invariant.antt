@@ -29,6 +29,7 @@ use Rattle.mt_state.specs.Views.{Shown, Core, shown, past_of, KeepsPast}
 use Rattle.mt_operation.specs.Operations.{OperationView}
 use Rattle.mt_insert.specs.Splitting.{IsAmong}
 use Rattle.mt_state.specs.Kept.{IsKeptOf}
+use Rattle.mt_state.specs.Written.{KeepsQuotas, IsMadeByChange}
 
 -- the logs, at most 64: each was given its worker's changes up to a step that was made, and the tape goes back to that
 pub record AreLogs (logs : List ℕ) (floor steps : ℕ) : Type 0 where
@@ -154,6 +155,8 @@ pub record StateInvariant (c : Core) : Type 0 where
   pub answered : c.answers + made_count (shown c).table ≤ c.steps
   pub unremoved : IsUnremoved c.arena
   pub few : c.steps ≤ 2 ^ 59
+  pub quotas : KeepsQuotas (shown c)
+  pub written : All IsMadeByChange c.tape.entries
 
 -- What a step of operation o leaves to all others: what the arena leaves them, and the past; no account is lost, and the tape goes as far back.
 pub record StateGuarantee (old new : Core) (o : ℕ) : Type 0 where

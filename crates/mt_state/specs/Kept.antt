@@ -5,7 +5,7 @@ use Rattle.mt_slices.specs.Keys.{IsStoredKey}
 use Rattle.mt_rows.specs.declared.reply.Reply.TheVariants as replies
 use Rattle.mt_rows.specs.Rows.{Columns, columns_of, shown as columns_shown}
 use Rattle.mt_rows.specs.Changes.{changed}
-use Rattle.mt_rows.specs.Commands.{key_of, HasColumns}
+use Rattle.mt_rows.specs.Commands.{key_of, HasColumns, HasShortColumns}
 use Rattle.mt_rows.specs.Accounts.{account_of}
 use Rattle.mt_rows.specs.Maps.{is_get}
 use Rattle.mt_border.specs.Contents.{owned}
@@ -59,6 +59,7 @@ pub record IsOpenOperation (c : Core) (op : Operation) : Type 0 where
   pub made : op.last ≤ c.steps
   pub floor : 0 < op.walk.first → c.tape.floor < op.walk.first
   pub begun : op.walk.phase ≢ Enter → 0 < op.walk.first
+  pub short : HasShortColumns (ask op.task)
 
 -- the outcome of a get, by what it took: that the key is missing, or the columns that it asks of the row
 abbrev pub TellsTaken : Operation → Option Columns → Taken → Type 0

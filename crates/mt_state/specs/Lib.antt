@@ -13,3 +13,5 @@ pub mod Histories
 pub mod OneGet
 pub mod Writes
 pub mod Phases
+pub mod Growth
+pub mod Written

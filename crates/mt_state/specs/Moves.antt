@@ -9,6 +9,7 @@ use Rattle.mt_state.specs.Steps.{HasMoved}
 use Rattle.mt_state.specs.Notes.{Notes}
 use Rattle.mt_state.specs.Promises.{IsQuiet, IsPlacing, Touches}
 use Rattle.mt_state.specs.Kept.{IsKeptOf}
+use Rattle.mt_state.specs.Growth.{MakesFew}
 use Rattle.mt_state.specs.Invariant.{IsTape, AreStamps, AreVersions, HoldsAt, AreCounted, IsUnremoved, StateGuarantee, one_if_prepared}
 
 -- What a step of operation o brings of its own. The rest of the invariant follows for all others.
@@ -36,3 +37,4 @@ pub record IsTold (old new : Core) (o : ℕ) (before after : Operation) : Type 0
   pub notes : Notes (shown old) (view_of before) before.walk.phase after.walk.phase after.outcome
   pub touches : Touches o old.arena new.arena
   pub effect : IsQuiet (shown old) (shown new) (view_of before) (view_of after) ⊎ IsPlacing (shown old) (shown new) (view_of before) (view_of after)
+  pub makes : MakesFew old.arena new.arena

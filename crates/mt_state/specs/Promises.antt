@@ -28,6 +28,7 @@ use Rattle.mt_state.specs.Views.{StateView, contents_of, op_at, map_of, quota_of
 use Rattle.mt_operation.specs.Operations.{is_done}
 use Rattle.mt_state.specs.Steps.{HasMoved, change_in}
 use Rattle.mt_state.specs.Notes.{key_asked, Notes}
+use Rattle.mt_state.specs.Growth.{MakesFew}
 
 -- nothing of contents and tape changes, and the operation has made no other change
 pub record IsQuiet (old new : StateView) (before after : OperationView) : Type 0 where
@@ -87,6 +88,8 @@ pub record IsStep (old new : StateView) (o : ℕ) (done : Bool) : Type 0 where
   pub ends : done ≡ is_done after.phase
   pub answer : done ≡ true → (told : Outcome) × (after.outcome ≡ Some told) × IsAnswer new after told
   pub present : (t : ℕ) → map_of new t new.steps ≡ tenant_map t (contents_of new)
+  pub floor : new.tape.floor ≡ old.tape.floor
+  pub makes : MakesFew old.arena new.arena
 
 -- the operation is there, and a step of it is left
 abbrev pub HasStep : StateView → ℕ → Type 0

@@ -37,6 +37,7 @@ use Rattle.mt_state.specs.Views.{Core}
 use Rattle.mt_state.specs.Steps.{MayFollow}
 use Rattle.mt_state.specs.Promises.{Touches}
 use Rattle.mt_state.specs.Invariant.{IsCountedUpTo, IsUnremoved}
+use Rattle.mt_state.specs.Growth.{MakesFew}
 
 -- a state in which operation o has walked on by one more step, with this outcome and what it has made ready, and with another arena, tape and accounts
 abbrev pub wrote : Core → ArenaView → Kept → Accounts → ℕ → Operation → Walk → Option Outcome → Option Prepared → Core
@@ -132,6 +133,7 @@ pub record MovesNoPair (c : Core) (o : ℕ) (arena : ArenaView) : Type 0 where
   pub stood : (k : ℕ) → k < length arena.nodes → counts arena.trees (at arena k) ≡ true → HasPairsOf c.arena arena k ⊎ ((at arena k).slots ≡ [])
   pub versions : (k : ℕ) → k < length arena.nodes → IsCountedUpTo c.steps (at arena k)
   pub unremoved : IsUnremoved arena
+  pub makes : MakesFew c.arena arena
 
 -- the right half of the full border node was made
 pub record StartsSplit (c : Core) (o : ℕ) (op : Operation) (arena : ArenaView) (w : Walk) (s : Splits) : Type 0 where
@@ -230,6 +232,7 @@ pub record BuildsLayer (o : ℕ) (old new : ArenaView) (key : Bytes) (before aft
   pub here : after.place.node ≡ before.place.node
   pub kept : KeptLayer after.phase new o key after
   pub holds : HoldsOnly old o before.place.node → HoldsOnly new o after.place.node
+  pub makes : MakesFew old new
 
 -- the lock was given back, and the operation goes on in the tree of the next layer
 pub record GoesBelow (c : Core) (o : ℕ) (op : Operation) (arena : ArenaView) (w : Walk) : Type 0 where

@@ -41,7 +41,7 @@ pub fn others_keep_theirs()
 /// and may be told.
 pub fn a_step_keeps_the_invariant()
     ensures invariant { (old new : Core) (o : ℕ) (before after : Operation) → StateInvariant old → IsMove old new o before after →
-        old.steps < 2 ^ 59 → StateInvariant new }
+        IsTold old new o before after → old.steps < 2 ^ 59 → StateInvariant new }
     ensures told { (old new : Core) (o : ℕ) (before after : Operation) → StateInvariant old → IsMove old new o before after →
         IsTold old new o before after → old.steps < 2 ^ 59 → IsStep (shown old) (shown new) o (is_done after.walk.phase) }
 {}

@@ -1,0 +1,99 @@
+-- A step keeps that all maps since the floor keep their quotas, and that each entry's row is made by a change: for all phases.
+use Rattle.std.proofs.Common.{◌≡◌, ℕ, ◌+◌, ◌≤◌, inl, inr, Bool, true, false, [], ◌∷◌, ◌++◌, Option, Some, None, refl, sym, ap, subst, ◌∙◌, arith}
+use Rattle.std.specs.Prelude.{if◌then◌else◌}
+use Rattle.std.specs.List.{All, Contains}
+use Rattle.std.specs.FinMap.{len}
+use Rattle.std.proofs.lemmas.Bool.{cases_lt, both_ways}
+use Rattle.std.proofs.lemmas.Option.{same_Some}
+use Rattle.std.proofs.lemmas.List.Elements.{All-push, All-contains, Contains-push_cases}
+use Rattle.mt_rows.specs.declared.tenants.Account.{Account}
+use Rattle.mt_rows.specs.Rows.{columns_of}
+use Rattle.mt_rows.specs.Changes.{IsChange, changed}
+use Rattle.mt_rows.specs.Commands.{HasColumns, HasShortColumns}
+use Rattle.mt_rows.specs.Maps.{is_get, is_change}
+use Rattle.mt_rows.specs.Accounts.{account_of}
+use Rattle.mt_rows.specs.Tenants.{tenant_map}
+use Rattle.mt_tape.specs.declared.entry.Entry.{Entry as TapeEntry}
+use Rattle.mt_tape.specs.Tapes.{last_step_over}
+use Rattle.mt_tape.proofs.EntryLaws.{all_upto_last}
+use Rattle.mt_tape.proofs.TapeLaws.{map_at-now}
+use Rattle.mt_arena.specs.Arena.{content_of}
+use Rattle.mt_operation.specs.declared.task.Request.{Request}
+use Rattle.mt_operation.specs.declared.task.Request.TheVariants.{Get as GetOf, Put as PutOf}
+use Rattle.mt_operation.specs.declared.task.Task.{Task}
+use Rattle.mt_operation.specs.declared.operation.Operation.{Operation}
+use Rattle.mt_operation.specs.Tasks.{command_of, ask}
+use Rattle.mt_operation.specs.Operations.{view_of}
+use Rattle.mt_insert.specs.Puts.{change_of}
+use Rattle.mt_state.specs.Views.{Core, shown, granted_in, quota_of}
+use Rattle.mt_state.specs.Steps.{told_change, change_in}
+use Rattle.mt_state.specs.Promises.{IsPlacing}
+use Rattle.mt_state.specs.Kept.{IsPlacedOnce}
+use Rattle.mt_state.specs.Written.{KeepsQuotas, IsMadeByChange}
+use Rattle.mt_state.specs.Invariant.{StateInvariant}
+use Rattle.mt_state.specs.Moves.{IsMove, IsTold}
+use Rattle.mt_state.proofs.Replies.{get_looks}
+
+-- an account that has its quota still was there
+account_was : (now was : Option Account) (a : Account) → granted_in now ≡ granted_in was → now ≡ Some a → (b : Account) × (was ≡ Some b) × (b.quota ≡ a.quota)
+account_was now None a same is = absurd (let no = sym same ∙ ap granted_in is in cc)
+account_was now (Some b) a same is = (b, refl, same_Some b.quota a.quota (sym same ∙ ap granted_in is))
+
+-- what a put writes is within its limits
+change_within : (r : Request) → is_get (command_of r) ≡ false → HasColumns (command_of r) → HasShortColumns (command_of r) → IsChange (change_of (command_of r))
+change_within (PutOf key change) put names short = record { names = names; short = short }
+change_within (GetOf key columns) put names short = absurd (cc)
+
+module _ (old new : Core) (o : ℕ) (before after : Operation) (h : StateInvariant old) (m : IsMove old new o before after) where
+  -- each map since the floor keeps its quota: the older ones stay, and the new one is counted
+  pub quotas_stay : KeepsQuotas (shown new)
+  quotas_stay t n a there from upto = elim (cases_lt old.steps n) [
+    | inl late ↦
+        let now = map_at-now new.tape.floor n new.tape.entries (content_of new.arena) t m.tape.rises (omega (arith, m.tape.made, late, m.number)) in
+        let counted = m.counts t a there in
+        subst (λ all. len all ≤ a.quota) (sym now) (omega (arith, counted.0, counted.1))
+    | inr was ↦
+        let account = account_was (account_of new.accounts t) (account_of old.accounts t) a (m.leaves.grows.quotas t) there in
+        let kept = h.quotas t n account.0 account.1 (omega (arith, from, m.leaves.floor)) was in
+        subst (λ all. len all ≤ a.quota) (sym (m.leaves.grows.maps t n was)) (omega (arith, kept, account.2))
+  ]
+
+  -- a step that places has its entry, which is the one of its operation
+  module _ (p : IsPlacing (shown old) (shown new) (view_of before) (view_of after)) where
+    has_changed : change_in (view_of after) ≡ Some (old.steps + 1)
+    has_changed = ap told_change p.outcome ∙ ap (λ b. if b then Some (old.steps + 1) else None) p.changes
+
+    once : IsPlacedOnce new after (old.steps + 1)
+    once = m.kept.placed (old.steps + 1) has_changed
+
+    pushed_there : Contains (old.tape.entries ++ p.entry ∷ []) once.entry
+    pushed_there = subst (λ es. Contains es once.entry) p.pushes once.there
+
+    entry_is : p.entry ≡ once.entry
+    entry_is = elim (Contains-push_cases old.tape.entries p.entry once.entry pushed_there) [
+      | inl was ↦
+          let upto = All-contains (λ e. e.step ≤ last_step_over old.tape.floor old.tape.entries) old.tape.entries once.entry (all_upto_last old.tape.floor old.tape.entries h.tape.rises) was in
+          absurd (omega (arith, upto, once.step_is, h.tape.made))
+      | inr is ↦ is
+    ]
+
+    put_before : (b : Bool) → is_get (ask before.task) ≡ b → is_get (ask before.task) ≡ false
+    put_before false is = is
+    put_before true is = absurd (both_ways _ (ap is_change p.told ∙ get_looks (quota_of (shown old) before.task.tenant) (ask before.task) (tenant_map before.task.tenant (content_of old.arena)) is) p.changes)
+
+    put_after : is_get (ask after.task) ≡ false
+    put_after = ap (λ (t : Task). is_get (ask t)) m.task ∙ put_before (is_get (ask before.task)) refl
+
+    entry_made : IsMadeByChange p.entry
+    entry_made = record {
+      change = change_of (ask after.task);
+      within = change_within after.task.request put_after m.kept.always.columns m.kept.always.short;
+      makes = subst (λ (e : TapeEntry). e.after ≡ Some (changed (change_of (ask after.task)) (columns_of e.before))) (sym entry_is) once.makes;
+    }
+
+  -- every entry is made by a change
+  pub written_stays : IsTold old new o before after → All IsMadeByChange new.tape.entries
+  written_stays t = elim t.effect [
+    | inl quiet ↦ subst (λ es. All IsMadeByChange es) (sym quiet.entries) h.written
+    | inr placing ↦ subst (λ es. All IsMadeByChange es) (sym placing.pushes) (All-push IsMadeByChange old.tape.entries placing.entry h.written (entry_made placing))
+  ]

@@ -1,0 +1,25 @@
+-- What holds of every number that the tape goes back to, and of every entry of the tape.
+use Rattle.std.specs.Prelude.{◌≡◌, ℕ, ◌-◌, ◌≤◌, Some}
+use Rattle.std.specs.FinMap as pairs
+use Rattle.std.specs.FinMap.{len}
+use Rattle.mt_rows.specs.declared.tenants.Account.{Account}
+use Rattle.mt_rows.specs.Rows.{columns_of}
+use Rattle.mt_rows.specs.Changes.{Named, IsChange, changed}
+use Rattle.mt_rows.specs.Accounts.{account_of}
+use Rattle.mt_tape.specs.declared.entry.Entry.{Entry as TapeEntry}
+use Rattle.mt_state.specs.Views.{StateView, map_of}
+
+-- each tenant had at most its quota of pairs after every step from the tape's floor on
+abbrev pub KeepsQuotas : StateView → Type 0
+KeepsQuotas v = (t m : ℕ) (a : Account) → account_of v.accounts t ≡ Some a → v.tape.floor ≤ m → m ≤ v.steps → len (map_of v t m) ≤ a.quota
+
+-- the row of an entry is what some change within its limits makes of the row before it
+pub record IsMadeByChange (e : TapeEntry) : Type 0 where
+  pub change : Named
+  pub within : IsChange change
+  pub makes : e.after ≡ Some (changed change (columns_of e.before))
+
+-- and the row before it is the one that the key had just before the entry's step
+pub record IsWritten (v : StateView) (e : TapeEntry) : Type 0 where
+  pub made : IsMadeByChange e
+  pub before : pairs.get (map_of v e.tenant (e.step - 1)) e.key ≡ e.before
