@@ -3,7 +3,7 @@ use Rattle.std.proofs.Common.{sym, ◌∙◌}
 use Rattle.mt_arena.specs.Accesses.{at}
 use Rattle.mt_descent.specs.Kept.{slice_in}
 use Rattle.mt_core.proofs.LookSteps.{enter_goes, verify_goes, forward_goes}
-use Rattle.mt_core.proofs.LookPoints.{enter_nears, verify_nears}
+use Rattle.mt_core.proofs.LookPoints.{enter_nears, pick_nears, child_nears, verify_nears, forward_nears}
 use Rattle.mt_core.proofs.looks.go_down.Goals as goal
 
 pub returns-in-Enter-clause-goes : goal.returns-in-Enter-clause-goes
@@ -20,3 +20,12 @@ returns-in-Verify-clause-nears c = verify_nears c.args.arena.now c.facts.ensures
 
 pub returns-in-Forward-clause-goes : goal.returns-in-Forward-clause-goes
 returns-in-Forward-clause-goes c = forward_goes c.forward.result (slice_in c.args.key.now c.args.walk.now) (at c.args.arena.now) _ _ (sym c.requires.phase ∙ c.in-Forward.is) c.forward.ensures.last c.forward.ensures.is c.forward.ensures.same
+
+pub returns-in-Pick-clause-nears : goal.returns-in-Pick-clause-nears
+returns-in-Pick-clause-nears c = pick_nears c.args.arena.now _ _ _ (sym c.requires.phase ∙ c.in-Pick.is) c.pick.ensures.is
+
+pub returns-in-Child-clause-nears : goal.returns-in-Child-clause-nears
+returns-in-Child-clause-nears c = child_nears c.args.arena.now _ _ c.child.result (sym c.requires.phase ∙ c.in-Child.is) c.child.ensures.is
+
+pub returns-in-Forward-clause-nears : goal.returns-in-Forward-clause-nears
+returns-in-Forward-clause-nears c = forward_nears c.args.arena.now c.facts.ensures.arena c.requires.unremoved c.args.key.now c.requires.kept.0 _ _ c.requires.kept.1 c.forward.result (slice_in c.args.key.now c.args.walk.now) (sym c.requires.phase ∙ c.in-Forward.is) c.forward.ensures.last c.forward.ensures.is
