@@ -1,9 +1,10 @@
--- How far an operation comes that is alone, and how its run ends: for `Inner::run_alone`.
-use Rattle.std.proofs.Common.{◌≡◌, ◌≢◌, ℕ, zero, suc, ◌+◌, ◌*◌, ◌<◌, ◌≤◌, List, [], ◌∷◌, true, false, Some, refl, sym, ap, subst, ◌∙◌, arith}
-use Rattle.std.specs.Prelude.{◌^◌, None}
-use Rattle.std.proofs.Math.Nat.{mul-le-mul_right}
+-- How far an operation comes that is alone, or that nobody disturbs any more, and how its run ends: for `Inner::run_alone`.
+use Rattle.std.proofs.Common.{◌≡◌, ◌≢◌, ℕ, zero, suc, ◌+◌, ◌*◌, ◌<◌, ◌≤◌, inl, inr, List, [], ◌∷◌, true, false, Some, refl, sym, ap, subst, ◌∙◌, arith}
+use Rattle.std.specs.Prelude.{◌^◌, min}
+use Rattle.std.proofs.Math.Nat.{mul-le-mul_right, min-le_right}
 use Rattle.std.proofs.lemmas.Option.{same_Some}
 use Rattle.mt_arena.specs.Arena.{ArenaView, IsArena, live_count}
+use Rattle.mt_arena.specs.Accesses.{at}
 use Rattle.mt_arena.proofs.Heights.{any_below_live}
 use Rattle.mt_operation.specs.declared.walk.Phase.{Phase}
 use Rattle.mt_operation.specs.declared.walk.Phase.TheVariants as phases
@@ -15,14 +16,14 @@ use Rattle.mt_operation.specs.Operations.{OperationView, view_of, is_done}
 use Rattle.mt_insert.specs.Splitting.{HasSplits, last_of}
 use Rattle.mt_state.specs.declared.moves.Move.{Move}
 use Rattle.mt_state.specs.declared.moves.Move.TheVariants.{Moved, Again, NoMemory as NoMemoryMove, Done as DoneMove, Spent, NoSuch}
-use Rattle.mt_state.specs.Views.{StateView, Core, shown, past_of, op_at}
-use Rattle.mt_descent.specs.Kept.{GoesThrough, KeptAt}
-use Rattle.mt_state.specs.Kept.{IsOnItsWay, IsKeptAt, IsKeptOf, HasAnswer}
+use Rattle.mt_state.specs.Views.{StateView, Core, shown, op_at}
+use Rattle.mt_state.specs.Kept.{IsKeptAt, HasAnswer}
 use Rattle.mt_state.specs.Invariant.{StateInvariant}
-use Rattle.mt_state.specs.Promises.{IsAnswer, IsStep, IsToGrow, Tells}
+use Rattle.mt_state.specs.Promises.{HasStep, IsHeldByOther, IsAnswer, IsStep, IsToGrow, Tells}
 use Rattle.mt_state.proofs.Shown.{shown_there, inside_of}
-use Rattle.mt_core.specs.Alone.{most_steps, IsChain, Runs, IsAlone, EndsAlone}
-use Rattle.mt_core.specs.Points.{AreBelow, IsFresh, above, before_unlock, HasMade, MayHaveGrown, IsUnhindered, StepsOn, split_level}
+use Rattle.mt_core.specs.Alone.{most_steps, IsChain, Runs, IsAlone, EndsAlone, IsUndisturbed, EndsSoon}
+use Rattle.mt_core.specs.Points.{AreBelow, astray, above, before_unlock, HasMade, MayHaveGrown, IsFreeOfOthers, IsUnhindered, StepsOn, split_level}
+use Rattle.mt_core.proofs.Astray.{behind_most}
 use Rattle.mt_core.proofs.Following.{in_the_way}
 use Rattle.mt_core.proofs.AloneRuns.{no_value, stepped, IsRunning, running_first, running_on, run_outcome}
 
@@ -31,7 +32,7 @@ pub chain_more : (old v w : StateView) (o made : ℕ) → IsChain made old v o �
 chain_more old v w o made chain s = subst (λ n. IsChain n old w o) {x = suc made} (omega arith) (v, chain, s)
 
 -- each of its steps has a number of its own
-chain_number : (made : ℕ) (old v : StateView) (o : ℕ) → IsChain made old v o → v.steps ≡ old.steps + made
+pub chain_number : (made : ℕ) (old v : StateView) (o : ℕ) → IsChain made old v o → v.steps ≡ old.steps + made
 chain_number zero old v o chain = omega (arith, ap (λ (x : StateView). x.steps) chain)
 chain_number (suc made) old v o chain = omega (arith, chain_number made old chain.0 o chain.1, chain.2.number)
 
@@ -47,26 +48,56 @@ run_stops old v w o made answer chain other s = record { made = made; mid = v; c
 nodes_below : (c : Core) → StateInvariant c → IsArena c.arena.nodes c.arena.trees → AreBelow c.arena (live_count c.arena.nodes)
 nodes_below c h arena k within = any_below_live c.arena.nodes arena.nodes arena.ranged k within (h.unremoved.live k within)
 
--- nobody is in the way of an operation that is alone
-unhindered_first : (c : Core) (o : ℕ) (op : OperationView) → StateInvariant c → IsArena c.arena.nodes c.arena.trees → IsAlone (shown c) o op → IsUnhindered c o (live_count c.arena.nodes) 0
-unhindered_first c o op h arena alone =
-    let inside = inside_of c.table o op alone.there in
+-- at whatever phase an operation stands, it may find its way again, and has made no step so far
+starts_at : (p : Phase) (c : Core) (o : ℕ) (op : Operation) → StateInvariant c → IsArena c.arena.nodes c.arena.trees → is_done p ≡ false → IsKeptAt p c o op → HasMade p (live_count c.arena.nodes) 0 c.arena op.walk op.splits
+starts_at Enter c o op h arena left kept = omega arith
+starts_at Pick c o op h arena left kept = inr (omega arith)
+starts_at Child c o op h arena left kept = inr (omega arith)
+starts_at Verify c o op h arena left kept = inr (inr (omega (arith, behind_most c.arena.nodes (at c.arena op.walk.child).low h.unremoved.live)))
+starts_at Search c o op h arena left kept = inr (omega (arith, behind_most c.arena.nodes (at c.arena op.walk.place.node).low h.unremoved.live))
+starts_at Load c o op h arena left kept = inr (omega (arith, behind_most c.arena.nodes (at c.arena op.walk.place.node).low h.unremoved.live))
+starts_at Confirm c o op h arena left kept = inr (omega (arith, behind_most c.arena.nodes (at c.arena op.walk.place.node).low h.unremoved.live))
+starts_at Forward c o op h arena left kept = inr (omega (arith, behind_most c.arena.nodes (at c.arena op.walk.place.node).low h.unremoved.live))
+starts_at Lock c o op h arena left kept = inr (omega (arith, behind_most c.arena.nodes (at c.arena op.walk.place.node).low h.unremoved.live))
+starts_at Judge c o op h arena left kept = omega arith
+starts_at Store c o op h arena left kept = omega arith
+starts_at Publish c o op h arena left kept = omega arith
+starts_at SplitStart c o op h arena left kept = omega arith
+starts_at SplitMove c o op h arena left kept = omega arith
+starts_at SplitPrev c o op h arena left kept = omega arith
+starts_at LockParent c o op h arena left kept = omega arith
+starts_at InsertChild c o op h arena left kept = omega arith
+starts_at InteriorSplit c o op h arena left kept = omega arith
+starts_at Reparent c o op h arena left kept = omega (arith, (arena.nodes.each (last_of op.splits).right kept.climbs.splits.parted.right.held.there).children.interior.room)
+starts_at RootGrow c o op h arena left kept = omega arith
+starts_at MakeLayer c o op h arena left kept = omega arith
+starts_at MarkUnstable c o op h arena left kept = omega arith
+starts_at phases.Link c o op h arena left kept = omega arith
+starts_at MarkLayer c o op h arena left kept = omega arith
+starts_at Unlock c o op h arena left kept = omega arith
+starts_at Done c o op h arena left kept = absurd (let no = sym left in cc)
+
+-- nobody is in the way of an operation while nobody else holds a node
+pub unhindered_first : (c : Core) (o : ℕ) (op : OperationView) → StateInvariant c → IsArena c.arena.nodes c.arena.trees → IsUndisturbed (shown c) o op → IsUnhindered c o (live_count c.arena.nodes) 0
+unhindered_first c o op h arena u =
+    let inside = inside_of c.table o op u.there in
     let inner : Operation = inside.0 in
-    let enters : inner.walk.phase ≡ Enter = ap (λ (x : OperationView). x.phase) inside.2 ∙ alone.enters in
-    let kept : IsKeptOf c o inner = h.ops o inner inside.1 in
-    let way : IsOnItsWay c inner = subst (λ (p : Phase). IsKeptAt p c o inner) enters kept.kept in
-    let through : GoesThrough c.arena inner.walk.place.tree inner.walk.layer inner.task.key = subst (λ (p : Phase). KeptAt p c.arena (past_of c) inner.task.key None inner.walk) enters way.kept in
+    let left : is_done inner.walk.phase ≡ false = ap (λ (x : OperationView). is_done x.phase) inside.2 ∙ u.unfinished in
     record {
       op = inner;
       there = inside.1;
-      free = λ k q within holds. absurd (no_value (sym (alone.free k within) ∙ holds));
-      point = record {
-        below = λ _. nodes_below c h arena;
-        shallow = let begun = through.begun in let within = kept.always.stored.within in omega (arith, begun, within);
-        fresh = subst (λ (p : Phase). IsFresh p c.arena inner.walk) (sym enters) tt;
-        few = subst (λ (p : Phase). HasMade p (live_count c.arena.nodes) 0 c.arena inner.walk inner.splits) (sym enters) (omega arith);
-      };
+      free = u.free;
+      point = record { below = λ _. nodes_below c h arena; few = starts_at inner.walk.phase c o inner h arena left (h.ops o inner inside.1).kept };
     }
+
+-- so it is with one that is alone
+undisturbed_alone : (v : StateView) (o : ℕ) (op : OperationView) → IsAlone v o op → IsUndisturbed v o op
+undisturbed_alone v o op alone = record {
+  there = alone.there;
+  unfinished = ap is_done alone.enters;
+  free = λ k q within holds. absurd (no_value (sym (alone.free k within) ∙ holds));
+  numbers = alone.numbers;
+}
 
 -- the left half of a split is there, so its level is below the height
 split_below : (v : ArenaView) (height o : ℕ) (op : Operation) → AreBelow v height → HasSplits v o op.splits → split_level v op.splits < height
@@ -78,21 +109,24 @@ most_unlock [] height = omega arith
 most_unlock (x ∷ halves) height = omega arith
 
 -- at most 31 layers are above its own
-most_above : (height : ℕ) (w : Walk) → w.layer < 32 → above height w ≤ 31 * (3 * height + 12)
-most_above height w shallow = mul-le-mul_right (3 * height + 12) (omega (arith, shallow))
+most_above : (height : ℕ) (w : Walk) → above height w ≤ astray height + 31 * (3 * height + 12)
+most_above height w = let capped : min w.layer 31 * (3 * height + 12) ≤ 31 * (3 * height + 12) = mul-le-mul_right (3 * height + 12) (min-le_right w.layer 31) in omega (arith, capped)
 
 -- at no phase has it made many steps
-few_made : (p : Phase) (c : Core) (o : ℕ) (op : Operation) (height made : ℕ) → IsKeptAt p c o op → above height op.walk ≤ 31 * (3 * height + 12) → (¬ MayHaveGrown p op.splits.halves.items → AreBelow c.arena height)
+few_made : (p : Phase) (c : Core) (o : ℕ) (op : Operation) (height made : ℕ) → IsKeptAt p c o op → above height op.walk ≤ astray height + 31 * (3 * height + 12) → (¬ MayHaveGrown p op.splits.halves.items → AreBelow c.arena height)
     → HasMade p height made c.arena op.walk op.splits → made < 256 * (height + 64)
 few_made Enter c o op height made kept most below few = omega (arith, few, most)
-few_made Pick c o op height made kept most below few = omega (arith, few, most)
-few_made Child c o op height made kept most below few = omega (arith, few, most)
-few_made Verify c o op height made kept most below few = omega (arith, few, most)
-few_made Search c o op height made kept most below few = omega (arith, few, most)
-few_made Load c o op height made kept most below few = omega (arith, few, most)
-few_made Confirm c o op height made kept most below few = omega (arith, few, most)
-few_made Forward c o op height made kept most below few = absurd few
-few_made Lock c o op height made kept most below few = omega (arith, few, most)
+few_made Pick c o op height made kept most below few = elim few [ inl now ↦ omega (arith, now.1, most) | inr strays ↦ omega (arith, strays) ]
+few_made Child c o op height made kept most below few = elim few [ inl now ↦ omega (arith, now.1, most) | inr strays ↦ omega (arith, strays) ]
+few_made Verify c o op height made kept most below few = elim few [
+  | inl now ↦ omega (arith, now.2, most)
+  | inr lost ↦ elim lost [ inl sees ↦ omega (arith, sees.1) | inr strays ↦ omega (arith, strays) ]
+]
+few_made Search c o op height made kept most below few = elim few [ inl now ↦ omega (arith, now.1, most) | inr strays ↦ omega (arith, strays) ]
+few_made Load c o op height made kept most below few = elim few [ inl now ↦ omega (arith, now.1, most) | inr strays ↦ omega (arith, strays) ]
+few_made Confirm c o op height made kept most below few = elim few [ inl now ↦ omega (arith, now.1, most) | inr strays ↦ omega (arith, strays) ]
+few_made Forward c o op height made kept most below few = elim few [ inl now ↦ omega (arith, now.1) | inr strays ↦ omega (arith, strays) ]
+few_made Lock c o op height made kept most below few = elim few [ inl now ↦ omega (arith, now.1, most) | inr strays ↦ omega (arith, strays) ]
 few_made Judge c o op height made kept most below few = omega (arith, few, most)
 few_made Store c o op height made kept most below few = omega (arith, few, most)
 few_made Publish c o op height made kept most below few = omega (arith, few, most)
@@ -140,7 +174,7 @@ pub record GoesAlone (old v : Core) (o : ℕ) (op : OperationView) (made : ℕ) 
   pub free : IsUnhindered v o (live_count old.arena.nodes) made
 
 pub alone_first : (old : Core) (o : ℕ) (op : OperationView) → StateInvariant old → IsArena old.arena.nodes old.arena.trees → IsAlone (shown old) o op → GoesAlone old old o op 0
-alone_first old o op h arena alone = record { run = running_first (shown old) o op alone; free = unhindered_first old o op h arena alone }
+alone_first old o op h arena alone = record { run = running_first (shown old) o op alone; free = unhindered_first old o op h arena (undisturbed_alone (shown old) o op alone) }
 
 -- an operation that moved goes on
 pub alone_goes_on : (old v w : Core) (o : ℕ) (op : OperationView) (made : ℕ) → GoesAlone old v o op made → StepsOn v w o Moved → GoesAlone old w o op (made + 1)
@@ -154,7 +188,7 @@ module _ (old v : Core) (o : ℕ) (op : OperationView) (made : ℕ) (h : StateIn
   inner = g.free.op
 
   few : made < most_steps (shown old)
-  few = few_made inner.walk.phase v o inner (live_count old.arena.nodes) made (h.ops o inner g.free.there).kept (most_above (live_count old.arena.nodes) inner.walk g.free.point.shallow) g.free.point.below g.free.point.few
+  few = few_made inner.walk.phase v o inner (live_count old.arena.nodes) made (h.ops o inner g.free.there).kept (most_above (live_count old.arena.nodes) inner.walk) g.free.point.below g.free.point.few
 
   -- what is shown of it
   same : g.run.after ≡ view_of inner
@@ -204,17 +238,53 @@ module _ (old v : Core) (o : ℕ) (op : OperationView) (made : ℕ) (h : StateIn
             (omega (arith, ap (λ (x : OperationView). x.last) same, kept.always.made));
       }
 
+-- who alone holds nodes is told of nobody
+never_again : (v : Core) (o holder : ℕ) → IsFreeOfOthers v.arena o → IsHeldByOther (shown v) o holder → ⊥
+never_again v o holder free held =
+    let way = in_the_way v.arena held.op.phase held.op.walk held.op.splits holder held.holds in
+    held.other (free way.0 holder way.1 way.2)
+
 -- each answer but Moved is Done, or that there is no memory
 pub alone_stops : (old v w : Core) (o : ℕ) (op : OperationView) (made : ℕ) (answer : Move) → StateInvariant v → IsAlone (shown old) o op → GoesAlone old v o op made
     → answer ≢ Moved → StepsOn v w o answer → EndsAlone (shown old) (shown w) o op answer
 alone_stops old v w o op made Moved h alone g other s = absurd (other refl)
 alone_stops old v w o op made DoneMove h alone g other s = ends_done old v o op made h g (shown w) s.tells
-alone_stops old v w o op made (Again holder) h alone g other s =
-    let held = s.tells.2 in
-    let way = in_the_way v.arena held.op.phase held.op.walk held.op.splits holder held.holds in
-    absurd (held.other (g.free.free way.0 holder way.1 way.2))
+alone_stops old v w o op made (Again holder) h alone g other s = absurd (never_again v o holder g.free.free s.tells.2)
 alone_stops old v w o op made Spent h alone g other s = absurd (omega (arith, s.tells.2, g.run.number, alone.numbers, few old v o op made h g))
 alone_stops old v w o op made NoSuch h alone g other s = absurd (s.tells.1 (g.run.after, g.run.there, left old v o op made h g))
 alone_stops old v w o op made NoMemoryMove h alone g other s =
     let grow = s.tells.1 in
     subst (λ (x : StateView). EndsAlone (shown old) x o op NoMemoryMove) (sym s.tells.0) (ends_unmade old v o op made h g grow.op grow.there grow.grows)
+
+-- the run so far of an operation that nobody disturbs
+module _ (old v : Core) (o made : ℕ) (h : StateInvariant v) (u : IsUnhindered v o (live_count old.arena.nodes) made) where
+  abbrev met : Operation
+  met = u.op
+
+  made_few : made < most_steps (shown old)
+  made_few = few_made met.walk.phase v o met (live_count old.arena.nodes) made (h.ops o met u.there).kept (most_above (live_count old.arena.nodes) met.walk) u.point.below u.point.few
+
+  met_left : HasStep (shown v) o
+  met_left = (view_of met, shown_there v.table o met u.there, left_at met.walk.phase v met (live_count old.arena.nodes) made u.point.few)
+
+-- each answer but Moved is Done, or that there is no memory
+pub undisturbed_stops : (old v w : Core) (o : ℕ) (op : OperationView) (made : ℕ) (answer : Move) → StateInvariant v → IsUndisturbed (shown old) o op → v.steps ≡ old.steps + made
+    → IsUnhindered v o (live_count old.arena.nodes) made → answer ≢ Moved → StepsOn v w o answer → EndsSoon (shown old) (shown w) o answer
+undisturbed_stops old v w o op made Moved h from number u other s = absurd (other refl)
+undisturbed_stops old v w o op made DoneMove h from number u other s = record {
+  few = omega (arith, number, s.tells.number, made_few old v o made h u);
+  after = s.tells.after;
+  there = stepped (shown v) (shown w) o true s.tells;
+  ends = done_is s.tells.after.phase (sym s.tells.ends);
+}
+undisturbed_stops old v w o op made (Again holder) h from number u other s = absurd (never_again v o holder u.free s.tells.2)
+undisturbed_stops old v w o op made Spent h from number u other s = absurd (omega (arith, s.tells.2, number, from.numbers, made_few old v o made h u))
+undisturbed_stops old v w o op made NoSuch h from number u other s = absurd (s.tells.1 (met_left old v o made h u))
+undisturbed_stops old v w o op made NoMemoryMove h from number u other s =
+    let grow = s.tells.1 in
+    subst (λ (x : StateView). EndsSoon (shown old) x o NoMemoryMove) (sym s.tells.0) (record {
+      few = omega (arith, number, made_few old v o made h u);
+      after = grow.op;
+      there = grow.there;
+      ends = grow.grows;
+    })

@@ -13,7 +13,7 @@ use Rattle.mt_arena.specs.Arena.{ArenaView, content_of, Guarantee}
 use Rattle.mt_arena.specs.Accesses.{at}
 use Rattle.mt_arena.proofs.Pairs.{here, there, before as as_before, last as as_pushed}
 use Rattle.mt_operation.specs.declared.walk.Phase.{Phase}
-use Rattle.mt_operation.specs.declared.walk.Phase.TheVariants.{SplitPrev, LockParent, InsertChild, InteriorSplit, Reparent, RootGrow, Unlock}
+use Rattle.mt_operation.specs.declared.walk.Phase.TheVariants.{Unlock}
 use Rattle.mt_operation.specs.declared.walk.Walk.{Walk}
 use Rattle.mt_operation.specs.declared.splits.Halves.{Halves}
 use Rattle.mt_operation.specs.declared.splits.Splits.{Splits}
@@ -28,7 +28,7 @@ use Rattle.mt_state.specs.Invariant.{IsCountedUpTo, IsUnremoved}
 use Rattle.mt_state.specs.Writes.{HasPairsOf, IsClimb}
 use Rattle.mt_state.specs.Phases.{LeadsTo}
 use Rattle.mt_state.specs.Growth.{MakesFew}
-use Rattle.mt_core.specs.Points.{AreBelow, IsFresh, before_unlock, HasMade, MayHaveGrown}
+use Rattle.mt_core.specs.Points.{AreBelow, before_unlock, HasMade, MayHaveGrown}
 use Rattle.mt_core.specs.Climbs.{ClimbsOn}
 use Rattle.mt_core.proofs.Points.{point_at, below_at, few_at}
 
@@ -147,17 +147,6 @@ abbrev pub IsClimbed : Phase → Type 0
 IsClimbed Unlock = Unit {0}
 IsClimbed phase = IsClimb phase
 
--- at it, no version is compared any more
-fresh_climbed : (p : Phase) → IsClimbed p → (v : ArenaView) (w : Walk) → IsFresh p v w
-fresh_climbed SplitPrev i v w = tt
-fresh_climbed LockParent i v w = tt
-fresh_climbed InsertChild i v w = tt
-fresh_climbed InteriorSplit i v w = tt
-fresh_climbed Reparent i v w = tt
-fresh_climbed RootGrow i v w = tt
-fresh_climbed Unlock i v w = tt
-fresh_climbed _ i v w = absurd i
-
 -- no root was made before a step of a climb
 climb_ungrown : (p : Phase) → IsClimb p → (l : List Halves) → ¬ MayHaveGrown p l
 climb_ungrown Unlock i l grown = i
@@ -211,6 +200,5 @@ climbs_on op old new before after s t p q at_p climb goes climbed follows leads 
           let below : AreBelow old height = below_at height made old before s p at_p (climb_ungrown p climb s.halves.items) point in
           point_at height (made + 1) new after t q at_q
           (λ ungrown. stays_below op old new leaves (levels (λ is. ungrown (subst (λ (x : Phase). MayHaveGrown x t.halves.items) (sym is) (unlock_grown t.halves.items some)))) height below)
-          (subst (λ (w : Walk). w.layer < 32) (sym goes) point.shallow) (fresh_climbed q climbed new after)
           (subst (λ (w : Walk). HasMade q height (made + 1) new w t) (sym goes) (counts_on height made below (few_at height made old before s p at_p point)));
     }

@@ -1,6 +1,6 @@
 -- The steps of an operation that makes a layer, and that they bring it on: for `build_on`, and for `Inner::build` and `leave`.
 use Rattle.std.proofs.Common.{◌≡◌, ◌≢◌, ℕ, ◌+◌, ◌<◌, ◌≤◌, inl, inr, true, false, List, [], ◌∷◌, ◌++◌, length, set, Option, Some, None, refl, sym, ap, subst, ◌∙◌, arith, length-append}
-use Rattle.std.specs.Prelude.{◌*◌, ◌^◌, ◌⊎◌, Result, Ok, Err, OnOk, OnErr}
+use Rattle.std.specs.Prelude.{◌*◌, ◌^◌, ◌⊎◌, min, Result, Ok, Err, OnOk, OnErr}
 use Rattle.std.specs.declared.alloc.AllocError.{AllocError}
 use Rattle.std.proofs.lemmas.Bool.{cases_eq, cases_lt}
 use Rattle.std.proofs.lemmas.List.{length-set, get_or-set_same, get_or-set_other}
@@ -49,7 +49,7 @@ use Rattle.mt_state.proofs.Telling.{Gives}
 use Rattle.mt_state.proofs.LayerSteps.{build_done, make_stopped, leave_done}
 use Rattle.mt_core.specs.Layers.{BuildsOn, StopsBuilding, TellsBuilt}
 use Rattle.mt_core.specs.Nexts.{IsNext}
-use Rattle.mt_core.specs.Points.{AreBelow, IsFresh, HasMade, MayHaveGrown, IsAtPoint, Nears, StepsOn, above, before_unlock}
+use Rattle.mt_core.specs.Points.{AreBelow, HasMade, MayHaveGrown, IsAtPoint, Nears, StepsOn, astray, above, before_unlock}
 use Rattle.mt_core.proofs.Climbing.{each_set, pushed_at}
 use Rattle.mt_core.proofs.Following.{Writes, over_first, may_move, phase_is, made}
 use Rattle.mt_core.proofs.Leading.{leads_over}
@@ -179,11 +179,11 @@ record GoesTo (before after : Walk) (q : Phase) : Type 0 where
 
 -- so a step from one phase to another is told, by what it leaves of the nodes and how many steps were made
 builds_on : (o : ℕ) (old new : ArenaView) (key : Bytes) (before after : Walk) (p q : Phase) → before.phase ≡ p → GoesTo before after q → before.place.node < length old.nodes
-    → MayFollow p q → q ≢ Done → ((halves : List Halves) → ¬ MayHaveGrown p halves) → IsFresh q new after
+    → MayFollow p q → q ≢ Done → ((halves : List Halves) → ¬ MayHaveGrown p halves)
     → ((height n : ℕ) (s : Splits) → above height after ≡ above height before → HasMade p height n old before s → HasMade q height (n + 1) new after s)
     → ((step : ℕ) (told : Option Outcome) (s : SplitsView) → LeadsTo p old new o step key told s before after)
     → LeavesNodes o old new → Ensures o old new key before after q → BuildsOn o old new key before after
-builds_on o old new key before after p q at_p goes within follows on ungrown fresh counts_on leads leaves e = record {
+builds_on o old new key before after p q at_p goes within follows on ungrown counts_on leads leaves e = record {
   builds = record {
     guarantee = e.guarantee;
     contents = e.contents;
@@ -203,9 +203,8 @@ builds_on o old new key before after p q at_p goes within follows on ungrown fre
   nears = λ height n s point.
       let below : AreBelow old height = below_at height n old before s p at_p (ungrown s.halves.items) point in
       let some : 0 < height = omega (arith, below before.place.node within) in
-      let shallow : after.layer < 32 = subst (λ l. l < 32) (sym goes.layer) point.shallow in
-      point_at height (n + 1) new after s q goes.at (λ other. stays_below o old new leaves height some below) shallow fresh
-      (counts_on height n s (ap (λ l. l * (3 * height + 12)) goes.layer) (few_at height n old before s p at_p point));
+      point_at height (n + 1) new after s q goes.at (λ other. stays_below o old new leaves height some below)
+      (counts_on height n s (ap (λ l. astray height + min l 31 * (3 * height + 12)) goes.layer) (few_at height n old before s p at_p point));
 }
 
 -- what is kept at the phase at which a walk is
@@ -225,7 +224,7 @@ module _ (o : ℕ) (old new : ArenaView) (key : Bytes) (before after : Walk) whe
       → Continues before after → Guarantee o old new → content_of new ≡ content_of old → KeepsStamps old new → OnOk r (IsAtMarkUnstable new o key after)
       → (HoldsOnly old o before.place.node → OnOk r (HoldsOnly new o after.place.node)) → TellsBuilt o old new key before after r
   layer_made at_make h prefix e (Ok done) is goes unlocks ends same guarantee contents stamps kept holds =
-      builds_on o old new key before after MakeLayer MarkUnstable at_make (linked (length old.trees) goes) h.holds.judged.held.there tt (λ no. absurd (cc)) (λ halves grown. grown) tt
+      builds_on o old new key before after MakeLayer MarkUnstable at_make (linked (length old.trees) goes) h.holds.judged.held.there tt (λ no. absurd (cc)) (λ halves grown. grown)
       (λ height n s alike few. omega (arith, alike, few)) (λ step told s. inl goes)
       (subst (LeavesNodes o old) (sym is) (layer_leaves o old prefix e))
       (record { guarantee = guarantee; contents = contents; stamps = stamps; same = same; kept = kept; holds = holds })
@@ -235,20 +234,20 @@ module _ (o : ℕ) (old new : ArenaView) (key : Bytes) (before after : Walk) whe
   -- the pair became unstable, or has the number of the tree
   pub pair_marked : before.phase ≡ MarkUnstable → IsHeld old before.place.node o → (held : Held) → new ≡ with_slot old before.place.node before.slot held → after ≡ walk_at Link before
       → Ensures o old new key before after Link → BuildsOn o old new key before after
-  pair_marked at_mark mine held is goes e = builds_on o old new key before after MarkUnstable Link at_mark (goes_to Link goes) mine.there tt (λ no. absurd (cc)) (λ halves grown. grown) tt
+  pair_marked at_mark mine held is goes e = builds_on o old new key before after MarkUnstable Link at_mark (goes_to Link goes) mine.there tt (λ no. absurd (cc)) (λ halves grown. grown)
       (λ height n s alike few. omega (arith, alike, few)) (λ step told s. goes)
       (subst (LeavesNodes o old) (sym is) (slot_leaves o old before.place.node before.slot mine held)) e
 
   pub pair_linked : before.phase ≡ Link → IsHeld old before.place.node o → (held : Held) → new ≡ with_slot old before.place.node before.slot held → after ≡ walk_at MarkLayer before
       → Ensures o old new key before after MarkLayer → BuildsOn o old new key before after
-  pair_linked at_link mine held is goes e = builds_on o old new key before after Link MarkLayer at_link (goes_to MarkLayer goes) mine.there tt (λ no. absurd (cc)) (λ halves grown. grown) tt
+  pair_linked at_link mine held is goes e = builds_on o old new key before after Link MarkLayer at_link (goes_to MarkLayer goes) mine.there tt (λ no. absurd (cc)) (λ halves grown. grown)
       (λ height n s alike few. omega (arith, alike, few)) (λ step told s. goes)
       (subst (LeavesNodes o old) (sym is) (slot_leaves o old before.place.node before.slot mine held)) e
 
   -- the slot is a link to the tree
   pub layer_marked : before.phase ≡ MarkLayer → IsHeld old before.place.node o → (t : ℕ) → new ≡ with_link old before.place.node before.slot t → after ≡ walk_at Unlock before
       → Ensures o old new key before after Unlock → BuildsOn o old new key before after
-  layer_marked at_mark mine t is goes e = builds_on o old new key before after MarkLayer Unlock at_mark (goes_to Unlock goes) mine.there tt (λ no. absurd (cc)) (λ halves grown. grown) tt
+  layer_marked at_mark mine t is goes e = builds_on o old new key before after MarkLayer Unlock at_mark (goes_to Unlock goes) mine.there tt (λ no. absurd (cc)) (λ halves grown. grown)
       (λ height n s alike few. by height n s alike few s.halves.items) (λ step told s. goes)
       (subst (LeavesNodes o old) (sym is) (link_leaves o old before.place.node before.slot mine t)) e
     where
@@ -351,12 +350,11 @@ module _ (c now : Core) (o : ℕ) (is : c ≡ now) (h : StateInvariant c) (x : O
           let within = leaves.unlock.held.there in
           let below : AreBelow c.arena height = below_at height n c.arena x.walk x.splits Unlock at_unlock (λ grown. subst (MayHaveGrown Unlock) none grown) point in
           let few : n ≤ above height x.walk + (3 * height + 7) = unsplit_few x.splits.halves.items n height (above height x.walk) none (few_at height n c.arena x.walk x.splits Unlock at_unlock point) in
-          let deeper : n + 1 ≤ (x.walk.layer + 1) * (3 * height + 12) = next_layer height x.walk.layer n (omega (arith, few)) in
+          let deeper : n + 1 ≤ astray height + min (x.walk.layer + 1) 31 * (3 * height + 12) = next_layer height x.walk.layer n (shallow_below x.walk.layer x.task.key stored leaves.through.begun) (omega (arith, few)) in
           let stays : AreBelow arena height = subst (λ (v : ArenaView). AreBelow v height) (sym t.is)
           (replaced_all c.arena k within (unlocked (at c.arena k)) (λ (m : NodeView). m.level < height) (below k within) below) in
           subst (λ (y : Walk). IsAtPoint height (n + 1) arena y x.splits) (sym goes)
-          (point_at height (n + 1) arena (walk_into x.walk leaves.tree (x.walk.layer + 1)) x.splits Enter refl (λ other. stays)
-          (shallow_below x.walk.layer x.task.key stored leaves.through.begun) tt deeper)
+          (point_at height (n + 1) arena (walk_into x.walk leaves.tree (x.walk.layer + 1)) x.splits Enter refl (λ other. stays) deeper)
 
 -- an operation that has no outcome has none where it is found inside
 pub untold_inside : (c now : Core) (o : ℕ) → c ≡ now → ((op : Operation) → operation_at now.table o ≡ Some op → op.outcome ≡ None) → (x : Operation) → operation_at c.table o ≡ Some x → x.outcome ≡ None

@@ -2,6 +2,7 @@ pub mod LookSteps
 pub mod Points
 pub mod Following
 pub mod Leading
+pub mod Astray
 pub mod LookPoints
 pub mod ReadSteps
 pub mod SplitSteps

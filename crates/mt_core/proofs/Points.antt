@@ -1,5 +1,5 @@
 -- How a step brings an operation on that nobody is in the way of: by the point to which its walk came. For each phase of `Inner`.
-use Rattle.std.proofs.Common.{◌≡◌, ℕ, ◌+◌, ◌<◌, inl, inr, length, Some, sym, subst, ◌∙◌}
+use Rattle.std.proofs.Common.{◌≡◌, ℕ, ◌+◌, inl, inr, length, Some, sym, subst, ◌∙◌}
 use Rattle.std.proofs.lemmas.Bool.{cases_lt, cases_eq}
 use Rattle.std.proofs.lemmas.Option.{same_Some}
 use Rattle.mt_arena.specs.Arena.{ArenaView, Guarantee}
@@ -11,13 +11,9 @@ use Rattle.mt_operation.specs.declared.operation.Operation.{Operation}
 use Rattle.mt_operation.specs.Tables.{op_at as operation_at}
 use Rattle.mt_state.specs.declared.moves.Move.TheVariants.{Moved}
 use Rattle.mt_state.specs.Views.{Core}
-use Rattle.mt_core.specs.Points.{AreBelow, IsFresh, HasMade, MayHaveGrown, IsAtPoint, IsFreeOfOthers, Nears}
+use Rattle.mt_core.specs.Points.{AreBelow, HasMade, MayHaveGrown, IsAtPoint, IsFreeOfOthers, Nears}
 
 -- the number of the first step says nothing of the point
-fresh_first : (p : Phase) (v : ArenaView) (w : Walk) (first : ℕ) → IsFresh p v w → IsFresh p v (record w { first = first })
-fresh_first Enter v w first f = f
-fresh_first _ v w first f = f
-
 made_first : (p : Phase) (height made : ℕ) (v : ArenaView) (w : Walk) (s : Splits) (first : ℕ) → HasMade p height made v w s → HasMade p height made v (record w { first = first }) s
 made_first Enter height made v w s first h = h
 made_first _ height made v w s first h = h
@@ -25,17 +21,13 @@ made_first _ height made v w s first h = h
 pub point_first : (height made : ℕ) (v : ArenaView) (w : Walk) (s : Splits) (first : ℕ) → IsAtPoint height made v w s → IsAtPoint height made v (record w { first = first }) s
 point_first height made v w s first p = record {
   below = p.below;
-  shallow = p.shallow;
-  fresh = fresh_first w.phase v w first p.fresh;
   few = made_first w.phase height made v w s first p.few;
 }
 
 -- the point of a walk at this phase
-pub point_at : (height made : ℕ) (v : ArenaView) (w : Walk) (s : Splits) (p : Phase) → w.phase ≡ p → (¬ MayHaveGrown p s.halves.items → AreBelow v height) → w.layer < 32 → IsFresh p v w → HasMade p height made v w s → IsAtPoint height made v w s
-point_at height made v w s p is below shallow fresh few = record {
+pub point_at : (height made : ℕ) (v : ArenaView) (w : Walk) (s : Splits) (p : Phase) → w.phase ≡ p → (¬ MayHaveGrown p s.halves.items → AreBelow v height) → HasMade p height made v w s → IsAtPoint height made v w s
+point_at height made v w s p is below few = record {
   below = λ other. below (subst (λ (q : Phase). ¬ MayHaveGrown q s.halves.items) is other);
-  shallow = shallow;
-  fresh = subst (λ (q : Phase). IsFresh q v w) (sym is) fresh;
   few = subst (λ (q : Phase). HasMade q height made v w s) (sym is) few;
 }
 
@@ -43,9 +35,6 @@ point_at height made v w s p is below shallow fresh few = record {
 module _ (height made : ℕ) (v : ArenaView) (w : Walk) (s : Splits) (p : Phase) (is : w.phase ≡ p) where
   pub below_at : ¬ MayHaveGrown p s.halves.items → IsAtPoint height made v w s → AreBelow v height
   below_at other point = point.below (subst (λ (q : Phase). ¬ MayHaveGrown q s.halves.items) (sym is) other)
-
-  pub fresh_at : IsAtPoint height made v w s → IsFresh p v w
-  fresh_at point = subst (λ (q : Phase). IsFresh q v w) is point.fresh
 
   pub few_at : IsAtPoint height made v w s → HasMade p height made v w s
   few_at point = subst (λ (q : Phase). HasMade q height made v w s) is point.few

@@ -40,15 +40,16 @@ use Rattle.mt_state.specs.Kept.{has_splits}
 use Rattle.mt_state.specs.Invariant.{StateInvariant, is_prepared}
 use Rattle.mt_state.proofs.Shown.{shown_there}
 use Rattle.mt_state.proofs.Telling.{Gives}
+use Rattle.mt_state.proofs.Decides.{outdated_or_not}
 use Rattle.mt_state.proofs.OneNode.{replaced_all}
 use Rattle.mt_state.proofs.Locking.{lock_done, unlock_done, judge_ready, judge_refused, publish_full}
 use Rattle.mt_state.proofs.LayerSteps.{meet_done, below_done}
 use Rattle.mt_state.proofs.Putting.{store_done, publish_done}
 use Rattle.mt_state.proofs.Needs.{IsOfWrites, put_at, lock_kept, lock_blocked, judge_kept, store_kept, publish_kept, store_ready, publish_ready, write_room}
 use Rattle.mt_core.specs.Nexts.{IsNext}
-use Rattle.mt_core.specs.Points.{AreBelow, above, before_unlock, HasMade, MayHaveGrown, IsAtPoint, Nears, StepsOn}
-use Rattle.mt_core.proofs.Points.{point_first, point_at, below_at, fresh_at, few_at, nears_by}
-use Rattle.mt_core.proofs.LookPoints.{next_layer, shallow_below}
+use Rattle.mt_core.specs.Points.{AreBelow, SeesNow, behind, astray, above, before_unlock, HasMade, MayHaveGrown, IsAtPoint, Nears, StepsOn}
+use Rattle.mt_core.proofs.Points.{point_first, point_at, below_at, few_at, nears_by}
+use Rattle.mt_core.proofs.LookPoints.{after_live, next_layer, shallow_below}
 use Rattle.mt_core.proofs.Following.{Writes, IsOver, over_first, over_next, opened, may_over, may_move, next_here, phase_is, made}
 use Rattle.mt_core.proofs.Leading.{leads_over, done_from}
 
@@ -74,21 +75,44 @@ full_for c o x arena tape w goes same releases stays kept missing full = record 
   full = full;
 }
 
--- the walk of a put that takes its lock, in a live tree
+-- the walk of a put that takes its lock, or that goes on to the next node, in a live tree
 lock_brings : (o : ℕ) (v arena : ArenaView) (w x : Walk) (s : Splits) → Locks o v arena x w → x.phase ≡ Lock → x.place.node < length v.nodes → (at v x.place.node).version.deleted ≡ false
     → (height n : ℕ) → IsAtPoint height n v x s → IsAtPoint height (n + 1) arena w s
-lock_brings o v arena w x s locks at_lock within live height n point =
-    let k = x.place.node in
-    let sees : x.place.seen ≡ (at v x.place.node).version = fresh_at height n v x s Lock at_lock point in
-    let stands : ¬ IsOutdated (at v x.place.node) x.place.seen = λ outdated. elim outdated [
-      | inl deleted ↦ absurd (let no = sym live ∙ deleted in cc)
-      | inr split ↦ split (ap (λ p. p.splits) (sym sees))
-    ] in
-    let below = below_at height n v x s Lock at_lock (λ grown. grown) point in
-    let few : HasMade Lock height n v x s = few_at height n v x s Lock at_lock point in
-    subst (λ (a : ArenaView). IsAtPoint height (n + 1) a w s) (sym (locks.takes stands)) (subst (λ (y : Walk). IsAtPoint height (n + 1) (with_node v k (locked (at v k) o)) y s) (sym (locks.judges stands)) (point_at height (n + 1) _ (record x { phase = Judge }) s Judge refl
-    (λ other. replaced_all v k within (locked (at v k) o) (λ (m : NodeView). m.level < height) (below k within) below)
-    point.shallow tt (omega (arith, few))))
+lock_brings o v arena w x s locks at_lock within live height n point = elim (outdated_or_not (at v x.place.node) x.place.seen) [
+  | inl outdated ↦ elim few [
+    | inl now ↦ absurd (elim outdated [
+      | inl deleted ↦ let no = sym live ∙ deleted in cc
+      | inr split ↦ split (ap (λ p. p.splits) (sym now.0))
+    ])
+    | inr strays ↦ leads outdated (omega (arith, strays))
+  ]
+  | inr stands ↦ takes stands
+]
+  where
+    k : ℕ
+    k = x.place.node
+
+    below : AreBelow v height
+    below = below_at height n v x s Lock at_lock (λ grown. grown) point
+
+    few : (SeesNow v x × (n ≤ above height x + 3 * height)) ⊎ (n + (2 + behind v x.place.node) ≤ astray height)
+    few = few_at height n v x s Lock at_lock point
+
+    upto : n ≤ above height x + 3 * height
+    upto = elim few [
+      | inl now ↦ now.1
+      | inr strays ↦ omega (arith, strays)
+    ]
+
+    takes : ¬ IsOutdated (at v x.place.node) x.place.seen → IsAtPoint height (n + 1) arena w s
+    takes stands = subst (λ (a : ArenaView). IsAtPoint height (n + 1) a w s) (sym (locks.takes stands))
+        (subst (λ (y : Walk). IsAtPoint height (n + 1) (with_node v k (locked (at v k) o)) y s) (sym (locks.judges stands)) (point_at height (n + 1) _ (record x { phase = Judge }) s Judge refl
+        (λ other. replaced_all v k within (locked (at v k) o) (λ (m : NodeView). m.level < height) (below k within) below) (omega (arith, upto))))
+
+    leads : IsOutdated (at v x.place.node) x.place.seen → n + 1 + (1 + behind v x.place.node) ≤ astray height → IsAtPoint height (n + 1) arena w s
+    leads outdated strays = subst (λ (a : ArenaView). IsAtPoint height (n + 1) a w s) (sym (locks.leaves outdated))
+        (subst (λ (y : Walk). IsAtPoint height (n + 1) v y s) (sym (locks.goes_on outdated ∙ after_live x (at v k).version (at v k).next live))
+        (record { below = λ other. below; few = inl (refl, strays) }))
 
 -- of one that has made all ready
 judge_brings : (v : ArenaView) (m : NodeView) (slot : Option ℕ) (w x : Walk) (s : Splits) → w ≡ after_judge m slot x → x.phase ≡ Judge → (height n : ℕ) → IsAtPoint height n v x s → IsAtPoint height (n + 1) v w s
@@ -101,11 +125,11 @@ judge_brings v m slot w x s goes at_judge height n point = subst (λ (y : Walk).
     below = below_at height n v x s Judge at_judge (λ grown. grown) point
 
     by_full : (full : Bool) → IsAtPoint height (n + 1) v (record x { phase = cond full SplitStart Publish }) s
-    by_full true = point_at height (n + 1) v _ s SplitStart refl (λ other. below) point.shallow tt (omega (arith, few))
-    by_full false = point_at height (n + 1) v _ s Publish refl (λ other. below) point.shallow tt (omega (arith, few))
+    by_full true = point_at height (n + 1) v _ s SplitStart refl (λ other. below) (omega (arith, few))
+    by_full false = point_at height (n + 1) v _ s Publish refl (λ other. below) (omega (arith, few))
 
     by_slot : (slot : Option ℕ) → IsAtPoint height (n + 1) v (after_judge m slot x) s
-    by_slot (Some i) = point_at height (n + 1) v _ s Store refl (λ other. below) point.shallow tt (omega (arith, few))
+    by_slot (Some i) = point_at height (n + 1) v _ s Store refl (λ other. below) (omega (arith, few))
     by_slot None = by_full (eqb (length m.slots) 15)
 
 -- of one that meets another long key in the place of its own
@@ -113,7 +137,7 @@ meet_brings : (v : ArenaView) (slot : ℕ) (w x : Walk) (s : Splits) → w ≡ r
 meet_brings v slot w x s goes at_judge height n point =
     let few : HasMade Judge height n v x s = few_at height n v x s Judge at_judge point in
     let below = below_at height n v x s Judge at_judge (λ grown. grown) point in
-    subst (λ (y : Walk). IsAtPoint height (n + 1) v y s) (sym goes) (point_at height (n + 1) v _ s MakeLayer refl (λ other. below) point.shallow tt (omega (arith, few)))
+    subst (λ (y : Walk). IsAtPoint height (n + 1) v y s) (sym goes) (point_at height (n + 1) v _ s MakeLayer refl (λ other. below) (omega (arith, few)))
 
 -- of one that gives its lock back, and goes on in the tree of a link
 link_brings : (v : ArenaView) (key : Bytes) (tree : ℕ) (w x : Walk) (s : Splits) → w ≡ walk_into x tree (x.layer + 1) → x.phase ≡ Judge → x.place.node < length v.nodes → IsStoredKey key → 8 * w.layer < length key
@@ -125,7 +149,7 @@ link_brings v key tree w x s goes at_judge within stored begun height n point =
     let reaches : 8 * (x.layer + 1) < length key = subst (λ (y : Walk). 8 * y.layer < length key) goes begun in
     subst (λ (y : Walk). IsAtPoint height (n + 1) (with_node v k (unlocked (at v k))) y s) (sym goes) (point_at height (n + 1) _ (walk_into x tree (x.layer + 1)) s Enter refl
     (λ other. replaced_all v k within (unlocked (at v k)) (λ (m : NodeView). m.level < height) (below k within) below)
-    (shallow_below x.layer key stored reaches) tt (next_layer height x.layer n (omega (arith, few))))
+    (next_layer height x.layer n (shallow_below x.layer key stored reaches) (omega (arith, few))))
 
 -- a node that keeps its level keeps all below
 levels_stay : (v arena : ArenaView) (k : ℕ) (m : NodeView) → k < length v.nodes → arena ≡ with_node v k m → m.level ≡ (at v k).level → (height : ℕ) → AreBelow v height → AreBelow arena height
@@ -139,7 +163,7 @@ place_brings v arena w x s p at_p goes none other stays least height n point =
     let few = least height n point in
     let made : n + 1 ≤ above height x + before_unlock [] height = omega (arith, few) in
     subst (λ (y : Walk). IsAtPoint height (n + 1) arena y s) (sym goes) (point_at height (n + 1) arena (walk_placed x) s Unlock refl
-    (λ ungrown. stays height (below_at height n v x s p at_p other point)) point.shallow tt
+    (λ ungrown. stays height (below_at height n v x s p at_p other point))
     (subst (λ (halves : List Halves). n + 1 ≤ above height x + before_unlock halves height) (sym none) made))
 
 -- the splits of an operation have no halves, nor have they where it is found inside

@@ -246,7 +246,7 @@ module _ (c now : Core) (o : ℕ) (is : c ≡ now) (h : StateInvariant c) (room 
       → (table : Table) → table ≡ led w None → StepGives table Moved
   confirm_gives_back at_confirm stable w same confirms kept other =
       moved_gives w None (confirm_back c (shown now) o (ap shown is) h room op there at_confirm w same confirms kept other)
-      (λ height made point. let k = confirming at_confirm in confirm_nears c.arena (past_of c) op.task.key k.0 op.walk w (h.ops o op there).always.stored at_confirm k.1 confirms other height made op.splits point)
+      (λ height made point. let k = confirming at_confirm in confirm_nears c.arena (past_of c) op.task.key k.0 op.walk w (h.ops o op there).always.stored at_confirm k.1 (h.unremoved.live op.walk.place.node (confirm_kept at_confirm).covers.remembered.there) confirms other height made op.splits point)
       (goes_at Confirm at_confirm w (stable, confirms))
 
   -- a load

@@ -46,7 +46,7 @@ use Rattle.mt_state.proofs.Needs.{put_at, write_room}
 use Rattle.mt_state.proofs.SplitSteps.{start_done, stop_done, return_done}
 use Rattle.mt_state.proofs.Parting.{part_done, fill_done}
 use Rattle.mt_core.specs.Nexts.{IsNext}
-use Rattle.mt_core.specs.Points.{AreBelow, IsFresh, above, HasMade, Nears, StepsOn}
+use Rattle.mt_core.specs.Points.{AreBelow, above, HasMade, Nears, StepsOn}
 use Rattle.mt_core.proofs.Points.{point_first, point_at, below_at, few_at, nears_by}
 use Rattle.mt_core.proofs.Climbing.{Stays, stays_same, IsBare, LeavesNodes, each_set, each_pushed, pushed_at, touches, makes, stood, versions, unremoved, stays_below}
 use Rattle.mt_core.proofs.Following.{next_here, Writes, IsOver, over_first, over_next, opened, may_over, made}
@@ -121,11 +121,6 @@ made_parted : (next : Option ℕ) (height made : ℕ) (v : ArenaView) (w : Walk)
 made_parted None height made v w s few = omega (arith, few)
 made_parted (Some behind) height made v w s few = omega (arith, few)
 
--- the walk compares no version then
-fresh_parted : (next : Option ℕ) (v : ArenaView) (w : Walk) → IsFresh (after_parting next) v w
-fresh_parted None v w = tt
-fresh_parted (Some behind) v w = tt
-
 -- an operation that has split nodes gives back those of its splits, which it holds
 all_of : (l : List Halves) (v : ArenaView) (o : ℕ) (op : Operation) → l ≢ [] → MayUnlock l v o op → IsAtUnlockAll v o op.splits
 all_of [] v o op some may = absurd (some refl)
@@ -187,7 +182,6 @@ module _ (c : Core) (o : ℕ) (h : StateInvariant c) (few : c.steps < 2 ^ 59) (o
           point_first height (made + 1) arena w t after.walk.first (point_at height (made + 1) arena w t SplitMove moves
           (λ _. subst (λ (v : ArenaView). AreBelow v height) (sym b.is.is)
           (half_below c o h op.walk.place.node b.is.low starting.starts.holds.judged.held height (below_at height made c.arena op.walk op.splits SplitStart at_start (λ grown. grown) point)))
-          (subst (λ (x : Walk). x.layer < 32) (sym b.walk) point.shallow) tt
           (subst (λ (x : Walk). HasMade SplitMove height (made + 1) arena x t) (sym b.walk) (omega (arith, was)))))
 
     -- there is no memory for it
@@ -259,7 +253,6 @@ module _ (c : Core) (o : ℕ) (h : StateInvariant c) (few : c.steps < 2 ^ 59) (o
           nears_by c (made c arena tape accounts table) o op after there over.there step (λ height made point.
           point_first height (made + 1) arena w op.splits after.walk.first (point_at height (made + 1) arena w op.splits (after_parting next) phase
           (λ _. halved_below all c.arena arena op.walk.place.node (last_of op.splits).right halved height (below_at height made c.arena op.walk op.splits SplitMove at_move (λ grown. grown) point))
-          (subst (λ (x : Walk). x.layer < 32) (sym goes) point.shallow) (fresh_parted next arena w)
           (subst (λ (x : Walk). HasMade (after_parting next) height (made + 1) arena x op.splits) (sym goes)
           (made_parted next height made arena (walk_at (after_parting next) op.walk) op.splits (few_at height made c.arena op.walk op.splits SplitMove at_move point)))))
 

@@ -10,7 +10,7 @@ use Rattle.mt_arena.specs.Accesses.{at}
 use Rattle.mt_operation.specs.declared.outcome.Outcome.{Outcome}
 use Rattle.mt_operation.specs.declared.walk.Phase.{Phase}
 use Rattle.mt_operation.specs.declared.walk.Phase.TheVariants.{Enter, Done}
-use Rattle.mt_operation.specs.Operations.{OperationView}
+use Rattle.mt_operation.specs.Operations.{OperationView, is_done}
 use Rattle.mt_state.specs.declared.moves.Move.{Move}
 use Rattle.mt_state.specs.declared.moves.Move.TheVariants.{Moved, NoMemory as NoMemoryMove, Done as DoneMove}
 use Rattle.mt_state.specs.Views.{StateView, contents_of, op_at, quota_of}
@@ -42,6 +42,13 @@ pub record IsAlone (v : StateView) (o : ℕ) (op : OperationView) : Type 0 where
   pub free : (k : ℕ) → k < length v.arena.nodes → (at v.arena k).holder ≡ None
   pub numbers : v.steps + most_steps v ≤ 2 ^ 59
 
+-- an unfinished operation, at whatever phase, also one that was disturbed before, while nobody else holds a node and numbers are left for a whole run
+pub record IsUndisturbed (v : StateView) (o : ℕ) (op : OperationView) : Type 0 where
+  pub there : op_at v.table o ≡ Some op
+  pub unfinished : is_done op.phase ≡ false
+  pub free : (k q : ℕ) → k < length v.arena.nodes → (at v.arena k).holder ≡ Some q → q ≡ o
+  pub numbers : v.steps + most_steps v ≤ 2 ^ 59
+
 -- the reply is that of the operation's command on its tenant's map, and the maps are those that the command leaves
 pub record IsRun (old new : StateView) (op : OperationView) (reply : Reply) : Type 0 where
   pub told : reply ≡ reply_of (quota_of old op.tenant) op.command (tenant_map op.tenant (contents_of old))
@@ -63,3 +70,10 @@ pub record EndsAlone (old new : StateView) (o : ℕ) (op : OperationView) (answe
   pub told : Outcome
   pub has : after.outcome ≡ Some told
   pub outcome : ((told.reply ≡ NoMemory) × (contents_of new ≡ contents_of old)) ⊎ IsRun old new op told.reply
+
+-- how the run ends of an operation that nobody disturbs from now on: it is done, or there is no memory for a node that its split needs, after so few steps
+pub record EndsSoon (old new : StateView) (o : ℕ) (answer : Move) : Type 0 where
+  pub few : new.steps ≤ old.steps + most_steps old
+  pub after : OperationView
+  pub there : op_at new.table o ≡ Some after
+  pub ends : EndsAt answer after.phase

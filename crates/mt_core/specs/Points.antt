@@ -1,5 +1,6 @@
--- How far an operation has come that nobody is in the way of, and that each of its steps brings it on.
-use Rattle.std.specs.Prelude.{◌≡◌, ℕ, ◌+◌, ◌*◌, ◌<◌, ◌≤◌, List, [], ◌∷◌, length, Some}
+-- How far an operation has come that nobody is in the way of, also where it was disturbed before, and that each of its steps brings it on.
+use Rattle.std.specs.Prelude.{◌≡◌, ℕ, ◌+◌, ◌*◌, ◌<◌, ◌≤◌, ◌⊎◌, if◌then◌else◌, nat_lt, min, List, [], ◌∷◌, length, Some}
+use Rattle.mt_arena.specs.NodeView.{NodeView}
 use Rattle.mt_arena.specs.Arena.{ArenaView}
 use Rattle.mt_arena.specs.Accesses.{at}
 use Rattle.mt_operation.specs.declared.walk.Phase.{Phase}
@@ -20,22 +21,28 @@ use Rattle.mt_state.specs.Phases.{LeadsOn}
 abbrev pub AreBelow : ArenaView → ℕ → Type 0
 AreBelow v height = (k : ℕ) → k < length v.nodes → (at v k).level < height
 
--- the version that the walk remembers is the one that its node has now
+-- the version that the walk remembers is the one that its node has now, and so for the child that it has picked
 abbrev pub SeesNow : ArenaView → Walk → Type 0
 SeesNow v w = w.place.seen ≡ (at v w.place.node).version
 
--- so it is in each phase that compares it, at once or later; nobody has led the walk on to another node
-abbrev pub IsFresh : Phase → ArenaView → Walk → Type 0
-IsFresh Enter v w = Unit {0}
-IsFresh Pick v w = SeesNow v w
-IsFresh Child v w = SeesNow v w
-IsFresh Verify v w = SeesNow v w × (w.child_seen ≡ (at v w.child).version)
-IsFresh Search v w = SeesNow v w
-IsFresh Load v w = SeesNow v w
-IsFresh Confirm v w = SeesNow v w
-IsFresh Lock v w = SeesNow v w
-IsFresh Forward v w = ⊥
-IsFresh _ v w = Unit {0}
+abbrev pub SeesChild : ArenaView → Walk → Type 0
+SeesChild v w = w.child_seen ≡ (at v w.child).version
+
+-- how many nodes begin behind this fence
+abbrev pub one_if_behind : ℕ → NodeView → ℕ
+one_if_behind low n = if nat_lt low n.low then 1 else 0
+
+abbrev pub behind_count : List NodeView → ℕ → ℕ
+behind_count [] low = 0
+behind_count (n ∷ nodes) low = one_if_behind low n + behind_count nodes low
+
+-- and behind where node k does: to so many a walk may go on from there
+abbrev pub behind : ArenaView → ℕ → ℕ
+behind v k = behind_count v.nodes (at v k).low
+
+-- how many steps an operation makes at most, among so many nodes, till it has found its way again: one for each node behind its own, and a few more
+abbrev pub astray : ℕ → ℕ
+astray height = height + 16
 
 -- the level of the walk's node, and that of the last split
 abbrev pub level_of : ArenaView → Walk → ℕ
@@ -44,26 +51,29 @@ level_of v w = (at v w.place.node).level
 abbrev pub split_level : ArenaView → Splits → ℕ
 split_level v s = (at v (last_of s).left).level
 
--- how many steps an operation makes at most in the layers above the walk's, in trees below this height: three a level on its way down, and twelve more
--- a layer, where it finds a link or makes one
+-- how many steps an operation makes at most till it comes to its layer, in trees below this height: those in which it finds its way again; and for each of
+-- the layers above, which are 31 at most, three a level on its way down, and twelve more where it finds a link or makes one
 abbrev pub above : ℕ → Walk → ℕ
-above height w = w.layer * (3 * height + 12)
+above height w = astray height + min w.layer 31 * (3 * height + 12)
 
 -- how many it makes in its own before it gives its locks back: twenty more a level on its way up, where nodes are split
 abbrev pub before_unlock : List Halves → ℕ → ℕ
 before_unlock [] height = 3 * height + 7
 before_unlock (_ ∷ _) height = 23 * height + 7
 
--- how many steps an operation has made at most that comes to this phase
+-- How many steps an operation has made at most that comes to this phase. A walk that compares a version remembers that of now; or it is still finding its
+-- way: down to the child that it picked, or from one border node to the next.
 abbrev pub HasMade : Phase → ℕ → ℕ → ArenaView → Walk → Splits → Type 0
 HasMade Enter height made v w s = made ≤ above height w
-HasMade Pick height made v w s = made + 3 * level_of v w ≤ above height w + 3 * height
-HasMade Child height made v w s = made + 3 * level_of v w ≤ above height w + 3 * height + 1
-HasMade Verify height made v w s = made + 3 * level_of v w ≤ above height w + 3 * height + 2
-HasMade Search height made v w s = made ≤ above height w + 3 * height
-HasMade Load height made v w s = made ≤ above height w + 3 * height + 1
-HasMade Confirm height made v w s = made ≤ above height w + 3 * height + 2
-HasMade Lock height made v w s = made ≤ above height w + 3 * height
+HasMade Pick height made v w s = (SeesNow v w × (made + 3 * level_of v w ≤ above height w + 3 * height)) ⊎ (made + 3 ≤ astray height)
+HasMade Child height made v w s = (SeesNow v w × (made + 3 * level_of v w ≤ above height w + 3 * height + 1)) ⊎ (made + 2 ≤ astray height)
+HasMade Verify height made v w s = (SeesNow v w × SeesChild v w × (made + 3 * level_of v w ≤ above height w + 3 * height + 2)) ⊎ (SeesChild v w × (made + 1 ≤ astray height))
+    ⊎ (made + (5 + behind v w.child) ≤ astray height)
+HasMade Search height made v w s = (SeesNow v w × (made ≤ above height w + 3 * height)) ⊎ (made + (4 + behind v w.place.node) ≤ astray height)
+HasMade Load height made v w s = (SeesNow v w × (made ≤ above height w + 3 * height + 1)) ⊎ (made + (3 + behind v w.place.node) ≤ astray height)
+HasMade Confirm height made v w s = (SeesNow v w × (made ≤ above height w + 3 * height + 2)) ⊎ (made + (2 + behind v w.place.node) ≤ astray height)
+HasMade Forward height made v w s = (SeesNow v w × (made + (1 + behind v w.place.node) ≤ astray height)) ⊎ (made + (5 + behind v w.place.node) ≤ astray height)
+HasMade Lock height made v w s = (SeesNow v w × (made ≤ above height w + 3 * height)) ⊎ (made + (2 + behind v w.place.node) ≤ astray height)
 HasMade Judge height made v w s = made ≤ above height w + 3 * height + 1
 HasMade Store height made v w s = made ≤ above height w + 3 * height + 2
 HasMade Publish height made v w s = made ≤ above height w + 3 * height + 2
@@ -87,11 +97,9 @@ abbrev pub MayHaveGrown : Phase → List Halves → Type 0
 MayHaveGrown Unlock (_ ∷ _) = Unit {0}
 MayHaveGrown _ halves = ⊥
 
--- how far it has come; a root is made only in the step before the last, and there are at most 32 layers
+-- how far it has come; a root is made only in the step before the last
 pub record IsAtPoint (height made : ℕ) (v : ArenaView) (w : Walk) (s : Splits) : Type 0 where
   pub below : ¬ MayHaveGrown w.phase s.halves.items → AreBelow v height
-  pub shallow : w.layer < 32
-  pub fresh : IsFresh w.phase v w
   pub few : HasMade w.phase height made v w s
 
 -- nobody but this operation holds a node

@@ -17,7 +17,7 @@ ghost use Rattle.mt_core.specs.Tickets.{TellsTake, TellsCancel};
 ghost use Rattle.mt_core.specs.Admitted.{MayAdmit, TellsAdmitted, RefusesOpening, IsAccepted, IsRefusedFor};
 ghost use Rattle.mt_core.specs.Rights.{IsRightState};
 ghost use Rattle.mt_core.specs.Shows.{phase_at, phase_in, noted_at};
-ghost use Rattle.mt_core.specs.Alone.{Runs, IsAlone, EndsAlone};
+ghost use Rattle.mt_core.specs.Alone.{Runs, IsAlone, EndsAlone, IsUndisturbed, EndsSoon};
 ghost use Rattle.mt_core.specs.Points.{StepsOn};
 ghost use Rattle.mt_core.specs.Drains.{Drains};
 ghost use Rattle.mt_core.specs.Tidies.{Tidies, TidiesInto, DisplacesRestOf, HandsOutRest};
@@ -228,6 +228,7 @@ impl Inner {
     pub(crate) fn run_alone(&mut self, id: usize) -> Move
         ensures runs { Runs (shown self.old) (shown self.new) id result }
         ensures alone { (op : OperationView) → IsAlone (shown self.old) id op → EndsAlone (shown self.old) (shown self.new) id op result }
+        ensures ends { (op : OperationView) → IsUndisturbed (shown self.old) id op → EndsSoon (shown self.old) (shown self.new) id result }
     {
         self.kept();
         for _ in 0..=MAX_STEPS {

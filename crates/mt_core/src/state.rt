@@ -16,7 +16,7 @@ ghost use Rattle.mt_core.specs.Admitted.{MayAdmit, TellsAdmitted, RefusesOpening
 ghost use Rattle.mt_core.specs.Rights.{IsRightState};
 ghost use Rattle.mt_core.specs.Shapes.{IsShape};
 ghost use Rattle.mt_core.specs.Shows.{phase_at, noted_at};
-ghost use Rattle.mt_core.specs.Alone.{Runs, IsAlone, EndsAlone};
+ghost use Rattle.mt_core.specs.Alone.{Runs, IsAlone, EndsAlone, IsUndisturbed, EndsSoon};
 ghost use Rattle.mt_core.specs.Drains.{Drains};
 ghost use Rattle.mt_core.specs.Tidies.{Tidies, TidiesInto, HandsOutRest};
 ghost use Rattle.mt_operation.specs.Operations.{OperationView};
@@ -208,12 +208,14 @@ impl State {
         self.inner.step(ticket.id)
     }
 
-    /// Makes steps of an operation as long as it moves, and answers what the last one answered. An
-    /// operation that is alone from its first step on is done after a number of steps that the number
-    /// of live nodes bounds, unless memory for a node is refused once it has placed its change.
+    /// Makes steps of an operation as long as it moves, and answers what the last one answered. While
+    /// nobody else holds a node and numbers are left, an operation is done after a number of steps that
+    /// the number of live nodes bounds, at whatever phase it stands and whatever others did on its way
+    /// before; unless memory for a node is refused once it has placed its change.
     pub fn run_alone(&mut self, ticket: &Ticket) -> Move
         ensures runs { Runs self.old self.new ticket.now.id result }
         ensures alone { (op : OperationView) → IsAlone self.old ticket.now.id op → EndsAlone self.old self.new ticket.now.id op result }
+        ensures ends { (op : OperationView) → IsUndisturbed self.old ticket.now.id op → EndsSoon self.old self.new ticket.now.id result }
     {
         self.inner.run_alone(ticket.id)
     }

@@ -3,7 +3,7 @@ use Rattle.std.proofs.Common.{sym, ◌∙◌}
 use Rattle.mt_arena.specs.Accesses.{at}
 use Rattle.mt_descent.specs.Kept.{slice_in}
 use Rattle.mt_core.proofs.LookSteps.{enter_goes, verify_goes, forward_goes, enter_leads, pick_leads, child_leads, verify_leads, forward_leads, enter_way, child_way, verify_way, forward_way}
-use Rattle.mt_core.proofs.LookPoints.{enter_nears, verify_nears}
+use Rattle.mt_core.proofs.LookPoints.{enter_nears, pick_nears, child_nears, verify_nears, forward_nears}
 use Rattle.mt_core.proofs.looks.go_down.Goals as goal
 
 pub returns-in-Enter-clause-goes : goal.returns-in-Enter-clause-goes
@@ -47,3 +47,12 @@ returns-in-Verify-clause-again c s = verify_way c.args.arena.now c.facts.ensures
 
 pub returns-in-Forward-clause-again : goal.returns-in-Forward-clause-again
 returns-in-Forward-clause-again c s = forward_way c.args.arena.now c.facts.ensures.arena c.requires.kept.0 c.args.key.now _ _ c.requires.kept.1 s c.forward.result (sym c.requires.phase ∙ c.in-Forward.is) c.forward.ensures.again c.forward.ensures.last
+
+pub returns-in-Pick-clause-nears : goal.returns-in-Pick-clause-nears
+returns-in-Pick-clause-nears c = pick_nears c.args.arena.now _ _ _ (sym c.requires.phase ∙ c.in-Pick.is) c.pick.ensures.is
+
+pub returns-in-Child-clause-nears : goal.returns-in-Child-clause-nears
+returns-in-Child-clause-nears c = child_nears c.args.arena.now _ _ c.child.result (sym c.requires.phase ∙ c.in-Child.is) c.child.ensures.is
+
+pub returns-in-Forward-clause-nears : goal.returns-in-Forward-clause-nears
+returns-in-Forward-clause-nears c = forward_nears c.args.arena.now c.facts.ensures.arena c.requires.unremoved c.args.key.now c.requires.kept.0 _ _ c.requires.kept.1 c.forward.result (slice_in c.args.key.now c.args.walk.now) (sym c.requires.phase ∙ c.in-Forward.is) c.forward.ensures.last c.forward.ensures.is

@@ -1,8 +1,9 @@
 use Rattle.std.proofs.Common.{refl, arith}
+use Rattle.mt_arena.specs.Arena.{live_count}
 use Rattle.mt_state.specs.Views.{shown}
 use Rattle.mt_state.specs.declared.moves.Move.TheVariants.{Moved}
 use Rattle.mt_core.specs.Points.{StepsOn}
-use Rattle.mt_core.proofs.AloneEnds.{chain_more, chain_ends, run_stops, alone_first, alone_goes_on, alone_stops}
+use Rattle.mt_core.proofs.AloneEnds.{chain_more, chain_number, chain_ends, run_stops, unhindered_first, alone_first, alone_goes_on, alone_stops, undisturbed_stops}
 use Rattle.mt_core.proofs.inner.Inner.run_alone.Goals as goal
 
 pub loop-init : goal.loop-init
@@ -10,6 +11,7 @@ loop-init c = record {
   kept = c.kept.ensures.invariant;
   chain = refl;
   alone = λ op alone. alone_first c.args.self.now c.args.id op c.kept.ensures.invariant c.kept.ensures.arena alone;
+  undisturbed = λ op undisturbed. unhindered_first c.args.self.now c.args.id op c.kept.ensures.invariant c.kept.ensures.arena undisturbed;
 }
 
 pub loop-preserved : goal.loop-preserved
@@ -19,6 +21,7 @@ loop-preserved c =
       kept = c.kept-in-Moved.ensures.invariant;
       chain = chain_more (shown c.args.self.now) (shown c.loop.self) (shown c.step.new.self) c.args.id c.loop.counter c.loop.invariant.chain steps.tells;
       alone = λ op alone. alone_goes_on c.args.self.now c.loop.self c.step.new.self c.args.id op c.loop.counter (c.loop.invariant.alone op alone) steps;
+      undisturbed = λ op undisturbed. steps.nears (live_count c.args.self.now.arena.nodes) c.loop.counter (c.loop.invariant.undisturbed op undisturbed);
     }
 
 pub returns-in_default : goal.returns-in_default
@@ -26,6 +29,8 @@ returns-in_default c = record {
   runs = run_stops (shown c.args.self.now) (shown c.loop.self) (shown c.step.new.self) c.args.id c.loop.counter c.step.result c.loop.invariant.chain c.in_default.not-Moved c.step.ensures.tells;
   alone = λ op alone. alone_stops c.args.self.now c.loop.self c.step.new.self c.args.id op c.loop.counter c.step.result c.loop.invariant.kept alone
       (c.loop.invariant.alone op alone) c.in_default.not-Moved c.step.ensures;
+  ends = λ op undisturbed. undisturbed_stops c.args.self.now c.loop.self c.step.new.self c.args.id op c.loop.counter c.step.result c.loop.invariant.kept undisturbed
+      (chain_number c.loop.counter (shown c.args.self.now) (shown c.loop.self) c.args.id c.loop.invariant.chain) (c.loop.invariant.undisturbed op undisturbed) c.in_default.not-Moved c.step.ensures;
 }
 
 pub unreachable-requires : goal.unreachable-requires
