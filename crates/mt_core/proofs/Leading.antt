@@ -1,5 +1,5 @@
 -- That a step leads where the table of phases says, as it is shown, by what it makes of its operation inside: for all phases.
-use Rattle.std.proofs.Common.{◌≡◌, ◌≢◌, ℕ, ◌+◌, Option, Some, None, refl, sym, ap, subst, ◌∙◌}
+use Rattle.std.proofs.Common.{◌≡◌, ◌≢◌, ℕ, ◌+◌, Option, Some, None, refl, sym, subst, ◌∙◌}
 use Rattle.std.proofs.lemmas.Option.{same_Some}
 use Rattle.mt_slices.specs.Keys.{stored_key}
 use Rattle.mt_rows.specs.Rows.{Bytes}
