@@ -6,13 +6,15 @@ use Rattle.std.proofs.Common.{◌≡◌, ℕ, suc, zero, ◌+◌, ◌<◌, ◌�
 use Rattle.std.specs.Prelude.{nat_lt, ◌==◌, slice_index}
 use Rattle.std.specs.List.{All, filter}
 use Rattle.std.specs.List.Sorted.{IsStrictlyIncreasing}
-use Rattle.std.proofs.lemmas.List.Elements.{All-filter, All-map, All-push, All-set}
+use Rattle.std.proofs.lemmas.Bool.{ltb-true}
+use Rattle.std.proofs.lemmas.List.Elements.{All-filter, All-map, All-push, All-set, All-weaker, filter_passes}
 use Rattle.mt_rows.specs.declared.record.Record.{Record}
 use Rattle.mt_rows.specs.Commands.{IsKey}
 use Rattle.mt_rows.specs.Limits.{AreRecords}
+use Rattle.mt_batches.specs.Batches.{IsRecord, IsInOrder}
 use Rattle.mt_tape.specs.declared.entry.Entry.{Entry}
-use Rattle.mt_tape.specs.Tapes.{RisesOver, later_entries}
-use Rattle.mt_tape.proofs.EntryLaws.{floor_upto_last}
+use Rattle.mt_tape.specs.Tapes.{RisesOver, last_step_over, later_entries}
+use Rattle.mt_tape.proofs.EntryLaws.{floor_upto_last, all_upto_last}
 use Rattle.mt_state.specs.Views.{Core}
 use Rattle.mt_state.specs.Invariant.{StateInvariant}
 use Rattle.mt_core.specs.Drains.{record_of, records_after, IsLeastOf}
@@ -48,6 +50,30 @@ are_records worker m floor entries rises keys = record {
       (All-filter (λ e. e.worker == worker) (λ e. IsKey e.key) (later_entries m entries) (All-filter (λ e. nat_lt m e.step) (λ e. IsKey e.key) entries keys));
   stamps = rising_stamps floor (filter (λ e. e.worker == worker) (later_entries m entries))
       (rises_filtered (λ e. e.worker == worker) floor (later_entries m entries) (rises_filtered (λ e. nat_lt m e.step) floor entries rises));
+}
+
+-- and their stamps lie over the step after which they were placed, and at most at the last step that was made
+stamps_within : (worker m steps floor : ℕ) (entries : List Entry) → RisesOver floor entries → last_step_over floor entries ≤ steps → All (λ r. (m < r.stamp) × (r.stamp ≤ steps)) (records_after worker m entries)
+stamps_within worker m steps floor entries rises made =
+    let later = later_entries m entries in
+    let own = filter (λ e. e.worker == worker) later in
+    let over : All (λ e. m < e.step) own = All-filter (λ e. e.worker == worker) (λ e. m < e.step) later
+    (All-weaker (λ (e : Entry). nat_lt m e.step ≡ true) (λ e. m < e.step) (λ e t. ltb-true m e.step t) later (filter_passes (λ e. nat_lt m e.step) entries)) in
+    let upto : All (λ e. e.step ≤ steps) own = All-filter (λ e. e.worker == worker) (λ e. e.step ≤ steps) later (All-filter (λ e. nat_lt m e.step) (λ e. e.step ≤ steps) entries
+    (All-weaker (λ (e : Entry). e.step ≤ last_step_over floor entries) (λ e. e.step ≤ steps) (λ e le. omega (arith, le, made)) entries (all_upto_last floor entries rises))) in
+    All-map (λ r. (m < r.stamp) × (r.stamp ≤ steps)) record_of own (λ k d lt. (over k d lt, upto k d lt))
+
+-- what a drain gives is in order
+pub in_order : (c : Core) (worker from : ℕ) (records : List Record) → StateInvariant c → from ≤ c.steps → records ≡ records_after worker from c.tape.entries → All IsRecord records →
+    IsInOrder (record { from = from; to = c.steps; records = records })
+in_order c worker from records h order is each = record {
+  order = order;
+  last = h.few;
+  records = record {
+    limits = subst AreRecords (sym is) (are_records worker from c.tape.floor c.tape.entries h.tape.rises h.tape.keys);
+    within = subst (All (λ r. (from < r.stamp) × (r.stamp ≤ c.steps))) (sym is) (stamps_within worker from c.steps c.tape.floor c.tape.entries h.tape.rises h.tape.made);
+    each = each;
+  };
 }
 
 -- where no entry is left the records are all

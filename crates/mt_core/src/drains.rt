@@ -3,6 +3,7 @@
 ghost use Rattle.std.specs.Prelude.{◌≡◌, IfOk, replicate};
 ghost use Rattle.std.specs.List.{All};
 ghost use Rattle.mt_rows.specs.Commands.{IsKey};
+ghost use Rattle.mt_batches.specs.Batches.{IsRecord, IsRowOrNone};
 ghost use Rattle.mt_core.specs.Drains.{record_of, records_after, IsLeastOf};
 
 use mt_rows::{Record, Records, Row};
@@ -31,7 +32,7 @@ pub(crate) fn least_of(numbers: &[u64], bound: u64) -> u64
     least
 }
 
-/// The changes that a worker's operations placed after a step, the oldest first.
+/// The changes that a worker's operations placed after a step, the oldest first, each within its limits.
 pub(crate) fn records_after(
     alloc: Global,
     tape: &Tape,
@@ -39,7 +40,8 @@ pub(crate) fn records_after(
     after: u64,
 ) -> Result<Records, AllocError>
     requires { All (λ e. IsKey e.key) tape.now.entries }
-    ensures { IfOk result (λ records. records ≡ records_after worker after tape.now.entries) }
+    ensures is { IfOk result (λ records. records ≡ records_after worker after tape.now.entries) }
+    ensures limits { IfOk result (All IsRecord) }
 {
     let mut records = Vec::new(alloc);
     for entry in tape.entries() {
@@ -52,13 +54,15 @@ pub(crate) fn records_after(
 
 // A placed change, as it is logged.
 fn recorded(entry: &Entry) -> Result<Record, AllocError>
-    ensures { IfOk result (λ r. r ≡ record_of entry.now) }
+    ensures is { IfOk result (λ r. r ≡ record_of entry.now) }
+    ensures limits { IfOk result (λ r. IsKey r.key → IsRecord r) }
 {
     let row = shared(&entry.after)?;
     let key = entry.key.clone()?;
+    let (stamp, tenant) = (entry.step, entry.tenant);
     Ok(Record {
-        stamp: entry.step,
-        tenant: entry.tenant,
+        stamp,
+        tenant,
         key,
         row,
     })
@@ -66,10 +70,14 @@ fn recorded(entry: &Entry) -> Result<Record, AllocError>
 
 // The same row again, or none.
 fn shared(row: &Option<Row>) -> Result<Option<Row>, AllocError>
-    ensures { IfOk result (λ r. r ≡ row.now) }
+    ensures same { IfOk result (λ r. r ≡ row.now) }
+    ensures limits { IfOk result IsRowOrNone }
 {
     match row {
-        Some(row) => Ok(Some(row.share()?)),
+        Some(row) => {
+            let _columns = row.columns();
+            Ok(Some(row.share()?))
+        }
         None => Ok(None),
     }
 }

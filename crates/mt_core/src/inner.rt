@@ -7,6 +7,7 @@
 ghost use Rattle.std.specs.Prelude.{◌≡◌, ◌≢◌, ◌+◌, ◌<◌, ◌≤◌, ◌^◌, ◌↔◌, IsTrue, IsSome, IfOk, IfErr, OnOk, OnErr, length, slice_set, Some, None, []};
 ghost use Rattle.std.specs.Option.{option_map};
 ghost use Rattle.mt_rows.specs.Accounts.{account_of};
+ghost use Rattle.mt_batches.specs.Batches.{IsInOrder};
 ghost use Rattle.mt_arena.specs.Arena.{IsArena};
 ghost use Rattle.mt_state.specs.Views.{shown};
 ghost use Rattle.mt_state.specs.Invariant.{StateInvariant};
@@ -215,6 +216,7 @@ impl Inner {
     pub(crate) fn drain(&mut self, worker: u8) -> Result<Batch, AllocError>
         requires { worker < length self.old.logs }
         ensures drains { IfOk result (λ batch. Drains (shown self.old) (shown self.new) worker batch) }
+        ensures in_order { IfOk result IsInOrder }
         ensures unchanged_on_err { OnErr result (shown self.new ≡ shown self.old) }
     {
         let from = self.logs[worker as usize];

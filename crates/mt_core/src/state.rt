@@ -5,6 +5,7 @@
 
 ghost use Rattle.std.specs.Prelude.{◌≡◌, ◌≢◌, ◌<◌, ◌≤◌, ◌↔◌, ℕ, IfOk, OnOk, OnErr, IsTrue, IsSome, length, Some};
 ghost use Rattle.std.specs.Option.{option_map};
+ghost use Rattle.mt_batches.specs.Batches.{IsInOrder};
 ghost use Rattle.mt_rows.specs.Accounts.{account_of};
 ghost use Rattle.mt_rows.specs.Tenants.{tenant_map};
 ghost use Rattle.mt_state.specs.Views.{op_at, contents_of};
@@ -174,10 +175,12 @@ impl State {
     }
 
     /// Gives a worker's log the changes that its operations placed since it was last given any; the
-    /// batch goes up to the last step that was made. An error comes where memory is refused.
+    /// batch goes up to the last step that was made. It is in order, so that a log takes it unless it is too
+    /// long. An error comes where memory is refused.
     pub fn drain(&mut self, worker: u8) -> Result<Batch, AllocError>
         requires { worker < length self.old.logs }
         ensures drains { IfOk result (λ batch. Drains self.old self.new worker batch) }
+        ensures in_order { IfOk result IsInOrder }
         ensures unchanged_on_err { OnErr result (self.new ≡ self.old) }
     {
         self.inner.drain(worker)

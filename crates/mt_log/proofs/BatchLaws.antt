@@ -1,10 +1,9 @@
 -- A batch that is read is spelled so, and a spelled batch is read again.
-use Rattle.std.proofs.Common.{◌≡◌, ℕ, ◌^◌, ◌<◌, ◌≤◌, true, cond, eqb, not, ◌&&◌, List, [], ◌∷◌, ◌++◌, length, Option, Some, None, refl, sym, ap, subst, ◌∙◌, append_assoc, arith}
+use Rattle.std.proofs.Common.{◌≡◌, ℕ, ◌^◌, ◌<◌, ◌≤◌, true, cond, eqb, not, List, [], ◌∷◌, ◌++◌, length, Option, Some, None, refl, sym, ap, subst, ◌∙◌, append_assoc, arith}
 use Rattle.std.specs.Prelude.{nat_lt}
 use Rattle.std.specs.Int.{w32, w64, to_be_bytes}
 use Rattle.std.specs.List.{flat_map, AllByRecursion}
-use Rattle.std.proofs.lemmas.Bool.{eqb-true, and_parts}
-use Rattle.std.proofs.lemmas.Bool.Decides.{nat_tests}
+use Rattle.std.proofs.lemmas.Bool.{eqb-true}
 use Rattle.std.proofs.lemmas.List.{append-nil, nil_from_length}
 use Rattle.std.proofs.lemmas.List.Elements.{All-from_recursion, recursion_from_All, All-weaker}
 use Rattle.mt_rows.specs.Rows.{Bytes, Columns, IsRow}
@@ -14,7 +13,8 @@ use Rattle.mt_rows.specs.declared.record.Batch.{Batch}
 use Rattle.mt_log.specs.declared.batch.LogBatch.{LogBatch}
 use Rattle.mt_log.specs.declared.batch.LogBatch.TheVariants.{Records, Resume}
 use Rattle.mt_log.specs.Format.{string, row_bytes, change_bytes, record_bytes, body, told_body}
-use Rattle.mt_log.specs.Contents.{IsRowOrNone, IsRecord, IsLogBatch}
+use Rattle.mt_batches.specs.Batches.{IsRowOrNone, IsRecord}
+use Rattle.mt_log.specs.Contents.{IsLogBatch}
 use Rattle.mt_log.specs.Reading.{◌>>=◌, byte_at, number_at, taken_at, string_at, each_at, is_row, row_at, written_at, change_kind_at, change_at, key_at, record_of, record_at, is_step, records_at, resume_at, batch_kind_at, batch_in, batch_at}
 use Rattle.mt_log.proofs.Tests.{row_from_test, test_from_row, at_most_from_test, test_from_at_most}
 use Rattle.mt_log.proofs.FieldLaws.{IsBytes, bind_some, guard_ended, choose, some_is, Takes, Takes-then, Takes-more, byte_takes, wide32, wide64, number_takes, number_again, taken_takes, taken_fits, taken_again, string_takes, string_again, each_takes, each_again}

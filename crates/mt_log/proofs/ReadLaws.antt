@@ -1,5 +1,5 @@
 -- What is read of a log from gate to gate, and what an opening made of it.
-use Rattle.std.proofs.Common.{◌≡◌, inl, inr, ℕ, zero, suc, ◌+◌, ◌-◌, ◌<◌, ◌≤◌, Bool, true, IsTrue, ◌↔◌, ◌^◌, Some, None, List, [], ◌∷◌, ◌++◌, length, take, drop, get_or, Vec, refl, sym, ◌∙◌, ap, subst, arith, append_assoc, length-append, Result, Ok, Err, OnOk, OnErr}
+use Rattle.std.proofs.Common.{◌≡◌, inr, ℕ, zero, suc, ◌+◌, ◌-◌, ◌<◌, ◌≤◌, Bool, true, IsTrue, ◌↔◌, ◌^◌, Some, None, List, [], ◌∷◌, ◌++◌, length, take, drop, get_or, Vec, refl, sym, ◌∙◌, ap, subst, arith, append_assoc, length-append, Result, Ok, Err, OnOk, OnErr}
 use Rattle.std.specs.declared.alloc.Global.{Global}
 use Rattle.std.specs.List.{flat_map, All}
 use Rattle.std.specs.Prelude.{nat_lt}
@@ -9,13 +9,14 @@ use Rattle.std.proofs.lemmas.List.{drop_at, drop-drop, length-drop, flat_map_mor
 use Rattle.mt_rows.specs.Rows.{Bytes}
 use Rattle.mt_disk.specs.Disk.{DiskState, IsDurable, LeavesOnly, GoesUp}
 use Rattle.mt_rows.specs.declared.record.Batch.{Batch}
+use Rattle.mt_batches.specs.Batches.{IsRecord}
 use Rattle.mt_log.specs.declared.batch.LogBatch.{LogBatch}
 use Rattle.mt_log.specs.declared.batch.LogBatch.TheVariants.{Records}
 use Rattle.mt_log.specs.declared.fault.ReadFault.{ReadFault}
 use Rattle.mt_log.specs.declared.fault.ReadFault.TheVariants as reads
 use Rattle.mt_log.specs.declared.reader.Found.{Found}
 use Rattle.mt_log.specs.Format.{header, record_bytes, body, told_body, batch_bytes}
-use Rattle.mt_log.specs.Contents.{Contents, IsContents, IsRecord, IsBatch, IsLogBatch, to_of, log_bytes, with_batch, contents_of}
+use Rattle.mt_log.specs.Contents.{Contents, IsContents, IsBatch, IsLogBatch, to_of, log_bytes, with_batch, contents_of}
 use Rattle.mt_log.specs.Fronts.{IsBadGate, IsBadLog, IsShut, IsTorn, IsBeforeOrAfter, IsLeft, IsOldOrNew, IsFound, IsAtRest}
 use Rattle.mt_log.specs.Reading.{batch_at, are_steps, rise_within}
 use Rattle.mt_log.specs.Stops.{IsOpenBatch, StandBefore, IsRead, IsBadRead}

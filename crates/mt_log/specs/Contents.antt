@@ -1,34 +1,15 @@
 -- What a log says: whose it is, and its batches; and what the batches of its own appends are.
-use Rattle.std.specs.Prelude.{◌≡◌, ℕ, ◌<◌, ◌≤◌, ◌^◌, List, [], ◌∷◌, ◌++◌, map, length, Option, Some, None}
+use Rattle.std.specs.Prelude.{◌≡◌, ℕ, ◌<◌, ◌≤◌, ◌^◌, List, [], ◌∷◌, ◌++◌, map, length}
 use Rattle.std.specs.List.{flat_map, All, AllByRecursion}
 use Rattle.std.specs.List.Sorted.{IsStrictlyIncreasing}
-use Rattle.mt_rows.specs.Rows.{Bytes, Columns, IsRow}
-use Rattle.mt_rows.specs.Commands.{IsKey}
-use Rattle.mt_rows.specs.Limits.{AreRecords}
+use Rattle.mt_rows.specs.Rows.{Bytes}
 use Rattle.mt_rows.specs.declared.record.Record.{Record}
 use Rattle.mt_rows.specs.declared.record.Batch.{Batch}
+use Rattle.mt_batches.specs.Batches.{IsRecord, AreLogged}
 use Rattle.mt_log.specs.declared.batch.LogBatch.{LogBatch}
 use Rattle.mt_log.specs.declared.batch.LogBatch.TheVariants.{Records, Resume}
 use Rattle.mt_log.specs.declared.batch.Front.{Front}
 use Rattle.mt_log.specs.Format.{header, body, batch_bytes}
-
--- a row within its limits, or none
-abbrev pub IsRowOrNone : Option Columns → Type 0
-IsRowOrNone None = Unit {0}
-IsRowOrNone (Some row) = IsRow row
-
--- a record whose fields have their limits
-pub record IsRecord (r : Record) : Type 0 where
-  pub stamp : r.stamp < 2 ^ 64
-  pub tenant : r.tenant < 2 ^ 32
-  pub key : IsKey r.key
-  pub row : IsRowOrNone r.row
-
--- the records of a batch: stamps rise strictly, each over `from` and at most `to`
-pub record AreLogged (from to : ℕ) (records : List Record) : Type 0 where
-  pub limits : AreRecords records
-  pub within : All (λ r. (from < r.stamp) × (r.stamp ≤ to)) records
-  pub each : All IsRecord records
 
 -- a batch of records in the format: it ends at a step, and its numbers, its records and its length fit
 pub record IsRecordBatch (b : Batch) : Type 0 where
@@ -43,6 +24,11 @@ pub record IsBatch (b : Batch) : Type 0 where
   pub order : b.from ≤ b.to
   pub last : b.to ≤ 2 ^ 59
   pub records : AreLogged b.from b.to b.records
+  pub few : length b.records < 2 ^ 32
+  pub short : length (body (Records b)) < 2 ^ 32
+
+-- its number of records and its length in bytes each fit four bytes
+pub record FitsFourBytes (b : Batch) : Type 0 where
   pub few : length b.records < 2 ^ 32
   pub short : length (body (Records b)) < 2 ^ 32
 

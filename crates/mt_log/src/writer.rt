@@ -5,9 +5,10 @@ ghost use Rattle.std.specs.List.{flat_map, All};
 ghost use Rattle.mt_rows.specs.Rows.{IsRow};
 ghost use Rattle.mt_rows.specs.Commands.{IsKey};
 ghost use Rattle.mt_rows.specs.Limits.{AreRecords};
+ghost use Rattle.mt_batches.specs.Batches.{IsRowOrNone, IsRecord};
 ghost use Rattle.mt_log.specs.declared.batch.LogBatch.{LogBatch};
 ghost use Rattle.mt_log.specs.Format.{row_bytes, change_bytes, record_bytes, body, told_body};
-ghost use Rattle.mt_log.specs.Contents.{IsRecord, IsRowOrNone, IsBatch};
+ghost use Rattle.mt_log.specs.Contents.{IsBatch};
 
 use crate::fields::{put_string, put_u32, put_u64};
 use mt_rows::{Batch, Column, Record, Row};

@@ -3,7 +3,7 @@ use Rattle.std.proofs.Common.{◌≡◌, ◌*◌, ◌≤◌, ◌<◌, ℕ, get_o
 use Rattle.std.specs.List.{flat_map}
 use Rattle.mt_rows.specs.declared.record.Record.{Record}
 use Rattle.mt_log.specs.Format.{record_bytes}
-use Rattle.mt_log.specs.Contents.{IsRecord}
+use Rattle.mt_batches.specs.Batches.{IsRecord}
 use Rattle.mt_log.proofs.writer.records_len.Given as goal
 
 abbrev pub invariant-loop-record : goal.invariant-loop-record
