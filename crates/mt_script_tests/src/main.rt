@@ -9,6 +9,8 @@
 //! crate's data/, and where it runs a test none.
 #![tactic(auto)]
 
+ghost use Rattle.std.specs.Prelude.{◌≡◌, ◌↔◌, ◌<◌, IsTrue};
+
 use mt_lines::run_script;
 use std::alloc::Global;
 use std::fs::{self, DirEntry};
@@ -37,11 +39,15 @@ struct Tally {
 
 impl Tally {
     // Whether there were scripts, each with its answers, and no answers were left over.
-    fn is_right(&self) -> bool {
-        self.wrong == 0 && self.scripts != 0 && self.scripts == self.answers
+    fn is_right(&self) -> bool
+        ensures { IsTrue result ↔ ((self.now.wrong ≡ 0) × (0 < self.now.scripts) × (self.now.scripts ≡ self.now.answers)) }
+    {
+        self.wrong == 0 && self.scripts > 0 && self.scripts == self.answers
     }
 
-    fn status(&self) -> u8 {
+    fn status(&self) -> u8
+        ensures { (result ≡ 0) ↔ ((self.now.wrong ≡ 0) × (0 < self.now.scripts) × (self.now.scripts ≡ self.now.answers)) }
+    {
         if self.is_right() { 0 } else { 1 }
     }
 }
@@ -119,18 +125,16 @@ fn wrong_line(rt: &HostRuntime, name: &str) -> io::Result<u64> {
 }
 
 // The first line in which two texts differ, counted from 1, and 0 where they are the same.
-fn first_difference(one: &[u8], other: &[u8]) -> u64 {
+fn first_difference(one: &[u8], other: &[u8]) -> u64
+    ensures { (result ≡ 0) ↔ (one.now ≡ other.now) }
+{
     if one == other {
         return 0;
     }
-    let mut line: u64 = 1;
-    for (left, right) in one.iter().zip(other) {
-        if left != right {
-            return line;
-        }
-        if *left == b'\n' {
-            line = line.saturating_add(1);
-        }
-    }
-    line
+    let same = one
+        .iter()
+        .zip(other)
+        .take_while(|(left, right)| left == right);
+    let lines = same.filter(|(left, _)| **left == b'\n').count();
+    u64::try_from(lines).unwrap_or(u64::MAX).saturating_add(1)
 }
