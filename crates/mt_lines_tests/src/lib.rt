@@ -1,13 +1,10 @@
-//! Tests of `mt_lines`: scripts with their answers, and how the program ends.
+//! Tests of `mt_lines`: lines with their answers, and how the program ends.
 //!
-//! They stand in a crate of their own, since a crate with tests is proved twice.
+//! They stand in a crate of their own, since a crate with tests is proved twice. Whole scripts are files,
+//! in `mt_script_tests`.
 #![tactic(auto)]
 
 #[cfg(test)]
 mod faults;
 #[cfg(test)]
-mod layers;
-#[cfg(test)]
-mod scripts;
-#[cfg(test)]
-mod trees;
+mod lines;

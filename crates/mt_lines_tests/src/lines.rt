@@ -1,4 +1,6 @@
-//! Scripts with what each must be answered.
+//! Lines with what each must be answered: those that are none, and the longest that are one.
+//!
+//! Whole scripts are data, in `mt_script_tests`.
 
 use mt_lines::run_script;
 use std::alloc::{AllocError, Global};
@@ -14,72 +16,6 @@ fn expect_answers(rt: &impl Abort, alloc: Global, what: &str, script: &[u8], wan
 
 fn expect_bytes(rt: &impl Abort, what: &str, is_whole: bool, written: &[u8], wanted: &str) {
     assert!(rt; is_whole && written == wanted.as_bytes(), "{what}");
-}
-
-// What a script shows, the script, and its answers.
-const WHOLE_SCRIPTS: [(&str, &str, &str); 11] = [
-    (
-        "an empty store",
-        "tenant 7 100\nbegin 1 7 get 6b\nstep 1\nstep 1\nstep 1\n",
-        "ok\nbegun 1\nmoved\nmoved\ndone absent\n",
-    ),
-    (
-        "the empty key",
-        "tenant 7 100\nbegin 1 7 put - 0=76\nrun 1\nbegin 1 7 get -\nrun 1\nshape\n",
-        "ok\nbegun 1\ndone new\nbegun 1\ndone found 0=76\ntree - layer 0\n  border 1 0000000700000000:4 0000000700000000:4\n",
-    ),
-    (
-        "a put and a get",
-        "tenant 7 100\nbegin 1 7 put 6b 0=76\nrun 1\nbegin 2 7 get 6b\nrun 2\n",
-        "ok\nbegun 1\ndone new\nbegun 2\ndone found 0=76\n",
-    ),
-    (
-        "a get that meets a change looks again",
-        "tenant 7 100\nbegin 2 7 put 6b 0=76\nrun 2\nbegin 1 7 get 6b\nuntil 1 confirm\nbegin 2 7 put 6b 0=77\nrun 2\nrun 1\n",
-        "ok\nbegun 2\ndone new\nbegun 1\nat confirm\nbegun 2\ndone replaced\ndone found 0=77\n",
-    ),
-    (
-        "a put that was not placed is not seen",
-        "tenant 7 100\nbegin 1 7 put 6b 0=76\nuntil 1 publish\nbegin 2 7 get 6b\nrun 2\nrun 1\n",
-        "ok\nbegun 1\nat publish\nbegun 2\ndone absent\ndone new\n",
-    ),
-    (
-        "a get that meets a mark",
-        "tenant 7 100\nbegin 1 7 put 6b 0=76\nuntil 1 unlock\nbegin 2 7 get 6b\nrun 2\nrun 1\nrun 2\n",
-        "ok\nbegun 1\nat unlock\nbegun 2\nagain 1\ndone new\ndone found 0=76\n",
-    ),
-    (
-        "a quota of one pair",
-        "tenant 7 1\nbegin 1 7 put 6b 0=76\nrun 1\nbegin 1 7 put 6c 0=76\nrun 1\nbegin 1 7 put 6b 0=\nrun 1\n",
-        "ok\nbegun 1\ndone new\nbegun 1\ndone full\nbegun 1\ndone replaced\n",
-    ),
-    (
-        "again says the holder's own name",
-        "tenant 7 100\nbegin 5 7 put 6b 0=76\nuntil 5 unlock\nbegin 9 7 get 6b\nbegin 2 7 get 6b\nstep 9\nstep 2\nrun 5\nbegin 5 7 get 6b\nrun 9\nrun 2\nrun 5\n",
-        "ok\nbegun 5\nat unlock\nbegun 9\nbegun 2\nagain 5\nagain 5\ndone new\nbegun 5\ndone found 0=76\ndone found 0=76\ndone found 0=76\n",
-    ),
-    (
-        "no tenant is taken behind a begin",
-        "tenant 7 100\ntenant 8 2\ntenant 7 5\ntenant 9 0\ntenant 9 1048577\nbegin 1 9 get 61\ntenant 9 5\nbegin 1 7 put 61 0=76\nrun 1\ntenant 9 5\nbegin 1 8 get 61\nrun 1\nbegin 1 7 get 61\nrun 1\n",
-        "ok\nok\nrefused E3\nrefused E7\nrefused E7\nrefused E4\nbad line\nbegun 1\ndone new\nbad line\nbegun 1\ndone absent\nbegun 1\ndone found 0=76\n",
-    ),
-    (
-        "tenants are taken behind a bad begin, each with its own quota",
-        "tenant 7 1\nbegin 0 7 get 61\nbegin 1 7 remove 61\ntenant 7 5\ntenant 8 5\nbegin 1 7 put 61 0=76\nrun 1\nbegin 1 7 put 62 0=76\nrun 1\nbegin 1 8 put 62 0=76\nrun 1\n",
-        "ok\nbad line\nbad line\nrefused E3\nok\nbegun 1\ndone new\nbegun 1\ndone full\nbegun 1\ndone new\n",
-    ),
-    (
-        "a put waits for the lock of another, and a get for nobody",
-        "tenant 7 100\nbegin 1 7 put 6b 0=76\nuntil 1 publish\nbegin 2 7 put 6c 0=76\nrun 2\nbegin 3 7 get 6b\nrun 3\nrun 1\nrun 2\n",
-        "ok\nbegun 1\nat publish\nbegun 2\nagain 1\nbegun 3\ndone absent\ndone new\ndone new\n",
-    ),
-];
-
-#[test]
-fn whole_scripts(rt: HostRuntime) {
-    for (what, script, wanted) in &WHOLE_SCRIPTS {
-        expect_answers(&rt, rt.alloc(), what, script.as_bytes(), wanted);
-    }
 }
 
 // A script, and its answers.
