@@ -1,4 +1,3 @@
 pub mod Answering
 pub mod Chains
-pub mod Showing
 pub mod Turns

@@ -1,5 +1,5 @@
 -- What one period more makes of a call: for the loops of `start`, `stepped` and `answered`.
-use Rattle.std.proofs.Common.{◌≡◌, ℕ, Bool, Option, Some, None, IsSome, unwrap_or, Ok, Err, refl, ap, subst}
+use Rattle.std.proofs.Common.{◌≡◌, ℕ, Bool, Option, Some, None, IsSome, unwrap_or, Ok, Err, refl, sym, ap, subst}
 use Rattle.std.specs.List.{AllByRecursion}
 use Rattle.mt_rows.specs.declared.refusal.Refusal.{Refusal}
 use Rattle.mt_runs.specs.declared.event.Answer.{Answer}
@@ -82,11 +82,12 @@ module _ {S : Type 0} (does : S → Period → S → Type 0) (old mid new : S) (
   turn_is (Some made) told f on = (refl, given, f.0, on, shown_next made told left on f.1)
 
   -- one step more, or none
-  pub turns_more : MayLeadOn s.move_made → Led does old new (λ ps. AreTurns seen ticket shown next ps s.steps (unwrap_or s.phase left))
-  turns_more on =
+  pub turns_more : (following : Phase) → following ≡ unwrap_or s.phase left → MayLeadOn s.move_made → Led does old new (λ ps. AreTurns seen ticket shown next ps s.steps following)
+  turns_more following is on =
       let period : Period = step_period ticket turned s in
-      led_more does old mid new period (λ ps. AreTurns seen ticket shown next ps last left) (λ ps. AreTurns seen ticket shown next ps s.steps (unwrap_or s.phase left))
-      (λ ps turns. turns_snoc seen ticket shown next last left ps period (unwrap_or s.phase left) turns (turn_is s.move_made s.phase fits on)) led d
+      let turn = subst (IsTurnBy seen ticket last left s.steps period.deed) (sym is) (turn_is s.move_made s.phase fits on) in
+      led_more does old mid new period (λ ps. AreTurns seen ticket shown next ps last left) (λ ps. AreTurns seen ticket shown next ps s.steps following)
+      (λ ps turns. turns_snoc seen ticket shown next last left ps period following turns turn) led d
 
   -- the last step
   pub turns_end : (done : Bool) → s.move_made ≡ Some (last_move done) → Led does old new (Ends seen ticket shown next done)

@@ -1,7 +1,6 @@
-use Rattle.std.proofs.Common.{◌≡◌, ◌∙◌, true, false, Some, sym, subst, rules}
-use Rattle.mt_operation.specs.declared.walk.Phase.{Phase}
+use Rattle.std.proofs.Common.{◌≡◌, ◌∙◌, true, false, Some, rules}
 use Rattle.mt_state.specs.declared.moves.Move.TheVariants.{Done, Spent}
-use Rattle.mt_book.specs.Calls.{IsGiven, Led, AreTurns}
+use Rattle.mt_book.specs.Calls.{IsGiven}
 use Rattle.mt_book.proofs.Turns.{MayLeadOn, turns_more, turns_end}
 use Rattle.mt_book.proofs.calls.stepped.Goals as goal
 
@@ -28,37 +27,45 @@ loop-preserved-in-Some-Moved g c =
     let on : MayLeadOn c.step-steps.result.move_made = search rules in
     let n = c.args.ticket.now.id in
     let seen = c.args.pass.now.seen in
-    let given : IsGiven c.passed-turned.result n c.loop.last c.loop.next = record { op = c.passed-turned.ensures.op ∙ c.id.ensures; after = c.passed-turned.ensures.after; phase = c.passed-turned.ensures.phase } in
-    let more = turns_more g.D.Desk.does c.args.desk.now c.loop.desk c.step-steps.new.self seen n c.args.shown c.args.phase c.loop.last c.loop.next c.passed-turned.result c.step-steps.result c.loop.invariant.2 given
-    c.step-steps.ensures.does c.step-steps.ensures.fits on in
-    (tt, tt, subst (λ (next : Phase). Led g.D.Desk.does c.args.desk.now c.step-steps.new.self (λ ps. AreTurns seen n c.args.shown c.args.phase ps c.step-steps.result.steps next)) (sym c.unwrap_or-next.ensures) more)
+    let given : IsGiven c.passed-turned.result n c.loop.last c.loop.next = record { op = c.passed-turned.ensures.op ∙ c.id.ensures; after = c.passed-turned.ensures.after; phase = c.passed-turned.ensures.phase } in (
+      tt,
+      tt,
+      turns_more g.D.Desk.does c.args.desk.now c.loop.desk c.step-steps.new.self seen n c.args.shown c.args.phase c.loop.last c.loop.next c.passed-turned.result c.step-steps.result c.loop.invariant.2 given
+          c.step-steps.ensures.does c.step-steps.ensures.fits c.unwrap_or-next.result c.unwrap_or-next.ensures on,
+    )
 
 pub loop-preserved-in-Some-Again : goal.loop-preserved-in-Some-Again
 loop-preserved-in-Some-Again g c =
     let on : MayLeadOn c.step-steps.result.move_made = search rules in
     let n = c.args.ticket.now.id in
     let seen = c.args.pass.now.seen in
-    let given : IsGiven c.passed-turned.result n c.loop.last c.loop.next = record { op = c.passed-turned.ensures.op ∙ c.id.ensures; after = c.passed-turned.ensures.after; phase = c.passed-turned.ensures.phase } in
-    let more = turns_more g.D.Desk.does c.args.desk.now c.loop.desk c.step-steps.new.self seen n c.args.shown c.args.phase c.loop.last c.loop.next c.passed-turned.result c.step-steps.result c.loop.invariant.2 given
-    c.step-steps.ensures.does c.step-steps.ensures.fits on in
-    (tt, tt, subst (λ (next : Phase). Led g.D.Desk.does c.args.desk.now c.step-steps.new.self (λ ps. AreTurns seen n c.args.shown c.args.phase ps c.step-steps.result.steps next)) (sym c.unwrap_or-next.ensures) more)
+    let given : IsGiven c.passed-turned.result n c.loop.last c.loop.next = record { op = c.passed-turned.ensures.op ∙ c.id.ensures; after = c.passed-turned.ensures.after; phase = c.passed-turned.ensures.phase } in (
+      tt,
+      tt,
+      turns_more g.D.Desk.does c.args.desk.now c.loop.desk c.step-steps.new.self seen n c.args.shown c.args.phase c.loop.last c.loop.next c.passed-turned.result c.step-steps.result c.loop.invariant.2 given
+          c.step-steps.ensures.does c.step-steps.ensures.fits c.unwrap_or-next.result c.unwrap_or-next.ensures on,
+    )
 
 pub loop-preserved-in-Some-NoMemory : goal.loop-preserved-in-Some-NoMemory
 loop-preserved-in-Some-NoMemory g c =
     let on : MayLeadOn c.step-steps.result.move_made = search rules in
     let n = c.args.ticket.now.id in
     let seen = c.args.pass.now.seen in
-    let given : IsGiven c.passed-turned.result n c.loop.last c.loop.next = record { op = c.passed-turned.ensures.op ∙ c.id.ensures; after = c.passed-turned.ensures.after; phase = c.passed-turned.ensures.phase } in
-    let more = turns_more g.D.Desk.does c.args.desk.now c.loop.desk c.step-steps.new.self seen n c.args.shown c.args.phase c.loop.last c.loop.next c.passed-turned.result c.step-steps.result c.loop.invariant.2 given
-    c.step-steps.ensures.does c.step-steps.ensures.fits on in
-    (tt, tt, subst (λ (next : Phase). Led g.D.Desk.does c.args.desk.now c.step-steps.new.self (λ ps. AreTurns seen n c.args.shown c.args.phase ps c.step-steps.result.steps next)) (sym c.unwrap_or-next.ensures) more)
+    let given : IsGiven c.passed-turned.result n c.loop.last c.loop.next = record { op = c.passed-turned.ensures.op ∙ c.id.ensures; after = c.passed-turned.ensures.after; phase = c.passed-turned.ensures.phase } in (
+      tt,
+      tt,
+      turns_more g.D.Desk.does c.args.desk.now c.loop.desk c.step-steps.new.self seen n c.args.shown c.args.phase c.loop.last c.loop.next c.passed-turned.result c.step-steps.result c.loop.invariant.2 given
+          c.step-steps.ensures.does c.step-steps.ensures.fits c.unwrap_or-next.result c.unwrap_or-next.ensures on,
+    )
 
 pub loop-preserved : goal.loop-preserved
 loop-preserved g c =
     let on : MayLeadOn c.step-steps.result.move_made = search rules in
     let n = c.args.ticket.now.id in
     let seen = c.args.pass.now.seen in
-    let given : IsGiven c.passed-turned.result n c.loop.last c.loop.next = record { op = c.passed-turned.ensures.op ∙ c.id.ensures; after = c.passed-turned.ensures.after; phase = c.passed-turned.ensures.phase } in
-    let more = turns_more g.D.Desk.does c.args.desk.now c.loop.desk c.step-steps.new.self seen n c.args.shown c.args.phase c.loop.last c.loop.next c.passed-turned.result c.step-steps.result c.loop.invariant.2 given
-    c.step-steps.ensures.does c.step-steps.ensures.fits on in
-    (tt, tt, subst (λ (next : Phase). Led g.D.Desk.does c.args.desk.now c.step-steps.new.self (λ ps. AreTurns seen n c.args.shown c.args.phase ps c.step-steps.result.steps next)) (sym c.unwrap_or-next.ensures) more)
+    let given : IsGiven c.passed-turned.result n c.loop.last c.loop.next = record { op = c.passed-turned.ensures.op ∙ c.id.ensures; after = c.passed-turned.ensures.after; phase = c.passed-turned.ensures.phase } in (
+      tt,
+      tt,
+      turns_more g.D.Desk.does c.args.desk.now c.loop.desk c.step-steps.new.self seen n c.args.shown c.args.phase c.loop.last c.loop.next c.passed-turned.result c.step-steps.result c.loop.invariant.2 given
+          c.step-steps.ensures.does c.step-steps.ensures.fits c.unwrap_or-next.result c.unwrap_or-next.ensures on,
+    )
