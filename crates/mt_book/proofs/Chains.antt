@@ -1,7 +1,8 @@
 -- Chains of periods, put together: for calls.
-use Rattle.std.proofs.Common.{ℕ, true, false, List, [], ◌∷◌, ◌++◌, Ok, Err, refl, subst}
+use Rattle.std.proofs.Common.{ℕ, true, false, List, [], ◌∷◌, ◌++◌, Some, Ok, Err, refl, subst}
 use Rattle.std.specs.List.{AllByRecursion}
 use Rattle.mt_runs.specs.declared.event.Answer.{Answer}
+use Rattle.mt_operation.specs.declared.walk.Phase.{Phase}
 use Rattle.mt_core.specs.declared.answers.Ticket.{Ticket}
 use Rattle.mt_core.specs.Admitted.{OpeningView}
 use Rattle.mt_book.specs.declared.calls.CallFault.TheVariants as faults
@@ -23,19 +24,23 @@ pub all_snoc : (P : Period → Type 0) (ps : List Period) (p : Period) → AllBy
 all_snoc P [] p a h = (h, tt)
 all_snoc P (q ∷ ps) p a h = (a.0, all_snoc P ps p a.1 h)
 
-turns_append : (seen ticket shown mid last : ℕ) (ps qs : List Period) → AreTurns seen ticket shown ps mid → AreTurns seen ticket mid qs last → AreTurns seen ticket shown (ps ++ qs) last
-turns_append seen ticket shown mid last [] qs a b = subst (λ n. AreTurns seen ticket n qs last) a b
-turns_append seen ticket shown mid last (p ∷ ps) qs a b = (a.0, turns_append seen ticket p.steps mid last ps qs a.1 b)
+turns_append : (seen ticket shown : ℕ) (next : Phase) (mid : ℕ) (between : Phase) (last : ℕ) (left : Phase) (ps qs : List Period)
+    → AreTurns seen ticket shown next ps mid between → AreTurns seen ticket mid between qs last left → AreTurns seen ticket shown next (ps ++ qs) last left
+turns_append seen ticket shown next mid between last left [] qs a b =
+    subst (λ (n : ℕ). AreTurns seen ticket n next qs last left) a.0 (subst (λ (phase : Phase). AreTurns seen ticket mid phase qs last left) a.1 b)
+turns_append seen ticket shown next mid between last left (p ∷ ps) qs (phase, turn, rest) b = (phase, turn, turns_append seen ticket p.steps phase mid between last left ps qs rest b)
 
 -- a turn more
-pub turns_snoc : (seen ticket shown mid : ℕ) (ps : List Period) (p : Period) → AreTurns seen ticket shown ps mid → IsTurnBy seen ticket mid p.steps p.deed → AreTurns seen ticket shown (ps ++ p ∷ []) p.steps
-turns_snoc seen ticket shown mid ps p a h = turns_append seen ticket shown mid p.steps ps (p ∷ []) a (h, refl)
+pub turns_snoc : (seen ticket shown : ℕ) (next : Phase) (mid : ℕ) (between : Phase) (ps : List Period) (p : Period) (left : Phase)
+    → AreTurns seen ticket shown next ps mid between → IsTurnBy seen ticket mid between p.steps p.deed left → AreTurns seen ticket shown next (ps ++ p ∷ []) p.steps left
+turns_snoc seen ticket shown next mid between ps p left a h = turns_append seen ticket shown next mid between p.steps left ps (p ∷ []) a (left, h, (refl, refl))
 
 module _ {S : Type 0} (does : S → Period → S → Type 0) (old new : S) (seen : ℕ) (asked : Asked) (opening : OpeningView) (made : IsOpeningOf asked opening) where
   -- a call that ends with an answer
-  pub call_answered : (begun stepped : S) (ticket : Ticket) (shown : ℕ) (answer : Answer) → Led does old begun (λ ps. Opens seen asked.worker opening (Ok ticket) ps shown) → Led does begun stepped (Ends seen ticket.id shown true)
+  pub call_answered : (begun stepped : S) (ticket : Ticket) (shown : ℕ) (next : Phase) (answer : Answer) → Led does old begun (λ ps. Opens seen asked.worker opening (Ok ticket) (Some next) ps shown)
+      → Led does begun stepped (Ends seen ticket.id shown next true)
       → Led does stepped new (IsTaken seen ticket.id answer) → Calls does old new seen asked (Ok answer)
-  call_answered begun stepped ticket shown answer (opened, chain, opens) (steps, walk, ends) (back, end, taken) = record {
+  call_answered begun stepped ticket shown next answer (opened, chain, opens) (steps, walk, ends) (back, end, taken) = record {
     periods = (opened ++ steps) ++ back;
     chain = chain_append does old stepped new (opened ++ steps) back (chain_append does old begun stepped opened steps chain walk) end;
     tells = record {
@@ -43,16 +48,17 @@ module _ {S : Type 0} (does : S → Period → S → Type 0) (old new : S) (seen
       front = opened ++ steps;
       back = back;
       parts = refl;
-      runs = record { opening = opening; opened = opened; shown = shown; stepped = steps; parts = refl; made = made; opens = opens; ends = ends };
+      runs = record { opening = opening; opened = opened; shown = shown; next = next; stepped = steps; parts = refl; made = made; opens = opens; ends = ends };
       taken = taken;
     };
   }
 
   -- a call that ends since all numbers are given
-  pub call_spent : (begun : S) (ticket : Ticket) (shown : ℕ) → Led does old begun (λ ps. Opens seen asked.worker opening (Ok ticket) ps shown) → Led does begun new (Ends seen ticket.id shown false)
+  pub call_spent : (begun : S) (ticket : Ticket) (shown : ℕ) (next : Phase) → Led does old begun (λ ps. Opens seen asked.worker opening (Ok ticket) (Some next) ps shown)
+      → Led does begun new (Ends seen ticket.id shown next false)
       → Calls does old new seen asked (Err (faults.Spent ticket))
-  call_spent begun ticket shown (opened, chain, opens) (steps, walk, ends) = record {
+  call_spent begun ticket shown next (opened, chain, opens) (steps, walk, ends) = record {
     periods = opened ++ steps;
     chain = chain_append does old begun new opened steps chain walk;
-    tells = record { opening = opening; opened = opened; shown = shown; stepped = steps; parts = refl; made = made; opens = opens; ends = ends };
+    tells = record { opening = opening; opened = opened; shown = shown; next = next; stepped = steps; parts = refl; made = made; opens = opens; ends = ends };
   }

@@ -1,10 +1,11 @@
 -- What a call did over a desk.
-use Rattle.std.specs.Prelude.{◌≡◌, ℕ, ◌<◌, ◌≤◌, ◌⊎◌, Bool, true, false, if◌then◌else◌, List, [], ◌∷◌, ◌++◌, Result, Ok, Err}
+use Rattle.std.specs.Prelude.{◌≡◌, ℕ, ◌<◌, ◌≤◌, ◌⊎◌, Bool, true, false, if◌then◌else◌, List, [], ◌∷◌, ◌++◌, Option, Some, None, Result, Ok, Err}
 use Rattle.std.specs.List.{AllByRecursion}
 use Rattle.mt_rows.specs.declared.command.Command.{Command}
 use Rattle.mt_rows.specs.declared.refusal.Refusal.{Refusal}
 use Rattle.mt_rows.specs.declared.refusal.Refusal.TheVariants.{Memory}
 use Rattle.mt_runs.specs.declared.event.Answer.{Answer}
+use Rattle.mt_operation.specs.declared.walk.Phase.{Phase}
 use Rattle.mt_state.specs.declared.moves.Move.{Move}
 use Rattle.mt_state.specs.declared.moves.Move.TheVariants.{Moved, Again, NoMemory, Done, Spent}
 use Rattle.mt_state.specs.Refused.{Makes}
@@ -13,6 +14,7 @@ use Rattle.mt_core.specs.Admitted.{OpeningView, IsMadeOf}
 use Rattle.mt_book.specs.declared.calls.Begun.{Begun}
 use Rattle.mt_book.specs.declared.calls.CallFault.{CallFault}
 use Rattle.mt_book.specs.declared.calls.CallFault.TheVariants as faults
+use Rattle.mt_book.specs.declared.gates.Turned.{Turned}
 use Rattle.mt_book.specs.Periods.{Deed, Looked, Began, Rested, Stepped, Took, Period, IsEarly, IsReady, Chain}
 
 -- what is asked by a call
@@ -45,23 +47,29 @@ LeadsOn (Again holder) = Unit {0}
 LeadsOn NoMemory = Unit {0}
 LeadsOn _ = ⊥
 
--- a period between: one step of the ticket that leads on, after the gate was given the number of steps that the period before had shown; or none,
--- where fewer steps are shown than the pass saw
-abbrev pub IsTurnBy : ℕ → ℕ → ℕ → ℕ → Deed → Type 0
-IsTurnBy seen ticket shown steps (Stepped t after made) = (t ≡ ticket) × (after ≡ shown) × (seen ≤ steps) × LeadsOn made
-IsTurnBy seen ticket shown steps (Rested t) = (t ≡ ticket) × (steps < seen)
-IsTurnBy seen ticket shown steps _ = ⊥
+-- the gate was called for the operation, with what the period before had shown: how many steps were made, and what the operation's next step does
+pub record IsGiven (turned : Turned) (ticket shown : ℕ) (next : Phase) : Type 0 where
+  pub op : turned.op ≡ ticket
+  pub after : turned.after ≡ shown
+  pub phase : turned.phase ≡ next
 
--- periods between, where the one before them showed the first number, and the last of them shows the last
-abbrev pub AreTurns : ℕ → ℕ → ℕ → List Period → ℕ → Type 0
-AreTurns seen ticket shown [] last = last ≡ shown
-AreTurns seen ticket shown (p ∷ ps) last = IsTurnBy seen ticket shown p.steps p.deed × AreTurns seen ticket p.steps ps last
+-- a period between, where the gate was given what stands first and the period leaves what stands last to be shown: one step of the ticket that leads
+-- on, and tells what the next one does; or none, where fewer steps are shown than the pass saw, and the next step is still the same
+abbrev pub IsTurnBy : ℕ → ℕ → ℕ → Phase → ℕ → Deed → Phase → Type 0
+IsTurnBy seen ticket shown next steps (Stepped t turned made told) left = (t ≡ ticket) × IsGiven turned ticket shown next × (seen ≤ steps) × LeadsOn made × (told ≡ Some left)
+IsTurnBy seen ticket shown next steps (Rested t) left = (t ≡ ticket) × (steps < seen) × (left ≡ next)
+IsTurnBy seen ticket shown next steps _ left = ⊥
 
--- the periods up to the one that begins, which showed this number of steps
-pub record Opens (seen worker : ℕ) (opening : OpeningView) (told : Result Ticket Refusal) (periods : List Period) (shown : ℕ) : Type 0 where
+-- periods between, where the one before them showed the first number and phase, and the last of them shows the last ones
+abbrev pub AreTurns : ℕ → ℕ → ℕ → Phase → List Period → ℕ → Phase → Type 0
+AreTurns seen ticket shown next [] last left = (last ≡ shown) × (left ≡ next)
+AreTurns seen ticket shown next (p ∷ ps) last left = (mid : Phase) × IsTurnBy seen ticket shown next p.steps p.deed mid × AreTurns seen ticket p.steps mid ps last left
+
+-- the periods up to the one that begins, which showed this number of steps, and what the first step does
+pub record Opens (seen worker : ℕ) (opening : OpeningView) (told : Result Ticket Refusal) (next : Option Phase) (periods : List Period) (shown : ℕ) : Type 0 where
   pub before : List Period
   pub logs : ℕ
-  pub parts : periods ≡ before ++ record { steps = shown; deed = Began opening logs told } ∷ []
+  pub parts : periods ≡ before ++ record { steps = shown; deed = Began opening logs told next } ∷ []
   pub early : AllByRecursion (IsBefore seen worker) before
   pub ready : IsReady seen worker shown logs
 
@@ -69,13 +77,17 @@ pub record Opens (seen worker : ℕ) (opening : OpeningView) (told : Result Tick
 abbrev pub last_move : Bool → Move
 last_move done = if done then Done else Spent
 
--- the steps of a call, up to its last one
-pub record Ends (seen ticket shown : ℕ) (done : Bool) (periods : List Period) : Type 0 where
+-- the steps of a call, up to its last one, where the begin showed this number of steps and this phase
+pub record Ends (seen ticket shown : ℕ) (next : Phase) (done : Bool) (periods : List Period) : Type 0 where
   pub between : List Period
   pub last : ℕ
+  pub left : Phase
+  pub turned : Turned
+  pub told : Option Phase
   pub steps : ℕ
-  pub parts : periods ≡ between ++ record { steps = steps; deed = Stepped ticket last (last_move done) } ∷ []
-  pub turns : AreTurns seen ticket shown between last
+  pub parts : periods ≡ between ++ record { steps = steps; deed = Stepped ticket turned (last_move done) told } ∷ []
+  pub turns : AreTurns seen ticket shown next between last left
+  pub given : IsGiven turned ticket last left
   pub late : seen ≤ steps
 
 -- a period in which no answer was taken, since fewer steps were shown than the pass saw
@@ -99,11 +111,12 @@ pub record Runs (seen : ℕ) (asked : Asked) (ticket : Ticket) (done : Bool) (pe
   pub opening : OpeningView
   pub opened : List Period
   pub shown : ℕ
+  pub next : Phase
   pub stepped : List Period
   pub parts : periods ≡ opened ++ stepped
   pub made : IsOpeningOf asked opening
-  pub opens : Opens seen asked.worker opening (Ok ticket) opened shown
-  pub ends : Ends seen ticket.id shown done stepped
+  pub opens : Opens seen asked.worker opening (Ok ticket) (Some next) opened shown
+  pub ends : Ends seen ticket.id shown next done stepped
 
 -- the periods of a call that was answered
 pub record Answers (seen : ℕ) (asked : Asked) (answer : Answer) (periods : List Period) : Type 0 where
@@ -119,7 +132,7 @@ pub record IsRefused (seen : ℕ) (asked : Asked) (refusal : Refusal) (periods :
   pub opening : OpeningView
   pub shown : ℕ
   pub made : IsOpeningOf asked opening
-  pub opens : Opens seen asked.worker opening (Err refusal) periods shown
+  pub opens : Opens seen asked.worker opening (Err refusal) None periods shown
 
 -- what a call did, by its result: its answer is that of the last period, for the ticket of the begin
 abbrev pub Tells : ℕ → Asked → List Period → Result Answer CallFault → Type 0
@@ -144,5 +157,5 @@ Led does old new P = (periods : List Period) × Chain does old periods new × P 
 
 -- the begin of a call
 abbrev pub Begins : {S : Type 0} → (S → Period → S → Type 0) → S → S → ℕ → ℕ → OpeningView → Result Begun Refusal → Type 0
-Begins does old new seen worker opening (Ok b) = Led does old new (λ ps. Opens seen worker opening (Ok b.ticket) ps b.shown)
-Begins does old new seen worker opening (Err refusal) = Led does old new (λ ps. (shown : ℕ) × Opens seen worker opening (Err refusal) ps shown)
+Begins does old new seen worker opening (Ok b) = Led does old new (λ ps. Opens seen worker opening (Ok b.ticket) (Some b.phase) ps b.shown)
+Begins does old new seen worker opening (Err refusal) = Led does old new (λ ps. (shown : ℕ) × Opens seen worker opening (Err refusal) None ps shown)

@@ -1,19 +1,29 @@
 -- What a period does to a book that is owned alone.
-use Rattle.std.specs.Prelude.{◌≡◌, length}
+use Rattle.std.specs.Prelude.{◌≡◌, length, Option, None, Result, Ok, Err}
+use Rattle.mt_rows.specs.declared.refusal.Refusal.{Refusal}
+use Rattle.mt_operation.specs.declared.walk.Phase.{Phase}
 use Rattle.mt_state.specs.Views.{StateView}
 use Rattle.mt_state.specs.Begins.{Takes, IsEnded}
 use Rattle.mt_state.specs.Promises.{Tells}
 use Rattle.mt_core.specs.Admitted.{TellsAdmitted, RefusesOpening}
+use Rattle.mt_core.specs.declared.answers.Ticket.{Ticket}
 use Rattle.mt_core.specs.declared.displaced.Displaced.{Displaced}
+use Rattle.mt_core.specs.Shows.{phase_at}
 use Rattle.mt_core.specs.Tidies.{TidiesInto}
 use Rattle.mt_book.specs.Periods.{Deed, Looked, Began, Rested, Stepped, Took, Kept, Period}
 
--- the state has made or kept what the deed says; an answer that is taken is right, and followed by a tidying that hands out
+-- a begin shows what the first step of its operation does, by the table after it
+abbrev pub ShowsFirst : StateView → Result Ticket Refusal → Option Phase → Type 0
+ShowsFirst new (Ok ticket) next = next ≡ phase_at new.table ticket.id
+ShowsFirst new (Err refusal) next = next ≡ None
+
+-- the state has made or kept what the deed says, and the phase that is shown is that of its table afterwards; an answer that is taken is right, and
+-- followed by a tidying that hands out
 abbrev pub Did : StateView → StateView → Deed → Type 0
 Did old new (Looked logs) = (new ≡ old) × (logs ≡ length old.logs)
-Did old new (Began opening logs told) = (logs ≡ length old.logs) × TellsAdmitted old new opening told × RefusesOpening old opening told
+Did old new (Began opening logs told next) = (logs ≡ length old.logs) × TellsAdmitted old new opening told × RefusesOpening old opening told × ShowsFirst new told next
 Did old new (Rested ticket) = new ≡ old
-Did old new (Stepped ticket after made) = Tells old new ticket made
+Did old new (Stepped ticket turned made next) = Tells old new ticket made × (next ≡ phase_at new.table ticket)
 Did old new (Took ticket answer) = (mid : StateView) × Takes old mid ticket answer × ((before after : Displaced) × TidiesInto mid new before after)
 Did old new (Kept ticket) = (new ≡ old) × ¬ IsEnded old.table ticket
 

@@ -1,9 +1,11 @@
 -- What a desk does in one lock period, and what it shows of it.
-use Rattle.std.specs.Prelude.{◌≡◌, ℕ, ◌<◌, ◌≤◌, ◌⊎◌, max, List, [], ◌∷◌, Result, Ok, Err, Option, Some, None}
+use Rattle.std.specs.Prelude.{◌≡◌, ℕ, ◌<◌, ◌≤◌, ◌⊎◌, max, List, [], ◌∷◌, Result, Ok, Err, Option, Some, None, IsSome}
 use Rattle.mt_rows.specs.declared.refusal.Refusal.{Refusal}
 use Rattle.mt_runs.specs.declared.event.Answer.{Answer}
+use Rattle.mt_operation.specs.declared.walk.Phase.{Phase}
 use Rattle.mt_operation.specs.Operations.{OperationView}
 use Rattle.mt_state.specs.declared.moves.Move.{Move}
+use Rattle.mt_state.specs.declared.moves.Move.TheVariants.{Moved, Again, NoMemory}
 use Rattle.mt_state.specs.Begins.{MayBegin}
 use Rattle.mt_core.specs.declared.answers.Ticket.{Ticket}
 use Rattle.mt_core.specs.Admitted.{OpeningView}
@@ -15,14 +17,16 @@ use Rattle.mt_book.specs.declared.desks.Stepping.{Stepping}
 use Rattle.mt_book.specs.declared.desks.Taking.{Taking}
 use Rattle.mt_book.specs.declared.desks.Taken.{Taken}
 use Rattle.mt_book.specs.declared.desks.Taken.TheVariants as taken
+use Rattle.mt_book.specs.declared.gates.Turned.{Turned}
 
--- What was done. Nothing is begun by `Looked`, which shows the number of logs. `Rested` makes no step and takes no answer. Of a step `after` is the
--- number of steps that the gate was given; where a take found no answer the ticket was kept.
+-- What was done. Nothing is begun by `Looked`, which shows the number of logs. `Rested` makes no step and takes no answer. A step uses up what
+-- the gate was given. A begin and a step show last what the operation's next step does, if one is left; where a take found no answer the ticket
+-- was kept.
 pub data Deed : Type 0 where
   Looked : ℕ → Deed
-  Began : OpeningView → ℕ → Result Ticket Refusal → Deed
+  Began : OpeningView → ℕ → Result Ticket Refusal → Option Phase → Deed
   Rested : ℕ → Deed
-  Stepped : ℕ → ℕ → Move → Deed
+  Stepped : ℕ → Turned → Move → Option Phase → Deed
   Took : ℕ → Answer → Deed
   Kept : ℕ → Deed
 
@@ -51,8 +55,8 @@ look_period l = record { steps = l.steps; deed = Looked l.logs }
 -- the period of a begin
 abbrev pub admission_deed : OpeningView → ℕ → Admitted → Deed
 admission_deed opening logs (admitted.Early back) = Looked logs
-admission_deed opening logs (admitted.Begun ticket phase) = Began opening logs (Ok ticket)
-admission_deed opening logs (admitted.Refused refusal) = Began opening logs (Err refusal)
+admission_deed opening logs (admitted.Begun ticket phase) = Began opening logs (Ok ticket) (Some phase)
+admission_deed opening logs (admitted.Refused refusal) = Began opening logs (Err refusal) None
 
 abbrev pub admission_period : OpeningView → Admission → Period
 admission_period opening a = record { steps = a.steps; deed = admission_deed opening a.logs a.told }
@@ -66,21 +70,28 @@ FitsAdmitted seen worker opening steps logs (admitted.Refused refusal) = IsReady
 abbrev pub FitsAdmission : ℕ → ℕ → OpeningView → Admission → Type 0
 FitsAdmission seen worker opening a = FitsAdmitted seen worker opening a.steps a.logs a.told
 
--- the period of a step
-abbrev pub step_deed : ℕ → ℕ → Option Move → Deed
-step_deed ticket after None = Rested ticket
-step_deed ticket after (Some made) = Stepped ticket after made
+-- the period of a step, for which the gate was given this
+abbrev pub step_deed : ℕ → Turned → Option Move → Option Phase → Deed
+step_deed ticket turned None next = Rested ticket
+step_deed ticket turned (Some made) next = Stepped ticket turned made next
 
-abbrev pub step_period : ℕ → ℕ → Stepping → Period
-step_period ticket after s = record { steps = s.steps; deed = step_deed ticket after s.move_made }
+abbrev pub step_period : ℕ → Turned → Stepping → Period
+step_period ticket turned s = record { steps = s.steps; deed = step_deed ticket turned s.move_made s.phase }
 
--- no step is made exactly where fewer steps are shown than the pass saw
-abbrev pub FitsMove : ℕ → ℕ → Option Move → Type 0
-FitsMove seen steps None = steps < seen
-FitsMove seen steps (Some made) = seen ≤ steps
+-- a move after which the operation is to be stepped again shows what that step does
+abbrev pub ShowsNext : Move → Option Phase → Type 0
+ShowsNext Moved next = IsSome next
+ShowsNext (Again holder) next = IsSome next
+ShowsNext NoMemory next = IsSome next
+ShowsNext made next = Unit {0}
+
+-- no step is made exactly where fewer steps are shown than the pass saw, and then no phase is shown
+abbrev pub FitsMove : ℕ → ℕ → Option Move → Option Phase → Type 0
+FitsMove seen steps None next = (steps < seen) × (next ≡ None)
+FitsMove seen steps (Some made) next = (seen ≤ steps) × ShowsNext made next
 
 abbrev pub FitsStepping : ℕ → Stepping → Type 0
-FitsStepping seen s = FitsMove seen s.steps s.move_made
+FitsStepping seen s = FitsMove seen s.steps s.move_made s.phase
 
 -- the period of a take
 abbrev pub taken_deed : ℕ → Taken → Deed

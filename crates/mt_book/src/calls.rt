@@ -111,7 +111,7 @@ fn stepped<L: Ledger, R: Wait, D: Desk<L>, G: Gate>(
     phase: Phase,
     shown: u64,
 ) -> bool
-    ensures { Led D.does desk.old desk.new (Ends pass.now.seen ticket.now.id shown result) }
+    ensures { Led D.does desk.old desk.new (Ends pass.now.seen ticket.now.id shown phase result) }
 {
     let mut next = phase;
     let mut last = shown;
@@ -122,9 +122,7 @@ fn stepped<L: Ledger, R: Wait, D: Desk<L>, G: Gate>(
             move_made,
             phase,
         } = desk.step(rt, pass, turned, ticket);
-        if let Some(phase) = phase {
-            next = phase;
-        }
+        next = phase.unwrap_or(next);
         match move_made {
             Some(Move::Done) => return true,
             Some(Move::Spent) => return false,
@@ -223,8 +221,9 @@ fn ran<L: Ledger, R: Wait, D: Desk<L>, G: Gate>(
 }
 
 /// Runs a get or a put to its answer: a begin, its steps and a take, each in a lock period of its own,
-/// with the gate called before each step while the lock is free. All that the begin needs of the
-/// command is made before the first period, and what the last one displaces is freed behind it.
+/// with the gate called before each step while the lock is free, with the phase that the period before
+/// showed. All that the begin needs of the command is made before the first period, and what the last
+/// one displaces is freed behind it.
 ///
 /// Errors: the refusal of the begin, or `Memory` before it; `Spent` with the ticket. A desk that shows
 /// fewer steps than the pass saw, or too few logs, is asked again; one that lost the operation, or gives

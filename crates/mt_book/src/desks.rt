@@ -39,8 +39,8 @@ pub enum Admitted {
     Refused(Refusal),
 }
 
-/// What a period showed that was to make a step: no move where fewer steps were made than the pass
-/// saw. `phase` is what the next one does.
+/// What a period showed that was to make a step: no move and no phase where fewer steps were made than
+/// the pass saw. `phase` is what the operation's next step does, if one is left.
 #[derive(Drop)]
 pub struct Stepping {
     pub steps: u64,
@@ -83,7 +83,7 @@ pub trait Desk<L: Ledger> {
     /// Makes one step of an operation, for which the gate was called.
     fn step<R: Wait>(&mut self, rt: &R, pass: &Pass<L>, turned: Turned, ticket: &Ticket) -> Stepping
         requires { turned.op ≡ ticket.now.id }
-        ensures does { does self.old (step_period ticket.now.id turned.after result) self.new }
+        ensures does { does self.old (step_period ticket.now.id turned result) self.new }
         ensures fits { FitsStepping pass.now.seen result };
 
     /// Takes an operation's answer, which counts in the pass's share. What the period displaces is

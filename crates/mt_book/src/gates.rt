@@ -17,20 +17,22 @@ impl Gate for NoGate {
     fn turn(&self, _op: u64, _phase: Phase) {}
 }
 
-/// That a gate was called for this operation, after a period that showed so many steps. Only `passed`
-/// makes one, and each step uses one up.
+/// That a gate was called for this operation with this phase, after a period that showed so many
+/// steps. Only `passed` makes one, and each step uses one up.
 pub struct Turned {
     op: u64,
+    phase: Phase,
     after: u64,
 }
 
 /// Calls the gate.
 pub fn passed<G: Gate>(gate: &G, op: u64, phase: Phase, after: u64) -> Turned
     ensures op { result.op ≡ op }
+    ensures phase { result.phase ≡ phase }
     ensures after { result.after ≡ after }
 {
     gate.turn(op, phase);
-    Turned { op, after }
+    Turned { op, phase, after }
 }
 
 impl Turned {
@@ -38,7 +40,11 @@ impl Turned {
     pub fn spend(self) -> u64
         ensures { result ≡ self.op }
     {
-        let Turned { op, after: _ } = self;
+        let Turned {
+            op,
+            phase: _,
+            after: _,
+        } = self;
         op
     }
 }

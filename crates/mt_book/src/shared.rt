@@ -10,7 +10,6 @@ use crate::desks::{Admission, Admitted, Desk, Look, Stepping, Taken, Taking};
 use crate::gates::Turned;
 use crate::passes::Pass;
 use mt_core::{Displaced, Opening, Ticket};
-use mt_operation::Phase;
 use std::sync::ledger::Ledger;
 use std::sync::{Mutex, MutexGuard, Wait};
 use std::{hint, thread};
@@ -35,7 +34,7 @@ impl<L: Ledger> Desk<L> for Book<L> {
         } else {
             match self.admit(opening) {
                 Ok(ticket) => {
-                    let phase = self.phase(&ticket).unwrap_or(Phase::Enter);
+                    let phase = self.phase(&ticket).unwrap();
                     Admitted::Begun(ticket, phase)
                 }
                 Err(refusal) => Admitted::Refused(refusal),

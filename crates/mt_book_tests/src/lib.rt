@@ -1,5 +1,5 @@
 //! Tests of `mt_book`: calls by several threads, calls over a book that is owned alone, and over a desk
-//! that lies.
+//! that lies; what a gate is called with.
 //!
 //! They stand in a crate of their own, since a crate with tests is proved twice.
 #![tactic(auto)]
@@ -8,5 +8,7 @@
 mod held;
 #[cfg(test)]
 mod lies;
+#[cfg(test)]
+mod shown;
 #[cfg(test)]
 mod threads;

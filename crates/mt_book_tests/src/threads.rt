@@ -34,7 +34,7 @@ fn no_tenants(alloc: Global) -> Tenants
 }
 
 // A put of one byte in column 0.
-fn put_of(alloc: Global, key: u8, value: u8) -> Result<Command, AllocError>
+pub(crate) fn put_of(alloc: Global, key: u8, value: u8) -> Result<Command, AllocError>
     ensures { IfOk result MayBegin }
 {
     let key = Key::new(Vec::from_slice(alloc, &[key])?);
