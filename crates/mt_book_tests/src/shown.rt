@@ -4,7 +4,7 @@ ghost use Rattle.std.specs.Prelude.{◌≡◌};
 ghost use Rattle.mt_state.specs.Begins.{MayBegin};
 
 use crate::threads::{get_of, new_store, put_of};
-use mt_book::{Book, Desk, Gate, Pass, call, open_pass};
+use mt_book::{Book, Gate, Pass, call, open_pass};
 use mt_operation::Phase;
 use mt_rows::Command;
 use std::alloc::{AllocError, Global};
@@ -30,90 +30,92 @@ impl Gate for Recording {
 }
 
 // The phases that a gate is called with, of one call.
-fn phases_of<L: Ledger, R: Wait + Abort, D: Desk<L>>(
+fn phases_of<L: Ledger, R: Wait + Abort>(
     rt: &R,
     alloc: Global,
-    desk: &mut D,
+    book: &Mutex<Book<L>>,
     pass: &mut Pass<L>,
     command: Command,
 ) -> Vec<Phase>
     requires { MayBegin command }
 {
+    let mut desk = book;
     let gate = Recording {
         alloc,
         shown: Cell::new(Vec::new(alloc)),
     };
-    let told = call(rt, alloc, desk, pass, 7, command, &gate);
+    let told = call(rt, alloc, &mut desk, pass, 7, command, &gate);
     assert!(rt; told.is_ok());
     let Recording { alloc: _, shown } = gate;
     shown.into_inner()
 }
 
-// A get or a put of one key shows these phases.
-fn expect_shown<L: Ledger, R: Wait + Abort, D: Desk<L>>(
+// A get of one key calls the gate with these phases.
+fn expect_of_get<L: Ledger, R: Wait + Abort>(
     rt: &R,
     alloc: Global,
-    desk: &mut D,
+    book: &Mutex<Book<L>>,
     pass: &mut Pass<L>,
-    is_put: bool,
     wanted: &[Phase],
 ) {
-    let command = if is_put {
-        put_of(alloc, 107, 118)
-    } else {
-        get_of(alloc, 107)
-    };
-    let shown = phases_of(rt, alloc, desk, pass, command.expect(rt, "memory"));
+    let command = get_of(alloc, 107).expect(rt, "memory");
+    let shown = phases_of(rt, alloc, book, pass, command);
     assert_eq!(rt; shown.as_slice(), wanted);
 }
 
+// So does a put of it.
+fn expect_of_put<L: Ledger, R: Wait + Abort>(
+    rt: &R,
+    alloc: Global,
+    book: &Mutex<Book<L>>,
+    pass: &mut Pass<L>,
+    wanted: &[Phase],
+) {
+    let command = put_of(alloc, 107, 118).expect(rt, "memory");
+    let shown = phases_of(rt, alloc, book, pass, command);
+    assert_eq!(rt; shown.as_slice(), wanted);
+}
+
+static GET_OF_NONE: [Phase; 3] = [Phase::Enter, Phase::Search, Phase::Confirm];
+
+static GET: [Phase; 4] = [Phase::Enter, Phase::Search, Phase::Load, Phase::Confirm];
+
+static PUT_OF_NONE: [Phase; 5] = [
+    Phase::Enter,
+    Phase::Lock,
+    Phase::Judge,
+    Phase::Publish,
+    Phase::Unlock,
+];
+
+static PUT: [Phase; 5] = [
+    Phase::Enter,
+    Phase::Lock,
+    Phase::Judge,
+    Phase::Store,
+    Phase::Unlock,
+];
+
 // A key that is missing is read, put, read and put again, by the only pass.
+fn make_four<L: Ledger, R: Wait + Abort>(rt: &R, alloc: Global, book: &Mutex<Book<L>>) {
+    let mut pass = open_pass(rt, book, 0).expect(rt, "a pass");
+    expect_of_get(rt, alloc, book, &mut pass, &GET_OF_NONE);
+    expect_of_put(rt, alloc, book, &mut pass, &PUT_OF_NONE);
+    expect_of_get(rt, alloc, book, &mut pass, &GET);
+    expect_of_put(rt, alloc, book, &mut pass, &PUT);
+}
+
 fn run<L: Ledger, R: Wait + Abort>(rt: &R, alloc: Global, blank: Blank) -> Result<(), AllocError>
     requires name { blank.name ≡ L.name }
     requires parts { (blank.parts ≡ L.parts) × (L.parts ≡ 65536) }
 {
     let book = Mutex::new(Book::<L>::new(blank, new_store(rt, alloc)?));
-    let mut pass = open_pass(rt, &book, 0).expect(rt, "a pass");
-    let rows = [
-        (
-            false,
-            [Phase::Enter, Phase::Search, Phase::Confirm].as_slice(),
-        ),
-        (
-            true,
-            [
-                Phase::Enter,
-                Phase::Lock,
-                Phase::Judge,
-                Phase::Publish,
-                Phase::Unlock,
-            ]
-            .as_slice(),
-        ),
-        (
-            false,
-            [Phase::Enter, Phase::Search, Phase::Load, Phase::Confirm].as_slice(),
-        ),
-        (
-            true,
-            [
-                Phase::Enter,
-                Phase::Lock,
-                Phase::Judge,
-                Phase::Store,
-                Phase::Unlock,
-            ]
-            .as_slice(),
-        ),
-    ];
-    for (is_put, wanted) in rows {
-        expect_shown(rt, alloc, &mut &book, &mut pass, is_put, wanted);
-    }
+    make_four(rt, alloc, &book);
     Ok(())
 }
 
 #[test]
-fn a_gate_is_shown_each_phase_in_order(rt: HostRuntime) -> Result<(), Fail> {
+fn a_gate_is_called_with_each_phase_in_order(rt: HostRuntime) -> Result<(), Fail> {
     run::<Brand, _>(&rt, rt.alloc(), Blank::new(65_536))?;
     Ok(())
 }
