@@ -5,8 +5,8 @@
 //! ends with 0; else it prints a line for each that is wrong, with the first wrong line of its answers, and
 //! ends with 1. A folder that could not be read, or an output that failed, ends it at once with 2.
 //!
-//! It tests `mt_lines` over data, and is no `#[test]`: where `rt ci` runs a program it puts the files of its
-//! crate's data/, and where it runs a test none.
+//! It tests `mt_lines` over data, and is a program: where `rt ci` runs one it puts the files of its crate's
+//! data/, and where it runs the tests of a crate none.
 #![tactic(auto)]
 
 ghost use Rattle.std.specs.Prelude.{◌≡◌, ◌↔◌, ◌<◌, IsTrue};
