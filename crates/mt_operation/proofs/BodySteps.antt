@@ -11,17 +11,17 @@ use Rattle.mt_operation.specs.declared.steps.Stepped.{Stepped}
 use Rattle.mt_operation.specs.declared.steps.Stepped.TheVariants.{To, Blocked, Left, Absent}
 use Rattle.mt_operation.specs.Operations.{counted}
 use Rattle.mt_operation.specs.Tables.{Table, op_at, AreBefore, MayMove}
-use Rattle.mt_operation.specs.Seats.{Seats, seat_at, operation_in, table_of, is_still, IsEndOrSeat}
+use Rattle.mt_operation.specs.Seats.{Seats, seat_at, operation_in, table_of, padded, is_still, IsEndOrSeat}
 use Rattle.mt_operation.specs.Queues.{IsTable, LinksLast, Becomes}
 use Rattle.mt_operation.specs.Bodies.{Body, MovesUnfinished, LeavesElse, MovesBy, StaysBy, StepsBy, SeatMovesBy, SeatStaysBy, SeatStepsBy}
 use Rattle.mt_operation.proofs.Tables.{set_same}
-use Rattle.mt_operation.proofs.Links.{op_seat}
+use Rattle.mt_operation.proofs.Places.{shown_op}
 use Rattle.mt_operation.proofs.TableMoves.{became_table, last_new, moved_there, moved_last, moved_first, moved_later}
 
-module _ (Makes : Body) (p0 p1 : Seats) (now : Table) (o : ℕ) (is : table_of p0 ≡ now) where
+module _ (Makes : Body) (n : ℕ) (p0 p1 : Seats) (now : Table) (o : ℕ) (is : padded n (table_of p0) ≡ now) where
   -- the operation of a seat, as the table shows it
   pub shown_there : (seat : Seat) → seat_at p0 o ≡ Some seat → op_at now o ≡ Some seat.operation
-  shown_there seat at = ap (λ t. op_at t o) (sym is) ∙ op_seat p0 o ∙ ap operation_in at
+  shown_there seat at = shown_op n p0 now o is ∙ ap operation_in at
 
   module _ (leaves : LeavesElse Makes now o) (is_first : Bool) (made : Made) (other : made ≢ Step) (s : SeatStaysBy Makes p0 p1 o is_first made) where
     same : s.after ≡ s.seat.operation
@@ -51,33 +51,33 @@ module _ (Makes : Body) (p0 p1 : Seats) (now : Table) (o : ℕ) (is : table_of p
     }
 
     move_there : is_first ≡ true → IsEndOrSeat p1 (Some o)
-    move_there first = moved_there p0 p1 ends now o step s.after.walk is h may to (λ op. refl) becomes (still_is ∙ first)
+    move_there first = moved_there n p0 p1 ends now o step s.after.walk is h may to (λ op. refl) becomes (still_is ∙ first)
 
     move_last : is_first ≡ true → IsEndOrSeat p1 ends.last
-    move_last first = moved_last p0 p1 ends now o step s.after.walk is h may to (λ op. refl) becomes (still_is ∙ first)
+    move_last first = moved_last n p0 p1 ends now o step s.after.walk is h may to (λ op. refl) becomes (still_is ∙ first)
 
     move_new : is_first ≡ true → ends.last ≡ Some o → ⊥
     move_new first = last_new p0 ends o h (still_is ∙ first)
 
     -- the table stays one
     move_first : (p2 : Seats) (e1 : Ends) → is_first ≡ true → LinksLast p1 ends p2 e1 o → IsTable p2 e1
-    move_first p2 e1 first l = moved_first p0 p1 ends now o step s.after.walk is h may to (λ op. refl) becomes p2 e1 (still_is ∙ first) l
+    move_first p2 e1 first l = moved_first n p0 p1 ends now o step s.after.walk is h may to (λ op. refl) becomes p2 e1 (still_is ∙ first) l
 
     move_later : is_first ≡ false → IsTable p1 ends
-    move_later still = moved_later p0 p1 ends now o step s.after.walk is h may to (λ op. refl) becomes (λ none. absurd (gone none)) (still_is ∙ still)
+    move_later still = moved_later n p0 p1 ends now o step s.after.walk is h may to (λ op. refl) becomes (λ none. absurd (gone none)) (still_is ∙ still)
       where
         gone : seat_at p0 o ≡ None → ⊥
         gone none = let e = sym none ∙ s.there in cc
 
     -- and shows what the body made
-    moves_by : (p2 : Seats) → table_of p2 ≡ table_of p1 → MovesBy Makes now (table_of p2) o step phase
+    moves_by : (p2 : Seats) → table_of p2 ≡ table_of p1 → MovesBy Makes now (padded n (table_of p2)) o step phase
     moves_by p2 shows = record {
       op = s.seat.operation;
       there = shown_there s.seat s.there;
       after = s.after;
       makes = s.makes;
       phase_is = s.phase_is;
-      table = shows ∙ became_table p0 p1 o to becomes p0 now s.seat.operation is refl (shown_there s.seat s.there);
+      table = ap (padded n) shows ∙ became_table p0 p1 o to becomes n p0 now s.seat.operation is refl (shown_there s.seat s.there);
     }
 
   -- whatever comes of it
@@ -118,17 +118,17 @@ module _ (Makes : Body) (p0 p1 : Seats) (now : Table) (o : ℕ) (is : table_of p
     later_table Absent s still = subst (λ (p : Seats). IsTable p ends) (sym s.1) h
 
     -- and shows what has come of it
-    pub steps_by : (stepped : Stepped) → SeatStepsBy Makes p0 p1 o step is_first stepped → (p2 : Seats) → table_of p2 ≡ table_of p1 → StepsBy Makes now (table_of p2) o step stepped
+    pub steps_by : (stepped : Stepped) → SeatStepsBy Makes p0 p1 o step is_first stepped → (p2 : Seats) → table_of p2 ≡ table_of p1 → StepsBy Makes now (padded n (table_of p2)) o step stepped
     unfolding stays_by
     steps_by (To phase) s p2 shows = moves_by ends step h later moves is_first phase s p2 shows
     steps_by (Blocked holder) s p2 shows = (
       stays_by leaves is_first (BlockedBy holder) (λ e. absurd (cc)) s,
-      shows ∙ ap table_of (stays_same leaves is_first (BlockedBy holder) (λ e. absurd (cc)) s) ∙ is,
+      ap (padded n) (shows ∙ ap table_of (stays_same leaves is_first (BlockedBy holder) (λ e. absurd (cc)) s)) ∙ is,
     )
     steps_by (Left phase) s p2 shows =
         let same_op = same leaves is_first Nothing (λ e. absurd (cc)) s.0 in (
           stays_by leaves is_first Nothing (λ e. absurd (cc)) s.0,
           s.1 ∙ ap (λ (op : Operation). op.walk.phase) same_op,
-          shows ∙ ap table_of (stays_same leaves is_first Nothing (λ e. absurd (cc)) s.0) ∙ is,
+          ap (padded n) (shows ∙ ap table_of (stays_same leaves is_first Nothing (λ e. absurd (cc)) s.0)) ∙ is,
         )
-    steps_by Absent s p2 shows = (ap (λ t. op_at t o) (sym is) ∙ op_seat p0 o ∙ ap operation_in s.0, shows ∙ ap table_of s.1 ∙ is)
+    steps_by Absent s p2 shows = (shown_op n p0 now o is ∙ ap operation_in s.0, ap (padded n) (shows ∙ ap table_of s.1) ∙ is)

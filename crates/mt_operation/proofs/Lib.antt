@@ -1,5 +1,6 @@
 pub mod Tables
 pub mod Links
+pub mod Places
 pub mod QueueLaws
 pub mod TableMoves
 pub mod BodySteps

@@ -9,10 +9,11 @@ use Rattle.mt_operation.specs.declared.queue.Seat.{Seat}
 use Rattle.mt_operation.specs.declared.queue.Ends.{Ends}
 use Rattle.mt_operation.specs.Operations.{moved}
 use Rattle.mt_operation.specs.Tables.{Table, op_at, prepared_in, MayMove, IsFloorNeeded}
-use Rattle.mt_operation.specs.Seats.{Seats, seat_at, operation_in, table_of, first_in, first_at, is_still, after_in, before_in, after_of, before_of, IsEndOrSeat}
+use Rattle.mt_operation.specs.Seats.{Seats, seat_at, operation_in, table_of, padded, first_in, first_at, is_still, after_in, before_in, after_of, before_of, IsEndOrSeat}
 use Rattle.mt_operation.specs.Queues.{IsInQueue, queue_number, ComesNext, IsTable, CutsOut, LinksLast, Becomes}
 use Rattle.mt_operation.proofs.Tables.{set_is, set_there, set_none}
 use Rattle.mt_operation.proofs.Links.{op_seat, table_set, seat_there, written_in}
+use Rattle.mt_operation.proofs.Places.{shown_op, shown_at, padded_set}
 use Rattle.mt_operation.proofs.QueueLaws.{some_none, in_follows, same_queue, cut_queue, behind_queue}
 
 none_op : {op : Operation} → ◌≡◌ {A = Option Operation} None (Some op) → ⊥
@@ -56,17 +57,18 @@ closed (Some seat) e = absurd (none_op (sym e))
 -- one operation becomes what f makes of it
 module _ (mid new : Seats) (o : ℕ) (f : Operation → Operation) (becomes : Becomes mid new o f) where
   -- what the table shows then
-  pub became_table : (old : Seats) (now : Table) (op : Operation) → table_of old ≡ now → table_of mid ≡ table_of old → op_at now o ≡ Some op → table_of new ≡ set now o (Some (f op))
-  became_table old now op is same there =
-      let w = opened (seat_at mid o) op (sym (op_seat mid o) ∙ ap (λ t. op_at t o) (same ∙ is) ∙ there) in
-      ap table_of (becomes w.0 w.1)
-      ∙ table_set mid o (Some (record w.0 { operation = f w.0.operation }))
-      ∙ ap (λ t. set t o (Some (f w.0.operation))) (same ∙ is)
+  pub became_table : (n : ℕ) (old : Seats) (now : Table) (op : Operation) → padded n (table_of old) ≡ now → table_of mid ≡ table_of old → op_at now o ≡ Some op → padded n (table_of new) ≡ set now o (Some (f op))
+  became_table n old now op is same there =
+      let w = opened (seat_at mid o) op (sym (shown_op n mid now o (ap (padded n) same ∙ is)) ∙ there) in
+      ap (λ p. padded n (table_of p)) (becomes w.0 w.1)
+      ∙ ap (padded n) (table_set mid o (Some (record w.0 { operation = f w.0.operation })))
+      ∙ padded_set n (table_of mid) o w.0.operation (Some (f w.0.operation)) (op_seat mid o ∙ ap operation_in w.1)
+      ∙ ap (λ t. set t o (Some (f w.0.operation))) (ap (padded n) same ∙ is)
       ∙ ap (λ (x : Operation). set now o (Some (f x))) w.2
 
   -- and nothing else, where nobody has the id
-  pub none_table : (old : Seats) (now : Table) → table_of old ≡ now → table_of mid ≡ table_of old → (seat_at mid o ≡ None → new ≡ mid) → op_at now o ≡ None → table_of new ≡ now
-  none_table old now is same none vacant = ap table_of (none (closed (seat_at mid o) (sym (op_seat mid o) ∙ ap (λ t. op_at t o) (same ∙ is) ∙ vacant))) ∙ same ∙ is
+  pub none_table : (n : ℕ) (old : Seats) (now : Table) → padded n (table_of old) ≡ now → table_of mid ≡ table_of old → (seat_at mid o ≡ None → new ≡ mid) → op_at now o ≡ None → padded n (table_of new) ≡ now
+  none_table n old now is same none vacant = ap (λ p. padded n (table_of p)) (none (closed (seat_at mid o) (sym (shown_op n mid now o (ap (padded n) same ∙ is)) ∙ vacant))) ∙ ap (padded n) same ∙ is
 
   -- the links stay
   afters_became : (ends : Ends) (seat : Seat) → seat_at mid o ≡ Some seat → (s : Option ℕ) → after_of new ends s ≡ after_of mid ends s
@@ -95,7 +97,7 @@ module _ (p0 p1 : Seats) (ends : Ends) (o : ℕ) (f : Operation → Operation) (
   changed_by None at = subst (λ p. IsTable p ends) (sym (none at)) h
   changed_by (Some seat) at =
       let there : op_at (table_of p0) o ≡ Some seat.operation = op_seat p0 o ∙ ap operation_in at in
-      let table = became_table p0 p1 o f becomes p0 (table_of p0) seat.operation refl refl there in
+      let table = became_table p0 p1 o f becomes 0 p0 (table_of p0) seat.operation refl refl there in
       same_queue (first_at (table_of p0)) (first_at (table_of p1)) (after_of p0 ends) (after_of p1 ends) (before_of p0 ends) (before_of p1 ends)
       (first_kept (table_of p0) (table_of p1) o seat.operation (f seat.operation) there (ap (λ (w : Walk). w.first) (same_walk seat.operation)) table)
       (λ t here. afters_became p0 p1 o f becomes ends seat at t)
@@ -107,28 +109,28 @@ module _ (p0 p1 : Seats) (ends : Ends) (o : ℕ) (f : Operation → Operation) (
   changed_sound = changed_by (seat_at p0 o) refl
 
 -- what an operation of a seat has made ready, by the table
-pub ready_table : (seats : Seats) (now : Table) (o : ℕ) → table_of seats ≡ now → prepared_in (operation_in (seat_at seats o)) ≡ prepared_in (op_at now o)
-ready_table seats now o is = ap prepared_in (sym (op_seat seats o) ∙ ap (λ t. op_at t o) is)
+pub ready_table : (n : ℕ) (seats : Seats) (now : Table) (o : ℕ) → padded n (table_of seats) ≡ now → prepared_in (operation_in (seat_at seats o)) ≡ prepared_in (op_at now o)
+ready_table n seats now o is = ap prepared_in (sym (shown_op n seats now o is))
 
 -- an operation of the table is that of its seat
-pub seat_shown : (seats : Seats) (now : Table) (o : ℕ) (op : Operation) → table_of seats ≡ now → op_at now o ≡ Some op → (seat : Seat) × (seat_at seats o ≡ Some seat) × (seat.operation ≡ op)
-seat_shown seats now o op is there = opened (seat_at seats o) op (sym (op_seat seats o) ∙ ap (λ t. op_at t o) is ∙ there)
+pub seat_shown : (n : ℕ) (seats : Seats) (now : Table) (o : ℕ) (op : Operation) → padded n (table_of seats) ≡ now → op_at now o ≡ Some op → (seat : Seat) × (seat_at seats o ≡ Some seat) × (seat.operation ≡ op)
+seat_shown n seats now o op is there = opened (seat_at seats o) op (sym (shown_op n seats now o is) ∙ there)
 
 -- and where there is none, there is no seat
-pub no_seat_shown : (seats : Seats) (now : Table) (o : ℕ) → table_of seats ≡ now → op_at now o ≡ None → seat_at seats o ≡ None
-no_seat_shown seats now o is vacant = closed (seat_at seats o) (sym (op_seat seats o) ∙ ap (λ t. op_at t o) is ∙ vacant)
+pub no_seat_shown : (n : ℕ) (seats : Seats) (now : Table) (o : ℕ) → padded n (table_of seats) ≡ now → op_at now o ≡ None → seat_at seats o ≡ None
+no_seat_shown n seats now o is vacant = closed (seat_at seats o) (sym (shown_op n seats now o is) ∙ vacant)
 
 -- the operation of an id moves, and may have another outcome
-module _ (p0 p1 : Seats) (e0 : Ends) (now : Table) (o step : ℕ) (walk : Walk) (is : table_of p0 ≡ now) (h : IsTable p0 e0) (may : MayMove now o step)
+module _ (n : ℕ) (p0 p1 : Seats) (e0 : Ends) (now : Table) (o step : ℕ) (walk : Walk) (is : padded n (table_of p0) ≡ now) (h : IsTable p0 e0) (may : MayMove now o step)
     (f : Operation → Operation) (same_walk : (op : Operation) → (f op).walk ≡ (moved op step walk).walk) (becomes : Becomes p0 p1 o f) where
   there_at : (seat : Seat) → seat_at p0 o ≡ Some seat → op_at (table_of p0) o ≡ Some seat.operation
   there_at seat at = op_seat p0 o ∙ ap operation_in at
 
   early_at : (seat : Seat) → seat_at p0 o ≡ Some seat → seat.operation.walk.first < step
-  early_at seat at = may.later o seat.operation (ap (λ t. op_at t o) (sym is) ∙ there_at seat at)
+  early_at seat at = may.later o seat.operation (shown_at n p0 now o is ∙ there_at seat at)
 
   table_at : (seat : Seat) → seat_at p0 o ≡ Some seat → table_of p1 ≡ set (table_of p0) o (Some (f seat.operation))
-  table_at seat at = became_table p0 p1 o f becomes p0 (table_of p0) seat.operation refl refl (there_at seat at)
+  table_at seat at = became_table p0 p1 o f becomes 0 p0 (table_of p0) seat.operation refl refl (there_at seat at)
 
   seat_in : (x : Option Seat) → seat_at p0 o ≡ x → is_still x ≡ true → (seat : Seat) × (seat_at p0 o ≡ Some seat) × ((seat.operation.walk.first == 0) ≡ true)
   seat_in None at still = absurd (cc)
@@ -177,7 +179,7 @@ module _ (p0 p1 : Seats) (e0 : Ends) (now : Table) (o step : ℕ) (walk : Walk) 
           -- every first step of before is earlier
           below : (q : ℕ) (x : Option Operation) → op_at (table_of p0) q ≡ x → first_in (op_at (table_of p0) q) < step
           below q None e = omega (arith, ap first_in e, early_at seat at)
-          below q (Some op) e = omega (arith, ap first_in e, may.later q op (ap (λ t. op_at t q) (sym is) ∙ e))
+          below q (Some op) e = omega (arith, ap first_in e, may.later q op (shown_at n p0 now q is ∙ e))
 
   -- and where it has made one, and no link is another
   pub moved_later : (seat_at p0 o ≡ None → p1 ≡ p0) → is_still (seat_at p0 o) ≡ false → IsTable p1 e0
@@ -222,12 +224,12 @@ module _ (old new : Slab Seat) (ends : Ends) (o : ℕ) (op : Operation) (h : IsT
       befores (Some q) here = ap before_in (updates.others q (new_here q here))
 
   -- what the table shows then
-  pub kept_there : op_at (table_of new.slots) o ≡ Some op
-  kept_there = op_seat new.slots o ∙ ap operation_in updates.changed
+  pub kept_there : (m : ℕ) → op_at (padded m (table_of new.slots)) o ≡ Some op
+  kept_there m = shown_op m new.slots (padded m (table_of new.slots)) o refl ∙ ap operation_in updates.changed
 
   -- every other id has what it had
-  pub kept_others : (now : Table) → table_of old.slots ≡ now → (q : ℕ) → q ≢ o → op_at (table_of new.slots) q ≡ op_at now q
-  kept_others now is q ne = op_seat new.slots q ∙ ap operation_in (updates.others q ne) ∙ sym (op_seat old.slots q) ∙ ap (λ t. op_at t q) is
+  pub kept_others : (n m : ℕ) (now : Table) → padded n (table_of old.slots) ≡ now → (q : ℕ) → q ≢ o → op_at (padded m (table_of new.slots)) q ≡ op_at now q
+  kept_others n m now is q ne = shown_op m new.slots (padded m (table_of new.slots)) q refl ∙ ap operation_in (updates.others q ne) ∙ sym (shown_op n old.slots now q is)
 
 -- an operation less
 module _ (p0 p1 : Seats) (e0 : Ends) (o : ℕ) (seat : Seat) (h : IsTable p0 e0) (at : seat_at p0 o ≡ Some seat) (gone : p1 ≡ set p0 o None) where
@@ -238,8 +240,8 @@ module _ (p0 p1 : Seats) (e0 : Ends) (o : ℕ) (seat : Seat) (h : IsTable p0 e0)
   table_gone = ap table_of gone ∙ table_set p0 o None
 
   -- what the table shows without it
-  pub gone_shows : (now : Table) (p2 : Seats) → table_of p0 ≡ now → table_of p2 ≡ table_of p1 → table_of p2 ≡ set now o None
-  gone_shows now p2 is same = same ∙ table_gone ∙ ap (λ t. set t o None) is
+  pub gone_shows : (n : ℕ) (now : Table) (p2 : Seats) → padded n (table_of p0) ≡ now → table_of p2 ≡ table_of p1 → padded n (table_of p2) ≡ set now o None
+  gone_shows n now p2 is same = ap (padded n) (same ∙ table_gone) ∙ padded_set n (table_of p0) o seat.operation None there ∙ ap (λ t. set t o None) is
 
   -- its neighbours are there still
   still_there : (s : Option ℕ) → IsInQueue (first_at (table_of p0)) s → s ≢ Some o → IsEndOrSeat p1 s
@@ -319,13 +321,13 @@ module _ (p0 p1 : Seats) (e0 : Ends) (o : ℕ) (seat : Seat) (h : IsTable p0 e0)
   ]
 
 -- the floor that is needed where no operation has made a step
-pub floor_none : (seats : Seats) (ends : Ends) (now : Table) (steps : ℕ) → table_of seats ≡ now → IsTable seats ends → ends.first ≡ None → IsFloorNeeded now steps steps
-floor_none seats ends now steps is h none =
+pub floor_none : (n : ℕ) (seats : Seats) (ends : Ends) (now : Table) (steps : ℕ) → padded n (table_of seats) ≡ now → IsTable seats ends → ends.first ≡ None → IsFloorNeeded now steps steps
+floor_none n seats ends now steps is h none =
     let f = subst (ComesNext (first_at (table_of seats)) None) none (h.afters None tt) in
     record {
       made = omega arith;
-      before = λ o op at begun. absurd (omega (arith, f.1 o, ap first_in (ap (λ t. op_at t o) is ∙ at), begun));
-      greatest = λ n le before. le;
+      before = λ o op at begun. absurd (omega (arith, f.1 o, ap first_in (sym (shown_at n seats now o is) ∙ at), begun));
+      greatest = λ k le before. le;
     }
 
 -- and where one did so first
@@ -342,15 +344,15 @@ module _ (seats : Seats) (ends : Ends) (o : ℕ) (h : IsTable seats ends) (first
   first_begun seat at = omega (arith, first_follows.1, ap first_in (op_seat seats o ∙ ap operation_in at))
 
   -- and the number before that one is the floor
-  pub floor_first : (seat : Seat) (now : Table) (steps : ℕ) → table_of seats ≡ now → ((q : ℕ) (op : Operation) → op_at now q ≡ Some op → op.walk.first ≤ steps) → seat_at seats o ≡ Some seat → IsFloorNeeded now steps (seat.operation.walk.first - 1)
-  floor_first seat now steps is made at =
-      let there : op_at now o ≡ Some seat.operation = ap (λ t. op_at t o) (sym is) ∙ op_seat seats o ∙ ap operation_in at in
+  pub floor_first : (n : ℕ) (seat : Seat) (now : Table) (steps : ℕ) → padded n (table_of seats) ≡ now → ((q : ℕ) (op : Operation) → op_at now q ≡ Some op → op.walk.first ≤ steps) → seat_at seats o ≡ Some seat → IsFloorNeeded now steps (seat.operation.walk.first - 1)
+  floor_first n seat now steps is made at =
+      let there : op_at now o ≡ Some seat.operation = shown_op n seats now o is ∙ ap operation_in at in
       let first_is : first_at (table_of seats) o ≡ seat.operation.walk.first = ap first_in (op_seat seats o ∙ ap operation_in at) in
       record {
         made = omega (arith, made o seat.operation there);
         before = λ q op at_q begun. elim (first_follows.2 q) [
-          | inl le ↦ absurd (omega (arith, le, begun, ap first_in (ap (λ t. op_at t q) is ∙ at_q)))
-          | inr over ↦ omega (arith, over, first_is, first_begun seat at, ap first_in (ap (λ t. op_at t q) is ∙ at_q))
+          | inl le ↦ absurd (omega (arith, le, begun, ap first_in (sym (shown_at n seats now q is) ∙ at_q)))
+          | inr over ↦ omega (arith, over, first_is, first_begun seat at, ap first_in (sym (shown_at n seats now q is) ∙ at_q))
         ];
-        greatest = λ n le before. omega (arith, before o seat.operation there (first_begun seat at));
+        greatest = λ k le before. omega (arith, before o seat.operation there (first_begun seat at));
       }

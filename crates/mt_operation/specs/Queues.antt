@@ -1,5 +1,6 @@
 -- The queue of the operations that have made a step, in the order of their first steps, and what changes of one seat do to it.
-use Rattle.std.specs.Prelude.{◌≡◌, ◌≢◌, ℕ, ◌<◌, ◌≤◌, ◌⊎◌, Option, Some, None, slice_set}
+use Rattle.std.specs.Prelude.{◌≡◌, ◌≢◌, ℕ, ◌<◌, ◌≤◌, ◌⊎◌, length, Option, Some, None, slice_set}
+use Rattle.slab.specs.Slab.{Slab}
 use Rattle.mt_operation.specs.declared.operation.Operation.{Operation}
 use Rattle.mt_operation.specs.declared.queue.Seat.{Seat}
 use Rattle.mt_operation.specs.declared.queue.Ends.{Ends}
@@ -29,6 +30,11 @@ pub record IsQueue (firsts : ℕ → ℕ) (after before : Option ℕ → Option 
 -- what holds of a table at all times
 abbrev pub IsTable : Seats → Ends → Type 0
 IsTable seats ends = IsQueue (first_at (table_of seats)) (after_of seats ends) (before_of seats ends)
+
+-- the seats all have a place, and each place has memory for a seat
+pub record HasSeats (seats : Slab Seat) (places : ℕ) : Type 0 where
+  pub shown : length seats.slots ≤ places
+  pub held : places ≤ seats.capacity
 
 -- one has a new neighbour after it; all other links and all operations are as they were
 pub record SetsAfter (old : Seats) (old_ends : Ends) (new : Seats) (new_ends : Ends) (s to : Option ℕ) : Type 0 where

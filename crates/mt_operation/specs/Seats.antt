@@ -1,5 +1,6 @@
 -- The table of operations as it lies in memory: each operation in a seat, which names its neighbours in the queue.
-use Rattle.std.specs.Prelude.{ℕ, ◌==◌, Bool, false, List, map, Option, Some, None, IsSome, slice_index_or}
+use Rattle.std.specs.Prelude.{◌≡◌, ℕ, zero, suc, ◌==◌, Bool, false, List, [], ◌∷◌, length, map, Option, Some, None, IsSome, slice_index_or}
+use Rattle.slab.specs.Slab.{Slab}
 use Rattle.mt_operation.specs.declared.operation.Operation.{Operation}
 use Rattle.mt_operation.specs.declared.queue.Seat.{Seat}
 use Rattle.mt_operation.specs.declared.queue.Ends.{Ends}
@@ -58,3 +59,14 @@ before_of seats ends (Some o) = before_in (seat_at seats o)
 abbrev pub IsEndOrSeat : Seats → Option ℕ → Type 0
 IsEndOrSeat seats None = Unit {0}
 IsEndOrSeat seats (Some o) = IsSome (seat_at seats o)
+
+-- a table with at least so many places, those behind its own ones empty
+abbrev pub padded : ℕ → Table → Table
+padded zero table = table
+padded (suc n) [] = None ∷ padded n []
+padded (suc n) (op ∷ table) = op ∷ padded n table
+
+-- no seat was added and none given up, and there is memory for as many as before
+pub record KeepsRoom (old new : Slab Seat) : Type 0 where
+  pub slots : length new.slots ≡ length old.slots
+  pub capacity : new.capacity ≡ old.capacity

@@ -1,5 +1,5 @@
 -- The table of operations, as it is shown.
-use Rattle.std.specs.Prelude.{◌≡◌, ℕ, ◌<◌, ◌≤◌, true, List, Option, Some, None, slice_index_or}
+use Rattle.std.specs.Prelude.{◌≡◌, ℕ, ◌+◌, ◌<◌, ◌≤◌, true, List, length, count_by, Option, Some, None, is_some, slice_index_or}
 use Rattle.mt_operation.specs.declared.prepared.Prepared.{Prepared}
 use Rattle.mt_operation.specs.declared.operation.Operation.{Operation}
 use Rattle.mt_operation.specs.Operations.{is_unfinished}
@@ -11,6 +11,20 @@ Table = List (Option Operation)
 -- the operation of an id
 abbrev pub op_at : Table → ℕ → Option Operation
 op_at table o = slice_index_or table o None
+
+-- how many operations are open
+abbrev pub open_count : Table → ℕ
+open_count table = count_by is_some table
+
+-- there is a place for so many more
+abbrev pub HasPlaces : Table → ℕ → Type 0
+HasPlaces table more = open_count table + more ≤ length table
+
+-- the same operations at the same ids, and places may have come behind them
+pub record AddsPlaces (old new : Table) : Type 0 where
+  pub same : (o : ℕ) → op_at new o ≡ op_at old o
+  pub count : open_count new ≡ open_count old
+  pub places : length old ≤ length new
 
 -- what an operation that is there has made ready
 abbrev pub prepared_in : Option Operation → Option Prepared

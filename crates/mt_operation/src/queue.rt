@@ -1,7 +1,8 @@
 //! Operations in their seats, and the queue of those that have made a step.
 //!
 //! Each seat names its neighbours in the order of first steps. What these functions do to the links
-//! and to one operation is said seat by seat; `table.rt` keeps what holds of all of them.
+//! and to one operation is said seat by seat; `table.rt` keeps what holds of all of them. None of them
+//! adds a seat or gives one up.
 
 ghost use Rattle.std.specs.Prelude.{◌≡◌, ◌≢◌, ◌<◌, false, Some, None};
 ghost use Rattle.std.specs.Option.{ForSome};
@@ -9,7 +10,7 @@ ghost use Rattle.std.specs.Fn.{FnOnceTakesAtMut, FnOnceReturnsAtMut};
 ghost use Rattle.mt_operation.specs.declared.queue.Seat.{Seat as AnySeat};
 ghost use Rattle.mt_operation.specs.Operations.{moved, noted, made_ready, with_splits, with_nothing_ready};
 ghost use Rattle.mt_operation.specs.Tables.{prepared_in};
-ghost use Rattle.mt_operation.specs.Seats.{Seats, seat_at, operation_in, is_still, IsEndOrSeat};
+ghost use Rattle.mt_operation.specs.Seats.{Seats, seat_at, operation_in, is_still, IsEndOrSeat, KeepsRoom};
 ghost use Rattle.mt_operation.specs.Bodies.{SeatKeepsFirst, SeatStepsBy};
 ghost use Rattle.mt_operation.specs.Queues.{SetsAfter, SetsBefore, CutsOut, LinksLast, Becomes};
 
@@ -43,6 +44,7 @@ pub(crate) fn move_at(seats: &mut Slab<Seat>, id: usize, step: u64, walk: &Walk)
     ensures first { result ≡ is_still (seat_at seats.old.slots id) }
     ensures becomes { Becomes seats.old.slots seats.new.slots id (λ op. moved op step walk.now) }
     ensures none { seat_at seats.old.slots id ≡ None → seats.new.slots ≡ seats.old.slots }
+    ensures room { KeepsRoom seats.old seats.new }
 {
     match seats.get_mut(id) {
         Some(seat) => {
@@ -65,6 +67,7 @@ pub(crate) fn move_with_at(
     ensures first { result ≡ is_still (seat_at seats.old.slots id) }
     ensures becomes { Becomes seats.old.slots seats.new.slots id (λ op. noted (moved op step walk.now) outcome) }
     ensures none { seat_at seats.old.slots id ≡ None → seats.new.slots ≡ seats.old.slots }
+    ensures room { KeepsRoom seats.old seats.new }
 {
     match seats.get_mut(id) {
         Some(seat) => {
@@ -94,7 +97,8 @@ pub(crate) fn step_at<F: FnOnce(&mut Operation) -> Made>(
 ) -> SeatStep
     requires may { ForSome (operation_in (seat_at seats.old.slots id)) (FnOnceTakesAtMut F.FnOnce makes) }
     requires first { SeatKeepsFirst (FnOnceReturnsAtMut F.FnOnce makes) seats.old.slots id }
-    ensures { SeatStepsBy (FnOnceReturnsAtMut F.FnOnce makes) seats.old.slots seats.new.slots id step result.is_first result.stepped }
+    ensures steps { SeatStepsBy (FnOnceReturnsAtMut F.FnOnce makes) seats.old.slots seats.new.slots id step result.is_first result.stepped }
+    ensures room { KeepsRoom seats.old seats.new }
 {
     if !seats.contains(id) {
         return SeatStep {
@@ -124,6 +128,7 @@ pub(crate) fn step_at<F: FnOnce(&mut Operation) -> Made>(
 pub(crate) fn make_ready_at(seats: &mut Slab<Seat>, id: usize, prepared: Prepared)
     ensures becomes { Becomes seats.old.slots seats.new.slots id (λ op. made_ready op prepared) }
     ensures none { seat_at seats.old.slots id ≡ None → seats.new.slots ≡ seats.old.slots }
+    ensures room { KeepsRoom seats.old seats.new }
 {
     if let Some(seat) = seats.get_mut(id) {
         seat.operation.prepared = Some(prepared);
@@ -135,6 +140,7 @@ pub(crate) fn take_prepared_at(seats: &mut Slab<Seat>, id: usize) -> Option<Prep
     ensures value { result ≡ prepared_in (operation_in (seat_at seats.old.slots id)) }
     ensures becomes { Becomes seats.old.slots seats.new.slots id with_nothing_ready }
     ensures none { seat_at seats.old.slots id ≡ None → seats.new.slots ≡ seats.old.slots }
+    ensures room { KeepsRoom seats.old seats.new }
 {
     match seats.get_mut(id) {
         Some(seat) => seat.operation.prepared.take(),
@@ -147,6 +153,7 @@ pub(crate) fn swap_splits_at(seats: &mut Slab<Seat>, id: usize, splits: &mut Spl
     ensures gives { (seat : AnySeat) → seat_at seats.old.slots id ≡ Some seat → splits.new ≡ seat.operation.splits }
     ensures becomes { Becomes seats.old.slots seats.new.slots id (λ op. with_splits op splits.old) }
     ensures none { seat_at seats.old.slots id ≡ None → (seats.new.slots ≡ seats.old.slots) × (splits.new ≡ splits.old) }
+    ensures room { KeepsRoom seats.old seats.new }
 {
     if let Some(seat) = seats.get_mut(id) {
         mem::swap(&mut seat.operation.splits, splits);
@@ -159,6 +166,7 @@ pub(crate) fn cut(seats: &mut Slab<Seat>, ends: &mut Ends, seat: &Seat)
     requires after { 0 < seat.now.operation.walk.first → IsEndOrSeat seats.old.slots seat.now.after }
     ensures unlinks { 0 < seat.now.operation.walk.first → CutsOut seats.old.slots ends.old seats.new.slots ends.new seat.now.before seat.now.after }
     ensures same { seat.now.operation.walk.first ≡ 0 → (seats.new.slots ≡ seats.old.slots) × (ends.new ≡ ends.old) }
+    ensures room { KeepsRoom seats.old seats.new }
 {
     if seat.operation.walk.first > 0 {
         unlink(seats, ends, seat.before, seat.after);
@@ -171,7 +179,8 @@ pub(crate) fn link_last(seats: &mut Slab<Seat>, ends: &mut Ends, id: usize)
     requires there { IsEndOrSeat seats.old.slots (Some id) }
     requires last { IsEndOrSeat seats.old.slots ends.old.last }
     requires new { ends.old.last ≢ Some id }
-    ensures { LinksLast seats.old.slots ends.old seats.new.slots ends.new id }
+    ensures links { LinksLast seats.old.slots ends.old seats.new.slots ends.new id }
+    ensures room { KeepsRoom seats.old seats.new }
 {
     let before = ends.last;
     set_after(seats, ends, before, Some(id));
@@ -182,7 +191,8 @@ pub(crate) fn link_last(seats: &mut Slab<Seat>, ends: &mut Ends, id: usize)
 // Names another neighbour before a seat, or none, and none after it.
 fn put_behind(seats: &mut Slab<Seat>, ends: &Ends, id: usize, before: Option<usize>)
     requires { IsEndOrSeat seats.old.slots (Some id) }
-    ensures { (mid : Seats) × SetsAfter seats.old.slots ends.now mid ends.now (Some id) None × SetsBefore mid ends.now seats.new.slots ends.now (Some id) before }
+    ensures sets { (mid : Seats) × SetsAfter seats.old.slots ends.now mid ends.now (Some id) None × SetsBefore mid ends.now seats.new.slots ends.now (Some id) before }
+    ensures room { KeepsRoom seats.old seats.new }
 {
     if let Some(seat) = seats.get_mut(id) {
         seat.before = before;
@@ -194,7 +204,8 @@ fn put_behind(seats: &mut Slab<Seat>, ends: &Ends, id: usize, before: Option<usi
 fn unlink(seats: &mut Slab<Seat>, ends: &mut Ends, before: Option<usize>, after: Option<usize>)
     requires before { IsEndOrSeat seats.old.slots before }
     requires after { IsEndOrSeat seats.old.slots after }
-    ensures { CutsOut seats.old.slots ends.old seats.new.slots ends.new before after }
+    ensures cuts { CutsOut seats.old.slots ends.old seats.new.slots ends.new before after }
+    ensures room { KeepsRoom seats.old seats.new }
 {
     set_after(seats, ends, before, after);
     set_before(seats, ends, after, before);
@@ -203,7 +214,8 @@ fn unlink(seats: &mut Slab<Seat>, ends: &mut Ends, before: Option<usize>, after:
 // Names another neighbour after a seat, or the queue's first where there is none.
 fn set_after(seats: &mut Slab<Seat>, ends: &mut Ends, of: Option<usize>, to: Option<usize>)
     requires { IsEndOrSeat seats.old.slots of }
-    ensures { SetsAfter seats.old.slots ends.old seats.new.slots ends.new of to }
+    ensures sets { SetsAfter seats.old.slots ends.old seats.new.slots ends.new of to }
+    ensures room { KeepsRoom seats.old seats.new }
 {
     match of {
         None => ends.first = to,
@@ -218,7 +230,8 @@ fn set_after(seats: &mut Slab<Seat>, ends: &mut Ends, of: Option<usize>, to: Opt
 // Names another neighbour before a seat, or the queue's last where there is none.
 fn set_before(seats: &mut Slab<Seat>, ends: &mut Ends, of: Option<usize>, to: Option<usize>)
     requires { IsEndOrSeat seats.old.slots of }
-    ensures { SetsBefore seats.old.slots ends.old seats.new.slots ends.new of to }
+    ensures sets { SetsBefore seats.old.slots ends.old seats.new.slots ends.new of to }
+    ensures room { KeepsRoom seats.old seats.new }
 {
     match of {
         None => ends.last = to,

@@ -3,10 +3,11 @@
 //! Each operation has an id, its key in a slab, which is given again once it is free. Those that have
 //! made a step stand in a queue, in the order of their first steps, in which each names its
 //! neighbours; so the earliest first step is read at its head, and an operation that leaves is cut
-//! out of it. Invariant: `IsTable` of `specs/Queues.antt`. Memory: one seat for each operation, as
-//! many as stood open at once.
+//! out of it. Invariant: `IsTable` and `HasSeats` of `specs/Queues.antt`. Memory: one seat for each
+//! operation, as many as stood open at once or were made room for; each is shown as a place, which is
+//! empty where no operation is.
 
-ghost use Rattle.std.specs.Prelude.{◌≡◌, ◌≢◌, ◌≤◌, ℕ, [], IfOk, IfErr, OnErr, OnSome, IfNone, Some, None, slice_set, option_copied};
+ghost use Rattle.std.specs.Prelude.{◌≡◌, ◌≢◌, ◌+◌, ◌≤◌, ℕ, [], length, IsOk, IfOk, IfErr, OnOk, OnErr, OnSome, IfNone, Some, None, slice_set, option_copied};
 ghost use Rattle.std.specs.Option.{ForSome};
 ghost use Rattle.std.specs.Fn.{FnOnceTakesAtMut, FnOnceReturnsAtMut};
 ghost use Rattle.mt_operation.specs.declared.operation.Operation.{Operation as AnyOperation};
@@ -30,25 +31,26 @@ use std::marker::Model;
 #[derive(Drop)]
 pub struct Operations {
     seats: Slab<Seat>,
+    places: usize,
     ends: Ends,
 }
 
 impl Model for Operations {
     ghost use Rattle.mt_operation.specs.Tables.{Table};
-    ghost use Rattle.mt_operation.specs.Seats.{table_of};
-    ghost use Rattle.mt_operation.specs.Queues.{IsTable};
+    ghost use Rattle.mt_operation.specs.Seats.{table_of, padded};
+    ghost use Rattle.mt_operation.specs.Queues.{IsTable, HasSeats};
 
     ghost Value = { Table };
 
-    ghost view = { λ t. table_of t.seats.slots };
+    ghost view = { λ t. padded t.places (table_of t.seats.slots) };
 
-    ghost invariant = { λ t. IsTable t.seats.slots t.ends };
+    ghost invariant = { λ t. IsTable t.seats.slots t.ends × HasSeats t.seats t.places };
 }
 
 impl Operations {
     ghost use Rattle.mt_operation.specs.Operations.{moved, noted, made_ready, with_splits, with_nothing_ready};
     ghost use Rattle.mt_operation.specs.Bodies.{StepsBy, MovesUnfinished, KeepsFirst, LeavesElse};
-    ghost use Rattle.mt_operation.specs.Tables.{op_at, prepared_in, AreBefore, MayMove, IsFloorNeeded};
+    ghost use Rattle.mt_operation.specs.Tables.{op_at, prepared_in, open_count, HasPlaces, AddsPlaces, AreBefore, MayMove, IsFloorNeeded};
 
     /// A table of no operation.
     pub fn new(alloc: Global) -> Self
@@ -56,6 +58,7 @@ impl Operations {
     {
         Operations {
             seats: Slab::new(alloc),
+            places: 0,
             ends: Ends {
                 first: None,
                 last: None,
@@ -73,13 +76,17 @@ impl Operations {
         }
     }
 
-    /// Keeps an operation that has made no step, at an id that was free.
+    /// Keeps an operation that has made no step, at an id that was free. An error comes where there was no
+    /// place for it and memory is refused.
     pub fn keep(&mut self, operation: Operation) -> Result<usize, Refusal>
         requires new { operation.walk.first ≡ 0 }
         ensures memory { IfErr result (λ refusal. refusal ≡ Refusal.Memory) }
         ensures vacant { IfOk result (λ id. op_at self.old id ≡ None) }
         ensures there { IfOk result (λ id. op_at self.new id ≡ Some operation) }
         ensures others { IfOk result (λ id. (q : ℕ) → q ≢ id → op_at self.new q ≡ op_at self.old q) }
+        ensures room { HasPlaces self.old 1 → IsOk result }
+        ensures count { OnOk result (open_count self.new ≡ open_count self.old + 1) }
+        ensures places { OnOk result (length self.old ≤ length self.new) }
         ensures unchanged_on_err { OnErr result (self.new ≡ self.old) }
     {
         let id = self.seats.insert(Seat {
@@ -87,14 +94,20 @@ impl Operations {
             before: None,
             after: None,
         })?;
+        self.places = self.seats.capacity();
         Ok(id)
     }
 
-    /// Makes room for so many more operations, which `keep` needs no memory for then.
+    /// Makes places for so many more operations, which `keep` needs no memory for then. An error comes
+    /// where memory is refused.
     pub fn reserve(&mut self, more: usize) -> Result<(), AllocError>
-        ensures { self.new ≡ self.old }
+        ensures room { OnOk result (HasPlaces self.new more) }
+        ensures same { AddsPlaces self.old self.new }
+        ensures unchanged_on_err { OnErr result (self.new ≡ self.old) }
     {
-        self.seats.reserve(more)
+        self.seats.reserve(more)?;
+        self.places = self.seats.capacity();
+        Ok(())
     }
 
     /// Takes an operation out.
