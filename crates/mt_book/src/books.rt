@@ -7,6 +7,7 @@ ghost use Rattle.mt_batches.specs.Batches.{IsInOrder};
 ghost use Rattle.mt_state.specs.Promises.{Tells};
 ghost use Rattle.mt_state.specs.Begins.{IsWorker, MayBegin};
 ghost use Rattle.mt_core.specs.Tickets.{TellsBegin, TellsTake, TellsCancel, TellsRefusal};
+ghost use Rattle.mt_core.specs.Places.{AddsPlaces};
 ghost use Rattle.mt_core.specs.Admitted.{MayAdmit, TellsAdmitted, RefusesOpening};
 ghost use Rattle.mt_core.specs.Shows.{phase_at};
 ghost use Rattle.mt_core.specs.Drains.{Drains};
@@ -188,7 +189,7 @@ impl<L: Ledger> Book<L> {
     /// or there is no such worker. Room is made for one operation of each pass, so that a begin needs no
     /// memory; where that is refused, the begin that comes asks for it again.
     pub fn open_pass(&mut self, worker: u8) -> Option<Pass<L>>
-        ensures state { self.new.state ≡ self.old.state }
+        ensures state { AddsPlaces self.old.state self.new.state }
         ensures gathered { self.new.gathered ≡ self.old.gathered }
         ensures some { IfSome result (λ pass. (self.new.opened ≡ self.old.opened + 1) × (pass.worker ≡ worker) × (pass.seen ≡ 0) × (pass.share.amount ≡ 0)) }
         ensures none { IfNone result (self.new.opened ≡ self.old.opened) }

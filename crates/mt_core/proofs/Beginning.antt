@@ -1,7 +1,10 @@
 -- A begin that was not refused: the invariant with an operation more, and what it tells: for `Inner::admit`.
-use Rattle.std.proofs.Common.{◌≡◌, ◌≢◌, ℕ, None, Some, IsSome, Ok, refl, sym, ap, subst, ◌∙◌, arith}
+use Rattle.std.proofs.Common.{◌≡◌, ◌≢◌, ℕ, ◌+◌, ◌≤◌, length, Option, None, Some, IsSome, Result, Ok, Err, refl, sym, ap, subst, ◌∙◌, arith}
 use Rattle.std.specs.Option.{option_map}
 use Rattle.std.proofs.lemmas.Option.{none-some}
+use Rattle.mt_rows.specs.declared.refusal.Refusal.{Refusal}
+use Rattle.mt_rows.specs.declared.refusal.Refusal.TheVariants.{Memory}
+use Rattle.mt_rows.specs.declared.tenants.Account.{Account}
 use Rattle.mt_rows.specs.Accounts.{account_of}
 use Rattle.mt_rows.specs.Rows.{Bytes}
 use Rattle.mt_slices.specs.Keys.{IsStoredKey}
@@ -12,6 +15,7 @@ use Rattle.mt_operation.specs.declared.walk.Walk.{Walk}
 use Rattle.mt_operation.specs.Tasks.{ask}
 use Rattle.mt_operation.specs.Operations.{OperationView, view_of}
 use Rattle.mt_operation.specs.Tables.{Table, op_at as operation_at}
+use Rattle.mt_operation.specs.Tables as tables
 use Rattle.mt_descent.specs.Kept.{GoesThrough, KeptAt}
 use Rattle.mt_state.specs.Views.{Core, StateView, shown, past_of}
 use Rattle.mt_state.specs.Kept.{IsOfKind, IsKeptAt, IsKeptOf}
@@ -20,7 +24,9 @@ use Rattle.mt_state.specs.Invariant.{StateInvariant, one_if_prepared}
 use Rattle.mt_state.specs.Begins.{Begins}
 use Rattle.mt_state.proofs.Shown.{shown_at, shown_there}
 use Rattle.mt_core.specs.declared.answers.Ticket.{Ticket}
-use Rattle.mt_core.specs.Admitted.{IsAdmitted, OpeningView, IsAccepted, TellsAdmitted}
+use Rattle.mt_core.specs.Admitted.{IsAdmitted, OpeningView, IsAccepted, TellsAdmitted, IsRefusedFor, RefusesOpening}
+use Rattle.mt_core.specs.Places.{HasPlaces, TakesPlace}
+use Rattle.mt_core.proofs.Reserving.{no_place, place_taken}
 use Rattle.mt_core.proofs.Tabling.{with_table, begun_sound}
 
 -- a stored key goes through the top tree
@@ -85,3 +91,15 @@ module _ (c : Core) (now : StateView) (opening : OpeningView) (op : Operation) (
             stands = refl;
           })),
     )
+
+  -- where there was no place for it, it is refused for memory
+  pub refused_for_memory : (told : Result Ticket Refusal) → told ≡ Err Memory → (tables.HasPlaces c.table 1 → ⊥) → RefusesOpening now opening told
+  refused_for_memory told told_is none = subst (RefusesOpening now opening) (sym told_is) (subst (λ made. IsRefusedFor (account_of now.accounts opening.tenant) now made Memory) (sym accepted.made) (by_account (account_of now.accounts opening.tenant) accepted.tenant))
+    where
+      by_account : (account : Option Account) → IsSome account → IsRefusedFor account now (Ok (view_of op)) Memory
+      by_account None some = absurd (cc)
+      by_account (Some account) some = (accepted.steps, subst (λ v. HasPlaces v 1 → ⊥) is (no_place c none))
+
+  -- else it takes one
+  pub begun_takes : (table : Table) → tables.open_count table ≡ tables.open_count c.table + 1 → length c.table ≤ length table → TakesPlace now (shown (with_table c c.answers table))
+  begun_takes table one more = subst (λ v. TakesPlace v (shown (with_table c c.answers table))) is (place_taken c table one more)

@@ -16,6 +16,7 @@ pub mod AloneRuns
 pub mod AloneEnds
 pub mod Retained
 pub mod Tabling
+pub mod Reserving
 pub mod Taking
 pub mod Draining
 pub mod Tidying

@@ -21,7 +21,7 @@ abbrev pub with_table : Core → ℕ → Table → Core
 with_table c answers table = record c { answers = answers; table = table }
 
 -- two tables have as many operations that are ready where each id has as many
-same_count : (t u : Table) → ((q : ℕ) → one_if_prepared (operation_at t q) ≡ one_if_prepared (operation_at u q)) → prepared_count t ≡ prepared_count u
+pub same_count : (t u : Table) → ((q : ℕ) → one_if_prepared (operation_at t q) ≡ one_if_prepared (operation_at u q)) → prepared_count t ≡ prepared_count u
 same_count [] [] h = refl
 same_count [] (y ∷ u) h = let rest = same_count [] u (λ q. h (suc q)) in let here = h 0 in omega (arith, rest, here)
 same_count (x ∷ t) [] h = let rest = same_count t [] (λ q. h (suc q)) in let here = h 0 in omega (arith, rest, here)

@@ -17,6 +17,7 @@ use Rattle.mt_operation.specs.Walks.{walk_from_top}
 use Rattle.mt_state.specs.Views.{StateView}
 use Rattle.mt_state.specs.Begins.{begun, Begins, IsWorker, MayBegin}
 use Rattle.mt_core.specs.declared.answers.Ticket.{Ticket}
+use Rattle.mt_core.specs.Places.{HasPlaces}
 
 -- a request of a command that is taken
 pub record IsRequest (request : Request) (command : Command) : Type 0 where
@@ -70,10 +71,10 @@ pub record IsAccepted (v : StateView) (opening : OpeningView) (op : Operation) :
   pub tenant : IsSome (account_of v.accounts opening.tenant)
   pub steps : v.steps ≢ 2 ^ 59
 
--- why an opening is refused whose tenant is there: its own fault; else no step has a number any more, or memory
+-- why an opening is refused whose tenant is there: its own fault; else no step has a number any more, or memory where there was no place for its operation
 abbrev pub IsRefusalMade : StateView → Result OperationView Refusal → Refusal → Type 0
 IsRefusalMade v (Err fault) refusal = refusal ≡ fault
-IsRefusalMade v (Ok op) Memory = v.steps ≢ 2 ^ 59
+IsRefusalMade v (Ok op) Memory = (v.steps ≢ 2 ^ 59) × ¬ HasPlaces v 1
 IsRefusalMade v (Ok op) Spent = v.steps ≡ 2 ^ 59
 IsRefusalMade v (Ok op) refusal = ⊥
 

@@ -1,6 +1,7 @@
 pub mod States
 pub mod Shows
 pub mod Shapes
+pub mod Places
 pub mod Admitted
 pub mod Tickets
 pub mod Nexts

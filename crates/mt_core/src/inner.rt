@@ -15,6 +15,7 @@ ghost use Rattle.mt_state.specs.Begins.{new_state, HaveNoPairs};
 ghost use Rattle.mt_state.specs.Writes.{IsClimb, IsLayerPhase};
 ghost use Rattle.mt_core.specs.Looks.{LooksAt, MayLook};
 ghost use Rattle.mt_core.specs.Tickets.{TellsTake, TellsCancel};
+ghost use Rattle.mt_core.specs.Places.{HasPlaces, TakesPlace, AddsPlaces};
 ghost use Rattle.mt_core.specs.Admitted.{MayAdmit, TellsAdmitted, RefusesOpening, IsAccepted, IsRefusedFor};
 ghost use Rattle.mt_core.specs.Rights.{IsRightState};
 ghost use Rattle.mt_core.specs.Shows.{phase_at, phase_in, noted_at};
@@ -98,6 +99,7 @@ impl Inner {
         requires { MayAdmit (shown self.old) opening.made }
         ensures told { TellsAdmitted (shown self.old) (shown self.new) opening result }
         ensures refused { RefusesOpening (shown self.old) opening result }
+        ensures places { OnOk result (TakesPlace (shown self.old) (shown self.new)) }
     {
         self.arena.facts();
         let operation = self.accepted(opening)?;
@@ -118,9 +120,11 @@ impl Inner {
         }
     }
 
-    /// Makes room for so many more operations.
+    /// Makes places for so many more operations.
     pub(crate) fn reserve(&mut self, more: usize) -> Result<(), AllocError>
-        ensures { self.new ≡ self.old }
+        ensures room { OnOk result (HasPlaces (shown self.new) more) }
+        ensures same { AddsPlaces (shown self.old) (shown self.new) }
+        ensures unchanged_on_err { OnErr result (self.new ≡ self.old) }
     {
         self.operations.reserve(more)
     }

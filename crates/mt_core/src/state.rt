@@ -13,6 +13,7 @@ ghost use Rattle.mt_state.specs.Promises.{Tells};
 ghost use Rattle.mt_state.specs.Phases.{LeadsOn};
 ghost use Rattle.mt_state.specs.Begins.{new_state, HaveNoPairs, IsWorker, MayBegin};
 ghost use Rattle.mt_core.specs.Tickets.{TellsBegin, TellsTake, TellsCancel, TellsRefusal};
+ghost use Rattle.mt_core.specs.Places.{HasPlaces, TakesPlace, AddsPlaces};
 ghost use Rattle.mt_core.specs.Admitted.{MayAdmit, TellsAdmitted, RefusesOpening};
 ghost use Rattle.mt_core.specs.Rights.{IsRightState};
 ghost use Rattle.mt_core.specs.Shapes.{IsShape};
@@ -73,19 +74,23 @@ impl State {
         self.admit(prepare(self.inner.alloc, worker, tenant, command))
     }
 
-    /// Makes room for so many more operations, which `begin` and `admit` need no memory for then. An
-    /// error comes where memory is refused.
+    /// Makes places for so many more operations, for which `admit` needs no memory then. An error comes
+    /// where memory is refused.
     pub fn reserve(&mut self, more: usize) -> Result<(), AllocError>
-        ensures { self.new ≡ self.old }
+        ensures room { OnOk result (HasPlaces self.new more) }
+        ensures same { AddsPlaces self.old self.new }
+        ensures unchanged_on_err { OnErr result (self.new ≡ self.old) }
     {
         self.inner.reserve(more)
     }
 
-    /// Begins the operation of an opening. Errors are those of `begin`.
+    /// Begins the operation of an opening. Errors are those of `begin`; `Memory` comes only from the
+    /// opening, or where there was no place for the operation.
     pub fn admit(&mut self, opening: Opening) -> Result<Ticket, Refusal>
         requires { MayAdmit self.old opening.made }
         ensures told { TellsAdmitted self.old self.new opening result }
         ensures refused { RefusesOpening self.old opening result }
+        ensures places { OnOk result (TakesPlace self.old self.new) }
     {
         self.inner.admit(opening)
     }

@@ -27,12 +27,12 @@ padded_set (suc n) (y ∷ table) zero op x there = refl
 padded_set (suc n) (y ∷ table) (suc o) op x there = ap (λ (t : Table). y ∷ t) (padded_set n table o op x there)
 
 -- how many are there, one by one
-abbrev there_count : {X : Type 0} → List (Option X) → ℕ
+abbrev pub there_count : {X : Type 0} → List (Option X) → ℕ
 there_count [] = 0
 there_count (None ∷ xs) = there_count xs
 there_count (Some x ∷ xs) = suc (there_count xs)
 
-count_there : {X : Type 0} (xs : List (Option X)) → there_count xs ≡ count_by is_some xs
+pub count_there : {X : Type 0} (xs : List (Option X)) → there_count xs ≡ count_by is_some xs
 count_there {X} xs = is_count_by there_count is_some refl step xs
   where
     step : (x : Option X) (xs : List (Option X)) → there_count (x ∷ xs) ≡ cond (is_some x) (1 + there_count xs) (there_count xs)
