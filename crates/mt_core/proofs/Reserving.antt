@@ -1,14 +1,12 @@
 -- Places that are added and taken: the invariant with more of them, and what is shown of them: for `Inner::admit` and `Inner::reserve`.
-use Rattle.std.proofs.Common.{◌≡◌, ℕ, zero, suc, ◌+◌, ◌≤◌, [], ◌∷◌, length, Some, None, is_some, refl, sym, ap, subst, ◌∙◌, arith}
-use Rattle.std.specs.Prelude.{count_by}
+use Rattle.std.proofs.Common.{◌≡◌, ℕ, suc, ◌+◌, ◌≤◌, [], ◌∷◌, length, Some, None, refl, sym, ap, ◌∙◌, arith}
 use Rattle.std.specs.Option.{option_map}
 use Rattle.std.proofs.lemmas.List.{length-map}
-use Rattle.mt_operation.specs.declared.operation.Operation.{Operation}
 use Rattle.mt_operation.specs.Operations.{view_of}
 use Rattle.mt_operation.specs.Tables.{Table, op_at as operation_at}
 use Rattle.mt_operation.specs.Tables as tables
 use Rattle.mt_operation.proofs.Places.{there_count, count_there}
-use Rattle.mt_state.specs.Views.{Core, Shown, StateView, shown, op_at}
+use Rattle.mt_state.specs.Views.{Core, Shown, shown, op_at}
 use Rattle.mt_state.specs.Invariant.{StateInvariant, one_if_made, one_if_prepared, made_count}
 use Rattle.mt_state.proofs.Shown.{shown_table, shown_at}
 use Rattle.mt_core.specs.Places.{open_count, HasPlaces, TakesPlace, AddsPlaces}

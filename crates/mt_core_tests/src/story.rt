@@ -155,6 +155,31 @@ fn sixteen_puts_make_a_root_over_two_nodes(rt: HostRuntime) {
     );
 }
 
+// Puts, which end not before all of them are begun.
+fn put_together(rt: &impl Abort, alloc: Global, state: &mut State, keys: &[&str]) {
+    let mut tickets = Vec::new(alloc);
+    for key in keys {
+        let opening = prepare(alloc, 0, 7, put(rt, alloc, key, "v"));
+        let ticket = state.admit(opening).expect(rt, "the put is taken");
+        tickets.push(ticket).expect(rt, "memory");
+    }
+    for ticket in tickets {
+        assert!(rt; state.run_alone(&ticket) == Move::Done);
+        assert!(rt; state.take(ticket).is_ok());
+    }
+}
+
+#[test]
+fn operations_are_begun_in_places_that_were_made(rt: HostRuntime) {
+    let alloc = rt.alloc();
+    let mut state = new_store(&rt, alloc, 100);
+    for more in [0, 3, 1, 40] {
+        state.reserve(more).expect(&rt, "memory");
+        put_together(&rt, alloc, &mut state, &SIXTEEN_KEYS);
+    }
+    assert_eq!(rt; state.answers(), 64);
+}
+
 // A get of these columns is refused for this cause.
 fn expect_refusal(rt: &impl Abort, state: &mut State, tenant: u32, command: Command, cause: Refusal)
     requires { MayBegin command }

@@ -17,14 +17,14 @@ link_last-requires-clause-new c = last_new c.self.inside.seats.slots c.self.insi
 pub invariant_of-self : goal.invariant_of-self
 invariant_of-self c = (
   moved_first c.self.inside.places c.self.inside.seats.slots c.move_with_at.new.seats.slots c.self.inside.ends _ c.args.id c.args.step c.args.walk.now c.self.view_is c.self.invariant.0 c.requires (λ op. noted (moved op c.args.step c.args.walk.now) c.args.outcome) (λ op. refl) c.move_with_at.ensures.becomes
-  c.link_last.new.seats.slots c.link_last.new.ends (sym c.move_with_at.ensures.first ∙ c.if-move_with_at.true) c.link_last.ensures.links,
+      c.link_last.new.seats.slots c.link_last.new.ends (sym c.move_with_at.ensures.first ∙ c.if-move_with_at.true) c.link_last.ensures.links,
   seats_kept c.self.inside.seats c.link_last.new.seats c.self.inside.places (room_on c.self.inside.seats c.move_with_at.new.seats c.link_last.new.seats c.move_with_at.ensures.room c.link_last.ensures.room) c.self.invariant.1,
 )
 
 pub invariant_of-self-else-move_with_at : goal.invariant_of-self-else-move_with_at
 invariant_of-self-else-move_with_at c = (
   moved_later c.self.inside.places c.self.inside.seats.slots c.move_with_at.new.seats.slots c.self.inside.ends _ c.args.id c.args.step c.args.walk.now c.self.view_is c.self.invariant.0 c.requires (λ op. noted (moved op c.args.step c.args.walk.now) c.args.outcome) (λ op. refl) c.move_with_at.ensures.becomes
-  c.move_with_at.ensures.none (sym c.move_with_at.ensures.first ∙ c.if-move_with_at.false),
+      c.move_with_at.ensures.none (sym c.move_with_at.ensures.first ∙ c.if-move_with_at.false),
   seats_kept c.self.inside.seats c.move_with_at.new.seats c.self.inside.places c.move_with_at.ensures.room c.self.invariant.1,
 )
 

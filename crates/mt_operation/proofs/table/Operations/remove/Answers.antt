@@ -16,9 +16,9 @@ invariant_of-self c = rw c.in_err-seat.ensures.absent c.self.invariant
 pub invariant_of-self-2 : goal.invariant_of-self-2
 invariant_of-self-2 c = (
   gone_sound c.self.inside.seats.slots c.try_remove.new.self.slots c.self.inside.ends c.args.id c.in_ok-seat.seat c.self.invariant.0 (sym c.in_ok-seat.ensures.value) c.in_ok-seat.ensures.slots
-  c.cut.new.seats.slots c.cut.new.ends c.cut.ensures.unlinks c.cut.ensures.same,
+      c.cut.new.seats.slots c.cut.new.ends c.cut.ensures.unlinks c.cut.ensures.same,
   seats_kept c.self.inside.seats c.cut.new.seats c.self.inside.places
-  (room_on c.self.inside.seats c.try_remove.new.self c.cut.new.seats (slot_given c.self.inside.seats c.try_remove.new.self c.args.id c.in_ok-seat.ensures.slots c.in_ok-seat.ensures.capacity) c.cut.ensures.room) c.self.invariant.1,
+      (room_on c.self.inside.seats c.try_remove.new.self c.cut.new.seats (slot_given c.self.inside.seats c.try_remove.new.self c.args.id c.in_ok-seat.ensures.slots c.in_ok-seat.ensures.capacity) c.cut.ensures.room) c.self.invariant.1,
 )
 
 pub returns-clause-gone : goal.returns-clause-gone

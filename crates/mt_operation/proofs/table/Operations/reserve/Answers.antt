@@ -1,4 +1,4 @@
-use Rattle.std.proofs.Common.{ap, ◌∙◌, arith}
+use Rattle.std.proofs.Common.{ap, arith}
 use Rattle.slab.specs.Slab.{Slab}
 use Rattle.mt_operation.specs.declared.queue.Seat.{Seat}
 use Rattle.mt_operation.proofs.Places.{room_shown, room_adds}

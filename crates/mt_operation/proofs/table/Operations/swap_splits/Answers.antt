@@ -9,7 +9,7 @@ use Rattle.mt_operation.proofs.table.Operations.swap_splits.Goals as goal
 pub invariant_of-self : goal.invariant_of-self
 invariant_of-self c = (
   changed_sound c.self.inside.seats.slots c.swap_splits_at.new.seats.slots c.self.inside.ends c.args.id (λ op. with_splits op c.args.splits.now) c.self.invariant.0 (λ op. refl)
-  c.swap_splits_at.ensures.becomes (λ none. (c.swap_splits_at.ensures.none none).0),
+      c.swap_splits_at.ensures.becomes (λ none. (c.swap_splits_at.ensures.none none).0),
   seats_kept c.self.inside.seats c.swap_splits_at.new.seats c.self.inside.places c.swap_splits_at.ensures.room c.self.invariant.1,
 )
 
