@@ -11,15 +11,15 @@ use Rattle.mt_tape.proofs.EntryLaws.{all_upto_last}
 use Rattle.mt_runs.specs.declared.event.Answer.{Answer}
 use Rattle.mt_arena.specs.Arena.{ArenaView, content_of}
 use Rattle.mt_operation.specs.declared.outcome.Outcome.{Outcome}
-use Rattle.mt_operation.specs.declared.walk.Phase.{Phase}
-use Rattle.mt_operation.specs.declared.walk.Phase.TheVariants.{InteriorSplit, RootGrow}
+use Rattle.mt_operation.specs.declared.phase.Phase.{Phase}
+use Rattle.mt_operation.specs.declared.phase.Phase.TheVariants.{InteriorSplit, RootGrow}
 use Rattle.mt_operation.specs.Operations.{OperationView}
 use Rattle.mt_operation.proofs.Tables.{set_there, set_none}
 use Rattle.mt_state.specs.declared.moves.Move.TheVariants.{Again, NoMemory as NoMemoryMove, Done as DoneMove, Spent as SpentMove, NoSuch}
 use Rattle.mt_state.specs.Views.{StateView, Shown, contents_of, op_at, granted_in}
 use Rattle.mt_state.specs.Steps.{change_in, told_change}
-use Rattle.mt_state.specs.Invariant.{is_unplaced}
-use Rattle.mt_state.specs.Promises.{IsStep, HasStep, IsToGrow, IsPlacedToGrow}
+use Rattle.mt_operation.specs.Phases.{is_unplaced, IsToGrow}
+use Rattle.mt_state.specs.Promises.{IsStep, HasStep, IsPlacedToGrow}
 use Rattle.mt_state.specs.Begins.{Takes, IsEnded}
 use Rattle.mt_state.proofs.HistoryChanges.{told_change-of}
 use Rattle.mt_core.specs.declared.answers.Ticket.{Ticket}

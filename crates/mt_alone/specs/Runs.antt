@@ -7,7 +7,7 @@ use Rattle.mt_operation.specs.Operations.{OperationView}
 use Rattle.mt_state.specs.Views.{StateView, contents_of, op_at, granted}
 use Rattle.mt_state.specs.Steps.{change_in}
 use Rattle.mt_state.specs.Promises.{HasStep}
-use Rattle.mt_state.specs.Invariant.{is_unplaced}
+use Rattle.mt_operation.specs.Phases.{is_unplaced}
 use Rattle.mt_core.specs.Alone.{IsAlone, IsRun}
 use Rattle.mt_alone.specs.declared.runs.Unfinished.{Unfinished}
 use Rattle.mt_alone.specs.declared.runs.Unfinished.TheVariants.{Spent, Stuck}

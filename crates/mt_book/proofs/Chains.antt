@@ -2,7 +2,7 @@
 use Rattle.std.proofs.Common.{ℕ, true, false, List, [], ◌∷◌, ◌++◌, Some, Ok, Err, refl, subst}
 use Rattle.std.specs.List.{AllByRecursion}
 use Rattle.mt_runs.specs.declared.event.Answer.{Answer}
-use Rattle.mt_operation.specs.declared.walk.Phase.{Phase}
+use Rattle.mt_operation.specs.declared.phase.Phase.{Phase}
 use Rattle.mt_core.specs.declared.answers.Ticket.{Ticket}
 use Rattle.mt_core.specs.Admitted.{OpeningView}
 use Rattle.mt_book.specs.declared.calls.CallFault.TheVariants as faults

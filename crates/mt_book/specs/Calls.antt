@@ -5,7 +5,7 @@ use Rattle.mt_rows.specs.declared.command.Command.{Command}
 use Rattle.mt_rows.specs.declared.refusal.Refusal.{Refusal}
 use Rattle.mt_rows.specs.declared.refusal.Refusal.TheVariants.{Memory}
 use Rattle.mt_runs.specs.declared.event.Answer.{Answer}
-use Rattle.mt_operation.specs.declared.walk.Phase.{Phase}
+use Rattle.mt_operation.specs.declared.phase.Phase.{Phase}
 use Rattle.mt_state.specs.declared.moves.Move.{Move}
 use Rattle.mt_state.specs.declared.moves.Move.TheVariants.{Moved, Again, NoMemory, Done, Spent}
 use Rattle.mt_state.specs.Refused.{Makes}

@@ -1,7 +1,7 @@
 -- What a period does to a book that is owned alone.
 use Rattle.std.specs.Prelude.{◌≡◌, length, Option, None, Result, Ok, Err}
 use Rattle.mt_rows.specs.declared.refusal.Refusal.{Refusal}
-use Rattle.mt_operation.specs.declared.walk.Phase.{Phase}
+use Rattle.mt_operation.specs.declared.phase.Phase.{Phase}
 use Rattle.mt_state.specs.Views.{StateView}
 use Rattle.mt_state.specs.Begins.{Takes, IsEnded}
 use Rattle.mt_state.specs.Promises.{Tells}

@@ -11,15 +11,15 @@ use Rattle.mt_rows.specs.Rows.{shown}
 use Rattle.mt_rows.proofs.CommandLaws.{same_map_after}
 use Rattle.mt_runs.specs.Placings.{maps_after_one}
 use Rattle.mt_operation.specs.declared.outcome.Outcome.{Outcome}
-use Rattle.mt_operation.specs.declared.walk.Phase.{Phase}
-use Rattle.mt_operation.specs.declared.walk.Phase.TheVariants as phases
-use Rattle.mt_operation.specs.declared.walk.Phase.TheVariants.{Enter, Pick, Child, Verify, Search, Load, Confirm, Forward, Lock, Judge, Store, Publish, SplitStart, SplitMove, SplitPrev, LockParent, InsertChild, InteriorSplit, Reparent, RootGrow, MakeLayer, MarkUnstable, MarkLayer, Unlock, Done}
+use Rattle.mt_operation.specs.declared.phase.Phase.{Phase}
+use Rattle.mt_operation.specs.declared.phase.Phase.TheVariants as phases
+use Rattle.mt_operation.specs.declared.phase.Phase.TheVariants.{Enter, Pick, Child, Verify, Search, Load, Confirm, Forward, Lock, Judge, Store, Publish, SplitStart, SplitMove, SplitPrev, LockParent, InsertChild, InteriorSplit, Reparent, RootGrow, MakeLayer, MarkUnstable, MarkLayer, Unlock, Done}
 use Rattle.mt_operation.specs.Operations.{OperationView}
 use Rattle.mt_operation.proofs.Tables.{set_is}
 use Rattle.mt_state.specs.Views.{StateView, Shown, contents_of, op_at, map_of, quota_of, KeepsPast}
-use Rattle.mt_state.specs.Steps.{MayFollow, IsSameAsked, change_in, told_change}
+use Rattle.mt_state.specs.Steps.{IsSameAsked, change_in, told_change}
+use Rattle.mt_operation.specs.Phases.{MayFollow, is_unplaced}
 use Rattle.mt_state.specs.Notes.{Notes}
-use Rattle.mt_state.specs.Invariant.{is_unplaced}
 use Rattle.mt_state.proofs.Granted.{quota_stays}
 use Rattle.mt_state.proofs.Moved.{first_is}
 use Rattle.mt_state.specs.Promises.{IsQuiet, IsPlacing, IsAnswer, IsStep}

@@ -18,7 +18,8 @@ use Rattle.mt_operation.specs.Tables.{Table, op_at as operation_at}
 use Rattle.mt_operation.specs.Tables as tables
 use Rattle.mt_descent.specs.Kept.{GoesThrough, KeptAt}
 use Rattle.mt_state.specs.Views.{Core, StateView, shown, past_of}
-use Rattle.mt_state.specs.Kept.{IsOfKind, IsKeptAt, IsKeptOf}
+use Rattle.mt_state.specs.Kept.{IsKeptAt, IsKeptOf}
+use Rattle.mt_operation.specs.Phases.{IsOfKind}
 use Rattle.mt_state.specs.Steps.{change_in}
 use Rattle.mt_state.specs.Invariant.{StateInvariant, one_if_prepared}
 use Rattle.mt_state.specs.Begins.{Begins}

@@ -5,23 +5,24 @@ use Rattle.std.proofs.lemmas.Bool.{cases_eq}
 use Rattle.std.proofs.lemmas.Option.{same_Some}
 use Rattle.mt_arena.specs.Arena.{ArenaView}
 use Rattle.mt_arena.specs.Accesses.{at}
-use Rattle.mt_operation.specs.declared.walk.Phase.{Phase}
-use Rattle.mt_operation.specs.declared.walk.Phase.TheVariants.{SplitPrev, LockParent, InsertChild, InteriorSplit, Reparent, RootGrow, Done}
+use Rattle.mt_operation.specs.declared.phase.Phase.{Phase}
+use Rattle.mt_operation.specs.declared.phase.Phase.TheVariants.{SplitPrev, LockParent, InsertChild, InteriorSplit, Reparent, RootGrow, Done}
 use Rattle.mt_operation.specs.declared.walk.Walk.{Walk}
 use Rattle.mt_operation.specs.declared.splits.Halves.{Halves}
 use Rattle.mt_operation.specs.declared.splits.Splits.{Splits}
 use Rattle.mt_operation.specs.declared.operation.Operation.{Operation}
-use Rattle.mt_operation.specs.Operations.{OperationView, view_of, splits_of, is_done, moved, with_splits}
+use Rattle.mt_operation.specs.Operations.{OperationView, view_of, splits_of, moved, with_splits}
+use Rattle.mt_operation.specs.Phases.{is_done, IsToGrow, IsClimb}
 use Rattle.mt_operation.specs.Tables.{Table, op_at as operation_at, MayMove}
 use Rattle.mt_operation.proofs.Tables.{set_is, set_there}
 use Rattle.mt_insert.specs.Splitting.{halves_at, last_of, IsAmong, HoldsSplits, AreReturnable, AreParted, NothingLags, HasSplits, HasSplitsNamed, IsParent, KeptSplit}
 use Rattle.mt_state.specs.declared.moves.Move.{Move}
 use Rattle.mt_state.specs.declared.moves.Move.TheVariants.{Moved, Again, NoMemory}
 use Rattle.mt_state.specs.Views.{Core, Shown, shown}
-use Rattle.mt_state.specs.Promises.{IsAnswer, IsInTheWay, IsHeldByOther, IsToGrow}
+use Rattle.mt_state.specs.Promises.{IsAnswer, IsInTheWay, IsHeldByOther}
 use Rattle.mt_state.specs.Kept.{IsClimbing, IsKeptAt, IsKeptOf}
 use Rattle.mt_state.specs.Invariant.{HoldsAt, StateInvariant, one_if_prepared, prepared_count, made_count}
-use Rattle.mt_state.specs.Writes.{IsClimb, Climbs}
+use Rattle.mt_state.specs.Writes.{Climbs}
 use Rattle.mt_state.proofs.Shown.{shown_table, shown_there, shown_set}
 use Rattle.mt_state.proofs.Telling.{Gives}
 use Rattle.mt_state.proofs.SplitSteps.{climb_done}

@@ -12,8 +12,8 @@ use Rattle.mt_arena.specs.Contents.{counts, is_live}
 use Rattle.mt_arena.specs.Arena.{ArenaView, content_of, Guarantee}
 use Rattle.mt_arena.specs.Accesses.{at}
 use Rattle.mt_arena.proofs.Pairs.{here, there, before as as_before, last as as_pushed}
-use Rattle.mt_operation.specs.declared.walk.Phase.{Phase}
-use Rattle.mt_operation.specs.declared.walk.Phase.TheVariants.{Unlock}
+use Rattle.mt_operation.specs.declared.phase.Phase.{Phase}
+use Rattle.mt_operation.specs.declared.phase.Phase.TheVariants.{Unlock}
 use Rattle.mt_operation.specs.declared.walk.Walk.{Walk}
 use Rattle.mt_operation.specs.declared.splits.Halves.{Halves}
 use Rattle.mt_operation.specs.declared.splits.Splits.{Splits}
@@ -22,10 +22,10 @@ use Rattle.mt_operation.specs.Operations.{splits_of}
 use Rattle.mt_descent.specs.Moves.{Continues}
 use Rattle.mt_insert.specs.Splitting.{HoldsSplits, KeptSplit}
 use Rattle.mt_insert.specs.SplitMoves.{walk_at}
-use Rattle.mt_state.specs.Steps.{MayFollow}
+use Rattle.mt_operation.specs.Phases.{MayFollow, IsClimb}
 use Rattle.mt_state.specs.Promises.{Touches, HoldsEither}
 use Rattle.mt_state.specs.Invariant.{IsCountedUpTo, IsUnremoved}
-use Rattle.mt_state.specs.Writes.{HasPairsOf, IsClimb}
+use Rattle.mt_state.specs.Writes.{HasPairsOf}
 use Rattle.mt_state.specs.Phases.{LeadsTo}
 use Rattle.mt_state.specs.Growth.{MakesFew}
 use Rattle.mt_core.specs.Points.{AreBelow, before_unlock, HasMade, MayHaveGrown}

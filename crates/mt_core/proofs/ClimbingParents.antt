@@ -8,13 +8,13 @@ use Rattle.mt_arena.specs.NodeView.{NodeView}
 use Rattle.mt_arena.specs.Edits.{locked, pointed}
 use Rattle.mt_arena.specs.Arena.{ArenaView}
 use Rattle.mt_arena.specs.Accesses.{at, with_node}
-use Rattle.mt_operation.specs.declared.walk.Phase.TheVariants.{SplitPrev, LockParent, InsertChild, InteriorSplit, Reparent, RootGrow}
+use Rattle.mt_operation.specs.declared.phase.Phase.TheVariants.{SplitPrev, LockParent, InsertChild, InteriorSplit, Reparent, RootGrow}
 use Rattle.mt_operation.specs.declared.walk.Walk.{Walk}
 use Rattle.mt_operation.specs.declared.splits.Halves.{Halves}
 use Rattle.mt_operation.specs.declared.splits.Splits.{Splits}
 use Rattle.mt_insert.specs.Splitting.{halves_at, last_of, HasSplits, IsAtSplitPrev, IsAtLockParent, IsAtReparent}
 use Rattle.mt_insert.specs.SplitMoves.{walk_at, with_parent, for_parent, moved_on, after_reparent, with_named_parent, with_named_previous}
-use Rattle.mt_state.specs.Steps.{MayFollow}
+use Rattle.mt_operation.specs.Phases.{MayFollow}
 use Rattle.mt_state.specs.Phases.{GoesAbove}
 use Rattle.mt_core.specs.Points.{AreBelow, HasMade, split_level}
 use Rattle.mt_core.specs.Climbs.{ClimbsOn}

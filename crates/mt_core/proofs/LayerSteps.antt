@@ -20,14 +20,15 @@ use Rattle.mt_arena.specs.Arena.{ArenaView, content_of, Guarantee}
 use Rattle.mt_arena.specs.Accesses.{at, IsHeld, with_node}
 use Rattle.mt_arena.proofs.Pairs.{before as as_before}
 use Rattle.mt_arena.proofs.Trees.{last_tree, before_tree}
-use Rattle.mt_operation.specs.declared.walk.Phase.{Phase}
-use Rattle.mt_operation.specs.declared.walk.Phase.TheVariants.{Enter, MakeLayer, MarkUnstable, Link, MarkLayer, Unlock, Done}
+use Rattle.mt_operation.specs.declared.phase.Phase.{Phase}
+use Rattle.mt_operation.specs.declared.phase.Phase.TheVariants.{Enter, MakeLayer, MarkUnstable, Link, MarkLayer, Unlock, Done}
 use Rattle.mt_operation.specs.declared.walk.Walk.{Walk}
 use Rattle.mt_operation.specs.declared.splits.Halves.{Halves}
 use Rattle.mt_operation.specs.declared.splits.Splits.{Splits}
 use Rattle.mt_operation.specs.declared.outcome.Outcome.{Outcome}
 use Rattle.mt_operation.specs.declared.operation.Operation.{Operation}
-use Rattle.mt_operation.specs.Operations.{SplitsView, splits_of, is_done, moved, noted}
+use Rattle.mt_operation.specs.Operations.{SplitsView, splits_of, moved, noted}
+use Rattle.mt_operation.specs.Phases.{is_done, MayFollow, IsLayerPhase}
 use Rattle.mt_operation.specs.Tables.{Table, op_at as operation_at, MayMove}
 use Rattle.mt_descent.specs.Moves.{Continues, walk_into}
 use Rattle.mt_insert.specs.Kept.{HoldsOnly, IsAtMakeLayer}
@@ -35,12 +36,11 @@ use Rattle.mt_insert.specs.Moves.{walk_done}
 use Rattle.mt_layer.specs.Kept.{KeptLayer, IsAtMarkUnstable, IsAtLeave}
 use Rattle.mt_layer.specs.Moves.{KeepsStamps, walk_linked, walk_at}
 use Rattle.mt_state.specs.Promises.{Touches, HoldsEither}
-use Rattle.mt_state.specs.Steps.{MayFollow}
 use Rattle.mt_state.specs.declared.moves.Move.TheVariants.{Moved}
 use Rattle.mt_state.specs.Views.{StateView, Core, shown}
 use Rattle.mt_state.specs.Invariant.{IsCountedUpTo, IsUnremoved, StateInvariant}
 use Rattle.mt_state.specs.Kept.{IsLeaving, IsReturning, IsKeptAt}
-use Rattle.mt_state.specs.Writes.{IsLayerPhase, GoesBelow}
+use Rattle.mt_state.specs.Writes.{GoesBelow}
 use Rattle.mt_state.specs.Phases.{GoesFromUnlock, LeadsTo, Leads}
 use Rattle.mt_state.specs.Growth.{MakesFew}
 use Rattle.mt_state.proofs.Growing.{makes_same, makes_set}

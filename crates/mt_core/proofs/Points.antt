@@ -3,8 +3,8 @@ use Rattle.std.proofs.Common.{◌≡◌, ℕ, ◌+◌, inl, inr, length, Some, s
 use Rattle.std.proofs.lemmas.Bool.{cases_lt, cases_eq}
 use Rattle.std.proofs.lemmas.Option.{same_Some}
 use Rattle.mt_arena.specs.Arena.{ArenaView, Guarantee}
-use Rattle.mt_operation.specs.declared.walk.Phase.{Phase}
-use Rattle.mt_operation.specs.declared.walk.Phase.TheVariants.{Enter}
+use Rattle.mt_operation.specs.declared.phase.Phase.{Phase}
+use Rattle.mt_operation.specs.declared.phase.Phase.TheVariants.{Enter}
 use Rattle.mt_operation.specs.declared.walk.Walk.{Walk}
 use Rattle.mt_operation.specs.declared.splits.Splits.{Splits}
 use Rattle.mt_operation.specs.declared.operation.Operation.{Operation}

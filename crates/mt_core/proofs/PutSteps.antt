@@ -14,15 +14,16 @@ use Rattle.mt_arena.specs.NodeView.{NodeView}
 use Rattle.mt_arena.specs.Edits.{locked, unlocked}
 use Rattle.mt_arena.specs.Arena.{ArenaView, IsArena, Guarantee, content_of}
 use Rattle.mt_arena.specs.Accesses.{at, with_node}
-use Rattle.mt_operation.specs.declared.walk.Phase.{Phase}
-use Rattle.mt_operation.specs.declared.walk.Phase.TheVariants.{Enter, Lock, Judge, Store, Publish, SplitStart, MakeLayer, Unlock}
+use Rattle.mt_operation.specs.declared.phase.Phase.{Phase}
+use Rattle.mt_operation.specs.declared.phase.Phase.TheVariants.{Enter, Lock, Judge, Store, Publish, SplitStart, MakeLayer, Unlock}
 use Rattle.mt_operation.specs.declared.walk.Walk.{Walk}
 use Rattle.mt_operation.specs.declared.splits.Halves.{Halves}
 use Rattle.mt_operation.specs.declared.splits.Splits.{Splits}
 use Rattle.mt_operation.specs.declared.outcome.Outcome.{Outcome}
 use Rattle.mt_operation.specs.declared.prepared.Prepared.{Prepared}
 use Rattle.mt_operation.specs.declared.operation.Operation.{Operation}
-use Rattle.mt_operation.specs.Operations.{is_done, moved, noted, made_ready, with_nothing_ready}
+use Rattle.mt_operation.specs.Operations.{moved, noted, made_ready, with_nothing_ready}
+use Rattle.mt_operation.specs.Phases.{is_done, has_splits, is_prepared}
 use Rattle.mt_operation.specs.Tables.{Table, op_at as operation_at, MayMove}
 use Rattle.mt_descent.specs.Seen.{IsOutdated}
 use Rattle.mt_descent.specs.Kept.{IsInSlot}
@@ -36,8 +37,7 @@ use Rattle.mt_state.specs.Views.{Core, shown, StateView}
 use Rattle.mt_state.specs.Promises.{IsHeldByOther}
 use Rattle.mt_state.specs.Phases.{Leads}
 use Rattle.mt_state.specs.Writes.{LeavesContents, TakesLock, GivesBack, MakesReady, PlacesChange, Stores, Publishes, FindsFull, MeetsAnother, GoesBelow}
-use Rattle.mt_state.specs.Kept.{has_splits}
-use Rattle.mt_state.specs.Invariant.{StateInvariant, is_prepared}
+use Rattle.mt_state.specs.Invariant.{StateInvariant}
 use Rattle.mt_state.proofs.Shown.{shown_there}
 use Rattle.mt_state.proofs.Telling.{Gives}
 use Rattle.mt_state.proofs.Decides.{outdated_or_not}

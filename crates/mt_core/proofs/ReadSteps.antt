@@ -1,6 +1,6 @@
 -- What the steps of an operation that holds nothing ask of the invariant, and what they tell: for `Inner::descend`, `search`, `load` and `confirm`.
 use denote.Enum.Bare.{sameb, same_true}
-use Rattle.mt_operation.specs.contracts.walk.Phase.{the_type}
+use Rattle.mt_operation.specs.contracts.phase.Phase.{the_type}
 use Rattle.std.proofs.Common.{rules, ◌≡◌, ◌≢◌, ℕ, ◌+◌, ◌<◌, ◌≤◌, ◌⊎◌, inl, inr, Bool, true, false, not, set, Option, Some, None, refl, sym, ap, subst, ◌∙◌, arith}
 use Rattle.std.specs.Prelude.{◌^◌}
 use Rattle.mt_rows.specs.declared.reply.Reply.TheVariants.{Absent, NoMemory}
@@ -13,13 +13,14 @@ use Rattle.mt_border.specs.declared.entry.FoundKind.TheVariants.{ThisKey, OtherL
 use Rattle.mt_version.specs.Changes.{IsStable}
 use Rattle.mt_arena.specs.Arena.{IsArena}
 use Rattle.mt_arena.specs.Accesses.{at}
-use Rattle.mt_operation.specs.declared.walk.Phase.{Phase}
-use Rattle.mt_operation.specs.declared.walk.Phase.TheVariants.{Enter, Pick, Child, Verify, Forward, Search, Load, Confirm, Done}
+use Rattle.mt_operation.specs.declared.phase.Phase.{Phase}
+use Rattle.mt_operation.specs.declared.phase.Phase.TheVariants.{Enter, Pick, Child, Verify, Forward, Search, Load, Confirm, Done}
 use Rattle.mt_operation.specs.declared.walk.Walk.{Walk}
 use Rattle.mt_operation.specs.declared.outcome.Outcome.{Outcome}
 use Rattle.mt_operation.specs.declared.operation.Operation.{Operation}
 use Rattle.mt_operation.specs.Tasks.{ask}
-use Rattle.mt_operation.specs.Operations.{view_of, splits_of, is_done, is_unfinished, moved, counted, noted}
+use Rattle.mt_operation.specs.Operations.{view_of, splits_of, is_unfinished, moved, counted, noted}
+use Rattle.mt_operation.specs.Phases.{is_done, IsDescent, IsOfKind, IsNoLook}
 use Rattle.mt_operation.specs.declared.steps.Made.{Made}
 use Rattle.mt_operation.specs.declared.steps.Made.TheVariants.{Step, Blocked, Nothing}
 use Rattle.mt_operation.specs.Tables.{Table, AreBefore, op_at as operation_at}
@@ -34,8 +35,8 @@ use Rattle.mt_state.specs.Views.{Core, shown, past_of}
 use Rattle.mt_state.specs.Promises.{Tells, IsInTheWay}
 use Rattle.mt_state.specs.Phases.{LeadsTo}
 use Rattle.mt_state.specs.Notes.{Says}
-use Rattle.mt_state.specs.Ways.{IsOnWay, IsDescent, Descends, ShowsTaken}
-use Rattle.mt_state.specs.Kept.{IsOfKind, IsOnItsWay, IsAtLoad, IsAtConfirm, IsKeptAt}
+use Rattle.mt_state.specs.Ways.{IsOnWay, Descends, ShowsTaken}
+use Rattle.mt_state.specs.Kept.{IsOnItsWay, IsAtLoad, IsAtConfirm, IsKeptAt}
 use Rattle.mt_state.specs.Invariant.{StateInvariant}
 use Rattle.mt_state.proofs.Shown.{shown_there}
 use Rattle.mt_state.proofs.Telling.{Gives}
@@ -43,7 +44,7 @@ use Rattle.mt_state.proofs.Still.{IsFree, holds_nothing, nothing_changes}
 use Rattle.mt_state.proofs.Reading.{way_of, descend_done, search_missing, search_found}
 use Rattle.mt_state.proofs.Loading.{load_taken, load_stopped}
 use Rattle.mt_state.proofs.Confirming.{get_of, confirm_done, confirm_back}
-use Rattle.mt_core.specs.Nexts.{IsNoLook, ending}
+use Rattle.mt_core.specs.Nexts.{ending}
 use Rattle.mt_core.specs.Looks.{Looks, LooksAt, MayDescend, MayLook, led_to, TellsDescended, TellsSearched, TellsLoaded, TellsConfirmed}
 use Rattle.mt_core.specs.Points.{IsAtPoint, Nears, StepsOn}
 use Rattle.mt_core.proofs.Points.{point_first, nears_by}

@@ -14,9 +14,9 @@ use Rattle.mt_tape.specs.Histories.{contents_at, is_changed}
 use Rattle.mt_arena.specs.Arena.{ArenaView, content_of}
 use Rattle.mt_operation.specs.declared.outcome.Outcome.{Outcome}
 use Rattle.mt_operation.specs.declared.operation.Operation.{Operation}
-use Rattle.mt_operation.specs.declared.walk.Phase.{Phase}
-use Rattle.mt_operation.specs.declared.walk.Phase.TheVariants as phases
-use Rattle.mt_operation.specs.declared.walk.Phase.TheVariants.{Enter, Pick, Child, Verify, Search, Load, Confirm, Forward, Lock, Judge, Store, Publish, SplitStart, SplitMove, SplitPrev, LockParent, InsertChild, InteriorSplit, Reparent, RootGrow, MakeLayer, MarkUnstable, MarkLayer, Unlock, Done}
+use Rattle.mt_operation.specs.declared.phase.Phase.{Phase}
+use Rattle.mt_operation.specs.declared.phase.Phase.TheVariants as phases
+use Rattle.mt_operation.specs.declared.phase.Phase.TheVariants.{Enter, Pick, Child, Verify, Search, Load, Confirm, Forward, Lock, Judge, Store, Publish, SplitStart, SplitMove, SplitPrev, LockParent, InsertChild, InteriorSplit, Reparent, RootGrow, MakeLayer, MarkUnstable, MarkLayer, Unlock, Done}
 use Rattle.mt_operation.specs.declared.walk.Walk.{Walk}
 use Rattle.mt_operation.specs.declared.walk.Taken.{Taken}
 use Rattle.mt_operation.specs.declared.walk.Taken.TheVariants.{Missing, Row, Link, Nothing}

@@ -16,8 +16,8 @@ use Rattle.mt_arena.specs.Several.{AreHalved}
 use Rattle.mt_arena.specs.Arena.{ArenaView, IsArena, content_of, Guarantee}
 use Rattle.mt_arena.specs.Accesses.{at, with_half, IsHeld}
 use Rattle.mt_arena.proofs.Pairs.{last}
-use Rattle.mt_operation.specs.declared.walk.Phase.{Phase}
-use Rattle.mt_operation.specs.declared.walk.Phase.TheVariants.{SplitStart, SplitMove, Unlock}
+use Rattle.mt_operation.specs.declared.phase.Phase.{Phase}
+use Rattle.mt_operation.specs.declared.phase.Phase.TheVariants.{SplitStart, SplitMove, Unlock}
 use Rattle.mt_operation.specs.declared.walk.Walk.{Walk}
 use Rattle.mt_operation.specs.declared.outcome.Outcome.{Outcome}
 use Rattle.mt_operation.specs.declared.prepared.Prepared.{Prepared}
@@ -25,7 +25,8 @@ use Rattle.mt_operation.specs.declared.task.Task.{Task}
 use Rattle.mt_operation.specs.declared.splits.Halves.{Halves}
 use Rattle.mt_operation.specs.declared.splits.Splits.{Splits}
 use Rattle.mt_operation.specs.declared.operation.Operation.{Operation}
-use Rattle.mt_operation.specs.Operations.{is_done, moved, noted, with_splits, with_nothing_ready, IsUnsplit}
+use Rattle.mt_operation.specs.Operations.{moved, noted, with_splits, with_nothing_ready, IsUnsplit}
+use Rattle.mt_operation.specs.Phases.{is_done, has_splits}
 use Rattle.mt_operation.specs.Tables.{Table, op_at as operation_at, MayMove}
 use Rattle.mt_descent.specs.Kept.{HoldsNothing}
 use Rattle.mt_descent.specs.Moves.{Continues}
@@ -37,7 +38,7 @@ use Rattle.mt_insert.specs.SplitMoves.{walk_at, Starts, after_parting, Returns}
 use Rattle.mt_state.specs.declared.moves.Move.TheVariants.{Moved, Done as DoneMove}
 use Rattle.mt_state.specs.Views.{Core, shown}
 use Rattle.mt_state.specs.Phases.{Leads}
-use Rattle.mt_state.specs.Kept.{IsSplitStarting, IsSplitMoving, IsUnlocking, MayUnlock, IsKeptAt, has_splits}
+use Rattle.mt_state.specs.Kept.{IsSplitStarting, IsSplitMoving, IsUnlocking, MayUnlock, IsKeptAt}
 use Rattle.mt_state.specs.Invariant.{HoldsLast, StateInvariant}
 use Rattle.mt_state.specs.Writes.{MovesNoPair, GivesBack, PartsKeys, PartsWith, PartsWithout, splitting as split_core}
 use Rattle.mt_state.proofs.Telling.{Gives}

@@ -5,15 +5,16 @@ use Rattle.std.proofs.lemmas.Option.{same_Some, none-some}
 use Rattle.mt_rows.specs.Commands.{key_of}
 use Rattle.mt_runs.specs.declared.event.Answer.{Answer}
 use Rattle.mt_operation.specs.declared.operation.Operation.{Operation}
-use Rattle.mt_operation.specs.declared.walk.Phase.{Phase}
-use Rattle.mt_operation.specs.declared.walk.Phase.TheVariants.{Enter, Done}
+use Rattle.mt_operation.specs.declared.phase.Phase.{Phase}
+use Rattle.mt_operation.specs.declared.phase.Phase.TheVariants.{Enter, Done}
 use Rattle.mt_operation.specs.Tasks.{ask}
-use Rattle.mt_operation.specs.Operations.{OperationView, view_of, is_done, is_unfinished}
+use Rattle.mt_operation.specs.Operations.{OperationView, view_of, is_unfinished}
+use Rattle.mt_operation.specs.Phases.{is_done, has_splits, is_prepared}
 use Rattle.mt_operation.specs.Tables.{Table, op_at as operation_at}
 use Rattle.mt_state.specs.Views.{Core, StateView, Shown, shown, op_at}
 use Rattle.mt_state.specs.Promises.{IsAnswer}
-use Rattle.mt_state.specs.Kept.{HasAnswer, IsKeptAt, has_splits}
-use Rattle.mt_state.specs.Invariant.{StateInvariant, HoldsAt, is_prepared}
+use Rattle.mt_state.specs.Kept.{HasAnswer, IsKeptAt}
+use Rattle.mt_state.specs.Invariant.{StateInvariant, HoldsAt}
 use Rattle.mt_state.specs.Begins.{IsAnswerOf, Takes, IsEnded}
 use Rattle.mt_state.proofs.Shown.{shown_there, shown_set, inside_of}
 use Rattle.mt_state.proofs.Answered.{answered_out}

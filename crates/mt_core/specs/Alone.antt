@@ -8,14 +8,15 @@ use Rattle.mt_runs.specs.Placings.{maps_after_one}
 use Rattle.mt_arena.specs.Arena.{live_count}
 use Rattle.mt_arena.specs.Accesses.{at}
 use Rattle.mt_operation.specs.declared.outcome.Outcome.{Outcome}
-use Rattle.mt_operation.specs.declared.walk.Phase.{Phase}
-use Rattle.mt_operation.specs.declared.walk.Phase.TheVariants.{Enter, Done}
-use Rattle.mt_operation.specs.Operations.{OperationView, is_done}
+use Rattle.mt_operation.specs.declared.phase.Phase.{Phase}
+use Rattle.mt_operation.specs.declared.phase.Phase.TheVariants.{Enter, Done}
+use Rattle.mt_operation.specs.Operations.{OperationView}
+use Rattle.mt_operation.specs.Phases.{is_done, IsToGrow}
 use Rattle.mt_state.specs.declared.moves.Move.{Move}
 use Rattle.mt_state.specs.declared.moves.Move.TheVariants.{Moved, NoMemory as NoMemoryMove, Done as DoneMove}
 use Rattle.mt_state.specs.Views.{StateView, contents_of, op_at, quota_of}
 use Rattle.mt_state.specs.Steps.{IsSameAsked}
-use Rattle.mt_state.specs.Promises.{IsStep, IsToGrow, Tells}
+use Rattle.mt_state.specs.Promises.{IsStep, Tells}
 
 -- so many steps of operation o were made, one after the other, none of which was its last
 abbrev pub IsChain : ℕ → StateView → StateView → ℕ → Type 0

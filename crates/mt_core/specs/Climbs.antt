@@ -4,15 +4,15 @@ use Rattle.mt_rows.specs.Rows.{Bytes}
 use Rattle.mt_arena.specs.Contents.{counts}
 use Rattle.mt_arena.specs.Arena.{ArenaView, content_of, Guarantee}
 use Rattle.mt_arena.specs.Accesses.{at}
-use Rattle.mt_operation.specs.declared.walk.Phase.TheVariants.{LockParent}
+use Rattle.mt_operation.specs.declared.phase.Phase.TheVariants.{LockParent}
 use Rattle.mt_operation.specs.declared.walk.Walk.{Walk}
 use Rattle.mt_operation.specs.declared.splits.Splits.{Splits}
 use Rattle.mt_operation.specs.declared.outcome.Outcome.{Outcome}
 use Rattle.mt_operation.specs.Operations.{splits_of}
 use Rattle.mt_descent.specs.Moves.{Continues}
 use Rattle.mt_insert.specs.Splitting.{last_of, HoldsSplits, KeptSplit}
-use Rattle.mt_state.specs.Steps.{MayFollow}
-use Rattle.mt_state.specs.Promises.{Touches, IsToGrow}
+use Rattle.mt_operation.specs.Phases.{MayFollow, IsToGrow}
+use Rattle.mt_state.specs.Promises.{Touches}
 use Rattle.mt_state.specs.Invariant.{IsCountedUpTo, IsUnremoved}
 use Rattle.mt_state.specs.Writes.{HasPairsOf}
 use Rattle.mt_state.specs.Phases.{LeadsTo}

@@ -5,7 +5,7 @@ use Rattle.mt_rows.specs.Rows.{Bytes}
 use Rattle.mt_arena.specs.Edits.{unlocked}
 use Rattle.mt_arena.specs.Arena.{ArenaView, content_of, Guarantee}
 use Rattle.mt_arena.specs.Accesses.{at, with_node}
-use Rattle.mt_operation.specs.declared.walk.Phase.TheVariants.{MakeLayer}
+use Rattle.mt_operation.specs.declared.phase.Phase.TheVariants.{MakeLayer}
 use Rattle.mt_operation.specs.declared.walk.Walk.{Walk}
 use Rattle.mt_operation.specs.declared.splits.Splits.{Splits}
 use Rattle.mt_operation.specs.declared.outcome.Outcome.{Outcome}

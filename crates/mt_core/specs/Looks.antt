@@ -8,8 +8,8 @@ use Rattle.mt_border.specs.declared.entry.Find.{Find}
 use Rattle.mt_version.specs.Changes.{IsStable}
 use Rattle.mt_arena.specs.Arena.{ArenaView}
 use Rattle.mt_arena.specs.Accesses.{at}
-use Rattle.mt_operation.specs.declared.walk.Phase.{Phase}
-use Rattle.mt_operation.specs.declared.walk.Phase.TheVariants.{Enter, Pick, Child, Verify, Forward, Search, Load, Confirm, Done}
+use Rattle.mt_operation.specs.declared.phase.Phase.{Phase}
+use Rattle.mt_operation.specs.declared.phase.Phase.TheVariants.{Enter, Pick, Child, Verify, Forward, Search, Load, Confirm, Done}
 use Rattle.mt_operation.specs.declared.steps.Made.{Made}
 use Rattle.mt_operation.specs.declared.steps.Made.TheVariants.{Step, Blocked, Nothing}
 use Rattle.mt_operation.specs.declared.walk.Walk.{Walk}
@@ -23,7 +23,8 @@ use Rattle.mt_operation.specs.Tasks.{ask}
 use Rattle.mt_operation.specs.Operations.{SplitsView, splits_of}
 use Rattle.mt_state.specs.Promises.{IsInTheWay}
 use Rattle.mt_state.specs.Notes.{Says}
-use Rattle.mt_state.specs.Ways.{IsDescent, Descends, ShowsTaken}
+use Rattle.mt_state.specs.Ways.{Descends, ShowsTaken}
+use Rattle.mt_operation.specs.Phases.{IsDescent}
 use Rattle.mt_state.specs.Phases.{LeadsTo}
 use Rattle.mt_state.specs.Invariant.{IsUnremoved}
 use Rattle.mt_core.specs.Points.{IsAtPoint}

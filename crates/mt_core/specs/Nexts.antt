@@ -1,7 +1,7 @@
 -- The operation that is to make a step, by its phase.
 use Rattle.std.specs.Prelude.{◌≡◌, ℕ, Some}
-use Rattle.mt_operation.specs.declared.walk.Phase.{Phase}
-use Rattle.mt_operation.specs.declared.walk.Phase.TheVariants.{Enter, Pick, Child, Verify, Forward, Search, Load, Confirm, Done}
+use Rattle.mt_operation.specs.declared.phase.Phase.{Phase}
+use Rattle.mt_operation.specs.declared.phase.Phase.TheVariants.{Done}
 use Rattle.mt_operation.specs.declared.operation.Operation.{Operation}
 use Rattle.mt_operation.specs.Tables.{op_at as operation_at}
 use Rattle.mt_state.specs.declared.moves.Move.{Move}
@@ -16,15 +16,3 @@ IsNext c o P = (op : Operation) × (operation_at c.table o ≡ Some op) × P op.
 abbrev pub ending : Phase → Move
 ending Done = DoneMove
 ending _ = Moved
-
--- the step of this phase locks or writes, or there is none
-abbrev pub IsNoLook : Phase → Type 0
-IsNoLook Enter = ⊥
-IsNoLook Pick = ⊥
-IsNoLook Child = ⊥
-IsNoLook Verify = ⊥
-IsNoLook Forward = ⊥
-IsNoLook Search = ⊥
-IsNoLook Load = ⊥
-IsNoLook Confirm = ⊥
-IsNoLook _ = Unit {0}

@@ -3,8 +3,8 @@ use Rattle.std.specs.Prelude.{ℕ, Option, Some, None}
 use Rattle.std.specs.Option.{option_map}
 use Rattle.mt_rows.specs.declared.reply.Reply.{Reply}
 use Rattle.mt_operation.specs.declared.outcome.Outcome.{Outcome}
-use Rattle.mt_operation.specs.declared.walk.Phase.{Phase}
-use Rattle.mt_operation.specs.declared.walk.Phase.TheVariants.{Confirm, Done}
+use Rattle.mt_operation.specs.declared.phase.Phase.{Phase}
+use Rattle.mt_operation.specs.declared.phase.Phase.TheVariants.{Confirm, Done}
 use Rattle.mt_operation.specs.Operations.{OperationView}
 use Rattle.mt_state.specs.Views.{Shown, op_at}
 

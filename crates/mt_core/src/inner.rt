@@ -1,10 +1,10 @@
-//! All that a state has inside, and the steps of its operations.
+//! All that a state has inside, and its calls. The steps that write stand in `writes.rt`.
 //!
 //! Invariant: `StateInvariant` of `mt_state`. It owns the nodes, the tape and the operations. Here an
 //! operation is shown whole, with what it remembers on its way; `State` shows its steps and its reply
 //! alone. Units: steps by their numbers, which begin at 1.
 
-ghost use Rattle.std.specs.Prelude.{◌≡◌, ◌≢◌, ◌+◌, ◌<◌, ◌≤◌, ◌^◌, ◌↔◌, IsTrue, IsSome, IfOk, IfErr, OnOk, OnErr, length, slice_set, Some, None, []};
+ghost use Rattle.std.specs.Prelude.{◌≡◌, ◌≢◌, ◌+◌, ◌<◌, ◌≤◌, ◌^◌, ◌↔◌, IsTrue, IsSome, IfOk, IfErr, OnOk, OnErr, length, Some, None};
 ghost use Rattle.std.specs.Option.{option_map};
 ghost use Rattle.mt_rows.specs.Accounts.{account_of};
 ghost use Rattle.mt_batches.specs.Batches.{IsInOrder};
@@ -12,7 +12,7 @@ ghost use Rattle.mt_arena.specs.Arena.{IsArena};
 ghost use Rattle.mt_state.specs.Views.{shown};
 ghost use Rattle.mt_state.specs.Invariant.{StateInvariant};
 ghost use Rattle.mt_state.specs.Begins.{new_state, HaveNoPairs};
-ghost use Rattle.mt_state.specs.Writes.{IsClimb, IsLayerPhase};
+ghost use Rattle.mt_operation.specs.Phases.{IsNoLook};
 ghost use Rattle.mt_core.specs.Looks.{LooksAt, MayLook};
 ghost use Rattle.mt_core.specs.Tickets.{TellsTake, TellsCancel};
 ghost use Rattle.mt_core.specs.Places.{HasPlaces, TakesPlace, AddsPlaces};
@@ -23,23 +23,18 @@ ghost use Rattle.mt_core.specs.Alone.{Runs, IsAlone, EndsAlone, IsUndisturbed, E
 ghost use Rattle.mt_core.specs.Points.{StepsOn};
 ghost use Rattle.mt_core.specs.Drains.{Drains};
 ghost use Rattle.mt_core.specs.Tidies.{Tidies, TidiesInto, DisplacesRestOf, HandsOutRest};
-ghost use Rattle.mt_core.specs.Nexts.{IsNext, IsNoLook, ending};
+ghost use Rattle.mt_core.specs.Nexts.{IsNext, ending};
 ghost use Rattle.mt_operation.specs.declared.operation.Operation.{Operation as AnyOperation};
 ghost use Rattle.mt_operation.specs.Operations.{OperationView, view_of};
 ghost use Rattle.mt_operation.specs.Tables.{op_at as operation_at};
 
 use crate::answers::Ticket;
-use crate::climbs::{Climbed, climb_on};
 use crate::displaced::Displaced;
 use crate::drains::{least_of, none_given, records_after};
-use crate::layers::build_on;
-use crate::looks::{look, no_memory};
+use crate::looks::look;
 use crate::openings::{Opening, give_back, give_up};
 use mt_arena::Arena;
-use mt_descent::lock;
-use mt_insert::{Judged, judge, publish, split_move, split_start, store, unlock, unlock_all};
-use mt_layer::leave;
-use mt_operation::{Operation, Operations, Outcome, Phase, Prepared, Splits, Stepped};
+use mt_operation::{Operation, Operations, Phase, Stepped};
 use mt_rows::{Batch, Refusal, Reply, Tenants};
 use mt_runs::Answer;
 use mt_state::Move;
@@ -57,10 +52,10 @@ pub(crate) struct Inner {
     pub(crate) steps: u64,
     pub(crate) answers: u64,
     pub(crate) logs: Vec<u64>,
-    tenants: Tenants,
+    pub(crate) tenants: Tenants,
     pub(crate) arena: Arena,
-    tape: Tape,
-    operations: Operations,
+    pub(crate) tape: Tape,
+    pub(crate) operations: Operations,
 }
 
 impl Model for Inner {
@@ -303,37 +298,6 @@ impl Inner {
         }
     }
 
-    // Makes a step that is no look, where one is left. Each phase is a call of its own, so that none
-    // pays for the frame of another.
-    #[inline(never)]
-    fn write(&mut self, id: usize, phase: Phase) -> Move
-        requires next { IsNext self.old id (λ p. p ≡ phase) }
-        requires others { IsNoLook phase }
-        requires few { self.old.steps < 2 ^ 59 }
-        ensures { StepsOn self.old self.new id result }
-    {
-        match phase {
-            Phase::Lock => self.lock(id),
-            Phase::Judge => self.judge(id),
-            Phase::Store => self.store(id),
-            Phase::Publish => self.publish(id),
-            Phase::SplitStart => self.split_start(id),
-            Phase::SplitMove => self.split_move(id),
-            Phase::SplitPrev
-            | Phase::LockParent
-            | Phase::InsertChild
-            | Phase::InteriorSplit
-            | Phase::Reparent
-            | Phase::RootGrow => self.climb(id),
-            Phase::MakeLayer | Phase::MarkUnstable | Phase::Link | Phase::MarkLayer => {
-                self.build(id)
-            }
-            Phase::Unlock => self.unlock(id),
-            Phase::Done => Move::NoSuch,
-            _ => unreachable!(),
-        }
-    }
-
     // What is kept inside, for the proof of `run_alone`: nothing runs.
     fn kept(&self)
         ensures invariant { StateInvariant self.now }
@@ -341,306 +305,10 @@ impl Inner {
     {
         self.arena.facts();
     }
-
-    // Takes the lock of the border node.
-    #[inline(never)]
-    fn lock(&mut self, id: usize) -> Move
-        requires next { IsNext self.old id (λ phase. phase ≡ Phase.Lock) }
-        requires few { self.old.steps < 2 ^ 59 }
-        ensures { StepsOn self.old self.new id result }
-    {
-        self.arena.facts();
-        let operation = open(&self.operations, id);
-        let mut walk = operation.walk;
-        if let Some(holder) = lock(&mut self.arena, &operation.task.key, &mut walk, id) {
-            return again(holder);
-        }
-        self.steps += 1;
-        self.operations.go_on(id, self.steps, &walk);
-        Move::Moved
-    }
-
-    // Looks for the key under the lock, and makes all growths of the placing step.
-    #[inline(never)]
-    fn judge(&mut self, id: usize) -> Move
-        requires next { IsNext self.old id (λ phase. phase ≡ Phase.Judge) }
-        requires few { self.old.steps < 2 ^ 59 }
-        ensures { StepsOn self.old self.new id result }
-    {
-        self.arena.facts();
-        self.steps += 1;
-        let operation = open(&self.operations, id);
-        let mut walk = operation.walk;
-        let judged = judge(
-            self.alloc,
-            &mut self.arena,
-            &mut self.tape,
-            &operation.task,
-            &mut walk,
-            id,
-        );
-        match judged {
-            Judged::Ready(prepared) => {
-                self.operations.go_on(id, self.steps, &walk);
-                self.operations.make_ready(id, prepared);
-                Move::Moved
-            }
-            Judged::GoesOn => {
-                self.operations.go_on(id, self.steps, &walk);
-                Move::Moved
-            }
-            Judged::NoMemory => {
-                self.operations
-                    .go_on_with(id, self.steps, &walk, Some(no_memory(self.steps)));
-                Move::Done
-            }
-        }
-    }
-
-    // Writes the row over the one that is there.
-    #[inline(never)]
-    fn store(&mut self, id: usize) -> Move
-        requires next { IsNext self.old id (λ phase. phase ≡ Phase.Store) }
-        requires few { self.old.steps < 2 ^ 59 }
-        ensures { StepsOn self.old self.new id result }
-    {
-        self.arena.facts();
-        self.steps += 1;
-        let prepared = taken_out(&mut self.operations, id);
-        let operation = open(&self.operations, id);
-        let mut walk = operation.walk;
-        store(
-            &mut self.arena,
-            &mut self.tape,
-            &operation.task,
-            &mut walk,
-            prepared,
-            self.steps,
-            id,
-        );
-        let told = placed(Reply::Replaced, self.steps);
-        self.operations
-            .go_on_with(id, self.steps, &walk, Some(told));
-        Move::Moved
-    }
-
-    // Judges the quota, and makes the pair live.
-    #[inline(never)]
-    fn publish(&mut self, id: usize) -> Move
-        requires next { IsNext self.old id (λ phase. phase ≡ Phase.Publish) }
-        requires few { self.old.steps < 2 ^ 59 }
-        ensures { StepsOn self.old self.new id result }
-    {
-        self.arena.facts();
-        self.steps += 1;
-        let prepared = taken_out(&mut self.operations, id);
-        let operation = open(&self.operations, id);
-        let mut walk = operation.walk;
-        let is_new = publish(
-            &mut self.arena,
-            &mut self.tape,
-            &mut self.tenants,
-            &operation.task,
-            &mut walk,
-            prepared,
-            self.steps,
-            id,
-        );
-        let reply = if is_new { Reply::New } else { Reply::Full };
-        let told = placed(reply, self.steps);
-        self.operations
-            .go_on_with(id, self.steps, &walk, Some(told));
-        Move::Moved
-    }
-
-    // Makes the right half of the full border node.
-    #[inline(never)]
-    fn split_start(&mut self, id: usize) -> Move
-        requires next { IsNext self.old id (λ phase. phase ≡ Phase.SplitStart) }
-        requires few { self.old.steps < 2 ^ 59 }
-        ensures { StepsOn self.old self.new id result }
-    {
-        self.arena.facts();
-        self.steps += 1;
-        let mut splits = Splits::new(self.alloc);
-        self.operations.swap_splits(id, &mut splits);
-        let operation = open(&self.operations, id);
-        let mut walk = operation.walk;
-        let begun = split_start(
-            &mut self.arena,
-            &mut self.tape,
-            &operation.task.key,
-            &mut walk,
-            &mut splits,
-            id,
-        );
-        self.operations.swap_splits(id, &mut splits);
-        match begun {
-            Ok(()) => {
-                self.operations.go_on(id, self.steps, &walk);
-                Move::Moved
-            }
-            Err(_) => {
-                self.operations.take_prepared(id);
-                self.operations
-                    .go_on_with(id, self.steps, &walk, Some(no_memory(self.steps)));
-                Move::Done
-            }
-        }
-    }
-
-    // Judges the quota, and parts the keys among the halves.
-    #[inline(never)]
-    fn split_move(&mut self, id: usize) -> Move
-        requires next { IsNext self.old id (λ phase. phase ≡ Phase.SplitMove) }
-        requires few { self.old.steps < 2 ^ 59 }
-        ensures { StepsOn self.old self.new id result }
-    {
-        self.arena.facts();
-        self.steps += 1;
-        let prepared = taken_out(&mut self.operations, id);
-        let operation = open(&self.operations, id);
-        let mut walk = operation.walk;
-        let is_new = split_move(
-            &mut self.arena,
-            &mut self.tape,
-            &mut self.tenants,
-            &operation.task,
-            &mut walk,
-            &operation.splits,
-            prepared,
-            self.steps,
-            id,
-        );
-        let reply = if is_new { Reply::New } else { Reply::Full };
-        let told = placed(reply, self.steps);
-        self.operations
-            .go_on_with(id, self.steps, &walk, Some(told));
-        Move::Moved
-    }
-
-    // Brings a right half nearer to its place in its parent, or makes a root.
-    #[inline(never)]
-    fn climb(&mut self, id: usize) -> Move
-        requires next { IsNext self.old id IsClimb }
-        requires few { self.old.steps < 2 ^ 59 }
-        ensures { StepsOn self.old self.new id result }
-    {
-        self.arena.facts();
-        let mut splits = Splits::new(self.alloc);
-        self.operations.swap_splits(id, &mut splits);
-        let mut walk = open(&self.operations, id).walk;
-        let climbed = climb_on(&mut self.arena, &mut walk, &mut splits, id);
-        self.operations.swap_splits(id, &mut splits);
-        match climbed {
-            Climbed::On => {
-                self.steps += 1;
-                self.operations.go_on(id, self.steps, &walk);
-                Move::Moved
-            }
-            Climbed::Blocked(holder) => again(holder),
-            Climbed::NoMemory => Move::NoMemory,
-        }
-    }
-
-    // Brings a layer one step nearer.
-    #[inline(never)]
-    fn build(&mut self, id: usize) -> Move
-        requires next { IsNext self.old id IsLayerPhase }
-        requires few { self.old.steps < 2 ^ 59 }
-        ensures { StepsOn self.old self.new id result }
-    {
-        self.arena.facts();
-        self.steps += 1;
-        let operation = open(&self.operations, id);
-        let mut walk = operation.walk;
-        let built = build_on(
-            self.alloc,
-            &mut self.arena,
-            &operation.task.key,
-            &mut walk,
-            id,
-        );
-        match built {
-            Ok(()) => {
-                self.operations.go_on(id, self.steps, &walk);
-                Move::Moved
-            }
-            Err(_) => {
-                self.operations
-                    .go_on_with(id, self.steps, &walk, Some(no_memory(self.steps)));
-                Move::Done
-            }
-        }
-    }
-
-    // Gives all locks back. An operation without an outcome has made a layer, and goes on there.
-    #[inline(never)]
-    fn unlock(&mut self, id: usize) -> Move
-        requires next { IsNext self.old id (λ phase. phase ≡ Phase.Unlock) }
-        requires few { self.old.steps < 2 ^ 59 }
-        ensures { StepsOn self.old self.new id result }
-    {
-        let operation = open(&self.operations, id);
-        match operation.outcome {
-            None => self.leave(id),
-            Some(_) if operation.splits.halves.is_empty() => self.unlock_one(id),
-            Some(_) => self.unlock_all(id),
-        }
-    }
-
-    // Gives the lock of the border node back, and goes on in the tree of the next layer.
-    fn leave(&mut self, id: usize) -> Move
-        requires next { IsNext self.old id (λ phase. phase ≡ Phase.Unlock) }
-        requires few { self.old.steps < 2 ^ 59 }
-        requires untold { (op : AnyOperation) → operation_at self.old.table id ≡ Some op → op.outcome ≡ None }
-        ensures { StepsOn self.old self.new id result }
-    {
-        self.arena.facts();
-        self.steps += 1;
-        let mut walk = open(&self.operations, id).walk;
-        leave(&mut self.arena, &mut walk, id);
-        self.operations.go_on(id, self.steps, &walk);
-        Move::Moved
-    }
-
-    // Gives the lock of the border node back.
-    fn unlock_one(&mut self, id: usize) -> Move
-        requires next { IsNext self.old id (λ phase. phase ≡ Phase.Unlock) }
-        requires few { self.old.steps < 2 ^ 59 }
-        requires told { (op : AnyOperation) → operation_at self.old.table id ≡ Some op → op.outcome ≢ None }
-        requires unsplit { (op : AnyOperation) → operation_at self.old.table id ≡ Some op → op.splits.halves.items ≡ [] }
-        ensures { StepsOn self.old self.new id result }
-    {
-        self.steps += 1;
-        let mut walk = open(&self.operations, id).walk;
-        unlock(&mut self.arena, &mut walk, id);
-        self.operations.go_on(id, self.steps, &walk);
-        Move::Done
-    }
-
-    // Gives the locks of all nodes of the splits back.
-    fn unlock_all(&mut self, id: usize) -> Move
-        requires next { IsNext self.old id (λ phase. phase ≡ Phase.Unlock) }
-        requires few { self.old.steps < 2 ^ 59 }
-        requires told { (op : AnyOperation) → operation_at self.old.table id ≡ Some op → op.outcome ≢ None }
-        requires split { (op : AnyOperation) → operation_at self.old.table id ≡ Some op → op.splits.halves.items ≢ [] }
-        ensures { StepsOn self.old self.new id result }
-    {
-        self.arena.facts();
-        self.steps += 1;
-        let mut splits = Splits::new(self.alloc);
-        self.operations.swap_splits(id, &mut splits);
-        let mut walk = open(&self.operations, id).walk;
-        unlock_all(&mut self.arena, &mut walk, &mut splits, id);
-        self.operations.swap_splits(id, &mut splits);
-        self.operations.go_on(id, self.steps, &walk);
-        Move::Done
-    }
 }
 
 // Another operation is in the way.
-fn again(holder: usize) -> Move
+pub(crate) fn again(holder: usize) -> Move
     ensures { result ≡ Move.Again holder }
 {
     Move::Again {
@@ -658,13 +326,6 @@ fn ending(phase: Phase) -> Move
     }
 }
 
-// The outcome of a put that this step has judged.
-fn placed(reply: Reply, step: u64) -> Outcome
-    ensures { result ≡ record { reply = reply; at = step } }
-{
-    Outcome { reply, at: step }
-}
-
 // What the next step of an operation does; nothing, where no step of it is left.
 fn next_phase(operations: &Operations, id: usize) -> Option<Phase>
     ensures { result ≡ phase_in (option_map view_of (operation_at operations.now id)) }
@@ -676,24 +337,12 @@ fn next_phase(operations: &Operations, id: usize) -> Option<Phase>
 }
 
 // The operation of an id, which is there.
-fn open<'a>(operations: &'a Operations, id: usize) -> &'a Operation
+pub(crate) fn open<'a>(operations: &'a Operations, id: usize) -> &'a Operation
     requires { IsSome (operation_at operations.now id) }
     ensures { operation_at operations.now id ≡ Some result.now }
 {
     match operations.get(id) {
         Some(operation) => operation,
-        None => unreachable!(),
-    }
-}
-
-// Takes out what an operation has made ready.
-fn taken_out(operations: &mut Operations, id: usize) -> Prepared
-    requires { (op : AnyOperation) × (operation_at operations.old id ≡ Some op) × (op.prepared ≢ None) }
-    ensures { (op : AnyOperation) → operation_at operations.old id ≡ Some op →
-        (op.prepared ≡ Some result) × (operations.new ≡ slice_set operations.old id (Some (record op { prepared = None }))) }
-{
-    match operations.take_prepared(id) {
-        Some(prepared) => prepared,
         None => unreachable!(),
     }
 }

@@ -1,7 +1,7 @@
 //! The steps of an operation that makes a layer, until it gives its lock back.
 
 ghost use Rattle.mt_layer.specs.Kept.{KeptLayer};
-ghost use Rattle.mt_state.specs.Writes.{IsLayerPhase};
+ghost use Rattle.mt_operation.specs.Phases.{IsLayerPhase};
 ghost use Rattle.mt_core.specs.Layers.{TellsBuilt};
 
 use mt_arena::Arena;

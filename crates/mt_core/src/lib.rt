@@ -17,6 +17,7 @@ mod looks;
 pub mod openings;
 pub mod shape;
 pub mod state;
+mod writes;
 
 pub use answers::Ticket;
 pub use displaced::Displaced;

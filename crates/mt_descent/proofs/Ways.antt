@@ -23,7 +23,7 @@ use Rattle.mt_arena.specs.Forests.{tree_at}
 use Rattle.mt_arena.specs.Arena.{ArenaView, IsArena}
 use Rattle.mt_arena.specs.Accesses.{at}
 use Rattle.mt_operation.specs.declared.walk.Walk.{Walk}
-use Rattle.mt_operation.specs.declared.walk.Phase.TheVariants.{Forward}
+use Rattle.mt_operation.specs.declared.phase.Phase.TheVariants.{Forward}
 use Rattle.mt_descent.specs.Seen.{RangeStands, Stands, WasSeen, Covers, child_for, HasNext}
 use Rattle.mt_descent.specs.Pasts.{Past}
 use Rattle.mt_descent.specs.Kept.{GoesThrough, slice_in, IsAtPick, IsAtChild, IsAtVerify, IsAtBorder, IsAtForward, KeptAt, IsKept}

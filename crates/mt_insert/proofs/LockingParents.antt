@@ -17,8 +17,8 @@ use Rattle.mt_arena.proofs.Settled.{settled_free}
 use Rattle.mt_arena.proofs.Lags.{follows_in, under_in, followers_of}
 use Rattle.mt_arena.proofs.Guarantees.{guarantee_on}
 use Rattle.mt_arena.proofs.Naming.{points_on}
-use Rattle.mt_operation.specs.declared.walk.Phase.{Phase}
-use Rattle.mt_operation.specs.declared.walk.Phase.TheVariants.{InsertChild, InteriorSplit}
+use Rattle.mt_operation.specs.declared.phase.Phase.{Phase}
+use Rattle.mt_operation.specs.declared.phase.Phase.TheVariants.{InsertChild, InteriorSplit}
 use Rattle.mt_operation.specs.declared.splits.Halves.{Halves}
 use Rattle.mt_operation.specs.declared.splits.Splits.{Splits}
 use Rattle.mt_insert.specs.Splitting.{halves_at, last_of, HoldsSplits, IsAtLockParent, IsAtParent, IsParent, KeptSplit}

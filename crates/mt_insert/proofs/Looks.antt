@@ -21,11 +21,11 @@ use Rattle.mt_arena.specs.NodeFacts.{IsUnstable}
 use Rattle.mt_arena.specs.Layers.{slot_at}
 use Rattle.mt_arena.specs.Arena.{ArenaView, IsArena}
 use Rattle.mt_arena.specs.Accesses.{at}
-use Rattle.mt_operation.specs.declared.walk.Phase.{Phase}
+use Rattle.mt_operation.specs.declared.phase.Phase.{Phase}
 use Rattle.mt_operation.specs.declared.walk.Walk.{Walk}
 use Rattle.mt_operation.specs.declared.task.Task.{Task}
 use Rattle.mt_operation.specs.declared.prepared.Prepared.{Prepared}
-use Rattle.mt_operation.specs.declared.walk.Phase.TheVariants.{Forward, Judge, Store, Publish, SplitStart}
+use Rattle.mt_operation.specs.declared.phase.Phase.TheVariants.{Forward, Judge, Store, Publish, SplitStart}
 use Rattle.mt_version.specs.Parts.{Parts}
 use Rattle.mt_arena.specs.Settled.{IsSettled}
 use Rattle.mt_descent.specs.Seen.{IsOutdated}

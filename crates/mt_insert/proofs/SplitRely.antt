@@ -25,8 +25,8 @@ use Rattle.mt_arena.specs.Accesses.{at, IsHeld}
 use Rattle.mt_arena.specs.Several.{IsHalf, MaySplit}
 use Rattle.mt_arena.specs.Guarantee.{IsUntouched, TreeChanges}
 use Rattle.mt_arena.proofs.Settled.{alive, was_none}
-use Rattle.mt_operation.specs.declared.walk.Phase.{Phase}
-use Rattle.mt_operation.specs.declared.walk.Phase.TheVariants.{SplitPrev, LockParent, InsertChild, InteriorSplit, Reparent, RootGrow, Unlock}
+use Rattle.mt_operation.specs.declared.phase.Phase.{Phase}
+use Rattle.mt_operation.specs.declared.phase.Phase.TheVariants.{SplitPrev, LockParent, InsertChild, InteriorSplit, Reparent, RootGrow, Unlock}
 use Rattle.mt_operation.specs.declared.walk.Walk.{Walk}
 use Rattle.mt_operation.specs.declared.task.Task.{Task}
 use Rattle.mt_operation.specs.declared.prepared.Prepared.{Prepared}

@@ -19,7 +19,7 @@ use Rattle.mt_arena.proofs.Pairs.{here, there, last, before}
 use Rattle.mt_arena.proofs.Lags.{begun_left, begun_right, fresh_children, followers_of}
 use Rattle.mt_arena.proofs.Locks.{is_held}
 use Rattle.mt_arena.proofs.Quiet.{nodes_splitting}
-use Rattle.mt_operation.specs.declared.walk.Phase.TheVariants.{SplitMove}
+use Rattle.mt_operation.specs.declared.phase.Phase.TheVariants.{SplitMove}
 use Rattle.mt_operation.specs.declared.walk.Walk.{Walk}
 use Rattle.mt_operation.specs.declared.task.Task.{Task}
 use Rattle.mt_operation.specs.declared.prepared.Prepared.{Prepared}

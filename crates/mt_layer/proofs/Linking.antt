@@ -18,8 +18,8 @@ use Rattle.mt_arena.specs.Layering.{with_held, with_slot, with_link}
 use Rattle.mt_arena.proofs.Pairs.{here, there}
 use Rattle.mt_arena.proofs.LayerStays.{whole_rewritten}
 use Rattle.mt_arena.proofs.SettledBut.{settled_but_held, settled_again}
-use Rattle.mt_operation.specs.declared.walk.Phase.{Phase}
-use Rattle.mt_operation.specs.declared.walk.Phase.TheVariants as phases
+use Rattle.mt_operation.specs.declared.phase.Phase.{Phase}
+use Rattle.mt_operation.specs.declared.phase.Phase.TheVariants as phases
 use Rattle.mt_operation.specs.declared.walk.Taken.{Taken}
 use Rattle.mt_operation.specs.declared.walk.Taken.TheVariants as takens
 use Rattle.mt_operation.specs.declared.walk.Walk.{Walk}

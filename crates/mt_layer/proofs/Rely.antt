@@ -20,8 +20,8 @@ use Rattle.mt_arena.specs.Guarantee.{TreeChanges}
 use Rattle.mt_arena.proofs.LayerStays.{whole_stays, tree_same, root_same}
 use Rattle.mt_arena.specs.NodeView.{NodeView}
 use Rattle.mt_arena.proofs.SettledBut.{settled_but_stays}
-use Rattle.mt_operation.specs.declared.walk.Phase.{Phase}
-use Rattle.mt_operation.specs.declared.walk.Phase.TheVariants as phases
+use Rattle.mt_operation.specs.declared.phase.Phase.{Phase}
+use Rattle.mt_operation.specs.declared.phase.Phase.TheVariants as phases
 use Rattle.mt_operation.specs.declared.walk.Walk.{Walk}
 use Rattle.mt_descent.specs.Kept.{GoesThrough}
 use Rattle.mt_insert.specs.Kept.{IsAtMakeLayer}

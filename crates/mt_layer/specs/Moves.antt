@@ -11,8 +11,8 @@ use Rattle.mt_arena.specs.Contents.{counts}
 use Rattle.mt_arena.specs.Layers.{slot_at}
 use Rattle.mt_arena.specs.Arena.{ArenaView}
 use Rattle.mt_arena.specs.Accesses.{at, tree_of}
-use Rattle.mt_operation.specs.declared.walk.Phase.{Phase}
-use Rattle.mt_operation.specs.declared.walk.Phase.TheVariants.{MarkUnstable}
+use Rattle.mt_operation.specs.declared.phase.Phase.{Phase}
+use Rattle.mt_operation.specs.declared.phase.Phase.TheVariants.{MarkUnstable}
 use Rattle.mt_operation.specs.declared.walk.Taken.TheVariants.{Link}
 use Rattle.mt_operation.specs.declared.walk.Walk.{Walk}
 

@@ -6,7 +6,7 @@ ghost use Rattle.mt_rows.specs.Rows.{Bytes};
 ghost use Rattle.mt_arena.specs.declared.tree.Standing.TheVariants.{Dead};
 ghost use Rattle.mt_arena.specs.Arena.{ArenaView, Guarantee};
 ghost use Rattle.mt_arena.specs.Accesses.{tree_of};
-ghost use Rattle.mt_operation.specs.declared.walk.Phase.{Phase};
+ghost use Rattle.mt_operation.specs.declared.phase.Phase.{Phase};
 ghost use Rattle.mt_operation.specs.declared.walk.Walk.{Walk};
 ghost use Rattle.mt_insert.specs.Kept.{HoldsOnly};
 ghost use Rattle.mt_layer.specs.Kept.{KeptLayer};

@@ -3,7 +3,7 @@ use Rattle.std.proofs.Common.{◌≡◌, ◌≢◌, ℕ, true, Option, Some, Non
 use Rattle.std.specs.Prelude.{is_some}
 use Rattle.mt_state.specs.declared.moves.Move.{Move}
 use Rattle.mt_state.specs.declared.moves.Move.TheVariants.{Moved, Again, NoMemory, Done, Spent, NoSuch}
-use Rattle.mt_operation.specs.declared.walk.Phase.{Phase}
+use Rattle.mt_operation.specs.declared.phase.Phase.{Phase}
 use Rattle.mt_state.specs.Views.{StateView, op_at}
 use Rattle.mt_state.specs.Promises.{IsStep, Tells}
 use Rattle.mt_state.specs.Begins.{IsEnded}

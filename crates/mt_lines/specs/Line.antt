@@ -2,9 +2,8 @@
 use Rattle.std.specs.Prelude.{ℕ, if◌then◌else◌, List, [], ◌∷◌, codes, Option, Some, None}
 use Rattle.mt_rows.specs.declared.command.Command.{Command}
 use Rattle.mt_rows.specs.declared.command.Command.TheVariants.{Get, Put}
-use Rattle.mt_operation.specs.declared.walk.Phase.{Phase}
-use Rattle.mt_operation.specs.declared.walk.Phase.TheVariants.{Enter, Pick, Child, Verify, Search, Load, Confirm, Forward, Lock, Judge, Store, Publish, SplitStart, SplitMove, SplitPrev, LockParent, InsertChild, InteriorSplit, Reparent, RootGrow, MakeLayer, MarkUnstable, Link, MarkLayer, Unlock}
-use Rattle.mt_operation.specs.Names as phases
+use Rattle.mt_operation.specs.declared.phase.Phase.{Phase}
+use Rattle.mt_operation.specs.Phases.{name_of, steps}
 use Rattle.mt_lines.specs.declared.line.Line.{Line}
 use Rattle.mt_lines.specs.declared.line.Line.TheVariants.{Tenant, Begin, Step, Until, Run, Shape}
 use Rattle.mt_lines.specs.Words.{◌>>=◌, words_of, next, no_more, each, number_up_to, name_word, is_text, key_word, column_word}
@@ -16,40 +15,14 @@ number_word word = number_up_to 4294967295 word
 abbrev pub index_word : List ℕ → Option ℕ
 index_word word = number_up_to 255 word
 
+-- the first of some phases whose name this is
+abbrev pub phase_in : List Phase → List ℕ → Option Phase
+phase_in [] word = None
+phase_in (phase ∷ phases) word = if is_text word (name_of phase) then Some phase else phase_in phases word
+
 -- the phase of this name
 unfoldable pub phase_word : List ℕ → Option Phase
-phase_word word =
-    if is_text word (phases.name_of Enter) then Some Enter
-    else if is_text word (phases.name_of Pick) then Some Pick
-    else if is_text word (phases.name_of Child) then Some Child
-    else if is_text word (phases.name_of Verify) then Some Verify
-    else if is_text word (phases.name_of Search) then Some Search
-    else if is_text word (phases.name_of Load) then Some Load
-    else if is_text word (phases.name_of Confirm) then Some Confirm
-    else if is_text word (phases.name_of Forward) then Some Forward
-    else if is_text word (phases.name_of Lock) then Some Lock
-    else if is_text word (phases.name_of Judge) then Some Judge
-    else if is_text word (phases.name_of Store) then Some Store
-    else if is_text word (phases.name_of Publish) then Some Publish
-    else if is_text word (phases.name_of SplitStart) then Some SplitStart
-    else if is_text word (phases.name_of SplitMove) then Some SplitMove
-    else if is_text word (phases.name_of SplitPrev) then Some SplitPrev
-    else if is_text word (phases.name_of LockParent) then Some LockParent
-    else if is_text word (phases.name_of InsertChild) then Some InsertChild
-    else if is_text word (phases.name_of InteriorSplit) then Some InteriorSplit
-    else if is_text word (phases.name_of Reparent) then Some Reparent
-    else if is_text word (phases.name_of RootGrow) then Some RootGrow
-    else if is_text word (phases.name_of MakeLayer) then Some MakeLayer
-    else if is_text word (phases.name_of MarkUnstable) then Some MarkUnstable
-    else if is_text word (phases.name_of Link) then Some Link
-    else if is_text word (phases.name_of MarkLayer) then Some MarkLayer
-    else if is_text word (phases.name_of Unlock) then Some Unlock
-    else None
-
--- the phase of the first row whose word this is
-abbrev pub phase_in : {Name : Type 0} → (Name → List ℕ) → List (Name × Phase) → List ℕ → Option Phase
-phase_in text [] word = None
-phase_in text (row ∷ rows) word = if is_text word (text row.0) then Some row.1 else phase_in text rows word
+phase_word word = phase_in steps word
 
 -- tenant T Q
 unfoldable pub tenant_line : List (List ℕ) → Option Line

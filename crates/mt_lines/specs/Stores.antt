@@ -5,7 +5,7 @@ use Rattle.mt_rows.specs.Accounts.{Accounts}
 use Rattle.mt_runs.specs.declared.event.Answer.{Answer}
 use Rattle.mt_state.specs.declared.moves.Move.{Move}
 use Rattle.mt_state.specs.declared.moves.Move.TheVariants as moves
-use Rattle.mt_operation.specs.declared.walk.Phase.{Phase}
+use Rattle.mt_operation.specs.declared.phase.Phase.{Phase}
 use Rattle.mt_state.specs.Views.{StateView, Shown, op_at}
 use Rattle.mt_core.specs.Shows.{phase_at}
 use Rattle.mt_state.specs.Promises.{IsStep, Tells}

@@ -9,7 +9,7 @@ use Rattle.mt_rows.specs.declared.reply.Reply.TheVariants.{Absent, Found, New, R
 use Rattle.mt_rows.specs.Refusals.{number_of}
 use Rattle.mt_runs.specs.declared.event.Answer.{Answer}
 use Rattle.mt_core.specs.declared.shape.ShapeLine.{ShapeLine}
-use Rattle.mt_operation.specs.Names as phases
+use Rattle.mt_operation.specs.Phases as phases
 use Rattle.mt_core.specs.Shapes.{line_text}
 use Rattle.mt_lines.specs.declared.response.Response.{Response}
 use Rattle.mt_lines.specs.declared.response.Response.TheVariants.{Taken, Refused, Begun, At, Moved, Again, NoMemory, Spent, NoSuch, Done, Shape, BadLine}

@@ -8,7 +8,7 @@ ghost use Rattle.mt_lines.specs.Line.{index_word, phase_word, phase_in, tenant_l
 
 use crate::fault::LineFault;
 use crate::words;
-use mt_operation::Phase;
+use mt_operation::{PHASES, Phase};
 use mt_rows::{Column, ColumnIndexes, Command, NamedColumns};
 use std::alloc::{AllocError, Global};
 
@@ -210,35 +210,6 @@ fn shape(rest: &[u8]) -> Result<Line, LineFault>
     Ok(Line::Shape)
 }
 
-// The phases, each behind the word that names it.
-const PHASES: [(&str, Phase); 25] = [
-    ("enter", Phase::Enter),
-    ("pick", Phase::Pick),
-    ("child", Phase::Child),
-    ("verify", Phase::Verify),
-    ("search", Phase::Search),
-    ("load", Phase::Load),
-    ("confirm", Phase::Confirm),
-    ("forward", Phase::Forward),
-    ("lock", Phase::Lock),
-    ("judge", Phase::Judge),
-    ("store", Phase::Store),
-    ("publish", Phase::Publish),
-    ("splitstart", Phase::SplitStart),
-    ("splitmove", Phase::SplitMove),
-    ("splitprev", Phase::SplitPrev),
-    ("lockparent", Phase::LockParent),
-    ("insertchild", Phase::InsertChild),
-    ("interiorsplit", Phase::InteriorSplit),
-    ("reparent", Phase::Reparent),
-    ("rootgrow", Phase::RootGrow),
-    ("makelayer", Phase::MakeLayer),
-    ("markunstable", Phase::MarkUnstable),
-    ("link", Phase::Link),
-    ("marklayer", Phase::MarkLayer),
-    ("unlock", Phase::Unlock),
-];
-
 #[tactic(auto, unfolding(crate::specs::Line::phase_word))]
 fn phase(word: &[u8]) -> Result<Phase, LineFault>
     ensures { Means (λ phase. phase) result (phase_word word.now) }
@@ -246,12 +217,12 @@ fn phase(word: &[u8]) -> Result<Phase, LineFault>
     phase_in(&PHASES, word)
 }
 
-// The phase of the first row whose word this is.
-fn phase_in(rows: &[(&str, Phase)], word: &[u8]) -> Result<Phase, LineFault>
-    ensures { Means (λ phase. phase) result (phase_in (λ name. name.now) rows.now word.now) }
+// The first of some phases whose name this is.
+fn phase_in(phases: &[Phase], word: &[u8]) -> Result<Phase, LineFault>
+    ensures { Means (λ phase. phase) result (phase_in phases.now word.now) }
 {
-    for (name, phase) in rows {
-        if words::is_text(word, name) {
+    for phase in phases {
+        if words::is_text(word, phase.name()) {
             return Ok(*phase);
         }
     }

@@ -1,6 +1,6 @@
 -- Steps that a body makes of an operation in its place, and what they make of the table.
 use Rattle.std.specs.Prelude.{◌≡◌, ◌≢◌, ℕ, ◌==◌, Bool, true, false, Some, None, slice_set}
-use Rattle.mt_operation.specs.declared.walk.Phase.{Phase}
+use Rattle.mt_operation.specs.declared.phase.Phase.{Phase}
 use Rattle.mt_operation.specs.declared.steps.Made.{Made}
 use Rattle.mt_operation.specs.declared.steps.Made.TheVariants.{Step, Blocked as BlockedBy, Nothing}
 use Rattle.mt_operation.specs.declared.steps.Stepped.{Stepped}

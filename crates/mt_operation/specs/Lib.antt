@@ -1,5 +1,5 @@
 pub mod Bodies
-pub mod Names
+pub mod Phases
 pub mod Walks
 pub mod Tasks
 pub mod Operations

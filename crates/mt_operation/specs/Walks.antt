@@ -1,7 +1,7 @@
 -- A walk before its first step.
 use Rattle.std.specs.Prelude.{ℕ, Bool, true, false, None}
 use Rattle.mt_version.specs.Parts.{fresh_parts}
-use Rattle.mt_operation.specs.declared.walk.Phase.TheVariants.{Enter}
+use Rattle.mt_operation.specs.declared.phase.Phase.TheVariants.{Enter}
 use Rattle.mt_operation.specs.declared.walk.Taken.TheVariants.{Missing}
 use Rattle.mt_operation.specs.declared.walk.Walk.{Walk}
 

@@ -8,6 +8,7 @@
 
 pub mod operation;
 pub mod outcome;
+pub mod phase;
 pub mod prepared;
 mod queue;
 pub mod splits;
@@ -18,9 +19,10 @@ pub mod walk;
 
 pub use operation::Operation;
 pub use outcome::Outcome;
+pub use phase::{PHASES, Phase};
 pub use prepared::Prepared;
 pub use splits::{Halves, Splits};
 pub use steps::{Made, Stepped};
 pub use table::Operations;
 pub use task::{Request, Task};
-pub use walk::{Phase, Place, Taken, Walk};
+pub use walk::{Place, Taken, Walk};

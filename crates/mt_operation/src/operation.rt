@@ -4,10 +4,11 @@ ghost use Rattle.std.specs.Prelude.{◌≡◌, ◌==◌};
 ghost use Rattle.mt_operation.specs.Operations.{begun, IsUnsplit, moved, counted, is_unfinished};
 
 use crate::outcome::Outcome;
+use crate::phase::Phase;
 use crate::prepared::Prepared;
 use crate::splits::Splits;
 use crate::task::Task;
-use crate::walk::{Phase, Walk};
+use crate::walk::Walk;
 use std::alloc::Global;
 
 /// An operation that was begun and whose answer was not taken. Its first step has the number

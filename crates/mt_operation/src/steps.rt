@@ -1,6 +1,6 @@
 //! Steps that a body makes of an operation in its place.
 
-use crate::walk::Phase;
+use crate::phase::Phase;
 
 /// What a body has made of an operation that it is lent.
 #[derive(Clone, Copy, PartialEq, Eq, Debug)]

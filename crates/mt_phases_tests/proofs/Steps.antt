@@ -4,7 +4,8 @@ use Rattle.std.proofs.lemmas.Bool.{cases_eq}
 use Rattle.std.proofs.lemmas.Option.{same_Some}
 use Rattle.mt_operation.specs.declared.operation.Operation.{Operation}
 use Rattle.mt_operation.specs.declared.walk.Walk.{Walk}
-use Rattle.mt_operation.specs.Operations.{moved, is_done, is_unfinished}
+use Rattle.mt_operation.specs.Operations.{moved, is_unfinished}
+use Rattle.mt_operation.specs.Phases.{is_done}
 use Rattle.mt_operation.specs.Tables.{Table, op_at, MayMove}
 use Rattle.mt_operation.proofs.Tables.{set_is, set_there}
 

@@ -4,14 +4,14 @@ use Rattle.std.proofs.lemmas.Option.{same_Some}
 use Rattle.mt_rows.specs.declared.reply.Reply.{Reply}
 use Rattle.mt_rows.specs.declared.reply.Reply.TheVariants as replies
 use Rattle.mt_rows.specs.Maps.{is_change}
-use Rattle.mt_operation.specs.declared.walk.Phase.{Phase}
-use Rattle.mt_operation.specs.declared.walk.Phase.TheVariants.{Enter, Search, Load, Confirm, Judge, SplitStart, SplitPrev, LockParent, InsertChild, InteriorSplit, Reparent, RootGrow, MakeLayer, Unlock, Done}
+use Rattle.mt_operation.specs.declared.phase.Phase.{Phase}
+use Rattle.mt_operation.specs.declared.phase.Phase.TheVariants.{Enter, Search, Load, Confirm, Judge, SplitStart, SplitPrev, LockParent, InsertChild, InteriorSplit, Reparent, RootGrow, MakeLayer, Unlock, Done}
 use Rattle.mt_operation.specs.declared.outcome.Outcome.{Outcome}
-use Rattle.mt_operation.specs.Operations.{OperationView, is_done}
+use Rattle.mt_operation.specs.Operations.{OperationView}
+use Rattle.mt_operation.specs.Phases.{is_done, MayFollow, is_unplaced}
 use Rattle.mt_state.specs.Views.{StateView}
-use Rattle.mt_state.specs.Steps.{MayFollow, told_change}
+use Rattle.mt_state.specs.Steps.{told_change}
 use Rattle.mt_state.specs.Notes.{Says, Notes}
-use Rattle.mt_state.specs.Invariant.{is_unplaced}
 
 -- the change of which an outcome tells, by its number
 pub told_change-of : (reply : Reply) (at : ℕ) → is_change reply ≡ true → told_change (Some (record { reply = reply; at = at })) ≡ Some at

@@ -16,9 +16,10 @@ use Rattle.mt_runs.specs.WrongRuns.{key_k, get_k}
 use Rattle.mt_slices.specs.Keys.{stored_key}
 use Rattle.mt_border.proofs.ContentsKeys.{in_top_tree}
 use Rattle.mt_arena.specs.Accesses.{new_arena}
-use Rattle.mt_operation.specs.declared.walk.Phase.TheVariants.{Search, Confirm, Done}
+use Rattle.mt_operation.specs.declared.phase.Phase.TheVariants.{Search, Confirm, Done}
 use Rattle.mt_operation.specs.declared.outcome.Outcome.{Outcome}
-use Rattle.mt_operation.specs.Operations.{OperationView, is_done}
+use Rattle.mt_operation.specs.Operations.{OperationView}
+use Rattle.mt_operation.specs.Phases.{is_done}
 use Rattle.mt_descent.specs.Kept.{GoesThrough}
 use Rattle.mt_state.specs.Views.{StateView, op_at, quota_of}
 use Rattle.mt_state.specs.Steps.{HasMoved, change_in}

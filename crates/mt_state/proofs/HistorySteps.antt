@@ -16,8 +16,9 @@ use Rattle.mt_runs.proofs.Steps.{owner_in, owner_stays, owner_cases, new_owner, 
 use Rattle.mt_runs.proofs.Growth.{right_step}
 use Rattle.mt_rows.specs.declared.command.Command.{Command}
 use Rattle.mt_rows.specs.declared.command.Command.TheVariants.{Scan}
-use Rattle.mt_operation.specs.declared.walk.Phase.{Phase}
-use Rattle.mt_operation.specs.Operations.{OperationView, is_done}
+use Rattle.mt_operation.specs.declared.phase.Phase.{Phase}
+use Rattle.mt_operation.specs.Operations.{OperationView}
+use Rattle.mt_operation.specs.Phases.{is_done}
 use Rattle.mt_state.specs.Views.{StateView, contents_of, map_of, changed_at, quota_of, IsPlaced}
 use Rattle.mt_state.specs.Steps.{told_change, change_in}
 use Rattle.mt_state.specs.Notes.{Notes}

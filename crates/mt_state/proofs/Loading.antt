@@ -37,24 +37,25 @@ use Rattle.mt_arena.specs.Ways.{StandsFor}
 use Rattle.mt_arena.proofs.Homes as homes
 use Rattle.mt_arena.proofs.Owners.{found}
 use Rattle.mt_operation.specs.declared.task.Task.{Task}
-use Rattle.mt_operation.specs.declared.walk.Phase.{Phase}
-use Rattle.mt_operation.specs.declared.walk.Phase.TheVariants.{Enter, Load, Confirm, Done}
+use Rattle.mt_operation.specs.declared.phase.Phase.{Phase}
+use Rattle.mt_operation.specs.declared.phase.Phase.TheVariants.{Enter, Load, Confirm, Done}
 use Rattle.mt_operation.specs.declared.walk.Taken.{Taken}
 use Rattle.mt_operation.specs.declared.walk.Taken.TheVariants as takens
 use Rattle.mt_operation.specs.declared.walk.Walk.{Walk}
 use Rattle.mt_operation.specs.declared.outcome.Outcome.{Outcome}
 use Rattle.mt_operation.specs.declared.operation.Operation.{Operation}
 use Rattle.mt_operation.specs.Tasks.{ask}
-use Rattle.mt_operation.specs.Operations.{view_of, is_done}
+use Rattle.mt_operation.specs.Operations.{view_of}
+use Rattle.mt_operation.specs.Phases.{is_done, MayFollow, IsOfKind}
 use Rattle.mt_operation.specs.Tables.{op_at as operation_at}
 use Rattle.mt_descent.specs.Pasts.{Past, AreStamped}
 use Rattle.mt_descent.specs.Kept.{IsInSlot, IsAtLoad as WalksLoad, KeptAt, IsKept}
 use Rattle.mt_descent.specs.Moves.{Continues, Loads, TakesOut}
 use Rattle.mt_state.specs.Views.{StateView, Core, shown, past_of}
-use Rattle.mt_state.specs.Steps.{MayFollow, told_change}
+use Rattle.mt_state.specs.Steps.{told_change}
 use Rattle.mt_state.specs.Notes.{Notes, Says, columns_asked, ShowsRow, ShowsNone}
 use Rattle.mt_state.specs.Ways.{ShowsTaken}
-use Rattle.mt_state.specs.Kept.{IsOfKind, IsOpenOperation, TellsTaken, IsAtLoad, IsAtConfirm, HasAnswer, IsKeptAt}
+use Rattle.mt_state.specs.Kept.{IsOpenOperation, TellsTaken, IsAtLoad, IsAtConfirm, HasAnswer, IsKeptAt}
 use Rattle.mt_state.specs.Invariant.{IsStampOf, StateInvariant}
 use Rattle.mt_state.proofs.Replies.{get_asks}
 use Rattle.mt_state.proofs.LiveTrees.{slot_key}

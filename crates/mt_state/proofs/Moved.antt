@@ -9,8 +9,9 @@ use Rattle.mt_operation.specs.declared.splits.Splits.{Splits}
 use Rattle.mt_operation.specs.declared.operation.Operation.{Operation}
 use Rattle.mt_operation.specs.Operations.{view_of, moved}
 use Rattle.mt_state.specs.Views.{Core}
-use Rattle.mt_state.specs.Steps.{MayFollow, HasMoved}
-use Rattle.mt_state.specs.Kept.{IsOfKind, IsOpenOperation}
+use Rattle.mt_state.specs.Steps.{HasMoved}
+use Rattle.mt_operation.specs.Phases.{MayFollow, IsOfKind}
+use Rattle.mt_state.specs.Kept.{IsOpenOperation}
 
 -- the number of an operation's first step, once it has made one
 pub first_is : (n step : ℕ) → ((n ≡ 0) × (cond (eqb n 0) step n ≡ step)) ⊎ ((0 < n) × (cond (eqb n 0) step n ≡ n))

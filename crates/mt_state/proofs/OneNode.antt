@@ -19,19 +19,20 @@ use Rattle.mt_arena.specs.Contents.{counts, is_live}
 use Rattle.mt_arena.specs.Arena.{ArenaView, content_of, Guarantee}
 use Rattle.mt_arena.specs.Accesses.{at, with_node}
 use Rattle.mt_arena.proofs.Pairs.{here, there}
-use Rattle.mt_operation.specs.declared.walk.Phase.{Phase}
+use Rattle.mt_operation.specs.declared.phase.Phase.{Phase}
 use Rattle.mt_operation.specs.declared.walk.Walk.{Walk}
 use Rattle.mt_operation.specs.declared.outcome.Outcome.{Outcome}
 use Rattle.mt_operation.specs.declared.prepared.Prepared.{Prepared}
 use Rattle.mt_operation.specs.declared.splits.Splits.{Splits}
 use Rattle.mt_operation.specs.declared.operation.Operation.{Operation}
-use Rattle.mt_operation.specs.Operations.{view_of, is_done, IsUnsplit}
+use Rattle.mt_operation.specs.Operations.{view_of, IsUnsplit}
+use Rattle.mt_operation.specs.Phases.{is_done, MayFollow, IsOfKind, has_splits}
 use Rattle.mt_operation.specs.Tables.{op_at as operation_at}
 use Rattle.mt_state.specs.Views.{StateView, Core, shown, KeepsPast}
-use Rattle.mt_state.specs.Steps.{MayFollow, change_in}
+use Rattle.mt_state.specs.Steps.{change_in}
 use Rattle.mt_state.specs.Notes.{Notes}
 use Rattle.mt_state.specs.Promises.{Touches}
-use Rattle.mt_state.specs.Kept.{IsOfKind, IsUnlocking, IsReturning, IsKeptAt, has_splits, IsKeptOf}
+use Rattle.mt_state.specs.Kept.{IsUnlocking, IsReturning, IsKeptAt, IsKeptOf}
 use Rattle.mt_state.specs.Invariant.{IsCountedUpTo, IsUnremoved, HoldsAt, StateInvariant, one_if_prepared}
 use Rattle.mt_state.specs.Writes.{HasPairsOf}
 use Rattle.mt_state.proofs.Quiet.{quiet, LeavesPairs, quiet_move, is_quiet}

@@ -30,13 +30,14 @@ use Rattle.mt_arena.specs.Arena.{ArenaView, IsArena, content_of}
 use Rattle.mt_arena.specs.Accesses.{at, tree_of}
 use Rattle.mt_arena.proofs.Pairs.{here, there}
 use Rattle.mt_arena.proofs.Steps.{keys_of}
-use Rattle.mt_operation.specs.declared.walk.Phase.{Phase}
-use Rattle.mt_operation.specs.declared.walk.Phase.TheVariants.{SplitMove}
+use Rattle.mt_operation.specs.declared.phase.Phase.{Phase}
+use Rattle.mt_operation.specs.declared.phase.Phase.TheVariants.{SplitMove}
 use Rattle.mt_operation.specs.declared.walk.Walk.{Walk}
 use Rattle.mt_operation.specs.declared.outcome.Outcome.{Outcome}
 use Rattle.mt_operation.specs.declared.operation.Operation.{Operation}
 use Rattle.mt_operation.specs.Tasks.{ask}
-use Rattle.mt_operation.specs.Operations.{view_of, is_done}
+use Rattle.mt_operation.specs.Operations.{view_of}
+use Rattle.mt_operation.specs.Phases.{is_done, MayFollow, IsOfKind}
 use Rattle.mt_operation.specs.Tables.{op_at as operation_at}
 use Rattle.mt_insert.specs.Puts.{IsPut, row_over}
 use Rattle.mt_insert.specs.Moves.{entry_of, pushed, released}
@@ -44,10 +45,10 @@ use Rattle.mt_insert.specs.Splitting.{last_of}
 use Rattle.mt_insert.specs.SplitMoves.{after_parting}
 use Rattle.mt_insert.proofs.PartingKeys.{may_place}
 use Rattle.mt_state.specs.Views.{Core, shown, map_of, quota_of}
-use Rattle.mt_state.specs.Steps.{MayFollow, told_change}
+use Rattle.mt_state.specs.Steps.{told_change}
 use Rattle.mt_state.specs.Notes.{IsJudged, Notes}
 use Rattle.mt_state.specs.Promises.{Touches}
-use Rattle.mt_state.specs.Kept.{IsOfKind, IsOpenOperation, IsSplitMoving, HasAnswer, IsKeptAt, IsPlacedOnce, IsKeptOf}
+use Rattle.mt_state.specs.Kept.{IsOpenOperation, IsSplitMoving, HasAnswer, IsKeptAt, IsPlacedOnce, IsKeptOf}
 use Rattle.mt_state.specs.Invariant.{IsStampOf, IsCountedUpTo, IsUnremoved, StateInvariant}
 use Rattle.mt_state.specs.Moves.{IsMove}
 use Rattle.mt_state.specs.Writes.{PartsKeys, PartsWith, PartsWithout, splitting}

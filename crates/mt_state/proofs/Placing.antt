@@ -24,7 +24,8 @@ use Rattle.mt_arena.specs.Accesses.{at}
 use Rattle.mt_operation.specs.declared.task.Task.{Task}
 use Rattle.mt_operation.specs.declared.operation.Operation.{Operation}
 use Rattle.mt_operation.specs.Tasks.{ask}
-use Rattle.mt_operation.specs.Operations.{view_of, is_done}
+use Rattle.mt_operation.specs.Operations.{view_of}
+use Rattle.mt_operation.specs.Phases.{is_done}
 use Rattle.mt_operation.specs.Tables.{op_at as operation_at}
 use Rattle.mt_insert.specs.Puts.{IsPut, change_of, row_over, write_of}
 use Rattle.mt_insert.specs.Moves.{pushed}

@@ -41,13 +41,14 @@ use Rattle.mt_arena.specs.Accesses.{at, tree_of, with_node, with_row}
 use Rattle.mt_arena.proofs.Homes as homes
 use Rattle.mt_arena.proofs.Elsewhere.{stands_once}
 use Rattle.mt_arena.proofs.Steps.{keys_of}
-use Rattle.mt_operation.specs.declared.walk.Phase.{Phase}
-use Rattle.mt_operation.specs.declared.walk.Phase.TheVariants.{Enter, Store, Publish, Unlock}
+use Rattle.mt_operation.specs.declared.phase.Phase.{Phase}
+use Rattle.mt_operation.specs.declared.phase.Phase.TheVariants.{Enter, Store, Publish, Unlock}
 use Rattle.mt_operation.specs.declared.walk.Walk.{Walk}
 use Rattle.mt_operation.specs.declared.splits.Halves.{Halves}
 use Rattle.mt_operation.specs.declared.operation.Operation.{Operation}
 use Rattle.mt_operation.specs.Tasks.{ask}
-use Rattle.mt_operation.specs.Operations.{view_of, is_done}
+use Rattle.mt_operation.specs.Operations.{view_of}
+use Rattle.mt_operation.specs.Phases.{is_done, MayFollow, IsOfKind, has_splits, is_prepared}
 use Rattle.mt_operation.specs.Tables.{op_at as operation_at}
 use Rattle.mt_descent.specs.Moves.{Continues}
 use Rattle.mt_insert.specs.Puts.{IsPut, row_over}
@@ -55,10 +56,9 @@ use Rattle.mt_insert.specs.Kept.{HoldsBorder, IsAtUnlock}
 use Rattle.mt_insert.specs.Moves.{walk_placed, entry_of, pushed, Places}
 use Rattle.mt_insert.proofs.Places.{may_store, may_publish}
 use Rattle.mt_state.specs.Views.{StateView, Core, shown, quota_of, quota_in, granted_in}
-use Rattle.mt_state.specs.Steps.{MayFollow}
 use Rattle.mt_state.specs.Notes.{Notes}
-use Rattle.mt_state.specs.Kept.{IsOfKind, IsOpenOperation, IsStoring, IsPublishing, MayUnlock, IsUnlocking, IsKeptAt, has_splits, IsPlacedOnce, IsKeptOf}
-use Rattle.mt_state.specs.Invariant.{IsStampOf, HoldsLast, HoldsAt, StateInvariant, is_prepared}
+use Rattle.mt_state.specs.Kept.{IsOpenOperation, IsStoring, IsPublishing, MayUnlock, IsUnlocking, IsKeptAt, IsPlacedOnce, IsKeptOf}
+use Rattle.mt_state.specs.Invariant.{IsStampOf, HoldsLast, HoldsAt, StateInvariant}
 use Rattle.mt_state.proofs.Replies.{put_there, put_new}
 use Rattle.mt_state.proofs.Telling.{Gives, gives}
 use Rattle.mt_state.proofs.Placing.{Counts, next_write, placed, PlacesPair, untouched_beside, untouched_now, placed_move, placed_right, is_placing, placed_once}

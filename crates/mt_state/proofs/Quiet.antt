@@ -11,7 +11,8 @@ use Rattle.mt_arena.specs.Arena.{ArenaView, content_of, Guarantee}
 use Rattle.mt_arena.specs.Contents.{counts}
 use Rattle.mt_arena.specs.Accesses.{at, tree_of}
 use Rattle.mt_operation.specs.declared.operation.Operation.{Operation}
-use Rattle.mt_operation.specs.Operations.{view_of, is_done}
+use Rattle.mt_operation.specs.Operations.{view_of}
+use Rattle.mt_operation.specs.Phases.{is_done}
 use Rattle.mt_operation.specs.Tables.{op_at as operation_at}
 use Rattle.mt_state.specs.Views.{Core, shown, KeepsPast}
 use Rattle.mt_state.specs.Steps.{change_in}

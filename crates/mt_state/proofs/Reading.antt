@@ -25,24 +25,25 @@ use Rattle.mt_arena.specs.Layers.{slot_at}
 use Rattle.mt_arena.specs.Arena.{IsArena, content_of}
 use Rattle.mt_arena.specs.Accesses.{at}
 use Rattle.mt_arena.proofs.Places.{same_slot}
-use Rattle.mt_operation.specs.declared.walk.Phase.{Phase}
-use Rattle.mt_operation.specs.declared.walk.Phase.TheVariants.{Enter, Pick, Child, Verify, Search, Load, Confirm, Forward, Lock}
+use Rattle.mt_operation.specs.declared.phase.Phase.{Phase}
+use Rattle.mt_operation.specs.declared.phase.Phase.TheVariants.{Enter, Pick, Child, Verify, Search, Load, Confirm, Forward, Lock}
 use Rattle.mt_operation.specs.declared.walk.Taken.{Taken}
 use Rattle.mt_operation.specs.declared.walk.Taken.TheVariants as takens
 use Rattle.mt_operation.specs.declared.walk.Walk.{Walk}
 use Rattle.mt_operation.specs.declared.outcome.Outcome.{Outcome}
 use Rattle.mt_operation.specs.declared.operation.Operation.{Operation}
 use Rattle.mt_operation.specs.Tasks.{ask}
-use Rattle.mt_operation.specs.Operations.{OperationView, view_of, is_done, moved}
+use Rattle.mt_operation.specs.Operations.{OperationView, view_of, moved}
+use Rattle.mt_operation.specs.Phases.{is_done, MayFollow, IsDescent, IsOfKind}
 use Rattle.mt_operation.specs.Tables.{op_at as operation_at}
 use Rattle.mt_descent.specs.Pasts.{Past, IsNow}
 use Rattle.mt_descent.specs.Kept.{GoesThrough, IsInSlot, HasSlot, IsAtBorder, KeptAt, IsKept}
 use Rattle.mt_descent.specs.Moves.{FindsIn, after_search}
 use Rattle.mt_state.specs.Views.{StateView, Core, shown, past_of}
-use Rattle.mt_state.specs.Steps.{MayFollow, told_change}
+use Rattle.mt_state.specs.Steps.{told_change}
 use Rattle.mt_state.specs.Notes.{Notes}
-use Rattle.mt_state.specs.Ways.{IsDescent, IsOnWay, Descends}
-use Rattle.mt_state.specs.Kept.{IsOfKind, IsOpenOperation, TellsTaken, IsOnItsWay, IsAtLoad, IsAtConfirm, IsKeptAt}
+use Rattle.mt_state.specs.Ways.{IsOnWay, Descends}
+use Rattle.mt_state.specs.Kept.{IsOpenOperation, TellsTaken, IsOnItsWay, IsAtLoad, IsAtConfirm, IsKeptAt}
 use Rattle.mt_state.specs.Invariant.{StateInvariant}
 use Rattle.mt_state.proofs.Descents.{first_aside}
 use Rattle.mt_state.proofs.Telling.{Gives}

@@ -12,25 +12,26 @@ use Rattle.mt_arena.specs.Forests.{tree_at}
 use Rattle.mt_arena.specs.Contents.{counts}
 use Rattle.mt_arena.specs.Arena.{ArenaView, content_of, Guarantee}
 use Rattle.mt_arena.specs.Accesses.{at, IsHeld, with_node}
-use Rattle.mt_operation.specs.declared.walk.Phase.{Phase}
-use Rattle.mt_operation.specs.declared.walk.Phase.TheVariants.{Enter, SplitStart, SplitMove, SplitPrev, LockParent, InsertChild, InteriorSplit, Reparent, RootGrow, Unlock, Done}
+use Rattle.mt_operation.specs.declared.phase.Phase.{Phase}
+use Rattle.mt_operation.specs.declared.phase.Phase.TheVariants.{Enter, SplitStart, SplitMove, SplitPrev, LockParent, InsertChild, InteriorSplit, Reparent, RootGrow, Unlock, Done}
 use Rattle.mt_operation.specs.declared.walk.Walk.{Walk}
 use Rattle.mt_operation.specs.declared.outcome.Outcome.{Outcome}
 use Rattle.mt_operation.specs.declared.splits.Halves.{Halves}
 use Rattle.mt_operation.specs.declared.splits.Splits.{Splits}
 use Rattle.mt_operation.specs.declared.operation.Operation.{Operation}
-use Rattle.mt_operation.specs.Operations.{OperationView, view_of, is_done}
+use Rattle.mt_operation.specs.Operations.{OperationView, view_of}
+use Rattle.mt_operation.specs.Phases.{is_done, MayFollow, IsOfKind, has_splits, IsClimb}
 use Rattle.mt_operation.specs.Tables.{op_at as operation_at}
 use Rattle.mt_insert.specs.Moves.{released}
 use Rattle.mt_insert.specs.Splitting.{IsAmong, IsAtSplitMove, IsAtUnlockAll, KeptSplit}
 use Rattle.mt_insert.specs.SplitMoves.{Returns}
 use Rattle.mt_state.specs.Views.{StateView, Core, shown}
-use Rattle.mt_state.specs.Steps.{MayFollow, told_change}
+use Rattle.mt_state.specs.Steps.{told_change}
 use Rattle.mt_state.specs.Notes.{Notes}
 use Rattle.mt_state.specs.Promises.{IsAnswer, Touches}
-use Rattle.mt_state.specs.Kept.{IsOfKind, IsOpenOperation, IsSplitStarting, IsSplitMoving, HasAnswer, MayUnlock, IsUnlocking, IsKeptAt, has_splits}
+use Rattle.mt_state.specs.Kept.{IsOpenOperation, IsSplitStarting, IsSplitMoving, HasAnswer, MayUnlock, IsUnlocking, IsKeptAt}
 use Rattle.mt_state.specs.Invariant.{IsCountedUpTo, IsUnremoved, HoldsLast, HoldsAt, StateInvariant}
-use Rattle.mt_state.specs.Writes.{HasPairsOf, MovesNoPair, IsClimb, StartsSplit, StopsSplit, Climbs, ReturnsAll, splitting}
+use Rattle.mt_state.specs.Writes.{HasPairsOf, MovesNoPair, StartsSplit, StopsSplit, Climbs, ReturnsAll, splitting}
 use Rattle.mt_state.proofs.Rely.{answer_stays}
 use Rattle.mt_state.proofs.Telling.{Gives}
 use Rattle.mt_state.proofs.Quiet.{LeavesPairs}

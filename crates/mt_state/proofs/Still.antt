@@ -6,18 +6,19 @@ use Rattle.mt_tape.proofs.EntryLaws.{floor_upto_last}
 use Rattle.mt_arena.specs.Arena.{ArenaView, Guarantee}
 use Rattle.mt_arena.specs.Accesses.{at}
 use Rattle.mt_arena.proofs.Guarantees.{guarantee_none}
-use Rattle.mt_operation.specs.declared.walk.Phase.{Phase}
-use Rattle.mt_operation.specs.declared.walk.Phase.TheVariants.{Enter, Pick, Child, Verify, Search, Load, Confirm, Forward, Lock, Judge, Store, Publish, SplitStart, SplitMove, SplitPrev, LockParent, InsertChild, InteriorSplit, Reparent, RootGrow, MakeLayer, MarkUnstable, Link, MarkLayer, Unlock, Done}
+use Rattle.mt_operation.specs.declared.phase.Phase.{Phase}
+use Rattle.mt_operation.specs.declared.phase.Phase.TheVariants.{Enter, Pick, Child, Verify, Search, Load, Confirm, Forward, Lock, Judge, Store, Publish, SplitStart, SplitMove, SplitPrev, LockParent, InsertChild, InteriorSplit, Reparent, RootGrow, MakeLayer, MarkUnstable, Link, MarkLayer, Unlock, Done}
 use Rattle.mt_operation.specs.declared.walk.Walk.{Walk}
 use Rattle.mt_operation.specs.declared.outcome.Outcome.{Outcome}
 use Rattle.mt_operation.specs.declared.splits.Splits.{Splits}
 use Rattle.mt_operation.specs.declared.operation.Operation.{Operation}
-use Rattle.mt_operation.specs.Operations.{view_of, is_done}
+use Rattle.mt_operation.specs.Operations.{view_of}
+use Rattle.mt_operation.specs.Phases.{is_done, MayFollow, IsOfKind, has_splits}
 use Rattle.mt_operation.specs.Tables.{op_at as operation_at}
 use Rattle.mt_state.specs.Views.{StateView, Core, shown}
-use Rattle.mt_state.specs.Steps.{MayFollow, change_in}
+use Rattle.mt_state.specs.Steps.{change_in}
 use Rattle.mt_state.specs.Notes.{Notes}
-use Rattle.mt_state.specs.Kept.{IsOfKind, IsKeptAt, has_splits, IsKeptOf}
+use Rattle.mt_state.specs.Kept.{IsKeptAt, IsKeptOf}
 use Rattle.mt_state.specs.Invariant.{IsTape, HoldsAt, StateInvariant, one_if_prepared}
 use Rattle.mt_state.proofs.Quiet.{quiet, LeavesPairs, quiet_move, is_quiet}
 use Rattle.mt_state.proofs.Telling.{Gives, gives}

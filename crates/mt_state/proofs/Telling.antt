@@ -4,10 +4,11 @@ use Rattle.std.specs.Prelude.{◌^◌}
 use Rattle.mt_rows.specs.Tenants.{tenant_map}
 use Rattle.mt_tape.proofs.TapeLaws.{contents_at-now}
 use Rattle.mt_arena.specs.Arena.{content_of}
-use Rattle.mt_operation.specs.declared.walk.Phase.{Phase}
-use Rattle.mt_operation.specs.declared.walk.Phase.TheVariants.{Done}
+use Rattle.mt_operation.specs.declared.phase.Phase.{Phase}
+use Rattle.mt_operation.specs.declared.phase.Phase.TheVariants.{Done}
 use Rattle.mt_operation.specs.declared.operation.Operation.{Operation}
-use Rattle.mt_operation.specs.Operations.{view_of, is_done}
+use Rattle.mt_operation.specs.Operations.{view_of}
+use Rattle.mt_operation.specs.Phases.{is_done}
 use Rattle.mt_state.specs.Views.{StateView, Core, shown, map_of}
 use Rattle.mt_state.specs.Promises.{IsStep}
 use Rattle.mt_state.specs.Kept.{HasAnswer, IsKeptAt}

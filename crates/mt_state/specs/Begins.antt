@@ -7,9 +7,10 @@ use Rattle.mt_rows.specs.Accounts.{Accounts, account_of}
 use Rattle.mt_rows.specs.Maps.{is_get}
 use Rattle.mt_runs.specs.declared.event.Answer.{Answer}
 use Rattle.mt_arena.specs.Accesses.{new_arena}
-use Rattle.mt_operation.specs.declared.walk.Phase.TheVariants.{Enter, Done}
+use Rattle.mt_operation.specs.declared.phase.Phase.TheVariants.{Enter, Done}
 use Rattle.mt_operation.specs.Walks.{walk_from_top}
-use Rattle.mt_operation.specs.Operations.{OperationView, no_splits, is_done}
+use Rattle.mt_operation.specs.Operations.{OperationView, no_splits}
+use Rattle.mt_operation.specs.Phases.{is_done}
 use Rattle.mt_state.specs.Views.{StateView, Shown, op_at}
 use Rattle.mt_state.specs.Promises.{IsAnswer}
 

@@ -16,7 +16,7 @@ use Rattle.mt_operation.specs.Operations.{OperationView}
 use Rattle.mt_state.specs.Views.{StateView, Shown, op_at, map_of, changed_at, quota_of}
 use Rattle.mt_state.specs.Steps.{change_in}
 use Rattle.mt_state.specs.Promises.{IsStep, IsHeldByOther, HasStep, IsPlacedToGrow}
-use Rattle.mt_state.specs.Invariant.{is_unplaced}
+use Rattle.mt_operation.specs.Phases.{is_unplaced}
 use Rattle.mt_state.specs.Refused.{IsAdmissible, IsRefusal}
 use Rattle.mt_state.specs.Begins.{IsWorker, MayBegin, Begins, Takes}
 

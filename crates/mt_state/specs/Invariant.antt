@@ -1,5 +1,5 @@
 -- The invariant of a state, and what a step of one operation leaves of it to all others.
-use Rattle.std.specs.Prelude.{◌≡◌, ◌≢◌, ℕ, ◌+◌, ◌==◌, ◌≤◌, ◌<◌, ◌^◌, Bool, true, false, if◌then◌else◌, List, [], ◌∷◌, length, Option, Some, None, IsSome}
+use Rattle.std.specs.Prelude.{◌≡◌, ◌≢◌, ℕ, ◌+◌, ◌==◌, ◌≤◌, ◌<◌, ◌^◌, true, false, if◌then◌else◌, List, [], ◌∷◌, length, Option, Some, None, IsSome}
 use Rattle.std.specs.List.{All, Contains}
 use Rattle.std.specs.FinMap.{len}
 use Rattle.mt_rows.specs.declared.tenants.Account.{Account}
@@ -17,8 +17,8 @@ use Rattle.mt_arena.specs.Contents.{counts}
 use Rattle.mt_arena.specs.declared.tree.Standing.TheVariants.{Dead}
 use Rattle.mt_arena.specs.Forests.{tree_at}
 use Rattle.mt_arena.specs.Accesses.{at, tree_of}
-use Rattle.mt_operation.specs.declared.walk.Phase.{Phase}
-use Rattle.mt_operation.specs.declared.walk.Phase.TheVariants.{Judge, Store, Publish, SplitStart, SplitMove, SplitPrev, LockParent, InsertChild, InteriorSplit, Reparent, RootGrow, MakeLayer, MarkUnstable, Link, MarkLayer, Unlock, Done}
+use Rattle.mt_operation.specs.declared.phase.Phase.{Phase}
+use Rattle.mt_operation.specs.Phases.{Holding, Free, Border, Parts, Last, row, is_prepared}
 use Rattle.mt_operation.specs.declared.walk.Walk.{Walk}
 use Rattle.mt_operation.specs.declared.splits.Halves.{Halves}
 use Rattle.mt_operation.specs.declared.splits.Splits.{Splits}
@@ -66,38 +66,20 @@ abbrev pub HoldsLast : List Halves → Walk → Splits → ℕ → Type 0
 HoldsLast [] w s k = k ≡ w.place.node
 HoldsLast (_ ∷ _) w s k = IsAmong s k
 
--- a node that an operation holds, by its phase
+-- a node that an operation holds, by what its phase holds
+abbrev pub HoldsBy : Holding → Walk → Splits → ℕ → Type 0
+HoldsBy Free w s k = ⊥
+HoldsBy Border w s k = k ≡ w.place.node
+HoldsBy Parts w s k = IsAmong s k
+HoldsBy Last w s k = HoldsLast s.halves.items w s k
+
 abbrev pub HoldsAt : Phase → Walk → Splits → ℕ → Type 0
-HoldsAt Judge w s k = k ≡ w.place.node
-HoldsAt Store w s k = k ≡ w.place.node
-HoldsAt Publish w s k = k ≡ w.place.node
-HoldsAt SplitStart w s k = k ≡ w.place.node
-HoldsAt SplitMove w s k = IsAmong s k
-HoldsAt SplitPrev w s k = IsAmong s k
-HoldsAt LockParent w s k = IsAmong s k
-HoldsAt InsertChild w s k = IsAmong s k
-HoldsAt InteriorSplit w s k = IsAmong s k
-HoldsAt Reparent w s k = IsAmong s k
-HoldsAt RootGrow w s k = IsAmong s k
-HoldsAt MakeLayer w s k = k ≡ w.place.node
-HoldsAt MarkUnstable w s k = k ≡ w.place.node
-HoldsAt Link w s k = k ≡ w.place.node
-HoldsAt MarkLayer w s k = k ≡ w.place.node
-HoldsAt Unlock w s k = HoldsLast s.halves.items w s k
-HoldsAt _ w s k = ⊥
+HoldsAt p w s k = HoldsBy (row p).holds w s k
 
 -- who holds a node is an operation that is there, at a phase in which it holds that node
 abbrev pub AreHolders : Core → Type 0
 AreHolders c = (k o : ℕ) → k < length c.arena.nodes → (at c.arena k).holder ≡ Some o →
     (op : Operation) × (operation_at c.table o ≡ Some op) × HoldsAt op.walk.phase op.walk op.splits k
-
--- whether an operation has all ready for its write
-abbrev pub is_prepared : Phase → Bool
-is_prepared Store = true
-is_prepared Publish = true
-is_prepared SplitStart = true
-is_prepared SplitMove = true
-is_prepared _ = false
 
 -- how many operations have
 abbrev pub one_if_prepared : Option Operation → ℕ
@@ -125,18 +107,6 @@ AreCounted c = (t : ℕ) (a : Account) → account_of c.accounts t ≡ Some a �
 -- what is kept of all operations
 abbrev pub AreKept : Core → Type 0
 AreKept c = (o : ℕ) (op : Operation) → operation_at c.table o ≡ Some op → IsKeptOf c o op
-
--- an operation at this phase may still place its change
-abbrev pub is_unplaced : Phase → Bool
-is_unplaced SplitPrev = false
-is_unplaced LockParent = false
-is_unplaced InsertChild = false
-is_unplaced InteriorSplit = false
-is_unplaced Reparent = false
-is_unplaced RootGrow = false
-is_unplaced Unlock = false
-is_unplaced Done = false
-is_unplaced _ = true
 
 -- as long as no phase takes a node out: each node is live, and no tree is dead
 pub record IsUnremoved (v : ArenaView) : Type 0 where

@@ -1,5 +1,5 @@
 -- What a state keeps of each operation, by its phase.
-use Rattle.std.specs.Prelude.{◌≡◌, ◌≢◌, ℕ, ◌≤◌, ◌<◌, Bool, not, true, false, List, [], ◌∷◌, Option, Some, None, IsSome}
+use Rattle.std.specs.Prelude.{◌≡◌, ◌≢◌, ℕ, ◌≤◌, ◌<◌, not, false, List, [], ◌∷◌, Option, Some, None, IsSome}
 use Rattle.std.specs.List.{Contains}
 use Rattle.mt_slices.specs.Keys.{IsStoredKey}
 use Rattle.mt_rows.specs.declared.reply.Reply.TheVariants as replies
@@ -12,14 +12,15 @@ use Rattle.mt_border.specs.Contents.{owned}
 use Rattle.mt_tape.specs.declared.entry.Entry.{Entry as TapeEntry}
 use Rattle.mt_arena.specs.Arena.{ArenaView}
 use Rattle.mt_arena.specs.Accesses.{at}
-use Rattle.mt_operation.specs.declared.walk.Phase.{Phase}
-use Rattle.mt_operation.specs.declared.walk.Phase.TheVariants as phases
-use Rattle.mt_operation.specs.declared.walk.Phase.TheVariants.{Enter, Pick, Child, Verify, Search, Load, Confirm, Forward, Lock, Judge, Store, Publish, SplitStart, SplitMove, SplitPrev, LockParent, InsertChild, InteriorSplit, Reparent, RootGrow, MakeLayer, MarkUnstable, MarkLayer, Unlock, Done}
+use Rattle.mt_operation.specs.declared.phase.Phase.{Phase}
+use Rattle.mt_operation.specs.declared.phase.Phase.TheVariants as phases
+use Rattle.mt_operation.specs.declared.phase.Phase.TheVariants.{Enter, Pick, Child, Verify, Search, Load, Confirm, Forward, Lock, Judge, Store, Publish, SplitStart, SplitMove, SplitPrev, LockParent, InsertChild, InteriorSplit, Reparent, RootGrow, MakeLayer, MarkUnstable, MarkLayer, Unlock, Done}
 use Rattle.mt_operation.specs.declared.walk.Taken.{Taken}
 use Rattle.mt_operation.specs.declared.walk.Taken.TheVariants.{Missing, Row, Link, Nothing}
 use Rattle.mt_operation.specs.declared.outcome.Outcome.{Outcome}
 use Rattle.mt_operation.specs.declared.prepared.Prepared.{Prepared}
 use Rattle.mt_operation.specs.declared.operation.Operation.{Operation}
+use Rattle.mt_operation.specs.Phases.{IsOfKind, has_splits}
 use Rattle.mt_operation.specs.Tasks.{ask}
 use Rattle.mt_operation.specs.declared.splits.Halves.{Halves}
 use Rattle.mt_operation.specs.Operations.{view_of, IsUnsplit}
@@ -32,19 +33,6 @@ use Rattle.mt_state.specs.Views.{Core, shown, past_of}
 use Rattle.mt_state.specs.Notes.{Says, columns_asked}
 use Rattle.mt_state.specs.Steps.{change_in}
 use Rattle.mt_state.specs.Promises.{IsAnswer}
-
--- a phase of gets alone, of writes alone, or of both
-abbrev pub IsOfKind : Phase → Bool → Type 0
-IsOfKind Search writes = writes ≡ false
-IsOfKind Load writes = writes ≡ false
-IsOfKind Confirm writes = writes ≡ false
-IsOfKind Enter writes = Unit {0}
-IsOfKind Pick writes = Unit {0}
-IsOfKind Child writes = Unit {0}
-IsOfKind Verify writes = Unit {0}
-IsOfKind Forward writes = Unit {0}
-IsOfKind Done writes = Unit {0}
-IsOfKind _ writes = writes ≡ true
 
 -- what is kept of every operation: its key is its command's, of a tenant that is there; its numbers are those of steps made; and it has made one
 -- where it isn't at its beginning
@@ -184,18 +172,6 @@ IsKeptAt phases.Link c o op = IsLayering c o op phases.Link
 IsKeptAt MarkLayer c o op = IsLayering c o op MarkLayer
 IsKeptAt Unlock c o op = IsReturning op.outcome c o op
 IsKeptAt Done c o op = HasAnswer c op
-
--- an operation at this phase may have splits
-abbrev pub has_splits : Phase → Bool
-has_splits SplitMove = true
-has_splits SplitPrev = true
-has_splits LockParent = true
-has_splits InsertChild = true
-has_splits InteriorSplit = true
-has_splits Reparent = true
-has_splits RootGrow = true
-has_splits Unlock = true
-has_splits _ = false
 
 -- a change that an operation has made has its entry in the tape, of its step, worker, tenant and key, with the row that the command makes of the one
 -- before

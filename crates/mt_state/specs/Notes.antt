@@ -16,8 +16,8 @@ use Rattle.mt_tape.specs.Histories.{written_key}
 use Rattle.mt_arena.specs.Accesses.{at}
 use Rattle.mt_descent.specs.Kept.{GoesThrough, IsInSlot, HasSlot}
 use Rattle.mt_descent.specs.Moves.{TakesOut}
-use Rattle.mt_operation.specs.declared.walk.Phase.{Phase}
-use Rattle.mt_operation.specs.declared.walk.Phase.TheVariants.{Enter, Search, Load, Confirm, Judge, Store, Publish, SplitStart, SplitMove, SplitPrev, LockParent, InsertChild, InteriorSplit, Reparent, RootGrow, MakeLayer, Unlock, Done}
+use Rattle.mt_operation.specs.declared.phase.Phase.{Phase}
+use Rattle.mt_operation.specs.declared.phase.Phase.TheVariants.{Enter, Search, Load, Confirm, Judge, Store, Publish, SplitStart, SplitMove, SplitPrev, LockParent, InsertChild, InteriorSplit, Reparent, RootGrow, MakeLayer, Unlock, Done}
 use Rattle.mt_operation.specs.declared.walk.Taken.TheVariants.{Row}
 use Rattle.mt_operation.specs.declared.walk.Walk.{Walk}
 use Rattle.mt_operation.specs.declared.outcome.Outcome.{Outcome}

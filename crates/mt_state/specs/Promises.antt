@@ -16,8 +16,7 @@ use Rattle.mt_arena.specs.Edits.{pointed}
 use Rattle.mt_arena.specs.Arena.{ArenaView, Guarantee}
 use Rattle.mt_arena.specs.Forests.{tree_at}
 use Rattle.mt_arena.specs.Accesses.{at}
-use Rattle.mt_operation.specs.declared.walk.Phase.{Phase}
-use Rattle.mt_operation.specs.declared.walk.Phase.TheVariants.{Enter, Child, Verify, Load, Confirm, Forward, Lock, LockParent, InteriorSplit, RootGrow}
+use Rattle.mt_operation.specs.declared.phase.Phase.{Phase}
 use Rattle.mt_operation.specs.declared.walk.Walk.{Walk}
 use Rattle.mt_operation.specs.declared.outcome.Outcome.{Outcome}
 use Rattle.mt_operation.specs.Operations.{OperationView, SplitsView}
@@ -25,7 +24,7 @@ use Rattle.mt_descent.specs.Moves.{IsBlocked, IsBlockedAt}
 use Rattle.mt_state.specs.declared.moves.Move.{Move}
 use Rattle.mt_state.specs.declared.moves.Move.TheVariants.{Moved, Again, NoMemory as NoMemoryMove, Done as DoneMove, Spent, NoSuch}
 use Rattle.mt_state.specs.Views.{StateView, contents_of, op_at, map_of, quota_of, KeepsPast, IsPlaced}
-use Rattle.mt_operation.specs.Operations.{is_done}
+use Rattle.mt_operation.specs.Phases.{Waiting, Never, RootMark, ChildMark, OwnMark, NextMark, OwnSlot, OwnLock, ParentLock, row, is_done, IsToGrow}
 use Rattle.mt_state.specs.Steps.{HasMoved, change_in}
 use Rattle.mt_state.specs.Notes.{key_asked, Notes}
 use Rattle.mt_state.specs.Growth.{MakesFew}
@@ -95,25 +94,31 @@ pub record IsStep (old new : StateView) (o : ℕ) (done : Bool) : Type 0 where
 abbrev pub HasStep : StateView → ℕ → Type 0
 HasStep v o = (op : OperationView) × (op_at v.table o ≡ Some op) × (is_done op.phase ≡ false)
 
--- the node that the next step of an operation reads or locks, at the phases that may have to wait for it
-abbrev pub needed_node : Phase → ArenaView → Walk → SplitsView → Option ℕ
-needed_node Enter v w s = Some (tree_at v.trees w.place.tree).root
-needed_node Child v w s = Some w.child
-needed_node Verify v w s = Some w.place.node
-needed_node Load v w s = Some w.place.node
-needed_node Confirm v w s = Some w.place.node
-needed_node Forward v w s = w.next
-needed_node Lock v w s = Some w.place.node
-needed_node LockParent v w s = (at v (last_half s).left).parent
-needed_node _ v w s = None
+-- the node that a step reads or locks for which it may have to wait
+abbrev pub node_needed : Waiting → ArenaView → Walk → SplitsView → Option ℕ
+node_needed Never v w s = None
+node_needed RootMark v w s = Some (tree_at v.trees w.place.tree).root
+node_needed ChildMark v w s = Some w.child
+node_needed OwnMark v w s = Some w.place.node
+node_needed OwnSlot v w s = Some w.place.node
+node_needed NextMark v w s = w.next
+node_needed OwnLock v w s = Some w.place.node
+node_needed ParentLock v w s = (at v (last_half s).left).parent
 
 -- how that node is in the way: by its lock, where it is to be locked; by the unstable slot, where that is to be loaded; else by its mark; each is its
 -- holder's
+abbrev pub BlocksBy : Waiting → NodeView → ℕ → ℕ → Type 0
+BlocksBy OwnLock n slot holder = n.holder ≡ Some holder
+BlocksBy ParentLock n slot holder = n.holder ≡ Some holder
+BlocksBy OwnSlot n slot holder = IsBlockedAt n slot holder
+BlocksBy _ n slot holder = IsBlocked n holder
+
+-- the same of the step of a phase
+abbrev pub needed_node : Phase → ArenaView → Walk → SplitsView → Option ℕ
+needed_node p v w s = node_needed (row p).waits v w s
+
 abbrev pub Blocks : Phase → NodeView → ℕ → ℕ → Type 0
-Blocks Lock n slot holder = n.holder ≡ Some holder
-Blocks LockParent n slot holder = n.holder ≡ Some holder
-Blocks Load n slot holder = IsBlockedAt n slot holder
-Blocks _ n slot holder = IsBlocked n holder
+Blocks p n slot holder = BlocksBy (row p).waits n slot holder
 
 -- who is in the way of the next step of an operation
 abbrev pub IsInTheWay : ArenaView → Phase → Walk → SplitsView → ℕ → Type 0
@@ -128,11 +133,6 @@ pub record IsHeldByOther (v : StateView) (o holder : ℕ) : Type 0 where
   pub holds : IsInTheWay v.arena op.phase op.walk op.splits holder
 
 -- the operation has been placed, or has found its quota full, and is to make a node
-abbrev pub IsToGrow : Phase → Type 0
-IsToGrow InteriorSplit = Unit {0}
-IsToGrow RootGrow = Unit {0}
-IsToGrow _ = ⊥
-
 pub record IsPlacedToGrow (v : StateView) (o : ℕ) : Type 0 where
   pub op : OperationView
   pub there : op_at v.table o ≡ Some op

@@ -2,29 +2,19 @@
 use Rattle.std.specs.Prelude.{◌≡◌, ℕ, ◌+◌, List, Option, Some, None, slice_set}
 use Rattle.mt_rows.specs.declared.reply.Reply.TheVariants.{Found}
 use Rattle.mt_rows.specs.Rows.{Columns, shown}
-use Rattle.mt_operation.specs.declared.walk.Phase.{Phase}
-use Rattle.mt_operation.specs.declared.walk.Phase.TheVariants.{Enter, Pick, Child, Verify, Search, Forward, Lock}
+use Rattle.mt_operation.specs.declared.phase.Phase.{Phase}
+use Rattle.mt_operation.specs.declared.phase.Phase.TheVariants.{Search, Lock}
 use Rattle.mt_operation.specs.declared.walk.Walk.{Walk}
 use Rattle.mt_descent.specs.Moves.{Continues}
-use Rattle.mt_state.specs.Steps.{MayFollow}
+use Rattle.mt_operation.specs.Phases.{MayFollow, IsOfKind, IsDescent}
 use Rattle.mt_state.specs.Notes.{Says, columns_asked}
 use Rattle.mt_operation.specs.declared.outcome.Outcome.{Outcome}
 use Rattle.mt_operation.specs.declared.operation.Operation.{Operation}
 use Rattle.mt_operation.specs.Tasks.{ask}
 use Rattle.mt_operation.specs.Operations.{moved}
 use Rattle.mt_state.specs.Views.{Core}
-use Rattle.mt_state.specs.Kept.{IsOfKind}
 
--- a phase in which an operation looks for the node of its key
-abbrev pub IsDescent : Phase → Type 0
-IsDescent Enter = Unit {0}
-IsDescent Pick = Unit {0}
-IsDescent Child = Unit {0}
-IsDescent Verify = Unit {0}
-IsDescent Forward = Unit {0}
-IsDescent _ = ⊥
-
--- a phase in which it still looks, or is about to lock
+-- a phase in which an operation looks for its node, or is there
 abbrev pub IsOnWay : Phase → Type 0
 IsOnWay Search = Unit {0}
 IsOnWay Lock = Unit {0}

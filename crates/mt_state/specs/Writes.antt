@@ -16,8 +16,7 @@ use Rattle.mt_arena.specs.Arena.{ArenaView, content_of, Guarantee}
 use Rattle.mt_arena.specs.Contents.{counts}
 use Rattle.mt_arena.specs.Several.{AreHalved}
 use Rattle.mt_arena.specs.Accesses.{at, tree_of, with_node, with_row}
-use Rattle.mt_operation.specs.declared.walk.Phase.{Phase}
-use Rattle.mt_operation.specs.declared.walk.Phase.TheVariants.{Enter, Judge, SplitMove, SplitPrev, LockParent, InsertChild, InteriorSplit, Reparent, RootGrow, MakeLayer, MarkUnstable, Link, MarkLayer, Done}
+use Rattle.mt_operation.specs.declared.phase.Phase.TheVariants.{Enter, Judge, SplitMove, MakeLayer, Done}
 use Rattle.mt_operation.specs.declared.walk.Walk.{Walk}
 use Rattle.mt_operation.specs.declared.outcome.Outcome.{Outcome}
 use Rattle.mt_operation.specs.declared.prepared.Prepared.{Prepared}
@@ -34,7 +33,7 @@ use Rattle.mt_insert.specs.SplitMoves.{walk_at, after_parting, Returns}
 use Rattle.mt_layer.specs.Kept.{KeptLayer}
 use Rattle.mt_layer.specs.Moves.{KeepsStamps}
 use Rattle.mt_state.specs.Views.{Core}
-use Rattle.mt_state.specs.Steps.{MayFollow}
+use Rattle.mt_operation.specs.Phases.{MayFollow}
 use Rattle.mt_state.specs.Promises.{Touches}
 use Rattle.mt_state.specs.Invariant.{IsCountedUpTo, IsUnremoved}
 use Rattle.mt_state.specs.Growth.{MakesFew}
@@ -176,16 +175,6 @@ pub record PartsWithout (c : Core) (o : ℕ) (op : Operation) (arena : ArenaView
   pub tape_is : tape ≡ released c.tape
   pub full : ¬ HasRoom (account_of c.accounts op.task.tenant)
 
--- the phases of a split once the keys are parted
-abbrev pub IsClimb : Phase → Type 0
-IsClimb SplitPrev = Unit {0}
-IsClimb LockParent = Unit {0}
-IsClimb InsertChild = Unit {0}
-IsClimb InteriorSplit = Unit {0}
-IsClimb Reparent = Unit {0}
-IsClimb RootGrow = Unit {0}
-IsClimb _ = ⊥
-
 -- a right half came one step nearer to its place in its parent, or a root was made
 pub record Climbs (c : Core) (o : ℕ) (op : Operation) (arena : ArenaView) (w : Walk) (s : Splits) : Type 0 where
   pub moves : MovesNoPair c o arena
@@ -203,14 +192,6 @@ pub record ReturnsAll (c : Core) (o : ℕ) (op : Operation) (arena : ArenaView) 
   pub same : Continues op.walk w
   pub unsplit : IsUnsplit s
   pub nothing : HoldsNothing arena o
-
--- the phases that make a layer
-abbrev pub IsLayerPhase : Phase → Type 0
-IsLayerPhase MakeLayer = Unit {0}
-IsLayerPhase MarkUnstable = Unit {0}
-IsLayerPhase Link = Unit {0}
-IsLayerPhase MarkLayer = Unit {0}
-IsLayerPhase _ = ⊥
 
 -- another long key stands in the key's place: a layer is to be made for both
 pub record MeetsAnother (c : Core) (o : ℕ) (op : Operation) (w : Walk) : Type 0 where

@@ -7,11 +7,12 @@ ghost use Rattle.mt_arena.specs.Arena.{ArenaView, IsArena};
 ghost use Rattle.mt_arena.specs.Layers.{slot_at};
 ghost use Rattle.mt_arena.specs.NodeFacts.{IsUnstable};
 ghost use Rattle.mt_arena.specs.Accesses.{at};
-ghost use Rattle.mt_operation.specs.declared.walk.Phase.{Phase};
-ghost use Rattle.mt_operation.specs.declared.walk.Phase.TheVariants.{Search, Load, Confirm, Lock, LockParent, Done};
+ghost use Rattle.mt_operation.specs.declared.phase.Phase.{Phase};
+ghost use Rattle.mt_operation.specs.declared.phase.Phase.TheVariants.{Search, Load, Confirm, Lock, LockParent, Done};
 ghost use Rattle.mt_operation.specs.declared.outcome.Outcome.{Outcome};
 ghost use Rattle.mt_operation.specs.declared.operation.Operation.{Operation};
-ghost use Rattle.mt_operation.specs.Operations.{OperationView, SplitsView, is_done};
+ghost use Rattle.mt_operation.specs.Operations.{OperationView, SplitsView};
+ghost use Rattle.mt_operation.specs.Phases.{is_done, IsDescent};
 ghost use Rattle.mt_state.specs.Views.{StateView, Core, shown, KeepsPast};
 ghost use Rattle.mt_state.specs.Promises.{IsAnswer, IsInTheWay, needed_node, Touches, IsStep};
 ghost use Rattle.mt_state.specs.Kept.{IsKeptOf};
@@ -25,7 +26,7 @@ ghost use Rattle.mt_rows.specs.Rows.{Columns};
 ghost use Rattle.mt_rows.specs.declared.reply.Reply.TheVariants.{Absent, NoMemory};
 ghost use Rattle.mt_border.specs.declared.entry.Find.{Find};
 ghost use Rattle.mt_descent.specs.Moves.{Continues};
-ghost use Rattle.mt_state.specs.Ways.{IsDescent, Descends, walked, ShowsTaken};
+ghost use Rattle.mt_state.specs.Ways.{Descends, walked, ShowsTaken};
 ghost use Rattle.mt_state.specs.Calls.{IsLawful, Searches, Takes, Compares};
 
 /// All that is kept of an operation, at whatever phase it is, each step of another one keeps: what

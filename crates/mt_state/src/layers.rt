@@ -4,14 +4,15 @@
 ghost use Rattle.std.specs.Prelude.{◌≡◌, ◌+◌, ◌<◌, ◌^◌, ℕ, true, false, Some, None};
 ghost use Rattle.mt_rows.specs.declared.reply.Reply.TheVariants.{NoMemory};
 ghost use Rattle.mt_arena.specs.Arena.{ArenaView, IsArena};
-ghost use Rattle.mt_operation.specs.declared.walk.Phase.TheVariants.{Judge, MakeLayer, Unlock};
+ghost use Rattle.mt_operation.specs.declared.phase.Phase.TheVariants.{Judge, MakeLayer, Unlock};
 ghost use Rattle.mt_operation.specs.declared.walk.Walk.{Walk};
 ghost use Rattle.mt_operation.specs.declared.operation.Operation.{Operation};
 ghost use Rattle.mt_operation.specs.Tables.{op_at as operation_at};
 ghost use Rattle.mt_state.specs.Views.{Core};
 ghost use Rattle.mt_state.specs.Invariant.{StateInvariant};
 ghost use Rattle.mt_state.specs.Calls.{IsLawful};
-ghost use Rattle.mt_state.specs.Writes.{wrote, GivesBack, IsLayerPhase, MeetsAnother, BuildsLayer, GoesBelow};
+ghost use Rattle.mt_state.specs.Writes.{wrote, GivesBack, MeetsAnother, BuildsLayer, GoesBelow};
+ghost use Rattle.mt_operation.specs.Phases.{IsLayerPhase};
 
 /// Each phase that makes a layer makes a lawful step, by what its call ensures, and the invariant
 /// stays: where another long key stands in the place of an operation's own; where its layer comes one

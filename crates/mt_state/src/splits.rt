@@ -6,7 +6,7 @@ ghost use Rattle.mt_rows.specs.Accounts.{Accounts};
 ghost use Rattle.mt_rows.specs.declared.reply.Reply.TheVariants.{New, Full, NoMemory};
 ghost use Rattle.mt_tape.specs.Tapes.{Kept};
 ghost use Rattle.mt_arena.specs.Arena.{ArenaView, IsArena};
-ghost use Rattle.mt_operation.specs.declared.walk.Phase.TheVariants.{SplitStart, SplitMove, Unlock};
+ghost use Rattle.mt_operation.specs.declared.phase.Phase.TheVariants.{SplitStart, SplitMove, Unlock};
 ghost use Rattle.mt_operation.specs.declared.walk.Walk.{Walk};
 ghost use Rattle.mt_operation.specs.declared.splits.Splits.{Splits};
 ghost use Rattle.mt_operation.specs.declared.operation.Operation.{Operation};
@@ -15,7 +15,8 @@ ghost use Rattle.mt_insert.specs.Puts.{IsPut};
 ghost use Rattle.mt_state.specs.Views.{Core};
 ghost use Rattle.mt_state.specs.Invariant.{StateInvariant};
 ghost use Rattle.mt_state.specs.Calls.{IsLawful};
-ghost use Rattle.mt_state.specs.Writes.{splitting, IsClimb, StartsSplit, StopsSplit, PartsWith, PartsWithout, Climbs, ReturnsAll};
+ghost use Rattle.mt_state.specs.Writes.{splitting, StartsSplit, StopsSplit, PartsWith, PartsWithout, Climbs, ReturnsAll};
+ghost use Rattle.mt_operation.specs.Phases.{IsClimb};
 
 /// Each phase of a split makes a lawful step, by what its call ensures, and the invariant stays: where
 /// the right half of the full border node is made, or there is no memory and the lock is given back;

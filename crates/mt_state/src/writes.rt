@@ -6,7 +6,7 @@ ghost use Rattle.mt_rows.specs.Accounts.{Accounts};
 ghost use Rattle.mt_rows.specs.declared.reply.Reply.TheVariants.{New, Replaced, Full, NoMemory};
 ghost use Rattle.mt_tape.specs.Tapes.{Kept};
 ghost use Rattle.mt_arena.specs.Arena.{ArenaView, IsArena};
-ghost use Rattle.mt_operation.specs.declared.walk.Phase.TheVariants.{Lock, Judge, Store, Publish, Unlock};
+ghost use Rattle.mt_operation.specs.declared.phase.Phase.TheVariants.{Lock, Judge, Store, Publish, Unlock};
 ghost use Rattle.mt_operation.specs.declared.walk.Walk.{Walk};
 ghost use Rattle.mt_operation.specs.declared.prepared.Prepared.{Prepared};
 ghost use Rattle.mt_operation.specs.declared.operation.Operation.{Operation};

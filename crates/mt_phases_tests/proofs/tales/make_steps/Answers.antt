@@ -1,6 +1,6 @@
 -- What the steps ask of the table.
 use Rattle.std.proofs.Common.{refl}
-use Rattle.mt_operation.specs.declared.walk.Phase.TheVariants.{Lock}
+use Rattle.mt_operation.specs.declared.phase.Phase.TheVariants.{Lock}
 use Rattle.mt_phases_tests.proofs.Steps.{begun_by, may_again}
 use Rattle.mt_phases_tests.proofs.tales.make_steps.Goals as goal
 

@@ -1,5 +1,5 @@
 use Rattle.std.proofs.Common.{refl}
-use Rattle.mt_operation.specs.Operations.{is_done}
+use Rattle.mt_operation.specs.Phases.{is_done}
 use Rattle.mt_state.specs.Views.{shown}
 use Rattle.mt_state.proofs.Moving.{invariant_stays}
 use Rattle.mt_state.proofs.Telling.{gives}

@@ -5,8 +5,8 @@ use Rattle.mt_version.specs.Parts.{Parts}
 use Rattle.mt_version.specs.Changes.{IsMarked, IsStable}
 use Rattle.mt_arena.specs.NodeView.{NodeView}
 use Rattle.mt_arena.specs.Accesses.{at}
-use Rattle.mt_operation.specs.declared.walk.Phase.{Phase}
-use Rattle.mt_operation.specs.declared.walk.Phase.TheVariants.{Load, Lock, LockParent}
+use Rattle.mt_operation.specs.declared.phase.Phase.{Phase}
+use Rattle.mt_operation.specs.declared.phase.Phase.TheVariants.{Load, Lock, LockParent}
 use Rattle.mt_state.specs.Promises.{Blocks}
 use Rattle.mt_state.proofs.laws.wrong_steps_are_refused.Goals as goal
 

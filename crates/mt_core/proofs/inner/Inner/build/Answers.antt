@@ -3,7 +3,7 @@ use Rattle.std.proofs.Common.{true, refl}
 use Rattle.mt_state.specs.declared.moves.Move.TheVariants.{Moved}
 use Rattle.mt_state.specs.Views.{Core, shown}
 use Rattle.mt_state.specs.Invariant.{StateInvariant}
-use Rattle.mt_state.specs.Writes.{IsLayerPhase}
+use Rattle.mt_operation.specs.Phases.{IsLayerPhase}
 use Rattle.mt_state.proofs.Needs.{layer_kept}
 use Rattle.mt_state.proofs.Telling.{Gives}
 use Rattle.mt_core.specs.States.{core_of}

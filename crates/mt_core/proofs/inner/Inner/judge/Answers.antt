@@ -1,5 +1,5 @@
 use Rattle.std.proofs.Common.{◌≡◌, true, refl}
-use Rattle.mt_operation.specs.declared.walk.Phase.TheVariants.{Judge}
+use Rattle.mt_operation.specs.declared.phase.Phase.TheVariants.{Judge}
 use Rattle.mt_state.specs.declared.moves.Move.TheVariants.{Moved}
 use Rattle.mt_state.specs.Views.{Core, shown}
 use Rattle.mt_state.specs.Invariant.{StateInvariant}

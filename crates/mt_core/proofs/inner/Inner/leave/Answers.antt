@@ -1,6 +1,6 @@
 -- An operation that has made a layer goes on in its tree, for `Inner::leave`.
 use Rattle.std.proofs.Common.{◌≡◌, ap}
-use Rattle.mt_operation.specs.declared.walk.Phase.TheVariants.{Unlock}
+use Rattle.mt_operation.specs.declared.phase.Phase.TheVariants.{Unlock}
 use Rattle.mt_operation.specs.declared.walk.Walk.{Walk}
 use Rattle.mt_state.specs.declared.moves.Move.TheVariants.{Moved}
 use Rattle.mt_state.specs.Views.{Core}

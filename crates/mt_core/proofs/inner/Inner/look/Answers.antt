@@ -6,7 +6,8 @@ use Rattle.mt_operation.specs.Tables.{Table, op_at as operation_at}
 use Rattle.mt_state.specs.Views.{Core}
 use Rattle.mt_core.specs.States.{core_of}
 use Rattle.mt_core.specs.Looks.{LooksAt, MayLook}
-use Rattle.mt_core.specs.Nexts.{IsNoLook, ending}
+use Rattle.mt_core.specs.Nexts.{ending}
+use Rattle.mt_operation.specs.Phases.{IsNoLook}
 use Rattle.mt_core.specs.Points.{StepsOn}
 use Rattle.mt_core.proofs.ReadSteps.{are_before, may_look, look_unfinished, look_first, look_leaves, look_comes, look_blocked, look_left}
 use Rattle.mt_core.proofs.inner.Inner.look.Goals as goal

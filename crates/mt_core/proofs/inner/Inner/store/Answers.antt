@@ -1,5 +1,5 @@
 use Rattle.std.proofs.Common.{refl}
-use Rattle.mt_operation.specs.declared.walk.Phase.TheVariants.{Store}
+use Rattle.mt_operation.specs.declared.phase.Phase.TheVariants.{Store}
 use Rattle.mt_state.specs.declared.moves.Move.TheVariants.{Moved}
 use Rattle.mt_state.specs.Views.{Core}
 use Rattle.mt_state.specs.Invariant.{StateInvariant}

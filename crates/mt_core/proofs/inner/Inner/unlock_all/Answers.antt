@@ -1,5 +1,5 @@
 use Rattle.std.proofs.Common.{refl}
-use Rattle.mt_operation.specs.declared.walk.Phase.TheVariants.{Unlock}
+use Rattle.mt_operation.specs.declared.phase.Phase.TheVariants.{Unlock}
 use Rattle.mt_state.specs.Invariant.{StateInvariant}
 use Rattle.mt_state.specs.declared.moves.Move.TheVariants.{Done}
 use Rattle.mt_core.specs.States.{core_of}

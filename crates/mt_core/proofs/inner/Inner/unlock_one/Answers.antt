@@ -1,5 +1,5 @@
 use Rattle.std.proofs.Common.{◌≡◌, true, refl}
-use Rattle.mt_operation.specs.declared.walk.Phase.TheVariants.{Unlock}
+use Rattle.mt_operation.specs.declared.phase.Phase.TheVariants.{Unlock}
 use Rattle.mt_state.specs.Views.{shown}
 use Rattle.mt_state.proofs.Needs.{unlock_kept}
 use Rattle.mt_state.proofs.Telling.{Gives}

@@ -1,6 +1,6 @@
 -- That each phase may make its step, for `Inner::write`.
-use Rattle.mt_state.specs.Writes.{IsClimb, IsLayerPhase}
-use Rattle.mt_operation.specs.declared.walk.Phase.TheVariants.{Lock, Judge, Store, Publish, SplitStart, SplitMove, Unlock}
+use Rattle.mt_operation.specs.Phases.{IsClimb, IsLayerPhase}
+use Rattle.mt_operation.specs.declared.phase.Phase.TheVariants.{Lock, Judge, Store, Publish, SplitStart, SplitMove, Unlock}
 use Rattle.mt_core.proofs.NextSteps.{next_at, next_is, climbs, layers}
 use Rattle.mt_core.proofs.inner.Inner.write.Goals as goal
 

@@ -1,0 +1,140 @@
+//! The phases of an operation, one for each kind of step, and how they are written. What hangs on a phase
+//! alone stands in one table, `specs/Phases.antt`.
+
+ghost use Rattle.std.specs.Prelude.{◌≡◌};
+ghost use Rattle.mt_operation.specs.Phases.{name_of};
+
+use std::fmt;
+
+/// What the next step does.
+#[derive(Clone, Copy, PartialEq, Eq, Debug)]
+pub enum Phase {
+    /// Reads the tree's record and its root's version.
+    Enter,
+    /// Looks for the child of an interior node.
+    Pick,
+    /// Reads the child's version.
+    Child,
+    /// Compares the interior node's version.
+    Verify,
+    /// Looks for the key in a border node.
+    Search,
+    /// Reads the slot that was found.
+    Load,
+    /// Compares the border node's version.
+    Confirm,
+    /// Reads the next border node.
+    Forward,
+    /// Locks the border node.
+    Lock,
+    /// Looks for the key in the border node, which the operation holds, and makes all growths of the
+    /// placing step.
+    Judge,
+    /// Writes the row over the one that is there.
+    Store,
+    /// Judges the quota, and makes the pair live.
+    Publish,
+    /// Makes the right half of the full border node.
+    SplitStart,
+    /// Judges the quota, and parts the keys and the new pair among the halves.
+    SplitMove,
+    /// Names the right half in the border node behind it.
+    SplitPrev,
+    /// Locks the parent of the halves.
+    LockParent,
+    /// Puts the right half into the parent.
+    InsertChild,
+    /// Splits the full parent as the right half comes in.
+    InteriorSplit,
+    /// Names the parent's right half in one of the children that it has got.
+    Reparent,
+    /// Makes a root over the halves of the old one.
+    RootGrow,
+    /// Makes a tree for the keys that begin as two long keys of one slice do.
+    MakeLayer,
+    /// Makes the slot of the other long key unstable.
+    MarkUnstable,
+    /// Writes the number of the new tree into the slot.
+    Link,
+    /// Makes the slot a link, and the new tree live.
+    MarkLayer,
+    /// Gives all locks back.
+    Unlock,
+    /// The operation has its answer.
+    Done,
+}
+
+/// The phases that have a step, in the order of the table.
+pub const PHASES: [Phase; 25] = [
+    Phase::Enter,
+    Phase::Pick,
+    Phase::Child,
+    Phase::Verify,
+    Phase::Search,
+    Phase::Load,
+    Phase::Confirm,
+    Phase::Forward,
+    Phase::Lock,
+    Phase::Judge,
+    Phase::Store,
+    Phase::Publish,
+    Phase::SplitStart,
+    Phase::SplitMove,
+    Phase::SplitPrev,
+    Phase::LockParent,
+    Phase::InsertChild,
+    Phase::InteriorSplit,
+    Phase::Reparent,
+    Phase::RootGrow,
+    Phase::MakeLayer,
+    Phase::MarkUnstable,
+    Phase::Link,
+    Phase::MarkLayer,
+    Phase::Unlock,
+];
+
+impl Phase {
+    /// The phase's name, as it is written.
+    pub fn name(self) -> &'static str
+        ensures { result.now ≡ name_of self }
+    {
+        match self {
+            Phase::Enter => "enter",
+            Phase::Pick => "pick",
+            Phase::Child => "child",
+            Phase::Verify => "verify",
+            Phase::Search => "search",
+            Phase::Load => "load",
+            Phase::Confirm => "confirm",
+            Phase::Forward => "forward",
+            Phase::Lock => "lock",
+            Phase::Judge => "judge",
+            Phase::Store => "store",
+            Phase::Publish => "publish",
+            Phase::SplitStart => "splitstart",
+            Phase::SplitMove => "splitmove",
+            Phase::SplitPrev => "splitprev",
+            Phase::LockParent => "lockparent",
+            Phase::InsertChild => "insertchild",
+            Phase::InteriorSplit => "interiorsplit",
+            Phase::Reparent => "reparent",
+            Phase::RootGrow => "rootgrow",
+            Phase::MakeLayer => "makelayer",
+            Phase::MarkUnstable => "markunstable",
+            Phase::Link => "link",
+            Phase::MarkLayer => "marklayer",
+            Phase::Unlock => "unlock",
+            Phase::Done => "done",
+        }
+    }
+}
+
+impl fmt::Display for Phase {
+    ghost use Rattle.std.specs.Prelude.{Some};
+
+    ghost output = { λ p. Some (name_of p) };
+
+    fn fmt<W: fmt::Write>(&self, f: &mut fmt::Formatter<W>) -> fmt::Result {
+        f.write_str(self.name())
+    }
+}
