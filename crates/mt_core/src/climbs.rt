@@ -7,7 +7,7 @@ ghost use Rattle.mt_operation.specs.Phases.{IsClimb};
 ghost use Rattle.mt_core.specs.Climbs.{TellsClimbed};
 
 use mt_arena::Arena;
-use mt_insert::{grow_root, insert_child, lock_parent, reparent, split_interior, split_prev};
+use mt_insert::{insert_child, interior_split, lock_parent, reparent, root_grow, split_prev};
 use mt_operation::{Phase, Splits, Walk};
 
 /// What became of such a step.
@@ -46,7 +46,7 @@ pub(crate) fn climb_on(
             insert_child(arena, walk, splits, operation);
             Climbed::On
         }
-        Phase::InteriorSplit => match split_interior(arena, walk, splits, operation) {
+        Phase::InteriorSplit => match interior_split(arena, walk, splits, operation) {
             Ok(()) => Climbed::On,
             Err(_) => Climbed::NoMemory,
         },
@@ -54,7 +54,7 @@ pub(crate) fn climb_on(
             reparent(arena, walk, splits, operation);
             Climbed::On
         }
-        Phase::RootGrow => match grow_root(arena, walk, splits, operation) {
+        Phase::RootGrow => match root_grow(arena, walk, splits, operation) {
             Ok(()) => Climbed::On,
             Err(_) => Climbed::NoMemory,
         },

@@ -1,5 +1,5 @@
 -- A full parent is split as the right half of its child comes in: it and its own right half are the last halves from then on, and those
--- below may be given back. For `split_interior`.
+-- below may be given back. For `interior_split`.
 use Rattle.std.proofs.Common.{◌≡◌, ◌≢◌, ◌⊎◌, ℕ, ◌+◌, ◌-◌, ◌<◌, List, [], ◌∷◌, length, set, Some, None, refl, sym, ap, subst, ◌∙◌, inl, inr, arith, length-append, length-drop}
 use Rattle.std.proofs.lemmas.Bool.{cases_lt}
 use Rattle.std.proofs.lemmas.List.{get_or_append_left}

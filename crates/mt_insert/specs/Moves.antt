@@ -24,8 +24,8 @@ use Rattle.mt_operation.specs.declared.task.Task.{Task}
 use Rattle.mt_operation.specs.declared.prepared.Prepared.{Prepared}
 use Rattle.mt_descent.specs.Kept.{IsInSlot, IsAtEnter}
 use Rattle.mt_descent.specs.Moves.{walk_into}
-use Rattle.mt_insert.specs.declared.phases.Judged.{Judged}
-use Rattle.mt_insert.specs.declared.phases.Judged.TheVariants.{Ready, GoesOn, NoMemory}
+use Rattle.mt_insert.specs.declared.phases.judge.Judged.{Judged}
+use Rattle.mt_insert.specs.declared.phases.judge.Judged.TheVariants.{Ready, GoesOn, NoMemory}
 use Rattle.mt_insert.specs.Kept.{IsAtMakeLayer, KeptReady}
 use Rattle.mt_insert.specs.Puts.{IsReady, write_of}
 

@@ -259,9 +259,9 @@ fn climb_step(rt: &impl Abort, on: &mut Store)
         Phase::SplitPrev => split_prev(arena, walk, splits, 5),
         Phase::LockParent => assert!(rt; matches!(lock_parent(arena, walk, splits, 5), None)),
         Phase::InsertChild => insert_child(arena, walk, splits, 5),
-        Phase::InteriorSplit => split_interior(arena, walk, splits, 5).expect(rt, "memory"),
+        Phase::InteriorSplit => interior_split(arena, walk, splits, 5).expect(rt, "memory"),
         Phase::Reparent => reparent(arena, walk, splits, 5),
-        Phase::RootGrow => grow_root(arena, walk, splits, 5).expect(rt, "memory"),
+        Phase::RootGrow => root_grow(arena, walk, splits, 5).expect(rt, "memory"),
         _ => panic!(rt; "no phase of a climb"),
     }
 }

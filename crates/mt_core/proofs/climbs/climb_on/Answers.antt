@@ -73,9 +73,9 @@ returns-in-Reparent c =
     c.in-Reparent.is kept _ e.is e.walk
     (ap (λ (s : Splits). s.halves.items) e.splits) (ap (λ (s : Splits). s.moved) e.splits)
 
-pub returns-in-Ok-grow_root : goal.returns-in-Ok-grow_root
-returns-in-Ok-grow_root c =
-    let e = c.in-Ok-grow_root.ensures in
+pub returns-in-Ok-root_grow : goal.returns-in-Ok-root_grow
+returns-in-Ok-root_grow c =
+    let e = c.in-Ok-root_grow.ensures in
     let kept : IsAtRootGrow c.args.arena.now c.args.operation c.args.splits.now = kept_at _ _ _ _ _ c.in-RootGrow.is c.requires.kept in
     root_grown c.args.operation c.args.arena.now _ c.args.walk.now _ c.args.splits.now _
     (record { guarantee = e.step; contents = e.contents; same = e.same; kept = e.kept; holds = e.holds })

@@ -1,0 +1,8 @@
+-- What a load keeps: one lemma over what it took.
+use Rattle.std.proofs.lemmas.Result.{IfOk-weaker}
+use Rattle.mt_descent.proofs.Looks.{kept_loads}
+use Rattle.mt_descent.proofs.phases.load.load.Goals as goal
+
+pub returns-clause-kept : goal.returns-clause-kept
+returns-clause-kept c past stamped since = IfOk-weaker c.taken_at.result _ _
+    (λ taken l. kept_loads c.args.arena.now c.args.key.now c.args.walk.now c.taken_at.new.walk past _ c.facts.ensures.arena c.requires.kept stamped since l) c.taken_at.ensures.is

@@ -1,0 +1,72 @@
+//! What several phases make of a walk, and what they ask of a node.
+
+ghost use Rattle.std.specs.Prelude.{◌≡◌, ◌≢◌, None, IfSome, IfNone, IsTrue, ◌↔◌};
+ghost use Rattle.mt_version.specs.Changes.{IsMarked, IsStable};
+ghost use Rattle.mt_descent.specs.Seen.{IsOutdated};
+ghost use Rattle.mt_descent.specs.Moves.{IsBlocked, arrival, walk_onto, walk_into, after_change};
+
+use mt_arena::Node;
+use mt_operation::{Phase, Walk};
+use mt_version::Version;
+
+// The operation that marked the node, if it is marked.
+pub(crate) fn blocker(node: &Node) -> Option<usize>
+    requires { IsMarked node.now.version → node.now.holder ≢ None }
+    ensures some { IfSome result (IsBlocked node.now) }
+    ensures none { IfNone result (IsStable node.now.version) }
+{
+    if node.version().is_stable() {
+        None
+    } else {
+        node.holder()
+    }
+}
+
+// What comes at a border node: a get looks, others lock.
+pub(crate) fn arrival(writes: bool) -> Phase
+    ensures { result ≡ arrival writes }
+{
+    if writes { Phase::Lock } else { Phase::Search }
+}
+
+// Comes to a node.
+pub(crate) fn onto(walk: &mut Walk, node: usize, seen: Version)
+    ensures { walk.new ≡ walk_onto walk.old node seen }
+{
+    walk.place.node = node;
+    walk.place.seen = seen;
+    walk.phase = if seen.is_border() {
+        arrival(walk.writes)
+    } else {
+        Phase::Pick
+    };
+}
+
+// Begins at a tree of a layer.
+pub(crate) fn into(walk: &mut Walk, tree: usize, layer: usize)
+    ensures { walk.new ≡ walk_into walk.old tree layer }
+{
+    walk.place.tree = tree;
+    walk.layer = layer;
+    walk.phase = Phase::Enter;
+}
+
+// Whether the node was deleted or split since it was remembered.
+pub(crate) fn is_outdated(node: &Node, seen: Version) -> bool
+    ensures { IsTrue result ↔ IsOutdated node.now seen }
+{
+    node.version().is_deleted() || node.version().splits() != seen.splits()
+}
+
+// It does not: anew where the node was deleted, else to the next node.
+pub(crate) fn move_on(walk: &mut Walk, node: &Node)
+    ensures { walk.new ≡ after_change walk.old node.now.version node.now.next }
+{
+    if node.version().is_deleted() {
+        walk.phase = Phase::Enter;
+    } else {
+        walk.place.seen = node.version();
+        walk.next = node.next();
+        walk.phase = Phase::Forward;
+    }
+}

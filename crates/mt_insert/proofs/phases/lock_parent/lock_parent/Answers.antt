@@ -1,0 +1,82 @@
+-- That nobody else is making the parent's tree, and what is kept once it is held: for the right half, which names it from then on.
+use Rattle.std.proofs.Common.{◌≡◌, ℕ, ◌<◌, Option, Some, ap, sym, subst, ◌∙◌}
+use Rattle.std.proofs.lemmas.Option.{same_Some}
+use Rattle.mt_arena.specs.NodeView.{NodeView}
+use Rattle.mt_arena.specs.Arena.{ArenaView, Guarantee}
+use Rattle.mt_arena.specs.Accesses.{at}
+use Rattle.mt_operation.specs.declared.phase.Phase.{Phase}
+use Rattle.mt_operation.specs.declared.splits.Halves.{Halves}
+use Rattle.mt_insert.specs.Splitting.{last_of}
+use Rattle.mt_insert.specs.SplitMoves.{walk_at, with_parent, for_parent}
+use Rattle.mt_insert.proofs.LockingParents.{parent_made, another_holds, parent_open, parent_interior_still, phase_same, parent_kept, parent_holds, parent_step}
+use Rattle.mt_insert.proofs.phases.lock_parent.lock_parent.Goals as goal
+
+-- what the left half tells of its parent
+parent_is : (v : ArenaView) (last halves : Halves) (n : NodeView) (told parent : Option ℕ) → halves ≡ last → n ≡ at v halves.left → told ≡ n.parent → told ≡ parent → (at v last.left).parent ≡ parent
+parent_is v last halves n told parent same node tells is = ap (λ (h : Halves). (at v h.left).parent) (sym same) ∙ ap (λ (x : NodeView). x.parent) (sym node) ∙ sym tells ∙ is
+
+-- and the parent of its holder
+holder_is : (v : ArenaView) (p : ℕ) (n : NodeView) (told holder : Option ℕ) → n ≡ at v p → told ≡ n.holder → told ≡ holder → (at v p).holder ≡ holder
+holder_is v p n told holder node tells is = ap (λ (x : NodeView). x.holder) (sym node) ∙ sym tells ∙ is
+
+pub returns-in-Some-holder-clause-another : goal.returns-in-Some-holder-clause-another
+returns-in-Some-holder-clause-another c =
+    another_holds c.args.arena.now c.args.operation c.in-Some.parent c.args.splits.now c.facts.ensures.arena c.requires.kept
+    (parent_is c.args.arena.now _ _ _ _ _ c.last-left.ensures c.node.ensures c.parent.ensures c.in-Some.is)
+    c.in-Some-holder.holder (holder_is c.args.arena.now _ _ _ _ c.node-2.ensures c.holder.ensures c.in-Some-holder.is)
+
+pub lock-requires-clause-mine : goal.lock-requires-clause-mine
+lock-requires-clause-mine c =
+    parent_open c.args.arena.now c.args.operation c.in-Some.parent c.args.splits.now c.facts.ensures.arena c.requires.kept
+    (parent_is c.args.arena.now _ _ _ _ _ c.last-left.ensures c.node.ensures c.parent.ensures c.in-Some.is)
+    (holder_is c.args.arena.now _ _ _ _ c.node-2.ensures c.holder.ensures c.in_default-holder.is)
+
+pub phase_for-walk-requires-clause-interior : goal.phase_for-walk-requires-clause-interior
+phase_for-walk-requires-clause-interior c =
+    let made = parent_made c.args.arena.now c.lock.new.self c.set_parent.new.self c.in-Some.parent c.args.operation (last_of c.args.splits.now) c.last-left.result c.last-left.ensures c.lock.ensures.is c.set_parent.ensures.is in
+    subst (λ (u : ArenaView). 0 < (at u c.in-Some.parent).level) (sym made)
+    (parent_interior_still c.args.arena.now c.args.operation c.in-Some.parent c.args.splits.now c.facts.ensures.arena c.requires.kept
+    (parent_is c.args.arena.now _ _ _ _ _ c.last-left.ensures c.node.ensures c.parent.ensures c.in-Some.is)
+    (holder_is c.args.arena.now _ _ _ _ c.node-2.ensures c.holder.ensures c.in_default-holder.is))
+
+pub returns-clause-is : goal.returns-clause-is
+returns-clause-is c = λ parent e.
+    let made = parent_made c.args.arena.now c.lock.new.self c.set_parent.new.self c.in-Some.parent c.args.operation (last_of c.args.splits.now) c.last-left.result c.last-left.ensures c.lock.ensures.is c.set_parent.ensures.is in
+    let next = phase_same c.args.arena.now c.args.operation c.in-Some.parent c.args.splits.now c.facts.ensures.arena c.requires.kept
+    (parent_is c.args.arena.now _ _ _ _ _ c.last-left.ensures c.node.ensures c.parent.ensures c.in-Some.is)
+    (holder_is c.args.arena.now _ _ _ _ c.node-2.ensures c.holder.ensures c.in_default-holder.is) c.set_parent.new.self c.phase_for-walk.result made c.phase_for-walk.ensures in
+    let same : c.in-Some.parent ≡ parent = same_Some _ _ (sym (parent_is c.args.arena.now _ _ _ _ _ c.last-left.ensures c.node.ensures c.parent.ensures c.in-Some.is) ∙ e) in (
+      made ∙ ap (λ (p : ℕ). with_parent c.args.arena.now p (last_of c.args.splits.now).right c.args.operation) same,
+      ap (λ (phase : Phase). walk_at phase c.args.walk.now) (next ∙ ap (λ (p : ℕ). for_parent (at c.args.arena.now p)) same),
+      ap (λ (p : ℕ). record c.args.splits.now { above = Some p }) same,
+    )
+
+pub returns-clause-step : goal.returns-clause-step
+returns-clause-step c =
+    let made = parent_made c.args.arena.now c.lock.new.self c.set_parent.new.self c.in-Some.parent c.args.operation (last_of c.args.splits.now) c.last-left.result c.last-left.ensures c.lock.ensures.is c.set_parent.ensures.is in
+    rw made
+    (parent_step c.args.arena.now c.args.operation c.in-Some.parent c.args.splits.now c.facts.ensures.arena c.requires.kept
+    (parent_is c.args.arena.now _ _ _ _ _ c.last-left.ensures c.node.ensures c.parent.ensures c.in-Some.is)
+    (holder_is c.args.arena.now _ _ _ _ c.node-2.ensures c.holder.ensures c.in_default-holder.is)
+    (subst (λ (m : ArenaView). Guarantee c.args.operation c.args.arena.now m) c.lock.ensures.is c.lock.ensures.step)
+    (subst (λ (m : ArenaView). Guarantee c.args.operation m (with_parent c.args.arena.now c.in-Some.parent (last_of c.args.splits.now).right c.args.operation)) c.lock.ensures.is
+    (subst (λ (u : ArenaView). Guarantee c.args.operation c.lock.new.self u) made c.set_parent.ensures.step)))
+
+pub returns-clause-kept : goal.returns-clause-kept
+returns-clause-kept c =
+    let made = parent_made c.args.arena.now c.lock.new.self c.set_parent.new.self c.in-Some.parent c.args.operation (last_of c.args.splits.now) c.last-left.result c.last-left.ensures c.lock.ensures.is c.set_parent.ensures.is in
+    let next = phase_same c.args.arena.now c.args.operation c.in-Some.parent c.args.splits.now c.facts.ensures.arena c.requires.kept
+    (parent_is c.args.arena.now _ _ _ _ _ c.last-left.ensures c.node.ensures c.parent.ensures c.in-Some.is)
+    (holder_is c.args.arena.now _ _ _ _ c.node-2.ensures c.holder.ensures c.in_default-holder.is) c.set_parent.new.self c.phase_for-walk.result made c.phase_for-walk.ensures in
+    rw (next, made)
+    (parent_kept c.args.arena.now c.args.operation c.in-Some.parent c.args.splits.now c.facts.ensures.arena c.requires.kept
+    (parent_is c.args.arena.now _ _ _ _ _ c.last-left.ensures c.node.ensures c.parent.ensures c.in-Some.is)
+    (holder_is c.args.arena.now _ _ _ _ c.node-2.ensures c.holder.ensures c.in_default-holder.is))
+
+pub returns-clause-holds : goal.returns-clause-holds
+returns-clause-holds c =
+    let made = parent_made c.args.arena.now c.lock.new.self c.set_parent.new.self c.in-Some.parent c.args.operation (last_of c.args.splits.now) c.last-left.result c.last-left.ensures c.lock.ensures.is c.set_parent.ensures.is in
+    rw made
+    (parent_holds c.args.arena.now c.args.operation c.in-Some.parent c.args.splits.now c.facts.ensures.arena c.requires.kept
+    (parent_is c.args.arena.now _ _ _ _ _ c.last-left.ensures c.node.ensures c.parent.ensures c.in-Some.is)
+    (holder_is c.args.arena.now _ _ _ _ c.node-2.ensures c.holder.ensures c.in_default-holder.is))

@@ -1,0 +1,45 @@
+-- That the node behind may name the right half, and what is kept once it does: only the halves' own next nodes name them as the one before.
+use Rattle.std.proofs.Common.{◌≡◌, ℕ, Option, ap, sym, ◌∙◌}
+use Rattle.mt_arena.specs.NodeView.{NodeView}
+use Rattle.mt_arena.specs.Arena.{ArenaView}
+use Rattle.mt_arena.specs.Accesses.{at}
+use Rattle.mt_operation.specs.declared.splits.Halves.{Halves}
+use Rattle.mt_insert.proofs.Behind.{behind_border, behind_tied, behind_open, behind_kept, behind_holds}
+use Rattle.mt_insert.proofs.phases.split_prev.split_prev.Goals as goal
+use Rattle.mt_insert.proofs.phases.split_prev.split_prev.Goals.{in-Some, in_default}
+
+-- what the right half tells of its next node
+next_is : (v : ArenaView) (last halves : Halves) (n : NodeView) (told next : Option ℕ) → halves ≡ last → n ≡ at v halves.right → told ≡ n.next → told ≡ next → (at v last.right).next ≡ next
+next_is v last halves n told next same node tells is = ap (λ (h : Halves). (at v h.right).next) (sym same) ∙ ap (λ (x : NodeView). x.next) (sym node) ∙ sym tells ∙ is
+
+pub set_previous-requires-clause-border : goal.set_previous-requires-clause-border
+set_previous-requires-clause-border c =
+    behind_border c.args.arena.now c.args.operation c.in-Some.behind c.args.splits.now c.facts.ensures.arena c.requires.kept
+    (next_is c.args.arena.now _ _ _ _ _ c.last-right.ensures c.node.ensures c.next.ensures c.in-Some.is)
+
+pub set_previous-requires-clause-tied : goal.set_previous-requires-clause-tied
+set_previous-requires-clause-tied c =
+    rw c.last-right.ensures
+    (behind_tied c.args.arena.now c.args.operation c.in-Some.behind c.args.splits.now c.facts.ensures.arena c.requires.kept
+    (next_is c.args.arena.now _ _ _ _ _ c.last-right.ensures c.node.ensures c.next.ensures c.in-Some.is))
+
+pub set_previous-requires-clause-mine : goal.set_previous-requires-clause-mine
+set_previous-requires-clause-mine c =
+    behind_open c.args.arena.now c.args.operation c.in-Some.behind c.args.splits.now c.facts.ensures.arena c.requires.kept
+    (next_is c.args.arena.now _ _ _ _ _ c.last-right.ensures c.node.ensures c.next.ensures c.in-Some.is)
+
+pub returns-clause-kept : goal.returns-clause-kept
+returns-clause-kept c = elim c.match-next.branch [
+  | in-Some w ↦ rw (w.arena-is, w.set_previous.ensures.is, c.last-right.ensures)
+      (behind_kept c.args.arena.now c.args.operation w.in-Some.behind c.args.splits.now c.facts.ensures.arena c.requires.kept
+      (next_is c.args.arena.now _ _ _ _ _ c.last-right.ensures c.node.ensures c.next.ensures w.in-Some.is))
+  | in_default w ↦ absurd (c.requires.kept.some_next (next_is c.args.arena.now _ _ _ _ _ c.last-right.ensures c.node.ensures c.next.ensures w.in_default.is))
+]
+
+pub returns-clause-holds : goal.returns-clause-holds
+returns-clause-holds c = elim c.match-next.branch [
+  | in-Some w ↦ rw (w.arena-is, w.set_previous.ensures.is, c.last-right.ensures)
+      (behind_holds c.args.arena.now c.args.operation w.in-Some.behind c.args.splits.now c.facts.ensures.arena c.requires.kept
+      (next_is c.args.arena.now _ _ _ _ _ c.last-right.ensures c.node.ensures c.next.ensures w.in-Some.is))
+  | in_default w ↦ rw w.arena-is (λ holds. holds)
+]

@@ -1,0 +1,110 @@
+//! Publish: judges the quota, and makes the pair of the missing key live.
+
+ghost use Rattle.std.specs.Prelude.{◌≡◌, ◌<◌, ◌↔◌, None, IsTrue, false, true};
+ghost use Rattle.std.specs.Option.{option_map};
+ghost use Rattle.std.specs.FinMap.{get};
+ghost use Rattle.mt_slices.specs.Slices.{HasLayer, suffix_of};
+ghost use Rattle.mt_rows.specs.Accounts.{account_of, HasRoom, one_more, OthersStay};
+ghost use Rattle.mt_border.specs.Entries.{with_entry};
+ghost use Rattle.mt_border.specs.Contents.{owned};
+ghost use Rattle.mt_tape.specs.Tapes.{last_write};
+ghost use Rattle.mt_arena.specs.Edits.{with_slots};
+ghost use Rattle.mt_arena.specs.Arena.{content_of, Guarantee};
+ghost use Rattle.mt_arena.specs.Accesses.{at, with_node};
+ghost use Rattle.mt_descent.specs.Moves.{Continues};
+ghost use Rattle.mt_insert.specs.Puts.{IsPut};
+ghost use Rattle.mt_insert.specs.Kept.{IsAtPublish, IsAtUnlock};
+ghost use Rattle.mt_insert.specs.Moves.{walk_placed, entry_of, released, Places};
+
+use crate::phases::store::push_write;
+use mt_arena::Arena;
+use mt_border::{Entry, Held, Pair, Suffix};
+use mt_operation::{Phase, Prepared, Task, Walk};
+use mt_rows::{Row, Tenants};
+use mt_slices::StoredKey;
+use mt_tape::Tape;
+
+/// Judges the quota, and makes the pair of the missing key live, by the step of this number; its write
+/// goes on the tape, and the tenant's count is one more. Where the tenant has as many pairs as its
+/// quota, nothing changes but that the room on the tape is given back. Tells whether there was room.
+pub fn publish(
+    arena: &mut Arena,
+    tape: &mut Tape,
+    tenants: &mut Tenants,
+    task: &Task,
+    walk: &mut Walk,
+    prepared: Prepared,
+    step: u64,
+    operation: usize,
+) -> bool
+    requires put { IsPut task.now }
+    requires kept { IsAtPublish arena.old operation task.now prepared walk.old }
+    requires reserved { 0 < tape.old.reserved }
+    requires later { last_write tape.old < step }
+    ensures before { get (content_of arena.old) (owned task.now.key) ≡ None }
+    ensures room { IsTrue result ↔ HasRoom (account_of tenants.old task.now.tenant) }
+    ensures counted { IsTrue result → account_of tenants.new task.now.tenant ≡ option_map one_more (account_of tenants.old task.now.tenant) }
+    ensures others { OthersStay tenants.old tenants.new task.now.tenant }
+    ensures is { result ≡ true → arena.new ≡ with_node arena.old walk.old.place.node (with_slots (at arena.old walk.old.place.node)
+        (with_entry (at arena.old walk.old.place.node).slots (entry_of task.now.key walk.old.layer prepared.row step))) }
+    ensures places { result ≡ true → Places task.now step arena.old arena.new tape.old tape.new }
+    ensures full { result ≡ false → (arena.new ≡ arena.old) × (tenants.new ≡ tenants.old) × (tape.new ≡ released tape.old) }
+    ensures walk { walk.new ≡ walk_placed walk.old }
+    ensures same { Continues walk.old walk.new }
+    ensures step { Guarantee operation arena.old arena.new }
+    ensures kept { IsAtUnlock arena.new operation walk.new }
+{
+    arena.facts();
+    if !tenants.count_new(task.tenant) {
+        tape.release();
+        walk.phase = Phase::Unlock;
+        return false;
+    }
+    add_pair(arena, tape, task, walk, prepared, step, operation);
+    walk.phase = Phase::Unlock;
+    true
+}
+
+// Makes the pair live, and puts its write on the tape.
+fn add_pair(
+    arena: &mut Arena,
+    tape: &mut Tape,
+    task: &Task,
+    walk: &Walk,
+    prepared: Prepared,
+    step: u64,
+    operation: usize,
+)
+    requires put { IsPut task.now }
+    requires kept { IsAtPublish arena.old operation task.now prepared walk.now }
+    requires reserved { 0 < tape.old.reserved }
+    requires later { last_write tape.old < step }
+    ensures is { arena.new ≡ with_node arena.old walk.now.place.node (with_slots (at arena.old walk.now.place.node)
+        (with_entry (at arena.old walk.now.place.node).slots (entry_of task.now.key walk.now.layer prepared.row step))) }
+    ensures places { Places task.now step arena.old arena.new tape.old tape.new }
+    ensures step { Guarantee operation arena.old arena.new }
+    ensures kept { IsAtUnlock arena.new operation (walk_placed walk.now) }
+{
+    arena.facts();
+    let Prepared { suffix, row, write } = prepared;
+    let entry = new_entry(&task.key, walk.layer, suffix, row, step);
+    arena.publish(walk.place.node, entry, operation);
+    push_write(tape, write, step);
+}
+
+// The entry of a key's pair with this row, placed by the step of this number.
+pub(crate) fn new_entry(key: &StoredKey, layer: usize, suffix: Suffix, row: Row, step: u64) -> Entry
+    requires reaches { HasLayer key.now layer }
+    requires suffix { suffix ≡ suffix_of key.now layer }
+    ensures { result ≡ entry_of key.now layer row step }
+{
+    Entry {
+        slice: key.slice(layer),
+        mark: key.mark(layer),
+        held: Held::Stable(Pair {
+            suffix,
+            row,
+            stamp: step,
+        }),
+    }
+}

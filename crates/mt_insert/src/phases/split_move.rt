@@ -1,0 +1,134 @@
+//! SplitMove: judges the quota, and parts the keys and the new pair among the halves.
+
+ghost use Rattle.std.specs.Prelude.{◌≡◌, ◌<◌, ◌↔◌, length, None, IsTrue, false, true};
+ghost use Rattle.std.specs.Option.{option_map};
+ghost use Rattle.std.specs.FinMap.{get};
+ghost use Rattle.mt_rows.specs.Accounts.{account_of, HasRoom, one_more, OthersStay};
+ghost use Rattle.mt_border.specs.Entries.{with_entry};
+ghost use Rattle.mt_border.specs.Contents.{owned};
+ghost use Rattle.mt_tape.specs.Tapes.{last_write};
+ghost use Rattle.mt_arena.specs.Arena.{content_of, Guarantee};
+ghost use Rattle.mt_arena.specs.Accesses.{at};
+ghost use Rattle.mt_descent.specs.Moves.{Continues};
+ghost use Rattle.mt_insert.specs.Puts.{IsPut};
+ghost use Rattle.mt_insert.specs.Moves.{entry_of, released, Places};
+ghost use Rattle.mt_arena.specs.Several.{AreHalved};
+ghost use Rattle.mt_operation.specs.declared.task.Task.{Task as AnyTask};
+ghost use Rattle.mt_operation.specs.declared.prepared.Prepared.{Prepared as AnyPrepared};
+ghost use Rattle.mt_insert.specs.Splitting.{last_of, HoldsSplits, IsAtSplitMove, KeptSplit};
+ghost use Rattle.mt_insert.specs.SplitMoves.{walk_at, after_parting};
+
+use crate::halves::last;
+use crate::phases::publish::new_entry;
+use crate::phases::store::push_write;
+use mt_arena::Arena;
+use mt_operation::{Halves, Phase, Prepared, Splits, Task, Walk};
+use mt_rows::Tenants;
+use mt_slices::StoredKey;
+use mt_tape::Tape;
+
+/// Judges the quota, and parts the keys of the full border node and the new pair among the halves, by
+/// the step of this number; its write goes on the tape, and the tenant's count is one more. Where the
+/// tenant has as many pairs as its quota, the keys are parted without the pair, and the room on the
+/// tape is given back. Tells whether there was room.
+pub fn split_move(
+    arena: &mut Arena,
+    tape: &mut Tape,
+    tenants: &mut Tenants,
+    task: &Task,
+    walk: &mut Walk,
+    splits: &Splits,
+    prepared: Prepared,
+    step: u64,
+    operation: usize,
+) -> bool
+    requires put { IsPut task.now }
+    requires kept { IsAtSplitMove arena.old operation task.now prepared walk.old splits.now }
+    requires reserved { 0 < tape.old.reserved }
+    requires later { last_write tape.old < step }
+    ensures before { get (content_of arena.old) (owned task.now.key) ≡ None }
+    ensures room { IsTrue result ↔ HasRoom (account_of tenants.old task.now.tenant) }
+    ensures counted { IsTrue result → account_of tenants.new task.now.tenant ≡ option_map one_more (account_of tenants.old task.now.tenant) }
+    ensures others { OthersStay tenants.old tenants.new task.now.tenant }
+    ensures is { result ≡ true → AreHalved (with_entry (at arena.old walk.old.place.node).slots (entry_of task.now.key walk.old.layer prepared.row step))
+        arena.old.nodes arena.new.nodes walk.old.place.node (last_of splits.now).right }
+    ensures places { result ≡ true → Places task.now step arena.old arena.new tape.old tape.new }
+    ensures full { result ≡ false → (tenants.new ≡ tenants.old) × (tape.new ≡ released tape.old) × (content_of arena.new ≡ content_of arena.old) }
+    ensures parted { result ≡ false → AreHalved (at arena.old walk.old.place.node).slots arena.old.nodes arena.new.nodes walk.old.place.node (last_of splits.now).right }
+    ensures nodes_alone { arena.new ≡ record arena.old { nodes = arena.new.nodes } }
+    ensures walk { walk.new ≡ walk_at (after_parting (at arena.old walk.old.place.node).next) walk.old }
+    ensures same { Continues walk.old walk.new }
+    ensures step { Guarantee operation arena.old arena.new }
+    ensures kept { KeptSplit walk.new.phase arena.new operation splits.now }
+    ensures holds { HoldsSplits arena.old operation splits.now → HoldsSplits arena.new operation splits.now }
+{
+    arena.facts();
+    let is_new = tenants.count_new(task.tenant);
+    walk.phase = phase_after_parting(arena, walk);
+    if is_new {
+        part_with(arena, tape, task, walk, splits, prepared, step, operation);
+    } else {
+        tape.release();
+        part_without(arena, &task.key, walk, splits, operation);
+    }
+    is_new
+}
+
+// Parts the keys and the new pair among the halves, and puts its write on the tape.
+fn part_with(
+    arena: &mut Arena,
+    tape: &mut Tape,
+    task: &Task,
+    walk: &Walk,
+    splits: &Splits,
+    prepared: Prepared,
+    step: u64,
+    operation: usize,
+)
+    requires put { IsPut task.now }
+    requires kept { IsAtSplitMove arena.old operation task.now prepared walk.now splits.now }
+    requires reserved { 0 < tape.old.reserved }
+    requires later { last_write tape.old < step }
+    ensures is { AreHalved (with_entry (at arena.old walk.now.place.node).slots (entry_of task.now.key walk.now.layer prepared.row step))
+        arena.old.nodes arena.new.nodes walk.now.place.node (last_of splits.now).right }
+    ensures nodes_alone { arena.new ≡ record arena.old { nodes = arena.new.nodes } }
+    ensures places { Places task.now step arena.old arena.new tape.old tape.new }
+    ensures step { Guarantee operation arena.old arena.new }
+{
+    arena.facts();
+    let Halves { left, right } = last(splits);
+    let Prepared { suffix, row, write } = prepared;
+    let entry = new_entry(&task.key, walk.layer, suffix, row, step);
+    arena.split_border(left, right, entry, operation);
+    push_write(tape, write, step);
+}
+
+// Parts the keys among the halves without the new pair.
+fn part_without(arena: &mut Arena, key: &StoredKey, walk: &Walk, splits: &Splits, operation: usize)
+    requires kept { (task : AnyTask) × (prepared : AnyPrepared) × (task.key ≡ key.now) × IsAtSplitMove arena.old operation task prepared walk.now splits.now }
+    ensures is { AreHalved (at arena.old walk.now.place.node).slots arena.old.nodes arena.new.nodes walk.now.place.node (last_of splits.now).right }
+    ensures nodes_alone { arena.new ≡ record arena.old { nodes = arena.new.nodes } }
+    ensures step { Guarantee operation arena.old arena.new }
+    ensures contents { content_of arena.new ≡ content_of arena.old }
+{
+    arena.facts();
+    let Halves { left, right } = last(splits);
+    arena.split_border_without(
+        left,
+        right,
+        key.slice(walk.layer),
+        key.mark(walk.layer),
+        operation,
+    );
+}
+
+// What comes next once the keys are parted.
+fn phase_after_parting(arena: &Arena, walk: &Walk) -> Phase
+    requires there { walk.now.place.node < length arena.now.nodes }
+    ensures { result ≡ after_parting (at arena.now walk.now.place.node).next }
+{
+    match arena.node(walk.place.node).next() {
+        Some(_) => Phase::SplitPrev,
+        None => Phase::LockParent,
+    }
+}

@@ -1,0 +1,80 @@
+//! MakeLayer: makes the tree of the next layer.
+
+ghost use Rattle.std.specs.Prelude.{◌≡◌, IfOk, OnOk, OnErr, length};
+ghost use Rattle.mt_border.specs.declared.entry.Pair.{Pair as AnyPair};
+ghost use Rattle.mt_border.specs.declared.entry.Held.TheVariants.{Stable};
+ghost use Rattle.mt_arena.specs.Layers.{slot_at};
+ghost use Rattle.mt_arena.specs.Edits.{unlocked};
+ghost use Rattle.mt_arena.specs.Arena.{content_of, Guarantee};
+ghost use Rattle.mt_arena.specs.Accesses.{at, with_node};
+ghost use Rattle.mt_arena.specs.Layering.{prefix_below, with_layer};
+ghost use Rattle.mt_descent.specs.Moves.{Continues};
+ghost use Rattle.mt_insert.specs.Kept.{HoldsOnly, IsAtMakeLayer};
+ghost use Rattle.mt_insert.specs.Moves.{walk_done};
+ghost use Rattle.mt_layer.specs.Kept.{IsAtMarkUnstable};
+ghost use Rattle.mt_layer.specs.Moves.{KeepsStamps, entry_below, walk_linked};
+
+use crate::below::{entry_below, prefix_below};
+use mt_arena::Arena;
+use mt_insert::unlock;
+use mt_operation::{Phase, Taken, Walk};
+use mt_slices::StoredKey;
+use std::alloc::{AllocError, Global};
+
+/// Makes the tree of the next layer, with the other key's pair as its one entry. Where there is no
+/// memory the lock is given back in this step, and the walk is done.
+pub fn make_layer(
+    alloc: Global,
+    arena: &mut Arena,
+    key: &StoredKey,
+    walk: &mut Walk,
+    operation: usize,
+) -> Result<(), AllocError>
+    requires kept { IsAtMakeLayer arena.old operation key.now walk.old }
+    ensures is { (pair : AnyPair) → (slot_at (at arena.old walk.old.place.node) walk.old.slot).held ≡ Stable pair →
+        OnOk result (arena.new ≡ with_layer arena.old (prefix_below arena.old walk.old.place.node walk.old.slot) (entry_below pair) operation) }
+    ensures walk { OnOk result (walk.new ≡ walk_linked walk.old (length arena.old.trees)) }
+    ensures unlocked_on_err { OnErr result (arena.new ≡ with_node arena.old walk.old.place.node (unlocked (at arena.old walk.old.place.node))) }
+    ensures done_on_err { OnErr result (walk.new ≡ walk_done walk.old) }
+    ensures same { Continues walk.old walk.new }
+    ensures step { Guarantee operation arena.old arena.new }
+    ensures contents { content_of arena.new ≡ content_of arena.old }
+    ensures stamps { KeepsStamps arena.old arena.new }
+    ensures kept { OnOk result (IsAtMarkUnstable arena.new operation key.now walk.new) }
+    ensures holds { HoldsOnly arena.old operation walk.old.place.node → OnOk result (HoldsOnly arena.new operation walk.new.place.node) }
+{
+    arena.facts();
+    match grow_layer(alloc, arena, key, walk, operation) {
+        Ok(tree) => {
+            walk.taken = Taken::Link(tree);
+            walk.phase = Phase::MarkUnstable;
+            Ok(())
+        }
+        Err(error) => {
+            unlock(arena, walk, operation);
+            Err(error)
+        }
+    }
+}
+
+// Makes the tree, behind all growths of what stands in it.
+fn grow_layer(
+    alloc: Global,
+    arena: &mut Arena,
+    key: &StoredKey,
+    walk: &Walk,
+    operation: usize,
+) -> Result<usize, AllocError>
+    requires kept { IsAtMakeLayer arena.old operation key.now walk.now }
+    ensures number { IfOk result (λ tree. tree ≡ length arena.old.trees) }
+    ensures is { (pair : AnyPair) → (slot_at (at arena.old walk.now.place.node) walk.now.slot).held ≡ Stable pair →
+        OnOk result (arena.new ≡ with_layer arena.old (prefix_below arena.old walk.now.place.node walk.now.slot) (entry_below pair) operation) }
+    ensures unchanged_on_err { OnErr result (arena.new ≡ arena.old) }
+    ensures step { Guarantee operation arena.old arena.new }
+    ensures contents { content_of arena.new ≡ content_of arena.old }
+{
+    arena.facts();
+    let prefix = prefix_below(alloc, key, walk.layer)?;
+    let entry = entry_below(alloc, arena.border(walk.place.node), walk.slot)?;
+    arena.make_layer(prefix, entry, operation)
+}
