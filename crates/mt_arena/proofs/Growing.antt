@@ -1,4 +1,4 @@
--- The whole invariant, the guarantee and the contents where a right half is made, or a tree with its root: for `alloc_node` and
+-- The whole invariant, the guarantee and the contents where a right half is made, or a tree with its root: for `begin_split` and
 -- `MakingLayer`.
 use Rattle.std.proofs.Common.{◌≡◌, ℕ, ◌+◌, ◌*◌, ◌<◌, ◌≤◌, List, [], ◌∷◌, ◌++◌, length, set, false, Some, refl, sym, ap, subst, ◌∙◌, inl, inr, arith, length-append}
 use Rattle.std.proofs.lemmas.Bool.{cases_eq}

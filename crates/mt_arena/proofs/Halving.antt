@@ -1,6 +1,6 @@
 -- The whole invariant, the guarantee and the contents where the slots of a border node are parted, with a new key's or without: for the
--- two calls that split one.
-use Rattle.std.proofs.Common.{◌≡◌, ◌≢◌, ◌⊎◌, ℕ, ◌+◌, ◌-◌, ◌<◌, ◌≤◌, List, ◌++◌, length, take, drop, get_or, set, Some, refl, sym, ap, subst, ◌∙◌, inl, inr, arith, length-append}
+-- call that does it.
+use Rattle.std.proofs.Common.{◌≡◌, ◌≢◌, ◌⊎◌, ℕ, ◌+◌, ◌-◌, ◌<◌, ◌≤◌, List, ◌++◌, length, take, drop, get_or, set, Option, Some, None, IfSome, refl, sym, ap, subst, ◌∙◌, inl, inr, arith, length-append}
 use Rattle.std.specs.List.{All}
 use Rattle.std.specs.FinMap as finite
 use Rattle.std.proofs.lemmas.Bool.{cases_lt}
@@ -14,7 +14,7 @@ use Rattle.mt_border.specs.declared.entry.Pair.{Pair}
 use Rattle.mt_border.specs.declared.entry.Held.TheVariants.{Stable}
 use Rattle.mt_border.specs.Entry.{IsEntry, order_of, pair_of}
 use Rattle.mt_lists.specs.Rising.{IsRising}
-use Rattle.mt_border.specs.Entries.{IsBorder, orders, slices, place_in, with_entry}
+use Rattle.mt_border.specs.Entries.{IsBorder, orders, slices, place_in}
 use Rattle.mt_border.specs.Split.{IsParted}
 use Rattle.mt_border.specs.Contents.{HasKey, owned}
 use Rattle.mt_border.proofs.Edits.{any_entry, place_in-le, All-insert, border_take, border_drop, orders-insert, rising_with}
@@ -27,12 +27,12 @@ use Rattle.mt_arena.specs.NodeView.{NodeView, node_at}
 use Rattle.mt_arena.specs.Nodes.{Holds}
 use Rattle.mt_arena.specs.Forests.{HaveKeys, tree_at, layer_of}
 use Rattle.mt_arena.specs.Contents.{content}
-use Rattle.mt_arena.specs.Ways.{IsUnfilled}
+use Rattle.mt_arena.specs.Ways.{AreBegun, IsUnfilled}
 use Rattle.mt_arena.specs.declared.tree.Standing.TheVariants.{Live}
 use Rattle.mt_arena.specs.Arena.{ArenaInvariant, ArenaView, Guarantee}
 use Rattle.mt_arena.specs.Accesses.{at, tree_of}
-use Rattle.mt_arena.specs.Splits.{Splits, left_half, right_half}
-use Rattle.mt_arena.specs.Several.{IsHalf, MaySplit, MayPlace}
+use Rattle.mt_arena.specs.Splits.{Splits, with_some, left_half, right_half}
+use Rattle.mt_arena.specs.Several.{IsHalf, MaySplit, MayPlace, AreHalved}
 use Rattle.mt_arena.proofs.LinkEdits.{HasSlot, HasLinksOf, same_links, links_insert, links_insert_back}
 use Rattle.mt_arena.proofs.Homes.{begun}
 use Rattle.mt_arena.proofs.Locks.{is_held}
@@ -96,17 +96,24 @@ gathers_same xs trees gone room i within sound =
       back = same_links x.slots;
     }
 
--- the slots of a node with one more entry are what both halves hold together
-pub gathers_with : (v : ArenaView) (room left right op : ℕ) (key : Bytes) (e : Entry) → ArenaInvariant v.nodes v.trees v.retired room → MaySplit v left right op e.slice e.mark → MayPlace v left op key e → Gathers v.trees (at v left) (with_entry (at v left).slots e)
-gathers_with v room left right op key e sound may place =
+-- the key's entry, where there is one, may come in
+abbrev pub MayCome : ArenaView → ℕ → ℕ → ℕ → Mark → Option Entry → Type 0
+MayCome v left op slice mark entry = IfSome entry (λ e. (e.slice ≡ slice) × (e.mark ≡ mark) × ((key : Bytes) × MayPlace v left op key e))
+
+-- the slots of a node, with one more entry where there is one, are what both halves hold together
+pub gathers_some : (v : ArenaView) (room left right op slice : ℕ) (mark : Mark) (entry : Option Entry) → ArenaInvariant v.nodes v.trees v.retired room
+    → MaySplit v left right op slice mark → MayCome v left op slice mark entry → Gathers v.trees (at v left) (with_some (at v left).slots entry)
+gathers_some v room left right op slice mark None sound may come = gathers_same v.nodes v.trees v.retired room left may.half.held.there sound
+gathers_some v room left right op slice mark (Some e) sound may (slice_is, mark_is, (key, place)) =
     let x = at v left in
     let layer = layer_of (tree_of v left).prefix in
     let was = gathers_same v.nodes v.trees v.retired room left may.half.held.there sound in
     let p = place_in x.slots (order_of e) in
     let le = place_in-le x.slots (order_of e) in
+    let border = (sound.arena.nodes.each left may.half.held.there).slots.border in
     record {
       few = omega (arith, may.full, length-publish x.slots e);
-      rising = rw (orders-insert x.slots p e) (rising_with x.slots e.slice e.mark (sound.arena.nodes.each left may.half.held.there).slots.border place.entry.mark may.missing);
+      rising = rw (orders-insert x.slots p e) (rising_with x.slots e.slice e.mark border place.entry.mark (rw (slice_is, mark_is) may.missing));
       each = All-insert IsEntry x.slots p e was.each place.entry;
       inside = All-insert (λ (e : Entry). Holds x e.slice) x.slots p e was.inside (subst (Holds x) (sym place.has.slice) place.belongs.holds);
       keys = record {
@@ -219,21 +226,41 @@ module _ (v : ArenaView) (room left right op : ℕ) (all kept moved : List Entry
 unfilled : (v : ArenaView) (left right op : ℕ) → IsHalf v left right op → IsUnfilled v.nodes left right
 unfilled v left right op half = record { other = half.differ; there = half.right_held.there; live = half.right_live; tree = half.right_tree; empty = half.empty }
 
--- a split with a new key inserts its pair
-pub content_halved : (v : ArenaView) (room left right op : ℕ) (key : Bytes) (e : Entry) (pair : Pair) (kept moved : List Entry) → ArenaInvariant v.nodes v.trees v.retired room → MaySplit v left right op e.slice e.mark → MayPlace v left op key e → e.held ≡ Stable pair
-    → IsParted (with_entry (at v left).slots e) kept moved (at v right).low
-    → content v.trees (set (set v.nodes left (left_half (at v left) kept (at v right).low right)) right (right_half (at v left) (at v right) moved left)) ≡ finite.insert (content v.trees v.nodes) (owned key) pair.row
-content_halved v room left right op key e pair kept moved sound may place is parted =
-    halved v.nodes v.trees sound.arena (begun v.nodes v.trees sound.arena.forest) key (layer_of (tree_of v left).prefix) left right place.belongs (unfilled v left right op may.half)
-    (left_half (at v left) kept (at v right).low right) (right_half (at v left) (at v right) moved left) kept moved (at v right).low e pair place.has may.missing (ap pair_of is) parted
-    (record { slots = refl; deleted = refl; tree = refl }) (record { slots = refl; deleted = refl; tree = refl })
+-- what a split leaves, with the key's entry or without
+module _ (v : ArenaView) (room left right op slice : ℕ) (mark : Mark) (entry : Option Entry) (new : List NodeView)
+    (sound : ArenaInvariant v.nodes v.trees v.retired room) (may : MaySplit v left right op slice mark) (come : MayCome v left op slice mark entry)
+    (done : AreHalved (with_some (at v left).slots entry) v.nodes new left right) where
+  gathers : Gathers v.trees (at v left) (with_some (at v left).slots entry)
+  gathers = gathers_some v room left right op slice mark entry sound may come
 
--- a split without a new key leaves the contents
-pub content_parted : (v : ArenaView) (room left right op slice : ℕ) (mark : Mark) (kept moved : List Entry) → ArenaInvariant v.nodes v.trees v.retired room → MaySplit v left right op slice mark → (tree_of v left).standing ≡ Live
-    → IsParted (at v left).slots kept moved (at v right).low
-    → content v.trees (set (set v.nodes left (left_half (at v left) kept (at v right).low right)) right (right_half (at v left) (at v right) moved left)) ≡ content v.trees v.nodes
-content_parted v room left right op slice mark kept moved sound may live parted =
-    parted_as_were v.nodes v.trees sound.arena (begun v.nodes v.trees sound.arena.forest) (layer_of (tree_of v left).prefix) left right may.half.held.there may.half.live live (unfilled v left right op may.half)
-    (keys_of v.nodes v.trees left may.half.held.there sound.arena.forest).keys
-    (left_half (at v left) kept (at v right).low right) (right_half (at v left) (at v right) moved left) kept moved (at v right).low
-    (record { slots = refl; deleted = refl; tree = refl }) (record { slots = refl; deleted = refl; tree = refl }) parted
+  abbrev layer : ℕ
+  layer = layer_of (tree_of v left).prefix
+
+  starts : AreBegun v.nodes
+  starts = begun v.nodes v.trees sound.arena.forest
+
+  pub sound_parted : ArenaInvariant new v.trees v.retired room
+  sound_parted = rw done.is
+      (sound_halved v room left right op _ done.kept done.moved sound may.half may.border gathers done.parted done.some_kept done.some_moved)
+
+  pub step_parted : Guarantee op v (record v { nodes = new })
+  step_parted = rw done.is
+      (step_halved v room left right op _ done.kept done.moved sound may.half may.border gathers done.parted done.some_kept done.some_moved)
+
+  -- an entry inserts its pair
+  pub content_with : (key : Bytes) (e : Entry) (pair : Pair) → entry ≡ Some e → MayPlace v left op key e → e.held ≡ Stable pair
+      → content v.trees new ≡ finite.insert (content v.trees v.nodes) (owned key) pair.row
+  content_with key e pair some place is =
+      let (slice_is, mark_is, _) = rw some at come in
+      rw done.is
+      (halved v.nodes v.trees sound.arena starts key layer left right place.belongs (unfilled v left right op may.half) _ _ done.kept done.moved _ e pair
+      place.has (rw (slice_is, mark_is) may.missing) (ap pair_of is) (rw some at done.parted)
+      (record { slots = refl; deleted = refl; tree = refl }) (record { slots = refl; deleted = refl; tree = refl }))
+
+  -- and without one the contents stay
+  pub content_without : (tree_of v left).standing ≡ Live → entry ≡ None → content v.trees new ≡ content v.trees v.nodes
+  content_without live none =
+      rw done.is
+      (parted_as_were v.nodes v.trees sound.arena starts layer left right may.half.held.there may.half.live live (unfilled v left right op may.half)
+      (keys_of v.nodes v.trees left may.half.held.there sound.arena.forest).keys _ _ done.kept done.moved _
+      (record { slots = refl; deleted = refl; tree = refl }) (record { slots = refl; deleted = refl; tree = refl }) (rw none at done.parted))

@@ -1,10 +1,10 @@
 -- Two nodes of a list that is cut in two are those of the whole list: for the bodies that change two nodes at once.
-use Rattle.std.proofs.Common.{◌≡◌, ◌≢◌, ℕ, zero, suc, ◌+◌, ◌<◌, ◌≤◌, List, [], ◌∷◌, ◌++◌, length, take, drop, get_or, set, refl, sym, ap, ◌∙◌, arith}
+use Rattle.std.proofs.Common.{◌≡◌, ◌≢◌, ℕ, zero, suc, ◌+◌, ◌<◌, ◌≤◌, List, [], ◌∷◌, ◌++◌, length, take, drop, get_or, set, Option, refl, sym, ap, ◌∙◌, arith}
 use Rattle.std.proofs.lemmas.List.{get_or-take, get_or-drop, get_or_default, set_comm, length-set, take_at}
 use Rattle.mt_border.specs.declared.entry.Entry.{Entry}
 use Rattle.mt_border.specs.Split.{IsParted}
 use Rattle.mt_arena.specs.NodeView.{NodeView, node_at, no_node}
-use Rattle.mt_arena.specs.Splits.{left_half, right_half}
+use Rattle.mt_arena.specs.Splits.{with_some, left_half, right_half}
 use Rattle.mt_arena.specs.Several.{AreHalved}
 
 -- the first node behind is another
@@ -52,27 +52,27 @@ pub in_back : (xs back : List NodeView) (j : ℕ) (d : NodeView) → back ≡ dr
 in_back xs back j d is within = ap (λ ys. get_or ys 0 d) is ∙ get_or-drop j xs 0 d ∙ ap (λ k. get_or xs k d) {x = j + 0} {y = j} (omega arith) ∙ get_or_default xs j d no_node within
 
 -- both halves, where the left one stands before the right one, and behind it
-module _ (all : List Entry → List Entry) (xs front back : List NodeView) (i j : ℕ) (d e y z : NodeView) where
-  pub halved_front : front ≡ take j xs → back ≡ drop j xs → i < j → j < length xs → IsParted (all (get_or front i d).slots) y.slots z.slots (get_or back 0 e).low → 0 < length y.slots → 0 < length z.slots
-      → y ≡ left_half (get_or front i d) y.slots (get_or back 0 e).low j → z ≡ right_half (get_or front i d) (get_or back 0 e) z.slots i → AreHalved (all (node_at xs i).slots) xs (set front i y ++ set back 0 z) i j
+module _ (entry : Option Entry) (xs front back : List NodeView) (i j : ℕ) (d e y z : NodeView) where
+  pub halved_front : front ≡ take j xs → back ≡ drop j xs → i < j → j < length xs
+      → IsParted (with_some (get_or front i d).slots entry) y.slots z.slots (get_or back 0 e).low → 0 < length y.slots → 0 < length z.slots
+      → y ≡ left_half (get_or front i d) y.slots (get_or back 0 e).low j → z ≡ right_half (get_or front i d) (get_or back 0 e) z.slots i
+      → AreHalved (with_some (node_at xs i).slots entry) xs (set front i y ++ set back 0 z) i j
   halved_front first second lt within parted some_kept some_moved left right =
       let x_is = in_front xs front i j d first lt within in
       let r_is = in_back xs back j e second within in
-      halved (all (node_at xs i).slots) xs i j y z (set front i y ++ set back 0 z) (rw (first, second) (both_set xs i j y z lt within))
+      halved _ xs i j y z (set front i y ++ set back 0 z) (rw (first, second) (both_set xs i j y z lt within))
       (rw (x_is, r_is) at parted) some_kept some_moved (rw (x_is, r_is) at left) (rw (x_is, r_is) at right)
 
-  pub halved_back : front ≡ take i xs → back ≡ drop i xs → i ≢ j → j ≤ i → i < length xs → IsParted (all (get_or back 0 d).slots) y.slots z.slots (get_or front j e).low → 0 < length y.slots → 0 < length z.slots
-      → y ≡ left_half (get_or back 0 d) y.slots (get_or front j e).low j → z ≡ right_half (get_or back 0 d) (get_or front j e) z.slots i → AreHalved (all (node_at xs i).slots) xs (set front j z ++ set back 0 y) i j
+  pub halved_back : front ≡ take i xs → back ≡ drop i xs → i ≢ j → j ≤ i → i < length xs
+      → IsParted (with_some (get_or back 0 d).slots entry) y.slots z.slots (get_or front j e).low → 0 < length y.slots → 0 < length z.slots
+      → y ≡ left_half (get_or back 0 d) y.slots (get_or front j e).low j → z ≡ right_half (get_or back 0 d) (get_or front j e) z.slots i
+      → AreHalved (with_some (node_at xs i).slots entry) xs (set front j z ++ set back 0 y) i j
   halved_back first second differ le within parted some_kept some_moved left right =
       let r_is = in_front xs front j i e first (omega (arith, differ, le)) within in
       let x_is = in_back xs back i d second within in
-      halved (all (node_at xs i).slots) xs i j y z (set front j z ++ set back 0 y) (rw (first, second) (both_back xs i j y z differ le within))
+      halved _ xs i j y z (set front j z ++ set back 0 y) (rw (first, second) (both_back xs i j y z differ le within))
       (rw (x_is, r_is) at parted) some_kept some_moved (rw (x_is, r_is) at left) (rw (x_is, r_is) at right)
 
--- the whole list, written back
-pub written : (xs ws : List NodeView) (n : ℕ) → length xs ≡ n → length ws ≡ length xs → take n (ws ++ drop (length ws) xs) ≡ ws
-written xs ws n all same = take_at ws (drop (length ws) xs) n (same ∙ all)
-
--- two writes keep the number of nodes
-pub two_long : (xs ys : List NodeView) (i j : ℕ) (y z : NodeView) → ys ≡ set (set xs i y) j z → length ys ≡ length xs
-two_long xs ys i j y z is = ap length is ∙ length-set (set xs i y) j z ∙ length-set xs i y
+-- the whole list, written back: two writes keep the number of nodes
+pub written : (all : List Entry) (xs ws : List NodeView) (n i j : ℕ) → length xs ≡ n → AreHalved all xs ws i j → take n (ws ++ drop (length ws) xs) ≡ ws
+written all xs ws n i j whole h = take_at ws (drop (length ws) xs) n (ap length h.is ∙ length-set (set xs i _) j _ ∙ length-set xs i _ ∙ whole)

@@ -1,13 +1,18 @@
 -- What a split makes of two nodes and of their parent, and what it needs.
-use Rattle.std.specs.Prelude.{take, drop, ◌≡◌, ◌≢◌, ℕ, ◌+◌, ◌<◌, true, false, List, length, insert, Some, None, slice_index}
+use Rattle.std.specs.Prelude.{take, drop, ◌≡◌, ◌≢◌, ℕ, ◌+◌, ◌<◌, true, false, List, length, insert, Option, Some, None, slice_index}
 use Rattle.mt_border.specs.declared.entry.Entry.{Entry}
-use Rattle.mt_border.specs.Entries.{IsBorder}
+use Rattle.mt_border.specs.Entries.{IsBorder, with_entry}
 use Rattle.mt_interior.specs.Places.{place_of}
 use Rattle.mt_interior.specs.Fences.{end_of}
 use Rattle.mt_arena.specs.NodeView.{NodeView, node_at}
 use Rattle.mt_arena.specs.Nodes.{HasChild}
 use Rattle.mt_arena.specs.NodeFacts.{AreWithin}
 use Rattle.mt_arena.specs.Edits.{bare}
+
+-- the entries with one more, where there is one
+abbrev pub with_some : List Entry → Option Entry → List Entry
+with_some entries None = entries
+with_some entries (Some e) = with_entry entries e
 
 -- what is left of a border node that keeps these slots and ends where the right half begins
 abbrev pub left_half : NodeView → List Entry → ℕ → ℕ → NodeView

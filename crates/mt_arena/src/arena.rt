@@ -3,15 +3,16 @@
 //! Invariant: `IsArena`, fact by fact in `specs/Nodes.antt`, `specs/Forests.antt` and
 //! `specs/Layers.antt`; it names no operation but those that hold a node or make a tree. Each call that
 //! changes a node does it in place, and says in `Guarantee` what others may rely on.
-//! Owns its nodes. Errors: `AllocError`, from `new`, `alloc_node`, `make_layer`, `grow_root` and
+//! Owns its nodes. Errors: `AllocError`, from `new`, `begin_split`, `make_layer`, `grow_root` and
 //! `split_interior` alone. Units: nodes, trees and operations by their numbers, from 0.
 
-ghost use Rattle.std.specs.Prelude.{◌≡◌, ◌≢◌, ◌<◌, ◌≤◌, ℕ, [], ◌∷◌, ◌++◌, ◌+◌, length, slice_set, true, false, Some, None, IfOk, OnOk, OnErr};
+ghost use Rattle.std.specs.Prelude.{◌≡◌, ◌≢◌, ◌<◌, ◌≤◌, ℕ, [], ◌∷◌, ◌++◌, ◌+◌, length, slice_set, true, false, Some, None, IfSome, IfOk, OnOk, OnErr};
 ghost use Rattle.std.specs.Vec.{vec_len, vec_capacity};
 ghost use Rattle.std.specs.FinMap as finite;
 ghost use Rattle.mt_rows.specs.Rows.{Bytes};
 ghost use Rattle.mt_version.specs.Changes.{CanUnlock};
 ghost use Rattle.mt_border.specs.declared.border.TheConstants.{SLOTS};
+ghost use Rattle.mt_border.specs.declared.entry.Entry.{Entry};
 ghost use Rattle.mt_border.specs.declared.entry.Pair.{Pair};
 ghost use Rattle.mt_border.specs.declared.entry.Held.TheVariants.{Stable};
 ghost use Rattle.mt_border.specs.Entry.{IsEntry, IsStablePair};
@@ -30,6 +31,7 @@ ghost use Rattle.mt_arena.specs.Arena.{IsArena, AreRetired, content_of, Guarante
 ghost use Rattle.mt_slices.specs.Marks.{IsMark};
 ghost use Rattle.mt_border.specs.Split.{IsParted, IsSeparator, slices_with};
 ghost use Rattle.mt_interior.specs.Places.{IsNew};
+ghost use Rattle.mt_arena.specs.Splits.{with_some};
 ghost use Rattle.mt_arena.specs.Several.{AreHalved, MaySplit, MayPlace, MayGrow, with_top, with_root, MayInsert, with_right, MaySplitInner, with_parts};
 ghost use Rattle.mt_arena.specs.Accesses.{new_arena, at, tree_of, IsHeld, IsOpen, with_node, with_half, with_row, MayPublish, MayChange};
 
@@ -239,7 +241,7 @@ impl Arena {
     /// Begins the split of a border node: marks it for readers of its range, and makes its right half, a
     /// node without range that names it as the one before, and which the operation holds. An error
     /// leaves all as it was.
-    pub fn alloc_node(
+    pub fn begin_split(
         &mut self,
         left: usize,
         low: u64,
@@ -264,38 +266,29 @@ impl Arena {
         Ok(number)
     }
 
-    /// Parts the slots of a full border node and the pair of a missing key, which belongs in it, among
-    /// it and its right half: keys from that one's low fence on stand there from now on.
-    pub fn split_border(&mut self, left: usize, right: usize, entry: Entry, operation: usize)
-        requires may { MaySplit self.old left right operation entry.slice entry.mark }
-        requires place { (key : Bytes) × MayPlace self.old left operation key entry }
-        ensures nodes { AreHalved (with_entry (at self.old left).slots entry) self.old.nodes self.new.nodes left right }
-        ensures others { self.new ≡ record self.old { nodes = self.new.nodes } }
-        ensures step { Guarantee operation self.old self.new }
-        ensures contents { (key : Bytes) (pair : Pair) → MayPlace self.old left operation key entry → entry.held ≡ Stable pair →
-            content_of self.new ≡ finite.insert (content_of self.old) (owned key) pair.row }
-    {
-        halve_with(&mut self.nodes, left, right, entry);
-    }
-
-    /// Parts the slots of a full border node among it and its right half, as `split_border` would with
-    /// the key of this slice and mark, which is left out.
-    pub fn split_border_without(
+    /// Parts the slots of a full border node among it and its right half, where they are parted with
+    /// the missing key of this slice and mark: keys from the right half's low fence on stand there from
+    /// now on. Where there is an entry, which is that key's, it comes in too.
+    pub fn split_border(
         &mut self,
         left: usize,
         right: usize,
         slice: u64,
         mark: Mark,
+        entry: Option<Entry>,
         operation: usize,
     )
         requires may { MaySplit self.old left right operation slice mark }
         requires live { (tree_of self.old left).standing ≡ Live }
-        ensures nodes { AreHalved (at self.old left).slots self.old.nodes self.new.nodes left right }
+        requires entry { IfSome entry (λ e. (e.slice ≡ slice) × (e.mark ≡ mark) × ((key : Bytes) × MayPlace self.old left operation key e)) }
+        ensures nodes { AreHalved (with_some (at self.old left).slots entry) self.old.nodes self.new.nodes left right }
         ensures others { self.new ≡ record self.old { nodes = self.new.nodes } }
         ensures step { Guarantee operation self.old self.new }
-        ensures contents { content_of self.new ≡ content_of self.old }
+        ensures contents { (key : Bytes) (e : Entry) (pair : Pair) → entry ≡ Some e → MayPlace self.old left operation key e → e.held ≡ Stable pair →
+            content_of self.new ≡ finite.insert (content_of self.old) (owned key) pair.row }
+        ensures kept { entry ≡ None → content_of self.new ≡ content_of self.old }
     {
-        halve_without(&mut self.nodes, left, right, slice, mark);
+        halve(&mut self.nodes, left, right, slice, mark, entry);
     }
 
     /// Makes an interior root over the two halves of one, which the operation holds: it may unlock it at
@@ -357,31 +350,16 @@ impl Arena {
     }
 }
 
-// Parts the slots of a full node and an entry among it and its right half.
-fn halve_with(nodes: &mut [Node], left: usize, right: usize, entry: Entry)
-    requires there { left < length nodes.old }
-    requires right_there { right < length nodes.old }
-    requires differ { left ≢ right }
-    requires border { (node_at nodes.old left).level ≡ 0 }
-    requires right_border { (node_at nodes.old right).level ≡ 0 }
-    requires full { length (node_at nodes.old left).slots ≡ SLOTS }
-    requires entry { IsEntry entry }
-    requires missing { IsMissing (node_at nodes.old left).slots entry.slice entry.mark }
-    requires empty { (node_at nodes.old right).slots ≡ [] }
-    requires separator { IsSeparator (slices_with (node_at nodes.old left).slots entry.slice entry.mark) (node_at nodes.old right).low }
-    ensures { AreHalved (with_entry (node_at nodes.old left).slots entry) nodes.old nodes.new left right }
-{
-    if left < right {
-        let (front, back) = nodes.split_at_mut(right);
-        front[left].split_with(entry, &mut back[0], left, right);
-    } else {
-        let (front, back) = nodes.split_at_mut(left);
-        back[0].split_with(entry, &mut front[right], left, right);
-    }
-}
-
-// Parts the slots of a full node among it and its right half.
-fn halve_without(nodes: &mut [Node], left: usize, right: usize, slice: u64, mark: Mark)
+// Parts the slots of a full node among it and its right half; an entry, where there is one, comes in
+// too.
+fn halve(
+    nodes: &mut [Node],
+    left: usize,
+    right: usize,
+    slice: u64,
+    mark: Mark,
+    entry: Option<Entry>,
+)
     requires there { left < length nodes.old }
     requires right_there { right < length nodes.old }
     requires differ { left ≢ right }
@@ -390,16 +368,17 @@ fn halve_without(nodes: &mut [Node], left: usize, right: usize, slice: u64, mark
     requires full { length (node_at nodes.old left).slots ≡ SLOTS }
     requires mark { IsMark mark }
     requires missing { IsMissing (node_at nodes.old left).slots slice mark }
+    requires entry { IfSome entry (λ e. (e.slice ≡ slice) × (e.mark ≡ mark) × IsEntry e) }
     requires empty { (node_at nodes.old right).slots ≡ [] }
     requires separator { IsSeparator (slices_with (node_at nodes.old left).slots slice mark) (node_at nodes.old right).low }
-    ensures { AreHalved (node_at nodes.old left).slots nodes.old nodes.new left right }
+    ensures { AreHalved (with_some (node_at nodes.old left).slots entry) nodes.old nodes.new left right }
 {
     if left < right {
         let (front, back) = nodes.split_at_mut(right);
-        front[left].split_without(slice, mark, &mut back[0], left, right);
+        front[left].split(slice, mark, entry, &mut back[0], left, right);
     } else {
         let (front, back) = nodes.split_at_mut(left);
-        back[0].split_without(slice, mark, &mut front[right], left, right);
+        back[0].split(slice, mark, entry, &mut front[right], left, right);
     }
 }
 

@@ -58,7 +58,7 @@ impl Node {
     ghost use Rattle.mt_arena.specs.Edits.{locked, unlocked, inserting, splitting, retired, with_slots, pointed, fresh_half, fresh_root};
     ghost use Rattle.mt_slices.specs.Marks.{IsMark};
     ghost use Rattle.mt_border.specs.Split.{IsParted, IsSeparator, slices_with};
-    ghost use Rattle.mt_arena.specs.Splits.{left_half, right_half, with_child, exact, inner_left, inner_right};
+    ghost use Rattle.mt_arena.specs.Splits.{with_some, left_half, right_half, with_child, exact, inner_left, inner_right};
     ghost use Rattle.mt_arena.specs.Growth.{fresh_top, below_top, left_below};
 
     /// The first node of a tree.
@@ -306,47 +306,14 @@ impl Node {
         old
     }
 
-    /// Parts the slots of a full border node and a missing key's entry among it and its right half,
-    /// which gets its range from its low fence on. The nodes' numbers are those behind.
-    pub(crate) fn split_with(
-        &mut self,
-        entry: Entry,
-        right: &mut Node,
-        left_number: usize,
-        right_number: usize,
-    )
-        requires border { self.old.level ≡ 0 }
-        requires right_border { right.old.level ≡ 0 }
-        requires full { length self.old.slots ≡ SLOTS }
-        requires entry { IsEntry entry }
-        requires missing { IsMissing self.old.slots entry.slice entry.mark }
-        requires empty { right.old.slots ≡ [] }
-        requires separator { IsSeparator (slices_with self.old.slots entry.slice entry.mark) right.old.low }
-        ensures parted { IsParted (with_entry self.old.slots entry) self.new.slots right.new.slots right.old.low }
-        ensures some_left { 0 < length self.new.slots }
-        ensures some_right { 0 < length right.new.slots }
-        ensures left { self.new ≡ left_half self.old self.new.slots right.old.low right_number }
-        ensures right { right.new ≡ right_half self.old right.old right.new.slots left_number }
-    {
-        match &mut self.kind {
-            NodeKind::Leaf(left) => match &mut right.kind {
-                NodeKind::Leaf(half) => {
-                    left.split_into(entry, half);
-                    hand_over(left, half, left_number, right_number);
-                }
-                NodeKind::Inner(_) => unreachable!(),
-            },
-            NodeKind::Inner(_) => unreachable!(),
-        }
-        right.reach = self.reach;
-    }
-
     /// Parts the slots of a full border node among it and its right half, which gets its range from
-    /// its low fence on: where they would be parted with the key of this slice and mark.
-    pub(crate) fn split_without(
+    /// its low fence on: where they are parted with the missing key of this slice and mark. Where
+    /// there is an entry, which is that key's, it comes in too. The nodes' numbers are those behind.
+    pub(crate) fn split(
         &mut self,
         slice: u64,
         mark: Mark,
+        entry: Option<Entry>,
         right: &mut Node,
         left_number: usize,
         right_number: usize,
@@ -356,9 +323,10 @@ impl Node {
         requires full { length self.old.slots ≡ SLOTS }
         requires mark { IsMark mark }
         requires missing { IsMissing self.old.slots slice mark }
+        requires entry { IfSome entry (λ e. (e.slice ≡ slice) × (e.mark ≡ mark) × IsEntry e) }
         requires empty { right.old.slots ≡ [] }
         requires separator { IsSeparator (slices_with self.old.slots slice mark) right.old.low }
-        ensures parted { IsParted self.old.slots self.new.slots right.new.slots right.old.low }
+        ensures parted { IsParted (with_some self.old.slots entry) self.new.slots right.new.slots right.old.low }
         ensures some_left { 0 < length self.new.slots }
         ensures some_right { 0 < length right.new.slots }
         ensures left { self.new ≡ left_half self.old self.new.slots right.old.low right_number }
@@ -367,7 +335,10 @@ impl Node {
         match &mut self.kind {
             NodeKind::Leaf(left) => match &mut right.kind {
                 NodeKind::Leaf(half) => {
-                    left.split_without(slice, mark, half);
+                    match entry {
+                        Some(entry) => left.split_into(entry, half),
+                        None => left.split_without(slice, mark, half),
+                    };
                     hand_over(left, half, left_number, right_number);
                 }
                 NodeKind::Inner(_) => unreachable!(),

@@ -316,10 +316,10 @@ impl Checked {
         let (slice, mark, border) = (key.slice(0), key.mark(0), self.arena.border(node));
         assert!(rt; border.is_full());
         let low = border.separator(slice, mark);
-        let half = self.arena.alloc_node(node, low, 5).expect(rt, "memory");
+        let half = self.arena.begin_split(node, low, 5).expect(rt, "memory");
         self.count = self.count.checked_add(1).expect(rt, "a number");
         assert!(rt; self.may_split(node, half, key));
-        self.arena.split_border_without(node, half, slice, mark, 5);
+        self.arena.split_border(node, half, slice, mark, None, 5);
         half
     }
 

@@ -1,39 +1,41 @@
 -- A step of a put whose right halves come to their parents, by what `climb_on` tells of it: for `Inner::climb`.
-use Rattle.std.proofs.Common.{◌≡◌, ℕ, zero, suc, ◌+◌, ◌-◌, ◌<◌, ◌≤◌, inl, inr, false, List, [], ◌∷◌, length, set, Some, None, IsSome, is_some, refl, sym, ap, subst, ◌∙◌, arith}
+use Rattle.std.proofs.Common.{IsSome, List, None, Some, [], ap, arith, false, inl, inr, is_some, length, refl, set, subst, suc, sym, zero, ℕ, ◌+◌, ◌-◌, ◌<◌, ◌∙◌, ◌∷◌, ◌≡◌, ◌≤◌}
 use Rattle.std.specs.Prelude.{◌^◌, ◌⊎◌}
 use Rattle.std.proofs.lemmas.Bool.{cases_eq}
 use Rattle.std.proofs.lemmas.Option.{same_Some}
-use Rattle.mt_arena.specs.Arena.{ArenaView}
+use Rattle.mt_arena.specs.Arena.{ArenaView, IsArena}
 use Rattle.mt_arena.specs.Accesses.{at}
 use Rattle.mt_operation.specs.declared.phase.Phase.{Phase}
-use Rattle.mt_operation.specs.declared.phase.Phase.TheVariants.{SplitPrev, LockParent, InsertChild, InteriorSplit, Reparent, RootGrow, Done}
+use Rattle.mt_operation.specs.declared.phase.Phase.TheVariants.{Done, InsertChild, InteriorSplit, LockParent, Reparent, RootGrow, SplitPrev}
 use Rattle.mt_operation.specs.declared.walk.Walk.{Walk}
 use Rattle.mt_operation.specs.declared.splits.Halves.{Halves}
 use Rattle.mt_operation.specs.declared.splits.Splits.{Splits}
 use Rattle.mt_operation.specs.declared.operation.Operation.{Operation}
-use Rattle.mt_operation.specs.Operations.{OperationView, view_of, splits_of, moved, with_splits}
-use Rattle.mt_operation.specs.Phases.{is_done, IsToGrow, IsClimb}
-use Rattle.mt_operation.specs.Tables.{Table, op_at as operation_at, MayMove}
+use Rattle.mt_operation.specs.Operations.{OperationView, moved, splits_of, view_of, with_splits}
+use Rattle.mt_operation.specs.Phases.{IsClimb, IsToGrow, is_done}
+use Rattle.mt_operation.specs.Tables.{MayMove, Table, op_at as operation_at}
 use Rattle.mt_operation.proofs.Tables.{set_is, set_there}
-use Rattle.mt_insert.specs.Splitting.{halves_at, last_of, IsAmong, HoldsSplits, AreReturnable, AreParted, NothingLags, HasSplits, HasSplitsNamed, IsParent, KeptSplit}
+use Rattle.mt_insert.specs.Splitting.{AreParted, AreReturnable, HasSplits, HasSplitsNamed, HoldsSplits, IsAmong, IsParent, KeptSplit, NothingLags, halves_at, last_of}
+use Rattle.mt_insert.specs.Climbs.{AreSame, IsClimbFrom}
 use Rattle.mt_state.specs.declared.moves.Move.{Move}
-use Rattle.mt_state.specs.declared.moves.Move.TheVariants.{Moved, Again, NoMemory}
+use Rattle.mt_state.specs.declared.moves.Move.TheVariants.{Again, Moved, NoMemory}
 use Rattle.mt_state.specs.Views.{Core, Shown, shown}
-use Rattle.mt_state.specs.Promises.{IsAnswer, IsInTheWay, IsHeldByOther}
+use Rattle.mt_state.specs.Promises.{IsAnswer, IsHeldByOther, IsInTheWay}
 use Rattle.mt_state.specs.Kept.{IsClimbing, IsKeptAt, IsKeptOf}
-use Rattle.mt_state.specs.Invariant.{HoldsAt, StateInvariant, one_if_prepared, prepared_count, made_count}
-use Rattle.mt_state.specs.Writes.{Climbs}
-use Rattle.mt_state.proofs.Shown.{shown_table, shown_there, shown_set}
+use Rattle.mt_state.specs.Invariant.{HoldsAt, StateInvariant, made_count, one_if_prepared, prepared_count}
+use Rattle.mt_state.proofs.Shown.{shown_set, shown_table, shown_there}
 use Rattle.mt_state.proofs.Telling.{Gives}
-use Rattle.mt_state.proofs.SplitSteps.{climb_done}
+use Rattle.mt_state.proofs.SplitSteps.{climb_among, climb_done, climbing_of}
+use Rattle.mt_state.proofs.ClimbingNodes.{climb_keeps, climb_leads}
 use Rattle.mt_core.specs.Nexts.{IsNext}
-use Rattle.mt_core.specs.Points.{StepsOn}
-use Rattle.mt_core.specs.Climbs.{ClimbsOn, AreSame, TellsClimbed}
+use Rattle.mt_core.specs.Points.{StepsOn, above}
+use Rattle.mt_core.specs.Climbs.{TellsClimbed}
 use Rattle.mt_core.specs.declared.climbs.Climbed.TheVariants.{Blocked, NoMemory as NoMemoryClimbed}
-use Rattle.mt_core.proofs.Points.{point_first, nears_by}
-use Rattle.mt_core.proofs.Following.{set_back, Writes, IsOver, over_first, over_next, opened, may_over, next_here, holder_open, made}
+use Rattle.mt_core.proofs.Points.{nears_by, point_first}
+use Rattle.mt_core.proofs.Following.{IsOver, Writes, holder_open, made, may_over, next_here, opened, over_first, over_next, set_back}
 use Rattle.mt_core.proofs.Leading.{leads_over}
-use Rattle.mt_core.proofs.Retained.{retained, own_tape}
+use Rattle.mt_core.proofs.Retained.{own_tape, retained}
+use Rattle.mt_core.proofs.ClimbingNears.{climb_nears}
 
 -- as many operations have all ready where the one that is written has as it had
 count_back : (table : Table) (o : ℕ) (x y : Operation) → operation_at table o ≡ Some x → one_if_prepared (Some y) ≡ one_if_prepared (Some x)
@@ -42,17 +44,7 @@ count_back [] o x y is same = refl
 count_back (z ∷ table) zero x y is same = let was = ap one_if_prepared is in omega (arith, was, same)
 count_back (z ∷ table) (suc o) x y is same = let rest = count_back table o x y is same in omega (arith, rest)
 
--- what is kept of an operation that climbs, by its phase
-climbing_of : (p : Phase) → IsClimb p → (c : Core) (o : ℕ) (op : Operation) → IsKeptAt p c o op → IsClimbing c o op p
-climbing_of SplitPrev i c o op kept = kept
-climbing_of LockParent i c o op kept = kept
-climbing_of InsertChild i c o op kept = kept
-climbing_of InteriorSplit i c o op kept = kept
-climbing_of Reparent i c o op kept = kept
-climbing_of RootGrow i c o op kept = kept
-climbing_of _ i c o op kept = absurd i
-
--- and back
+-- what is kept of an operation that climbs is what is kept at its phase
 climbs_at : (p : Phase) → IsClimb p → (c : Core) (o : ℕ) (op : Operation) → IsClimbing c o op p → IsKeptAt p c o op
 climbs_at SplitPrev i c o op kept = kept
 climbs_at LockParent i c o op kept = kept
@@ -62,16 +54,7 @@ climbs_at Reparent i c o op kept = kept
 climbs_at RootGrow i c o op kept = kept
 climbs_at _ i c o op kept = absurd i
 
--- what it holds are nodes of its splits
-climb_among : (p : Phase) → IsClimb p → (w : Walk) (s : Splits) (k : ℕ) → HoldsAt p w s k → IsAmong s k
-climb_among SplitPrev i w s k holds = holds
-climb_among LockParent i w s k holds = holds
-climb_among InsertChild i w s k holds = holds
-climb_among InteriorSplit i w s k holds = holds
-climb_among Reparent i w s k holds = holds
-climb_among RootGrow i w s k holds = holds
-climb_among _ i w s k holds = absurd i
-
+-- it holds the nodes of its splits
 climb_holds : (p : Phase) → IsClimb p → (w : Walk) (s : Splits) (k : ℕ) → IsAmong s k → HoldsAt p w s k
 climb_holds SplitPrev i w s k among = among
 climb_holds LockParent i w s k among = among
@@ -251,8 +234,7 @@ module _ (c now : Core) (o : ℕ) (is : c ≡ now) (h : StateInvariant c) (next 
   holds : HoldsSplits c.arena o op.splits
   holds k within held =
       let f = h.holders k o within held in
-      let it = same_Some f.0 op (sym f.1 ∙ there) in
-      climb_among op.walk.phase at_climb op.walk op.splits k (subst (λ (x : Operation). HoldsAt x.walk.phase x.walk x.splits k) it f.2)
+      climb_among op.walk.phase at_climb op.walk op.splits k (subst (λ (x : Operation). HoldsAt x.walk.phase x.walk x.splits k) (same_Some f.0 op (sym f.1 ∙ there)) f.2)
 
   -- its splits are taken out, and others are there
   module _ (none : Splits) (mid : Table) (s : Splits) (gives : (x : Operation) → operation_at c.table o ≡ Some x → s ≡ x.splits) (takes : Writes c.table mid o (λ x. with_splits x none)) where
@@ -286,43 +268,27 @@ module _ (c now : Core) (o : ℕ) (is : c ≡ now) (h : StateInvariant c) (next 
         may_climb = may_over c o h op there (climb_open op.walk.phase at_climb) last (with_splits op t) over_last refl
 
         -- the step was made
-        module _ (few : now.steps < 2 ^ 59) (on : ClimbsOn o c.arena arena x.walk w s t) (all : Table) (moves : Writes last all o (λ z. moved z (c.steps + 1) w)) where
+        module _ (few : now.steps < 2 ^ 59) (arena_is : IsArena c.arena.nodes c.arena.trees) (on : IsClimbFrom x.walk.phase o c.arena arena x.walk w s t) (all : Table) (moves : Writes last all o (λ z. moved z (c.steps + 1) w)) where
           abbrev after : Operation
           after = moved (with_splits op t) (c.steps + 1) w
 
-          told : ClimbsOn o c.arena arena op.walk w op.splits t
-          told = told_of (λ v r. ClimbsOn o c.arena arena v w r t) on
+          told : IsClimbFrom op.walk.phase o c.arena arena op.walk w op.splits t
+          told = told_of (λ v r. IsClimbFrom v.phase o c.arena arena v w r t) on
 
           over_all : IsOver c.table all o after
           over_all = over_next c.table last all o (λ z. moved z (c.steps + 1) w) (with_splits op t) over_last moves
 
-          climbed : Climbs c o op arena w t
-          climbed = record {
-            moves = record {
-              leaves = record { guarantee = told.guarantee; contents = told.contents };
-              touches = told.touches;
-              stood = told.stood;
-              versions = told.versions c.steps h.versions;
-              unremoved = told.unremoved h.unremoved;
-              makes = told.makes;
-            };
-            follows = told.follows;
-            same = told.same;
-            kept = told.kept;
-            some = told.some;
-            holds = told.holds holds;
-          }
-
           pub climb_gives : Gives (shown c) (made c arena c.tape c.accounts all) o false
           climb_gives = subst (λ (u : Table). Gives (shown c) (record c { steps = c.steps + 1; arena = arena; table = u }) o false) (sym over_all.is)
-              (climb_done c o h (subst (λ (v : Core). v.steps < 2 ^ 59) (sym is) few) op there arena w t at_climb climbed)
+              (climb_done c o h (subst (λ (v : Core). v.steps < 2 ^ 59) (sym is) few) op there arena w t at_climb told)
 
           pub climb_steps : StepsOn now (made c arena c.tape c.accounts all) o Moved
           climb_steps = subst (λ (v : Core). StepsOn v (made c arena c.tape c.accounts all) o Moved) is (record {
             tells = climb_gives.1;
-            nears = nears_by c (made c arena c.tape c.accounts all) o op after there over_all.there told.guarantee
-                (λ height n p. point_first height (n + 1) arena w t after.walk.first (told.nears height n p));
-            leads = leads_over c o h op there op.walk.phase refl c refl arena c.tape c.accounts all after over_all w (told.leads (c.steps + 1) op.task.key op.outcome) refl;
+            nears = nears_by c (made c arena c.tape c.accounts all) o op after there over_all.there (climb_keeps op.walk.phase at_climb o c.arena arena op.walk w op.splits t told).keeps.guarantee
+                (λ height n p. point_first height (n + 1) arena w t after.walk.first
+                (climb_nears op.walk.phase at_climb o c.arena arena op.walk w op.splits t refl arena_is.nodes kept.climbs told height n p));
+            leads = leads_over c o h op there op.walk.phase refl c refl arena c.tape c.accounts all after over_all w (climb_leads op.walk.phase at_climb o c.arena arena op.walk w op.splits t told (c.steps + 1) op.task.key op.outcome) refl;
           })
 
         -- it was not made: all is as it was, but for the splits

@@ -1,160 +1,45 @@
--- The steps of an operation that makes a layer, and that they bring it on: for `build_on`, and for `Inner::build` and `leave`.
-use Rattle.std.proofs.Common.{◌≡◌, ◌≢◌, ℕ, ◌+◌, ◌<◌, ◌≤◌, inl, inr, true, false, List, [], ◌∷◌, ◌++◌, length, set, Option, Some, None, refl, sym, ap, subst, ◌∙◌, arith, length-append}
-use Rattle.std.specs.Prelude.{◌*◌, ◌^◌, ◌⊎◌, min, Result, Ok, Err, OnOk, OnErr}
-use Rattle.std.specs.declared.alloc.AllocError.{AllocError}
-use Rattle.std.proofs.lemmas.Bool.{cases_eq, cases_lt}
-use Rattle.std.proofs.lemmas.List.{length-set, get_or-set_same, get_or-set_other}
+-- The steps of an operation that makes a layer, and that they bring it on: for `Inner::build` and `leave`.
+use Rattle.std.proofs.Common.{List, None, Option, Some, [], ap, arith, false, inl, inr, length, refl, set, subst, sym, true, ℕ, ◌+◌, ◌<◌, ◌∙◌, ◌∷◌, ◌≡◌, ◌≤◌}
+use Rattle.std.specs.Prelude.{min, ◌*◌, ◌^◌}
+use Rattle.std.proofs.lemmas.Bool.{cases_lt}
 use Rattle.mt_slices.specs.Keys.{IsStoredKey}
 use Rattle.mt_rows.specs.declared.reply.Reply.TheVariants.{NoMemory}
 use Rattle.mt_rows.specs.Rows.{Bytes}
-use Rattle.mt_border.specs.declared.entry.Entry.{Entry}
-use Rattle.mt_border.specs.declared.entry.Held.{Held}
-use Rattle.mt_border.specs.declared.entry.Held.TheVariants.{Link as LinkTo}
-use Rattle.mt_arena.specs.declared.tree.Tree.{Tree}
-use Rattle.mt_arena.specs.declared.tree.Standing.TheVariants.{Made, Live, Dead}
-use Rattle.mt_arena.specs.NodeView.{NodeView, node_at}
-use Rattle.mt_arena.specs.Forests.{tree_at, no_tree}
-use Rattle.mt_arena.specs.Layering.{root_of, with_layer, with_held, with_slot, with_link}
+use Rattle.mt_arena.specs.NodeView.{NodeView}
 use Rattle.mt_arena.specs.Edits.{unlocked}
-use Rattle.mt_arena.specs.Arena.{ArenaView, content_of, Guarantee}
-use Rattle.mt_arena.specs.Accesses.{at, IsHeld, with_node}
-use Rattle.mt_arena.proofs.Pairs.{before as as_before}
-use Rattle.mt_arena.proofs.Trees.{last_tree, before_tree}
+use Rattle.mt_arena.specs.Arena.{ArenaView, Guarantee}
+use Rattle.mt_arena.specs.Accesses.{at}
 use Rattle.mt_operation.specs.declared.phase.Phase.{Phase}
-use Rattle.mt_operation.specs.declared.phase.Phase.TheVariants.{Enter, MakeLayer, MarkUnstable, Link, MarkLayer, Unlock, Done}
+use Rattle.mt_operation.specs.declared.phase.Phase.TheVariants.{Done, Enter, Link, MakeLayer, MarkLayer, MarkUnstable, Unlock}
 use Rattle.mt_operation.specs.declared.walk.Walk.{Walk}
 use Rattle.mt_operation.specs.declared.splits.Halves.{Halves}
 use Rattle.mt_operation.specs.declared.splits.Splits.{Splits}
 use Rattle.mt_operation.specs.declared.outcome.Outcome.{Outcome}
 use Rattle.mt_operation.specs.declared.operation.Operation.{Operation}
-use Rattle.mt_operation.specs.Operations.{SplitsView, splits_of, moved, noted}
-use Rattle.mt_operation.specs.Phases.{is_done, MayFollow, IsLayerPhase}
-use Rattle.mt_operation.specs.Tables.{Table, op_at as operation_at, MayMove}
-use Rattle.mt_descent.specs.Moves.{Continues, walk_into}
-use Rattle.mt_insert.specs.Kept.{HoldsOnly, IsAtMakeLayer}
-use Rattle.mt_insert.specs.Moves.{walk_done}
-use Rattle.mt_layer.specs.Kept.{KeptLayer, IsAtMarkUnstable, IsAtLeave}
-use Rattle.mt_layer.specs.Moves.{KeepsStamps, walk_linked, walk_at}
-use Rattle.mt_state.specs.Promises.{Touches, HoldsEither}
+use Rattle.mt_operation.specs.Operations.{moved, noted, splits_of}
+use Rattle.mt_operation.specs.Phases.{IsLayerPhase, is_done}
+use Rattle.mt_operation.specs.Tables.{MayMove, Table, op_at as operation_at}
+use Rattle.mt_descent.specs.Moves.{walk_into}
+use Rattle.mt_insert.specs.Unlock.{GoesInto, IsUnlock}
+use Rattle.mt_layer.specs.Kept.{IsAtLeave, KeptLayer}
+use Rattle.mt_layer.specs.Builds.{IsLayerFrom, IsLeave}
 use Rattle.mt_state.specs.declared.moves.Move.TheVariants.{Moved}
-use Rattle.mt_state.specs.Views.{StateView, Core, shown}
-use Rattle.mt_state.specs.Invariant.{IsCountedUpTo, IsUnremoved, StateInvariant}
-use Rattle.mt_state.specs.Kept.{IsLeaving, IsReturning, IsKeptAt}
-use Rattle.mt_state.specs.Writes.{GoesBelow}
-use Rattle.mt_state.specs.Phases.{GoesFromUnlock, LeadsTo, Leads}
-use Rattle.mt_state.specs.Growth.{MakesFew}
-use Rattle.mt_state.proofs.Growing.{makes_same, makes_set}
+use Rattle.mt_state.specs.Views.{Core, StateView, shown}
+use Rattle.mt_state.specs.Invariant.{StateInvariant}
+use Rattle.mt_state.specs.Kept.{IsKeptAt, IsLeaving, IsReturning}
+use Rattle.mt_state.specs.Phases.{GoesFromUnlock, Leads, LeadsTo}
 use Rattle.mt_state.proofs.OneNode.{replaced_all}
 use Rattle.mt_state.proofs.Telling.{Gives}
-use Rattle.mt_state.proofs.LayerSteps.{build_done, make_stopped, leave_done}
-use Rattle.mt_core.specs.Layers.{BuildsOn, StopsBuilding, TellsBuilt}
+use Rattle.mt_state.proofs.LayerSteps.{build_done, leave_done, make_stopped}
+use Rattle.mt_state.proofs.LayerNodes.{LeavesNodes, layer_keeps, layer_goes, layer_leads, layer_leaves, layer_next}
 use Rattle.mt_core.specs.Nexts.{IsNext}
-use Rattle.mt_core.specs.Points.{AreBelow, HasMade, MayHaveGrown, IsAtPoint, Nears, StepsOn, astray, above, before_unlock}
-use Rattle.mt_core.proofs.Climbing.{each_set, pushed_at}
-use Rattle.mt_core.proofs.Following.{Writes, over_first, may_move, phase_is, made}
+use Rattle.mt_core.specs.Points.{AreBelow, HasMade, IsAtPoint, MayHaveGrown, Nears, StepsOn, above, astray, before_unlock}
+use Rattle.mt_core.proofs.Following.{Writes, made, may_move, over_first, phase_is}
 use Rattle.mt_core.proofs.Leading.{leads_over}
 use Rattle.mt_core.proofs.LookPoints.{next_layer, shallow_below}
-use Rattle.mt_core.proofs.Points.{point_first, point_at, below_at, few_at, nears_by}
-
--- a node's level and its version's counts stay, it is not taken out, and only one that the operation holds is another
-record Stays (o : ℕ) (x y : NodeView) : Type 0 where
-  level : y.level ≡ x.level
-  deleted : y.version.deleted ≡ x.version.deleted
-  inserts : y.version.inserts ≡ x.version.inserts
-  splits : y.version.splits ≡ x.version.splits
-  touched : (y ≡ x) ⊎ HoldsEither o x y
-
-stays_same : (o : ℕ) (x : NodeView) → Stays o x x
-stays_same o x = record { level = refl; deleted = refl; inserts = refl; splits = refl; touched = inl refl }
-
--- the root of a new tree
-record IsRoot (n : NodeView) : Type 0 where
-  level : n.level ≡ 0
-  live : n.version.deleted ≡ false
-  inserts : n.version.inserts ≡ 0
-  splits : n.version.splits ≡ 0
-
--- all nodes stay so, those that were added are roots of new trees, and no tree died
-record LeavesNodes (o : ℕ) (old new : ArenaView) : Type 0 where
-  each : (k : ℕ) → k < length old.nodes → Stays o (at old k) (at new k)
-  fresh : (k : ℕ) → length old.nodes ≤ k → k < length new.nodes → IsRoot (at new k)
-  alive : ((t : ℕ) → t < length old.trees → (tree_at old.trees t).standing ≢ Dead) → (t : ℕ) → t < length new.trees → (tree_at new.trees t).standing ≢ Dead
-  makes : MakesFew old new
-
--- so where a tree is made
-layer_leaves : (o : ℕ) (v : ArenaView) (prefix : Bytes) (e : Entry) → LeavesNodes o v (with_layer v prefix e o)
-layer_leaves o v prefix e = record {
-  each = λ k lt. subst (Stays o (at v k)) (sym (as_before v.nodes (root_of (length v.trees) e) k lt)) (stays_same o (at v k));
-  fresh = λ k from within. subst IsRoot (sym (pushed_at v.nodes (root_of (length v.trees) e) (length v.nodes) k refl from within))
-      (record { level = refl; live = refl; inserts = refl; splits = refl });
-  alive = λ alive t within. elim (cases_lt t (length v.trees)) [
-    | inl was ↦ subst (λ (u : Tree). u.standing ≢ Dead) (sym (before_tree v.trees tree t was)) (alive t was)
-    | inr late ↦
-        let last : t ≡ length v.trees = omega (arith, late, within, length-append v.trees (tree ∷ [])) in
-        subst (λ (u : Tree). u.standing ≢ Dead) (sym (ap (λ i. tree_at (v.trees ++ tree ∷ []) i) last ∙ last_tree v.trees tree)) (λ dead. absurd (cc))
-  ];
-  makes =
-      let nodes = length-append v.nodes (root_of (length v.trees) e ∷ []) in
-      let trees = length-append v.trees (tree ∷ []) in
-      record { nodes_stay = omega (arith, nodes); one_node = omega (arith, nodes); trees_stay = omega (arith, trees); one_tree = omega (arith, trees) };
-}
-  where
-    tree : Tree
-    tree = record { prefix = prefix; root = length v.nodes; standing = Made o }
-
-module _ (o : ℕ) (v : ArenaView) (k i : ℕ) (mine : IsHeld v k o) where
-  held_each : (held : Held) (j : ℕ) → j < length v.nodes → Stays o (at v j) (node_at (set v.nodes k (with_held (at v k) i held)) j)
-  held_each held = each_set (λ j m. Stays o (at v j) m) v.nodes k (with_held (at v k) i held) (λ j lt. stays_same o (at v j))
-      (record { level = refl; deleted = refl; inserts = refl; splits = refl; touched = inr (inl mine.holder) })
-
-  held_fresh : (held : Held) (j : ℕ) → length v.nodes ≤ j → j < length (set v.nodes k (with_held (at v k) i held)) → IsRoot (node_at (set v.nodes k (with_held (at v k) i held)) j)
-  held_fresh held j from within = absurd (omega (arith, from, within, length-set v.nodes k (with_held (at v k) i held)))
-
-  -- where a slot of the held node holds something else
-  slot_leaves : (held : Held) → LeavesNodes o v (with_slot v k i held)
-  slot_leaves held = record { each = held_each held; fresh = held_fresh held; alive = λ alive. alive; makes = makes_set v k (with_held (at v k) i held) }
-
-  -- and where it is a link to a tree, which is live
-  link_leaves : (t : ℕ) → LeavesNodes o v (with_link v k i t)
-  link_leaves t = record {
-    each = held_each (LinkTo t);
-    fresh = held_fresh (LinkTo t);
-    alive = λ alive u within.
-        let was : u < length v.trees = omega (arith, within, length-set v.trees t live) in
-        elim (cases_eq u t) [
-          | inl is ↦
-              let there : t < length v.trees = subst (λ j. j < length v.trees) is was in
-              subst (λ (x : Tree). x.standing ≢ Dead) (sym (ap (λ j. tree_at (set v.trees t live) j) is ∙ get_or-set_same v.trees t live no_tree there)) (λ dead. absurd (cc))
-          | inr other ↦ subst (λ (x : Tree). x.standing ≢ Dead) (sym (get_or-set_other v.trees t u live no_tree other)) (alive u was)
-        ];
-    makes = makes_same v (with_link v k i t) (length-set v.nodes k (with_held (at v k) i (LinkTo t))) (length-set v.trees t live);
-  }
-    where
-      live : Tree
-      live = record (tree_at v.trees t) { standing = Live }
+use Rattle.mt_core.proofs.Points.{below_at, few_at, nears_by, point_at, point_first}
 
 module _ (o : ℕ) (old new : ArenaView) (l : LeavesNodes o old new) where
-  touches : Touches o old new
-  touches k lt = elim (l.each k lt).touched [
-    | inl same ↦ inl same
-    | inr holds ↦ inr (inl holds)
-  ]
-
-  versions : (steps : ℕ) → ((k : ℕ) → k < length old.nodes → IsCountedUpTo steps (at old k)) → (k : ℕ) → k < length new.nodes → IsCountedUpTo steps (at new k)
-  versions steps were k within = elim (cases_lt k (length old.nodes)) [
-    | inl was ↦ let n = l.each k was in let c = were k was in record { inserts = omega (arith, n.inserts, c.inserts); splits = omega (arith, n.splits, c.splits) }
-    | inr late ↦ let n = l.fresh k late within in record { inserts = omega (arith, n.inserts); splits = omega (arith, n.splits) }
-  ]
-
-  unremoved : IsUnremoved old → IsUnremoved new
-  unremoved one = record {
-    live = λ k within. elim (cases_lt k (length old.nodes)) [
-      | inl was ↦ (l.each k was).deleted ∙ one.live k was
-      | inr late ↦ (l.fresh k late within).live
-    ];
-    alive = l.alive one.alive;
-  }
-
   -- all nodes stand below a level where one did
   stays_below : (height : ℕ) → 0 < height → AreBelow old height → AreBelow new height
   stays_below height some below k within = elim (cases_lt k (length old.nodes)) [
@@ -162,98 +47,40 @@ module _ (o : ℕ) (old new : ArenaView) (l : LeavesNodes o old new) where
     | inr late ↦ omega (arith, (l.fresh k late within).level, some)
   ]
 
--- what each call ensures alike
-pub record Ensures (o : ℕ) (old new : ArenaView) (key : Bytes) (before after : Walk) (q : Phase) : Type 0 where
-  pub guarantee : Guarantee o old new
-  pub contents : content_of new ≡ content_of old
-  pub stamps : KeepsStamps old new
-  pub same : Continues before after
-  pub kept : KeptLayer q new o key after
-  pub holds : HoldsOnly old o before.place.node → HoldsOnly new o after.place.node
+-- no root was made before a step of a layer
+layer_ungrown : (p : Phase) → IsLayerPhase p → (halves : List Halves) → ¬ MayHaveGrown p halves
+layer_ungrown Unlock i halves grown = i
+layer_ungrown _ i halves grown = grown
 
--- what the walk's next step is, where a layer comes one step nearer
-record GoesTo (before after : Walk) (q : Phase) : Type 0 where
-  at : after.phase ≡ q
-  layer : after.layer ≡ before.layer
-  here : after.place.node ≡ before.place.node
+-- the number of steps after it
+layer_made : (p : Phase) → IsLayerPhase p → (old new : ArenaView) (before after : Walk) (s : Splits) (height n : ℕ) → above height after ≡ above height before → HasMade p height n old before s → HasMade (layer_next p) height (n + 1) new after s
+layer_made MakeLayer i old new before after s height n alike few = omega (arith, alike, few)
+layer_made MarkUnstable i old new before after s height n alike few = omega (arith, alike, few)
+layer_made Link i old new before after s height n alike few = omega (arith, alike, few)
+layer_made MarkLayer i old new before after s height n alike few = by s.halves.items
+  where
+    by : (halves : List Halves) → n + 1 ≤ above height after + before_unlock halves height
+    by [] = omega (arith, alike, few)
+    by (half ∷ halves) = omega (arith, alike, few)
+layer_made _ i old new before after s height n alike few = absurd i
 
--- so a step from one phase to another is told, by what it leaves of the nodes and how many steps were made
-builds_on : (o : ℕ) (old new : ArenaView) (key : Bytes) (before after : Walk) (p q : Phase) → before.phase ≡ p → GoesTo before after q → before.place.node < length old.nodes
-    → MayFollow p q → q ≢ Done → ((halves : List Halves) → ¬ MayHaveGrown p halves)
-    → ((height n : ℕ) (s : Splits) → above height after ≡ above height before → HasMade p height n old before s → HasMade q height (n + 1) new after s)
-    → ((step : ℕ) (told : Option Outcome) (s : SplitsView) → LeadsTo p old new o step key told s before after)
-    → LeavesNodes o old new → Ensures o old new key before after q → BuildsOn o old new key before after
-builds_on o old new key before after p q at_p goes within follows on ungrown counts_on leads leaves e = record {
-  builds = record {
-    guarantee = e.guarantee;
-    contents = e.contents;
-    touches = touches o old new leaves;
-    stamps = e.stamps;
-    versions = versions o old new leaves;
-    unremoved = unremoved o old new leaves;
-    follows = subst (λ (x : Phase). MayFollow x after.phase) (sym at_p) (subst (MayFollow p) (sym goes.at) follows);
-    on = λ done. on (sym goes.at ∙ done);
-    same = e.same;
-    here = goes.here;
-    kept = subst (λ (x : Phase). KeptLayer x new o key after) (sym goes.at) e.kept;
-    holds = e.holds;
-    makes = leaves.makes;
-  };
-  leads = λ step told s. subst (λ (x : Phase). LeadsTo x old new o step key told s before after) (sym at_p) (leads step told s);
-  nears = λ height n s point.
-      let below : AreBelow old height = below_at height n old before s p at_p (ungrown s.halves.items) point in
-      let some : 0 < height = omega (arith, below before.place.node within) in
-      point_at height (n + 1) new after s q goes.at (λ other. stays_below o old new leaves height some below)
-      (counts_on height n s (ap (λ l. astray height + min l 31 * (3 * height + 12)) goes.layer) (few_at height n old before s p at_p point));
-}
+-- so it comes nearer
+layer_nears : (p : Phase) → IsLayerPhase p → (o : ℕ) (key : Bytes) (old new : ArenaView) (before after : Walk) (s : Splits) → before.phase ≡ p → before.place.node < length old.nodes → KeptLayer p old o key before → IsLayerFrom p o key old new before after
+    → (height n : ℕ) → IsAtPoint height n old before s → IsAtPoint height (n + 1) new after s
+layer_nears p i o key old new before after s at_p within kept b height n point =
+    let goes = layer_goes p i o key old new before after b in
+    let below : AreBelow old height = below_at height n old before s p at_p (layer_ungrown p i s.halves.items) point in
+    let some : 0 < height = omega (arith, below before.place.node within) in
+    point_at height (n + 1) new after s (layer_next p) goes.at (λ other. stays_below o old new (layer_leaves p i o key old new before after kept b) height some below)
+    (layer_made p i old new before after s height n (ap (λ l. astray height + min l 31 * (3 * height + 12)) goes.layer) (few_at height n old before s p at_p point))
 
--- what is kept at the phase at which a walk is
-pub kept_at : (p q : Phase) (v : ArenaView) (o : ℕ) (key : Bytes) (w : Walk) → p ≡ q → KeptLayer p v o key w → KeptLayer q v o key w
-kept_at p q v o key w is = subst (λ (x : Phase). KeptLayer x v o key w) is
-
-module _ (o : ℕ) (old new : ArenaView) (key : Bytes) (before after : Walk) where
-  linked : (t : ℕ) → after ≡ walk_linked before t → GoesTo before after MarkUnstable
-  linked t goes = record { at = ap (λ (w : Walk). w.phase) goes; layer = ap (λ (w : Walk). w.layer) goes; here = ap (λ (w : Walk). w.place.node) goes }
-
-  goes_to : (q : Phase) → after ≡ walk_at q before → GoesTo before after q
-  goes_to q goes = record { at = ap (λ (w : Walk). w.phase) goes; layer = ap (λ (w : Walk). w.layer) goes; here = ap (λ (w : Walk). w.place.node) goes }
-
-  -- the tree was made, or there was no memory for it
-  pub layer_made : before.phase ≡ MakeLayer → IsAtMakeLayer old o key before → (prefix : Bytes) (e : Entry) (r : Result (Unit {0}) AllocError)
-      → OnOk r (new ≡ with_layer old prefix e o) → OnOk r (after ≡ walk_linked before (length old.trees)) → OnErr r (new ≡ with_node old before.place.node (unlocked (at old before.place.node))) → OnErr r (after ≡ walk_done before)
-      → Continues before after → Guarantee o old new → content_of new ≡ content_of old → KeepsStamps old new → OnOk r (IsAtMarkUnstable new o key after)
-      → (HoldsOnly old o before.place.node → OnOk r (HoldsOnly new o after.place.node)) → TellsBuilt o old new key before after r
-  layer_made at_make h prefix e (Ok done) is goes unlocks ends same guarantee contents stamps kept holds =
-      builds_on o old new key before after MakeLayer MarkUnstable at_make (linked (length old.trees) goes) h.holds.judged.held.there tt (λ no. absurd (cc)) (λ halves grown. grown)
-      (λ height n s alike few. omega (arith, alike, few)) (λ step told s. inl goes)
-      (subst (LeavesNodes o old) (sym is) (layer_leaves o old prefix e))
-      (record { guarantee = guarantee; contents = contents; stamps = stamps; same = same; kept = kept; holds = holds })
-  layer_made at_make h prefix e (Err error) is goes unlocks ends same guarantee contents stamps kept holds =
-      record { makes = at_make; is = unlocks; walk = ends; same = same; step = guarantee; contents = contents }
-
-  -- the pair became unstable, or has the number of the tree
-  pub pair_marked : before.phase ≡ MarkUnstable → IsHeld old before.place.node o → (held : Held) → new ≡ with_slot old before.place.node before.slot held → after ≡ walk_at Link before
-      → Ensures o old new key before after Link → BuildsOn o old new key before after
-  pair_marked at_mark mine held is goes e = builds_on o old new key before after MarkUnstable Link at_mark (goes_to Link goes) mine.there tt (λ no. absurd (cc)) (λ halves grown. grown)
-      (λ height n s alike few. omega (arith, alike, few)) (λ step told s. goes)
-      (subst (LeavesNodes o old) (sym is) (slot_leaves o old before.place.node before.slot mine held)) e
-
-  pub pair_linked : before.phase ≡ Link → IsHeld old before.place.node o → (held : Held) → new ≡ with_slot old before.place.node before.slot held → after ≡ walk_at MarkLayer before
-      → Ensures o old new key before after MarkLayer → BuildsOn o old new key before after
-  pair_linked at_link mine held is goes e = builds_on o old new key before after Link MarkLayer at_link (goes_to MarkLayer goes) mine.there tt (λ no. absurd (cc)) (λ halves grown. grown)
-      (λ height n s alike few. omega (arith, alike, few)) (λ step told s. goes)
-      (subst (LeavesNodes o old) (sym is) (slot_leaves o old before.place.node before.slot mine held)) e
-
-  -- the slot is a link to the tree
-  pub layer_marked : before.phase ≡ MarkLayer → IsHeld old before.place.node o → (t : ℕ) → new ≡ with_link old before.place.node before.slot t → after ≡ walk_at Unlock before
-      → Ensures o old new key before after Unlock → BuildsOn o old new key before after
-  layer_marked at_mark mine t is goes e = builds_on o old new key before after MarkLayer Unlock at_mark (goes_to Unlock goes) mine.there tt (λ no. absurd (cc)) (λ halves grown. grown)
-      (λ height n s alike few. by height n s alike few s.halves.items) (λ step told s. goes)
-      (subst (LeavesNodes o old) (sym is) (link_leaves o old before.place.node before.slot mine t)) e
-    where
-      by : (height n : ℕ) (s : Splits) → above height after ≡ above height before → HasMade MarkLayer height n old before s → (halves : List Halves) → n + 1 ≤ above height after + before_unlock halves height
-      by height n s alike few [] = omega (arith, alike, few)
-      by height n s alike few (half ∷ halves) = omega (arith, alike, few)
+-- the node of an operation that makes a layer is there
+layer_there : (p : Phase) → IsLayerPhase p → (v : ArenaView) (o : ℕ) (key : Bytes) (w : Walk) → KeptLayer p v o key w → w.place.node < length v.nodes
+layer_there MakeLayer i v o key w kept = kept.holds.judged.held.there
+layer_there MarkUnstable i v o key w kept = kept.makes.layer.slot.held.there
+layer_there Link i v o key w kept = kept.makes.layer.slot.held.there
+layer_there MarkLayer i v o key w kept = kept.makes.layer.slot.held.there
+layer_there _ i v o key w kept = absurd i
 
 -- a step of a layer is left
 layer_open : (p : Phase) → IsLayerPhase p → is_done p ≡ false
@@ -299,22 +126,27 @@ module _ (c now : Core) (o : ℕ) (is : c ≡ now) (h : StateInvariant c) (x : O
       )
 
   -- a layer that came one step nearer
-  pub build_made : now.steps < 2 ^ 59 → IsNext now o IsLayerPhase → (arena : ArenaView) (w : Walk) (table : Table) → BuildsOn o c.arena arena x.task.key x.walk w → Writes c.table table o (λ y. moved y (c.steps + 1) w)
-      → StateInvariant (made c arena c.tape c.accounts table) × StepsOn now (made c arena c.tape c.accounts table) o Moved
-  build_made few next arena w table t writes = steps_on arena w table writes t.builds.guarantee (λ height n. t.nears height n x.splits) (t.leads (c.steps + 1) x.outcome (splits_of x.splits))
-      (build_done c o h (steps_few few) x there arena w (phase_is c now o IsLayerPhase is x there next) t.builds)
+  pub build_made : now.steps < 2 ^ 59 → IsNext now o IsLayerPhase → (arena : ArenaView) (w : Walk) (table : Table) → KeptLayer x.walk.phase c.arena o x.task.key x.walk → IsLayerFrom x.walk.phase o x.task.key c.arena arena x.walk w
+      → Writes c.table table o (λ y. moved y (c.steps + 1) w) → StateInvariant (made c arena c.tape c.accounts table) × StepsOn now (made c arena c.tape c.accounts table) o Moved
+  build_made few next arena w table kept b writes =
+      let p = x.walk.phase in
+      let layer = phase_is c now o IsLayerPhase is x there next in
+      steps_on arena w table writes (layer_keeps p layer o x.task.key c.arena arena x.walk w b).keeps.guarantee
+      (λ height n. layer_nears p layer o x.task.key c.arena arena x.walk w x.splits refl (layer_there p layer c.arena o x.task.key x.walk kept) kept b height n)
+      (layer_leads p layer o x.task.key c.arena arena x.walk w b (c.steps + 1) x.outcome (splits_of x.splits))
+      (build_done c o h (steps_few few) x there arena w layer b)
 
   -- no memory for it
-  pub stop_made : now.steps < 2 ^ 59 → (arena : ArenaView) (w : Walk) (told : Outcome) (table : Table) → StopsBuilding o c.arena arena x.walk w → told ≡ record { reply = NoMemory; at = c.steps + 1 }
+  pub stop_made : now.steps < 2 ^ 59 → (arena : ArenaView) (w : Walk) (told : Outcome) (table : Table) → x.walk.phase ≡ MakeLayer → IsUnlock o c.arena arena x.walk w → told ≡ record { reply = NoMemory; at = c.steps + 1 }
       → Writes c.table table o (λ y. noted (moved y (c.steps + 1) w) (Some told)) → Gives (shown now) (made c arena c.tape c.accounts table) o true
-  stop_made few arena w told table t says writes = gives_now (made c arena c.tape c.accounts table) true
+  stop_made few arena w told table at_make t says writes = gives_now (made c arena c.tape c.accounts table) true
       (subst (λ (all : Table). Gives (shown c) (made c arena c.tape c.accounts all) o true) (sym (writes x there))
       (subst (λ (r : Outcome). Gives (shown c) (made c arena c.tape c.accounts (set c.table o (Some (noted (moved x (c.steps + 1) w) (Some r))))) o true) (sym says)
-      (make_stopped c o h (steps_few few) x there t.makes arena w (record { is = t.is; walk = t.walk; same = t.same; leaves = record { guarantee = t.step; contents = t.contents } }))))
+      (make_stopped c o h (steps_few few) x there at_make arena w t)))
 
-  pub stop_leads : (arena : ArenaView) (w : Walk) (told : Outcome) (table : Table) → StopsBuilding o c.arena arena x.walk w → Writes c.table table o (λ y. noted (moved y (c.steps + 1) w) (Some told))
+  pub stop_leads : (arena : ArenaView) (w : Walk) (told : Outcome) (table : Table) → x.walk.phase ≡ MakeLayer → IsUnlock o c.arena arena x.walk w → Writes c.table table o (λ y. noted (moved y (c.steps + 1) w) (Some told))
       → Leads (shown now) (shown (made c arena c.tape c.accounts table)) o
-  stop_leads arena w told table t writes = leads_over c o h x there MakeLayer t.makes now is arena c.tape c.accounts table _ (over_first c.table table o (λ y. noted (moved y (c.steps + 1) w) (Some told)) x there writes) w (inr t.walk) refl
+  stop_leads arena w told table at_make t writes = leads_over c o h x there MakeLayer at_make now is arena c.tape c.accounts table _ (over_first c.table table o (λ y. noted (moved y (c.steps + 1) w) (Some told)) x there writes) w (inr t.walk) refl
 
   -- one that leaves its layer has split nothing
   unsplit : x.walk.phase ≡ Unlock → x.outcome ≡ None → x.splits.halves.items ≡ []
@@ -323,18 +155,21 @@ module _ (c now : Core) (o : ℕ) (is : c ≡ now) (h : StateInvariant c) (x : O
       leaving.unsplit.halves
 
   -- its lock was given back, and it goes on in the tree of the next layer
-  pub leave_made : now.steps < 2 ^ 59 → IsNext now o (λ q. q ≡ Unlock) → x.outcome ≡ None → (arena : ArenaView) (w : Walk) (table : Table) (leaves : IsAtLeave c.arena o x.task.key x.walk)
-      → w ≡ walk_into x.walk leaves.tree (x.walk.layer + 1) → GoesBelow c o x arena w → Writes c.table table o (λ y. moved y (c.steps + 1) w)
+  pub leave_made : now.steps < 2 ^ 59 → IsNext now o (λ q. q ≡ Unlock) → x.outcome ≡ None → (arena : ArenaView) (w : Walk) (table : Table) (leaves : IsAtLeave c.arena o x.task.key x.walk) → IsLeave o c.arena arena x.walk w
+      → Writes c.table table o (λ y. moved y (c.steps + 1) w)
       → StateInvariant (made c arena c.tape c.accounts table) × StepsOn now (made c arena c.tape c.accounts table) o Moved
-  leave_made few next untold arena w table leaves goes t writes = steps_on arena w table writes t.leaves.guarantee brings leads
+  leave_made few next untold arena w table leaves t writes = steps_on arena w table writes g.keeps.guarantee brings leads
       (leave_done c o h (steps_few few) x there at_unlock untold arena w t)
     where
+      g : GoesInto o leaves.tree c.arena arena x.walk w
+      g = t.goes leaves.tree leaves.taken
+
       at_unlock : x.walk.phase ≡ Unlock
       at_unlock = phase_is c now o (λ q. q ≡ Unlock) is x there next
 
       leads : LeadsTo x.walk.phase c.arena arena o (c.steps + 1) x.task.key x.outcome (splits_of x.splits) x.walk w
       leads = subst (λ (p : Phase). LeadsTo p c.arena arena o (c.steps + 1) x.task.key x.outcome (splits_of x.splits) x.walk w) (sym at_unlock)
-          (subst (λ (told : Option Outcome). GoesFromUnlock told x.walk w) (sym untold) (leaves.tree, leaves.taken, goes))
+          (subst (λ (told : Option Outcome). GoesFromUnlock told x.walk w) (sym untold) (leaves.tree, leaves.taken, g.walk))
 
       k : ℕ
       k = x.walk.place.node
@@ -351,9 +186,9 @@ module _ (c now : Core) (o : ℕ) (is : c ≡ now) (h : StateInvariant c) (x : O
           let below : AreBelow c.arena height = below_at height n c.arena x.walk x.splits Unlock at_unlock (λ grown. subst (MayHaveGrown Unlock) none grown) point in
           let few : n ≤ above height x.walk + (3 * height + 7) = unsplit_few x.splits.halves.items n height (above height x.walk) none (few_at height n c.arena x.walk x.splits Unlock at_unlock point) in
           let deeper : n + 1 ≤ astray height + min (x.walk.layer + 1) 31 * (3 * height + 12) = next_layer height x.walk.layer n (shallow_below x.walk.layer x.task.key stored leaves.through.begun) (omega (arith, few)) in
-          let stays : AreBelow arena height = subst (λ (v : ArenaView). AreBelow v height) (sym t.is)
+          let stays : AreBelow arena height = subst (λ (v : ArenaView). AreBelow v height) (sym g.is)
           (replaced_all c.arena k within (unlocked (at c.arena k)) (λ (m : NodeView). m.level < height) (below k within) below) in
-          subst (λ (y : Walk). IsAtPoint height (n + 1) arena y x.splits) (sym goes)
+          subst (λ (y : Walk). IsAtPoint height (n + 1) arena y x.splits) (sym g.walk)
           (point_at height (n + 1) arena (walk_into x.walk leaves.tree (x.walk.layer + 1)) x.splits Enter refl (λ other. stays) deeper)
 
 -- an operation that has no outcome has none where it is found inside

@@ -14,7 +14,7 @@ use Rattle.mt_operation.specs.declared.operation.Operation.{Operation}
 use Rattle.mt_operation.specs.Tasks.{ask}
 use Rattle.mt_operation.specs.Operations.{OperationView, view_of, splits_of}
 use Rattle.mt_operation.specs.Tables.{Table, op_at as operation_at}
-use Rattle.mt_insert.specs.Moves.{walk_done}
+use Rattle.mt_insert.specs.Unlock.{walk_done}
 use Rattle.mt_state.specs.Views.{Core, shown}
 use Rattle.mt_state.specs.Phases.{LeadsTo, GoesFromUnlock, GoesBy, Leads}
 use Rattle.mt_state.specs.Invariant.{StateInvariant}

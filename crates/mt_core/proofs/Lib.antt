@@ -27,6 +27,5 @@ pub mod Bystanders
 pub mod Righting
 pub mod LayerSteps
 pub mod Climbing
-pub mod ClimbingParents
-pub mod ClimbingSplits
+pub mod ClimbingNears
 pub mod ClimbSteps

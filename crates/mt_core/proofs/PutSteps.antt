@@ -1,79 +1,58 @@
 -- The phases of a put by the ensures of the calls that they make: for `Inner::lock`, `judge`, `store`, `publish` and `unlock_one`.
-use Rattle.std.proofs.Common.{◌≡◌, ◌≢◌, ℕ, ◌+◌, ◌<◌, inl, inr, Bool, true, false, cond, eqb, [], length, set, Option, Some, None, IsSome, is_some, refl, sym, ap, subst, ◌∙◌, arith}
-use Rattle.std.specs.Prelude.{◌*◌, ◌^◌, ◌≤◌, ◌⊎◌, List}
-use Rattle.std.specs.FinMap.{get}
+use Rattle.std.proofs.Common.{Bool, IsSome, None, Option, Some, [], ap, arith, cond, eqb, false, inl, inr, is_some, length, refl, set, subst, sym, true, ℕ, ◌+◌, ◌<◌, ◌∙◌, ◌≡◌, ◌≢◌}
+use Rattle.std.specs.Prelude.{List, ◌*◌, ◌^◌, ◌≤◌, ◌⊎◌}
 use Rattle.mt_rows.specs.declared.reply.Reply.{Reply}
-use Rattle.mt_rows.specs.declared.reply.Reply.TheVariants.{NoMemory, New, Full, Replaced}
+use Rattle.mt_rows.specs.declared.reply.Reply.TheVariants.{Full, New, NoMemory, Replaced}
 use Rattle.mt_rows.specs.Rows.{Bytes, Columns}
-use Rattle.mt_rows.specs.Accounts.{Accounts, account_of, HasRoom}
+use Rattle.mt_rows.specs.Accounts.{Accounts}
 use Rattle.mt_border.specs.declared.entry.FoundKind.TheVariants.{OtherLong}
-use Rattle.mt_border.specs.Contents.{owned}
 use Rattle.mt_slices.specs.Keys.{IsStoredKey}
 use Rattle.mt_tape.specs.Tapes.{Kept}
 use Rattle.mt_arena.specs.NodeView.{NodeView}
 use Rattle.mt_arena.specs.Edits.{locked, unlocked}
-use Rattle.mt_arena.specs.Arena.{ArenaView, IsArena, Guarantee, content_of}
+use Rattle.mt_arena.specs.Arena.{ArenaView, Guarantee, IsArena}
 use Rattle.mt_arena.specs.Accesses.{at, with_node}
 use Rattle.mt_operation.specs.declared.phase.Phase.{Phase}
-use Rattle.mt_operation.specs.declared.phase.Phase.TheVariants.{Enter, Lock, Judge, Store, Publish, SplitStart, MakeLayer, Unlock}
+use Rattle.mt_operation.specs.declared.phase.Phase.TheVariants.{Enter, Judge, Lock, MakeLayer, Publish, SplitStart, Store, Unlock}
 use Rattle.mt_operation.specs.declared.walk.Walk.{Walk}
 use Rattle.mt_operation.specs.declared.splits.Halves.{Halves}
 use Rattle.mt_operation.specs.declared.splits.Splits.{Splits}
 use Rattle.mt_operation.specs.declared.outcome.Outcome.{Outcome}
 use Rattle.mt_operation.specs.declared.prepared.Prepared.{Prepared}
 use Rattle.mt_operation.specs.declared.operation.Operation.{Operation}
-use Rattle.mt_operation.specs.Operations.{moved, noted, made_ready, with_nothing_ready}
-use Rattle.mt_operation.specs.Phases.{is_done, has_splits, is_prepared}
-use Rattle.mt_operation.specs.Tables.{Table, op_at as operation_at, MayMove}
+use Rattle.mt_operation.specs.Operations.{made_ready, moved, noted, with_nothing_ready}
+use Rattle.mt_operation.specs.Phases.{has_splits, is_done, is_prepared}
+use Rattle.mt_operation.specs.Tables.{MayMove, Table, op_at as operation_at}
 use Rattle.mt_descent.specs.Seen.{IsOutdated}
 use Rattle.mt_descent.specs.Kept.{IsInSlot}
-use Rattle.mt_descent.specs.Moves.{Continues, Locks, walk_into}
+use Rattle.mt_descent.specs.Moves.{IsLock, Locks, walk_into}
 use Rattle.mt_insert.specs.Puts.{IsPut}
-use Rattle.mt_insert.specs.Moves.{StandsIn, IsMadeReady, MeetsOther, MeetsLink, after_judge, walk_placed, released}
-use Rattle.mt_insert.specs.Kept.{KeptReady, IsAtMakeLayer, IsAtStore, IsAtPublish, IsAtUnlock}
+use Rattle.mt_insert.specs.Moves.{walk_placed}
+use Rattle.mt_insert.specs.Judge.{IsMadeReady, MeetsLink, MeetsOther, after_judge}
+use Rattle.mt_insert.specs.Kept.{IsAtPublish, IsAtStore}
+use Rattle.mt_insert.specs.Publish.{IsPublish, IsPublishFull}
+use Rattle.mt_insert.specs.Store.{IsStore}
+use Rattle.mt_insert.specs.Unlock.{IsUnlock}
 use Rattle.mt_state.specs.declared.moves.Move.{Move}
-use Rattle.mt_state.specs.declared.moves.Move.TheVariants.{Moved, Again}
-use Rattle.mt_state.specs.Views.{Core, shown, StateView}
+use Rattle.mt_state.specs.declared.moves.Move.TheVariants.{Again, Moved}
+use Rattle.mt_state.specs.Views.{Core, StateView, shown}
 use Rattle.mt_state.specs.Promises.{IsHeldByOther}
 use Rattle.mt_state.specs.Phases.{Leads}
-use Rattle.mt_state.specs.Writes.{LeavesContents, TakesLock, GivesBack, MakesReady, PlacesChange, Stores, Publishes, FindsFull, MeetsAnother, GoesBelow}
 use Rattle.mt_state.specs.Invariant.{StateInvariant}
 use Rattle.mt_state.proofs.Shown.{shown_there}
 use Rattle.mt_state.proofs.Telling.{Gives}
 use Rattle.mt_state.proofs.Decides.{outdated_or_not}
 use Rattle.mt_state.proofs.OneNode.{replaced_all}
-use Rattle.mt_state.proofs.Locking.{lock_done, unlock_done, judge_ready, judge_refused, publish_full}
-use Rattle.mt_state.proofs.LayerSteps.{meet_done, below_done}
-use Rattle.mt_state.proofs.Putting.{store_done, publish_done}
-use Rattle.mt_state.proofs.Needs.{IsOfWrites, put_at, lock_kept, lock_blocked, judge_kept, store_kept, publish_kept, store_ready, publish_ready, write_room}
+use Rattle.mt_state.proofs.Locking.{judge_ready, judge_refused, lock_done, publish_full, unlock_done}
+use Rattle.mt_state.proofs.LayerSteps.{below_done, meet_done}
+use Rattle.mt_state.proofs.Putting.{publish_done, store_done}
+use Rattle.mt_state.proofs.Needs.{IsOfWrites, judge_kept, lock_blocked, lock_kept, publish_kept, publish_ready, put_at, store_kept, store_ready, write_room}
 use Rattle.mt_core.specs.Nexts.{IsNext}
-use Rattle.mt_core.specs.Points.{AreBelow, SeesNow, behind, astray, above, before_unlock, HasMade, MayHaveGrown, IsAtPoint, Nears, StepsOn}
-use Rattle.mt_core.proofs.Points.{point_first, point_at, below_at, few_at, nears_by}
+use Rattle.mt_core.specs.Points.{AreBelow, HasMade, IsAtPoint, MayHaveGrown, Nears, SeesNow, StepsOn, above, astray, before_unlock, behind}
+use Rattle.mt_core.proofs.Points.{below_at, few_at, nears_by, point_at, point_first}
 use Rattle.mt_core.proofs.LookPoints.{after_live, next_layer, shallow_below}
-use Rattle.mt_core.proofs.Following.{Writes, IsOver, over_first, over_next, opened, may_over, may_move, next_here, phase_is, made}
-use Rattle.mt_core.proofs.Leading.{leads_over, done_from}
-
--- what a judgement that made all ready ensures
-abbrev pub ready_for : (c : Core) (o : ℕ) (x : Operation) (tape : Kept) (w : Walk) (prepared : Prepared) → IsMadeReady o x.task c.arena c.tape tape x.walk w prepared → Continues x.walk w → MakesReady c o x tape w prepared
-ready_for c o x tape w prepared ready same = record {
-  slot = ready.slot;
-  walk = ready.walk;
-  same = same;
-  tape_is = ready.tape;
-  kept = ready.kept;
-}
-
--- and one that found the quota full
-pub full_for : (c : Core) (o : ℕ) (x : Operation) (arena : ArenaView) (tape : Kept) (w : Walk) → w ≡ walk_placed x.walk → Continues x.walk w → tape ≡ released c.tape → arena ≡ c.arena → IsAtUnlock arena o w
-    → get (content_of c.arena) (owned x.task.key) ≡ None → ¬ HasRoom (account_of c.accounts x.task.tenant) → FindsFull c o x tape w
-full_for c o x arena tape w goes same releases stays kept missing full = record {
-  walk = goes;
-  same = same;
-  tape_is = releases;
-  kept = subst (λ (v : ArenaView). IsAtUnlock v o w) stays kept;
-  missing = missing;
-  full = full;
-}
+use Rattle.mt_core.proofs.Following.{IsOver, Writes, made, may_move, may_over, next_here, opened, over_first, over_next, phase_is}
+use Rattle.mt_core.proofs.Leading.{done_from, leads_over}
 
 -- the walk of a put that takes its lock, or that goes on to the next node, in a live tree
 lock_brings : (o : ℕ) (v arena : ArenaView) (w x : Walk) (s : Splits) → Locks o v arena x w → x.phase ≡ Lock → x.place.node < length v.nodes → (at v x.place.node).version.deleted ≡ false
@@ -221,100 +200,97 @@ module _ (c now : Core) (o : ℕ) (is : c ≡ now) (h : StateInvariant c) where
         (subst (λ (t : Kept). Gives (shown c) (made c from t c.accounts (set c.table o (Some after))) o false) (sym keeps) g)))
 
     -- a lock that was taken, or not because the node was deleted or split
-    pub lock_made : IsNext now o (λ q. q ≡ Lock) → (x : Operation) → operation_at c.table o ≡ Some x → (arena : ArenaView) (w : Walk) (table : Table) → (at c.arena x.walk.place.node).holder ≡ None → TakesLock c o x arena w → Writes c.table table o (λ y. moved y (c.steps + 1) w)
+    pub lock_made : IsNext now o (λ q. q ≡ Lock) → (x : Operation) → operation_at c.table o ≡ Some x → (arena : ArenaView) (w : Walk) (table : Table) → IsLock o x.task.key c.arena arena x.walk w → Writes c.table table o (λ y. moved y (c.steps + 1) w)
         → StateInvariant (made c arena c.tape c.accounts table) × StepsOn now (made c arena c.tape c.accounts table) o Moved
-    lock_made next x there arena w table free t writes =
+    lock_made next x there arena w table t writes =
         let at_lock = phase_is c now o (λ q. q ≡ Lock) is x there next in
         let within = (lock_kept c o h x there at_lock).covers.remembered.there in
         let after = moved x (c.steps + 1) w in
         let over = over_first c.table table o (λ y. moved y (c.steps + 1) w) x there writes in
         steps_on (made c arena c.tape c.accounts table)
         (subst (λ (all : Table). Gives (shown now) (made c arena c.tape c.accounts all) o false) (sym over.is)
-        (lock_done c (shown now) o (ap shown is) h few x there at_lock arena w t.locks t.same t.leaves.guarantee t.leaves.contents t.kept t.judged t.settled))
-        (nears_made x after there arena c.tape c.accounts table over t.leaves.guarantee
+        (lock_done c (shown now) o (ap shown is) h few x there at_lock arena w t))
+        (nears_made x after there arena c.tape c.accounts table over t.keeps.guarantee
         (λ height n point. point_first height (n + 1) arena w x.splits after.walk.first (lock_brings o c.arena arena w x.walk x.splits t.locks at_lock within (h.unremoved.live x.walk.place.node within) height n point)))
-        (leads_over c o h x there Lock at_lock now is arena c.tape c.accounts table after over w (free, t.locks) refl)
+        (leads_over c o h x there Lock at_lock now is arena c.tape c.accounts table after over w (t.free, t.locks) refl)
 
     -- a lock that was given back
-    pub unlock_made : IsNext now o (λ q. q ≡ Unlock) → (x : Operation) → operation_at c.table o ≡ Some x → x.outcome ≢ None → x.splits.halves.items ≡ [] → (arena : ArenaView) (w : Walk) (table : Table) → GivesBack c o x arena w → Writes c.table table o (λ y. moved y (c.steps + 1) w)
+    pub unlock_made : IsNext now o (λ q. q ≡ Unlock) → (x : Operation) → operation_at c.table o ≡ Some x → x.outcome ≢ None → x.splits.halves.items ≡ [] → (arena : ArenaView) (w : Walk) (table : Table) → IsUnlock o c.arena arena x.walk w → Writes c.table table o (λ y. moved y (c.steps + 1) w)
         → Gives (shown now) (made c arena c.tape c.accounts table) o true
     unlock_made next x there told none arena w table t writes =
         subst (λ (all : Table). Gives (shown now) (made c arena c.tape c.accounts all) o true) (sym (writes x there))
-        (unlock_done c (shown now) o (ap shown is) h few x there (phase_is c now o (λ q. q ≡ Unlock) is x there next) told none arena w t.is t.walk t.same t.leaves.guarantee t.leaves.contents)
+        (unlock_done c (shown now) o (ap shown is) h few x there (phase_is c now o (λ q. q ≡ Unlock) is x there next) told none arena w t)
 
-    pub unlock_leads : IsNext now o (λ q. q ≡ Unlock) → (x : Operation) → operation_at c.table o ≡ Some x → x.outcome ≢ None → (arena : ArenaView) (w : Walk) (table : Table) → GivesBack c o x arena w → Writes c.table table o (λ y. moved y (c.steps + 1) w)
+    pub unlock_leads : IsNext now o (λ q. q ≡ Unlock) → (x : Operation) → operation_at c.table o ≡ Some x → x.outcome ≢ None → (arena : ArenaView) (w : Walk) (table : Table) → IsUnlock o c.arena arena x.walk w → Writes c.table table o (λ y. moved y (c.steps + 1) w)
         → Leads (shown now) (shown (made c arena c.tape c.accounts table)) o
     unlock_leads next x there told arena w table t writes =
         leads_over c o h x there Unlock (phase_is c now o (λ q. q ≡ Unlock) is x there next) now is arena c.tape c.accounts table _ (over_first c.table table o (λ y. moved y (c.steps + 1) w) x there writes) w
         (done_from x.outcome x.walk w told t.walk) refl
 
     -- all that was made ready
-    pub ready_made : IsNext now o (λ q. q ≡ Judge) → (x : Operation) → operation_at c.table o ≡ Some x → (arena : ArenaView) (tape : Kept) (w : Walk) (prepared : Prepared) (mid table : Table) → arena ≡ c.arena → Guarantee o c.arena arena → (t : MakesReady c o x tape w prepared) → StandsIn (at c.arena x.walk.place.node) x.task.key x.walk.layer t.slot
+    pub ready_made : IsNext now o (λ q. q ≡ Judge) → (x : Operation) → operation_at c.table o ≡ Some x → (arena : ArenaView) (tape : Kept) (w : Walk) (prepared : Prepared) (mid table : Table) → IsMadeReady o x.task c.arena arena c.tape tape x.walk w prepared
         → Writes c.table mid o (λ y. moved y (c.steps + 1) w) → Writes mid table o (λ y. made_ready y prepared) → StateInvariant (made c arena tape c.accounts table) × StepsOn now (made c arena tape c.accounts table) o Moved
-    ready_made next x there arena tape w prepared mid table stays guarantee t stands moves readies =
+    ready_made next x there arena tape w prepared mid table t moves readies =
         let at_judge = phase_is c now o (λ q. q ≡ Judge) is x there next in
         let after = made_ready (moved x (c.steps + 1) w) prepared in
         let over = over_next c.table mid table o (λ y. made_ready y prepared) (moved x (c.steps + 1) w) (over_first c.table mid o (λ y. moved y (c.steps + 1) w) x there moves) readies in
         steps_on (made c arena tape c.accounts table)
         (subst (λ (all : Table). Gives (shown now) (made c arena tape c.accounts all) o false) (sym over.is)
-        (judge_ready c (shown now) o (ap shown is) h few x there at_judge arena tape w prepared t.slot stays t.tape_is t.walk t.same (subst (λ (v : ArenaView). KeptReady w.phase v o x.task prepared w) (sym stays) t.kept)))
-        (nears_made x after there arena tape c.accounts table over guarantee
+        (judge_ready c (shown now) o (ap shown is) h few x there at_judge arena tape w prepared t))
+        (nears_made x after there arena tape c.accounts table over t.keeps.guarantee
         (λ height n point. point_first height (n + 1) arena w x.splits after.walk.first
-        (subst (λ (v : ArenaView). IsAtPoint height (n + 1) v w x.splits) (sym stays) (judge_brings c.arena (at c.arena x.walk.place.node) t.slot w x.walk x.splits t.walk at_judge height n point))))
-        (leads_over c o h x there Judge at_judge now is arena tape c.accounts table after over w (inl (record { slot = t.slot; stands = stands; goes = t.walk })) refl)
+        (subst (λ (v : ArenaView). IsAtPoint height (n + 1) v w x.splits) (sym t.stays) (judge_brings c.arena (at c.arena x.walk.place.node) t.slot w x.walk x.splits t.walk at_judge height n point))))
+        (leads_over c o h x there Judge at_judge now is arena tape c.accounts table after over w (inl (record { slot = t.slot; stands = t.stands; goes = t.walk })) refl)
 
     -- another long key in the key's place
-    meets_made : IsNext now o (λ q. q ≡ Judge) → (x : Operation) → operation_at c.table o ≡ Some x → (arena : ArenaView) (tape : Kept) (w : Walk) (table : Table) → tape ≡ c.tape → Guarantee o c.arena arena → MeetsOther o x.task.key c.arena arena x.walk w
+    meets_made : IsNext now o (λ q. q ≡ Judge) → (x : Operation) → operation_at c.table o ≡ Some x → (arena : ArenaView) (tape : Kept) (w : Walk) (table : Table) → tape ≡ c.tape → MeetsOther o x.task.key c.arena arena x.walk w
         → Writes c.table table o (λ y. moved y (c.steps + 1) w) → StateInvariant (made c arena tape c.accounts table) × StepsOn now (made c arena tape c.accounts table) o Moved
-    meets_made next x there arena tape w table keeps guarantee t writes =
+    meets_made next x there arena tape w table keeps t writes =
         let at_judge = phase_is c now o (λ q. q ≡ Judge) is x there next in
         let after = moved x (c.steps + 1) w in
         let over = over_first c.table table o (λ y. moved y (c.steps + 1) w) x there writes in
-        let meets : MeetsAnother c o x w = record { slot = t.slot; walk = t.walk; kept = subst (λ (v : ArenaView). IsAtMakeLayer v o x.task.key w) t.same t.kept } in
         steps_on (made c arena tape c.accounts table)
-        (gives_on x arena tape w table over c.arena t.same keeps (meet_done c o h few_inside x there at_judge w meets))
-        (nears_made x after there arena tape c.accounts table over guarantee
+        (gives_on x arena tape w table over arena refl keeps (meet_done c o h few_inside x there at_judge arena w t))
+        (nears_made x after there arena tape c.accounts table over t.keeps.guarantee
         (λ height n point. point_first height (n + 1) arena w x.splits after.walk.first
-        (subst (λ (v : ArenaView). IsAtPoint height (n + 1) v w x.splits) (sym t.same) (meet_brings c.arena t.slot w x.walk x.splits t.walk at_judge height n point))))
+        (subst (λ (v : ArenaView). IsAtPoint height (n + 1) v w x.splits) (sym t.stays) (meet_brings c.arena t.slot w x.walk x.splits t.walk at_judge height n point))))
         (leads_over c o h x there Judge at_judge now is arena tape c.accounts table after over w (inr (inl (record { slot = t.slot; stands = stands; goes = t.walk }))) refl)
       where
         stands : IsInSlot (at c.arena x.walk.place.node) t.slot x.task.key x.walk.layer OtherLong
-        stands = subst (λ (y : Walk). IsInSlot (at c.arena y.place.node) y.slot x.task.key y.layer OtherLong) t.walk
-            (subst (λ (v : ArenaView). IsInSlot (at v w.place.node) w.slot x.task.key w.layer OtherLong) t.same t.kept.in_slot)
+        stands = subst (λ (y : Walk). IsInSlot (at c.arena y.place.node) y.slot x.task.key y.layer OtherLong) t.walk t.kept.in_slot
 
     -- a link that leads on
-    link_made : IsNext now o (λ q. q ≡ Judge) → (x : Operation) → operation_at c.table o ≡ Some x → (arena : ArenaView) (tape : Kept) (w : Walk) (table : Table) → tape ≡ c.tape → Continues x.walk w → LeavesContents c o arena
+    link_made : IsNext now o (λ q. q ≡ Judge) → (x : Operation) → operation_at c.table o ≡ Some x → (arena : ArenaView) (tape : Kept) (w : Walk) (table : Table) → tape ≡ c.tape
         → MeetsLink o x.task.key c.arena arena x.walk w → Writes c.table table o (λ y. moved y (c.steps + 1) w) → StateInvariant (made c arena tape c.accounts table) × StepsOn now (made c arena tape c.accounts table) o Moved
-    link_made next x there arena tape w table keeps same leaves t writes =
+    link_made next x there arena tape w table keeps t writes =
         let at_judge = phase_is c now o (λ q. q ≡ Judge) is x there next in
         let within = (judge_kept c o h x there at_judge).judged.held.there in
         let stored = (h.ops o x there).always.stored in
         let after = moved x (c.steps + 1) w in
         let over = over_first c.table table o (λ y. moved y (c.steps + 1) w) x there writes in
-        let goes : GoesBelow c o x arena w = record { is = t.unlocks; enters = ap (λ (y : Walk). y.phase) t.walk; same = same; leaves = leaves; kept = t.kept } in
         steps_on (made c arena tape c.accounts table)
-        (gives_on x arena tape w table over arena refl keeps (below_done c o h few_inside x there at_judge arena w goes))
-        (nears_made x after there arena tape c.accounts table over leaves.guarantee
+        (gives_on x arena tape w table over arena refl keeps (below_done c o h few_inside x there at_judge arena w t))
+        (nears_made x after there arena tape c.accounts table over t.goes.keeps.guarantee
         (λ height n point. point_first height (n + 1) arena w x.splits after.walk.first
-        (subst (λ (v : ArenaView). IsAtPoint height (n + 1) v w x.splits) (sym t.unlocks) (link_brings c.arena x.task.key t.tree w x.walk x.splits t.walk at_judge within stored t.kept.begun height n point))))
-        (leads_over c o h x there Judge at_judge now is arena tape c.accounts table after over w (inr (inr (inl (record { slot = t.slot; stands = t.in_slot; tree = t.tree; leads = t.leads; goes = t.walk })))) refl)
+        (subst (λ (v : ArenaView). IsAtPoint height (n + 1) v w x.splits) (sym t.goes.is) (link_brings c.arena x.task.key t.tree w x.walk x.splits t.goes.walk at_judge within stored t.kept.begun height n point))))
+        (leads_over c o h x there Judge at_judge now is arena tape c.accounts table after over w (inr (inr (inl (record { slot = t.slot; stands = t.in_slot; tree = t.tree; leads = t.leads; goes = t.goes.walk })))) refl)
 
     -- either of them: it goes on
-    pub on_made : IsNext now o (λ q. q ≡ Judge) → (x : Operation) → operation_at c.table o ≡ Some x → (arena : ArenaView) (tape : Kept) (w : Walk) (table : Table) → tape ≡ c.tape → Continues x.walk w → LeavesContents c o arena
+    pub on_made : IsNext now o (λ q. q ≡ Judge) → (x : Operation) → operation_at c.table o ≡ Some x → (arena : ArenaView) (tape : Kept) (w : Walk) (table : Table) → tape ≡ c.tape
         → MeetsOther o x.task.key c.arena arena x.walk w ⊎ MeetsLink o x.task.key c.arena arena x.walk w → Writes c.table table o (λ y. moved y (c.steps + 1) w)
         → StateInvariant (made c arena tape c.accounts table) × StepsOn now (made c arena tape c.accounts table) o Moved
-    on_made next x there arena tape w table keeps same leaves (inl t) writes = meets_made next x there arena tape w table keeps leaves.guarantee t writes
-    on_made next x there arena tape w table keeps same leaves (inr t) writes = link_made next x there arena tape w table keeps same leaves t writes
+    on_made next x there arena tape w table keeps (inl t) writes = meets_made next x there arena tape w table keeps t writes
+    on_made next x there arena tape w table keeps (inr t) writes = link_made next x there arena tape w table keeps t writes
 
     -- no memory for it
-    pub refused_made : IsNext now o (λ q. q ≡ Judge) → (x : Operation) → operation_at c.table o ≡ Some x → (arena : ArenaView) (tape : Kept) (w : Walk) (told : Outcome) (table : Table) → tape ≡ c.tape → GivesBack c o x arena w
+    pub refused_made : IsNext now o (λ q. q ≡ Judge) → (x : Operation) → operation_at c.table o ≡ Some x → (arena : ArenaView) (tape : Kept) (w : Walk) (told : Outcome) (table : Table) → tape ≡ c.tape → IsUnlock o c.arena arena x.walk w
         → told ≡ record { reply = NoMemory; at = c.steps + 1 } → Writes c.table table o (λ y. noted (moved y (c.steps + 1) w) (Some told)) → Gives (shown now) (made c arena tape c.accounts table) o true
     refused_made next x there arena tape w told table keeps t says moves =
         subst (λ (all : Table). Gives (shown now) (made c arena tape c.accounts all) o true) (sym (moves x there))
         (subst (λ (r : Outcome). Gives (shown now) (made c arena tape c.accounts (set c.table o (Some (noted (moved x (c.steps + 1) w) (Some r))))) o true) (sym says)
-        (judge_refused c (shown now) o (ap shown is) h few x there (phase_is c now o (λ q. q ≡ Judge) is x there next) arena tape w t.is keeps t.walk t.same t.leaves.guarantee t.leaves.contents))
+        (judge_refused c (shown now) o (ap shown is) h few x there (phase_is c now o (λ q. q ≡ Judge) is x there next) arena tape w keeps t))
 
-    pub refused_leads : IsNext now o (λ q. q ≡ Judge) → (x : Operation) → operation_at c.table o ≡ Some x → (arena : ArenaView) (tape : Kept) (w : Walk) (told : Outcome) (table : Table) → GivesBack c o x arena w
+    pub refused_leads : IsNext now o (λ q. q ≡ Judge) → (x : Operation) → operation_at c.table o ≡ Some x → (arena : ArenaView) (tape : Kept) (w : Walk) (told : Outcome) (table : Table) → IsUnlock o c.arena arena x.walk w
         → Writes c.table table o (λ y. noted (moved y (c.steps + 1) w) (Some told)) → Leads (shown now) (shown (made c arena tape c.accounts table)) o
     refused_leads next x there arena tape w told table t writes =
         leads_over c o h x there Judge (phase_is c now o (λ q. q ≡ Judge) is x there next) now is arena tape c.accounts table _ (over_first c.table table o (λ y. noted (moved y (c.steps + 1) w) (Some told)) x there writes) w
@@ -393,23 +369,22 @@ module _ (c now : Core) (o : ℕ) (is : c ≡ now) (h : StateInvariant c) where
         (let s = standing Store next in store_kept c o h s.0 s.1 s.2 prepared (has Store next table prepared takes))
 
     -- a row that was written over the one of its key
-    pub store_made : (few : now.steps < 2 ^ 59) (arena : ArenaView) (tape : Kept) (w : Walk) (before : Columns) (told : Outcome) (last : Table) → IsArena c.arena.nodes c.arena.trees → Stores c x arena prepared.row before → PlacesChange c o x arena tape w
+    pub store_made : (few : now.steps < 2 ^ 59) (arena : ArenaView) (tape : Kept) (w : Walk) (before : Columns) (told : Outcome) (last : Table) → IsArena c.arena.nodes c.arena.trees → IsStore o (c.steps + 1) x.task prepared.row c.arena arena c.tape tape x.walk w before
         → told ≡ record { reply = Replaced; at = c.steps + 1 } → Writes table last o (λ y. noted (moved y (c.steps + 1) w) (Some told)) → StateInvariant (made c arena tape c.accounts last) × StepsOn now (made c arena tape c.accounts last) o Moved
-    store_made few arena tape w before told last is_arena stores places says moves =
+    store_made few arena tape w before told last is_arena stores says moves =
         let s = standing Store next in
         let y = with_nothing_ready s.0 in
         let back = sym (it_is Store next table prepared takes x there_x) in
-        let st = subst (λ (z : Operation). Stores c z arena prepared.row before) back stores in
-        let pl = subst (λ (z : Operation). PlacesChange c o z arena tape w) back places in
+        let st = subst (λ (z : Operation). IsStore o (c.steps + 1) z.task prepared.row c.arena arena c.tape tape z.walk w before) back stores in
         let f : Operation → Operation = λ z. moved z (c.steps + 1) w in
         let sk = store_kept c o h s.0 s.1 s.2 prepared (has Store next table prepared takes) in
         steps_on (made c arena tape c.accounts last)
         (subst (λ (all : Table). Gives (shown now) (made c arena tape c.accounts all) o false) (sym (over_last Store next table prepared takes w (Some told) last moves).is)
         (subst (λ (r : Outcome). Gives (shown now) (made c arena tape c.accounts (set c.table o (Some (noted (f y) (Some r))))) o false) (sym says)
-        (store_done c (shown now) o (ap shown is) h few s.0 s.1 (put_at c o h s.0 s.1 Store s.2 tt) s.2 arena tape w prepared.row before is_arena st.is st.before_is pl.places pl.walk pl.same pl.guarantee pl.kept)))
-        (nears_placed Store next table prepared takes arena tape c.accounts w (Some told) last moves pl.guarantee pl.walk refl (λ grown. grown)
+        (store_done c (shown now) o (ap shown is) h few s.0 s.1 (put_at c o h s.0 s.1 Store s.2 tt) s.2 arena tape w prepared.row before is_arena st)))
+        (nears_placed Store next table prepared takes arena tape c.accounts w (Some told) last moves st.guarantee st.walk refl (λ grown. grown)
         (levels_stay c.arena arena s.0.walk.place.node _ sk.holds.judged.held.there (st.is sk.pair sk.stable) refl) (λ height n point. let few = few_at height n c.arena s.0.walk s.0.splits Store s.2 point in omega (arith, few)))
-        (leads_over c o h s.0 s.1 Store s.2 now is arena tape c.accounts last _ (over_last Store next table prepared takes w (Some told) last moves) w pl.walk refl)
+        (leads_over c o h s.0 s.1 Store s.2 now is arena tape c.accounts last _ (over_last Store next table prepared takes w (Some told) last moves) w st.walk refl)
 
   module _ (next : IsNext now o (λ q. q ≡ Publish)) (table : Table) (prepared : Prepared) (takes : TakesOut table prepared) (x : Operation) (there_x : operation_at table o ≡ Some x) where
     -- what is kept of it is what `publish` asks
@@ -417,11 +392,11 @@ module _ (c now : Core) (o : ℕ) (is : c ≡ now) (h : StateInvariant c) where
     publish_at = subst (λ (y : Operation). IsAtPublish c.arena o y.task prepared y.walk) (it_is Publish next table prepared takes x there_x)
         (let s = standing Publish next in publish_kept c o h s.0 s.1 s.2 prepared (has Publish next table prepared takes))
 
-    module _ (few : now.steps < 2 ^ 59) (arena : ArenaView) (tape : Kept) (accounts : Accounts) (w : Walk) (told : Outcome) (last : Table) (moves : Writes table last o (λ y. noted (moved y (c.steps + 1) w) (Some told))) (guarantee : Guarantee o c.arena arena) where
-      by_outcome : (reply : Reply) → told ≡ record { reply = reply; at = c.steps + 1 } → w ≡ walk_placed (standing Publish next).0.walk → ((height : ℕ) → AreBelow c.arena height → AreBelow arena height)
+    module _ (few : now.steps < 2 ^ 59) (arena : ArenaView) (tape : Kept) (accounts : Accounts) (w : Walk) (told : Outcome) (last : Table) (moves : Writes table last o (λ y. noted (moved y (c.steps + 1) w) (Some told))) where
+      by_outcome : (reply : Reply) → told ≡ record { reply = reply; at = c.steps + 1 } → Guarantee o c.arena arena → w ≡ walk_placed (standing Publish next).0.walk → ((height : ℕ) → AreBelow c.arena height → AreBelow arena height)
           → Gives (shown now) (made c arena tape accounts (set c.table o (Some (noted (moved (with_nothing_ready (standing Publish next).0) (c.steps + 1) w) (Some (record { reply = reply; at = c.steps + 1 })))))) o false
           → StateInvariant (made c arena tape accounts last) × StepsOn now (made c arena tape accounts last) o Moved
-      by_outcome reply says goes stays gives =
+      by_outcome reply says guarantee goes stays gives =
           let s = standing Publish next in
           let f : Operation → Operation = λ z. moved z (c.steps + 1) w in
           steps_on (made c arena tape accounts last)
@@ -431,23 +406,22 @@ module _ (c now : Core) (o : ℕ) (is : c ≡ now) (h : StateInvariant c) where
           (leads_over c o h s.0 s.1 Publish s.2 now is arena tape accounts last _ (over_last Publish next table prepared takes w (Some told) last moves) w goes refl)
 
       -- a pair that was made live
-      pub publish_made : IsArena c.arena.nodes c.arena.trees → Publishes c x arena accounts prepared.row → PlacesChange c o x arena tape w → told ≡ record { reply = New; at = c.steps + 1 }
+      pub publish_made : IsArena c.arena.nodes c.arena.trees → IsPublish o (c.steps + 1) x.task prepared.row c.arena arena c.tape tape c.accounts accounts x.walk w → told ≡ record { reply = New; at = c.steps + 1 }
           → StateInvariant (made c arena tape accounts last) × StepsOn now (made c arena tape accounts last) o Moved
-      publish_made is_arena publishes places says =
+      publish_made is_arena publishes says =
           let s = standing Publish next in
           let back = sym (it_is Publish next table prepared takes x there_x) in
-          let pb = subst (λ (z : Operation). Publishes c z arena accounts prepared.row) back publishes in
-          let pl = subst (λ (z : Operation). PlacesChange c o z arena tape w) back places in
+          let pb = subst (λ (z : Operation). IsPublish o (c.steps + 1) z.task prepared.row c.arena arena c.tape tape c.accounts accounts z.walk w) back publishes in
           let pk = publish_kept c o h s.0 s.1 s.2 prepared (has Publish next table prepared takes) in
-          by_outcome New says pl.walk
+          by_outcome New says pb.guarantee pb.walk
           (levels_stay c.arena arena s.0.walk.place.node _ pk.holds.judged.held.there pb.is refl)
-          (publish_done c (shown now) o (ap shown is) h few s.0 s.1 (put_at c o h s.0 s.1 Publish s.2 tt) s.2 arena tape accounts w prepared.row is_arena pb.is pb.missing pb.room pb.counted pb.others pl.places pl.walk pl.same pl.guarantee pl.kept)
+          (publish_done c (shown now) o (ap shown is) h few s.0 s.1 (put_at c o h s.0 s.1 Publish s.2 tt) s.2 arena tape accounts w prepared.row is_arena pb)
 
       -- a quota that had no room
-      pub full_made : arena ≡ c.arena → accounts ≡ c.accounts → FindsFull c o x tape w → told ≡ record { reply = Full; at = c.steps + 1 } → StateInvariant (made c arena tape accounts last) × StepsOn now (made c arena tape accounts last) o Moved
-      full_made stays same_accounts full says =
+      pub full_made : IsPublishFull o x.task c.arena arena c.tape tape c.accounts accounts x.walk w → told ≡ record { reply = Full; at = c.steps + 1 } → StateInvariant (made c arena tape accounts last) × StepsOn now (made c arena tape accounts last) o Moved
+      full_made full says =
           let s = standing Publish next in
-          let ff = subst (λ (z : Operation). FindsFull c o z tape w) (sym (it_is Publish next table prepared takes x there_x)) full in
-          by_outcome Full says ff.walk
-          (λ height. subst (λ (v : ArenaView). AreBelow v height) (sym stays))
-          (publish_full c (shown now) o (ap shown is) h few s.0 s.1 s.2 (put_at c o h s.0 s.1 Publish s.2 tt) arena tape accounts w stays same_accounts ff.tape_is ff.walk ff.same (subst (λ (v : ArenaView). IsAtUnlock v o w) (sym stays) ff.kept) ff.missing ff.full)
+          let ff = subst (λ (z : Operation). IsPublishFull o z.task c.arena arena c.tape tape c.accounts accounts z.walk w) (sym (it_is Publish next table prepared takes x there_x)) full in
+          by_outcome Full says ff.guarantee ff.walk
+          (λ height. subst (λ (v : ArenaView). AreBelow v height) (sym ff.stays))
+          (publish_full c (shown now) o (ap shown is) h few s.0 s.1 s.2 (put_at c o h s.0 s.1 Publish s.2 tt) arena tape accounts w ff)

@@ -16,7 +16,7 @@ use Rattle.mt_arena.specs.NodeView.{NodeView}
 use Rattle.mt_arena.specs.NodeFacts.{IsUnstable}
 use Rattle.mt_arena.specs.Layers.{slot_at}
 use Rattle.mt_arena.specs.Edits.{locked}
-use Rattle.mt_arena.specs.Arena.{ArenaView}
+use Rattle.mt_arena.specs.Arena.{ArenaView, content_of, Guarantee}
 use Rattle.mt_arena.specs.Accesses.{at, with_node}
 use Rattle.mt_operation.specs.declared.phase.Phase.{Phase}
 use Rattle.mt_operation.specs.declared.phase.Phase.TheVariants.{Enter, Pick, Child, Verify, Search, Load, Confirm, Forward, Lock, Judge, Done}
@@ -24,7 +24,9 @@ use Rattle.mt_operation.specs.declared.walk.Taken.{Taken}
 use Rattle.mt_operation.specs.declared.walk.Taken.TheVariants.{Missing, Row, Link, Nothing}
 use Rattle.mt_operation.specs.declared.walk.Walk.{Walk}
 use Rattle.mt_descent.specs.Seen.{IsOutdated}
-use Rattle.mt_descent.specs.Kept.{IsInSlot}
+use Rattle.mt_descent.specs.Kept.{IsInSlot, IsAtJudge, IsKept}
+use Rattle.mt_arena.specs.Settled.{IsSettled}
+use Rattle.mt_descent.specs.Pasts.{Past}
 
 -- the node is marked, and this operation holds it
 pub record IsBlocked (n : NodeView) (holder : ℕ) : Type 0 where
@@ -46,6 +48,12 @@ pub record IsBlockedAt (n : NodeView) (slot holder : ℕ) : Type 0 where
 pub record Continues (before after : Walk) : Type 0 where
   pub writes : after.writes ≡ before.writes
   pub first : after.first ≡ before.first
+
+-- a step of an operation that changes no pair: others may rely on what it leaves, and the walk is still its own
+pub record KeepsPairs (op : ℕ) (old new : ArenaView) (before after : Walk) : Type 0 where
+  pub same : Continues before after
+  pub guarantee : Guarantee op old new
+  pub contents : content_of new ≡ content_of old
 
 -- what comes next at a border node: a get looks, others lock
 abbrev pub arrival : Bool → Phase
@@ -150,3 +158,12 @@ pub record Locks (op : ℕ) (old new : ArenaView) (before after : Walk) : Type 0
   pub judges : ¬ IsOutdated (at old before.place.node) before.place.seen → after ≡ record before { phase = Judge }
   pub leaves : IsOutdated (at old before.place.node) before.place.seen → new ≡ old
   pub goes_on : IsOutdated (at old before.place.node) before.place.seen → after ≡ after_change before (at old before.place.node).version (at old before.place.node).next
+
+-- a step of Lock: nobody held the node, and what is kept of the walk is kept of it where it goes on, and of the node where it is locked
+pub record IsLock (op : ℕ) (key : Bytes) (old new : ArenaView) (before after : Walk) : Type 0 where
+  pub free : (at old before.place.node).holder ≡ None
+  pub locks : Locks op old new before after
+  pub keeps : KeepsPairs op old new before after
+  pub kept : (past : Past) (row : Option Columns) → IsKept new past key row after
+  pub judged : after.phase ≡ Judge → IsAtJudge new op key after
+  pub settled : after.phase ≡ Judge → IsSettled new.nodes before.place.node (at new before.place.node)

@@ -34,7 +34,7 @@ use Rattle.mt_descent.specs.Moves.{Locks, after_change, walk_anew}
 use Rattle.mt_descent.proofs.Looks.{finds_in}
 use Rattle.mt_insert.specs.Puts.{IsReady}
 use Rattle.mt_insert.specs.Kept.{HoldsBorder, KeptReady}
-use Rattle.mt_insert.specs.Moves.{StandsIn, ReadyFor, after_judge}
+use Rattle.mt_insert.specs.Judge.{StandsIn, ReadyFor, after_judge}
 
 -- what a border node tells of the key, its view tells
 pub stands_in : (n : NodeView) (b : BorderNode) (key : Bytes) (layer : ℕ) (slot : Option ℕ) → n.slots ≡ b.slots

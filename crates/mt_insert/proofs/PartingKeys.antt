@@ -40,7 +40,7 @@ use Rattle.mt_descent.specs.Kept.{GoesThrough}
 use Rattle.mt_descent.proofs.Ways.{live_tree}
 use Rattle.mt_insert.specs.Moves.{entry_of}
 use Rattle.mt_insert.specs.Splitting.{last_of, HoldsSplits, IsAtSplitMove, AreParted, NothingLags, HasSplits, IsAtSplitPrev, IsAtLockParent, KeptSplit}
-use Rattle.mt_insert.specs.SplitMoves.{after_parting}
+use Rattle.mt_insert.specs.SplitMove.{after_parting}
 
 -- what is not some number is none
 no_number : (o : Option ℕ) → (o ≢ None → ⊥) → o ≡ None

@@ -11,9 +11,8 @@ use Rattle.mt_border.specs.declared.entry.Entry.{Entry}
 use Rattle.mt_border.specs.declared.entry.Pair.{Pair}
 use Rattle.mt_border.specs.declared.entry.Held.TheVariants.{Stable, Link}
 use Rattle.mt_border.specs.declared.entry.FoundKind.TheVariants.{ThisKey, Link as ToTree}
-use Rattle.mt_border.specs.Entry.{pair_of}
+use Rattle.mt_border.specs.Entry.{pair_of, order_of}
 use Rattle.mt_border.specs.Entries.{IsMissing, with_entry, replaced, place_in}
-use Rattle.mt_border.specs.Entry.{order_of}
 use Rattle.mt_border.specs.Contents.{owned, HasKey}
 use Rattle.mt_border.proofs.ContentsKeys.{by_equation, new_has_key, new_is_entry}
 use Rattle.mt_border.proofs.ContentsEdits.{each-publish}
@@ -22,7 +21,7 @@ use Rattle.mt_arena.specs.NodeFacts.{IsUnstable}
 use Rattle.mt_arena.specs.Forests.{tree_at, layer_of}
 use Rattle.mt_arena.specs.Layers.{slot_at}
 use Rattle.mt_arena.specs.Ways.{BelongsIn, StandsFor, GoesOn}
-use Rattle.mt_arena.specs.Edits.{with_slots, unlocked}
+use Rattle.mt_arena.specs.Edits.{with_slots}
 use Rattle.mt_arena.specs.Arena.{ArenaView, IsArena, content_of}
 use Rattle.mt_arena.specs.Accesses.{at, tree_of, IsOpen, with_node, with_row, MayPublish, MayChange}
 use Rattle.mt_arena.proofs.Pairs.{here}
@@ -32,11 +31,12 @@ use Rattle.mt_arena.proofs.Elsewhere.{layer_is}
 use Rattle.mt_arena.proofs.Owners.{found, none_elsewhere}
 use Rattle.mt_arena.proofs.SettledEdits.{settled_self}
 use Rattle.mt_operation.specs.declared.walk.Walk.{Walk}
-use Rattle.mt_descent.specs.Kept.{IsInSlot}
+use Rattle.mt_descent.specs.Kept.{IsInSlot, IsAtEnter}
 use Rattle.mt_descent.specs.Moves.{walk_into}
 use Rattle.mt_descent.proofs.Looks.{belongs}
 use Rattle.mt_insert.specs.Kept.{HoldsBorder, IsAtUnlock}
-use Rattle.mt_insert.specs.Moves.{MeetsLink, entry_of, walk_placed}
+use Rattle.mt_insert.specs.Moves.{entry_of, walk_placed}
+use Rattle.mt_insert.specs.Unlock.{given_back}
 
 module _ (v : ArenaView) (op : ℕ) (key : Bytes) (w : Walk) (arena : IsArena v.nodes v.trees) (h : HoldsBorder v op key w) where
   abbrev n : NodeView
@@ -90,18 +90,10 @@ module _ (v : ArenaView) (op : ℕ) (key : Bytes) (w : Walk) (arena : IsArena v.
       (record { border = record { there = b.there; live = b.live; level = b.level; tree_is = refl }; in_range = f.in_range; slice_is = f.slice_is; mark_is = f.mark_is }) is
 
   -- so a put that meets the link goes on there, once its lock was given back
-  pub meets_link : (slot tree : ℕ) → IsInSlot n slot key w.layer ToTree → (slot_at n slot).held ≡ Link tree → MeetsLink op key v (with_node v w.place.node (unlocked n)) w (walk_into w tree (w.layer + 1))
+  pub meets_link : (slot tree : ℕ) → IsInSlot n slot key w.layer ToTree → (slot_at n slot).held ≡ Link tree → IsAtEnter (given_back v w.place.node) key (walk_into w tree (w.layer + 1))
   meets_link slot tree f is =
       let g = way_on slot tree f is in
-      record {
-        slot = slot;
-        in_slot = f;
-        tree = tree;
-        leads = is;
-        walk = refl;
-        unlocks = refl;
-        kept = record { there = g.there; unmade = λ q making. absurd (let both = sym g.live ∙ making in cc); of_tree = g.of_tree; begun = g.begun };
-      }
+      record { there = g.there; unmade = λ q making. absurd (let both = sym g.live ∙ making in cc); of_tree = g.of_tree; begun = g.begun }
 
   -- another row may be stored in the slot
   pub may_store : (slot : ℕ) (pair : Pair) → IsInSlot n slot key w.layer ThisKey → (slot_at n slot).held ≡ Stable pair → MayChange v w.place.node op key slot pair

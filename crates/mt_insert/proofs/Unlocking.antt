@@ -17,7 +17,7 @@ use Rattle.mt_operation.specs.declared.splits.Halves.{Halves}
 use Rattle.mt_operation.specs.declared.splits.Splits.{Splits}
 use Rattle.mt_descent.specs.Kept.{HoldsNothing}
 use Rattle.mt_insert.specs.Splitting.{halves_at, IsHalf, IsAmong, HoldsSplits, MayReturn, MayReturnBoth, AreReturnable, IsAtUnlockAll}
-use Rattle.mt_insert.specs.SplitMoves.{given_back, Returns}
+use Rattle.mt_insert.specs.Unlock.{given_back, Returns}
 use Rattle.mt_insert.proofs.Returns.{TreesStand, trees_same, stays_whole, returnable_still}
 
 -- a node that names the same neighbour before it and the same parent, and is live as it was

@@ -3,3 +3,10 @@ pub mod Kept
 pub mod Moves
 pub mod Splitting
 pub mod SplitMoves
+pub mod Unlock
+pub mod Judge
+pub mod Store
+pub mod Publish
+pub mod SplitStart
+pub mod SplitMove
+pub mod Climbs

@@ -1,17 +1,16 @@
 -- Where each phase of a split leads, and what it makes of the nodes.
-use Rattle.std.specs.Prelude.{◌≡◌, ℕ, ◌+◌, ◌==◌, if◌then◌else◌, length, Option, Some, None, ◌++◌, ◌∷◌, []}
+use Rattle.std.specs.Prelude.{◌≡◌, ℕ, ◌+◌, ◌==◌, if◌then◌else◌, length, Some, None, ◌++◌, ◌∷◌, []}
 use Rattle.mt_slices.specs.Slices.{slice_of, mark_of}
 use Rattle.mt_border.specs.Split.{IsSeparator, slices_with}
 use Rattle.mt_arena.specs.NodeView.{NodeView}
-use Rattle.mt_arena.specs.Edits.{locked, unlocked, pointed}
+use Rattle.mt_arena.specs.Edits.{locked, pointed}
 use Rattle.mt_arena.specs.Arena.{ArenaView}
 use Rattle.mt_arena.specs.Accesses.{at, with_node, with_half}
 use Rattle.mt_operation.specs.declared.phase.Phase.{Phase}
-use Rattle.mt_operation.specs.declared.phase.Phase.TheVariants.{SplitPrev, LockParent, InsertChild, InteriorSplit, Reparent}
+use Rattle.mt_operation.specs.declared.phase.Phase.TheVariants.{LockParent, InsertChild, InteriorSplit, Reparent}
 use Rattle.mt_operation.specs.declared.walk.Walk.{Walk}
 use Rattle.mt_operation.specs.declared.splits.Splits.{Splits}
 use Rattle.mt_rows.specs.Rows.{Bytes}
-use Rattle.mt_insert.specs.Splitting.{IsAmong}
 
 -- the walk at another phase
 abbrev pub walk_at : Phase → Walk → Walk
@@ -28,11 +27,6 @@ pub record HasOneMore (old new : Splits) (left right : ℕ) : Type 0 where
   pub halves : new.halves.items ≡ old.halves.items ++ (record { left = left; right = right }) ∷ []
   pub above : new.above ≡ None
   pub moved : new.moved ≡ 0
-
--- after SplitMove: a node behind the halves still names the left one
-abbrev pub after_parting : Option ℕ → Phase
-after_parting None = LockParent
-after_parting (Some behind) = SplitPrev
 
 -- after LockParent: by how many separators the parent has
 abbrev pub for_parent : NodeView → Phase
@@ -56,15 +50,3 @@ with_named_parent v child parent = with_node v child (pointed (at v child) (at v
 -- the node behind a right half names it as the one before
 abbrev pub with_named_previous : ArenaView → ℕ → ℕ → ArenaView
 with_named_previous v behind right = with_node v behind (pointed (at v behind) (Some right) (at v behind).parent)
-
--- a node whose lock was given back among the others
-abbrev pub given_back : ArenaView → ℕ → ArenaView
-given_back v k = with_node v k (unlocked (at v k))
-
--- after Unlock: the locks of the splits' nodes were given back, and nothing else was done
-pub record Returns (old new : ArenaView) (s : Splits) : Type 0 where
-  pub count : length new.nodes ≡ length old.nodes
-  pub given : (k : ℕ) → IsAmong s k → at new k ≡ unlocked (at old k)
-  pub others : (k : ℕ) → ¬ IsAmong s k → at new k ≡ at old k
-  pub trees : new.trees ≡ old.trees
-  pub retired : new.retired ≡ old.retired

@@ -15,7 +15,8 @@ ghost use Rattle.mt_operation.specs.Tasks.{command_of, ask};
 ghost use Rattle.mt_descent.specs.Kept.{IsAtBorder};
 ghost use Rattle.mt_descent.specs.Moves.{FindsIn};
 ghost use Rattle.mt_insert.specs.Puts.{change_of, row_over, IsReady};
-ghost use Rattle.mt_insert.specs.Moves.{StandsIn, ReadyFor, reserving};
+ghost use Rattle.mt_insert.specs.Moves.{reserving};
+ghost use Rattle.mt_insert.specs.Judge.{StandsIn, ReadyFor};
 
 use mt_arena::Arena;
 use mt_border::laws::suffix_fits_mark;

@@ -33,13 +33,17 @@ use Rattle.mt_state.specs.Notes.{Notes}
 use Rattle.mt_state.specs.Promises.{Touches}
 use Rattle.mt_state.specs.Kept.{IsOpenOperation, IsJudging, IsLayering, IsLeaving, IsReturning, HasAnswer, IsKeptAt, IsKeptOf}
 use Rattle.mt_state.specs.Invariant.{IsTape, IsStampOf, AreStamps, HoldsLast, HoldsAt, StateInvariant, StateGuarantee}
-use Rattle.mt_state.specs.Writes.{LeavesContents, GivesBack, MeetsAnother, BuildsLayer, GoesBelow}
 use Rattle.mt_state.proofs.Telling.{Gives, gives, logs_later}
 use Rattle.mt_state.proofs.Quiet.{quiet, LeavesPairs}
 use Rattle.mt_state.proofs.Moved.{went, open_moved, has_moved, first_begun, first_upto}
 use Rattle.mt_state.proofs.Still.{IsUnready, floor_made, leaves_all, unready_none}
 use Rattle.mt_state.proofs.Reading.{walk_same}
 use Rattle.mt_state.proofs.OneNode.{counted_unlocked, counted_later, replaced_at, replaced_touches, replaced_leaves, quiet_grows, holds_here, quiet_gives}
+use Rattle.mt_descent.specs.Moves.{KeepsPairs}
+use Rattle.mt_insert.specs.Judge.{MeetsOther, MeetsLink}
+use Rattle.mt_insert.specs.Unlock.{IsUnlock}
+use Rattle.mt_layer.specs.Builds.{IsLayerFrom, IsLeave}
+use Rattle.mt_state.proofs.LayerNodes.{BuildsLayer, builds_by}
 
 -- a phase at which an operation makes a layer, or has made it
 abbrev HasLayer : Phase → Type 0
@@ -167,7 +171,7 @@ module _ (c : Core) (o : ℕ) (h : StateInvariant c) (few : c.steps < 2 ^ 59) (o
   kind_at p at_p = subst (λ (p : Phase). IsOfKind p op.walk.writes) at_p always.kind
 
   -- the lock of the one node that it holds is given back
-  module _ (arena : ArenaView) (w : Walk) (told : Option Outcome) (is : arena ≡ with_node c.arena op.walk.place.node (unlocked (at c.arena op.walk.place.node))) (leaves : LeavesContents c o arena)
+  module _ (arena : ArenaView) (w : Walk) (told : Option Outcome) (is : arena ≡ with_node c.arena op.walk.place.node (unlocked (at c.arena op.walk.place.node))) (keeps : KeepsPairs o c.arena arena op.walk w)
       (held : IsHeld c.arena op.walk.place.node o) (only : HoldsOnly c.arena o op.walk.place.node) where
     abbrev k : ℕ
     k = op.walk.place.node
@@ -183,7 +187,7 @@ module _ (c : Core) (o : ℕ) (h : StateInvariant c) (few : c.steps < 2 ^ 59) (o
 
     back_leaves : LeavesPairs c o arena
     back_leaves = subst (LeavesPairs c o) (sym is) (replaced_leaves c o h k held.there (unlocked n) refl refl refl (counted_unlocked n c.steps (h.versions k held.there) (unlocked n) refl)
-        (subst (Guarantee o c.arena) is leaves.guarantee) (subst (λ (v : ArenaView). content_of v ≡ content_of c.arena) is leaves.contents))
+        (subst (Guarantee o c.arena) is keeps.guarantee) (subst (λ (v : ArenaView). content_of v ≡ content_of c.arena) is keeps.contents))
 
     free : (j : ℕ) → j < length (with_node c.arena k (unlocked n)).nodes → (at (with_node c.arena k (unlocked n)) j).holder ≡ Some o → ⊥
     free j inside holds = let r = replaced_at c.arena k held.there (unlocked n) j inside in elim r.1 [
@@ -207,14 +211,14 @@ module _ (c : Core) (o : ℕ) (h : StateInvariant c) (few : c.steps < 2 ^ 59) (o
         (is_done q) (sym (ap is_done at_q))
 
   -- an operation that goes on below is on its way there
-  below_kept : (arena : ArenaView) (w : Walk) → GoesBelow c o op arena w → op.outcome ≡ None → op.prepared ≡ None
+  below_kept : (arena : ArenaView) (w : Walk) → w.phase ≡ Enter → IsAtEnter arena op.task.key w → op.outcome ≡ None → op.prepared ≡ None
       → IsKeptAt Enter (quiet c arena c.tape.reserved o (went op (c.steps + 1) w op.outcome op.prepared)) o (went op (c.steps + 1) w op.outcome op.prepared)
-  below_kept arena w t untold unprepared =
+  below_kept arena w at_enter enters_at untold unprepared =
       let after = went op (c.steps + 1) w op.outcome op.prepared in
       let new = quiet c arena c.tape.reserved o after in
-      let enters : IsAtEnter arena op.task.key after.walk = t.kept in
+      let enters : IsAtEnter arena op.task.key after.walk = enters_at in
       record {
-        kept = subst (λ (q : Phase). KeptAt q arena (past_of new) op.task.key None after.walk) (sym t.enters) enters;
+        kept = subst (λ (q : Phase). KeptAt q arena (past_of new) op.task.key None after.walk) (sym at_enter) enters;
         untold = untold;
         unprepared = unprepared;
       }
@@ -224,8 +228,8 @@ module _ (c : Core) (o : ℕ) (h : StateInvariant c) (few : c.steps < 2 ^ 59) (o
     judging = kept_at Judge at_judge
 
     -- another long key stands in the place of the operation's own
-    pub meet_done : (w : Walk) → MeetsAnother c o op w → Gives (shown c) (quiet c c.arena c.tape.reserved o (went op (c.steps + 1) w op.outcome op.prepared)) o false
-    meet_done w t =
+    pub meet_done : (arena : ArenaView) (w : Walk) → MeetsOther o op.task.key c.arena arena op.walk w → Gives (shown c) (quiet c arena c.tape.reserved o (went op (c.steps + 1) w op.outcome op.prepared)) o false
+    meet_done arena w t =
         let after = went op (c.steps + 1) w op.outcome op.prepared in
         let new = quiet c c.arena c.tape.reserved o after in
         let makes : w.phase ≡ MakeLayer = ap (λ (x : Walk). x.phase) t.walk in
@@ -237,7 +241,8 @@ module _ (c : Core) (o : ℕ) (h : StateInvariant c) (few : c.steps < 2 ^ 59) (o
           untold = judging.untold;
           unprepared = judging.unprepared;
         } in
-        quiet_gives c (shown c) o refl h few op there c.arena c.tape.reserved w op.outcome op.prepared
+        subst (λ (v : ArenaView). Gives (shown c) (quiet c v c.tape.reserved o after) o false) (sym t.stays)
+        (quiet_gives c (shown c) o refl h few op there c.arena c.tape.reserved w op.outcome op.prepared
         (leaves_all c o h) (ap is_done at_judge)
         (subst (λ (p : Phase). MayFollow p w.phase) (sym at_judge) (subst (MayFollow Judge) (sym makes) tt))
         writes (subst (λ (q : Phase). IsOfKind q w.writes) (sym makes) (writes ∙ kind_at Judge at_judge)) refl
@@ -247,34 +252,38 @@ module _ (c : Core) (o : ℕ) (h : StateInvariant c) (few : c.steps < 2 ^ 59) (o
         (unsplit_at Judge at_judge refl)
         (let none = unready_none op Judge at_judge tt in let no = unready_none after MakeLayer makes tt in omega (arith, none, no))
         (λ j inside. inl refl)
-        false (sym (ap is_done makes))
+        false (sym (ap is_done makes)))
 
     -- it goes on below by a link that it found under its lock
-    pub below_done : (arena : ArenaView) (w : Walk) → GoesBelow c o op arena w → Gives (shown c) (quiet c arena c.tape.reserved o (went op (c.steps + 1) w op.outcome op.prepared)) o false
+    pub below_done : (arena : ArenaView) (w : Walk) → MeetsLink o op.task.key c.arena arena op.walk w → Gives (shown c) (quiet c arena c.tape.reserved o (went op (c.steps + 1) w op.outcome op.prepared)) o false
     below_done arena w t =
-        back_gives arena w op.outcome t.is t.leaves judging.judges.judged.held (holds_here c (shown c) o refl h few op there Judge at_judge)
-        Judge Enter at_judge t.enters refl tt tt tt t.same.writes tt refl judging.untold
-        (below_kept arena w t judging.untold judging.unprepared) (unsplit_at Judge at_judge refl)
+        let enters : w.phase ≡ Enter = ap (λ (x : Walk). x.phase) t.goes.walk in
+        back_gives arena w op.outcome t.goes.is t.goes.keeps judging.judges.judged.held (holds_here c (shown c) o refl h few op there Judge at_judge)
+        Judge Enter at_judge enters refl tt tt tt t.goes.keeps.same.writes tt refl judging.untold
+        (below_kept arena w enters t.kept judging.untold judging.unprepared) (unsplit_at Judge at_judge refl)
 
   module _ (at_unlock : op.walk.phase ≡ Unlock) (untold : op.outcome ≡ None) where
     leaving : IsLeaving c o op
     leaving = subst (λ (told : Option Outcome). IsReturning told c o op) untold (kept_at Unlock at_unlock)
 
     -- it goes on in the layer that it has made
-    pub leave_done : (arena : ArenaView) (w : Walk) → GoesBelow c o op arena w → Gives (shown c) (quiet c arena c.tape.reserved o (went op (c.steps + 1) w op.outcome op.prepared)) o false
+    pub leave_done : (arena : ArenaView) (w : Walk) → IsLeave o c.arena arena op.walk w → Gives (shown c) (quiet c arena c.tape.reserved o (went op (c.steps + 1) w op.outcome op.prepared)) o false
     leave_done arena w t =
+        let k = leaving.layering.makes in
+        let g = t.goes k.tree k.taken in
+        let enters : w.phase ≡ Enter = ap (λ (x : Walk). x.phase) g.walk in
         let only : HoldsOnly c.arena o op.walk.place.node =
         λ j inside holds. subst (λ (halves : List Halves). HoldsLast halves op.walk op.splits j) leaving.unsplit.halves (holds_here c (shown c) o refl h few op there Unlock at_unlock j inside holds) in
-        back_gives arena w op.outcome t.is t.leaves leaving.layering.makes.unlock.held only
-        Unlock Enter at_unlock t.enters refl tt tt tt t.same.writes tt refl (untold, untold)
-        (below_kept arena w t untold leaving.layering.unprepared) leaving.unsplit
+        back_gives arena w op.outcome g.is g.keeps leaving.layering.makes.unlock.held only
+        Unlock Enter at_unlock enters refl tt tt tt g.keeps.same.writes tt refl (untold, untold)
+        (below_kept arena w enters (t.kept op.task.key k) untold leaving.layering.unprepared) leaving.unsplit
 
   module _ (at_make : op.walk.phase ≡ MakeLayer) where
     making : IsLayering c o op MakeLayer
     making = kept_at MakeLayer at_make
 
     -- there is no memory for the layer: the lock is given back in the same step
-    pub make_stopped : (arena : ArenaView) (w : Walk) → GivesBack c o op arena w
+    pub make_stopped : (arena : ArenaView) (w : Walk) → IsUnlock o c.arena arena op.walk w
         → Gives (shown c) (quiet c arena c.tape.reserved o (went op (c.steps + 1) w (Some (record { reply = NoMemory; at = c.steps + 1 })) op.prepared)) o true
     make_stopped arena w t =
         let told : Option Outcome = Some (record { reply = NoMemory; at = c.steps + 1 }) in
@@ -290,11 +299,11 @@ module _ (c : Core) (o : ℕ) (h : StateInvariant c) (few : c.steps < 2 ^ 59) (o
           };
           unprepared = making.unprepared;
         } in
-        back_gives arena w told t.is t.leaves making.makes.holds.judged.held (holds_here c (shown c) o refl h few op there MakeLayer at_make)
-        MakeLayer Done at_make (ap (λ (x : Walk). x.phase) t.walk) refl tt tt tt t.same.writes tt (sym (ap told_change making.untold)) refl own (unsplit_at MakeLayer at_make refl)
+        back_gives arena w told t.is t.keeps making.makes.holds.judged.held (holds_here c (shown c) o refl h few op there MakeLayer at_make)
+        MakeLayer Done at_make (ap (λ (x : Walk). x.phase) t.walk) refl tt tt tt t.keeps.same.writes tt (sym (ap told_change making.untold)) refl own (unsplit_at MakeLayer at_make refl)
 
   -- a layer comes one step nearer
-  module _ (arena : ArenaView) (w : Walk) (layer : IsLayerPhase op.walk.phase) (t : BuildsLayer o c.arena arena op.task.key op.walk w) where
+  module _ (arena : ArenaView) (w : Walk) (layer : IsLayerPhase op.walk.phase) (from : IsLayerFrom op.walk.phase o op.task.key c.arena arena op.walk w) where
     abbrev built : Operation
     built = went op (c.steps + 1) w op.outcome op.prepared
 
@@ -303,6 +312,9 @@ module _ (c : Core) (o : ℕ) (h : StateInvariant c) (few : c.steps < 2 ^ 59) (o
 
     layering : IsLayering c o op op.walk.phase
     layering = layer_kept op.walk.phase layer c o op (h.ops o op there).kept
+
+    t : BuildsLayer o c.arena arena op.task.key op.walk w
+    t = builds_by op.walk.phase layer o op.task.key c.arena arena op.walk w refl layering.makes from
 
     leads : HasLayer w.phase
     leads = layer_leads op.walk.phase w.phase layer t.follows t.on

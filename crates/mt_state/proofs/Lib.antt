@@ -35,3 +35,6 @@ pub mod Putting
 pub mod Parting
 pub mod Needs
 pub mod Apart
+pub mod Climbing
+pub mod ClimbingNodes
+pub mod LayerNodes

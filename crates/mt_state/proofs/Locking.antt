@@ -6,19 +6,16 @@ use Rattle.std.specs.FinMap.{get, len}
 use Rattle.mt_version.specs.Changes.{CanUnlock}
 use Rattle.mt_rows.specs.declared.reply.Reply.TheVariants.{NoMemory, Full}
 use Rattle.mt_rows.specs.declared.tenants.Account.{Account}
-use Rattle.mt_rows.specs.Rows.{Columns}
 use Rattle.mt_rows.specs.Accounts.{Accounts, account_of, HasRoom}
 use Rattle.mt_rows.specs.Commands.{key_of}
 use Rattle.mt_rows.specs.Maps.{reply_of}
 use Rattle.mt_rows.specs.Tenants.{tenant_map}
 use Rattle.mt_rows.proofs.ContentLaws.{get-tenant_map}
-use Rattle.mt_border.specs.Contents.{owned}
 use Rattle.mt_tape.specs.Tapes.{Kept}
 use Rattle.mt_arena.specs.NodeView.{NodeView}
 use Rattle.mt_arena.specs.Edits.{locked, unlocked}
 use Rattle.mt_arena.specs.Arena.{ArenaView, content_of, Guarantee}
 use Rattle.mt_arena.specs.Accesses.{at, with_node}
-use Rattle.mt_arena.specs.Settled.{IsSettled}
 use Rattle.mt_operation.specs.declared.phase.Phase.{Phase}
 use Rattle.mt_operation.specs.declared.phase.Phase.TheVariants.{Enter, Lock, Judge, Store, Publish, SplitStart, Unlock, Done}
 use Rattle.mt_operation.specs.declared.walk.Walk.{Walk}
@@ -30,12 +27,13 @@ use Rattle.mt_operation.specs.Tasks.{ask}
 use Rattle.mt_operation.specs.Operations.{view_of, IsUnsplit}
 use Rattle.mt_operation.specs.Phases.{is_done, MayFollow, IsOfKind, has_splits, is_prepared}
 use Rattle.mt_operation.specs.Tables.{Table, op_at as operation_at}
-use Rattle.mt_descent.specs.Pasts.{Past}
-use Rattle.mt_descent.specs.Kept.{IsAtBorder, IsAtJudge, KeptAt, IsKept}
-use Rattle.mt_descent.specs.Moves.{Continues, Locks, after_change}
+use Rattle.mt_descent.specs.Kept.{IsAtBorder, KeptAt, IsKept}
+use Rattle.mt_descent.specs.Moves.{after_change, IsLock}
 use Rattle.mt_insert.specs.Puts.{IsPut}
 use Rattle.mt_insert.specs.Kept.{HoldsBorder, KeptReady, IsAtUnlock, HoldsOnly}
-use Rattle.mt_insert.specs.Moves.{after_judge, walk_placed, walk_done, reserving, released}
+use Rattle.mt_insert.specs.Moves.{released, reserving}
+use Rattle.mt_insert.specs.Judge.{after_judge, IsMadeReady}
+use Rattle.mt_insert.specs.Unlock.{IsUnlock}
 use Rattle.mt_insert.proofs.Looks.{held_here}
 use Rattle.mt_state.specs.Views.{StateView, Core, shown, past_of, quota_of, quota_in}
 use Rattle.mt_state.specs.Steps.{told_change}
@@ -54,6 +52,7 @@ use Rattle.mt_state.proofs.Moved.{went, first_same, first_begun, first_upto}
 use Rattle.mt_state.proofs.Still.{IsFree, still, still_gives, leaves_all, unready_none}
 use Rattle.mt_state.proofs.Reading.{kept_on_way, on_way_unready, on_way_open, walk_same}
 use Rattle.mt_state.proofs.OneNode.{stepped, returning_told, can_unlock, counted_unlocked, replaced_at, replaced_holds, replaced_touches, replaced_leaves, quiet_grows, holds_here, quiet_gives}
+use Rattle.mt_insert.specs.Publish.{IsPublishFull}
 
 -- an operation that has all ready for its write counts once
 pub ready_one : (op : Operation) (p : Phase) → op.walk.phase ≡ p → is_prepared p ≡ true → one_if_prepared (Some op) ≡ 1
@@ -120,9 +119,7 @@ module _ (c : Core) (now : StateView) (o : ℕ) (is : shown c ≡ now) (h : Stat
     locks_on : op.walk.writes ≡ true
     locks_on = subst (λ (p : Phase). IsOfKind p op.walk.writes) at_lock always.kind
 
-    module _ (arena : ArenaView) (w : Walk) (locks : Locks o c.arena arena op.walk w) (same : Continues op.walk w) (guarantee : Guarantee o c.arena arena) (contents : content_of arena ≡ content_of c.arena)
-        (kept : (past : Past) (row : Option Columns) → IsKept arena past op.task.key row w) (judged : w.phase ≡ Judge → IsAtJudge arena o op.task.key w)
-        (settled : w.phase ≡ Judge → IsSettled arena.nodes op.walk.place.node (at arena op.walk.place.node)) where
+    module _ (arena : ArenaView) (w : Walk) (t : IsLock o op.task.key c.arena arena op.walk w) where
       abbrev locked_core : ArenaView → Core
       locked_core v = stepped c v c.tape c.accounts o (went op (c.steps + 1) w op.outcome op.prepared)
 
@@ -133,13 +130,13 @@ module _ (c : Core) (now : StateView) (o : ℕ) (is : shown c ≡ now) (h : Stat
           let new = still c now o is h room op there lock_free w op.outcome in
           let after = went op (c.steps + 1) w op.outcome op.prepared in
           let on : IsOnItsWay new after = record {
-            kept = first_aside w.phase leads.0 c.arena (past_of new) op.task.key None w after.walk.first (subst (λ (v : ArenaView). IsKept v (past_of new) op.task.key None w) stays (kept (past_of new) None));
+            kept = first_aside w.phase leads.0 c.arena (past_of new) op.task.key None w after.walk.first (subst (λ (v : ArenaView). IsKept v (past_of new) op.task.key None w) stays (t.kept (past_of new) None));
             untold = locking.untold;
             unprepared = locking.unprepared;
           } in
           subst (λ (v : ArenaView). Gives now (locked_core v) o false) (sym stays)
           (still_gives c now o is h room op there lock_free w op.outcome
-          (subst (λ (p : Phase). MayFollow p w.phase) (sym at_lock) leads.1) (on_way_unready w.phase leads.0) same.writes leads.2 refl
+          (subst (λ (p : Phase). MayFollow p w.phase) (sym at_lock) leads.1) (on_way_unready w.phase leads.0) t.keeps.same.writes leads.2 refl
           (subst (λ (p : Phase). Notes (shown c) (view_of op) p w.phase op.outcome) (sym at_lock) (by_phase w.phase leads.0))
           (ap told_change locking.untold)
           (kept_on_way w.phase leads.0 new o after on) false (sym (on_way_open w.phase leads.0)))
@@ -154,19 +151,19 @@ module _ (c : Core) (now : StateView) (o : ℕ) (is : shown c ≡ now) (h : Stat
           let within = at_border.covers.remembered.there in
           let judges : w.phase ≡ Judge = ap (λ (x : Walk). x.phase) goes in
           let place : w.place.node ≡ k = ap (λ (x : Walk). x.place.node) goes in
-          let whole = walk_same c op always w begun_lock same.first in
+          let whole = walk_same c op always w begun_lock t.keeps.same.first in
           let counted : IsCountedUpTo (c.steps + 1) (locked n o) = let was = counted_here within in record { inserts = omega (arith, was.inserts); splits = omega (arith, was.splits) } in
           let leaves : LeavesPairs c o (with_node c.arena k (locked n o)) = replaced_leaves c o h k within (locked n o) refl refl refl counted
-          (subst (Guarantee o c.arena) takes guarantee) (subst (λ (v : ArenaView). content_of v ≡ content_of c.arena) takes contents) in
+          (subst (Guarantee o c.arena) takes t.keeps.guarantee) (subst (λ (v : ArenaView). content_of v ≡ content_of c.arena) takes t.keeps.contents) in
           let own : IsJudging (locked_core arena) o after = record {
-            judges = subst (HoldsBorder arena o op.task.key) (sym whole) (held_here o c.arena arena op.task.key op.walk w locks judges (judged judges) (settled judges));
+            judges = subst (HoldsBorder arena o op.task.key) (sym whole) (held_here o c.arena arena op.task.key op.walk w t.locks judges (t.judged judges) (t.settled judges));
             untold = locking.untold;
             unprepared = locking.unprepared;
           } in
           quiet_gives c now o is h room op there arena c.tape.reserved w op.outcome op.prepared
           (subst (LeavesPairs c o) (sym takes) leaves) (ap is_done at_lock)
           (subst (λ (p : Phase). MayFollow p w.phase) (sym at_lock) (subst (MayFollow Lock) (sym judges) tt))
-          same.writes (subst (λ (p : Phase). IsOfKind p w.writes) (sym judges) (same.writes ∙ locks_on)) refl
+          t.keeps.same.writes (subst (λ (p : Phase). IsOfKind p w.writes) (sym judges) (t.keeps.same.writes ∙ locks_on)) refl
           (subst (λ (p : Phase). Notes (shown c) (view_of op) p w.phase op.outcome) (sym at_lock) (subst (λ (p : Phase). Notes (shown c) (view_of op) Lock p op.outcome) (sym judges) locking.untold))
           (λ j inside holds. subst (λ (p : Phase). HoldsAt p after.walk op.splits j) (sym judges) (locked_here within j (subst (λ (v : ArenaView). j < length v.nodes) takes inside) (subst (λ (v : ArenaView). (at v j).holder ≡ Some o) takes holds) ∙ sym place))
           (subst (λ (p : Phase). IsKeptAt p (locked_core arena) o after) (sym judges) own)
@@ -185,8 +182,8 @@ module _ (c : Core) (now : StateView) (o : ℕ) (is : shown c ≡ now) (h : Stat
       -- a put that was to lock its border node
       pub lock_done : Gives now (stepped c arena c.tape c.accounts o (went op (c.steps + 1) w op.outcome op.prepared)) o false
       lock_done = elim (outdated_or_not n op.walk.place.seen) [
-        | inl outdated ↦ lock_left (locks.leaves outdated) (locks.goes_on outdated)
-        | inr fresh ↦ lock_taken (locks.takes fresh) (locks.judges fresh)
+        | inl outdated ↦ lock_left (t.locks.leaves outdated) (t.locks.goes_on outdated)
+        | inr fresh ↦ lock_taken (t.locks.takes fresh) (t.locks.judges fresh)
       ]
 
   module _ (at_unlock : op.walk.phase ≡ Unlock) (told : op.outcome ≢ None) (none : op.splits.halves.items ≡ []) where
@@ -203,16 +200,15 @@ module _ (c : Core) (now : StateView) (o : ℕ) (is : shown c ≡ now) (h : Stat
     begun_unlock = always.begun (λ enters. absurd (let no : Unlock ≡ Enter = sym at_unlock ∙ enters in cc))
 
     -- an operation that has its outcome gives its lock back, and is done with it
-    pub unlock_done : (arena : ArenaView) (w : Walk) → arena ≡ with_node c.arena op.walk.place.node (unlocked (at c.arena op.walk.place.node)) → w ≡ walk_done op.walk → Continues op.walk w
-        → Guarantee o c.arena arena → content_of arena ≡ content_of c.arena → Gives now (stepped c arena c.tape c.accounts o (went op (c.steps + 1) w op.outcome op.prepared)) o true
-    unlock_done arena w gives_back goes same guarantee contents =
+    pub unlock_done : (arena : ArenaView) (w : Walk) → IsUnlock o c.arena arena op.walk w → Gives now (stepped c arena c.tape c.accounts o (went op (c.steps + 1) w op.outcome op.prepared)) o true
+    unlock_done arena w t =
         let after = went op (c.steps + 1) w op.outcome op.prepared in
         let new = stepped c arena c.tape c.accounts o after in
         let within = unlocks.0.held.there in
-        let ends : w.phase ≡ Done = ap (λ (x : Walk). x.phase) goes in
+        let ends : w.phase ≡ Done = ap (λ (x : Walk). x.phase) t.walk in
         let first = first_same c op always w begun_unlock in
         let answer = unlocking.answer in
-        let stays : IsAnswer (shown new) (view_of op) answer.outcome = answer_stays (shown c) (shown new) (quiet_grows c o arena c.tape.reserved after contents) (view_of op) answer.outcome always.made answer.right in
+        let stays : IsAnswer (shown new) (view_of op) answer.outcome = answer_stays (shown c) (shown new) (quiet_grows c o arena c.tape.reserved after t.keeps.contents) (view_of op) answer.outcome always.made answer.right in
         let own : HasAnswer new after = record {
           outcome = answer.outcome;
           told = answer.told;
@@ -225,16 +221,16 @@ module _ (c : Core) (now : StateView) (o : ℕ) (is : shown c ≡ now) (h : Stat
           unprepared = answer.unprepared;
         } in
         quiet_gives c now o is h room op there arena c.tape.reserved w op.outcome op.prepared
-        (subst (LeavesPairs c o) (sym gives_back) (back_leaves within (subst (Guarantee o c.arena) gives_back guarantee) (subst (λ (v : ArenaView). content_of v ≡ content_of c.arena) gives_back contents)))
+        (subst (LeavesPairs c o) (sym t.is) (back_leaves within (subst (Guarantee o c.arena) t.is t.keeps.guarantee) (subst (λ (v : ArenaView). content_of v ≡ content_of c.arena) t.is t.keeps.contents)))
         (ap is_done at_unlock)
         (subst (λ (p : Phase). MayFollow p w.phase) (sym at_unlock) (subst (MayFollow Unlock) (sym ends) tt))
-        same.writes (subst (λ (p : Phase). IsOfKind p w.writes) (sym ends) tt) refl
+        t.keeps.same.writes (subst (λ (p : Phase). IsOfKind p w.writes) (sym ends) tt) refl
         (subst (λ (p : Phase). Notes (shown c) (view_of op) p w.phase op.outcome) (sym at_unlock) (subst (λ (p : Phase). Notes (shown c) (view_of op) Unlock p op.outcome) (sym ends) refl))
-        (λ j inside holds. absurd (back_free within holds_only j (subst (λ (v : ArenaView). j < length v.nodes) gives_back inside) (subst (λ (v : ArenaView). (at v j).holder ≡ Some o) gives_back holds)))
+        (λ j inside holds. absurd (back_free within holds_only j (subst (λ (v : ArenaView). j < length v.nodes) t.is inside) (subst (λ (v : ArenaView). (at v j).holder ≡ Some o) t.is holds)))
         (subst (λ (p : Phase). IsKeptAt p new o after) (sym ends) own)
         unlocks.1
         (let none = unready_none op Unlock at_unlock tt in let no = unready_none after Done ends tt in omega (arith, none, no))
-        (subst (Touches o c.arena) (sym gives_back) (replaced_touches c.arena k within (unlocked n) o (inl unlocks.0.held.holder)))
+        (subst (Touches o c.arena) (sym t.is) (replaced_touches c.arena k within (unlocked n) o (inl unlocks.0.held.holder)))
         true (sym (ap is_done ends))
 
   module _ (at_judge : op.walk.phase ≡ Judge) where
@@ -267,18 +263,18 @@ module _ (c : Core) (now : StateView) (o : ℕ) (is : shown c ≡ now) (h : Stat
     judged_place None = refl
 
     -- a put that has made all ready for its write
-    pub judge_ready : (arena : ArenaView) (tape : Kept) (w : Walk) (prepared : Prepared) (slot : Option ℕ) → arena ≡ c.arena → tape ≡ reserving c.tape → w ≡ after_judge n slot op.walk → Continues op.walk w → KeptReady w.phase arena o op.task prepared w
+    pub judge_ready : (arena : ArenaView) (tape : Kept) (w : Walk) (prepared : Prepared) → IsMadeReady o op.task c.arena arena c.tape tape op.walk w prepared
         → Gives now (stepped c arena tape c.accounts o (went op (c.steps + 1) w op.outcome (Some prepared))) o false
-    judge_ready arena tape w prepared slot stays reserves goes same kept =
-        subst (λ (v : ArenaView). Gives now (stepped c v tape c.accounts o after) o false) (sym stays)
-        (subst (λ (t : Kept). Gives now (stepped c c.arena t c.accounts o after) o false) (sym reserves)
+    judge_ready arena tape w prepared t =
+        subst (λ (v : ArenaView). Gives now (stepped c v tape c.accounts o after) o false) (sym t.stays)
+        (subst (λ (t : Kept). Gives now (stepped c c.arena t c.accounts o after) o false) (sym t.tape_is)
         (quiet_gives c now o is h room op there c.arena (c.tape.reserved + 1) w op.outcome (Some prepared)
         (leaves_all c o h) (ap is_done at_judge)
         (subst (λ (p : Phase). MayFollow p w.phase) (sym at_judge) (follows w.phase to))
-        same.writes (kind w.phase to) refl
+        t.keeps.same.writes (kind w.phase to) refl
         (subst (λ (p : Phase). Notes (shown c) (view_of op) p w.phase op.outcome) (sym at_judge) (notes w.phase to))
         (λ j inside holds. holds_on w.phase to j (holds_here c now o is h room op there Judge at_judge j inside holds ∙ sym place))
-        (own w.phase to (subst (λ (x : Walk). KeptReady w.phase c.arena o op.task prepared x) (sym whole) (subst (λ (v : ArenaView). KeptReady w.phase v o op.task prepared w) stays kept)))
+        (own w.phase to (subst (λ (x : Walk). KeptReady w.phase c.arena o op.task prepared x) (sym whole) t.kept))
         (unsplit_at Judge at_judge refl)
         (let none = unready_none op Judge at_judge tt in let one = ready_one after w.phase refl (ready w.phase to) in omega (arith, none, one))
         (λ j inside. inl refl)
@@ -291,13 +287,13 @@ module _ (c : Core) (now : StateView) (o : ℕ) (is : shown c ≡ now) (h : Stat
         new = stepped c c.arena (reserving c.tape) c.accounts o after
 
         to : IsToPlace w.phase
-        to = subst (λ (x : Walk). IsToPlace x.phase) (sym goes) (judged_to slot)
+        to = subst (λ (x : Walk). IsToPlace x.phase) (sym t.walk) (judged_to t.slot)
 
         place : w.place.node ≡ k
-        place = ap (λ (x : Walk). x.place.node) goes ∙ judged_place slot
+        place = ap (λ (x : Walk). x.place.node) t.walk ∙ judged_place t.slot
 
         whole : after.walk ≡ w
-        whole = walk_same c op always w begun_judge same.first
+        whole = walk_same c op always w begun_judge t.keeps.same.first
 
         follows : (p : Phase) → IsToPlace p → MayFollow Judge p
         follows Store t = tt
@@ -306,9 +302,9 @@ module _ (c : Core) (now : StateView) (o : ℕ) (is : shown c ≡ now) (h : Stat
         follows _ t = absurd t
 
         kind : (p : Phase) → IsToPlace p → IsOfKind p w.writes
-        kind Store t = same.writes ∙ judges_on
-        kind Publish t = same.writes ∙ judges_on
-        kind SplitStart t = same.writes ∙ judges_on
+        kind Store i = t.keeps.same.writes ∙ judges_on
+        kind Publish i = t.keeps.same.writes ∙ judges_on
+        kind SplitStart i = t.keeps.same.writes ∙ judges_on
         kind _ t = absurd t
 
         notes : (p : Phase) → IsToPlace p → Notes (shown c) (view_of op) Judge p op.outcome
@@ -342,15 +338,14 @@ module _ (c : Core) (now : StateView) (o : ℕ) (is : shown c ≡ now) (h : Stat
         own _ t kept = absurd t
 
     -- a put that memory stops: its lock is given back in the same step
-    pub judge_refused : (arena : ArenaView) (tape : Kept) (w : Walk) → arena ≡ with_node c.arena op.walk.place.node (unlocked (at c.arena op.walk.place.node)) → tape ≡ c.tape → w ≡ walk_done op.walk → Continues op.walk w
-        → Guarantee o c.arena arena → content_of arena ≡ content_of c.arena
+    pub judge_refused : (arena : ArenaView) (tape : Kept) (w : Walk) → tape ≡ c.tape → IsUnlock o c.arena arena op.walk w
         → Gives now (stepped c arena tape c.accounts o (went op (c.steps + 1) w (Some (record { reply = NoMemory; at = c.steps + 1 })) op.prepared)) o true
-    judge_refused arena tape w gives_back keeps goes same guarantee contents =
+    judge_refused arena tape w keeps t =
         let told : Option Outcome = Some (record { reply = NoMemory; at = c.steps + 1 }) in
         let after = went op (c.steps + 1) w told op.prepared in
         let new = stepped c arena c.tape c.accounts o after in
         let within = judging.judges.judged.held.there in
-        let ends : w.phase ≡ Done = ap (λ (x : Walk). x.phase) goes in
+        let ends : w.phase ≡ Done = ap (λ (x : Walk). x.phase) t.walk in
         let own : HasAnswer new after = record {
           outcome = record { reply = NoMemory; at = c.steps + 1 };
           told = refl;
@@ -364,16 +359,16 @@ module _ (c : Core) (now : StateView) (o : ℕ) (is : shown c ≡ now) (h : Stat
         } in
         subst (λ (t : Kept). Gives now (stepped c arena t c.accounts o after) o true) (sym keeps)
         (quiet_gives c now o is h room op there arena c.tape.reserved w told op.prepared
-        (subst (LeavesPairs c o) (sym gives_back) (back_leaves within (subst (Guarantee o c.arena) gives_back guarantee) (subst (λ (v : ArenaView). content_of v ≡ content_of c.arena) gives_back contents)))
+        (subst (LeavesPairs c o) (sym t.is) (back_leaves within (subst (Guarantee o c.arena) t.is t.keeps.guarantee) (subst (λ (v : ArenaView). content_of v ≡ content_of c.arena) t.is t.keeps.contents)))
         (ap is_done at_judge)
         (subst (λ (p : Phase). MayFollow p w.phase) (sym at_judge) (subst (MayFollow Judge) (sym ends) tt))
-        same.writes (subst (λ (p : Phase). IsOfKind p w.writes) (sym ends) tt) (sym (ap told_change judging.untold))
+        t.keeps.same.writes (subst (λ (p : Phase). IsOfKind p w.writes) (sym ends) tt) (sym (ap told_change judging.untold))
         (subst (λ (p : Phase). Notes (shown c) (view_of op) p w.phase told) (sym at_judge) (subst (λ (p : Phase). Notes (shown c) (view_of op) Judge p told) (sym ends) refl))
-        (λ j inside holds. absurd (back_free within (holds_here c now o is h room op there Judge at_judge) j (subst (λ (v : ArenaView). j < length v.nodes) gives_back inside) (subst (λ (v : ArenaView). (at v j).holder ≡ Some o) gives_back holds)))
+        (λ j inside holds. absurd (back_free within (holds_here c now o is h room op there Judge at_judge) j (subst (λ (v : ArenaView). j < length v.nodes) t.is inside) (subst (λ (v : ArenaView). (at v j).holder ≡ Some o) t.is holds)))
         (subst (λ (p : Phase). IsKeptAt p new o after) (sym ends) own)
         (unsplit_at Judge at_judge refl)
         (let none = unready_none op Judge at_judge tt in let no = unready_none after Done ends tt in omega (arith, none, no))
-        (subst (Touches o c.arena) (sym gives_back) (replaced_touches c.arena k within (unlocked n) o (inl judging.judges.judged.held.holder)))
+        (subst (Touches o c.arena) (sym t.is) (replaced_touches c.arena k within (unlocked n) o (inl judging.judges.judged.held.holder)))
         true (sym (ap is_done ends)))
 
   -- where a tenant has no room, it has as many pairs as its quota
@@ -395,22 +390,22 @@ module _ (c : Core) (now : StateView) (o : ℕ) (is : shown c ≡ now) (h : Stat
     publishes_on = subst (λ (p : Phase). IsOfKind p op.walk.writes) at_publish always.kind
 
     -- a put of a new key that finds its quota full
-    pub publish_full : (arena : ArenaView) (tape : Kept) (accounts : Accounts) (w : Walk) → arena ≡ c.arena → accounts ≡ c.accounts → tape ≡ released c.tape → w ≡ walk_placed op.walk → Continues op.walk w → IsAtUnlock arena o w → get (content_of c.arena) (owned op.task.key) ≡ None → ¬ HasRoom (account_of c.accounts op.task.tenant)
+    pub publish_full : (arena : ArenaView) (tape : Kept) (accounts : Accounts) (w : Walk) → IsPublishFull o op.task c.arena arena c.tape tape c.accounts accounts op.walk w
         → Gives now (stepped c arena tape accounts o (went op (c.steps + 1) w (Some (record { reply = Full; at = c.steps + 1 })) None)) o false
-    publish_full arena tape accounts w stays same_accounts releases goes same unlocks missing no_room =
+    publish_full arena tape accounts w t =
         let told : Option Outcome = Some (record { reply = Full; at = c.steps + 1 }) in
         let after = went op (c.steps + 1) w told None in
         let new = stepped c c.arena (released c.tape) c.accounts o after in
-        let ends : w.phase ≡ Unlock = ap (λ (x : Walk). x.phase) goes in
-        let place : w.place.node ≡ k = ap (λ (x : Walk). x.place.node) goes in
-        let whole = walk_same c op always w begun_publish same.first in
+        let ends : w.phase ≡ Unlock = ap (λ (x : Walk). x.phase) t.walk in
+        let place : w.place.node ≡ k = ap (λ (x : Walk). x.place.node) t.walk in
+        let whole = walk_same c op always w begun_publish t.same.first in
         let unsplit = unsplit_at Publish at_publish refl in
-        let full = no_room_left op.task.tenant (account_of c.accounts op.task.tenant) refl no_room in
+        let full = no_room_left op.task.tenant (account_of c.accounts op.task.tenant) refl t.full in
         let none : get (tenant_map op.task.tenant (content_of c.arena)) (key_of (ask op.task)) ≡ None =
-        get-tenant_map op.task.tenant (content_of c.arena) (key_of (ask op.task)) ∙ ap (get (content_of c.arena)) (sym put.owner) ∙ missing in
+        get-tenant_map op.task.tenant (content_of c.arena) (key_of (ask op.task)) ∙ ap (get (content_of c.arena)) (sym put.owner) ∙ t.missing in
         let is_full = put_full (quota_of (shown c) op.task.tenant) op.task.request (tenant_map op.task.tenant (content_of c.arena)) put.put_is none full in
         let own : IsUnlocking new o after = record {
-          unlocks = subst (λ (halves : List Halves). MayUnlock halves c.arena o after) (sym unsplit.halves) (subst (IsAtUnlock c.arena o) (sym whole) (subst (λ (v : ArenaView). IsAtUnlock v o w) stays unlocks), unsplit);
+          unlocks = subst (λ (halves : List Halves). MayUnlock halves c.arena o after) (sym unsplit.halves) (subst (IsAtUnlock c.arena o) (sym whole) (subst (λ (v : ArenaView). IsAtUnlock v o w) t.stays t.kept), unsplit);
           answer = record {
             outcome = record { reply = Full; at = c.steps + 1 };
             told = refl;
@@ -426,13 +421,13 @@ module _ (c : Core) (now : StateView) (o : ℕ) (is : shown c ≡ now) (h : Stat
             unprepared = refl;
           };
         } in
-        subst (λ (v : ArenaView). Gives now (stepped c v tape accounts o after) o false) (sym stays)
-        (subst (λ (a : Accounts). Gives now (stepped c c.arena tape a o after) o false) (sym same_accounts)
-        (subst (λ (t : Kept). Gives now (stepped c c.arena t c.accounts o after) o false) (sym releases)
+        subst (λ (v : ArenaView). Gives now (stepped c v tape accounts o after) o false) (sym t.stays)
+        (subst (λ (a : Accounts). Gives now (stepped c c.arena tape a o after) o false) (sym t.uncounted)
+        (subst (λ (t : Kept). Gives now (stepped c c.arena t c.accounts o after) o false) (sym t.tape_is)
         (quiet_gives c now o is h room op there c.arena (c.tape.reserved - 1) w told None
         (leaves_all c o h) (ap is_done at_publish)
         (subst (λ (p : Phase). MayFollow p w.phase) (sym at_publish) (subst (MayFollow Publish) (sym ends) tt))
-        same.writes (subst (λ (p : Phase). IsOfKind p w.writes) (sym ends) (same.writes ∙ publishes_on)) (sym (ap told_change publishing.untold))
+        t.same.writes (subst (λ (p : Phase). IsOfKind p w.writes) (sym ends) (t.same.writes ∙ publishes_on)) (sym (ap told_change publishing.untold))
         (subst (λ (p : Phase). Notes (shown c) (view_of op) p w.phase told) (sym at_publish) (subst (λ (p : Phase). Notes (shown c) (view_of op) Publish p told) (sym ends) (inr refl)))
         (λ j inside holds. subst (λ (p : Phase). HoldsAt p after.walk op.splits j) (sym ends) (subst (λ (halves : List Halves). HoldsLast halves after.walk op.splits j) (sym unsplit.halves) (holds_here c now o is h room op there Publish at_publish j inside holds ∙ sym place)))
         (subst (λ (p : Phase). IsKeptAt p new o after) (sym ends) own)

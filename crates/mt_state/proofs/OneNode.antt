@@ -34,8 +34,7 @@ use Rattle.mt_state.specs.Notes.{Notes}
 use Rattle.mt_state.specs.Promises.{Touches}
 use Rattle.mt_state.specs.Kept.{IsUnlocking, IsReturning, IsKeptAt, IsKeptOf}
 use Rattle.mt_state.specs.Invariant.{IsCountedUpTo, IsUnremoved, HoldsAt, StateInvariant, one_if_prepared}
-use Rattle.mt_state.specs.Writes.{HasPairsOf}
-use Rattle.mt_state.proofs.Quiet.{quiet, LeavesPairs, quiet_move, is_quiet}
+use Rattle.mt_state.proofs.Quiet.{HasPairsOf, quiet, LeavesPairs, quiet_move, is_quiet}
 use Rattle.mt_state.proofs.Telling.{Gives, gives}
 use Rattle.mt_state.proofs.Moved.{went, went_with, open_moved_with, has_moved_with}
 use Rattle.mt_state.proofs.Still.{floor_made}

@@ -41,8 +41,8 @@ use Rattle.mt_operation.specs.Phases.{is_done, MayFollow, IsOfKind}
 use Rattle.mt_operation.specs.Tables.{op_at as operation_at}
 use Rattle.mt_insert.specs.Puts.{IsPut, row_over}
 use Rattle.mt_insert.specs.Moves.{entry_of, pushed, released}
-use Rattle.mt_insert.specs.Splitting.{last_of}
-use Rattle.mt_insert.specs.SplitMoves.{after_parting}
+use Rattle.mt_insert.specs.Splitting.{last_of, HoldsSplits}
+use Rattle.mt_insert.specs.SplitMove.{after_parting, PartsKeys, IsSplitMove, IsSplitMoveFull}
 use Rattle.mt_insert.proofs.PartingKeys.{may_place}
 use Rattle.mt_state.specs.Views.{Core, shown, map_of, quota_of}
 use Rattle.mt_state.specs.Steps.{told_change}
@@ -51,14 +51,14 @@ use Rattle.mt_state.specs.Promises.{Touches}
 use Rattle.mt_state.specs.Kept.{IsOpenOperation, IsSplitMoving, HasAnswer, IsKeptAt, IsPlacedOnce, IsKeptOf}
 use Rattle.mt_state.specs.Invariant.{IsStampOf, IsCountedUpTo, IsUnremoved, StateInvariant}
 use Rattle.mt_state.specs.Moves.{IsMove}
-use Rattle.mt_state.specs.Writes.{PartsKeys, PartsWith, PartsWithout, splitting}
+use Rattle.mt_state.specs.Writes.{splitting}
 use Rattle.mt_state.specs.Growth.{MakesFew}
 use Rattle.mt_state.proofs.Replies.{put_full, put_new}
 use Rattle.mt_state.proofs.Growing.{makes_same}
 use Rattle.mt_state.proofs.Telling.{Gives, gives, logs_later, map_now}
 use Rattle.mt_state.proofs.Moved.{went_with, first_begun, first_upto, open_moved_with, has_moved}
 use Rattle.mt_state.proofs.Still.{floor_made, unready_none}
-use Rattle.mt_state.proofs.OneNode.{same_counts, same_alive, quiet_grows}
+use Rattle.mt_state.proofs.OneNode.{same_counts, same_alive, quiet_grows, holds_here}
 use Rattle.mt_state.proofs.Locking.{ready_one, room_for, no_room_left}
 use Rattle.mt_state.proofs.Placing.{Counts, next_write, placed, PlacesPair, untouched_beside, untouched_now, placed_move, placed_right, is_placing, placed_once}
 use Rattle.mt_state.proofs.Putting.{stamped_apart, room_left, beside_missing, counted_new}
@@ -84,7 +84,7 @@ record IsLike (n m : NodeView) : Type 0 where
   holder : m.holder ≡ n.holder
 
 module _ (c : Core) (o : ℕ) (h : StateInvariant c) (few : c.steps < 2 ^ 59) (op : Operation) (at_op : operation_at c.table o ≡ Some op) (at_move : op.walk.phase ≡ SplitMove)
-    (arena : ArenaView) (w : Walk) (p : PartsKeys c o op arena w) (all : List Entry) (is : AreHalved all c.arena.nodes arena.nodes op.walk.place.node (last_of op.splits).right) where
+    (arena : ArenaView) (w : Walk) (p : PartsKeys o op.task c.arena arena op.walk w op.splits) (all : List Entry) (is : AreHalved all c.arena.nodes arena.nodes op.walk.place.node (last_of op.splits).right) where
   abbrev l : ℕ
   l = op.walk.place.node
 
@@ -191,6 +191,10 @@ module _ (c : Core) (o : ℕ) (h : StateInvariant c) (few : c.steps < 2 ^ 59) (o
       ]
     ])
 
+  -- it holds the halves alone
+  held_alone : HoldsSplits c.arena o op.splits
+  held_alone j inside holds = holds_here c (shown c) o refl h few op at_op SplitMove at_move j inside holds
+
   -- where it goes on
   phase : w.phase ≡ after_parting x.next
   phase = ap (λ (v : Walk). v.phase) p.walk
@@ -284,7 +288,7 @@ module _ (c : Core) (o : ℕ) (h : StateInvariant c) (few : c.steps < 2 ^ 59) (o
           (λ counted. later (tree_of c.arena l).prefix all (subst (AllStamped (IsStampOf c.steps c.tape) (tree_of c.arena l).prefix) (sym stays) (h.stamps l half.held.there counted)))
           (λ k inside counted. later (tree_of c.arena k).prefix (at c.arena k).slots (h.stamps k inside counted));
       versions = parted_versions;
-      held = λ k inside holds. halves_held w.phase leads after_full.walk op.splits k some (p.holds k inside holds);
+      held = λ k inside holds. halves_held w.phase leads after_full.walk op.splits k some (p.holds held_alone k inside holds);
       counts = λ t a e. subst (λ (every : Contents). (a.count ≡ len (tenant_map t every)) × (a.count ≤ a.quota)) (sym without) (h.counts t a e);
       kept = kept_full;
       reserved = let one = ready_one op SplitMove at_move refl in let no = unready_none after_full w.phase refl (halves_unready w.phase leads) in let room = room_for c h o op SplitMove at_op at_move refl in omega (arith, one, no, room);
@@ -371,7 +375,7 @@ module _ (c : Core) (o : ℕ) (h : StateInvariant c) (few : c.steps < 2 ^ 59) (o
           there = at_op;
           unfinished = ap is_done at_move;
           task = refl;
-          held = λ k inside holds. halves_held w.phase leads after_new.walk op.splits k some (p.holds k inside holds);
+          held = λ k inside holds. halves_held w.phase leads after_new.walk op.splits k some (p.holds held_alone k inside holds);
           kept = own;
           reserved = let one = ready_one op SplitMove at_move refl in let no = unready_none after_new w.phase refl (halves_unready w.phase leads) in let room = room_for c h o op SplitMove at_op at_move refl in omega (arith, one, no, room);
         }))
@@ -387,16 +391,17 @@ module _ (c : Core) (o : ℕ) (h : StateInvariant c) (few : c.steps < 2 ^ 59) (o
 
 module _ (c : Core) (o : ℕ) (h : StateInvariant c) (few : c.steps < 2 ^ 59) (op : Operation) (at_op : operation_at c.table o ≡ Some op) (put : IsPut op.task) (at_move : op.walk.phase ≡ SplitMove) where
   -- the keys are parted without the new pair, for which the quota has no room
-  pub fill_done : (arena : ArenaView) (tape : Kept) (w : Walk) → PartsWithout c o op arena tape w
-      → Gives (shown c) (splitting c arena tape c.accounts o op w (Some (record { reply = Full; at = c.steps + 1 })) None op.splits) o false
-  fill_done arena tape w t =
-      subst (λ (tape : Kept). Gives (shown c) (splitting c arena tape c.accounts o op w (Some (record { reply = Full; at = c.steps + 1 })) None op.splits) o false) (sym t.tape_is)
-      (parted_full c o h few op at_op at_move arena w t.parts (at c.arena op.walk.place.node).slots t.is put t.contents t.full refl)
+  pub fill_done : (arena : ArenaView) (tape : Kept) (accounts : Accounts) (w : Walk) → IsSplitMoveFull o op.task c.arena arena c.tape tape c.accounts accounts op.walk w op.splits
+      → Gives (shown c) (splitting c arena tape accounts o op w (Some (record { reply = Full; at = c.steps + 1 })) None op.splits) o false
+  fill_done arena tape accounts w t =
+      subst (λ (a : Accounts). Gives (shown c) (splitting c arena tape a o op w (Some (record { reply = Full; at = c.steps + 1 })) None op.splits) o false) (sym t.uncounted)
+      (subst (λ (tape : Kept). Gives (shown c) (splitting c arena tape c.accounts o op w (Some (record { reply = Full; at = c.steps + 1 })) None op.splits) o false) (sym t.tape_is)
+      (parted_full c o h few op at_op at_move arena w t.parts (at c.arena op.walk.place.node).slots t.is put t.contents t.full refl))
 
   -- they are parted with it
-  pub part_done : (arena : ArenaView) (tape : Kept) (accounts : Accounts) (w : Walk) (row : Columns) → IsArena c.arena.nodes c.arena.trees → PartsWith c o op arena tape accounts w row
+  pub part_done : (arena : ArenaView) (tape : Kept) (accounts : Accounts) (w : Walk) (row : Columns) → IsArena c.arena.nodes c.arena.trees → IsSplitMove o (c.steps + 1) op.task row c.arena arena c.tape tape c.accounts accounts op.walk w op.splits
       → Gives (shown c) (splitting c arena tape accounts o op w (Some (record { reply = New; at = c.steps + 1 })) None op.splits) o false
   part_done arena tape accounts w row arena_is t =
       subst (λ (tape : Kept). Gives (shown c) (splitting c arena tape accounts o op w (Some (record { reply = New; at = c.steps + 1 })) None op.splits) o false) (sym t.places.tape)
       (parted_new c o h few op at_op at_move arena w t.parts (with_entry (at c.arena op.walk.place.node).slots (entry_of op.task.key op.walk.layer row (c.steps + 1))) t.is put arena_is accounts row refl t.places.contents t.room
-      (counted_new c (shown c) o refl h few op at_op put accounts (content_of arena) (row_over op.task (get (content_of c.arena) (owned op.task.key))) t.places.contents t.parts.missing t.room t.counted t.others))
+      (counted_new c (shown c) o refl h few op at_op put accounts (content_of arena) (row_over op.task (get (content_of c.arena) (owned op.task.key))) t.places.contents t.parts.missing t.room t.more t.others))

@@ -53,7 +53,7 @@ use Rattle.mt_operation.specs.Tables.{op_at as operation_at}
 use Rattle.mt_descent.specs.Moves.{Continues}
 use Rattle.mt_insert.specs.Puts.{IsPut, row_over}
 use Rattle.mt_insert.specs.Kept.{HoldsBorder, IsAtUnlock}
-use Rattle.mt_insert.specs.Moves.{walk_placed, entry_of, pushed, Places}
+use Rattle.mt_insert.specs.Moves.{walk_placed, entry_of, pushed}
 use Rattle.mt_insert.proofs.Places.{may_store, may_publish}
 use Rattle.mt_state.specs.Views.{StateView, Core, shown, quota_of, quota_in, granted_in}
 use Rattle.mt_state.specs.Notes.{Notes}
@@ -69,6 +69,8 @@ use Rattle.mt_state.proofs.Loading.{row_of}
 use Rattle.mt_state.proofs.OneNode.{stepped, counted_live, replaced_at, replaced_holds, replaced_tree, replaced_versions, replaced_touches, few_steps, holds_here}
 use Rattle.mt_state.proofs.Locking.{ready_one, room_for}
 use Rattle.mt_state.proofs.Growing.{makes_set}
+use Rattle.mt_insert.specs.Store.{IsStore}
+use Rattle.mt_insert.specs.Publish.{IsPublish}
 
 -- one pair more leaves the quota, and the account there
 quota_more : (a : Option Account) → granted_in (option_map one_more a) ≡ granted_in a
@@ -307,23 +309,20 @@ module _ (c : Core) (now : StateView) (o : ℕ) (is : shown c ≡ now) (h : Stat
     stores_on = subst (λ (p : Phase). IsOfKind p op.walk.writes) at_store always.kind
 
     -- a put that writes its row over the one of its key
-    pub store_done : (arena : ArenaView) (tape : Kept) (w : Walk) (row before : Columns) → IsArena c.arena.nodes c.arena.trees
-        → ((pair : Pair) → (slot_at (at c.arena op.walk.place.node) op.walk.slot).held ≡ Stable pair → arena ≡ with_node c.arena op.walk.place.node (with_slots (at c.arena op.walk.place.node)
-        (replaced (at c.arena op.walk.place.node).slots (with_row (slot_at (at c.arena op.walk.place.node) op.walk.slot) pair row (c.steps + 1)))))
-        → get (content_of c.arena) (owned op.task.key) ≡ Some before → Places op.task (c.steps + 1) c.arena arena c.tape tape → w ≡ walk_placed op.walk → Continues op.walk w → Guarantee o c.arena arena → IsAtUnlock arena o w
+    pub store_done : (arena : ArenaView) (tape : Kept) (w : Walk) (row before : Columns) → IsArena c.arena.nodes c.arena.trees → IsStore o (c.steps + 1) op.task row c.arena arena c.tape tape op.walk w before
         → Gives now (stepped c arena tape c.accounts o (went op (c.steps + 1) w (Some (record { reply = Replaced; at = c.steps + 1 })) None)) o false
-    store_done arena tape w row before arena_is wrote was_there places goes same guarantee unlocks =
+    store_done arena tape w row before arena_is t =
         let s = storing.stores in
         let j = s.holds.judged in
         let slots = replaced n.slots (with_row (slot_at n op.walk.slot) s.pair row (c.steps + 1)) in
         let after = went op (c.steps + 1) w (Some (record { reply = Replaced; at = c.steps + 1 })) None in
-        let takes : arena ≡ with_node c.arena k (with_slots n slots) = wrote s.pair s.stable in
+        let takes : arena ≡ with_node c.arena k (with_slots n slots) = t.is s.pair s.stable in
         let may = may_store c.arena o op.task.key op.walk arena_is s.holds op.walk.slot s.pair s.in_slot s.stable in
-        let contents = subst (λ (v : ArenaView). content_of v ≡ insert (content_of c.arena) (op.task.tenant, key_of (ask op.task)) (row_over op.task (get (content_of c.arena) key))) takes places.contents in
+        let contents = subst (λ (v : ArenaView). content_of v ≡ insert (content_of c.arena) (op.task.tenant, key_of (ask op.task)) (row_over op.task (get (content_of c.arena) key))) takes t.places.contents in
         let row_there : get (tenant_map op.task.tenant (content_of c.arena)) (key_of (ask op.task)) ≡ Some before =
-        get-tenant_map op.task.tenant (content_of c.arena) (key_of (ask op.task)) ∙ ap (get (content_of c.arena)) (sym put.owner) ∙ was_there in
+        get-tenant_map op.task.tenant (content_of c.arena) (key_of (ask op.task)) ∙ ap (get (content_of c.arena)) (sym put.owner) ∙ t.was_there in
         let replies = put_there (quota_of (shown c) op.task.tenant) op.task.request (tenant_map op.task.tenant (content_of c.arena)) before put.put_is row_there in
-        let makes = replies.1 ∙ ap (λ (b : Option Columns). insert (tenant_map op.task.tenant (content_of c.arena)) (key_of (ask op.task)) (row_over op.task b)) (sym was_there) in
+        let makes = replies.1 ∙ ap (λ (b : Option Columns). insert (tenant_map op.task.tenant (content_of c.arena)) (key_of (ask op.task)) (row_over op.task b)) (sym t.was_there) in
         let stamps = stamped_store (IsStampOf c.steps c.tape) (IsStampOf (c.steps + 1) (pushed c.tape (next_write c op)))
         (as_border n op.walk.slot s.pair row (c.steps + 1) (border_here arena_is s.holds) s.in_slot.in_range n.slots)
         (as_border n op.walk.slot s.pair row (c.steps + 1) (border_here arena_is s.holds) s.in_slot.in_range slots)
@@ -332,10 +331,10 @@ module _ (c : Core) (now : StateView) (o : ℕ) (is : shown c ≡ now) (h : Stat
         (tree_of c.arena k).prefix (layer_of (tree_of c.arena k).prefix) op.task.key (keys_here arena_is s.holds) may.stands.has
         (untouched_beside c op h put) (untouched_now c op h put) in
         subst (λ (v : ArenaView). Gives now (stepped c v tape c.accounts o after) o false) (sym takes)
-        (subst (λ (t : Kept). Gives now (stepped c (with_node c.arena k (with_slots n slots)) t c.accounts o after) o false) (sym places.tape)
-        (placed_gives slots c.accounts w Replaced j.held.there (beside_stored arena_is op.walk.slot s.pair may.stands) (subst (Guarantee o c.arena) takes guarantee) contents
-        (counted_there (content_of (with_node c.arena k (with_slots n slots))) (row_over op.task (get (content_of c.arena) key)) before contents was_there) stamps
-        refl replies.0 makes Store at_store refl refl refl (λ i one. one) (λ e. cc) tt stores_on refl goes same j.held.holder (subst (λ (v : ArenaView). IsAtUnlock v o w) takes unlocks)))
+        (subst (λ (t : Kept). Gives now (stepped c (with_node c.arena k (with_slots n slots)) t c.accounts o after) o false) (sym t.places.tape)
+        (placed_gives slots c.accounts w Replaced j.held.there (beside_stored arena_is op.walk.slot s.pair may.stands) (subst (Guarantee o c.arena) takes t.guarantee) contents
+        (counted_there (content_of (with_node c.arena k (with_slots n slots))) (row_over op.task (get (content_of c.arena) key)) before contents t.was_there) stamps
+        refl replies.0 makes Store at_store refl refl refl (λ i one. one) (λ e. cc) tt stores_on refl t.walk t.same j.held.holder (subst (λ (v : ArenaView). IsAtUnlock v o w) takes t.kept)))
 
   module _ (at_publish : op.walk.phase ≡ Publish) where
     publishing : IsPublishing c o op
@@ -345,31 +344,27 @@ module _ (c : Core) (now : StateView) (o : ℕ) (is : shown c ≡ now) (h : Stat
     publishes_on = subst (λ (p : Phase). IsOfKind p op.walk.writes) at_publish always.kind
 
     -- a put of a new key that finds room
-    pub publish_done : (arena : ArenaView) (tape : Kept) (accounts : Accounts) (w : Walk) (row : Columns) → IsArena c.arena.nodes c.arena.trees
-        → arena ≡ with_node c.arena op.walk.place.node (with_slots (at c.arena op.walk.place.node) (with_entry (at c.arena op.walk.place.node).slots (entry_of op.task.key op.walk.layer row (c.steps + 1))))
-        → get (content_of c.arena) (owned op.task.key) ≡ None → HasRoom (account_of c.accounts op.task.tenant)
-        → account_of accounts op.task.tenant ≡ option_map one_more (account_of c.accounts op.task.tenant) → OthersStay c.accounts accounts op.task.tenant
-        → Places op.task (c.steps + 1) c.arena arena c.tape tape → w ≡ walk_placed op.walk → Continues op.walk w → Guarantee o c.arena arena → IsAtUnlock arena o w
+    pub publish_done : (arena : ArenaView) (tape : Kept) (accounts : Accounts) (w : Walk) (row : Columns) → IsArena c.arena.nodes c.arena.trees → IsPublish o (c.steps + 1) op.task row c.arena arena c.tape tape c.accounts accounts op.walk w
         → Gives now (stepped c arena tape accounts o (went op (c.steps + 1) w (Some (record { reply = New; at = c.steps + 1 })) None)) o false
-    publish_done arena tape accounts w row arena_is takes missing has_room more others places goes same guarantee unlocks =
+    publish_done arena tape accounts w row arena_is t =
         let s = publishing.publishes in
         let j = s.holds.judged in
         let added = entry_of op.task.key op.walk.layer row (c.steps + 1) in
         let slots = with_entry n.slots added in
         let after = went op (c.steps + 1) w (Some (record { reply = New; at = c.steps + 1 })) None in
         let may = may_publish c.arena o op.task.key op.walk arena_is s.holds row (c.steps + 1) s.missing s.room in
-        let contents = subst (λ (v : ArenaView). content_of v ≡ insert (content_of c.arena) (op.task.tenant, key_of (ask op.task)) (row_over op.task (get (content_of c.arena) key))) takes places.contents in
+        let contents = subst (λ (v : ArenaView). content_of v ≡ insert (content_of c.arena) (op.task.tenant, key_of (ask op.task)) (row_over op.task (get (content_of c.arena) key))) t.is t.places.contents in
         let none_there : get (tenant_map op.task.tenant (content_of c.arena)) (key_of (ask op.task)) ≡ None =
-        get-tenant_map op.task.tenant (content_of c.arena) (key_of (ask op.task)) ∙ ap (get (content_of c.arena)) (sym put.owner) ∙ missing in
+        get-tenant_map op.task.tenant (content_of c.arena) (key_of (ask op.task)) ∙ ap (get (content_of c.arena)) (sym put.owner) ∙ t.missing in
         let less : len (tenant_map op.task.tenant (content_of c.arena)) < quota_of (shown c) op.task.tenant =
-        room_left (account_of c.accounts op.task.tenant) (len (tenant_map op.task.tenant (content_of c.arena))) has_room (λ a e. (h.counts op.task.tenant a e).0) in
+        room_left (account_of c.accounts op.task.tenant) (len (tenant_map op.task.tenant (content_of c.arena))) t.room (λ a e. (h.counts op.task.tenant a e).0) in
         let replies = put_new (quota_of (shown c) op.task.tenant) op.task.request (tenant_map op.task.tenant (content_of c.arena)) put.put_is none_there less in
-        let makes = replies.1 ∙ ap (λ (b : Option Columns). insert (tenant_map op.task.tenant (content_of c.arena)) (key_of (ask op.task)) (row_over op.task b)) (sym missing) in
+        let makes = replies.1 ∙ ap (λ (b : Option Columns). insert (tenant_map op.task.tenant (content_of c.arena)) (key_of (ask op.task)) (row_over op.task b)) (sym t.missing) in
         let stamps = stamped_publish (IsStampOf c.steps c.tape) (IsStampOf (c.steps + 1) (pushed c.tape (next_write c op)))
         (tree_of c.arena k).prefix (layer_of (tree_of c.arena k).prefix) n.slots added op.task.key (record { suffix = suffix_of op.task.key op.walk.layer; row = row; stamp = c.steps + 1 })
         (keys_here arena_is s.holds) may.has s.missing refl (untouched_beside c op h put) (untouched_now c op h put) in
-        subst (λ (v : ArenaView). Gives now (stepped c v tape accounts o after) o false) (sym takes)
-        (subst (λ (t : Kept). Gives now (stepped c (with_node c.arena k (with_slots n slots)) t accounts o after) o false) (sym places.tape)
-        (placed_gives slots accounts w New j.held.there (λ l inside differ counted. beside_missing arena_is missing l inside counted) (subst (Guarantee o c.arena) takes guarantee) contents
-        (counted_new accounts (content_of (with_node c.arena k (with_slots n slots))) (row_over op.task (get (content_of c.arena) key)) contents missing has_room more others) stamps
-        refl replies.0 makes Publish at_publish refl refl refl (λ i one. one) (λ e. cc) tt publishes_on (inl refl) goes same j.held.holder (subst (λ (v : ArenaView). IsAtUnlock v o w) takes unlocks)))
+        subst (λ (v : ArenaView). Gives now (stepped c v tape accounts o after) o false) (sym t.is)
+        (subst (λ (t : Kept). Gives now (stepped c (with_node c.arena k (with_slots n slots)) t accounts o after) o false) (sym t.places.tape)
+        (placed_gives slots accounts w New j.held.there (λ l inside differ counted. beside_missing arena_is t.missing l inside counted) (subst (Guarantee o c.arena) t.is t.guarantee) contents
+        (counted_new accounts (content_of (with_node c.arena k (with_slots n slots))) (row_over op.task (get (content_of c.arena) key)) contents t.missing t.room t.more t.others) stamps
+        refl replies.0 makes Publish at_publish refl refl refl (λ i one. one) (λ e. cc) tt publishes_on (inl refl) t.walk t.same j.held.holder (subst (λ (v : ArenaView). IsAtUnlock v o w) t.is t.kept)))

@@ -20,9 +20,15 @@ use Rattle.mt_state.specs.Promises.{IsQuiet}
 use Rattle.mt_state.specs.Kept.{IsKeptOf}
 use Rattle.mt_state.specs.Invariant.{IsTape, AreStamps, IsStampOf, IsCountedUpTo, HoldsAt, IsUnremoved, StateInvariant, StateGuarantee, one_if_prepared}
 use Rattle.mt_state.specs.Moves.{IsMove}
-use Rattle.mt_state.specs.Writes.{HasPairsOf}
 use Rattle.mt_state.specs.Growth.{MakesFew}
 use Rattle.mt_state.proofs.Telling.{logs_later}
+
+-- a node whose pairs count had the same pairs, and they counted
+pub record HasPairsOf (old new : ArenaView) (k : ℕ) : Type 0 where
+  pub there : k < length old.nodes
+  pub counted : counts old.trees (at old k) ≡ true
+  pub prefix : (tree_of new k).prefix ≡ (tree_of old k).prefix
+  pub slots : (at new k).slots ≡ (at old k).slots
 
 -- what a step leaves that changes no pair
 abbrev pub quiet : Core → ArenaView → ℕ → ℕ → Operation → Core

@@ -11,7 +11,7 @@ use Rattle.mt_arena.specs.Edits.{unlocked}
 use Rattle.mt_arena.specs.Forests.{tree_at}
 use Rattle.mt_arena.specs.Contents.{counts}
 use Rattle.mt_arena.specs.Arena.{ArenaView, content_of, Guarantee}
-use Rattle.mt_arena.specs.Accesses.{at, IsHeld, with_node}
+use Rattle.mt_arena.specs.Accesses.{at, IsHeld, with_node, with_half}
 use Rattle.mt_operation.specs.declared.phase.Phase.{Phase}
 use Rattle.mt_operation.specs.declared.phase.Phase.TheVariants.{Enter, SplitStart, SplitMove, SplitPrev, LockParent, InsertChild, InteriorSplit, Reparent, RootGrow, Unlock, Done}
 use Rattle.mt_operation.specs.declared.walk.Walk.{Walk}
@@ -23,24 +23,49 @@ use Rattle.mt_operation.specs.Operations.{OperationView, view_of}
 use Rattle.mt_operation.specs.Phases.{is_done, MayFollow, IsOfKind, has_splits, IsClimb}
 use Rattle.mt_operation.specs.Tables.{op_at as operation_at}
 use Rattle.mt_insert.specs.Moves.{released}
-use Rattle.mt_insert.specs.Splitting.{IsAmong, IsAtSplitMove, IsAtUnlockAll, KeptSplit}
-use Rattle.mt_insert.specs.SplitMoves.{Returns}
+use Rattle.mt_insert.specs.Splitting.{IsAmong, IsAtSplitMove, IsAtUnlockAll, KeptSplit, HoldsSplits}
+use Rattle.mt_insert.specs.Unlock.{Returns, IsUnlockAll}
 use Rattle.mt_state.specs.Views.{StateView, Core, shown}
 use Rattle.mt_state.specs.Steps.{told_change}
 use Rattle.mt_state.specs.Notes.{Notes}
 use Rattle.mt_state.specs.Promises.{IsAnswer, Touches}
-use Rattle.mt_state.specs.Kept.{IsOpenOperation, IsSplitStarting, IsSplitMoving, HasAnswer, MayUnlock, IsUnlocking, IsKeptAt}
+use Rattle.mt_state.specs.Kept.{IsOpenOperation, IsSplitStarting, IsSplitMoving, HasAnswer, MayUnlock, IsUnlocking, IsKeptAt, IsClimbing}
 use Rattle.mt_state.specs.Invariant.{IsCountedUpTo, IsUnremoved, HoldsLast, HoldsAt, StateInvariant}
-use Rattle.mt_state.specs.Writes.{HasPairsOf, MovesNoPair, StartsSplit, StopsSplit, Climbs, ReturnsAll, splitting}
+use Rattle.mt_state.specs.Writes.{splitting}
 use Rattle.mt_state.proofs.Rely.{answer_stays}
 use Rattle.mt_state.proofs.Telling.{Gives}
-use Rattle.mt_state.proofs.Quiet.{LeavesPairs}
+use Rattle.mt_state.proofs.Quiet.{LeavesPairs, HasPairsOf}
 use Rattle.mt_state.proofs.Moved.{went_with, first_same, first_begun, first_upto}
 use Rattle.mt_state.proofs.Still.{IsUnready, unready_none}
 use Rattle.mt_state.proofs.Reading.{walk_same}
 use Rattle.mt_state.proofs.OneNode.{same_counts, same_alive, returning_by, returning_told, counted_unlocked, replaced_at, replaced_touches, replaced_leaves, quiet_grows, holds_here, quiet_gives_with}
 use Rattle.mt_state.proofs.Locking.{ready_one, room_for}
 use Rattle.mt_state.proofs.Growing.{makes_same}
+use Rattle.mt_insert.specs.SplitStart.{IsSplitStart, IsSplitStopped}
+use Rattle.mt_insert.specs.Climbs.{IsClimbFrom}
+use Rattle.mt_insert.specs.Kept.{HoldsOnly, IsAtSplitStart}
+use Rattle.mt_insert.specs.SplitMoves.{walk_at}
+use Rattle.mt_descent.specs.Moves.{Continues}
+use Rattle.mt_state.proofs.Climbing.{LeavesNodes, MovesNoPair, moves_by}
+use Rattle.mt_state.proofs.ClimbingNodes.{climb_leaves, climb_keeps, climb_follows, climb_some, begun_leaves}
+use Rattle.mt_operation.specs.declared.prepared.Prepared.{Prepared}
+
+-- the right half of the full border node was made
+pub record StartsSplit (c : Core) (o : ℕ) (op : Operation) (arena : ArenaView) (w : Walk) (s : Splits) : Type 0 where
+  pub moves : MovesNoPair c o arena
+  pub walk : w ≡ walk_at SplitMove op.walk
+  pub same : Continues op.walk w
+  pub kept : (prepared : Prepared) → op.prepared ≡ Some prepared → IsAtSplitMove arena o op.task prepared w s
+  pub holds : HoldsSplits arena o s
+
+-- a right half came one step nearer to its place in its parent, or a root was made
+pub record Climbs (c : Core) (o : ℕ) (op : Operation) (arena : ArenaView) (w : Walk) (s : Splits) : Type 0 where
+  pub moves : MovesNoPair c o arena
+  pub follows : MayFollow op.walk.phase w.phase
+  pub same : Continues op.walk w
+  pub kept : KeptSplit w.phase arena o s
+  pub some : s.halves.items ≢ []
+  pub holds : HoldsSplits arena o s
 
 -- a phase at which an operation holds halves whose keys are parted
 abbrev pub HasHalves : Phase → Type 0
@@ -163,6 +188,26 @@ climb_answer Reparent i c o op kept = kept.answer
 climb_answer RootGrow i c o op kept = kept.answer
 climb_answer _ i c o op kept = absurd i
 
+-- what is kept of an operation that climbs, by its phase
+pub climbing_of : (p : Phase) → IsClimb p → (c : Core) (o : ℕ) (op : Operation) → IsKeptAt p c o op → IsClimbing c o op p
+climbing_of SplitPrev i c o op kept = kept
+climbing_of LockParent i c o op kept = kept
+climbing_of InsertChild i c o op kept = kept
+climbing_of InteriorSplit i c o op kept = kept
+climbing_of Reparent i c o op kept = kept
+climbing_of RootGrow i c o op kept = kept
+climbing_of _ i c o op kept = absurd i
+
+-- what it holds are nodes of its splits
+pub climb_among : (p : Phase) → IsClimb p → (w : Walk) (s : Splits) (k : ℕ) → HoldsAt p w s k → IsAmong s k
+climb_among SplitPrev i w s k holds = holds
+climb_among LockParent i w s k holds = holds
+climb_among InsertChild i w s k holds = holds
+climb_among InteriorSplit i w s k holds = holds
+climb_among Reparent i w s k holds = holds
+climb_among RootGrow i w s k holds = holds
+climb_among _ i w s k holds = absurd i
+
 -- a step of it leaves the outcome
 climb_notes : (p q : Phase) → IsClimb p → (old : StateView) (op : OperationView) → Notes old op p q op.outcome
 climb_notes SplitPrev q i old op = refl
@@ -185,8 +230,8 @@ module _ (c : Core) (o : ℕ) (h : StateInvariant c) (arena : ArenaView) where
   -- what moves no pair leaves all pairs
   moves_leave : MovesNoPair c o arena → LeavesPairs c o arena
   moves_leave m = record {
-    guarantee = m.leaves.guarantee;
-    contents = m.leaves.contents;
+    guarantee = m.guarantee;
+    contents = m.contents;
     stood = m.stood;
     versions = λ k inside. let was = m.versions k inside in record { inserts = omega (arith, was.inserts); splits = omega (arith, was.splits) };
     unremoved = m.unremoved;
@@ -278,13 +323,13 @@ module _ (c : Core) (o : ℕ) (h : StateInvariant c) (few : c.steps < 2 ^ 59) (o
       }
 
   -- a right half comes nearer to its place
-  pub climb_done : (arena : ArenaView) (w : Walk) (s : Splits) → IsClimb op.walk.phase → Climbs c o op arena w s → Gives (shown c) (splitting c arena c.tape c.accounts o op w op.outcome op.prepared s) o false
-  climb_done arena w s climb t =
+  climbed_done : (arena : ArenaView) (w : Walk) (s : Splits) → IsClimb op.walk.phase → Climbs c o op arena w s → Gives (shown c) (splitting c arena c.tape c.accounts o op w op.outcome op.prepared s) o false
+  climbed_done arena w s climb t =
       let was = halves_of op.walk.phase climb in
       let leads = climb_leads op.walk.phase w.phase climb t.follows in
       let after = went_with op (c.steps + 1) w op.outcome op.prepared s in
       let new = splitting c arena c.tape c.accounts o op w op.outcome op.prepared s in
-      let answer = answer_on arena w s t.moves.leaves.contents (always.begun (halves_begun op.walk.phase was)) (climb_answer op.walk.phase climb c o op (h.ops o op there).kept) in
+      let answer = answer_on arena w s t.moves.contents (always.begun (halves_begun op.walk.phase was)) (climb_answer op.walk.phase climb c o op (h.ops o op there).kept) in
       quiet_gives_with c (shown c) o refl h few op there arena c.tape.reserved w op.outcome op.prepared s
       (moves_leave c o h arena t.moves) (halves_open op.walk.phase was) t.follows t.same.writes
       (halves_kind w.phase leads w.writes (t.same.writes ∙ halves_write op.walk.phase was op.walk.writes always.kind)) refl
@@ -294,6 +339,27 @@ module _ (c : Core) (o : ℕ) (h : StateInvariant c) (few : c.steps < 2 ^ 59) (o
       (λ none. absurd (both_ways _ none (halves_split w.phase leads)))
       (let none = unready_none op op.walk.phase refl (halves_unready op.walk.phase was) in let no = unready_none after w.phase refl (halves_unready w.phase leads) in omega (arith, none, no))
       t.moves.touches false (sym (halves_open w.phase leads))
+
+  -- what is kept of one that climbs, and that all that it holds are nodes of its splits
+  climbing : IsClimb op.walk.phase → IsClimbing c o op op.walk.phase
+  climbing climb = climbing_of op.walk.phase climb c o op (h.ops o op there).kept
+
+  pub holds_among : IsClimb op.walk.phase → HoldsSplits c.arena o op.splits
+  holds_among climb k within held = climb_among op.walk.phase climb op.walk op.splits k (holds_here c (shown c) o refl h few op there op.walk.phase refl k within held)
+
+  pub climb_done : (arena : ArenaView) (w : Walk) (s : Splits) → IsClimb op.walk.phase → IsClimbFrom op.walk.phase o c.arena arena op.walk w op.splits s
+      → Gives (shown c) (splitting c arena c.tape c.accounts o op w op.outcome op.prepared s) o false
+  climb_done arena w s climb t =
+      let kept = (climbing climb).climbs in
+      let on = climb_keeps op.walk.phase climb o c.arena arena op.walk w op.splits s t in
+      climbed_done arena w s climb (record {
+        moves = moves_by c o arena h (climb_leaves op.walk.phase climb o c.arena arena op.walk w op.splits s kept t) on.keeps.guarantee on.keeps.contents;
+        follows = climb_follows op.walk.phase climb o c.arena arena op.walk w op.splits s t;
+        same = on.keeps.same;
+        kept = on.kept;
+        some = climb_some op.walk.phase climb o c.arena arena op.walk w op.splits s kept t;
+        holds = on.holds (holds_among climb);
+      })
 
   module _ (at_start : op.walk.phase ≡ SplitStart) where
     starting : IsSplitStarting c o op
@@ -306,8 +372,8 @@ module _ (c : Core) (o : ℕ) (h : StateInvariant c) (few : c.steps < 2 ^ 59) (o
     starts_on = subst (λ (p : Phase). IsOfKind p op.walk.writes) at_start always.kind
 
     -- the right half of the full node is made
-    pub start_done : (arena : ArenaView) (w : Walk) (s : Splits) → StartsSplit c o op arena w s → Gives (shown c) (splitting c arena c.tape c.accounts o op w op.outcome op.prepared s) o false
-    start_done arena w s t =
+    started_done : (arena : ArenaView) (w : Walk) (s : Splits) → StartsSplit c o op arena w s → Gives (shown c) (splitting c arena c.tape c.accounts o op w op.outcome op.prepared s) o false
+    started_done arena w s t =
         let after = went_with op (c.steps + 1) w op.outcome op.prepared s in
         let new = splitting c arena c.tape c.accounts o op w op.outcome op.prepared s in
         let moves : w.phase ≡ SplitMove = ap (λ (x : Walk). x.phase) t.walk in
@@ -329,8 +395,27 @@ module _ (c : Core) (o : ℕ) (h : StateInvariant c) (few : c.steps < 2 ^ 59) (o
         (let one = ready_one op SplitStart at_start refl in let now = ready_one after SplitMove moves refl in omega (arith, one, now))
         t.moves.touches false (sym (ap is_done moves))
 
+    -- it holds its border node alone
+    start_only : HoldsOnly c.arena o op.walk.place.node
+    start_only j within holds = holds_here c (shown c) o refl h few op there SplitStart at_start j within holds
+
+    pub half_leaves : (low : ℕ) → LeavesNodes o c.arena (with_half c.arena op.walk.place.node low o)
+    half_leaves low = begun_leaves o c.arena op.walk.place.node low starting.starts.holds.judged.held
+
+    pub start_done : (arena : ArenaView) (tape : Kept) (w : Walk) (s : Splits) → IsSplitStart o op.task.key c.arena arena c.tape tape op.walk w op.splits s
+        → Gives (shown c) (splitting c arena tape c.accounts o op w op.outcome op.prepared s) o false
+    start_done arena tape w s t =
+        subst (λ (tape : Kept). Gives (shown c) (splitting c arena tape c.accounts o op w op.outcome op.prepared s) o false) (sym t.tape_stays)
+        (started_done arena w s (record {
+          moves = moves_by c o arena h (subst (LeavesNodes o c.arena) (sym t.is.is) (half_leaves t.is.low)) t.keeps.guarantee t.keeps.contents;
+          walk = t.walk;
+          same = t.keeps.same;
+          kept = λ prepared has. t.kept op.task prepared refl (subst (λ (x : Prepared). IsAtSplitStart c.arena o op.task x op.walk) (same_Some starting.prepared prepared (sym starting.has ∙ has)) starting.starts);
+          holds = t.holds start_only;
+        }))
+
     -- there is no memory for it: the lock and the room on the tape are given back
-    pub stop_done : (arena : ArenaView) (tape : Kept) (w : Walk) (s : Splits) → StopsSplit c o op arena tape w s
+    pub stop_done : (arena : ArenaView) (tape : Kept) (w : Walk) (s : Splits) → IsSplitStopped o c.arena arena c.tape tape op.walk w s
         → Gives (shown c) (splitting c arena tape c.accounts o op w (Some (record { reply = NoMemory; at = c.steps + 1 })) None s) o true
     stop_done arena tape w s t =
         let told : Option Outcome = Some (record { reply = NoMemory; at = c.steps + 1 }) in
@@ -338,7 +423,7 @@ module _ (c : Core) (o : ℕ) (h : StateInvariant c) (few : c.steps < 2 ^ 59) (o
         let n = at c.arena op.walk.place.node in
         let after = went_with op (c.steps + 1) w told None s in
         let new = splitting c arena (released c.tape) c.accounts o op w told None s in
-        let g = t.gives in
+        let g = t.unlocks in
         let within = starting.starts.holds.judged.held.there in
         let ends : w.phase ≡ Done = ap (λ (x : Walk). x.phase) g.walk in
         let own : HasAnswer new after = record {
@@ -355,10 +440,10 @@ module _ (c : Core) (o : ℕ) (h : StateInvariant c) (few : c.steps < 2 ^ 59) (o
         subst (λ (tape : Kept). Gives (shown c) (splitting c arena tape c.accounts o op w told None s) o true) (sym t.tape_is)
         (quiet_gives_with c (shown c) o refl h few op there arena (c.tape.reserved - 1) w told None s
         (subst (LeavesPairs c o) (sym g.is) (replaced_leaves c o h k within (unlocked n) refl refl refl (counted_unlocked n c.steps (h.versions k within) (unlocked n) refl)
-        (subst (Guarantee o c.arena) g.is g.leaves.guarantee) (subst (λ (v : ArenaView). content_of v ≡ content_of c.arena) g.is g.leaves.contents)))
+        (subst (Guarantee o c.arena) g.is g.keeps.guarantee) (subst (λ (v : ArenaView). content_of v ≡ content_of c.arena) g.is g.keeps.contents)))
         (ap is_done at_start)
         (subst (λ (p : Phase). MayFollow p w.phase) (sym at_start) (subst (MayFollow SplitStart) (sym ends) tt))
-        g.same.writes (subst (λ (p : Phase). IsOfKind p w.writes) (sym ends) tt) (sym (ap told_change starting.untold))
+        g.keeps.same.writes (subst (λ (p : Phase). IsOfKind p w.writes) (sym ends) tt) (sym (ap told_change starting.untold))
         (subst (λ (p : Phase). Notes (shown c) (view_of op) p w.phase told) (sym at_start) (subst (λ (p : Phase). Notes (shown c) (view_of op) SplitStart p told) (sym ends) refl))
         (λ j inside holds. absurd (free within j (subst (λ (v : ArenaView). j < length v.nodes) g.is inside) (subst (λ (v : ArenaView). (at v j).holder ≡ Some o) g.is holds)))
         (subst (λ (p : Phase). IsKeptAt p new o after) (sym ends) own)
@@ -397,20 +482,20 @@ module _ (c : Core) (o : ℕ) (h : StateInvariant c) (few : c.steps < 2 ^ 59) (o
     ]
 
     -- the locks of all nodes of the splits are given back
-    pub return_done : (arena : ArenaView) (w : Walk) (s : Splits) → ReturnsAll c o op arena w s → Gives (shown c) (splitting c arena c.tape c.accounts o op w op.outcome op.prepared s) o true
+    pub return_done : (arena : ArenaView) (w : Walk) (s : Splits) → IsUnlockAll o c.arena arena op.walk w op.splits s → Gives (shown c) (splitting c arena c.tape c.accounts o op w op.outcome op.prepared s) o true
     return_done arena w s t =
         let after = went_with op (c.steps + 1) w op.outcome op.prepared s in
         let new = splitting c arena c.tape c.accounts o op w op.outcome op.prepared s in
         let ends : w.phase ≡ Done = ap (λ (x : Walk). x.phase) t.walk in
         let each = each_returned arena t.is in
         quiet_gives_with c (shown c) o refl h few op there arena c.tape.reserved w op.outcome op.prepared s
-        (returned_leaves c o h arena t.is.count t.is.trees each t.leaves.guarantee t.leaves.contents)
+        (returned_leaves c o h arena t.is.count t.is.trees each t.keeps.guarantee t.keeps.contents)
         (ap is_done at_unlock)
         (subst (λ (p : Phase). MayFollow p w.phase) (sym at_unlock) (subst (MayFollow Unlock) (sym ends) tt))
-        t.same.writes (subst (λ (p : Phase). IsOfKind p w.writes) (sym ends) tt) refl
+        t.keeps.same.writes (subst (λ (p : Phase). IsOfKind p w.writes) (sym ends) tt) refl
         (subst (λ (p : Phase). Notes (shown c) (view_of op) p w.phase op.outcome) (sym at_unlock) (subst (λ (p : Phase). Notes (shown c) (view_of op) Unlock p op.outcome) (sym ends) refl))
-        (λ k inside holds. absurd (t.nothing k inside holds))
-        (subst (λ (p : Phase). IsKeptAt p new o after) (sym ends) (answer_on arena w s t.leaves.contents begun_unlock unlocking.answer))
+        (λ k inside holds. absurd (t.nothing (λ j within held. last_among op.splits.halves.items j some (holds_here c (shown c) o refl h few op there Unlock at_unlock j within held)) k inside holds))
+        (subst (λ (p : Phase). IsKeptAt p new o after) (sym ends) (answer_on arena w s t.keeps.contents begun_unlock unlocking.answer))
         (λ none. t.unsplit)
         (let none = unready_none op Unlock at_unlock tt in let no = unready_none after Done ends tt in omega (arith, none, no))
         (returned_touches c o h arena t.is.count t.is.trees each)

@@ -11,27 +11,30 @@ ghost use Rattle.mt_operation.specs.Tables.{op_at as operation_at};
 ghost use Rattle.mt_state.specs.Views.{Core};
 ghost use Rattle.mt_state.specs.Invariant.{StateInvariant};
 ghost use Rattle.mt_state.specs.Calls.{IsLawful};
-ghost use Rattle.mt_state.specs.Writes.{wrote, GivesBack, MeetsAnother, BuildsLayer, GoesBelow};
+ghost use Rattle.mt_state.specs.Writes.{wrote};
 ghost use Rattle.mt_operation.specs.Phases.{IsLayerPhase};
+ghost use Rattle.mt_layer.specs.Builds.{IsLayerFrom, IsLeave};
+ghost use Rattle.mt_insert.specs.Judge.{MeetsLink, MeetsOther};
+ghost use Rattle.mt_insert.specs.Unlock.{IsUnlock};
 
 /// Each phase that makes a layer makes a lawful step, by what its call ensures, and the invariant
 /// stays: where another long key stands in the place of an operation's own; where its layer comes one
 /// step nearer, or there is no memory and the lock is given back; and where an operation goes on below,
 /// by a link that it found under its lock, or in the layer that it has made.
 pub fn a_layer_is_a_step()
-    ensures meets { (c : Core) (o : ℕ) (op : Operation) (w : Walk) → StateInvariant c → c.steps < 2 ^ 59 → operation_at c.table o ≡ Some op →
-        op.walk.phase ≡ Judge → MeetsAnother c o op w →
-        IsLawful c (wrote c c.arena c.tape c.accounts o op w op.outcome op.prepared) o false }
+    ensures meets { (c : Core) (o : ℕ) (op : Operation) (arena : ArenaView) (w : Walk) → StateInvariant c → c.steps < 2 ^ 59 → operation_at c.table o ≡ Some op →
+        op.walk.phase ≡ Judge → MeetsOther o op.task.key c.arena arena op.walk w →
+        IsLawful c (wrote c arena c.tape c.accounts o op w op.outcome op.prepared) o false }
     ensures builds { (c : Core) (o : ℕ) (op : Operation) (arena : ArenaView) (w : Walk) → StateInvariant c → IsArena c.arena.nodes c.arena.trees → c.steps < 2 ^ 59 →
-        operation_at c.table o ≡ Some op → IsLayerPhase op.walk.phase → BuildsLayer o c.arena arena op.task.key op.walk w →
+        operation_at c.table o ≡ Some op → IsLayerPhase op.walk.phase → IsLayerFrom op.walk.phase o op.task.key c.arena arena op.walk w →
         IsLawful c (wrote c arena c.tape c.accounts o op w op.outcome op.prepared) o false }
     ensures stops { (c : Core) (o : ℕ) (op : Operation) (arena : ArenaView) (w : Walk) → StateInvariant c → c.steps < 2 ^ 59 → operation_at c.table o ≡ Some op →
-        op.walk.phase ≡ MakeLayer → GivesBack c o op arena w →
+        op.walk.phase ≡ MakeLayer → IsUnlock o c.arena arena op.walk w →
         IsLawful c (wrote c arena c.tape c.accounts o op w (Some (record { reply = NoMemory; at = c.steps + 1 })) op.prepared) o true }
     ensures goes_below { (c : Core) (o : ℕ) (op : Operation) (arena : ArenaView) (w : Walk) → StateInvariant c → c.steps < 2 ^ 59 → operation_at c.table o ≡ Some op →
-        op.walk.phase ≡ Judge → GoesBelow c o op arena w →
+        op.walk.phase ≡ Judge → MeetsLink o op.task.key c.arena arena op.walk w →
         IsLawful c (wrote c arena c.tape c.accounts o op w op.outcome op.prepared) o false }
     ensures leaves { (c : Core) (o : ℕ) (op : Operation) (arena : ArenaView) (w : Walk) → StateInvariant c → c.steps < 2 ^ 59 → operation_at c.table o ≡ Some op →
-        op.walk.phase ≡ Unlock → op.outcome ≡ None → GoesBelow c o op arena w →
+        op.walk.phase ≡ Unlock → op.outcome ≡ None → IsLeave o c.arena arena op.walk w →
         IsLawful c (wrote c arena c.tape c.accounts o op w op.outcome op.prepared) o false }
 {}

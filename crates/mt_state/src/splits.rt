@@ -1,6 +1,6 @@
 //! Each phase of a split makes a lawful step. Contracts alone: no code runs.
 
-ghost use Rattle.std.specs.Prelude.{◌≡◌, ◌≢◌, ◌+◌, ◌<◌, ◌^◌, ℕ, true, false, [], Option, Some, None};
+ghost use Rattle.std.specs.Prelude.{◌≡◌, ◌≢◌, ◌+◌, ◌<◌, ◌^◌, ℕ, true, false, [], Some, None};
 ghost use Rattle.mt_rows.specs.Rows.{Columns};
 ghost use Rattle.mt_rows.specs.Accounts.{Accounts};
 ghost use Rattle.mt_rows.specs.declared.reply.Reply.TheVariants.{New, Full, NoMemory};
@@ -15,30 +15,36 @@ ghost use Rattle.mt_insert.specs.Puts.{IsPut};
 ghost use Rattle.mt_state.specs.Views.{Core};
 ghost use Rattle.mt_state.specs.Invariant.{StateInvariant};
 ghost use Rattle.mt_state.specs.Calls.{IsLawful};
-ghost use Rattle.mt_state.specs.Writes.{splitting, StartsSplit, StopsSplit, PartsWith, PartsWithout, Climbs, ReturnsAll};
+ghost use Rattle.mt_state.specs.Writes.{splitting};
 ghost use Rattle.mt_operation.specs.Phases.{IsClimb};
+ghost use Rattle.mt_insert.specs.SplitStart.{IsSplitStart, IsSplitStopped};
+ghost use Rattle.mt_insert.specs.Climbs.{IsClimbFrom};
+ghost use Rattle.mt_insert.specs.SplitMove.{IsSplitMove, IsSplitMoveFull};
+ghost use Rattle.mt_insert.specs.Unlock.{IsUnlockAll};
 
 /// Each phase of a split makes a lawful step, by what its call ensures, and the invariant stays: where
 /// the right half of the full border node is made, or there is no memory and the lock is given back;
 /// where the keys are parted, with the new pair or, at a full quota, without it; where a right half
 /// comes nearer to its place in its parent, or a root is made; and where all locks are given back.
 pub fn a_split_is_a_step()
-    ensures starts { (c : Core) (o : ℕ) (op : Operation) (arena : ArenaView) (w : Walk) (s : Splits) → StateInvariant c → c.steps < 2 ^ 59 → operation_at c.table o ≡ Some op →
-        op.walk.phase ≡ SplitStart → StartsSplit c o op arena w s →
-        IsLawful c (splitting c arena c.tape c.accounts o op w op.outcome op.prepared s) o false }
+    ensures starts { (c : Core) (o : ℕ) (op : Operation) (arena : ArenaView) (tape : Kept) (w : Walk) (s : Splits) → StateInvariant c → c.steps < 2 ^ 59 → operation_at c.table o ≡ Some op →
+        op.walk.phase ≡ SplitStart → IsSplitStart o op.task.key c.arena arena c.tape tape op.walk w op.splits s →
+        IsLawful c (splitting c arena tape c.accounts o op w op.outcome op.prepared s) o false }
     ensures stops { (c : Core) (o : ℕ) (op : Operation) (arena : ArenaView) (tape : Kept) (w : Walk) (s : Splits) → StateInvariant c → c.steps < 2 ^ 59 → operation_at c.table o ≡ Some op →
-        op.walk.phase ≡ SplitStart → StopsSplit c o op arena tape w s →
+        op.walk.phase ≡ SplitStart → IsSplitStopped o c.arena arena c.tape tape op.walk w s →
         IsLawful c (splitting c arena tape c.accounts o op w (Some (record { reply = NoMemory; at = c.steps + 1 })) None s) o true }
     ensures parts { (c : Core) (o : ℕ) (op : Operation) (arena : ArenaView) (tape : Kept) (accounts : Accounts) (w : Walk) (row : Columns) → StateInvariant c → IsArena c.arena.nodes c.arena.trees →
-        c.steps < 2 ^ 59 → operation_at c.table o ≡ Some op → IsPut op.task → op.walk.phase ≡ SplitMove → PartsWith c o op arena tape accounts w row →
+        c.steps < 2 ^ 59 → operation_at c.table o ≡ Some op → IsPut op.task → op.walk.phase ≡ SplitMove →
+        IsSplitMove o (c.steps + 1) op.task row c.arena arena c.tape tape c.accounts accounts op.walk w op.splits →
         IsLawful c (splitting c arena tape accounts o op w (Some (record { reply = New; at = c.steps + 1 })) None op.splits) o false }
-    ensures fills { (c : Core) (o : ℕ) (op : Operation) (arena : ArenaView) (tape : Kept) (w : Walk) → StateInvariant c → c.steps < 2 ^ 59 → operation_at c.table o ≡ Some op → IsPut op.task →
-        op.walk.phase ≡ SplitMove → PartsWithout c o op arena tape w →
-        IsLawful c (splitting c arena tape c.accounts o op w (Some (record { reply = Full; at = c.steps + 1 })) None op.splits) o false }
+    ensures fills { (c : Core) (o : ℕ) (op : Operation) (arena : ArenaView) (tape : Kept) (accounts : Accounts) (w : Walk) → StateInvariant c → c.steps < 2 ^ 59 → operation_at c.table o ≡ Some op →
+        IsPut op.task → op.walk.phase ≡ SplitMove →
+        IsSplitMoveFull o op.task c.arena arena c.tape tape c.accounts accounts op.walk w op.splits →
+        IsLawful c (splitting c arena tape accounts o op w (Some (record { reply = Full; at = c.steps + 1 })) None op.splits) o false }
     ensures climbs { (c : Core) (o : ℕ) (op : Operation) (arena : ArenaView) (w : Walk) (s : Splits) → StateInvariant c → c.steps < 2 ^ 59 → operation_at c.table o ≡ Some op →
-        IsClimb op.walk.phase → Climbs c o op arena w s →
+        IsClimb op.walk.phase → IsClimbFrom op.walk.phase o c.arena arena op.walk w op.splits s →
         IsLawful c (splitting c arena c.tape c.accounts o op w op.outcome op.prepared s) o false }
     ensures returns_all { (c : Core) (o : ℕ) (op : Operation) (arena : ArenaView) (w : Walk) (s : Splits) → StateInvariant c → c.steps < 2 ^ 59 → operation_at c.table o ≡ Some op →
-        op.walk.phase ≡ Unlock → op.outcome ≢ None → op.splits.halves.items ≢ [] → ReturnsAll c o op arena w s →
+        op.walk.phase ≡ Unlock → op.outcome ≢ None → op.splits.halves.items ≢ [] → IsUnlockAll o c.arena arena op.walk w op.splits s →
         IsLawful c (splitting c arena c.tape c.accounts o op w op.outcome op.prepared s) o true }
 {}

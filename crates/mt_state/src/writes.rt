@@ -1,6 +1,6 @@
 //! Each phase of a put, from its lock on, makes a lawful step. Contracts alone: no code runs.
 
-ghost use Rattle.std.specs.Prelude.{◌≡◌, ◌≢◌, ◌+◌, ◌<◌, ◌^◌, ℕ, true, false, [], Option, Some, None};
+ghost use Rattle.std.specs.Prelude.{◌≡◌, ◌≢◌, ◌+◌, ◌<◌, ◌^◌, ℕ, true, false, [], Some, None};
 ghost use Rattle.mt_rows.specs.Rows.{Columns};
 ghost use Rattle.mt_rows.specs.Accounts.{Accounts};
 ghost use Rattle.mt_rows.specs.declared.reply.Reply.TheVariants.{New, Replaced, Full, NoMemory};
@@ -15,7 +15,12 @@ ghost use Rattle.mt_insert.specs.Puts.{IsPut};
 ghost use Rattle.mt_state.specs.Views.{Core};
 ghost use Rattle.mt_state.specs.Invariant.{StateInvariant};
 ghost use Rattle.mt_state.specs.Calls.{IsLawful};
-ghost use Rattle.mt_state.specs.Writes.{wrote, TakesLock, GivesBack, MakesReady, FindsFull, PlacesChange, Stores, Publishes};
+ghost use Rattle.mt_state.specs.Writes.{wrote};
+ghost use Rattle.mt_insert.specs.Publish.{IsPublish, IsPublishFull};
+ghost use Rattle.mt_insert.specs.Store.{IsStore};
+ghost use Rattle.mt_insert.specs.Judge.{IsMadeReady};
+ghost use Rattle.mt_descent.specs.Moves.{IsLock};
+ghost use Rattle.mt_insert.specs.Unlock.{IsUnlock};
 
 /// Each phase of a put makes a lawful step, by what its call ensures, and the invariant stays: where it
 /// takes the lock of its border node, or goes on its way; where it makes all ready, or has no memory
@@ -23,24 +28,27 @@ ghost use Rattle.mt_state.specs.Writes.{wrote, TakesLock, GivesBack, MakesReady,
 /// the quota; and where it gives the lock back.
 pub fn a_write_is_a_step()
     ensures locks { (c : Core) (o : ℕ) (op : Operation) (arena : ArenaView) (w : Walk) → StateInvariant c → c.steps < 2 ^ 59 → operation_at c.table o ≡ Some op →
-        op.walk.phase ≡ Lock → TakesLock c o op arena w →
+        op.walk.phase ≡ Lock → IsLock o op.task.key c.arena arena op.walk w →
         IsLawful c (wrote c arena c.tape c.accounts o op w op.outcome op.prepared) o false }
-    ensures readies { (c : Core) (o : ℕ) (op : Operation) (tape : Kept) (w : Walk) (prepared : Prepared) → StateInvariant c → c.steps < 2 ^ 59 → operation_at c.table o ≡ Some op →
-        op.walk.phase ≡ Judge → MakesReady c o op tape w prepared →
-        IsLawful c (wrote c c.arena tape c.accounts o op w op.outcome (Some prepared)) o false }
+    ensures readies { (c : Core) (o : ℕ) (op : Operation) (arena : ArenaView) (tape : Kept) (w : Walk) (prepared : Prepared) → StateInvariant c → c.steps < 2 ^ 59 → operation_at c.table o ≡ Some op →
+        op.walk.phase ≡ Judge → IsMadeReady o op.task c.arena arena c.tape tape op.walk w prepared →
+        IsLawful c (wrote c arena tape c.accounts o op w op.outcome (Some prepared)) o false }
     ensures stops { (c : Core) (o : ℕ) (op : Operation) (arena : ArenaView) (w : Walk) → StateInvariant c → c.steps < 2 ^ 59 → operation_at c.table o ≡ Some op →
-        op.walk.phase ≡ Judge → GivesBack c o op arena w →
+        op.walk.phase ≡ Judge → IsUnlock o c.arena arena op.walk w →
         IsLawful c (wrote c arena c.tape c.accounts o op w (Some (record { reply = NoMemory; at = c.steps + 1 })) op.prepared) o true }
     ensures stores { (c : Core) (o : ℕ) (op : Operation) (arena : ArenaView) (tape : Kept) (w : Walk) (row before : Columns) → StateInvariant c → IsArena c.arena.nodes c.arena.trees →
-        c.steps < 2 ^ 59 → operation_at c.table o ≡ Some op → IsPut op.task → op.walk.phase ≡ Store → Stores c op arena row before → PlacesChange c o op arena tape w →
+        c.steps < 2 ^ 59 → operation_at c.table o ≡ Some op → IsPut op.task → op.walk.phase ≡ Store →
+        IsStore o (c.steps + 1) op.task row c.arena arena c.tape tape op.walk w before →
         IsLawful c (wrote c arena tape c.accounts o op w (Some (record { reply = Replaced; at = c.steps + 1 })) None) o false }
     ensures publishes { (c : Core) (o : ℕ) (op : Operation) (arena : ArenaView) (tape : Kept) (accounts : Accounts) (w : Walk) (row : Columns) → StateInvariant c → IsArena c.arena.nodes c.arena.trees →
-        c.steps < 2 ^ 59 → operation_at c.table o ≡ Some op → IsPut op.task → op.walk.phase ≡ Publish → Publishes c op arena accounts row → PlacesChange c o op arena tape w →
+        c.steps < 2 ^ 59 → operation_at c.table o ≡ Some op → IsPut op.task → op.walk.phase ≡ Publish →
+        IsPublish o (c.steps + 1) op.task row c.arena arena c.tape tape c.accounts accounts op.walk w →
         IsLawful c (wrote c arena tape accounts o op w (Some (record { reply = New; at = c.steps + 1 })) None) o false }
-    ensures fills { (c : Core) (o : ℕ) (op : Operation) (tape : Kept) (w : Walk) → StateInvariant c → c.steps < 2 ^ 59 → operation_at c.table o ≡ Some op → IsPut op.task →
-        op.walk.phase ≡ Publish → FindsFull c o op tape w →
-        IsLawful c (wrote c c.arena tape c.accounts o op w (Some (record { reply = Full; at = c.steps + 1 })) None) o false }
+    ensures fills { (c : Core) (o : ℕ) (op : Operation) (arena : ArenaView) (tape : Kept) (accounts : Accounts) (w : Walk) → StateInvariant c → c.steps < 2 ^ 59 → operation_at c.table o ≡ Some op →
+        IsPut op.task → op.walk.phase ≡ Publish →
+        IsPublishFull o op.task c.arena arena c.tape tape c.accounts accounts op.walk w →
+        IsLawful c (wrote c arena tape accounts o op w (Some (record { reply = Full; at = c.steps + 1 })) None) o false }
     ensures unlocks { (c : Core) (o : ℕ) (op : Operation) (arena : ArenaView) (w : Walk) → StateInvariant c → c.steps < 2 ^ 59 → operation_at c.table o ≡ Some op →
-        op.walk.phase ≡ Unlock → op.outcome ≢ None → op.splits.halves.items ≡ [] → GivesBack c o op arena w →
+        op.walk.phase ≡ Unlock → op.outcome ≢ None → op.splits.halves.items ≡ [] → IsUnlock o c.arena arena op.walk w →
         IsLawful c (wrote c arena c.tape c.accounts o op w op.outcome op.prepared) o true }
 {}

@@ -1,13 +1,9 @@
 //! Lock: locks the border node.
 
-ghost use Rattle.std.specs.Prelude.{◌≡◌, ◌≢◌, Option, IfSome, IfNone};
-ghost use Rattle.mt_rows.specs.Rows.{Columns};
-ghost use Rattle.mt_arena.specs.Arena.{content_of, Guarantee};
+ghost use Rattle.std.specs.Prelude.{◌≡◌, ◌≢◌, IfSome, IfNone};
 ghost use Rattle.mt_arena.specs.Accesses.{at};
-ghost use Rattle.mt_arena.specs.Settled.{IsSettled};
-ghost use Rattle.mt_descent.specs.Pasts.{Past};
-ghost use Rattle.mt_descent.specs.Kept.{HoldsNothing, IsKept, IsAtBorder, IsAtJudge};
-ghost use Rattle.mt_descent.specs.Moves.{Continues, Locks};
+ghost use Rattle.mt_descent.specs.Kept.{HoldsNothing, IsAtBorder};
+ghost use Rattle.mt_descent.specs.Moves.{IsLock};
 
 use crate::walks::{is_outdated, move_on};
 use mt_arena::Arena;
@@ -22,13 +18,7 @@ pub fn lock(arena: &mut Arena, key: &StoredKey, walk: &mut Walk, operation: usiz
     ensures again { result ≡ (at arena.old walk.old.place.node).holder }
     ensures unchanged { IfSome result (λ holder. (arena.new ≡ arena.old) × (walk.new ≡ walk.old)) }
     ensures another { HoldsNothing arena.old operation → IfSome result (λ holder. holder ≢ operation) }
-    ensures is { IfNone result (Locks operation arena.old arena.new walk.old walk.new) }
-    ensures same { Continues walk.old walk.new }
-    ensures step { Guarantee operation arena.old arena.new }
-    ensures contents { content_of arena.new ≡ content_of arena.old }
-    ensures kept { (past : Past) (row : Option Columns) → IfNone result (IsKept arena.new past key.now row walk.new) }
-    ensures holds { IfNone result (walk.new.phase ≡ Phase.Judge → IsAtJudge arena.new operation key.now walk.new) }
-    ensures settled { IfNone result (walk.new.phase ≡ Phase.Judge → IsSettled arena.new.nodes walk.old.place.node (at arena.new walk.old.place.node)) }
+    ensures locks { IfNone result (IsLock operation key.now arena.old arena.new walk.old walk.new) }
 {
     arena.facts();
     let node = arena.node(walk.place.node);

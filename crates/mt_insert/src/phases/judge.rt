@@ -3,12 +3,10 @@
 
 ghost use Rattle.std.specs.Prelude.{◌≡◌, ◌<◌, ◌==◌, ℕ, if◌then◌else◌, length};
 ghost use Rattle.mt_border.specs.Node.{IsLive, entries_of, entry_at};
-ghost use Rattle.mt_arena.specs.Arena.{content_of, Guarantee};
 ghost use Rattle.mt_arena.specs.Accesses.{at};
-ghost use Rattle.mt_descent.specs.Moves.{Continues};
 ghost use Rattle.mt_insert.specs.Puts.{IsPut};
 ghost use Rattle.mt_insert.specs.Kept.{HoldsBorder};
-ghost use Rattle.mt_insert.specs.Moves.{StandsIn, TellsJudged, after_judge};
+ghost use Rattle.mt_insert.specs.Judge.{StandsIn, TellsJudged, after_judge};
 
 use crate::phases::unlock::{go_below, unlock};
 use crate::prepare::{find_here, prepare};
@@ -44,10 +42,7 @@ pub fn judge(
 ) -> Judged
     requires put { IsPut task.now }
     requires kept { HoldsBorder arena.old operation task.now.key walk.old }
-    ensures told { TellsJudged operation task.now arena.old arena.new tape.old tape.new walk.old walk.new result }
-    ensures same { Continues walk.old walk.new }
-    ensures step { Guarantee operation arena.old arena.new }
-    ensures contents { content_of arena.new ≡ content_of arena.old }
+    ensures { TellsJudged operation task.now arena.old arena.new tape.old tape.new walk.old walk.new result }
 {
     arena.facts();
     match find_here(arena, &task.key, walk) {
@@ -81,10 +76,7 @@ fn make_ready(
     requires put { IsPut task.now }
     requires kept { HoldsBorder arena.old operation task.now.key walk.old }
     requires slot { StandsIn (at arena.old walk.old.place.node) task.now.key walk.old.layer slot }
-    ensures told { TellsJudged operation task.now arena.old arena.new tape.old tape.new walk.old walk.new result }
-    ensures same { Continues walk.old walk.new }
-    ensures step { Guarantee operation arena.old arena.new }
-    ensures contents { content_of arena.new ≡ content_of arena.old }
+    ensures { TellsJudged operation task.now arena.old arena.new tape.old tape.new walk.old walk.new result }
 {
     arena.facts();
     match prepare(alloc, arena, tape, task, walk, slot) {

@@ -1,20 +1,16 @@
 //! Publish: judges the quota, and makes the pair of the missing key live.
 
-ghost use Rattle.std.specs.Prelude.{◌≡◌, ◌<◌, ◌↔◌, None, IsTrue, false, true};
-ghost use Rattle.std.specs.Option.{option_map};
-ghost use Rattle.std.specs.FinMap.{get};
+ghost use Rattle.std.specs.Prelude.{◌≡◌, ◌<◌};
 ghost use Rattle.mt_slices.specs.Slices.{HasLayer, suffix_of};
-ghost use Rattle.mt_rows.specs.Accounts.{account_of, HasRoom, one_more, OthersStay};
 ghost use Rattle.mt_border.specs.Entries.{with_entry};
-ghost use Rattle.mt_border.specs.Contents.{owned};
 ghost use Rattle.mt_tape.specs.Tapes.{last_write};
 ghost use Rattle.mt_arena.specs.Edits.{with_slots};
-ghost use Rattle.mt_arena.specs.Arena.{content_of, Guarantee};
+ghost use Rattle.mt_arena.specs.Arena.{Guarantee};
 ghost use Rattle.mt_arena.specs.Accesses.{at, with_node};
-ghost use Rattle.mt_descent.specs.Moves.{Continues};
 ghost use Rattle.mt_insert.specs.Puts.{IsPut};
 ghost use Rattle.mt_insert.specs.Kept.{IsAtPublish, IsAtUnlock};
-ghost use Rattle.mt_insert.specs.Moves.{walk_placed, entry_of, released, Places};
+ghost use Rattle.mt_insert.specs.Moves.{walk_placed, entry_of, Places};
+ghost use Rattle.mt_insert.specs.Publish.{TellsPublished};
 
 use crate::phases::store::push_write;
 use mt_arena::Arena;
@@ -41,18 +37,7 @@ pub fn publish(
     requires kept { IsAtPublish arena.old operation task.now prepared walk.old }
     requires reserved { 0 < tape.old.reserved }
     requires later { last_write tape.old < step }
-    ensures before { get (content_of arena.old) (owned task.now.key) ≡ None }
-    ensures room { IsTrue result ↔ HasRoom (account_of tenants.old task.now.tenant) }
-    ensures counted { IsTrue result → account_of tenants.new task.now.tenant ≡ option_map one_more (account_of tenants.old task.now.tenant) }
-    ensures others { OthersStay tenants.old tenants.new task.now.tenant }
-    ensures is { result ≡ true → arena.new ≡ with_node arena.old walk.old.place.node (with_slots (at arena.old walk.old.place.node)
-        (with_entry (at arena.old walk.old.place.node).slots (entry_of task.now.key walk.old.layer prepared.row step))) }
-    ensures places { result ≡ true → Places task.now step arena.old arena.new tape.old tape.new }
-    ensures full { result ≡ false → (arena.new ≡ arena.old) × (tenants.new ≡ tenants.old) × (tape.new ≡ released tape.old) }
-    ensures walk { walk.new ≡ walk_placed walk.old }
-    ensures same { Continues walk.old walk.new }
-    ensures step { Guarantee operation arena.old arena.new }
-    ensures kept { IsAtUnlock arena.new operation walk.new }
+    ensures { TellsPublished result operation step task.now prepared.row arena.old arena.new tape.old tape.new tenants.old tenants.new walk.old walk.new }
 {
     arena.facts();
     if !tenants.count_new(task.tenant) {

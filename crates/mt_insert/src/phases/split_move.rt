@@ -1,22 +1,17 @@
 //! SplitMove: judges the quota, and parts the keys and the new pair among the halves.
 
-ghost use Rattle.std.specs.Prelude.{◌≡◌, ◌<◌, ◌↔◌, length, None, IsTrue, false, true};
-ghost use Rattle.std.specs.Option.{option_map};
-ghost use Rattle.std.specs.FinMap.{get};
-ghost use Rattle.mt_rows.specs.Accounts.{account_of, HasRoom, one_more, OthersStay};
+ghost use Rattle.std.specs.Prelude.{◌≡◌, ◌<◌, length};
 ghost use Rattle.mt_border.specs.Entries.{with_entry};
-ghost use Rattle.mt_border.specs.Contents.{owned};
 ghost use Rattle.mt_tape.specs.Tapes.{last_write};
 ghost use Rattle.mt_arena.specs.Arena.{content_of, Guarantee};
 ghost use Rattle.mt_arena.specs.Accesses.{at};
-ghost use Rattle.mt_descent.specs.Moves.{Continues};
 ghost use Rattle.mt_insert.specs.Puts.{IsPut};
-ghost use Rattle.mt_insert.specs.Moves.{entry_of, released, Places};
+ghost use Rattle.mt_insert.specs.Moves.{entry_of, Places};
 ghost use Rattle.mt_arena.specs.Several.{AreHalved};
 ghost use Rattle.mt_operation.specs.declared.task.Task.{Task as AnyTask};
 ghost use Rattle.mt_operation.specs.declared.prepared.Prepared.{Prepared as AnyPrepared};
-ghost use Rattle.mt_insert.specs.Splitting.{last_of, HoldsSplits, IsAtSplitMove, KeptSplit};
-ghost use Rattle.mt_insert.specs.SplitMoves.{walk_at, after_parting};
+ghost use Rattle.mt_insert.specs.Splitting.{last_of, IsAtSplitMove};
+ghost use Rattle.mt_insert.specs.SplitMove.{after_parting, TellsSplitMoved};
 
 use crate::halves::last;
 use crate::phases::publish::new_entry;
@@ -46,21 +41,7 @@ pub fn split_move(
     requires kept { IsAtSplitMove arena.old operation task.now prepared walk.old splits.now }
     requires reserved { 0 < tape.old.reserved }
     requires later { last_write tape.old < step }
-    ensures before { get (content_of arena.old) (owned task.now.key) ≡ None }
-    ensures room { IsTrue result ↔ HasRoom (account_of tenants.old task.now.tenant) }
-    ensures counted { IsTrue result → account_of tenants.new task.now.tenant ≡ option_map one_more (account_of tenants.old task.now.tenant) }
-    ensures others { OthersStay tenants.old tenants.new task.now.tenant }
-    ensures is { result ≡ true → AreHalved (with_entry (at arena.old walk.old.place.node).slots (entry_of task.now.key walk.old.layer prepared.row step))
-        arena.old.nodes arena.new.nodes walk.old.place.node (last_of splits.now).right }
-    ensures places { result ≡ true → Places task.now step arena.old arena.new tape.old tape.new }
-    ensures full { result ≡ false → (tenants.new ≡ tenants.old) × (tape.new ≡ released tape.old) × (content_of arena.new ≡ content_of arena.old) }
-    ensures parted { result ≡ false → AreHalved (at arena.old walk.old.place.node).slots arena.old.nodes arena.new.nodes walk.old.place.node (last_of splits.now).right }
-    ensures nodes_alone { arena.new ≡ record arena.old { nodes = arena.new.nodes } }
-    ensures walk { walk.new ≡ walk_at (after_parting (at arena.old walk.old.place.node).next) walk.old }
-    ensures same { Continues walk.old walk.new }
-    ensures step { Guarantee operation arena.old arena.new }
-    ensures kept { KeptSplit walk.new.phase arena.new operation splits.now }
-    ensures holds { HoldsSplits arena.old operation splits.now → HoldsSplits arena.new operation splits.now }
+    ensures { TellsSplitMoved result operation step task.now prepared.row arena.old arena.new tape.old tape.new tenants.old tenants.new walk.old walk.new splits.now }
 {
     arena.facts();
     let is_new = tenants.count_new(task.tenant);
@@ -99,7 +80,7 @@ fn part_with(
     let Halves { left, right } = last(splits);
     let Prepared { suffix, row, write } = prepared;
     let entry = new_entry(&task.key, walk.layer, suffix, row, step);
-    arena.split_border(left, right, entry, operation);
+    arena.split_border(left, right, entry.slice, entry.mark, Some(entry), operation);
     push_write(tape, write, step);
 }
 
@@ -113,11 +94,12 @@ fn part_without(arena: &mut Arena, key: &StoredKey, walk: &Walk, splits: &Splits
 {
     arena.facts();
     let Halves { left, right } = last(splits);
-    arena.split_border_without(
+    arena.split_border(
         left,
         right,
         key.slice(walk.layer),
         key.mark(walk.layer),
+        None,
         operation,
     );
 }

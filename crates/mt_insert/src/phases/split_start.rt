@@ -1,17 +1,13 @@
 //! SplitStart: makes the right half of the full border node.
 
 ghost use Rattle.std.specs.Prelude.{◌≡◌, ◌<◌, length, OnOk, OnErr};
-ghost use Rattle.mt_arena.specs.Edits.{unlocked};
 ghost use Rattle.mt_arena.specs.Arena.{content_of, Guarantee};
-ghost use Rattle.mt_arena.specs.Accesses.{at, with_node};
-ghost use Rattle.mt_descent.specs.Moves.{Continues};
-ghost use Rattle.mt_insert.specs.Moves.{walk_done, released};
 ghost use Rattle.mt_operation.specs.declared.task.Task.{Task as AnyTask};
 ghost use Rattle.mt_operation.specs.declared.prepared.Prepared.{Prepared as AnyPrepared};
-ghost use Rattle.mt_insert.specs.Kept.{HoldsOnly, IsAtSplitStart};
+ghost use Rattle.mt_insert.specs.Kept.{IsAtSplitStart};
 ghost use Rattle.mt_operation.specs.Operations.{IsUnsplit};
-ghost use Rattle.mt_insert.specs.Splitting.{HoldsSplits, IsAtSplitMove};
-ghost use Rattle.mt_insert.specs.SplitMoves.{walk_at, Starts, HasOneMore};
+ghost use Rattle.mt_insert.specs.SplitMoves.{Starts, HasOneMore};
+ghost use Rattle.mt_insert.specs.SplitStart.{IsSplitStart, IsSplitStopped};
 
 use crate::phases::unlock::unlock;
 use mt_arena::Arena;
@@ -34,20 +30,8 @@ pub fn split_start(
     requires kept { (task : AnyTask) × (prepared : AnyPrepared) × (task.key ≡ key.now) × IsAtSplitStart arena.old operation task prepared walk.old }
     requires none { IsUnsplit splits.old }
     requires reserved { 0 < tape.old.reserved }
-    ensures is { OnOk result (Starts operation arena.old arena.new key.now walk.old) }
-    ensures splits { OnOk result (HasOneMore splits.old splits.new walk.old.place.node (length arena.old.nodes)) }
-    ensures walk { OnOk result (walk.new ≡ walk_at Phase.SplitMove walk.old) }
-    ensures tape { OnOk result (tape.new ≡ tape.old) }
-    ensures unlocked_on_err { OnErr result (arena.new ≡ with_node arena.old walk.old.place.node (unlocked (at arena.old walk.old.place.node))) }
-    ensures unsplit_on_err { OnErr result (IsUnsplit splits.new) }
-    ensures done_on_err { OnErr result (walk.new ≡ walk_done walk.old) }
-    ensures released_on_err { OnErr result (tape.new ≡ released tape.old) }
-    ensures same { Continues walk.old walk.new }
-    ensures step { Guarantee operation arena.old arena.new }
-    ensures contents { content_of arena.new ≡ content_of arena.old }
-    ensures kept { (task : AnyTask) (prepared : AnyPrepared) → task.key ≡ key.now → IsAtSplitStart arena.old operation task prepared walk.old →
-        OnOk result (IsAtSplitMove arena.new operation task prepared walk.new splits.new) }
-    ensures holds { HoldsOnly arena.old operation walk.old.place.node → OnOk result (HoldsSplits arena.new operation splits.new) }
+    ensures starts { OnOk result (IsSplitStart operation key.now arena.old arena.new tape.old tape.new walk.old walk.new splits.old splits.new) }
+    ensures stops { OnErr result (IsSplitStopped operation arena.old arena.new tape.old tape.new walk.old walk.new splits.new) }
 {
     arena.facts();
     match halve(arena, key, walk, splits, operation) {
@@ -86,7 +70,7 @@ fn halve(
     let low = arena
         .border(left)
         .separator(key.slice(walk.layer), key.mark(walk.layer));
-    let right = arena.alloc_node(left, low, operation)?;
+    let right = arena.begin_split(left, low, operation)?;
     splits.halves.push_reserved(Halves { left, right });
     Ok(())
 }

@@ -1,17 +1,12 @@
 //! Unlock: gives all locks back.
 
-ghost use Rattle.std.specs.Prelude.{◌≡◌, ◌<◌, ◌+◌, ℕ, Some, None};
+ghost use Rattle.std.specs.Prelude.{◌≡◌, ◌<◌, ℕ, Some, None};
 ghost use Rattle.mt_version.specs.Changes.{CanUnlock};
-ghost use Rattle.mt_arena.specs.Edits.{unlocked};
 ghost use Rattle.mt_arena.specs.Arena.{content_of, Guarantee};
-ghost use Rattle.mt_arena.specs.Accesses.{at, with_node};
-ghost use Rattle.mt_descent.specs.Moves.{Continues, walk_into};
+ghost use Rattle.mt_arena.specs.Accesses.{at};
 ghost use Rattle.mt_insert.specs.Kept.{IsAtUnlock};
-ghost use Rattle.mt_insert.specs.Moves.{walk_done};
-ghost use Rattle.mt_descent.specs.Kept.{HoldsNothing};
-ghost use Rattle.mt_operation.specs.Operations.{IsUnsplit};
-ghost use Rattle.mt_insert.specs.Splitting.{IsAmong, HoldsSplits, IsAtUnlockAll, MayReturnBoth};
-ghost use Rattle.mt_insert.specs.SplitMoves.{given_back, Returns};
+ghost use Rattle.mt_insert.specs.Unlock.{given_back, Returns, GoesInto, IsUnlock, IsUnlockAll};
+ghost use Rattle.mt_insert.specs.Splitting.{IsAmong, IsAtUnlockAll, MayReturnBoth};
 
 use mt_arena::Arena;
 use mt_operation::{Halves, Phase, Splits, Walk};
@@ -20,11 +15,7 @@ use mt_operation::{Halves, Phase, Splits, Walk};
 pub fn unlock(arena: &mut Arena, walk: &mut Walk, operation: usize)
     requires kept { IsAtUnlock arena.old operation walk.old }
     requires room { CanUnlock (at arena.old walk.old.place.node).version }
-    ensures is { arena.new ≡ with_node arena.old walk.old.place.node (unlocked (at arena.old walk.old.place.node)) }
-    ensures walk { walk.new ≡ walk_done walk.old }
-    ensures same { Continues walk.old walk.new }
-    ensures step { Guarantee operation arena.old arena.new }
-    ensures contents { content_of arena.new ≡ content_of arena.old }
+    ensures { IsUnlock operation arena.old arena.new walk.old walk.new }
 {
     arena.unlock(walk.place.node, operation);
     walk.phase = Phase::Done;
@@ -35,11 +26,7 @@ pub fn go_below(arena: &mut Arena, walk: &mut Walk, tree: usize, operation: usiz
     requires kept { IsAtUnlock arena.old operation walk.old }
     requires room { CanUnlock (at arena.old walk.old.place.node).version }
     requires layer { walk.old.layer < 32 }
-    ensures is { arena.new ≡ with_node arena.old walk.old.place.node (unlocked (at arena.old walk.old.place.node)) }
-    ensures walk { walk.new ≡ walk_into walk.old tree (walk.old.layer + 1) }
-    ensures same { Continues walk.old walk.new }
-    ensures step { Guarantee operation arena.old arena.new }
-    ensures contents { content_of arena.new ≡ content_of arena.old }
+    ensures { GoesInto operation tree arena.old arena.new walk.old walk.new }
 {
     arena.unlock(walk.place.node, operation);
     walk.place.tree = tree;
@@ -51,13 +38,7 @@ pub fn go_below(arena: &mut Arena, walk: &mut Walk, tree: usize, operation: usiz
 pub fn unlock_all(arena: &mut Arena, walk: &mut Walk, splits: &mut Splits, operation: usize)
     requires kept { IsAtUnlockAll arena.old operation splits.old }
     requires room { (k : ℕ) → IsAmong splits.old k → CanUnlock (at arena.old k).version }
-    ensures is { Returns arena.old arena.new splits.old }
-    ensures splits { IsUnsplit splits.new }
-    ensures walk { walk.new ≡ walk_done walk.old }
-    ensures same { Continues walk.old walk.new }
-    ensures step { Guarantee operation arena.old arena.new }
-    ensures contents { content_of arena.new ≡ content_of arena.old }
-    ensures nothing { HoldsSplits arena.old operation splits.old → HoldsNothing arena.new operation }
+    ensures { IsUnlockAll operation arena.old arena.new walk.old walk.new splits.old splits.new }
 {
     arena.facts();
     unlock_above(arena, splits, operation);

@@ -4,15 +4,13 @@ ghost use Rattle.std.specs.Prelude.{◌≡◌, IfOk, OnOk, OnErr, length};
 ghost use Rattle.mt_border.specs.declared.entry.Pair.{Pair as AnyPair};
 ghost use Rattle.mt_border.specs.declared.entry.Held.TheVariants.{Stable};
 ghost use Rattle.mt_arena.specs.Layers.{slot_at};
-ghost use Rattle.mt_arena.specs.Edits.{unlocked};
 ghost use Rattle.mt_arena.specs.Arena.{content_of, Guarantee};
-ghost use Rattle.mt_arena.specs.Accesses.{at, with_node};
+ghost use Rattle.mt_arena.specs.Accesses.{at};
 ghost use Rattle.mt_arena.specs.Layering.{prefix_below, with_layer};
-ghost use Rattle.mt_descent.specs.Moves.{Continues};
-ghost use Rattle.mt_insert.specs.Kept.{HoldsOnly, IsAtMakeLayer};
-ghost use Rattle.mt_insert.specs.Moves.{walk_done};
-ghost use Rattle.mt_layer.specs.Kept.{IsAtMarkUnstable};
-ghost use Rattle.mt_layer.specs.Moves.{KeepsStamps, entry_below, walk_linked};
+ghost use Rattle.mt_insert.specs.Kept.{IsAtMakeLayer};
+ghost use Rattle.mt_layer.specs.Moves.{entry_below};
+ghost use Rattle.mt_layer.specs.Builds.{IsMakeLayer};
+ghost use Rattle.mt_insert.specs.Unlock.{IsUnlock};
 
 use crate::below::{entry_below, prefix_below};
 use mt_arena::Arena;
@@ -31,17 +29,8 @@ pub fn make_layer(
     operation: usize,
 ) -> Result<(), AllocError>
     requires kept { IsAtMakeLayer arena.old operation key.now walk.old }
-    ensures is { (pair : AnyPair) → (slot_at (at arena.old walk.old.place.node) walk.old.slot).held ≡ Stable pair →
-        OnOk result (arena.new ≡ with_layer arena.old (prefix_below arena.old walk.old.place.node walk.old.slot) (entry_below pair) operation) }
-    ensures walk { OnOk result (walk.new ≡ walk_linked walk.old (length arena.old.trees)) }
-    ensures unlocked_on_err { OnErr result (arena.new ≡ with_node arena.old walk.old.place.node (unlocked (at arena.old walk.old.place.node))) }
-    ensures done_on_err { OnErr result (walk.new ≡ walk_done walk.old) }
-    ensures same { Continues walk.old walk.new }
-    ensures step { Guarantee operation arena.old arena.new }
-    ensures contents { content_of arena.new ≡ content_of arena.old }
-    ensures stamps { KeepsStamps arena.old arena.new }
-    ensures kept { OnOk result (IsAtMarkUnstable arena.new operation key.now walk.new) }
-    ensures holds { HoldsOnly arena.old operation walk.old.place.node → OnOk result (HoldsOnly arena.new operation walk.new.place.node) }
+    ensures makes { OnOk result (IsMakeLayer operation key.now arena.old arena.new walk.old walk.new) }
+    ensures unlocks { OnErr result (IsUnlock operation arena.old arena.new walk.old walk.new) }
 {
     arena.facts();
     match grow_layer(alloc, arena, key, walk, operation) {

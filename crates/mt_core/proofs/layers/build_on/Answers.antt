@@ -1,41 +1,34 @@
--- Each phase that makes a layer brings it one step nearer, for `build_on`.
-use Rattle.std.proofs.Common.{Some, None}
-use Rattle.mt_border.specs.declared.entry.Held.TheVariants.{Unstable}
-use Rattle.mt_arena.specs.Layering.{prefix_below}
-use Rattle.mt_insert.specs.Kept.{IsAtMakeLayer}
-use Rattle.mt_layer.specs.Kept.{IsAtMarkUnstable, IsAtLink, IsAtMarkLayer}
-use Rattle.mt_layer.specs.Moves.{entry_below}
-use Rattle.mt_core.proofs.LayerSteps.{kept_at, layer_made, pair_marked, pair_linked, layer_marked}
+-- What the call of each phase that makes a layer ensures is what is told of the step.
+use Rattle.std.proofs.Common.{Err, Ok, OnErr, OnOk, Result, subst, sym, ℕ, ◌≡◌}
+use Rattle.std.specs.declared.alloc.AllocError.{AllocError}
+use Rattle.mt_rows.specs.Rows.{Bytes}
+use Rattle.mt_arena.specs.Arena.{ArenaView}
+use Rattle.mt_operation.specs.declared.phase.Phase.{Phase}
+use Rattle.mt_operation.specs.declared.phase.Phase.TheVariants.{Link, MakeLayer, MarkLayer, MarkUnstable}
+use Rattle.mt_operation.specs.declared.walk.Walk.{Walk}
+use Rattle.mt_insert.specs.Unlock.{IsUnlock}
+use Rattle.mt_layer.specs.Builds.{IsLayerFrom, IsMakeLayer}
+use Rattle.mt_core.specs.Layers.{TellsBuilt}
 use Rattle.mt_core.proofs.layers.build_on.Goals as goal
 
+-- the step from the phase at which the walk is
+from_here : (p : Phase) (o : ℕ) (key : Bytes) (old new : ArenaView) (before after : Walk) → before.phase ≡ p → IsLayerFrom p o key old new before after → IsLayerFrom before.phase o key old new before after
+from_here p o key old new before after at_p = subst (λ (q : Phase). IsLayerFrom q o key old new before after) (sym at_p)
+
+-- the tree was made, or there was no memory for it
+made_or_not : (r : Result (Unit {0}) AllocError) (o : ℕ) (key : Bytes) (old new : ArenaView) (before after : Walk) → before.phase ≡ MakeLayer → OnOk r (IsMakeLayer o key old new before after) → OnErr r (IsUnlock o old new before after)
+    → TellsBuilt o old new key before after r
+made_or_not (Ok done) o key old new before after at_make makes unlocks = from_here MakeLayer o key old new before after at_make makes
+made_or_not (Err error) o key old new before after at_make makes unlocks = (at_make, unlocks)
+
 pub returns-in-MakeLayer : goal.returns-in-MakeLayer
-returns-in-MakeLayer c =
-    let e = c.make_layer.ensures in
-    let kept : IsAtMakeLayer c.args.arena.now c.args.operation c.args.key.now c.args.walk.now = kept_at _ _ _ _ _ _ c.in-MakeLayer.is c.requires.kept in
-    layer_made c.args.operation c.args.arena.now c.make_layer.new.arena c.args.key.now c.args.walk.now c.make_layer.new.walk c.in-MakeLayer.is kept
-    (prefix_below c.args.arena.now c.args.walk.now.place.node c.args.walk.now.slot) (entry_below kept.pair) c.make_layer.result
-    (e.is kept.pair kept.stable) e.walk e.unlocked_on_err e.done_on_err e.same e.step e.contents e.stamps e.kept e.holds
+returns-in-MakeLayer c = made_or_not c.make_layer.result _ _ _ _ _ _ c.in-MakeLayer.is c.make_layer.ensures.makes c.make_layer.ensures.unlocks
 
 pub returns-in-MarkUnstable : goal.returns-in-MarkUnstable
-returns-in-MarkUnstable c =
-    let e = c.mark_unstable.ensures in
-    let kept : IsAtMarkUnstable c.args.arena.now c.args.operation c.args.key.now c.args.walk.now = kept_at _ _ _ _ _ _ c.in-MarkUnstable.is c.requires.kept in
-    pair_marked c.args.operation c.args.arena.now c.mark_unstable.new.arena c.args.key.now c.args.walk.now c.mark_unstable.new.walk c.in-MarkUnstable.is kept.makes.layer.slot.held
-    (Unstable kept.pair None) (e.is kept.pair kept.makes.layer.slot.is) e.walk
-    (record { guarantee = e.step; contents = e.contents; stamps = e.stamps; same = e.same; kept = e.kept c.args.key.now kept; holds = e.holds })
+returns-in-MarkUnstable c = from_here MarkUnstable _ _ _ _ _ _ c.in-MarkUnstable.is c.mark_unstable.ensures
 
 pub returns-in-Link : goal.returns-in-Link
-returns-in-Link c =
-    let e = c.link.ensures in
-    let kept : IsAtLink c.args.arena.now c.args.operation c.args.key.now c.args.walk.now = kept_at _ _ _ _ _ _ c.in-Link.is c.requires.kept in
-    pair_linked c.args.operation c.args.arena.now c.link.new.arena c.args.key.now c.args.walk.now c.link.new.walk c.in-Link.is kept.makes.layer.slot.held
-    (Unstable kept.pair (Some kept.tree)) (e.is kept.pair kept.tree kept.makes.taken kept.makes.layer.slot.is) e.walk
-    (record { guarantee = e.step; contents = e.contents; stamps = e.stamps; same = e.same; kept = e.kept c.args.key.now kept; holds = e.holds })
+returns-in-Link c = from_here Link _ _ _ _ _ _ c.in-Link.is c.link.ensures
 
 pub returns-in-MarkLayer : goal.returns-in-MarkLayer
-returns-in-MarkLayer c =
-    let e = c.mark_layer.ensures in
-    let kept : IsAtMarkLayer c.args.arena.now c.args.operation c.args.key.now c.args.walk.now = kept_at _ _ _ _ _ _ c.in-MarkLayer.is c.requires.kept in
-    layer_marked c.args.operation c.args.arena.now c.mark_layer.new.arena c.args.key.now c.args.walk.now c.mark_layer.new.walk c.in-MarkLayer.is kept.makes.layer.slot.held
-    kept.tree (e.is kept.tree kept.makes.taken) e.walk
-    (record { guarantee = e.step; contents = e.contents; stamps = e.stamps; same = e.same; kept = e.kept c.args.key.now kept; holds = e.holds })
+returns-in-MarkLayer c = from_here MarkLayer _ _ _ _ _ _ c.in-MarkLayer.is c.mark_layer.ensures

@@ -1,12 +1,10 @@
 -- An operation that has made a layer goes on in its tree, for `Inner::leave`.
-use Rattle.std.proofs.Common.{◌≡◌, ap}
+use Rattle.std.proofs.Common.{◌≡◌}
 use Rattle.mt_operation.specs.declared.phase.Phase.TheVariants.{Unlock}
-use Rattle.mt_operation.specs.declared.walk.Walk.{Walk}
 use Rattle.mt_state.specs.declared.moves.Move.TheVariants.{Moved}
 use Rattle.mt_state.specs.Views.{Core}
 use Rattle.mt_state.specs.Invariant.{StateInvariant}
 use Rattle.mt_state.proofs.Needs.{leave_kept}
-use Rattle.mt_layer.specs.Kept.{IsAtLeave}
 use Rattle.mt_core.specs.States.{core_of}
 use Rattle.mt_core.specs.Points.{StepsOn}
 use Rattle.mt_core.proofs.Following.{made, phase_is}
@@ -28,14 +26,10 @@ after c = made (core_of c.self.inside) c.leave.new.arena c.self.inside.tape c.se
 
 gives : (c : goal.After-go_on) → StateInvariant (after c) × StepsOn c.args.self.now (after c) c.args.id Moved
 gives c =
-    let e = c.leave.ensures in
-    let k : IsAtLeave c.self.inside.arena c.args.id c.open.result.now.task.key c.open.result.now.walk =
-    leave_kept (core_of c.self.inside) c.args.id c.self.invariant _ c.open.ensures (phase_is (core_of c.self.inside) _ c.args.id (λ q. q ≡ Unlock) c.self.view_is _ c.open.ensures c.requires.next)
-    (untold_inside (core_of c.self.inside) _ c.args.id c.self.view_is c.requires.untold _ c.open.ensures) in
-    let goes = e.walk k.tree k.taken in
-    leave_made (core_of c.self.inside) _ c.args.id c.self.view_is c.self.invariant _ c.open.ensures c.requires.few c.requires.next
-    (untold_inside (core_of c.self.inside) _ c.args.id c.self.view_is c.requires.untold _ c.open.ensures) _ _ _ k goes
-    (record { is = e.is; enters = ap (λ (w : Walk). w.phase) goes; same = e.same; leaves = record { guarantee = e.step; contents = e.contents }; kept = e.kept _ k }) c.go_on.ensures.moves
+    let untold = untold_inside (core_of c.self.inside) _ c.args.id c.self.view_is c.requires.untold _ c.open.ensures in
+    leave_made (core_of c.self.inside) _ c.args.id c.self.view_is c.self.invariant _ c.open.ensures c.requires.few c.requires.next untold _ _ _
+    (leave_kept (core_of c.self.inside) c.args.id c.self.invariant _ c.open.ensures (phase_is (core_of c.self.inside) _ c.args.id (λ q. q ≡ Unlock) c.self.view_is _ c.open.ensures c.requires.next) untold)
+    c.leave.ensures c.go_on.ensures.moves
 
 pub invariant_of-self : goal.invariant_of-self
 invariant_of-self c = (gives c).0

@@ -23,8 +23,7 @@ abbrev after : goal.After-go_on → Core
 after c = made (core_of c.self.inside) c.lock.new.arena c.self.inside.tape c.self.inside.tenants c.go_on.new.self
 
 gives : (c : goal.After-go_on) → StateInvariant (after c) × StepsOn c.args.self.now (after c) c.args.id Moved
-gives c = let e = c.in_default.ensures in lock_made (core_of c.self.inside) _ c.args.id c.self.view_is c.self.invariant c.requires.few c.requires.next _ c.open-operation.ensures _ _ _ (sym e.again)
-    (record { locks = e.is; same = e.same; leaves = record { guarantee = e.step; contents = e.contents }; kept = e.kept; judged = e.holds; settled = e.settled }) c.go_on.ensures.moves
+gives c = lock_made (core_of c.self.inside) _ c.args.id c.self.view_is c.self.invariant c.requires.few c.requires.next _ c.open-operation.ensures _ _ _ c.in_default.ensures.locks c.go_on.ensures.moves
 
 pub invariant_of-self-2 : goal.invariant_of-self-2
 invariant_of-self-2 c = (gives c).0

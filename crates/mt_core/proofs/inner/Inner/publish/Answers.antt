@@ -1,4 +1,4 @@
-use Rattle.std.proofs.Common.{refl, sym, ◌∙◌}
+use Rattle.std.proofs.Common.{refl}
 use Rattle.mt_operation.specs.declared.phase.Phase.TheVariants.{Publish}
 use Rattle.mt_state.specs.declared.moves.Move.TheVariants.{Moved}
 use Rattle.mt_state.specs.Views.{Core}
@@ -6,7 +6,7 @@ use Rattle.mt_state.specs.Invariant.{StateInvariant}
 use Rattle.mt_core.specs.States.{core_of}
 use Rattle.mt_core.specs.Points.{StepsOn}
 use Rattle.mt_core.proofs.Following.{made, outcome_is}
-use Rattle.mt_core.proofs.PutSteps.{publish_has, open_after, may_go_on, put_is, room_is, publish_at, publish_made, full_made, full_for}
+use Rattle.mt_core.proofs.PutSteps.{publish_has, open_after, may_go_on, put_is, room_is, publish_at, publish_made, full_made}
 use Rattle.mt_core.proofs.inner.Inner.publish.Goals.{then-is_new, else-is_new}
 use Rattle.mt_core.proofs.inner.Inner.publish.Goals as goal
 
@@ -33,13 +33,10 @@ after c = made (core_of c.self.inside) c.publish-is_new.new.arena c.publish-is_n
 
 gives : (c : goal.After-go_on_with) → StateInvariant (after c) × StepsOn c.args.self.now (after c) c.args.id Moved
 gives c = let e = c.publish-is_new.ensures in elim c.if-is_new.branch [
-  | then-is_new w ↦ publish_made (core_of c.self.inside) _ c.args.id c.self.view_is c.self.invariant c.requires.next _ _ c.taken_out-prepared.ensures _ c.open-operation.ensures c.requires.few _ _ _ _ _ _ c.go_on_with.ensures.moves e.step c.facts.ensures.arena
-      (record { is = e.is w.if-is_new.true; missing = e.before; room = e.room.0 w.if-is_new.true; counted = e.counted w.if-is_new.true; others = e.others })
-      (record { places = e.places w.if-is_new.true; walk = e.walk; same = e.same; guarantee = e.step; kept = e.kept })
-      (outcome_is _ _ _ _ c.placed-told.ensures w.reply-is)
-  | else-is_new w ↦ let f = e.full w.if-is_new.false in full_made (core_of c.self.inside) _ c.args.id c.self.view_is c.self.invariant c.requires.next _ _ c.taken_out-prepared.ensures _ c.open-operation.ensures c.requires.few _ _ _ _ _ _ c.go_on_with.ensures.moves e.step f.0 f.1
-      (full_for (core_of c.self.inside) c.args.id _ _ _ _ e.walk e.same f.2 f.0 e.kept e.before (λ has. absurd (let no = sym w.if-is_new.false ∙ e.room.1 has in cc)))
-      (outcome_is _ _ _ _ c.placed-told.ensures w.reply-is)
+  | then-is_new w ↦ publish_made (core_of c.self.inside) _ c.args.id c.self.view_is c.self.invariant c.requires.next _ _ c.taken_out-prepared.ensures _ c.open-operation.ensures c.requires.few _ _ _ _ _ _ c.go_on_with.ensures.moves c.facts.ensures.arena
+      (rw w.if-is_new.true at e) (outcome_is _ _ _ _ c.placed-told.ensures w.reply-is)
+  | else-is_new w ↦ full_made (core_of c.self.inside) _ c.args.id c.self.view_is c.self.invariant c.requires.next _ _ c.taken_out-prepared.ensures _ c.open-operation.ensures c.requires.few _ _ _ _ _ _ c.go_on_with.ensures.moves
+      (rw w.if-is_new.false at e) (outcome_is _ _ _ _ c.placed-told.ensures w.reply-is)
 ]
 
 pub invariant_of-self : goal.invariant_of-self

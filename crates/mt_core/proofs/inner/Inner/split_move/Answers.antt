@@ -1,10 +1,9 @@
-use Rattle.std.proofs.Common.{sym, ◌∙◌}
 use Rattle.mt_state.specs.Invariant.{StateInvariant}
 use Rattle.mt_state.specs.declared.moves.Move.TheVariants.{Moved}
 use Rattle.mt_core.specs.States.{core_of}
 use Rattle.mt_core.specs.Points.{StepsOn}
 use Rattle.mt_core.proofs.Following.{made, outcome_is}
-use Rattle.mt_core.proofs.SplitSteps.{move_has, move_reserved, move_open, may_part, move_is_put, move_asks, move_alone, move_with, move_without}
+use Rattle.mt_core.proofs.SplitSteps.{move_has, move_reserved, move_open, may_part, move_is_put, move_asks, move_with, move_without}
 use Rattle.mt_core.proofs.inner.Inner.split_move.Goals.{then-is_new, else-is_new}
 use Rattle.mt_core.proofs.inner.Inner.split_move.Goals as goal
 
@@ -33,27 +32,11 @@ steps_on : (c : goal.After-go_on_with)
     × StepsOn c.args.self.now (made (core_of c.self.inside) c.split_move-is_new.new.arena c.split_move-is_new.new.tape c.split_move-is_new.new.tenants c.go_on_with.new.self) c.args.id Moved
 steps_on c =
     let e = c.split_move-is_new.ensures in
-    let alone = move_alone (core_of c.self.inside) _ c.args.id c.self.view_is c.self.invariant c.requires.few c.requires.next _ _ c.taken_out-prepared.ensures _ c.open-operation.ensures in
     elim c.if-is_new.branch [
       | then-is_new w ↦ move_with (core_of c.self.inside) _ c.args.id c.self.view_is c.self.invariant c.requires.few c.requires.next _ _ c.taken_out-prepared.ensures _ c.open-operation.ensures _ _ _ _ _ _ c.go_on_with.ensures.moves c.facts.ensures.arena
-          (record {
-            parts = record { guarantee = e.step; nodes_alone = e.nodes_alone; walk = e.walk; same = e.same; kept = e.kept; holds = e.holds alone; missing = e.before };
-            is = e.is w.if-is_new.true;
-            places = e.places w.if-is_new.true;
-            room = e.room.0 w.if-is_new.true;
-            counted = e.counted w.if-is_new.true;
-            others = e.others;
-          })
-          (outcome_is _ _ _ _ c.placed-told.ensures w.reply-is)
-      | else-is_new w ↦ let f = e.full w.if-is_new.false in move_without (core_of c.self.inside) _ c.args.id c.self.view_is c.self.invariant c.requires.few c.requires.next _ _ c.taken_out-prepared.ensures _ c.open-operation.ensures _ _ _ _ _ _ c.go_on_with.ensures.moves f.0
-          (record {
-            parts = record { guarantee = e.step; nodes_alone = e.nodes_alone; walk = e.walk; same = e.same; kept = e.kept; holds = e.holds alone; missing = e.before };
-            is = e.parted w.if-is_new.false;
-            contents = f.2;
-            tape_is = f.1;
-            full = λ has. absurd (let no = sym w.if-is_new.false ∙ e.room.1 has in cc);
-          })
-          (outcome_is _ _ _ _ c.placed-told.ensures w.reply-is)
+          (rw w.if-is_new.true at e) (outcome_is _ _ _ _ c.placed-told.ensures w.reply-is)
+      | else-is_new w ↦ move_without (core_of c.self.inside) _ c.args.id c.self.view_is c.self.invariant c.requires.few c.requires.next _ _ c.taken_out-prepared.ensures _ c.open-operation.ensures _ _ _ _ _ _ c.go_on_with.ensures.moves
+          (rw w.if-is_new.false at e) (outcome_is _ _ _ _ c.placed-told.ensures w.reply-is)
     ]
 
 pub invariant_of-self : goal.invariant_of-self

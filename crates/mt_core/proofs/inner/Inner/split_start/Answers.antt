@@ -30,10 +30,8 @@ go_on-requires c =
 
 steps_on : (c : goal.After-drop-splits) → StateInvariant (made (core_of c.self.inside) c.split_start-begun.new.arena c.split_start-begun.new.tape c.self.inside.tenants c.go_on.new.self)
     × StepsOn c.args.self.now (made (core_of c.self.inside) c.split_start-begun.new.arena c.split_start-begun.new.tape c.self.inside.tenants c.go_on.new.self) c.args.id Moved
-steps_on c = let e = c.in-Ok.ensures in
-    start_steps (core_of c.self.inside) _ c.args.id c.self.view_is c.self.invariant c.requires.few c.requires.next _ _ c.swap_splits.ensures.takes _ c.open-operation.ensures _ _ c.swap_splits-2.ensures.takes _ _ _ e.tape
-    (record { is = e.is; walk = e.walk; same = e.same; step = e.step; contents = e.contents; kept = λ prepared starts. e.kept c.open-operation.result.now.task prepared refl starts; holds = e.holds })
-    _ c.go_on.ensures.moves
+steps_on c =
+    start_steps (core_of c.self.inside) _ c.args.id c.self.view_is c.self.invariant c.requires.few c.requires.next _ _ c.swap_splits.ensures.takes _ c.open-operation.ensures _ _ c.swap_splits-2.ensures.takes _ _ _ _ c.swap_splits.ensures.gives c.in-Ok.ensures.starts _ c.go_on.ensures.moves
 
 pub invariant_of-self : goal.invariant_of-self
 invariant_of-self c = (steps_on c).0
@@ -48,10 +46,8 @@ go_on_with-requires c =
 
 stops : (c : After-go_on_with) → StateInvariant (made (core_of c.self.inside) c.split_start-begun.new.arena c.split_start-begun.new.tape c.self.inside.tenants c.go_on_with.new.self)
     × StepsOn c.args.self.now (made (core_of c.self.inside) c.split_start-begun.new.arena c.split_start-begun.new.tape c.self.inside.tenants c.go_on_with.new.self) c.args.id Done
-stops c = let e = c.in-Err.ensures in
-    start_stops (core_of c.self.inside) _ c.args.id c.self.view_is c.self.invariant c.requires.few c.requires.next _ _ c.swap_splits.ensures.takes _ c.open-operation.ensures _ _ c.swap_splits-2.ensures.takes _ _ _ _ c.take_prepared.ensures.takes
-    (record { is = e.unlocked_on_err; walk = e.done_on_err; same = e.same; leaves = record { guarantee = e.step; contents = e.contents } })
-    e.released_on_err e.unsplit_on_err _ c.no_memory.ensures _ c.go_on_with.ensures.moves
+stops c =
+    start_stops (core_of c.self.inside) _ c.args.id c.self.view_is c.self.invariant c.requires.few c.requires.next _ _ c.swap_splits.ensures.takes _ c.open-operation.ensures _ _ c.swap_splits-2.ensures.takes _ _ _ _ c.take_prepared.ensures.takes c.in-Err.ensures.stops _ c.no_memory.ensures _ c.go_on_with.ensures.moves
 
 pub invariant_of-self-in-Err : goal.invariant_of-self-in-Err
 invariant_of-self-in-Err c = (stops c).0

@@ -31,8 +31,7 @@ abbrev after : goal.After-go_on_with → Core
 after c = made (core_of c.self.inside) c.store.new.arena c.store.new.tape c.self.inside.tenants c.go_on_with.new.self
 
 gives : (c : goal.After-go_on_with) → StateInvariant (after c) × StepsOn c.args.self.now (after c) c.args.id Moved
-gives c = let e = c.store.ensures in store_made (core_of c.self.inside) _ c.args.id c.self.view_is c.self.invariant c.requires.next _ _ c.taken_out-prepared.ensures _ c.open-operation.ensures c.requires.few _ _ _ _ _ _ c.facts.ensures.arena
-    (record { is = e.is; before_is = e.before }) (record { places = e.places; walk = e.walk; same = e.same; guarantee = e.step; kept = e.kept }) c.placed-told.ensures c.go_on_with.ensures.moves
+gives c = store_made (core_of c.self.inside) _ c.args.id c.self.view_is c.self.invariant c.requires.next _ _ c.taken_out-prepared.ensures _ c.open-operation.ensures c.requires.few _ _ _ _ _ _ c.facts.ensures.arena c.store.ensures c.placed-told.ensures c.go_on_with.ensures.moves
 
 pub invariant_of-self : goal.invariant_of-self
 invariant_of-self c = (gives c).0

@@ -20,9 +20,8 @@ go_on-requires c =
 
 steps_on : (c : goal.After-drop-splits) → StateInvariant (made (core_of c.self.inside) c.unlock_all.new.arena c.self.inside.tape c.self.inside.tenants c.go_on.new.self)
     × StepsOn c.args.self.now (made (core_of c.self.inside) c.unlock_all.new.arena c.self.inside.tape c.self.inside.tenants c.go_on.new.self) c.args.id Done
-steps_on c = let e = c.unlock_all.ensures in
-    return_steps (core_of c.self.inside) _ c.args.id c.self.view_is c.self.invariant c.requires.few c.requires.next c.requires.told c.requires.split _ c.swap_splits.ensures.gives _ _ c.swap_splits.ensures.takes _ c.open.ensures _ _ c.swap_splits-2.ensures.takes _ _ e.is
-    e.walk e.same e.step e.contents e.splits e.nothing _ c.go_on.ensures.moves
+steps_on c =
+    return_steps (core_of c.self.inside) _ c.args.id c.self.view_is c.self.invariant c.requires.few c.requires.next c.requires.told c.requires.split _ c.swap_splits.ensures.gives _ _ c.swap_splits.ensures.takes _ c.open.ensures _ _ c.swap_splits-2.ensures.takes _ _ c.unlock_all.ensures _ c.go_on.ensures.moves
 
 pub invariant_of-self : goal.invariant_of-self
 invariant_of-self c = (steps_on c).0

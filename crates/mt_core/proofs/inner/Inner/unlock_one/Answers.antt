@@ -17,8 +17,7 @@ go_on-requires c = may_step (core_of c.self.inside) _ c.args.id c.self.view_is c
 
 gives : (c : goal.After-go_on) → Gives (shown c.args.self.now) (made (core_of c.self.inside) c.unlock.new.arena c.self.inside.tape c.self.inside.tenants c.go_on.new.self) c.args.id true
 gives c = unlock_made (core_of c.self.inside) _ c.args.id c.self.view_is c.self.invariant c.requires.few c.requires.next _ c.open.ensures (told_some (core_of c.self.inside) _ c.args.id c.self.view_is c.requires.told _ c.open.ensures)
-    (splits_none (core_of c.self.inside) _ c.args.id c.self.view_is c.requires.unsplit _ c.open.ensures) _ _ _
-    (record { is = c.unlock.ensures.is; walk = c.unlock.ensures.walk; same = c.unlock.ensures.same; leaves = record { guarantee = c.unlock.ensures.step; contents = c.unlock.ensures.contents } }) c.go_on.ensures.moves
+    (splits_none (core_of c.self.inside) _ c.args.id c.self.view_is c.requires.unsplit _ c.open.ensures) _ _ _ c.unlock.ensures c.go_on.ensures.moves
 
 pub invariant_of-self : goal.invariant_of-self
 invariant_of-self c = (gives c).0
@@ -27,6 +26,5 @@ pub returns : goal.returns
 returns c = record {
   tells = (gives c).1;
   nears = tt;
-  leads = unlock_leads (core_of c.self.inside) _ c.args.id c.self.view_is c.self.invariant c.requires.few c.requires.next _ c.open.ensures (told_some (core_of c.self.inside) _ c.args.id c.self.view_is c.requires.told _ c.open.ensures) _ _ _
-      (record { is = c.unlock.ensures.is; walk = c.unlock.ensures.walk; same = c.unlock.ensures.same; leaves = record { guarantee = c.unlock.ensures.step; contents = c.unlock.ensures.contents } }) c.go_on.ensures.moves;
+  leads = unlock_leads (core_of c.self.inside) _ c.args.id c.self.view_is c.self.invariant c.requires.few c.requires.next _ c.open.ensures (told_some (core_of c.self.inside) _ c.args.id c.self.view_is c.requires.told _ c.open.ensures) _ _ _ c.unlock.ensures c.go_on.ensures.moves;
 }

@@ -1,5 +1,5 @@
 -- That the right half may be put into the parent, and that all nodes of the splits may be given back then.
-use Rattle.std.proofs.Common.{sym, ap, subst, ◌∙◌}
+use Rattle.std.proofs.Common.{sym, ap, subst, ◌∙◌, rules, ◌≡◌, ℕ, Some, refl}
 use Rattle.std.proofs.lemmas.Option.{same_Some}
 use Rattle.mt_arena.specs.Arena.{ArenaView}
 use Rattle.mt_arena.specs.Several.{MayInsert, with_right}
@@ -16,25 +16,25 @@ insert_child-requires c =
     subst (λ b. MayInsert v b c.last-left.result.left c.last-left.result.right c.args.operation) is
     (subst (λ (h : Halves). MayInsert v kept.p h.left h.right c.args.operation) (sym c.last-left.ensures) (may_insert v c.args.operation c.args.splits.now c.facts.ensures.arena.nodes kept))
 
-pub returns-clause-is : goal.returns-clause-is
-returns-clause-is c =
+pub returns : goal.returns
+returns c =
     let v = c.args.arena.now in
-    λ parent is.
-    let same = same_Some _ _ (sym c.above.ensures ∙ is) in
+    let o = c.args.operation in
+    let s = c.args.splits.now in
+    let nodes = c.facts.ensures.arena.nodes in
+    let kept = c.requires.kept in
+    let is : (parent : ℕ) → s.above ≡ Some parent → c.insert_child.new.self ≡ record v { nodes = with_right v.nodes parent (last_of s).left (last_of s).right } = λ parent e.
     c.insert_child.ensures.is
     ∙ ap (λ (h : Halves). record v { nodes = with_right v.nodes c.above.result h.left h.right }) c.last-left.ensures
-    ∙ ap (λ b. record v { nodes = with_right v.nodes b (last_of c.args.splits.now).left (last_of c.args.splits.now).right }) same
-
-pub returns-clause-kept : goal.returns-clause-kept
-returns-clause-kept c =
-    let v = c.args.arena.now in
-    let kept = c.requires.kept in
-    subst (λ (u : ArenaView). IsAtUnlockAll u c.args.operation c.args.splits.now) (sym (returns-clause-is c kept.p kept.at_parent.above))
-    (kept_inserted v c.args.operation c.args.splits.now c.facts.ensures.arena.nodes kept)
-
-pub returns-clause-holds : goal.returns-clause-holds
-returns-clause-holds c =
-    let v = c.args.arena.now in
-    let kept = c.requires.kept in
-    subst (λ (u : ArenaView). HoldsSplits v c.args.operation c.args.splits.now → HoldsSplits u c.args.operation c.args.splits.now) (sym (returns-clause-is c kept.p kept.at_parent.above))
-    (holds_inserted v c.args.operation c.args.splits.now c.facts.ensures.arena.nodes kept)
+    ∙ ap (λ b. record v { nodes = with_right v.nodes b (last_of s).left (last_of s).right }) (same_Some _ _ (sym c.above.ensures ∙ e)) in
+    let made = is kept.p kept.at_parent.above in
+    record {
+      is = is;
+      walk = search rules;
+      splits = refl;
+      on = record {
+        keeps = search rules;
+        kept = subst (λ (u : ArenaView). IsAtUnlockAll u o s) (sym made) (kept_inserted v o s nodes kept);
+        holds = subst (λ (u : ArenaView). HoldsSplits v o s → HoldsSplits u o s) (sym made) (holds_inserted v o s nodes kept);
+      };
+    }

@@ -1,5 +1,5 @@
 -- That a put which meets a link may load its tree, and goes on there.
-use Rattle.std.proofs.Common.{refl, ap, inr}
+use Rattle.std.proofs.Common.{rules, refl, ap, inl, inr}
 use Rattle.mt_arena.specs.NodeView.{NodeView}
 use Rattle.mt_arena.specs.Accesses.{at}
 use Rattle.mt_insert.proofs.Looks.{link_there, leads_there}
@@ -11,9 +11,21 @@ tree_at-tree-requires-clause-link c =
     let found = rw (c.in-Slot-default-Link.field-1-is) at c.in-Slot-default-Link.ensures in
     link_there (at c.args.arena.now c.args.walk.now.place.node) c.border.result.now c.in-Slot-default-Link.slot c.args.task.now.key c.args.walk.now.layer (ap (λ (n : NodeView). n.slots) c.border.ensures) found
 
-pub returns-in-Slot-default-Link-clause-told : goal.returns-in-Slot-default-Link-clause-told
-returns-in-Slot-default-Link-clause-told c =
+pub returns-in-Slot-default-Link : goal.returns-in-Slot-default-Link
+returns-in-Slot-default-Link c =
     let found = rw (c.in-Slot-default-Link.field-1-is) at c.in-Slot-default-Link.ensures in
-    let leads = leads_there (at c.args.arena.now c.args.walk.now.place.node) c.border.result.now c.in-Slot-default-Link.slot c.tree_at-tree.result (ap (λ (n : NodeView). n.slots) c.border.ensures) c.tree_at-tree.ensures in
-    rw (c.go_below.ensures.is, c.go_below.ensures.walk)
-    (refl, inr (meets_link c.args.arena.now c.args.operation c.args.task.now.key c.args.walk.now c.facts.ensures.arena c.requires.kept c.in-Slot-default-Link.slot c.tree_at-tree.result found leads))
+    let leads = leads_there (at c.args.arena.now c.args.walk.now.place.node) c.border.result.now c.in-Slot-default-Link.slot c.tree_at-tree.result (ap (λ (n : NodeView). n.slots) c.border.ensures) c.tree_at-tree.ensures in (
+      refl,
+      inr (record {
+        slot = c.in-Slot-default-Link.slot;
+        in_slot = found;
+        tree = c.tree_at-tree.result;
+        leads = leads;
+        goes = c.go_below.ensures;
+        kept = rw (c.go_below.ensures.is, c.go_below.ensures.walk)
+            (meets_link c.args.arena.now c.args.operation c.args.task.now.key c.args.walk.now c.facts.ensures.arena c.requires.kept c.in-Slot-default-Link.slot c.tree_at-tree.result found leads);
+      }),
+    )
+
+pub returns-in-Slot-default-OtherLong : goal.returns-in-Slot-default-OtherLong
+returns-in-Slot-default-OtherLong c = (refl, inl (record { stays = refl; slot = c.in-Slot-default-OtherLong.slot; walk = refl; keeps = search rules; kept = search rules }))

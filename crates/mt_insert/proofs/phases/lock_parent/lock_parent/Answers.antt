@@ -1,6 +1,6 @@
 -- That nobody else is making the parent's tree, and what is kept once it is held: for the right half, which names it from then on.
-use Rattle.std.proofs.Common.{◌≡◌, ℕ, ◌<◌, Option, Some, ap, sym, subst, ◌∙◌}
-use Rattle.std.proofs.lemmas.Option.{same_Some}
+use Rattle.std.proofs.Common.{◌≡◌, ℕ, ◌<◌, Option, Some, ap, sym, subst, ◌∙◌, rules}
+use Rattle.std.proofs.lemmas.Option.{same_Some, none-some}
 use Rattle.mt_arena.specs.NodeView.{NodeView}
 use Rattle.mt_arena.specs.Arena.{ArenaView, Guarantee}
 use Rattle.mt_arena.specs.Accesses.{at}
@@ -39,44 +39,35 @@ phase_for-walk-requires-clause-interior c =
     (parent_is c.args.arena.now _ _ _ _ _ c.last-left.ensures c.node.ensures c.parent.ensures c.in-Some.is)
     (holder_is c.args.arena.now _ _ _ _ c.node-2.ensures c.holder.ensures c.in_default-holder.is))
 
-pub returns-clause-is : goal.returns-clause-is
-returns-clause-is c = λ parent e.
-    let made = parent_made c.args.arena.now c.lock.new.self c.set_parent.new.self c.in-Some.parent c.args.operation (last_of c.args.splits.now) c.last-left.result c.last-left.ensures c.lock.ensures.is c.set_parent.ensures.is in
-    let next = phase_same c.args.arena.now c.args.operation c.in-Some.parent c.args.splits.now c.facts.ensures.arena c.requires.kept
-    (parent_is c.args.arena.now _ _ _ _ _ c.last-left.ensures c.node.ensures c.parent.ensures c.in-Some.is)
-    (holder_is c.args.arena.now _ _ _ _ c.node-2.ensures c.holder.ensures c.in_default-holder.is) c.set_parent.new.self c.phase_for-walk.result made c.phase_for-walk.ensures in
-    let same : c.in-Some.parent ≡ parent = same_Some _ _ (sym (parent_is c.args.arena.now _ _ _ _ _ c.last-left.ensures c.node.ensures c.parent.ensures c.in-Some.is) ∙ e) in (
-      made ∙ ap (λ (p : ℕ). with_parent c.args.arena.now p (last_of c.args.splits.now).right c.args.operation) same,
-      ap (λ (phase : Phase). walk_at phase c.args.walk.now) (next ∙ ap (λ (p : ℕ). for_parent (at c.args.arena.now p)) same),
-      ap (λ (p : ℕ). record c.args.splits.now { above = Some p }) same,
-    )
-
-pub returns-clause-step : goal.returns-clause-step
-returns-clause-step c =
-    let made = parent_made c.args.arena.now c.lock.new.self c.set_parent.new.self c.in-Some.parent c.args.operation (last_of c.args.splits.now) c.last-left.result c.last-left.ensures c.lock.ensures.is c.set_parent.ensures.is in
-    rw made
-    (parent_step c.args.arena.now c.args.operation c.in-Some.parent c.args.splits.now c.facts.ensures.arena c.requires.kept
-    (parent_is c.args.arena.now _ _ _ _ _ c.last-left.ensures c.node.ensures c.parent.ensures c.in-Some.is)
-    (holder_is c.args.arena.now _ _ _ _ c.node-2.ensures c.holder.ensures c.in_default-holder.is)
-    (subst (λ (m : ArenaView). Guarantee c.args.operation c.args.arena.now m) c.lock.ensures.is c.lock.ensures.step)
-    (subst (λ (m : ArenaView). Guarantee c.args.operation m (with_parent c.args.arena.now c.in-Some.parent (last_of c.args.splits.now).right c.args.operation)) c.lock.ensures.is
-    (subst (λ (u : ArenaView). Guarantee c.args.operation c.lock.new.self u) made c.set_parent.ensures.step)))
-
-pub returns-clause-kept : goal.returns-clause-kept
-returns-clause-kept c =
-    let made = parent_made c.args.arena.now c.lock.new.self c.set_parent.new.self c.in-Some.parent c.args.operation (last_of c.args.splits.now) c.last-left.result c.last-left.ensures c.lock.ensures.is c.set_parent.ensures.is in
-    let next = phase_same c.args.arena.now c.args.operation c.in-Some.parent c.args.splits.now c.facts.ensures.arena c.requires.kept
-    (parent_is c.args.arena.now _ _ _ _ _ c.last-left.ensures c.node.ensures c.parent.ensures c.in-Some.is)
-    (holder_is c.args.arena.now _ _ _ _ c.node-2.ensures c.holder.ensures c.in_default-holder.is) c.set_parent.new.self c.phase_for-walk.result made c.phase_for-walk.ensures in
-    rw (next, made)
-    (parent_kept c.args.arena.now c.args.operation c.in-Some.parent c.args.splits.now c.facts.ensures.arena c.requires.kept
-    (parent_is c.args.arena.now _ _ _ _ _ c.last-left.ensures c.node.ensures c.parent.ensures c.in-Some.is)
-    (holder_is c.args.arena.now _ _ _ _ c.node-2.ensures c.holder.ensures c.in_default-holder.is))
-
-pub returns-clause-holds : goal.returns-clause-holds
-returns-clause-holds c =
-    let made = parent_made c.args.arena.now c.lock.new.self c.set_parent.new.self c.in-Some.parent c.args.operation (last_of c.args.splits.now) c.last-left.result c.last-left.ensures c.lock.ensures.is c.set_parent.ensures.is in
-    rw made
-    (parent_holds c.args.arena.now c.args.operation c.in-Some.parent c.args.splits.now c.facts.ensures.arena c.requires.kept
-    (parent_is c.args.arena.now _ _ _ _ _ c.last-left.ensures c.node.ensures c.parent.ensures c.in-Some.is)
-    (holder_is c.args.arena.now _ _ _ _ c.node-2.ensures c.holder.ensures c.in_default-holder.is))
+pub returns-clause-locks : goal.returns-clause-locks
+returns-clause-locks c =
+    let v = c.args.arena.now in
+    let o = c.args.operation in
+    let p = c.in-Some.parent in
+    let s = c.args.splits.now in
+    let arena = c.facts.ensures.arena in
+    let named = parent_is v _ _ _ _ _ c.last-left.ensures c.node.ensures c.parent.ensures c.in-Some.is in
+    let free = holder_is v _ _ _ _ c.node-2.ensures c.holder.ensures c.in_default-holder.is in
+    let made = parent_made v c.lock.new.self c.set_parent.new.self p o (last_of s) c.last-left.result c.last-left.ensures c.lock.ensures.is c.set_parent.ensures.is in
+    let next = phase_same v o p s arena c.requires.kept named free c.set_parent.new.self c.phase_for-walk.result made c.phase_for-walk.ensures in
+    record {
+      is = λ parent e. let same : p ≡ parent = same_Some _ _ (sym named ∙ e) in (
+        ap (λ k. (at v k).holder) (sym same) ∙ free,
+        made ∙ ap (λ (k : ℕ). with_parent v k (last_of s).right o) same,
+        ap (λ (phase : Phase). walk_at phase c.args.walk.now) (next ∙ ap (λ (k : ℕ). for_parent (at v k)) same),
+        ap (λ (k : ℕ). record s { above = Some k }) same,
+      );
+      root = λ none. absurd (none-some p (sym none ∙ named));
+      on = record {
+        keeps = record {
+          same = search rules;
+          guarantee = rw made (parent_step v o p s arena c.requires.kept named free
+              (subst (λ (m : ArenaView). Guarantee o v m) c.lock.ensures.is c.lock.ensures.step)
+              (subst (λ (m : ArenaView). Guarantee o m (with_parent v p (last_of s).right o)) c.lock.ensures.is
+              (subst (λ (u : ArenaView). Guarantee o c.lock.new.self u) made c.set_parent.ensures.step)));
+          contents = search rules;
+        };
+        kept = rw (next, made) (parent_kept v o p s arena c.requires.kept named free);
+        holds = rw made (parent_holds v o p s arena c.requires.kept named free);
+      };
+    }

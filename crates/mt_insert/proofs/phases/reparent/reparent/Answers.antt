@@ -1,5 +1,6 @@
 -- That a child of the right half may name it as its parent, and what is kept once it does: one child less names the left half.
-use Rattle.std.proofs.Common.{◌≡◌, ℕ, ◌+◌, List, length, get_or, Some, ap, sym, ◌∙◌}
+use Rattle.std.proofs.Common.{rules, arith, ◌≡◌, ℕ, ◌+◌, List, length, get_or, Some, ap, sym, ◌∙◌}
+use Rattle.std.proofs.lemmas.Grind.{common_steps}
 use Rattle.mt_arena.specs.NodeView.{NodeView}
 use Rattle.mt_arena.specs.Edits.{pointed}
 use Rattle.mt_arena.specs.Arena.{ArenaView}
@@ -41,26 +42,36 @@ set_parent-requires-clause-mine c =
     rw (listed c.args.arena.now (last_of c.args.splits.now) c.last-right.result _ c.children-children.result.now c.last-right.ensures c.interior.ensures c.children-children.ensures.value)
     (child_open c.args.arena.now c.args.operation c.args.splits.now c.facts.ensures.arena c.requires.kept)
 
-pub returns-then-splits-count-clause-kept : goal.returns-then-splits-count-clause-kept
-returns-then-splits-count-clause-kept c =
-    let of = listed c.args.arena.now (last_of c.args.splits.now) c.last-right.result _ c.children-children.result.now c.last-right.ensures c.interior.ensures c.children-children.ensures.value in
-    rw (made c.args.arena.now c.set_parent.new.self (last_of c.args.splits.now) c.last-right.result c.children-children.result.now c.args.splits.now.moved c.last-right.ensures of c.set_parent.ensures.is)
-    (last_kept c.args.arena.now c.args.operation c.args.splits.now c.facts.ensures.arena c.requires.kept (c.if-splits-count.true ∙ ap (λ (cs : List ℕ). length cs) of))
+pub returns-then-splits-count : goal.returns-then-splits-count
+returns-then-splits-count c =
+    let v = c.args.arena.now in
+    let s = c.args.splits.now in
+    let of = listed v (last_of s) c.last-right.result _ c.children-children.result.now c.last-right.ensures c.interior.ensures c.children-children.ensures.value in
+    let is = made v c.set_parent.new.self (last_of s) c.last-right.result c.children-children.result.now s.moved c.last-right.ensures of c.set_parent.ensures.is in
+    record {
+      is = is;
+      walk = grind (arith, common_steps, of, c.if-splits-count.true);
+      splits = grind (arith, common_steps, of, c.if-splits-count.true);
+      on = record {
+        keeps = search rules;
+        kept = rw is (last_kept v c.args.operation s c.facts.ensures.arena c.requires.kept (c.if-splits-count.true ∙ ap (λ (cs : List ℕ). length cs) of));
+        holds = rw is (child_holds v c.args.operation s c.facts.ensures.arena c.requires.kept 0);
+      };
+    }
 
-pub returns-then-splits-count-clause-holds : goal.returns-then-splits-count-clause-holds
-returns-then-splits-count-clause-holds c =
-    let of = listed c.args.arena.now (last_of c.args.splits.now) c.last-right.result _ c.children-children.result.now c.last-right.ensures c.interior.ensures c.children-children.ensures.value in
-    rw (made c.args.arena.now c.set_parent.new.self (last_of c.args.splits.now) c.last-right.result c.children-children.result.now c.args.splits.now.moved c.last-right.ensures of c.set_parent.ensures.is)
-    (child_holds c.args.arena.now c.args.operation c.args.splits.now c.facts.ensures.arena c.requires.kept 0)
-
-pub returns-else-splits-count-clause-kept : goal.returns-else-splits-count-clause-kept
-returns-else-splits-count-clause-kept c =
-    let of = listed c.args.arena.now (last_of c.args.splits.now) c.last-right.result _ c.children-children.result.now c.last-right.ensures c.interior.ensures c.children-children.ensures.value in
-    rw (made c.args.arena.now c.set_parent.new.self (last_of c.args.splits.now) c.last-right.result c.children-children.result.now c.args.splits.now.moved c.last-right.ensures of c.set_parent.ensures.is)
-    (more_kept c.args.arena.now c.args.operation c.args.splits.now c.facts.ensures.arena c.requires.kept (λ same. c.if-splits-count.false (same ∙ ap (λ (cs : List ℕ). length cs) (sym of))))
-
-pub returns-else-splits-count-clause-holds : goal.returns-else-splits-count-clause-holds
-returns-else-splits-count-clause-holds c =
-    let of = listed c.args.arena.now (last_of c.args.splits.now) c.last-right.result _ c.children-children.result.now c.last-right.ensures c.interior.ensures c.children-children.ensures.value in
-    rw (made c.args.arena.now c.set_parent.new.self (last_of c.args.splits.now) c.last-right.result c.children-children.result.now c.args.splits.now.moved c.last-right.ensures of c.set_parent.ensures.is)
-    (child_holds c.args.arena.now c.args.operation c.args.splits.now c.facts.ensures.arena c.requires.kept (c.args.splits.now.moved + 1))
+pub returns-else-splits-count : goal.returns-else-splits-count
+returns-else-splits-count c =
+    let v = c.args.arena.now in
+    let s = c.args.splits.now in
+    let of = listed v (last_of s) c.last-right.result _ c.children-children.result.now c.last-right.ensures c.interior.ensures c.children-children.ensures.value in
+    let is = made v c.set_parent.new.self (last_of s) c.last-right.result c.children-children.result.now s.moved c.last-right.ensures of c.set_parent.ensures.is in
+    record {
+      is = is;
+      walk = grind (arith, common_steps, of, c.if-splits-count.false);
+      splits = grind (arith, common_steps, of, c.if-splits-count.false);
+      on = record {
+        keeps = search rules;
+        kept = rw is (more_kept v c.args.operation s c.facts.ensures.arena c.requires.kept (λ same. c.if-splits-count.false (same ∙ ap (λ (cs : List ℕ). length cs) (sym of))));
+        holds = rw is (child_holds v c.args.operation s c.facts.ensures.arena c.requires.kept (s.moved + 1));
+      };
+    }

@@ -1,18 +1,26 @@
 -- That the keys may be parted with the new pair among them, and what that is for contents and tape.
-use Rattle.std.proofs.Common.{None, ap, sym, subst}
+use Rattle.std.proofs.Common.{None, refl, ap, sym, subst}
 use Rattle.mt_border.specs.declared.entry.Entry.{Entry}
 use Rattle.mt_operation.specs.declared.splits.Halves.{Halves}
 use Rattle.mt_arena.specs.Several.{MayPlace}
 use Rattle.mt_insert.specs.Splitting.{last_of}
-use Rattle.mt_insert.proofs.PartingKeys.{none_here, may_place}
+use Rattle.mt_insert.proofs.PartingKeys.{none_here, live_here, may_place}
 use Rattle.mt_insert.proofs.Puts.{places}
 use Rattle.mt_insert.proofs.phases.split_move.part_with.Goals as goal
 
-pub split_border-requires-clause-place : goal.split_border-requires-clause-place
-split_border-requires-clause-place c = (
-  c.args.task.now.key,
-  rw (c.last-left.ensures, c.new_entry-entry.ensures)
-      (may_place c.args.arena.now c.args.operation c.args.task.now c.args.prepared c.args.walk.now c.args.splits.now c.facts.ensures.arena c.requires.kept c.args.prepared.row c.args.step),
+pub split_border-requires-clause-live : goal.split_border-requires-clause-live
+split_border-requires-clause-live c =
+    rw c.last-left.ensures (live_here c.args.arena.now c.args.operation c.args.task.now c.args.prepared c.args.walk.now c.args.splits.now c.facts.ensures.arena c.requires.kept)
+
+pub split_border-requires-clause-entry : goal.split_border-requires-clause-entry
+split_border-requires-clause-entry c = (
+  refl,
+  refl,
+  (
+    c.args.task.now.key,
+    rw (c.last-left.ensures, c.new_entry-entry.ensures)
+        (may_place c.args.arena.now c.args.operation c.args.task.now c.args.prepared c.args.walk.now c.args.splits.now c.facts.ensures.arena c.requires.kept c.args.prepared.row c.args.step),
+  ),
 )
 
 pub returns-clause-places : goal.returns-clause-places
@@ -22,4 +30,4 @@ returns-clause-places c =
     (may_place c.args.arena.now c.args.operation c.args.task.now c.args.prepared c.args.walk.now c.args.splits.now c.facts.ensures.arena c.requires.kept c.args.prepared.row c.args.step)) in
     places c.args.task.now c.args.step c.args.arena.now c.split_border.new.self c.args.tape.now c.push_write.new.tape None c.args.prepared c.requires.put
     (none_here c.args.arena.now c.args.operation c.args.task.now c.args.prepared c.args.walk.now c.args.splits.now c.facts.ensures.arena c.requires.kept) c.requires.kept.ready
-    (c.split_border.ensures.contents c.args.task.now.key _ may (ap (λ (e : Entry). e.held) c.new_entry-entry.ensures)) c.push_write.ensures
+    (c.split_border.ensures.contents c.args.task.now.key _ _ refl may (ap (λ (e : Entry). e.held) c.new_entry-entry.ensures)) c.push_write.ensures

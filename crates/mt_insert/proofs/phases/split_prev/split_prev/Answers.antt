@@ -1,7 +1,10 @@
 -- That the node behind may name the right half, and what is kept once it does: only the halves' own next nodes name them as the one before.
-use Rattle.std.proofs.Common.{◌≡◌, ℕ, Option, ap, sym, ◌∙◌}
+use Rattle.mt_insert.specs.SplitMoves.{with_named_previous}
+use Rattle.mt_insert.specs.Splitting.{last_of}
+use Rattle.std.proofs.lemmas.Option.{same_Some, none-some}
+use Rattle.std.proofs.Common.{◌≡◌, ℕ, Option, ap, sym, ◌∙◌, rules, refl}
 use Rattle.mt_arena.specs.NodeView.{NodeView}
-use Rattle.mt_arena.specs.Arena.{ArenaView}
+use Rattle.mt_arena.specs.Arena.{ArenaView, content_of}
 use Rattle.mt_arena.specs.Accesses.{at}
 use Rattle.mt_operation.specs.declared.splits.Halves.{Halves}
 use Rattle.mt_insert.proofs.Behind.{behind_border, behind_tied, behind_open, behind_kept, behind_holds}
@@ -28,18 +31,33 @@ set_previous-requires-clause-mine c =
     behind_open c.args.arena.now c.args.operation c.in-Some.behind c.args.splits.now c.facts.ensures.arena c.requires.kept
     (next_is c.args.arena.now _ _ _ _ _ c.last-right.ensures c.node.ensures c.next.ensures c.in-Some.is)
 
-pub returns-clause-kept : goal.returns-clause-kept
-returns-clause-kept c = elim c.match-next.branch [
-  | in-Some w ↦ rw (w.arena-is, w.set_previous.ensures.is, c.last-right.ensures)
-      (behind_kept c.args.arena.now c.args.operation w.in-Some.behind c.args.splits.now c.facts.ensures.arena c.requires.kept
-      (next_is c.args.arena.now _ _ _ _ _ c.last-right.ensures c.node.ensures c.next.ensures w.in-Some.is))
-  | in_default w ↦ absurd (c.requires.kept.some_next (next_is c.args.arena.now _ _ _ _ _ c.last-right.ensures c.node.ensures c.next.ensures w.in_default.is))
-]
-
-pub returns-clause-holds : goal.returns-clause-holds
-returns-clause-holds c = elim c.match-next.branch [
-  | in-Some w ↦ rw (w.arena-is, w.set_previous.ensures.is, c.last-right.ensures)
-      (behind_holds c.args.arena.now c.args.operation w.in-Some.behind c.args.splits.now c.facts.ensures.arena c.requires.kept
-      (next_is c.args.arena.now _ _ _ _ _ c.last-right.ensures c.node.ensures c.next.ensures w.in-Some.is))
-  | in_default w ↦ rw w.arena-is (λ holds. holds)
-]
+pub returns : goal.returns
+returns c = record {
+  is = λ behind next. elim c.match-next.branch [
+    | in-Some w ↦
+        let same : w.in-Some.behind ≡ behind = same_Some _ _ (sym (next_is c.args.arena.now _ _ _ _ _ c.last-right.ensures c.node.ensures c.next.ensures w.in-Some.is) ∙ next) in
+        w.arena-is ∙ w.set_previous.ensures.is ∙ ap (λ (h : Halves). with_named_previous c.args.arena.now w.in-Some.behind h.right) c.last-right.ensures
+        ∙ ap (λ k. with_named_previous c.args.arena.now k (last_of c.args.splits.now).right) same
+    | in_default w ↦ absurd (none-some behind (sym (next_is c.args.arena.now _ _ _ _ _ c.last-right.ensures c.node.ensures c.next.ensures w.in_default.is) ∙ next))
+  ];
+  walk = search rules;
+  splits = refl;
+  on = record {
+    keeps = elim c.match-next.branch [
+      | in-Some w ↦ record { same = search rules; guarantee = rw w.arena-is w.set_previous.ensures.step; contents = ap content_of w.arena-is ∙ w.set_previous.ensures.contents }
+      | in_default w ↦ absurd (c.requires.kept.some_next (next_is c.args.arena.now _ _ _ _ _ c.last-right.ensures c.node.ensures c.next.ensures w.in_default.is))
+    ];
+    kept = elim c.match-next.branch [
+      | in-Some w ↦ rw (w.arena-is, w.set_previous.ensures.is, c.last-right.ensures)
+          (behind_kept c.args.arena.now c.args.operation w.in-Some.behind c.args.splits.now c.facts.ensures.arena c.requires.kept
+          (next_is c.args.arena.now _ _ _ _ _ c.last-right.ensures c.node.ensures c.next.ensures w.in-Some.is))
+      | in_default w ↦ absurd (c.requires.kept.some_next (next_is c.args.arena.now _ _ _ _ _ c.last-right.ensures c.node.ensures c.next.ensures w.in_default.is))
+    ];
+    holds = elim c.match-next.branch [
+      | in-Some w ↦ rw (w.arena-is, w.set_previous.ensures.is, c.last-right.ensures)
+          (behind_holds c.args.arena.now c.args.operation w.in-Some.behind c.args.splits.now c.facts.ensures.arena c.requires.kept
+          (next_is c.args.arena.now _ _ _ _ _ c.last-right.ensures c.node.ensures c.next.ensures w.in-Some.is))
+      | in_default w ↦ rw w.arena-is (λ holds. holds)
+    ];
+  };
+}

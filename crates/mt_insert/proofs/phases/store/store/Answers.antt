@@ -1,5 +1,5 @@
 -- That the holder may store its row, what that is for contents and tape, and that its lock may be given back then.
-use Rattle.std.proofs.Common.{Some, ap, sym, ◌∙◌}
+use Rattle.std.proofs.Common.{rules, Some, ap, sym, ◌∙◌}
 use Rattle.mt_insert.proofs.Places.{row_here, may_store, unlock_stored}
 use Rattle.mt_insert.proofs.Puts.{places}
 use Rattle.mt_insert.proofs.phases.store.store.Goals as goal
@@ -9,22 +9,21 @@ store-before-requires c =
     let kept = c.requires.kept in
     record { may = (c.args.task.now.key, kept.pair, may_store c.args.arena.now c.args.operation c.args.task.now.key c.args.walk.now c.facts.ensures.arena kept.holds c.args.walk.now.slot kept.pair kept.in_slot kept.stable) }
 
-pub returns-clause-before : goal.returns-clause-before
-returns-clause-before c =
-    let kept = c.requires.kept in
-    row_here c.args.arena.now c.args.operation c.args.task.now.key c.args.walk.now c.facts.ensures.arena kept.holds c.args.walk.now.slot kept.pair kept.in_slot kept.stable
-    ∙ ap Some (sym (c.store-before.ensures.before kept.pair kept.stable))
-
-pub returns-clause-places : goal.returns-clause-places
-returns-clause-places c =
-    let kept = c.requires.kept in
-    let before = row_here c.args.arena.now c.args.operation c.args.task.now.key c.args.walk.now c.facts.ensures.arena kept.holds c.args.walk.now.slot kept.pair kept.in_slot kept.stable in
-    let may = may_store c.args.arena.now c.args.operation c.args.task.now.key c.args.walk.now c.facts.ensures.arena kept.holds c.args.walk.now.slot kept.pair kept.in_slot kept.stable in
-    places c.args.task.now c.args.step c.args.arena.now c.store-before.new.self c.args.tape.now c.push_write.new.tape (Some kept.pair.row) c.args.prepared c.requires.put before kept.ready
-    (c.store-before.ensures.contents c.args.task.now.key kept.pair may) c.push_write.ensures
-
-pub returns-clause-kept : goal.returns-clause-kept
-returns-clause-kept c =
-    let kept = c.requires.kept in
-    rw (c.store-before.ensures.is kept.pair kept.stable)
-    (unlock_stored c.args.arena.now c.args.operation c.args.task.now.key c.args.walk.now c.facts.ensures.arena kept.holds c.args.walk.now.slot kept.pair c.args.prepared.row c.args.step kept.in_slot.in_range)
+pub returns : goal.returns
+returns c = record {
+  was_there = let kept = c.requires.kept in
+      row_here c.args.arena.now c.args.operation c.args.task.now.key c.args.walk.now c.facts.ensures.arena kept.holds c.args.walk.now.slot kept.pair kept.in_slot kept.stable
+      ∙ ap Some (sym (c.store-before.ensures.before kept.pair kept.stable));
+  is = search rules;
+  places = let kept = c.requires.kept in
+      let before = row_here c.args.arena.now c.args.operation c.args.task.now.key c.args.walk.now c.facts.ensures.arena kept.holds c.args.walk.now.slot kept.pair kept.in_slot kept.stable in
+      let may = may_store c.args.arena.now c.args.operation c.args.task.now.key c.args.walk.now c.facts.ensures.arena kept.holds c.args.walk.now.slot kept.pair kept.in_slot kept.stable in
+      places c.args.task.now c.args.step c.args.arena.now c.store-before.new.self c.args.tape.now c.push_write.new.tape (Some kept.pair.row) c.args.prepared c.requires.put before kept.ready
+      (c.store-before.ensures.contents c.args.task.now.key kept.pair may) c.push_write.ensures;
+  walk = search rules;
+  same = search rules;
+  guarantee = search rules;
+  kept = let kept = c.requires.kept in
+      rw (c.store-before.ensures.is kept.pair kept.stable)
+      (unlock_stored c.args.arena.now c.args.operation c.args.task.now.key c.args.walk.now c.facts.ensures.arena kept.holds c.args.walk.now.slot kept.pair c.args.prepared.row c.args.step kept.in_slot.in_range);
+}

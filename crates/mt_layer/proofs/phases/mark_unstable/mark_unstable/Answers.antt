@@ -1,4 +1,5 @@
 -- What is kept once the pair is unstable, that the operation holds no other node, and that no pair gets another stamp.
+use Rattle.std.proofs.Common.{rules}
 use Rattle.std.specs.Prelude.{None}
 use Rattle.mt_border.specs.declared.entry.Held.TheVariants.{Stable, Unstable}
 use Rattle.mt_arena.specs.Accesses.{at}
@@ -8,17 +9,19 @@ use Rattle.mt_layer.proofs.Linking.{unstable}
 use Rattle.mt_layer.proofs.Stamps.{held_keeps}
 use Rattle.mt_layer.proofs.phases.mark_unstable.mark_unstable.Goals as goal
 
-pub returns-clause-kept : goal.returns-clause-kept
-returns-clause-kept c = λ key h. rw (c.mark_unstable.ensures.is h.pair h.makes.layer.slot.is) (unstable c.args.arena.now c.args.operation key c.args.walk.now c.facts.ensures.arena h)
-
-pub returns-clause-holds : goal.returns-clause-holds
-returns-clause-holds c = λ only.
-    let v = c.args.arena.now in
-    let w = c.args.walk.now in
-    let h = c.requires.kept.1 in
-    rw (c.mark_unstable.ensures.is h.pair h.makes.layer.slot.is) (only_changed v c.args.operation w.place.node (with_held (at v w.place.node) w.slot (Unstable h.pair None)) only)
-
-pub returns-clause-stamps : goal.returns-clause-stamps
-returns-clause-stamps c =
-    let h = c.requires.kept.1 in
-    rw (c.mark_unstable.ensures.is h.pair h.makes.layer.slot.is) (held_keeps c.args.arena.now c.args.operation c.requires.kept.0 c.args.walk.now h.tree (Stable h.pair) (Unstable h.pair None) h.pair c.facts.ensures.arena (λ p is. is) h.makes)
+pub returns : goal.returns
+returns c = record {
+  is = search rules;
+  walk = search rules;
+  kept = λ key h. rw (c.mark_unstable.ensures.is h.pair h.makes.layer.slot.is) (unstable c.args.arena.now c.args.operation key c.args.walk.now c.facts.ensures.arena h);
+  on = record {
+    keeps = search rules;
+    stamps = let h = c.requires.kept.1 in
+        rw (c.mark_unstable.ensures.is h.pair h.makes.layer.slot.is) (held_keeps c.args.arena.now c.args.operation c.requires.kept.0 c.args.walk.now h.tree (Stable h.pair) (Unstable h.pair None) h.pair c.facts.ensures.arena (λ p is. is) h.makes);
+    holds = λ only.
+        let v = c.args.arena.now in
+        let w = c.args.walk.now in
+        let h = c.requires.kept.1 in
+        rw (c.mark_unstable.ensures.is h.pair h.makes.layer.slot.is) (only_changed v c.args.operation w.place.node (with_held (at v w.place.node) w.slot (Unstable h.pair None)) only);
+  };
+}

@@ -3,7 +3,7 @@ use Rattle.mt_arena.specs.NodeView.{node_at}
 use Rattle.mt_arena.specs.Arena.{ArenaView}
 use Rattle.mt_arena.proofs.Pairs.{read}
 use Rattle.mt_arena.proofs.Growing.{sound_half, step_half, content_half}
-use Rattle.mt_arena.proofs.arena.Arena.alloc_node.Goals as goal
+use Rattle.mt_arena.proofs.arena.Arena.begin_split.Goals as goal
 
 pub invariant_of-self : goal.invariant_of-self
 invariant_of-self c =

@@ -1,0 +1,79 @@
+-- Judge: the key is looked for under the lock, and all growths of the placing step are made.
+use Rattle.std.specs.Prelude.{None, Option, Some, if◌then◌else◌, length, ℕ, ◌==◌, ◌≡◌, ◌⊎◌}
+use Rattle.mt_slices.specs.Slices.{mark_of, slice_of, suffix_of}
+use Rattle.mt_rows.specs.Rows.{Bytes}
+use Rattle.mt_border.specs.Entries.{IsMissing}
+use Rattle.mt_border.specs.declared.entry.Held.TheVariants.{Link}
+use Rattle.mt_border.specs.declared.entry.Pair.{Pair}
+use Rattle.mt_border.specs.declared.entry.FoundKind.TheVariants.{ThisKey}
+use Rattle.mt_border.specs.Entry.{pair_of}
+use Rattle.mt_tape.specs.Tapes.{Kept}
+use Rattle.mt_arena.specs.Arena.{ArenaView}
+use Rattle.mt_arena.specs.NodeView.{NodeView}
+use Rattle.mt_arena.specs.Accesses.{at}
+use Rattle.mt_arena.specs.Layers.{slot_at}
+use Rattle.mt_operation.specs.declared.phase.Phase.TheVariants.{MakeLayer, Publish, SplitStart, Store}
+use Rattle.mt_operation.specs.declared.phase.Phase.{Phase}
+use Rattle.mt_operation.specs.declared.prepared.Prepared.{Prepared}
+use Rattle.mt_operation.specs.declared.task.Task.{Task}
+use Rattle.mt_operation.specs.declared.walk.Walk.{Walk}
+use Rattle.mt_descent.specs.Kept.{IsAtEnter, IsInSlot}
+use Rattle.mt_descent.specs.Moves.{KeepsPairs}
+use Rattle.mt_insert.specs.Unlock.{GoesInto, IsUnlock}
+use Rattle.mt_insert.specs.Kept.{IsAtMakeLayer, KeptReady}
+use Rattle.mt_insert.specs.Puts.{IsReady}
+use Rattle.mt_insert.specs.declared.phases.judge.Judged.{Judged}
+use Rattle.mt_insert.specs.declared.phases.judge.Judged.TheVariants.{GoesOn, NoMemory, Ready}
+use Rattle.mt_insert.specs.Moves.{reserving}
+use Rattle.mt_border.specs.declared.entry.FoundKind.TheVariants as kinds
+
+-- the slot that has the key; none where the node misses it
+abbrev pub StandsIn : NodeView → Bytes → ℕ → Option ℕ → Type 0
+StandsIn n key layer (Some slot) = IsInSlot n slot key layer ThisKey
+StandsIn n key layer None = IsMissing n.slots (slice_of key layer) (mark_of key layer)
+
+-- what is made ready: the put over the row of the slot that has its key, or over no row, with what follows the key's slice
+abbrev pub ReadyFor : NodeView → Task → ℕ → Option ℕ → Prepared → Type 0
+ReadyFor n task layer (Some slot) prepared = (pair : Pair) → pair_of (slot_at n slot).held ≡ Some pair → IsReady task (Some pair.row) prepared
+ReadyFor n task layer None prepared = IsReady task None prepared × (prepared.suffix ≡ suffix_of task.key layer)
+
+-- to store in the slot that has the key; where it is missing, to publish, or to split a full node
+abbrev pub for_missing : NodeView → Phase
+for_missing n = if length n.slots == 15 then SplitStart else Publish
+
+abbrev pub after_judge : NodeView → Option ℕ → Walk → Walk
+after_judge n (Some slot) w = record w { slot = slot; phase = Store }
+after_judge n None w = record w { phase = for_missing n }
+
+-- all growths of the step that places the put are made, by the slot that has its key
+pub record IsMadeReady (op : ℕ) (task : Task) (old new : ArenaView) (tape taped : Kept) (before after : Walk) (prepared : Prepared) : Type 0 where
+  pub stays : new ≡ old
+  pub slot : Option ℕ
+  pub stands : StandsIn (at old before.place.node) task.key before.layer slot
+  pub walk : after ≡ after_judge (at old before.place.node) slot before
+  pub tape_is : taped ≡ reserving tape
+  pub keeps : KeepsPairs op old new before after
+  pub kept : KeptReady after.phase old op task prepared after
+
+-- another long key stands in the place of its key: a layer is to be made for both
+pub record MeetsOther (op : ℕ) (key : Bytes) (old new : ArenaView) (before after : Walk) : Type 0 where
+  pub stays : new ≡ old
+  pub slot : ℕ
+  pub walk : after ≡ record before { slot = slot; phase = MakeLayer }
+  pub keeps : KeepsPairs op old new before after
+  pub kept : IsAtMakeLayer old op key after
+
+-- a link stands there: the lock was given back, and the put goes on in the link's tree
+pub record MeetsLink (op : ℕ) (key : Bytes) (old new : ArenaView) (before after : Walk) : Type 0 where
+  pub slot : ℕ
+  pub in_slot : IsInSlot (at old before.place.node) slot key before.layer kinds.Link
+  pub tree : ℕ
+  pub leads : (slot_at (at old before.place.node) slot).held ≡ Link tree
+  pub goes : GoesInto op tree old new before after
+  pub kept : IsAtEnter new key after
+
+-- what a put's look at its border node tells: without memory the lock was given back; room on the tape is taken only where all was made ready
+abbrev pub TellsJudged : ℕ → Task → ArenaView → ArenaView → Kept → Kept → Walk → Walk → Judged → Type 0
+TellsJudged op task old new tape taped before after (Ready prepared) = IsMadeReady op task old new tape taped before after prepared
+TellsJudged op task old new tape taped before after GoesOn = (taped ≡ tape) × (MeetsOther op task.key old new before after ⊎ MeetsLink op task.key old new before after)
+TellsJudged op task old new tape taped before after NoMemory = (taped ≡ tape) × IsUnlock op old new before after

@@ -1,0 +1,33 @@
+-- SplitStart: the right half of the full border node is made.
+use Rattle.std.specs.Prelude.{length, ℕ, ◌≡◌}
+use Rattle.mt_rows.specs.Rows.{Bytes}
+use Rattle.mt_tape.specs.Tapes.{Kept}
+use Rattle.mt_arena.specs.Arena.{ArenaView}
+use Rattle.mt_operation.specs.Operations.{IsUnsplit}
+use Rattle.mt_operation.specs.declared.prepared.Prepared.{Prepared}
+use Rattle.mt_operation.specs.declared.phase.Phase.TheVariants.{SplitMove}
+use Rattle.mt_operation.specs.declared.splits.Splits.{Splits}
+use Rattle.mt_operation.specs.declared.task.Task.{Task}
+use Rattle.mt_operation.specs.declared.walk.Walk.{Walk}
+use Rattle.mt_descent.specs.Moves.{KeepsPairs}
+use Rattle.mt_insert.specs.SplitMoves.{HasOneMore, Starts, walk_at}
+use Rattle.mt_insert.specs.Kept.{HoldsOnly, IsAtSplitStart}
+use Rattle.mt_insert.specs.Splitting.{HoldsSplits, IsAtSplitMove}
+use Rattle.mt_insert.specs.Unlock.{IsUnlock}
+use Rattle.mt_insert.specs.Moves.{released}
+
+-- the node has a right half, which begins where its keys and this one would be parted; the operation holds both, and no other node
+pub record IsSplitStart (op : ℕ) (key : Bytes) (old new : ArenaView) (tape taped : Kept) (before after : Walk) (s t : Splits) : Type 0 where
+  pub is : Starts op old new key before
+  pub splits : HasOneMore s t before.place.node (length old.nodes)
+  pub walk : after ≡ walk_at SplitMove before
+  pub tape_stays : taped ≡ tape
+  pub keeps : KeepsPairs op old new before after
+  pub kept : (task : Task) (prepared : Prepared) → task.key ≡ key → IsAtSplitStart old op task prepared before → IsAtSplitMove new op task prepared after t
+  pub holds : HoldsOnly old op before.place.node → HoldsSplits new op t
+
+-- there is no memory for it: the lock and the room on the tape were given back
+pub record IsSplitStopped (op : ℕ) (old new : ArenaView) (tape taped : Kept) (before after : Walk) (t : Splits) : Type 0 where
+  pub unlocks : IsUnlock op old new before after
+  pub tape_is : taped ≡ released tape
+  pub unsplit : IsUnsplit t

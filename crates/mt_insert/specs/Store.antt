@@ -1,0 +1,29 @@
+-- Store: the row is written over the one of the key.
+use Rattle.std.specs.Prelude.{Some, ℕ, ◌≡◌}
+use Rattle.std.specs.FinMap.{get}
+use Rattle.mt_rows.specs.Rows.{Columns}
+use Rattle.mt_border.specs.declared.entry.Pair.{Pair}
+use Rattle.mt_border.specs.declared.entry.Held.TheVariants.{Stable}
+use Rattle.mt_border.specs.Contents.{owned}
+use Rattle.mt_border.specs.Entries.{replaced}
+use Rattle.mt_tape.specs.Tapes.{Kept}
+use Rattle.mt_arena.specs.Arena.{ArenaView, Guarantee, content_of}
+use Rattle.mt_arena.specs.Accesses.{at, with_node, with_row}
+use Rattle.mt_arena.specs.Layers.{slot_at}
+use Rattle.mt_arena.specs.Edits.{with_slots}
+use Rattle.mt_operation.specs.declared.task.Task.{Task}
+use Rattle.mt_operation.specs.declared.walk.Walk.{Walk}
+use Rattle.mt_descent.specs.Moves.{Continues}
+use Rattle.mt_insert.specs.Kept.{IsAtUnlock}
+use Rattle.mt_insert.specs.Moves.{Places, walk_placed}
+
+-- the row stands where that of the key stood, placed by the step of this number, and the write is on the tape
+pub record IsStore (op step : ℕ) (task : Task) (row : Columns) (old new : ArenaView) (tape taped : Kept) (before after : Walk) (was : Columns) : Type 0 where
+  pub was_there : get (content_of old) (owned task.key) ≡ Some was
+  pub is : (pair : Pair) → (slot_at (at old before.place.node) before.slot).held ≡ Stable pair → new ≡ with_node old before.place.node (with_slots (at old before.place.node)
+      (replaced (at old before.place.node).slots (with_row (slot_at (at old before.place.node) before.slot) pair row step)))
+  pub places : Places task step old new tape taped
+  pub walk : after ≡ walk_placed before
+  pub same : Continues before after
+  pub guarantee : Guarantee op old new
+  pub kept : IsAtUnlock new op after

@@ -1,0 +1,48 @@
+-- Unlock: the locks are given back.
+use Rattle.std.specs.Prelude.{length, ℕ, ◌+◌, ◌≡◌}
+use Rattle.mt_arena.specs.Arena.{ArenaView}
+use Rattle.mt_arena.specs.Accesses.{at, with_node}
+use Rattle.mt_arena.specs.Edits.{unlocked}
+use Rattle.mt_operation.specs.declared.phase.Phase.TheVariants.{Done}
+use Rattle.mt_operation.specs.Operations.{IsUnsplit}
+use Rattle.mt_operation.specs.declared.splits.Splits.{Splits}
+use Rattle.mt_operation.specs.declared.walk.Walk.{Walk}
+use Rattle.mt_descent.specs.Kept.{HoldsNothing}
+use Rattle.mt_descent.specs.Moves.{KeepsPairs, walk_into}
+use Rattle.mt_insert.specs.Splitting.{HoldsSplits, IsAmong}
+
+-- a node whose lock was given back among the others
+abbrev pub given_back : ArenaView → ℕ → ArenaView
+given_back v k = with_node v k (unlocked (at v k))
+
+-- the operation is done
+abbrev pub walk_done : Walk → Walk
+walk_done w = record w { phase = Done }
+
+-- the lock of the border node was given back
+pub record IsUnlock (op : ℕ) (old new : ArenaView) (before after : Walk) : Type 0 where
+  pub is : new ≡ given_back old before.place.node
+  pub walk : after ≡ walk_done before
+  pub keeps : KeepsPairs op old new before after
+
+-- it was given back, and the operation goes on in this tree of the next layer
+pub record GoesInto (op tree : ℕ) (old new : ArenaView) (before after : Walk) : Type 0 where
+  pub is : new ≡ given_back old before.place.node
+  pub walk : after ≡ walk_into before tree (before.layer + 1)
+  pub keeps : KeepsPairs op old new before after
+
+-- the locks of the splits' nodes were given back, and nothing else was done
+pub record Returns (old new : ArenaView) (s : Splits) : Type 0 where
+  pub count : length new.nodes ≡ length old.nodes
+  pub given : (k : ℕ) → IsAmong s k → at new k ≡ unlocked (at old k)
+  pub others : (k : ℕ) → ¬ IsAmong s k → at new k ≡ at old k
+  pub trees : new.trees ≡ old.trees
+  pub retired : new.retired ≡ old.retired
+
+-- so that it holds none, and has split nothing any more
+pub record IsUnlockAll (op : ℕ) (old new : ArenaView) (before after : Walk) (s t : Splits) : Type 0 where
+  pub is : Returns old new s
+  pub walk : after ≡ walk_done before
+  pub keeps : KeepsPairs op old new before after
+  pub unsplit : IsUnsplit t
+  pub nothing : HoldsSplits old op s → HoldsNothing new op

@@ -1,0 +1,67 @@
+-- What the steps do that make a layer, MakeLayer, MarkUnstable, Link and MarkLayer, and Unlock behind them.
+use Rattle.std.specs.Prelude.{None, Some, length, ℕ, ◌≡◌}
+use Rattle.mt_rows.specs.Rows.{Bytes}
+use Rattle.mt_border.specs.declared.entry.Held.TheVariants.{Stable, Unstable}
+use Rattle.mt_border.specs.declared.entry.Pair.{Pair}
+use Rattle.mt_arena.specs.Arena.{ArenaView}
+use Rattle.mt_arena.specs.Accesses.{at}
+use Rattle.mt_arena.specs.Layering.{prefix_below, with_layer, with_link, with_slot}
+use Rattle.mt_arena.specs.Layers.{slot_at}
+use Rattle.mt_operation.specs.declared.phase.Phase.{Phase}
+use Rattle.mt_operation.specs.declared.walk.Taken.TheVariants.{Link}
+use Rattle.mt_operation.specs.declared.walk.Walk.{Walk}
+use Rattle.mt_descent.specs.Kept.{HoldsNothing, IsAtEnter}
+use Rattle.mt_descent.specs.Moves.{KeepsPairs}
+use Rattle.mt_insert.specs.Unlock.{GoesInto}
+use Rattle.mt_insert.specs.Kept.{HoldsOnly}
+use Rattle.mt_layer.specs.Kept.{IsAtLeave, IsAtLink, IsAtMarkLayer, IsAtMarkUnstable}
+use Rattle.mt_layer.specs.Moves.{KeepsStamps, entry_below, walk_at, walk_linked}
+use Rattle.mt_operation.specs.declared.phase.Phase.TheVariants as phases
+
+-- what they do alike: no pair moves or gets another stamp, and the operation holds its border node alone
+pub record KeepsLayer (op : ℕ) (old new : ArenaView) (before after : Walk) : Type 0 where
+  pub keeps : KeepsPairs op old new before after
+  pub stamps : KeepsStamps old new
+  pub holds : HoldsOnly old op before.place.node → HoldsOnly new op after.place.node
+
+-- the tree was made, with the other key's pair as its one entry
+pub record IsMakeLayer (op : ℕ) (key : Bytes) (old new : ArenaView) (before after : Walk) : Type 0 where
+  pub is : (pair : Pair) → (slot_at (at old before.place.node) before.slot).held ≡ Stable pair → new ≡ with_layer old (prefix_below old before.place.node before.slot) (entry_below pair) op
+  pub walk : after ≡ walk_linked before (length old.trees)
+  pub kept : IsAtMarkUnstable new op key after
+  pub on : KeepsLayer op old new before after
+
+-- the pair of the other key is unstable
+pub record IsMarkUnstable (op : ℕ) (old new : ArenaView) (before after : Walk) : Type 0 where
+  pub is : (pair : Pair) → (slot_at (at old before.place.node) before.slot).held ≡ Stable pair → new ≡ with_slot old before.place.node before.slot (Unstable pair None)
+  pub walk : after ≡ walk_at phases.Link before
+  pub kept : (key : Bytes) → IsAtMarkUnstable old op key before → IsAtLink new op key after
+  pub on : KeepsLayer op old new before after
+
+-- the number of the tree stands beside it
+pub record IsLink (op : ℕ) (old new : ArenaView) (before after : Walk) : Type 0 where
+  pub is : (pair : Pair) (tree : ℕ) → before.taken ≡ Link tree → (slot_at (at old before.place.node) before.slot).held ≡ Unstable pair None → new ≡ with_slot old before.place.node before.slot (Unstable pair (Some tree))
+  pub walk : after ≡ walk_at phases.MarkLayer before
+  pub kept : (key : Bytes) → IsAtLink old op key before → IsAtMarkLayer new op key after
+  pub on : KeepsLayer op old new before after
+
+-- the slot is a link to the tree, which is live
+pub record IsMarkLayer (op : ℕ) (old new : ArenaView) (before after : Walk) : Type 0 where
+  pub is : (tree : ℕ) → before.taken ≡ Link tree → new ≡ with_link old before.place.node before.slot tree
+  pub walk : after ≡ walk_at phases.Unlock before
+  pub kept : (key : Bytes) → IsAtMarkLayer old op key before → IsAtLeave new op key after
+  pub on : KeepsLayer op old new before after
+
+-- the step from this phase
+abbrev pub IsLayerFrom : Phase → ℕ → Bytes → ArenaView → ArenaView → Walk → Walk → Type 0
+IsLayerFrom phases.MakeLayer op key old new before after = IsMakeLayer op key old new before after
+IsLayerFrom phases.MarkUnstable op key old new before after = IsMarkUnstable op old new before after
+IsLayerFrom phases.Link op key old new before after = IsLink op old new before after
+IsLayerFrom phases.MarkLayer op key old new before after = IsMarkLayer op old new before after
+IsLayerFrom _ op key old new before after = ⊥
+
+-- behind them: the lock was given back, and the operation goes on in the tree
+pub record IsLeave (op : ℕ) (old new : ArenaView) (before after : Walk) : Type 0 where
+  pub goes : (tree : ℕ) → before.taken ≡ Link tree → GoesInto op tree old new before after
+  pub kept : (key : Bytes) → IsAtLeave old op key before → IsAtEnter new key after
+  pub holds : HoldsOnly old op before.place.node → HoldsNothing new op

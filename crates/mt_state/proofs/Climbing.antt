@@ -1,0 +1,139 @@
+-- What each step of a split leaves of all nodes, and what is told of it by that: no pair moves, and no version counts a change.
+use Rattle.std.proofs.Common.{List, [], ap, arith, cond, false, inl, inr, length, length-append, refl, set, subst, sym, true, ℕ, ◌++◌, ◌+◌, ◌<◌, ◌∙◌, ◌∷◌, ◌≡◌, ◌≢◌, ◌≤◌, ◌⊎◌}
+use Rattle.std.proofs.lemmas.Bool.{cases_eq, cases_lt}
+use Rattle.mt_arena.specs.declared.tree.Tree.{Tree}
+use Rattle.mt_arena.specs.declared.tree.Standing.{Standing}
+use Rattle.mt_arena.specs.declared.tree.Standing.TheVariants.{Dead}
+use Rattle.mt_arena.specs.NodeView.{NodeView, node_at}
+use Rattle.mt_arena.specs.Forests.{tree_at}
+use Rattle.mt_arena.specs.Edits.{pointed}
+use Rattle.mt_arena.specs.Contents.{counts, is_live}
+use Rattle.mt_arena.specs.Arena.{ArenaView, Guarantee, content_of}
+use Rattle.mt_arena.specs.Accesses.{at}
+use Rattle.mt_arena.proofs.Pairs.{before as as_before, here, last as as_pushed, there}
+use Rattle.mt_state.specs.Promises.{HoldsEither, Touches}
+use Rattle.mt_state.specs.Invariant.{IsCountedUpTo, IsUnremoved, StateInvariant}
+use Rattle.mt_state.specs.Growth.{MakesFew}
+use Rattle.mt_state.specs.Views.{Core}
+use Rattle.mt_state.proofs.Quiet.{HasPairsOf}
+
+-- the same pairs, tree, level and version's counts; the operation held the node or holds it then, or others name another one in it
+pub record Stays (o : ℕ) (x y : NodeView) : Type 0 where
+  pub slots : y.slots ≡ x.slots
+  pub tree : y.tree ≡ x.tree
+  pub level : y.level ≡ x.level
+  pub deleted : y.version.deleted ≡ x.version.deleted
+  pub inserts : y.version.inserts ≡ x.version.inserts
+  pub splits : y.version.splits ≡ x.version.splits
+  pub touched : (y ≡ x) ⊎ HoldsEither o x y ⊎ (y ≡ pointed x y.previous y.parent)
+
+pub stays_same : (o : ℕ) (x : NodeView) → Stays o x x
+stays_same o x = record { slots = refl; tree = refl; level = refl; deleted = refl; inserts = refl; splits = refl; touched = inl refl }
+
+-- a new node, without pairs
+pub record IsBare (n : NodeView) : Type 0 where
+  pub slots : n.slots ≡ []
+  pub live : n.version.deleted ≡ false
+  pub inserts : n.version.inserts ≡ 0
+  pub splits : n.version.splits ≡ 0
+
+-- all nodes stay so, those that were added are new, and the trees are as they were but for their roots
+pub record LeavesNodes (o : ℕ) (old new : ArenaView) : Type 0 where
+  pub more : length old.nodes ≤ length new.nodes
+  pub each : (k : ℕ) → k < length old.nodes → Stays o (at old k) (at new k)
+  pub fresh : (k : ℕ) → length old.nodes ≤ k → k < length new.nodes → IsBare (at new k)
+  pub trees : length new.trees ≡ length old.trees
+  pub prefix : (t : ℕ) → (tree_at new.trees t).prefix ≡ (tree_at old.trees t).prefix
+  pub standing : (t : ℕ) → (tree_at new.trees t).standing ≡ (tree_at old.trees t).standing
+  pub one : length new.nodes ≤ length old.nodes + 1
+
+-- what holds of each node and its number, where one node is another
+pub each_set : (P : ℕ → NodeView → Type 0) (xs : List NodeView) (i : ℕ) (y : NodeView) → ((j : ℕ) → j < length xs → P j (node_at xs j)) → P i y → (j : ℕ) → j < length xs → P j (node_at (set xs i y) j)
+each_set P xs i y all new j lt = elim (cases_eq j i) [
+  | inl is ↦ subst (λ k. P k (node_at (set xs i y) k)) (sym is) (subst (P i) (sym (here xs i y (subst (λ k. k < length xs) is lt))) new)
+  | inr other ↦ subst (P j) (sym (there xs i j y other)) (all j lt)
+]
+
+-- and so of those that were there before one more came
+pub each_pushed : (P : ℕ → NodeView → Type 0) (count : ℕ) (xs : List NodeView) (y : NodeView) → length xs ≡ count → ((j : ℕ) → j < count → P j (node_at xs j))
+    → (j : ℕ) → j < count → P j (node_at (xs ++ y ∷ []) j)
+each_pushed P count xs y size all j lt = subst (P j) (sym (as_before xs y j (omega (arith, lt, size)))) (all j lt)
+
+-- that one is behind them
+pub pushed_at : (xs : List NodeView) (y : NodeView) (count k : ℕ) → length xs ≡ count → count ≤ k → k < length (xs ++ y ∷ []) → node_at (xs ++ y ∷ []) k ≡ y
+pushed_at xs y count k size from lt = ap (node_at (xs ++ y ∷ [])) {x = k} {y = length xs} (omega (arith, size, from, lt, length-append xs (y ∷ []))) ∙ as_pushed xs y
+
+-- the nodes of another list in the same trees
+pub leaves_set : (o : ℕ) (old : ArenaView) (ys : List NodeView) → length ys ≡ length old.nodes
+    → ((k : ℕ) → k < length old.nodes → Stays o (at old k) (node_at ys k)) → LeavesNodes o old (record old { nodes = ys })
+leaves_set o old ys size each = record {
+  more = omega (arith, size);
+  each = each;
+  fresh = λ k from lt. absurd (omega (arith, from, lt, size));
+  trees = refl;
+  prefix = λ t. refl;
+  standing = λ t. refl;
+  one = omega (arith, size);
+}
+
+-- a node of the same tree counts as before
+same_counts : (was now : List Tree) (n m : NodeView) → m.version.deleted ≡ n.version.deleted → m.tree ≡ n.tree → (tree_at now n.tree).standing ≡ (tree_at was n.tree).standing
+    → counts now m ≡ counts was n
+same_counts was now n m deleted tree standing =
+    ap (λ d. cond d false (is_live (tree_at now m.tree).standing)) deleted ∙ ap (λ t. cond n.version.deleted false (is_live (tree_at now t).standing)) tree
+    ∙ ap (λ (st : Standing). cond n.version.deleted false (is_live st)) standing
+
+module _ (o : ℕ) (old new : ArenaView) (l : LeavesNodes o old new) where
+  pub touches : Touches o old new
+  touches k lt = (l.each k lt).touched
+
+  pub makes : MakesFew old new
+  makes = record { nodes_stay = l.more; one_node = l.one; trees_stay = omega (arith, l.trees); one_tree = omega (arith, l.trees) }
+
+  pub stood : (k : ℕ) → k < length new.nodes → counts new.trees (at new k) ≡ true → HasPairsOf old new k ⊎ ((at new k).slots ≡ [])
+  stood k within counted = elim (cases_lt k (length old.nodes)) [
+    | inl was ↦ let n = l.each k was in inl (record {
+      there = was;
+      counted = sym (same_counts old.trees new.trees (at old k) (at new k) n.deleted n.tree (l.standing (at old k).tree)) ∙ counted;
+      prefix = ap (λ t. (tree_at new.trees t).prefix) n.tree ∙ l.prefix (at old k).tree;
+      slots = n.slots;
+    })
+    | inr late ↦ inr (l.fresh k late within).slots
+  ]
+
+  pub versions : (steps : ℕ) → ((k : ℕ) → k < length old.nodes → IsCountedUpTo steps (at old k)) → (k : ℕ) → k < length new.nodes → IsCountedUpTo steps (at new k)
+  versions steps were k within = elim (cases_lt k (length old.nodes)) [
+    | inl was ↦ let n = l.each k was in let c = were k was in record { inserts = omega (arith, n.inserts, c.inserts); splits = omega (arith, n.splits, c.splits) }
+    | inr late ↦ let n = l.fresh k late within in record { inserts = omega (arith, n.inserts); splits = omega (arith, n.splits) }
+  ]
+
+  pub unremoved : IsUnremoved old → IsUnremoved new
+  unremoved one = record {
+    live = λ k within. elim (cases_lt k (length old.nodes)) [
+      | inl was ↦ (l.each k was).deleted ∙ one.live k was
+      | inr late ↦ (l.fresh k late within).live
+    ];
+    alive = λ t within. subst (λ (st : Standing). st ≢ Dead) (sym (l.standing t)) (one.alive t (omega (arith, within, l.trees)));
+  }
+
+-- what a step of a split makes of all nodes: no pair moves, and no version counts a change
+pub record MovesNoPair (c : Core) (o : ℕ) (arena : ArenaView) : Type 0 where
+  pub guarantee : Guarantee o c.arena arena
+  pub contents : content_of arena ≡ content_of c.arena
+  pub touches : Touches o c.arena arena
+  pub stood : (k : ℕ) → k < length arena.nodes → counts arena.trees (at arena k) ≡ true → HasPairsOf c.arena arena k ⊎ ((at arena k).slots ≡ [])
+  pub versions : (k : ℕ) → k < length arena.nodes → IsCountedUpTo c.steps (at arena k)
+  pub unremoved : IsUnremoved arena
+  pub makes : MakesFew c.arena arena
+
+-- so by what is left of the nodes
+pub moves_by : (c : Core) (o : ℕ) (arena : ArenaView) → StateInvariant c → LeavesNodes o c.arena arena → Guarantee o c.arena arena → content_of arena ≡ content_of c.arena → MovesNoPair c o arena
+moves_by c o arena h leaves guarantee contents = record {
+  guarantee = guarantee;
+  contents = contents;
+  touches = touches o c.arena arena leaves;
+  stood = stood o c.arena arena leaves;
+  versions = versions o c.arena arena leaves c.steps h.versions;
+  unremoved = unremoved o c.arena arena leaves h.unremoved;
+  makes = makes o c.arena arena leaves;
+}
