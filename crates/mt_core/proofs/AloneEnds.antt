@@ -14,11 +14,11 @@ use Rattle.mt_operation.specs.declared.splits.Halves.{Halves}
 use Rattle.mt_operation.specs.declared.operation.Operation.{Operation}
 use Rattle.mt_operation.specs.Operations.{OperationView, view_of}
 use Rattle.mt_operation.specs.Phases.{is_done, IsToGrow}
-use Rattle.mt_insert.specs.Splitting.{HasSplits, last_of}
+use Rattle.mt_insert.specs.KeptSplits.{HasSplits, last_of}
 use Rattle.mt_state.specs.declared.moves.Move.{Move}
 use Rattle.mt_state.specs.declared.moves.Move.TheVariants.{Moved, Again, NoMemory as NoMemoryMove, Done as DoneMove, Spent, NoSuch}
 use Rattle.mt_state.specs.Views.{StateView, Core, shown, op_at}
-use Rattle.mt_state.specs.Kept.{IsKeptAt, HasAnswer}
+use Rattle.mt_state.specs.KeptOperations.{IsKeptAt, HasAnswer}
 use Rattle.mt_state.specs.Invariant.{StateInvariant}
 use Rattle.mt_state.specs.Promises.{HasStep, IsHeldByOther, IsAnswer, IsStep, Tells}
 use Rattle.mt_state.proofs.Shown.{shown_there, inside_of}

@@ -16,9 +16,9 @@ use Rattle.mt_operation.specs.Tasks.{ask}
 use Rattle.mt_operation.specs.Operations.{OperationView, view_of}
 use Rattle.mt_operation.specs.Tables.{Table, op_at as operation_at}
 use Rattle.mt_operation.specs.Tables as tables
-use Rattle.mt_descent.specs.Kept.{GoesThrough, KeptAt}
+use Rattle.mt_descent.specs.KeptWalks.{GoesThrough, KeptAt}
 use Rattle.mt_state.specs.Views.{Core, StateView, shown, past_of}
-use Rattle.mt_state.specs.Kept.{IsKeptAt, IsKeptOf}
+use Rattle.mt_state.specs.KeptOperations.{IsKeptAt, IsKeptOf}
 use Rattle.mt_operation.specs.Phases.{IsOfKind}
 use Rattle.mt_state.specs.Steps.{change_in}
 use Rattle.mt_state.specs.Invariant.{StateInvariant, one_if_prepared}

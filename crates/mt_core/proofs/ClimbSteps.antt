@@ -15,13 +15,13 @@ use Rattle.mt_operation.specs.Operations.{OperationView, moved, splits_of, view_
 use Rattle.mt_operation.specs.Phases.{IsClimb, IsToGrow, is_done}
 use Rattle.mt_operation.specs.Tables.{MayMove, Table, op_at as operation_at}
 use Rattle.mt_operation.proofs.Tables.{set_is, set_there}
-use Rattle.mt_insert.specs.Splitting.{AreParted, AreReturnable, HasSplits, HasSplitsNamed, HoldsSplits, IsAmong, IsParent, KeptSplit, NothingLags, halves_at, last_of}
+use Rattle.mt_insert.specs.KeptSplits.{AreParted, AreReturnable, HasSplits, HasSplitsNamed, HoldsSplits, IsAmong, IsParent, KeptSplit, NothingLags, halves_at, last_of}
 use Rattle.mt_insert.specs.Climbs.{AreSame, IsClimbFrom}
 use Rattle.mt_state.specs.declared.moves.Move.{Move}
 use Rattle.mt_state.specs.declared.moves.Move.TheVariants.{Again, Moved, NoMemory}
 use Rattle.mt_state.specs.Views.{Core, Shown, shown}
 use Rattle.mt_state.specs.Promises.{IsAnswer, IsHeldByOther, IsInTheWay}
-use Rattle.mt_state.specs.Kept.{IsClimbing, IsKeptAt, IsKeptOf}
+use Rattle.mt_state.specs.KeptOperations.{IsClimbing, IsKeptAt, IsKeptOf}
 use Rattle.mt_state.specs.Invariant.{HoldsAt, StateInvariant, made_count, one_if_prepared, prepared_count}
 use Rattle.mt_state.proofs.Shown.{shown_set, shown_table, shown_there}
 use Rattle.mt_state.proofs.Telling.{Gives}

@@ -8,7 +8,7 @@ use Rattle.mt_operation.specs.declared.phase.Phase.TheVariants.{Unlock}
 use Rattle.mt_operation.specs.declared.walk.Walk.{Walk}
 use Rattle.mt_operation.specs.declared.splits.Halves.{Halves}
 use Rattle.mt_operation.specs.declared.splits.Splits.{Splits}
-use Rattle.mt_insert.specs.SplitMoves.{walk_at}
+use Rattle.mt_insert.specs.SplitEdits.{walk_at}
 use Rattle.mt_operation.specs.Phases.{IsClimb}
 use Rattle.mt_core.specs.Points.{AreBelow, HasMade, IsAtPoint, MayHaveGrown, before_unlock}
 use Rattle.mt_core.proofs.Points.{below_at, few_at, point_at}

@@ -19,14 +19,14 @@ use Rattle.mt_operation.specs.declared.operation.Operation.{Operation}
 use Rattle.mt_operation.specs.Operations.{moved, noted, splits_of}
 use Rattle.mt_operation.specs.Phases.{IsLayerPhase, is_done}
 use Rattle.mt_operation.specs.Tables.{MayMove, Table, op_at as operation_at}
-use Rattle.mt_descent.specs.Moves.{walk_into}
+use Rattle.mt_descent.specs.WalkMoves.{walk_into}
 use Rattle.mt_insert.specs.Unlock.{GoesInto, IsUnlock}
-use Rattle.mt_layer.specs.Kept.{IsAtLeave, KeptLayer}
+use Rattle.mt_layer.specs.KeptLayers.{IsAtLeave, KeptLayer}
 use Rattle.mt_layer.specs.Builds.{IsLayerFrom, IsLeave}
 use Rattle.mt_state.specs.declared.moves.Move.TheVariants.{Moved}
 use Rattle.mt_state.specs.Views.{Core, StateView, shown}
 use Rattle.mt_state.specs.Invariant.{StateInvariant}
-use Rattle.mt_state.specs.Kept.{IsKeptAt, IsLeaving, IsReturning}
+use Rattle.mt_state.specs.KeptOperations.{IsKeptAt, IsLeaving, IsReturning}
 use Rattle.mt_state.specs.Phases.{GoesFromUnlock, Leads, LeadsTo}
 use Rattle.mt_state.proofs.OneNode.{replaced_all}
 use Rattle.mt_state.proofs.Telling.{Gives}

@@ -25,8 +25,8 @@ use Rattle.mt_operation.specs.declared.walk.Walk.{Walk}
 use Rattle.mt_operation.specs.declared.splits.Splits.{Splits}
 use Rattle.mt_descent.specs.Seen.{Stands, HasNext}
 use Rattle.mt_descent.specs.Pasts.{Past}
-use Rattle.mt_descent.specs.Kept.{GoesThrough, slice_in, IsAtVerify, IsAtConfirm, IsAtForward, TakenHolds, KeptAt, IsKept}
-use Rattle.mt_descent.specs.Moves.{arrival, arrival_at, walk_onto, walk_anew, walk_here, walk_to_next, after_enter, after_pick, after_child, after_search, after_load, after_confirm, after_change, after_forward, Verifies, Confirms}
+use Rattle.mt_descent.specs.KeptWalks.{GoesThrough, slice_in, IsAtVerify, IsAtConfirm, IsAtForward, TakenHolds, KeptAt, IsKept}
+use Rattle.mt_descent.specs.WalkMoves.{arrival, arrival_at, walk_onto, walk_anew, walk_here, walk_to_next, after_enter, after_pick, after_child, after_search, after_load, after_confirm, after_change, after_forward, Verifies, Confirms}
 use Rattle.mt_descent.proofs.Ways.{same_stands}
 use Rattle.mt_state.specs.Invariant.{IsUnremoved}
 use Rattle.mt_state.proofs.Decides.{same_or_not, outdated_or_not}

@@ -20,8 +20,8 @@ use Rattle.mt_operation.specs.Operations.{SplitsView, splits_of}
 use Rattle.mt_operation.specs.declared.splits.Splits.{Splits}
 use Rattle.mt_descent.specs.Pasts.{Past}
 use Rattle.mt_descent.specs.Seen.{child_for}
-use Rattle.mt_descent.specs.Kept.{slice_in, KeptAt, IsKept}
-use Rattle.mt_descent.specs.Moves.{IsBlocked, IsBlockedAt, AnswersAgain, Continues, Verifies, Loads, walk_here, after_enter, after_pick, after_child, after_forward}
+use Rattle.mt_descent.specs.KeptWalks.{slice_in, KeptAt, IsKept}
+use Rattle.mt_descent.specs.WalkMoves.{IsBlocked, IsBlockedAt, AnswersAgain, Continues, Verifies, Loads, walk_here, after_enter, after_pick, after_child, after_forward}
 use Rattle.mt_state.specs.Notes.{columns_asked}
 use Rattle.mt_state.specs.Promises.{needed_node, Blocks, IsInTheWay}
 use Rattle.mt_state.specs.Phases.{GoesForward, LeadsTo}

@@ -24,12 +24,12 @@ use Rattle.mt_operation.specs.Operations.{made_ready, moved, noted, with_nothing
 use Rattle.mt_operation.specs.Phases.{has_splits, is_done, is_prepared}
 use Rattle.mt_operation.specs.Tables.{MayMove, Table, op_at as operation_at}
 use Rattle.mt_descent.specs.Seen.{IsOutdated}
-use Rattle.mt_descent.specs.Kept.{IsInSlot}
-use Rattle.mt_descent.specs.Moves.{IsLock, Locks, walk_into}
+use Rattle.mt_descent.specs.KeptWalks.{IsInSlot}
+use Rattle.mt_descent.specs.WalkMoves.{IsLock, Locks, walk_into}
 use Rattle.mt_insert.specs.Puts.{IsPut}
-use Rattle.mt_insert.specs.Moves.{walk_placed}
+use Rattle.mt_insert.specs.Placing.{walk_placed}
 use Rattle.mt_insert.specs.Judge.{IsMadeReady, MeetsLink, MeetsOther, after_judge}
-use Rattle.mt_insert.specs.Kept.{IsAtPublish, IsAtStore}
+use Rattle.mt_insert.specs.KeptPuts.{IsAtPublish, IsAtStore}
 use Rattle.mt_insert.specs.Publish.{IsPublish, IsPublishFull}
 use Rattle.mt_insert.specs.Store.{IsStore}
 use Rattle.mt_insert.specs.Unlock.{IsUnlock}

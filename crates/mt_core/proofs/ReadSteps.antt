@@ -26,8 +26,8 @@ use Rattle.mt_operation.specs.declared.steps.Made.TheVariants.{Step, Blocked, No
 use Rattle.mt_operation.specs.Tables.{Table, AreBefore, op_at as operation_at}
 use Rattle.mt_operation.proofs.Tables.{set_is}
 use Rattle.mt_descent.specs.Pasts.{Past, IsNow}
-use Rattle.mt_descent.specs.Kept.{IsAtBorder, IsAtLoad as WalksLoad, IsAtConfirm as WalksConfirm, KeptAt, IsKept}
-use Rattle.mt_descent.specs.Moves.{IsBlocked, IsBlockedAt, Continues, FindsIn, after_search, Confirms}
+use Rattle.mt_descent.specs.KeptWalks.{IsAtBorder, IsAtLoad as WalksLoad, IsAtConfirm as WalksConfirm, KeptAt, IsKept}
+use Rattle.mt_descent.specs.WalkMoves.{IsBlocked, IsBlockedAt, Continues, FindsIn, after_search, Confirms}
 use Rattle.mt_descent.proofs.Looks.{kept_loads}
 use Rattle.mt_state.specs.declared.moves.Move.{Move}
 use Rattle.mt_state.specs.declared.moves.Move.TheVariants.{Moved, Again, Done as DoneMove}
@@ -36,7 +36,7 @@ use Rattle.mt_state.specs.Promises.{Tells, IsInTheWay}
 use Rattle.mt_state.specs.Phases.{LeadsTo}
 use Rattle.mt_state.specs.Notes.{Says}
 use Rattle.mt_state.specs.Ways.{IsOnWay, Descends, ShowsTaken}
-use Rattle.mt_state.specs.Kept.{IsOnItsWay, IsAtLoad, IsAtConfirm, IsKeptAt}
+use Rattle.mt_state.specs.KeptOperations.{IsOnItsWay, IsAtLoad, IsAtConfirm, IsKeptAt}
 use Rattle.mt_state.specs.Invariant.{StateInvariant}
 use Rattle.mt_state.proofs.Shown.{shown_there}
 use Rattle.mt_state.proofs.Telling.{Gives}

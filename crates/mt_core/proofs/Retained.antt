@@ -23,11 +23,11 @@ use Rattle.mt_operation.specs.declared.walk.Taken.TheVariants.{Missing, Row, Lin
 use Rattle.mt_operation.specs.Operations.{view_of}
 use Rattle.mt_operation.specs.Tables.{Table}
 use Rattle.mt_descent.specs.Pasts.{Past, ExtendsPast}
-use Rattle.mt_descent.specs.Kept.{IsKept, KeptAt}
+use Rattle.mt_descent.specs.KeptWalks.{IsKept, KeptAt}
 use Rattle.mt_descent.proofs.Rely as descent
 use Rattle.mt_state.specs.Views.{Core, shown, past_of, map_of, quota_of, IsPlaced}
 use Rattle.mt_state.specs.Steps.{change_in, told_change}
-use Rattle.mt_state.specs.Kept.{IsOpenOperation, IsOnItsWay, HasAnswer, TellsTaken, IsLayering, IsReturning, IsKeptAt, IsKeptOf}
+use Rattle.mt_state.specs.KeptOperations.{IsOpenOperation, IsOnItsWay, HasAnswer, TellsTaken, IsLayering, IsReturning, IsKeptAt, IsKeptOf}
 use Rattle.mt_state.proofs.Still.{nothing_changes}
 
 -- the same state with another count of answers, other logs, another tape and another table

@@ -29,16 +29,16 @@ use Rattle.mt_operation.specs.Operations.{IsUnsplit, moved, noted, with_nothing_
 use Rattle.mt_operation.specs.Phases.{has_splits, is_done}
 use Rattle.mt_operation.specs.Tables.{MayMove, Table, op_at as operation_at}
 use Rattle.mt_insert.specs.Puts.{IsPut}
-use Rattle.mt_insert.specs.Kept.{IsAtSplitStart}
+use Rattle.mt_insert.specs.KeptPuts.{IsAtSplitStart}
 use Rattle.mt_insert.specs.Unlock.{IsUnlockAll, walk_done}
-use Rattle.mt_insert.specs.Splitting.{IsAmong, IsAtSplitMove, IsAtUnlockAll, last_of}
-use Rattle.mt_insert.specs.SplitMoves.{walk_at}
+use Rattle.mt_insert.specs.KeptSplits.{IsAmong, IsAtSplitMove, IsAtUnlockAll, last_of}
+use Rattle.mt_insert.specs.SplitEdits.{walk_at}
 use Rattle.mt_insert.specs.SplitMove.{IsSplitMove, IsSplitMoveFull, after_parting}
 use Rattle.mt_insert.specs.SplitStart.{IsSplitStart, IsSplitStopped}
 use Rattle.mt_state.specs.declared.moves.Move.TheVariants.{Done as DoneMove, Moved}
 use Rattle.mt_state.specs.Views.{Core, shown}
 use Rattle.mt_state.specs.Phases.{Leads}
-use Rattle.mt_state.specs.Kept.{IsKeptAt, IsSplitMoving, IsSplitStarting, IsUnlocking, MayUnlock}
+use Rattle.mt_state.specs.KeptOperations.{IsKeptAt, IsSplitMoving, IsSplitStarting, IsUnlocking, MayUnlock}
 use Rattle.mt_state.specs.Invariant.{HoldsLast, StateInvariant}
 use Rattle.mt_state.specs.Writes.{splitting as split_core}
 use Rattle.mt_state.proofs.Telling.{Gives}

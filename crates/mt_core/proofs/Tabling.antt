@@ -10,7 +10,7 @@ use Rattle.mt_operation.specs.Operations.{view_of}
 use Rattle.mt_operation.specs.Tables.{Table, op_at as operation_at}
 use Rattle.mt_operation.proofs.Tables.{set_there, set_none}
 use Rattle.mt_state.specs.Views.{Core, Shown}
-use Rattle.mt_state.specs.Kept.{IsKeptOf}
+use Rattle.mt_state.specs.KeptOperations.{IsKeptOf}
 use Rattle.mt_state.specs.Invariant.{HoldsAt, StateInvariant, one_if_prepared, prepared_count, made_count}
 use Rattle.mt_operation.specs.Phases.{is_prepared}
 use Rattle.mt_state.proofs.Shown.{shown_table, shown_at, shown_there, shown_set}

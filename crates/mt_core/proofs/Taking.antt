@@ -13,7 +13,7 @@ use Rattle.mt_operation.specs.Phases.{is_done, has_splits, is_prepared}
 use Rattle.mt_operation.specs.Tables.{Table, op_at as operation_at}
 use Rattle.mt_state.specs.Views.{Core, StateView, Shown, shown, op_at}
 use Rattle.mt_state.specs.Promises.{IsAnswer}
-use Rattle.mt_state.specs.Kept.{HasAnswer, IsKeptAt}
+use Rattle.mt_state.specs.KeptOperations.{HasAnswer, IsKeptAt}
 use Rattle.mt_state.specs.Invariant.{StateInvariant, HoldsAt}
 use Rattle.mt_state.specs.Begins.{IsAnswerOf, Takes, IsEnded}
 use Rattle.mt_state.proofs.Shown.{shown_there, shown_set, inside_of}

@@ -5,7 +5,7 @@ use Rattle.mt_arena.specs.Accesses.{at}
 use Rattle.mt_operation.specs.declared.phase.Phase.TheVariants.{LockParent}
 use Rattle.mt_operation.specs.declared.walk.Walk.{Walk}
 use Rattle.mt_operation.specs.declared.splits.Splits.{Splits}
-use Rattle.mt_insert.specs.Splitting.{HoldsSplits, last_of}
+use Rattle.mt_insert.specs.KeptSplits.{HoldsSplits, last_of}
 use Rattle.mt_operation.specs.Phases.{IsToGrow}
 use Rattle.mt_insert.specs.Climbs.{AreSame, IsClimbFrom}
 use Rattle.mt_core.specs.declared.climbs.Climbed.{Climbed}

@@ -17,8 +17,8 @@ use Rattle.mt_operation.specs.declared.outcome.Outcome.{Outcome}
 use Rattle.mt_operation.specs.declared.splits.Splits.{Splits}
 use Rattle.mt_operation.specs.declared.operation.Operation.{Operation}
 use Rattle.mt_descent.specs.Pasts.{Past, IsNow}
-use Rattle.mt_descent.specs.Kept.{IsKept, IsAtBorder, IsAtLoad, IsAtConfirm}
-use Rattle.mt_descent.specs.Moves.{Continues, FindsIn, Loads, Confirms, after_search}
+use Rattle.mt_descent.specs.KeptWalks.{IsKept, IsAtBorder, IsAtLoad, IsAtConfirm}
+use Rattle.mt_descent.specs.WalkMoves.{Continues, FindsIn, Loads, Confirms, after_search}
 use Rattle.mt_operation.specs.Tasks.{ask}
 use Rattle.mt_operation.specs.Operations.{SplitsView, splits_of}
 use Rattle.mt_state.specs.Promises.{IsInTheWay}

@@ -10,7 +10,7 @@ use Rattle.mt_operation.specs.declared.splits.Halves.{Halves}
 use Rattle.mt_operation.specs.declared.splits.Splits.{Splits}
 use Rattle.mt_operation.specs.declared.operation.Operation.{Operation}
 use Rattle.mt_operation.specs.Tables.{op_at as operation_at}
-use Rattle.mt_insert.specs.Splitting.{last_of}
+use Rattle.mt_insert.specs.KeptSplits.{last_of}
 use Rattle.mt_state.specs.declared.moves.Move.{Move}
 use Rattle.mt_state.specs.declared.moves.Move.TheVariants.{Moved}
 use Rattle.mt_state.specs.Views.{Core, shown}

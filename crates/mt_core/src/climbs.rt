@@ -2,7 +2,7 @@
 
 ghost use Rattle.std.specs.Prelude.{◌≡◌, ℕ};
 ghost use Rattle.mt_arena.specs.Arena.{Guarantee, content_of};
-ghost use Rattle.mt_insert.specs.Splitting.{HoldsSplits, KeptSplit};
+ghost use Rattle.mt_insert.specs.KeptSplits.{HoldsSplits, KeptSplit};
 ghost use Rattle.mt_operation.specs.Phases.{IsClimb};
 ghost use Rattle.mt_core.specs.Climbs.{TellsClimbed};
 

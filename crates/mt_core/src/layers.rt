@@ -1,6 +1,6 @@
 //! The steps of an operation that makes a layer, until it gives its lock back.
 
-ghost use Rattle.mt_layer.specs.Kept.{KeptLayer};
+ghost use Rattle.mt_layer.specs.KeptLayers.{KeptLayer};
 ghost use Rattle.mt_operation.specs.Phases.{IsLayerPhase};
 ghost use Rattle.mt_core.specs.Layers.{TellsBuilt};
 

@@ -7,7 +7,7 @@ ghost use Rattle.mt_rows.specs.Commands.{HasColumns};
 ghost use Rattle.mt_arena.specs.Accesses.{at};
 ghost use Rattle.mt_operation.specs.Tasks.{ask, command_of};
 ghost use Rattle.mt_descent.specs.Pasts.{Past};
-ghost use Rattle.mt_descent.specs.Kept.{IsKept};
+ghost use Rattle.mt_descent.specs.KeptWalks.{IsKept};
 ghost use Rattle.mt_state.specs.Promises.{IsInTheWay};
 ghost use Rattle.mt_state.specs.Notes.{columns_asked};
 ghost use Rattle.mt_state.specs.Ways.{Descends};

@@ -33,8 +33,8 @@ use Rattle.mt_operation.specs.declared.walk.Taken.{Taken}
 use Rattle.mt_operation.specs.declared.walk.Taken.TheVariants as takens
 use Rattle.mt_descent.specs.Seen.{RangeStands, Stands}
 use Rattle.mt_descent.specs.Pasts.{Past, IsNow, AreStamped}
-use Rattle.mt_descent.specs.Kept.{GoesThrough, IsAtBorder, IsInSlot, IsAtLoad, Had, IsKept}
-use Rattle.mt_descent.specs.Moves.{FindsIn, after_search, after_load, TakesOut, Loads}
+use Rattle.mt_descent.specs.KeptWalks.{GoesThrough, IsAtBorder, IsInSlot, IsAtLoad, Had, IsKept}
+use Rattle.mt_descent.specs.WalkMoves.{FindsIn, after_search, after_load, TakesOut, Loads}
 use Rattle.mt_descent.proofs.Ways.{live_tree}
 
 -- what a border node finds, its view finds

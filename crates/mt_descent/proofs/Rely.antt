@@ -27,7 +27,7 @@ use Rattle.mt_operation.specs.declared.walk.Taken.TheVariants.{Missing, Row, Lin
 use Rattle.mt_operation.specs.declared.walk.Walk.{Walk}
 use Rattle.mt_descent.specs.Seen.{RangeStands, Stands, WasSeen, IsRemembered, Covers, child_for, IsPicked, HasNext}
 use Rattle.mt_descent.specs.Pasts.{Past, ExtendsPast}
-use Rattle.mt_descent.specs.Kept.{GoesThrough, slice_in, IsAtPick, IsAtBorder, IsInSlot, HasSlot, Had, TakenHolds, TakenWasRight, IsAtJudge, KeptAt}
+use Rattle.mt_descent.specs.KeptWalks.{GoesThrough, slice_in, IsAtPick, IsAtBorder, IsInSlot, HasSlot, Had, TakenHolds, TakenWasRight, IsAtJudge, KeptAt}
 
 -- a node that is live now was live
 was_live : (a b : Bool) → (a ≡ true → b ≡ true) → b ≡ false → a ≡ false

@@ -26,8 +26,8 @@ use Rattle.mt_operation.specs.declared.walk.Walk.{Walk}
 use Rattle.mt_operation.specs.declared.phase.Phase.TheVariants.{Forward}
 use Rattle.mt_descent.specs.Seen.{RangeStands, Stands, WasSeen, Covers, child_for, HasNext}
 use Rattle.mt_descent.specs.Pasts.{Past}
-use Rattle.mt_descent.specs.Kept.{GoesThrough, slice_in, IsAtPick, IsAtChild, IsAtVerify, IsAtBorder, IsAtForward, KeptAt, IsKept}
-use Rattle.mt_descent.specs.Moves.{arrival, arrival_at, walk_onto, walk_anew, after_pick, after_change, walk_here, walk_to_next, after_forward}
+use Rattle.mt_descent.specs.KeptWalks.{GoesThrough, slice_in, IsAtPick, IsAtChild, IsAtVerify, IsAtBorder, IsAtForward, KeptAt, IsKept}
+use Rattle.mt_descent.specs.WalkMoves.{arrival, arrival_at, walk_onto, walk_anew, after_pick, after_change, walk_here, walk_to_next, after_forward}
 
 -- a slice fits 64 bits
 slice_lt : (xs : Bytes) → AreBytes xs → slice_at xs < 2 ^ 64

@@ -9,7 +9,7 @@ ghost use Rattle.mt_arena.specs.Accesses.{at, IsOpen};
 ghost use Rattle.mt_arena.specs.Guarantee.{NodesGuarantee};
 ghost use Rattle.mt_operation.specs.declared.walk.Walk.{Walk};
 ghost use Rattle.mt_descent.specs.Pasts.{Past, ExtendsPast};
-ghost use Rattle.mt_descent.specs.Kept.{HoldsNothing, IsAtJudge, IsKept};
+ghost use Rattle.mt_descent.specs.KeptWalks.{HoldsNothing, IsAtJudge, IsKept};
 ghost use Rattle.mt_operation.specs.Walks.{walk_from_top};
 
 /// A stored key may be looked for from the top tree on.

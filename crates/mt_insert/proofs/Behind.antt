@@ -19,8 +19,8 @@ use Rattle.mt_arena.specs.Accesses.{at, IsOpen}
 use Rattle.mt_arena.proofs.Pairs.{here, there}
 use Rattle.mt_arena.proofs.Lags.{follows_in, under_in}
 use Rattle.mt_operation.specs.declared.splits.Splits.{Splits}
-use Rattle.mt_insert.specs.Splitting.{last_of, HoldsSplits, MayReturn, IsSplitting, AreParted, NothingLags, HasSplits, IsAtSplitPrev, IsAtLockParent}
-use Rattle.mt_insert.specs.SplitMoves.{with_named_previous}
+use Rattle.mt_insert.specs.KeptSplits.{last_of, HoldsSplits, MayReturn, IsSplitting, AreParted, NothingLags, HasSplits, IsAtSplitPrev, IsAtLockParent}
+use Rattle.mt_insert.specs.SplitEdits.{with_named_previous}
 use Rattle.mt_insert.proofs.Returns.{child_stays, StaysButNames, NamesNoMoreOf, TreesStand, trees_same, held_still, open_still, all_returnable_still}
 
 -- a node that stays as it is but for the names of the one before it and of its parent, and has a parent still where it had one

@@ -9,9 +9,9 @@ use Rattle.mt_arena.specs.Accesses.{at, with_node}
 use Rattle.mt_arena.proofs.Pairs.{here, there}
 use Rattle.mt_operation.specs.declared.walk.Walk.{Walk}
 use Rattle.mt_descent.specs.Seen.{IsOutdated}
-use Rattle.mt_descent.specs.Kept.{HoldsNothing}
-use Rattle.mt_descent.specs.Moves.{Locks}
-use Rattle.mt_insert.specs.Kept.{HoldsOnly}
+use Rattle.mt_descent.specs.KeptWalks.{HoldsNothing}
+use Rattle.mt_descent.specs.WalkMoves.{Locks}
+use Rattle.mt_insert.specs.KeptPuts.{HoldsOnly}
 
 -- beside the node that changes, who holds a node held it
 held_beside : (v : ArenaView) (k j op : ℕ) (n : NodeView) → j ≢ k → j < length (with_node v k n).nodes → (at (with_node v k n) j).holder ≡ Some op → (j < length v.nodes) × ((at v j).holder ≡ Some op)

@@ -21,8 +21,8 @@ use Rattle.mt_operation.specs.declared.phase.Phase.{Phase}
 use Rattle.mt_operation.specs.declared.phase.Phase.TheVariants.{InsertChild, InteriorSplit}
 use Rattle.mt_operation.specs.declared.splits.Halves.{Halves}
 use Rattle.mt_operation.specs.declared.splits.Splits.{Splits}
-use Rattle.mt_insert.specs.Splitting.{halves_at, last_of, HoldsSplits, IsAtLockParent, IsAtParent, IsParent, KeptSplit}
-use Rattle.mt_insert.specs.SplitMoves.{with_parent, for_parent}
+use Rattle.mt_insert.specs.KeptSplits.{halves_at, last_of, HoldsSplits, IsAtLockParent, IsAtParent, IsParent, KeptSplit}
+use Rattle.mt_insert.specs.SplitEdits.{with_parent, for_parent}
 use Rattle.mt_insert.proofs.Returns.{NamesNoMoreOf, trees_same, nothing_lags_still}
 use Rattle.mt_insert.proofs.Behind.{KeepsButNames, stays_so, keeps_each, names_no_more, names_on, child_below, splits_still}
 

@@ -29,11 +29,11 @@ use Rattle.mt_operation.specs.declared.phase.Phase.TheVariants.{Forward, Judge, 
 use Rattle.mt_version.specs.Parts.{Parts}
 use Rattle.mt_arena.specs.Settled.{IsSettled}
 use Rattle.mt_descent.specs.Seen.{IsOutdated}
-use Rattle.mt_descent.specs.Kept.{IsAtJudge, IsInSlot}
-use Rattle.mt_descent.specs.Moves.{Locks, after_change, walk_anew}
+use Rattle.mt_descent.specs.KeptWalks.{IsAtJudge, IsInSlot}
+use Rattle.mt_descent.specs.WalkMoves.{Locks, after_change, walk_anew}
 use Rattle.mt_descent.proofs.Looks.{finds_in}
 use Rattle.mt_insert.specs.Puts.{IsReady}
-use Rattle.mt_insert.specs.Kept.{HoldsBorder, KeptReady}
+use Rattle.mt_insert.specs.KeptPuts.{HoldsBorder, KeptReady}
 use Rattle.mt_insert.specs.Judge.{StandsIn, ReadyFor, after_judge}
 
 -- what a border node tells of the key, its view tells

@@ -36,10 +36,10 @@ use Rattle.mt_operation.specs.declared.walk.Walk.{Walk}
 use Rattle.mt_operation.specs.declared.task.Task.{Task}
 use Rattle.mt_operation.specs.declared.prepared.Prepared.{Prepared}
 use Rattle.mt_operation.specs.declared.splits.Splits.{Splits}
-use Rattle.mt_descent.specs.Kept.{GoesThrough}
+use Rattle.mt_descent.specs.KeptWalks.{GoesThrough}
 use Rattle.mt_descent.proofs.Ways.{live_tree}
-use Rattle.mt_insert.specs.Moves.{entry_of}
-use Rattle.mt_insert.specs.Splitting.{last_of, HoldsSplits, IsAtSplitMove, AreParted, NothingLags, HasSplits, IsAtSplitPrev, IsAtLockParent, KeptSplit}
+use Rattle.mt_insert.specs.Placing.{entry_of}
+use Rattle.mt_insert.specs.KeptSplits.{last_of, HoldsSplits, IsAtSplitMove, AreParted, NothingLags, HasSplits, IsAtSplitPrev, IsAtLockParent, KeptSplit}
 use Rattle.mt_insert.specs.SplitMove.{after_parting}
 
 -- what is not some number is none

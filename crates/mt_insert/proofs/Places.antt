@@ -31,11 +31,11 @@ use Rattle.mt_arena.proofs.Elsewhere.{layer_is}
 use Rattle.mt_arena.proofs.Owners.{found, none_elsewhere}
 use Rattle.mt_arena.proofs.SettledEdits.{settled_self}
 use Rattle.mt_operation.specs.declared.walk.Walk.{Walk}
-use Rattle.mt_descent.specs.Kept.{IsInSlot, IsAtEnter}
-use Rattle.mt_descent.specs.Moves.{walk_into}
+use Rattle.mt_descent.specs.KeptWalks.{IsInSlot, IsAtEnter}
+use Rattle.mt_descent.specs.WalkMoves.{walk_into}
 use Rattle.mt_descent.proofs.Looks.{belongs}
-use Rattle.mt_insert.specs.Kept.{HoldsBorder, IsAtUnlock}
-use Rattle.mt_insert.specs.Moves.{entry_of, walk_placed}
+use Rattle.mt_insert.specs.KeptPuts.{HoldsBorder, IsAtUnlock}
+use Rattle.mt_insert.specs.Placing.{entry_of, walk_placed}
 use Rattle.mt_insert.specs.Unlock.{given_back}
 
 module _ (v : ArenaView) (op : ℕ) (key : Bytes) (w : Walk) (arena : IsArena v.nodes v.trees) (h : HoldsBorder v op key w) where

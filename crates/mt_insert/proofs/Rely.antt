@@ -24,9 +24,9 @@ use Rattle.mt_operation.specs.declared.phase.Phase.TheVariants.{Store, Publish, 
 use Rattle.mt_operation.specs.declared.walk.Walk.{Walk}
 use Rattle.mt_operation.specs.declared.task.Task.{Task}
 use Rattle.mt_operation.specs.declared.prepared.Prepared.{Prepared}
-use Rattle.mt_descent.specs.Kept.{IsInSlot}
+use Rattle.mt_descent.specs.KeptWalks.{IsInSlot}
 use Rattle.mt_descent.proofs.Rely.{judge_stays}
-use Rattle.mt_insert.specs.Kept.{HoldsBorder, IsAtStore, IsAtPublish, IsAtSplitStart, KeptReady, IsAtUnlock}
+use Rattle.mt_insert.specs.KeptPuts.{HoldsBorder, IsAtStore, IsAtPublish, IsAtSplitStart, KeptReady, IsAtUnlock}
 
 -- a slot stays while the slots do
 in_slot_stays : (n m : NodeView) (slot : ℕ) (key : Bytes) (layer : ℕ) (kind : FoundKind) → n.slots ≡ m.slots → IsInSlot n slot key layer kind → IsInSlot m slot key layer kind

@@ -13,8 +13,8 @@ use Rattle.mt_arena.proofs.Pairs.{there}
 use Rattle.mt_arena.proofs.Homes.{no_root}
 use Rattle.mt_arena.proofs.Lags.{follows_in, under_in}
 use Rattle.mt_operation.specs.declared.splits.Splits.{Splits}
-use Rattle.mt_insert.specs.Splitting.{last_of, HoldsSplits, NothingLags, IsChildFrom, IsAtReparent, IsAtLockParent}
-use Rattle.mt_insert.specs.SplitMoves.{with_named_parent}
+use Rattle.mt_insert.specs.KeptSplits.{last_of, HoldsSplits, NothingLags, IsChildFrom, IsAtReparent, IsAtLockParent}
+use Rattle.mt_insert.specs.SplitEdits.{with_named_parent}
 use Rattle.mt_insert.proofs.Returns.{NamesNoMoreOf, trees_same}
 use Rattle.mt_insert.proofs.Behind.{KeepsButNames, keeps_child, keeps_each, names_no_more, splits_still}
 

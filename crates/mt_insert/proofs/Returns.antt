@@ -13,7 +13,7 @@ use Rattle.mt_arena.specs.Settled.{IsSettled}
 use Rattle.mt_arena.specs.Arena.{ArenaView}
 use Rattle.mt_arena.specs.Accesses.{at, IsHeld, IsOpen}
 use Rattle.mt_operation.specs.declared.splits.Halves.{Halves}
-use Rattle.mt_insert.specs.Splitting.{halves_at, MayReturn, AreReturnable, NothingLags}
+use Rattle.mt_insert.specs.KeptSplits.{halves_at, MayReturn, AreReturnable, NothingLags}
 
 -- a node that stays as it is, but for the one before it and its parent; it has a parent still where it had one
 pub record StaysButNames (x y : NodeView) : Type 0 where

@@ -14,7 +14,7 @@ use Rattle.mt_operation.specs.declared.task.Task.{Task}
 use Rattle.mt_operation.specs.declared.prepared.Prepared.{Prepared}
 use Rattle.mt_operation.specs.declared.splits.Splits.{Splits}
 use Rattle.mt_descent.proofs.Ways.{live_tree}
-use Rattle.mt_insert.specs.Splitting.{last_of, IsAtSplitMove}
+use Rattle.mt_insert.specs.KeptSplits.{last_of, IsAtSplitMove}
 
 module _ (v : ArenaView) (op : ℕ) (task : Task) (prepared : Prepared) (w : Walk) (s : Splits) (arena : IsArena v.nodes v.trees) (h : IsAtSplitMove v op task prepared w s) where
   -- the walk's node is the one that is split

@@ -32,8 +32,8 @@ use Rattle.mt_operation.specs.declared.task.Task.{Task}
 use Rattle.mt_operation.specs.declared.prepared.Prepared.{Prepared}
 use Rattle.mt_operation.specs.declared.splits.Halves.{Halves}
 use Rattle.mt_operation.specs.declared.splits.Splits.{Splits}
-use Rattle.mt_descent.specs.Kept.{GoesThrough}
-use Rattle.mt_insert.specs.Splitting.{halves_at, last_of, HoldsSplits, MayReturn, AreReturnable, IsSplitting, AreParted, NothingLags, HasSplits, HasSplitsNamed, IsUnparted, IsAtSplitMove, IsAtSplitPrev, IsAtLockParent, IsAtRootGrow, IsParent, IsAtParent, IsAtInsertChild, IsAtInteriorSplit, IsChildFrom, IsAtReparent, IsAtUnlockAll, KeptSplit}
+use Rattle.mt_descent.specs.KeptWalks.{GoesThrough}
+use Rattle.mt_insert.specs.KeptSplits.{halves_at, last_of, HoldsSplits, MayReturn, AreReturnable, IsSplitting, AreParted, NothingLags, HasSplits, HasSplitsNamed, IsUnparted, IsAtSplitMove, IsAtSplitPrev, IsAtLockParent, IsAtRootGrow, IsParent, IsAtParent, IsAtInsertChild, IsAtInteriorSplit, IsChildFrom, IsAtReparent, IsAtUnlockAll, KeptSplit}
 use Rattle.mt_insert.proofs.Rely.{settled_here, tree_there_stays, open_here}
 
 -- a child of a node that is untouched stays one

@@ -22,8 +22,8 @@ use Rattle.mt_arena.proofs.Lags.{child_parted}
 use Rattle.mt_arena.proofs.Parting.{ranges_parts}
 use Rattle.mt_operation.specs.declared.splits.Halves.{Halves}
 use Rattle.mt_operation.specs.declared.splits.Splits.{Splits}
-use Rattle.mt_insert.specs.Splitting.{halves_at, last_of, HoldsSplits, MayReturnBoth, AreReturnable, AreParted, NothingLags, IsAtParent, IsAtInteriorSplit, IsChildFrom, IsAtReparent}
-use Rattle.mt_insert.specs.SplitMoves.{HasOneMore}
+use Rattle.mt_insert.specs.KeptSplits.{halves_at, last_of, HoldsSplits, MayReturnBoth, AreReturnable, AreParted, NothingLags, IsAtParent, IsAtInteriorSplit, IsChildFrom, IsAtReparent}
+use Rattle.mt_insert.specs.SplitEdits.{HasOneMore}
 use Rattle.mt_insert.proofs.InsertingChildren.{KeepsNames, KeepNames, names_pushed, followed_before, named_before, inserts, open_parent, tree_there, stable, size, at_p, at_l, at_other, names, children_then, halves_return}
 
 -- the halves of one more split are the last ones, and the others are as they were

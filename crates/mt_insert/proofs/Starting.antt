@@ -25,11 +25,11 @@ use Rattle.mt_operation.specs.declared.task.Task.{Task}
 use Rattle.mt_operation.specs.declared.prepared.Prepared.{Prepared}
 use Rattle.mt_operation.specs.declared.splits.Halves.{Halves}
 use Rattle.mt_operation.specs.declared.splits.Splits.{Splits}
-use Rattle.mt_descent.specs.Kept.{GoesThrough}
-use Rattle.mt_insert.specs.Kept.{HoldsOnly, IsAtSplitStart}
+use Rattle.mt_descent.specs.KeptWalks.{GoesThrough}
+use Rattle.mt_insert.specs.KeptPuts.{HoldsOnly, IsAtSplitStart}
 use Rattle.mt_operation.specs.Operations.{IsUnsplit}
-use Rattle.mt_insert.specs.Splitting.{halves_at, last_of, HoldsSplits, IsUnparted, IsAtSplitMove, NothingLags}
-use Rattle.mt_insert.specs.SplitMoves.{walk_at, Starts, HasOneMore}
+use Rattle.mt_insert.specs.KeptSplits.{halves_at, last_of, HoldsSplits, IsUnparted, IsAtSplitMove, NothingLags}
+use Rattle.mt_insert.specs.SplitEdits.{walk_at, Starts, HasOneMore}
 
 -- the first split is the one of its list
 one_more : (old new : Splits) (left right : ℕ) → IsUnsplit old → HasOneMore old new left right → new.halves.items ≡ (record { left = left; right = right }) ∷ []

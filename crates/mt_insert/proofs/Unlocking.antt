@@ -15,8 +15,8 @@ use Rattle.mt_arena.proofs.Guarantees.{guarantee_on}
 use Rattle.mt_arena.proofs.Naming.{names_same, points_each}
 use Rattle.mt_operation.specs.declared.splits.Halves.{Halves}
 use Rattle.mt_operation.specs.declared.splits.Splits.{Splits}
-use Rattle.mt_descent.specs.Kept.{HoldsNothing}
-use Rattle.mt_insert.specs.Splitting.{halves_at, IsHalf, IsAmong, HoldsSplits, MayReturn, MayReturnBoth, AreReturnable, IsAtUnlockAll}
+use Rattle.mt_descent.specs.KeptWalks.{HoldsNothing}
+use Rattle.mt_insert.specs.KeptSplits.{halves_at, IsHalf, IsAmong, HoldsSplits, MayReturn, MayReturnBoth, AreReturnable, IsAtUnlockAll}
 use Rattle.mt_insert.specs.Unlock.{given_back, Returns}
 use Rattle.mt_insert.proofs.Returns.{TreesStand, trees_same, stays_whole, returnable_still}
 

@@ -7,9 +7,9 @@ use Rattle.mt_operation.specs.declared.phase.Phase.TheVariants.{InsertChild, Int
 use Rattle.mt_operation.specs.declared.phase.Phase.{Phase}
 use Rattle.mt_operation.specs.declared.splits.Splits.{Splits}
 use Rattle.mt_operation.specs.declared.walk.Walk.{Walk}
-use Rattle.mt_descent.specs.Moves.{KeepsPairs}
-use Rattle.mt_insert.specs.SplitMoves.{HasOneMore, after_reparent, for_parent, moved_on, walk_at, with_named_parent, with_named_previous, with_parent}
-use Rattle.mt_insert.specs.Splitting.{HoldsSplits, KeptSplit, last_of}
+use Rattle.mt_descent.specs.WalkMoves.{KeepsPairs}
+use Rattle.mt_insert.specs.SplitEdits.{HasOneMore, after_reparent, for_parent, moved_on, walk_at, with_named_parent, with_named_previous, with_parent}
+use Rattle.mt_insert.specs.KeptSplits.{HoldsSplits, KeptSplit, last_of}
 
 -- what they do alike: no pair moves, and what is kept of the halves, which the operation holds alone
 pub record KeepsSplits (op : ℕ) (old new : ArenaView) (before after : Walk) (s t : Splits) : Type 0 where

@@ -17,14 +17,14 @@ use Rattle.mt_operation.specs.declared.phase.Phase.{Phase}
 use Rattle.mt_operation.specs.declared.prepared.Prepared.{Prepared}
 use Rattle.mt_operation.specs.declared.task.Task.{Task}
 use Rattle.mt_operation.specs.declared.walk.Walk.{Walk}
-use Rattle.mt_descent.specs.Kept.{IsAtEnter, IsInSlot}
-use Rattle.mt_descent.specs.Moves.{KeepsPairs}
+use Rattle.mt_descent.specs.KeptWalks.{IsAtEnter, IsInSlot}
+use Rattle.mt_descent.specs.WalkMoves.{KeepsPairs}
 use Rattle.mt_insert.specs.Unlock.{GoesInto, IsUnlock}
-use Rattle.mt_insert.specs.Kept.{IsAtMakeLayer, KeptReady}
+use Rattle.mt_insert.specs.KeptPuts.{IsAtMakeLayer, KeptReady}
 use Rattle.mt_insert.specs.Puts.{IsReady}
 use Rattle.mt_insert.specs.declared.phases.judge.Judged.{Judged}
 use Rattle.mt_insert.specs.declared.phases.judge.Judged.TheVariants.{GoesOn, NoMemory, Ready}
-use Rattle.mt_insert.specs.Moves.{reserving}
+use Rattle.mt_insert.specs.Placing.{reserving}
 use Rattle.mt_border.specs.declared.entry.FoundKind.TheVariants as kinds
 
 -- the slot that has the key; none where the node misses it

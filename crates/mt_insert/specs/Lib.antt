@@ -1,8 +1,8 @@
 pub mod Puts
-pub mod Kept
-pub mod Moves
-pub mod Splitting
-pub mod SplitMoves
+pub mod KeptPuts
+pub mod Placing
+pub mod KeptSplits
+pub mod SplitEdits
 pub mod Unlock
 pub mod Judge
 pub mod Store

@@ -15,10 +15,10 @@ use Rattle.mt_operation.specs.declared.phase.Phase.{Phase}
 use Rattle.mt_operation.specs.declared.splits.Splits.{Splits}
 use Rattle.mt_operation.specs.declared.task.Task.{Task}
 use Rattle.mt_operation.specs.declared.walk.Walk.{Walk}
-use Rattle.mt_descent.specs.Moves.{Continues}
-use Rattle.mt_insert.specs.Splitting.{HoldsSplits, KeptSplit, last_of}
-use Rattle.mt_insert.specs.Moves.{Places, entry_of, released}
-use Rattle.mt_insert.specs.SplitMoves.{walk_at}
+use Rattle.mt_descent.specs.WalkMoves.{Continues}
+use Rattle.mt_insert.specs.KeptSplits.{HoldsSplits, KeptSplit, last_of}
+use Rattle.mt_insert.specs.Placing.{Places, entry_of, released}
+use Rattle.mt_insert.specs.SplitEdits.{walk_at}
 
 -- a node behind the halves still names the left one; where there is none, the parent comes next
 abbrev pub after_parting : Option ℕ → Phase

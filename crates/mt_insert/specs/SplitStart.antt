@@ -9,12 +9,12 @@ use Rattle.mt_operation.specs.declared.phase.Phase.TheVariants.{SplitMove}
 use Rattle.mt_operation.specs.declared.splits.Splits.{Splits}
 use Rattle.mt_operation.specs.declared.task.Task.{Task}
 use Rattle.mt_operation.specs.declared.walk.Walk.{Walk}
-use Rattle.mt_descent.specs.Moves.{KeepsPairs}
-use Rattle.mt_insert.specs.SplitMoves.{HasOneMore, Starts, walk_at}
-use Rattle.mt_insert.specs.Kept.{HoldsOnly, IsAtSplitStart}
-use Rattle.mt_insert.specs.Splitting.{HoldsSplits, IsAtSplitMove}
+use Rattle.mt_descent.specs.WalkMoves.{KeepsPairs}
+use Rattle.mt_insert.specs.SplitEdits.{HasOneMore, Starts, walk_at}
+use Rattle.mt_insert.specs.KeptPuts.{HoldsOnly, IsAtSplitStart}
+use Rattle.mt_insert.specs.KeptSplits.{HoldsSplits, IsAtSplitMove}
 use Rattle.mt_insert.specs.Unlock.{IsUnlock}
-use Rattle.mt_insert.specs.Moves.{released}
+use Rattle.mt_insert.specs.Placing.{released}
 
 -- the node has a right half, which begins where its keys and this one would be parted; the operation holds both, and no other node
 pub record IsSplitStart (op : ℕ) (key : Bytes) (old new : ArenaView) (tape taped : Kept) (before after : Walk) (s t : Splits) : Type 0 where

@@ -7,9 +7,9 @@ use Rattle.mt_operation.specs.declared.phase.Phase.TheVariants.{Done}
 use Rattle.mt_operation.specs.Operations.{IsUnsplit}
 use Rattle.mt_operation.specs.declared.splits.Splits.{Splits}
 use Rattle.mt_operation.specs.declared.walk.Walk.{Walk}
-use Rattle.mt_descent.specs.Kept.{HoldsNothing}
-use Rattle.mt_descent.specs.Moves.{KeepsPairs, walk_into}
-use Rattle.mt_insert.specs.Splitting.{HoldsSplits, IsAmong}
+use Rattle.mt_descent.specs.KeptWalks.{HoldsNothing}
+use Rattle.mt_descent.specs.WalkMoves.{KeepsPairs, walk_into}
+use Rattle.mt_insert.specs.KeptSplits.{HoldsSplits, IsAmong}
 
 -- a node whose lock was given back among the others
 abbrev pub given_back : ArenaView → ℕ → ArenaView

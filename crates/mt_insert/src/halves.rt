@@ -1,7 +1,7 @@
 //! The nodes of the last split.
 
 ghost use Rattle.std.specs.Prelude.{◌≡◌, ◌<◌, length, Some, None, ◌≢◌};
-ghost use Rattle.mt_insert.specs.Splitting.{last_of};
+ghost use Rattle.mt_insert.specs.KeptSplits.{last_of};
 
 use mt_operation::{Halves, Splits};
 

@@ -23,11 +23,11 @@ ghost use Rattle.mt_operation.specs.declared.task.Task.{Task};
 ghost use Rattle.mt_operation.specs.declared.prepared.Prepared.{Prepared};
 ghost use Rattle.mt_operation.specs.declared.splits.Splits.{Splits};
 ghost use Rattle.mt_operation.specs.Tasks.{ask};
-ghost use Rattle.mt_descent.specs.Kept.{HoldsNothing, IsAtJudge};
-ghost use Rattle.mt_descent.specs.Moves.{Locks};
+ghost use Rattle.mt_descent.specs.KeptWalks.{HoldsNothing, IsAtJudge};
+ghost use Rattle.mt_descent.specs.WalkMoves.{Locks};
 ghost use Rattle.mt_insert.specs.Puts.{IsPut, write_of};
-ghost use Rattle.mt_insert.specs.Kept.{HoldsBorder, IsAtStore, IsAtPublish, KeptReady, IsAtUnlock, HoldsOnly, IsAtSplitStart};
-ghost use Rattle.mt_insert.specs.Splitting.{HoldsSplits, IsAtSplitMove, KeptSplit};
+ghost use Rattle.mt_insert.specs.KeptPuts.{HoldsBorder, IsAtStore, IsAtPublish, KeptReady, IsAtUnlock, HoldsOnly, IsAtSplitStart};
+ghost use Rattle.mt_insert.specs.KeptSplits.{HoldsSplits, IsAtSplitMove, KeptSplit};
 
 /// An operation that has locked its border node holds it as `judge` asks.
 pub fn holds_once_locked()

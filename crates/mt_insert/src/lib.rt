@@ -7,8 +7,10 @@
 //! the pair, `split_prev` names the right half in the node behind; then, from level to level, `lock_parent`
 //! and `insert_child`, or `interior_split` and `reparent` where the parent is full, or `root_grow` where
 //! there is none. `unlock`, and `unlock_all` behind a split, give the locks back; `go_below` does so and
-//! goes on in the next layer. What is kept of a put by its next phase stands in `specs/Kept.antt` and
-//! `specs/Splitting.antt`, and what it writes in `specs/Puts.antt`.
+//! goes on in the next layer. What is kept of a put by its next phase stands in `specs/KeptPuts.antt` and
+//! `specs/KeptSplits.antt`, what each step does in the file of its phase (`specs/Judge.antt` to
+//! `specs/Unlock.antt`, and `specs/Climbs.antt` for the six that bring a right half to its place), and
+//! what a put writes in `specs/Puts.antt`.
 //!
 //! A step changes at most nodes that the operation holds. Placing takes no memory, and neither it nor giving
 //! a lock back can fail. Errors: `AllocError`, from `split_start`, which then gives its lock back, and from

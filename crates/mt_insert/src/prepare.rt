@@ -12,10 +12,10 @@ ghost use Rattle.mt_border.specs.Entries.{IsMissing};
 ghost use Rattle.mt_border.specs.Node.{IsFound, IsLive, entries_of, entry_at};
 ghost use Rattle.mt_arena.specs.Accesses.{at};
 ghost use Rattle.mt_operation.specs.Tasks.{command_of, ask};
-ghost use Rattle.mt_descent.specs.Kept.{IsAtBorder};
-ghost use Rattle.mt_descent.specs.Moves.{FindsIn};
+ghost use Rattle.mt_descent.specs.KeptWalks.{IsAtBorder};
+ghost use Rattle.mt_descent.specs.WalkMoves.{FindsIn};
 ghost use Rattle.mt_insert.specs.Puts.{change_of, row_over, IsReady};
-ghost use Rattle.mt_insert.specs.Moves.{reserving};
+ghost use Rattle.mt_insert.specs.Placing.{reserving};
 ghost use Rattle.mt_insert.specs.Judge.{StandsIn, ReadyFor};
 
 use mt_arena::Arena;

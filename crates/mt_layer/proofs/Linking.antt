@@ -23,8 +23,8 @@ use Rattle.mt_operation.specs.declared.phase.Phase.TheVariants as phases
 use Rattle.mt_operation.specs.declared.walk.Taken.{Taken}
 use Rattle.mt_operation.specs.declared.walk.Taken.TheVariants as takens
 use Rattle.mt_operation.specs.declared.walk.Walk.{Walk}
-use Rattle.mt_layer.specs.Kept.{MakesLayer, IsAtMarkUnstable, IsAtLink, IsAtMarkLayer, IsAtLeave}
-use Rattle.mt_layer.specs.Moves.{walk_at}
+use Rattle.mt_layer.specs.KeptLayers.{MakesLayer, IsAtMarkUnstable, IsAtLink, IsAtMarkLayer, IsAtLeave}
+use Rattle.mt_layer.specs.NewLayers.{walk_at}
 
 -- the walk makes one tree
 pub same_tree : (t u : ℕ) (taken : Taken) → taken ≡ takens.Link t → taken ≡ takens.Link u → t ≡ u

@@ -28,11 +28,11 @@ use Rattle.mt_arena.proofs.NextLayer.{may_make, has_below}
 use Rattle.mt_arena.proofs.LayerStays.{whole_begun}
 use Rattle.mt_arena.proofs.SettledBut.{settled_but, settled_but_made}
 use Rattle.mt_operation.specs.declared.walk.Walk.{Walk}
-use Rattle.mt_insert.specs.Kept.{HoldsOnly}
+use Rattle.mt_insert.specs.KeptPuts.{HoldsOnly}
 use Rattle.mt_insert.proofs.Places.{belongs_here}
-use Rattle.mt_insert.specs.Kept.{IsAtMakeLayer}
-use Rattle.mt_layer.specs.Kept.{IsAtMarkUnstable}
-use Rattle.mt_layer.specs.Moves.{entry_below, walk_linked}
+use Rattle.mt_insert.specs.KeptPuts.{IsAtMakeLayer}
+use Rattle.mt_layer.specs.KeptLayers.{IsAtMarkUnstable}
+use Rattle.mt_layer.specs.NewLayers.{entry_below, walk_linked}
 
 module _ (v : ArenaView) (op : ℕ) (key : Bytes) (w : Walk) (arena : IsArena v.nodes v.trees) (h : IsAtMakeLayer v op key w) where
   abbrev k : ℕ

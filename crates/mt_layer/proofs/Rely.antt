@@ -23,10 +23,10 @@ use Rattle.mt_arena.proofs.SettledBut.{settled_but_stays}
 use Rattle.mt_operation.specs.declared.phase.Phase.{Phase}
 use Rattle.mt_operation.specs.declared.phase.Phase.TheVariants as phases
 use Rattle.mt_operation.specs.declared.walk.Walk.{Walk}
-use Rattle.mt_descent.specs.Kept.{GoesThrough}
-use Rattle.mt_insert.specs.Kept.{IsAtMakeLayer}
+use Rattle.mt_descent.specs.KeptWalks.{GoesThrough}
+use Rattle.mt_insert.specs.KeptPuts.{IsAtMakeLayer}
 use Rattle.mt_insert.proofs.Rely.{held, unlock}
-use Rattle.mt_layer.specs.Kept.{GoesBelow, MakesLayer, KeptLayer}
+use Rattle.mt_layer.specs.KeptLayers.{GoesBelow, MakesLayer, KeptLayer}
 
 -- a tree that is not being made never is
 unmade_stays : (op : ℕ) (tree after : Tree) → TreeChanges op tree after → ((q : ℕ) → tree.standing ≢ Made q) → (s : Standing) → tree.standing ≡ s → (q : ℕ) → after.standing ≢ Made q

@@ -25,8 +25,8 @@ use Rattle.mt_arena.specs.Layering.{root_of, with_held, with_layer, with_slot, w
 use Rattle.mt_arena.proofs.Pairs.{here, there, last, before}
 use Rattle.mt_arena.proofs.Trees.{made as made_tree, last_tree, before_tree}
 use Rattle.mt_operation.specs.declared.walk.Walk.{Walk}
-use Rattle.mt_layer.specs.Kept.{MakesLayer}
-use Rattle.mt_layer.specs.Moves.{HasStamp, KeepsStamps, entry_below}
+use Rattle.mt_layer.specs.KeptLayers.{MakesLayer}
+use Rattle.mt_layer.specs.NewLayers.{HasStamp, KeepsStamps, entry_below}
 
 -- an entry has the slice and the mark of another one, and no pair but the other one's
 record IsLike (was now : Entry) : Type 0 where

@@ -10,12 +10,12 @@ use Rattle.mt_arena.specs.Layers.{slot_at}
 use Rattle.mt_operation.specs.declared.phase.Phase.{Phase}
 use Rattle.mt_operation.specs.declared.walk.Taken.TheVariants.{Link}
 use Rattle.mt_operation.specs.declared.walk.Walk.{Walk}
-use Rattle.mt_descent.specs.Kept.{HoldsNothing, IsAtEnter}
-use Rattle.mt_descent.specs.Moves.{KeepsPairs}
+use Rattle.mt_descent.specs.KeptWalks.{HoldsNothing, IsAtEnter}
+use Rattle.mt_descent.specs.WalkMoves.{KeepsPairs}
 use Rattle.mt_insert.specs.Unlock.{GoesInto}
-use Rattle.mt_insert.specs.Kept.{HoldsOnly}
-use Rattle.mt_layer.specs.Kept.{IsAtLeave, IsAtLink, IsAtMarkLayer, IsAtMarkUnstable}
-use Rattle.mt_layer.specs.Moves.{KeepsStamps, entry_below, walk_at, walk_linked}
+use Rattle.mt_insert.specs.KeptPuts.{HoldsOnly}
+use Rattle.mt_layer.specs.KeptLayers.{IsAtLeave, IsAtLink, IsAtMarkLayer, IsAtMarkUnstable}
+use Rattle.mt_layer.specs.NewLayers.{KeepsStamps, entry_below, walk_at, walk_linked}
 use Rattle.mt_operation.specs.declared.phase.Phase.TheVariants as phases
 
 -- what they do alike: no pair moves or gets another stamp, and the operation holds its border node alone

@@ -1,3 +1,3 @@
-pub mod Moves
-pub mod Kept
+pub mod NewLayers
+pub mod KeptLayers
 pub mod Builds

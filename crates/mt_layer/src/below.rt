@@ -8,7 +8,7 @@ ghost use Rattle.mt_border.specs.declared.entry.Pair.{Pair as AnyPair};
 ghost use Rattle.mt_border.specs.declared.entry.Held.TheVariants.{Stable};
 ghost use Rattle.mt_border.specs.Entry.{IsStablePair};
 ghost use Rattle.mt_border.specs.Node.{IsLive, entry_at};
-ghost use Rattle.mt_layer.specs.Moves.{entry_below};
+ghost use Rattle.mt_layer.specs.NewLayers.{entry_below};
 
 use mt_arena::Prefix;
 use mt_border::{Border, Entry, Held, Pair, Suffix};

@@ -8,8 +8,8 @@ ghost use Rattle.mt_arena.specs.Arena.{ArenaView, Guarantee};
 ghost use Rattle.mt_arena.specs.Accesses.{tree_of};
 ghost use Rattle.mt_operation.specs.declared.phase.Phase.{Phase};
 ghost use Rattle.mt_operation.specs.declared.walk.Walk.{Walk};
-ghost use Rattle.mt_insert.specs.Kept.{HoldsOnly};
-ghost use Rattle.mt_layer.specs.Kept.{KeptLayer};
+ghost use Rattle.mt_insert.specs.KeptPuts.{HoldsOnly};
+ghost use Rattle.mt_layer.specs.KeptLayers.{KeptLayer};
 
 /// What an operation keeps that makes a layer, each step of another one leaves, by its phase; and it
 /// comes to hold no other node. (A tree is not dead while a node of it is live.)

@@ -3,7 +3,8 @@
 //! Each phase is one call over the arena, the key and what the operation remembers, its `Walk`, in a file
 //! named as the phase: `make_layer` makes the tree of the next layer with the other key's pair,
 //! `mark_unstable`, `link` and `mark_layer` make its slot a link, and `leave` gives the lock back and goes
-//! on in the tree. What is kept of the operation by its next phase stands in `specs/Kept.antt`.
+//! on in the tree. What is kept of the operation by its next phase stands in
+//! `specs/KeptLayers.antt`, and what each step does in `specs/Builds.antt`.
 //!
 //! A step changes at most the node that the operation holds and the tree that it makes. Errors:
 //! `AllocError`, from `make_layer` alone, which then gives its lock back. Units: nodes, slots and trees by

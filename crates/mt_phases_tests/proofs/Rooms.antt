@@ -5,7 +5,7 @@ use Rattle.mt_version.specs.Changes.{CanUnlock}
 use Rattle.mt_arena.specs.Arena.{ArenaView}
 use Rattle.mt_arena.specs.Accesses.{at}
 use Rattle.mt_operation.specs.declared.splits.Halves.{Halves}
-use Rattle.mt_insert.specs.Splitting.{halves_at, IsHalf}
+use Rattle.mt_insert.specs.KeptSplits.{halves_at, IsHalf}
 
 -- the first halves may, so many
 abbrev pub HaveRoom : ArenaView → List Halves → ℕ → Type 0

@@ -4,10 +4,10 @@ ghost use Rattle.std.specs.Prelude.{◌≡◌, ◌<◌, ℕ, Some, length};
 ghost use Rattle.mt_version.specs.Changes.{CanUnlock};
 ghost use Rattle.mt_tape.specs.Tapes.{last_write};
 ghost use Rattle.mt_arena.specs.Accesses.{at};
-ghost use Rattle.mt_descent.specs.Kept.{IsAtBorder, IsAtLoad};
+ghost use Rattle.mt_descent.specs.KeptWalks.{IsAtBorder, IsAtLoad};
 ghost use Rattle.mt_insert.specs.Puts.{IsPut};
-ghost use Rattle.mt_insert.specs.Kept.{HoldsBorder, IsAtStore, IsAtPublish, IsAtSplitStart, KeptReady};
-ghost use Rattle.mt_insert.specs.Splitting.{IsHalf, IsAtSplitMove, IsAtUnlockAll, KeptSplit};
+ghost use Rattle.mt_insert.specs.KeptPuts.{HoldsBorder, IsAtStore, IsAtPublish, IsAtSplitStart, KeptReady};
+ghost use Rattle.mt_insert.specs.KeptSplits.{IsHalf, IsAtSplitMove, IsAtUnlockAll, KeptSplit};
 ghost use Rattle.mt_phases_tests.specs.Ways.{IsComing, AllStay};
 
 use mt_arena::Arena;

@@ -1,7 +1,7 @@
 //! What puts and gets do in an index that is empty at first, and what the table of operations keeps.
 
 ghost use Rattle.std.specs.Prelude.{◌≡◌, ℕ, IsSome};
-ghost use Rattle.mt_descent.specs.Kept.{IsAtBorder};
+ghost use Rattle.mt_descent.specs.KeptWalks.{IsAtBorder};
 ghost use Rattle.mt_operation.specs.Tables.{MayMove, op_at};
 ghost use Rattle.mt_insert.specs.Puts.{IsPut};
 

@@ -23,13 +23,13 @@ use Rattle.mt_operation.specs.Operations.{view_of}
 use Rattle.mt_operation.specs.Phases.{is_done, MayFollow, IsOfKind}
 use Rattle.mt_operation.specs.Tables.{op_at as operation_at}
 use Rattle.mt_descent.specs.Pasts.{Past}
-use Rattle.mt_descent.specs.Kept.{IsAtConfirm as WalksConfirm, KeptAt, IsKept, TakenWasRight}
-use Rattle.mt_descent.specs.Moves.{Continues, Confirms, after_confirm}
+use Rattle.mt_descent.specs.KeptWalks.{IsAtConfirm as WalksConfirm, KeptAt, IsKept, TakenWasRight}
+use Rattle.mt_descent.specs.WalkMoves.{Continues, Confirms, after_confirm}
 use Rattle.mt_state.specs.Views.{StateView, Core, shown, past_of, map_of, quota_of}
 use Rattle.mt_state.specs.Steps.{told_change}
 use Rattle.mt_state.specs.Notes.{Notes}
 use Rattle.mt_state.specs.Ways.{IsOnWay}
-use Rattle.mt_state.specs.Kept.{IsOpenOperation, TellsTaken, IsOnItsWay, IsAtConfirm, HasAnswer, IsKeptAt}
+use Rattle.mt_state.specs.KeptOperations.{IsOpenOperation, TellsTaken, IsOnItsWay, IsAtConfirm, HasAnswer, IsKeptAt}
 use Rattle.mt_state.specs.Invariant.{StateInvariant}
 use Rattle.mt_state.proofs.Replies.{get_absent, get_found}
 use Rattle.mt_state.proofs.Decides.{same_or_not}

@@ -10,9 +10,9 @@ use Rattle.mt_arena.specs.Arena.{ArenaView}
 use Rattle.mt_operation.specs.declared.phase.Phase.{Phase}
 use Rattle.mt_operation.specs.declared.phase.Phase.TheVariants.{Enter, Pick, Child, Verify, Search, Forward, Lock}
 use Rattle.mt_operation.specs.declared.walk.Walk.{Walk}
-use Rattle.mt_descent.specs.Moves.{Continues, arrival, arrival_at, walk_anew, walk_here, walk_to_next, after_enter, after_change, after_forward, Verifies}
+use Rattle.mt_descent.specs.WalkMoves.{Continues, arrival, arrival_at, walk_anew, walk_here, walk_to_next, after_enter, after_change, after_forward, Verifies}
 use Rattle.mt_descent.specs.Pasts.{Past}
-use Rattle.mt_descent.specs.Kept.{KeptAt}
+use Rattle.mt_descent.specs.KeptWalks.{KeptAt}
 use Rattle.mt_operation.specs.Phases.{MayFollow, IsOfKind}
 use Rattle.mt_state.specs.Ways.{IsOnWay, Descends}
 use Rattle.mt_state.proofs.Decides.{same_or_not, outdated_or_not}

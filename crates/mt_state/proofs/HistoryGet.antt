@@ -20,7 +20,7 @@ use Rattle.mt_operation.specs.declared.phase.Phase.TheVariants.{Search, Confirm,
 use Rattle.mt_operation.specs.declared.outcome.Outcome.{Outcome}
 use Rattle.mt_operation.specs.Operations.{OperationView}
 use Rattle.mt_operation.specs.Phases.{is_done}
-use Rattle.mt_descent.specs.Kept.{GoesThrough}
+use Rattle.mt_descent.specs.KeptWalks.{GoesThrough}
 use Rattle.mt_state.specs.Views.{StateView, op_at, quota_of}
 use Rattle.mt_state.specs.Steps.{HasMoved, change_in}
 use Rattle.mt_state.specs.Notes.{Notes}

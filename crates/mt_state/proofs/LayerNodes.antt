@@ -22,11 +22,11 @@ use Rattle.mt_operation.specs.declared.walk.Walk.{Walk}
 use Rattle.mt_operation.specs.declared.outcome.Outcome.{Outcome}
 use Rattle.mt_operation.specs.Operations.{SplitsView}
 use Rattle.mt_operation.specs.Phases.{IsLayerPhase, MayFollow}
-use Rattle.mt_descent.specs.Moves.{Continues}
-use Rattle.mt_insert.specs.Kept.{HoldsOnly}
+use Rattle.mt_descent.specs.WalkMoves.{Continues}
+use Rattle.mt_insert.specs.KeptPuts.{HoldsOnly}
 use Rattle.mt_insert.proofs.InsertingChildren.{at_p}
-use Rattle.mt_layer.specs.Kept.{KeptLayer}
-use Rattle.mt_layer.specs.Moves.{KeepsStamps, entry_below, walk_at}
+use Rattle.mt_layer.specs.KeptLayers.{KeptLayer}
+use Rattle.mt_layer.specs.NewLayers.{KeepsStamps, entry_below, walk_at}
 use Rattle.mt_layer.specs.Builds.{IsLayerFrom, KeepsLayer}
 use Rattle.mt_state.specs.Promises.{HoldsEither, Touches}
 use Rattle.mt_state.specs.Invariant.{IsCountedUpTo, IsUnremoved}

@@ -23,15 +23,15 @@ use Rattle.mt_operation.specs.declared.operation.Operation.{Operation}
 use Rattle.mt_operation.specs.Operations.{OperationView, view_of, IsUnsplit}
 use Rattle.mt_operation.specs.Phases.{is_done, MayFollow, IsOfKind, has_splits, IsLayerPhase}
 use Rattle.mt_operation.specs.Tables.{op_at as operation_at}
-use Rattle.mt_descent.specs.Kept.{IsAtEnter, KeptAt}
-use Rattle.mt_insert.specs.Kept.{IsAtMakeLayer, HoldsOnly}
-use Rattle.mt_layer.specs.Kept.{KeptLayer}
-use Rattle.mt_layer.specs.Moves.{HasStamp}
+use Rattle.mt_descent.specs.KeptWalks.{IsAtEnter, KeptAt}
+use Rattle.mt_insert.specs.KeptPuts.{IsAtMakeLayer, HoldsOnly}
+use Rattle.mt_layer.specs.KeptLayers.{KeptLayer}
+use Rattle.mt_layer.specs.NewLayers.{HasStamp}
 use Rattle.mt_state.specs.Views.{StateView, Core, shown, past_of}
 use Rattle.mt_state.specs.Steps.{told_change}
 use Rattle.mt_state.specs.Notes.{Notes}
 use Rattle.mt_state.specs.Promises.{Touches}
-use Rattle.mt_state.specs.Kept.{IsOpenOperation, IsJudging, IsLayering, IsLeaving, IsReturning, HasAnswer, IsKeptAt, IsKeptOf}
+use Rattle.mt_state.specs.KeptOperations.{IsOpenOperation, IsJudging, IsLayering, IsLeaving, IsReturning, HasAnswer, IsKeptAt, IsKeptOf}
 use Rattle.mt_state.specs.Invariant.{IsTape, IsStampOf, AreStamps, HoldsLast, HoldsAt, StateInvariant, StateGuarantee}
 use Rattle.mt_state.proofs.Telling.{Gives, gives, logs_later}
 use Rattle.mt_state.proofs.Quiet.{quiet, LeavesPairs}
@@ -39,7 +39,7 @@ use Rattle.mt_state.proofs.Moved.{went, open_moved, has_moved, first_begun, firs
 use Rattle.mt_state.proofs.Still.{IsUnready, floor_made, leaves_all, unready_none}
 use Rattle.mt_state.proofs.Reading.{walk_same}
 use Rattle.mt_state.proofs.OneNode.{counted_unlocked, counted_later, replaced_at, replaced_touches, replaced_leaves, quiet_grows, holds_here, quiet_gives}
-use Rattle.mt_descent.specs.Moves.{KeepsPairs}
+use Rattle.mt_descent.specs.WalkMoves.{KeepsPairs}
 use Rattle.mt_insert.specs.Judge.{MeetsOther, MeetsLink}
 use Rattle.mt_insert.specs.Unlock.{IsUnlock}
 use Rattle.mt_layer.specs.Builds.{IsLayerFrom, IsLeave}

@@ -49,13 +49,13 @@ use Rattle.mt_operation.specs.Operations.{view_of}
 use Rattle.mt_operation.specs.Phases.{is_done, MayFollow, IsOfKind}
 use Rattle.mt_operation.specs.Tables.{op_at as operation_at}
 use Rattle.mt_descent.specs.Pasts.{Past, AreStamped}
-use Rattle.mt_descent.specs.Kept.{IsInSlot, IsAtLoad as WalksLoad, KeptAt, IsKept}
-use Rattle.mt_descent.specs.Moves.{Continues, Loads, TakesOut}
+use Rattle.mt_descent.specs.KeptWalks.{IsInSlot, IsAtLoad as WalksLoad, KeptAt, IsKept}
+use Rattle.mt_descent.specs.WalkMoves.{Continues, Loads, TakesOut}
 use Rattle.mt_state.specs.Views.{StateView, Core, shown, past_of}
 use Rattle.mt_state.specs.Steps.{told_change}
 use Rattle.mt_state.specs.Notes.{Notes, Says, columns_asked, ShowsRow, ShowsNone}
 use Rattle.mt_state.specs.Ways.{ShowsTaken}
-use Rattle.mt_state.specs.Kept.{IsOpenOperation, TellsTaken, IsAtLoad, IsAtConfirm, HasAnswer, IsKeptAt}
+use Rattle.mt_state.specs.KeptOperations.{IsOpenOperation, TellsTaken, IsAtLoad, IsAtConfirm, HasAnswer, IsKeptAt}
 use Rattle.mt_state.specs.Invariant.{IsStampOf, StateInvariant}
 use Rattle.mt_state.proofs.Replies.{get_asks}
 use Rattle.mt_state.proofs.LiveTrees.{slot_key}

@@ -27,11 +27,11 @@ use Rattle.mt_operation.specs.Tasks.{ask}
 use Rattle.mt_operation.specs.Operations.{view_of, IsUnsplit}
 use Rattle.mt_operation.specs.Phases.{is_done, MayFollow, IsOfKind, has_splits, is_prepared}
 use Rattle.mt_operation.specs.Tables.{Table, op_at as operation_at}
-use Rattle.mt_descent.specs.Kept.{IsAtBorder, KeptAt, IsKept}
-use Rattle.mt_descent.specs.Moves.{after_change, IsLock}
+use Rattle.mt_descent.specs.KeptWalks.{IsAtBorder, KeptAt, IsKept}
+use Rattle.mt_descent.specs.WalkMoves.{after_change, IsLock}
 use Rattle.mt_insert.specs.Puts.{IsPut}
-use Rattle.mt_insert.specs.Kept.{HoldsBorder, KeptReady, IsAtUnlock, HoldsOnly}
-use Rattle.mt_insert.specs.Moves.{released, reserving}
+use Rattle.mt_insert.specs.KeptPuts.{HoldsBorder, KeptReady, IsAtUnlock, HoldsOnly}
+use Rattle.mt_insert.specs.Placing.{released, reserving}
 use Rattle.mt_insert.specs.Judge.{after_judge, IsMadeReady}
 use Rattle.mt_insert.specs.Unlock.{IsUnlock}
 use Rattle.mt_insert.proofs.Looks.{held_here}
@@ -40,7 +40,7 @@ use Rattle.mt_state.specs.Steps.{told_change}
 use Rattle.mt_state.specs.Notes.{Notes}
 use Rattle.mt_state.specs.Promises.{IsAnswer, Touches}
 use Rattle.mt_state.specs.Ways.{IsOnWay}
-use Rattle.mt_state.specs.Kept.{IsOpenOperation, IsOnItsWay, IsJudging, IsPublishing, MayUnlock, IsUnlocking, HasAnswer, IsKeptAt}
+use Rattle.mt_state.specs.KeptOperations.{IsOpenOperation, IsOnItsWay, IsJudging, IsPublishing, MayUnlock, IsUnlocking, HasAnswer, IsKeptAt}
 use Rattle.mt_state.specs.Invariant.{IsCountedUpTo, HoldsLast, HoldsAt, StateInvariant, one_if_prepared, prepared_count}
 use Rattle.mt_state.proofs.Decides.{outdated_or_not}
 use Rattle.mt_state.proofs.Descents.{Leads, first_aside, changed_leads}

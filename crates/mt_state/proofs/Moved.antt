@@ -11,7 +11,7 @@ use Rattle.mt_operation.specs.Operations.{view_of, moved}
 use Rattle.mt_state.specs.Views.{Core}
 use Rattle.mt_state.specs.Steps.{HasMoved}
 use Rattle.mt_operation.specs.Phases.{MayFollow, IsOfKind}
-use Rattle.mt_state.specs.Kept.{IsOpenOperation}
+use Rattle.mt_state.specs.KeptOperations.{IsOpenOperation}
 
 -- the number of an operation's first step, once it has made one
 pub first_is : (n step : ℕ) → ((n ≡ 0) × (cond (eqb n 0) step n ≡ step)) ⊎ ((0 < n) × (cond (eqb n 0) step n ≡ n))

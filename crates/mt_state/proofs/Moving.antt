@@ -6,7 +6,7 @@ use Rattle.mt_operation.specs.declared.operation.Operation.{Operation}
 use Rattle.mt_operation.specs.Tables.{Table, op_at as operation_at}
 use Rattle.mt_operation.proofs.Tables.{set_is, set_here, set_there}
 use Rattle.mt_state.specs.Views.{Core, shown}
-use Rattle.mt_state.specs.Kept.{IsKeptOf}
+use Rattle.mt_state.specs.KeptOperations.{IsKeptOf}
 use Rattle.mt_state.specs.Invariant.{AreHolders, StateInvariant, one_if_prepared, prepared_count, made_count}
 use Rattle.mt_state.specs.Moves.{IsMove, IsTold}
 use Rattle.mt_state.proofs.Rely as rely

@@ -18,13 +18,13 @@ use Rattle.mt_operation.specs.Tasks.{ask}
 use Rattle.mt_operation.specs.Operations.{view_of, splits_of}
 use Rattle.mt_operation.specs.Phases.{is_done, IsOfKind, IsLayerPhase, is_prepared}
 use Rattle.mt_operation.specs.Tables.{op_at as operation_at}
-use Rattle.mt_descent.specs.Kept.{IsAtBorder, KeptAt, HoldsNothing}
+use Rattle.mt_descent.specs.KeptWalks.{IsAtBorder, KeptAt, HoldsNothing}
 use Rattle.mt_insert.specs.Puts.{IsPut}
-use Rattle.mt_insert.specs.Kept.{HoldsBorder, IsAtStore, IsAtPublish, IsAtUnlock}
-use Rattle.mt_layer.specs.Kept.{IsAtLeave, KeptLayer}
+use Rattle.mt_insert.specs.KeptPuts.{HoldsBorder, IsAtStore, IsAtPublish, IsAtUnlock}
+use Rattle.mt_layer.specs.KeptLayers.{IsAtLeave, KeptLayer}
 use Rattle.mt_state.specs.Views.{Core, shown, past_of}
 use Rattle.mt_state.specs.Promises.{IsInTheWay, IsHeldByOther}
-use Rattle.mt_state.specs.Kept.{IsOpenOperation, IsOnItsWay, IsJudging, IsStoring, IsPublishing, MayUnlock, IsUnlocking, IsLayering, IsLeaving, IsReturning, IsKeptAt}
+use Rattle.mt_state.specs.KeptOperations.{IsOpenOperation, IsOnItsWay, IsJudging, IsStoring, IsPublishing, MayUnlock, IsUnlocking, IsLayering, IsLeaving, IsReturning, IsKeptAt}
 use Rattle.mt_state.specs.Invariant.{HoldsAt, StateInvariant}
 use Rattle.mt_state.proofs.Shown.{shown_there}
 use Rattle.mt_state.proofs.Locking.{may_unlock, room_for}

@@ -32,7 +32,7 @@ use Rattle.mt_state.specs.Views.{StateView, Core, shown, KeepsPast}
 use Rattle.mt_state.specs.Steps.{change_in}
 use Rattle.mt_state.specs.Notes.{Notes}
 use Rattle.mt_state.specs.Promises.{Touches}
-use Rattle.mt_state.specs.Kept.{IsUnlocking, IsReturning, IsKeptAt, IsKeptOf}
+use Rattle.mt_state.specs.KeptOperations.{IsUnlocking, IsReturning, IsKeptAt, IsKeptOf}
 use Rattle.mt_state.specs.Invariant.{IsCountedUpTo, IsUnremoved, HoldsAt, StateInvariant, one_if_prepared}
 use Rattle.mt_state.proofs.Quiet.{HasPairsOf, quiet, LeavesPairs, quiet_move, is_quiet}
 use Rattle.mt_state.proofs.Telling.{Gives, gives}

@@ -28,11 +28,11 @@ use Rattle.mt_operation.specs.Operations.{view_of}
 use Rattle.mt_operation.specs.Phases.{is_done}
 use Rattle.mt_operation.specs.Tables.{op_at as operation_at}
 use Rattle.mt_insert.specs.Puts.{IsPut, change_of, row_over, write_of}
-use Rattle.mt_insert.specs.Moves.{pushed}
+use Rattle.mt_insert.specs.Placing.{pushed}
 use Rattle.mt_state.specs.Views.{Core, shown, map_of, quota_of, granted_in, KeepsPast}
 use Rattle.mt_state.specs.Notes.{key_asked}
 use Rattle.mt_state.specs.Promises.{IsPlacing, IsAnswer}
-use Rattle.mt_state.specs.Kept.{IsKeptOf, IsPlacedOnce}
+use Rattle.mt_state.specs.KeptOperations.{IsKeptOf, IsPlacedOnce}
 use Rattle.mt_state.specs.Invariant.{IsStampOf, IsTape, AreStamps, IsCountedUpTo, HoldsAt, IsUnremoved, StateInvariant, StateGuarantee, one_if_prepared}
 use Rattle.mt_state.specs.Moves.{IsMove}
 use Rattle.mt_state.proofs.Telling.{logs_later, map_now}

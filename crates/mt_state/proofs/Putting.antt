@@ -50,14 +50,14 @@ use Rattle.mt_operation.specs.Tasks.{ask}
 use Rattle.mt_operation.specs.Operations.{view_of}
 use Rattle.mt_operation.specs.Phases.{is_done, MayFollow, IsOfKind, has_splits, is_prepared}
 use Rattle.mt_operation.specs.Tables.{op_at as operation_at}
-use Rattle.mt_descent.specs.Moves.{Continues}
+use Rattle.mt_descent.specs.WalkMoves.{Continues}
 use Rattle.mt_insert.specs.Puts.{IsPut, row_over}
-use Rattle.mt_insert.specs.Kept.{HoldsBorder, IsAtUnlock}
-use Rattle.mt_insert.specs.Moves.{walk_placed, entry_of, pushed}
+use Rattle.mt_insert.specs.KeptPuts.{HoldsBorder, IsAtUnlock}
+use Rattle.mt_insert.specs.Placing.{walk_placed, entry_of, pushed}
 use Rattle.mt_insert.proofs.Places.{may_store, may_publish}
 use Rattle.mt_state.specs.Views.{StateView, Core, shown, quota_of, quota_in, granted_in}
 use Rattle.mt_state.specs.Notes.{Notes}
-use Rattle.mt_state.specs.Kept.{IsOpenOperation, IsStoring, IsPublishing, MayUnlock, IsUnlocking, IsKeptAt, IsPlacedOnce, IsKeptOf}
+use Rattle.mt_state.specs.KeptOperations.{IsOpenOperation, IsStoring, IsPublishing, MayUnlock, IsUnlocking, IsKeptAt, IsPlacedOnce, IsKeptOf}
 use Rattle.mt_state.specs.Invariant.{IsStampOf, HoldsLast, HoldsAt, StateInvariant}
 use Rattle.mt_state.proofs.Replies.{put_there, put_new}
 use Rattle.mt_state.proofs.Telling.{Gives, gives}

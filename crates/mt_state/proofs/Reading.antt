@@ -37,13 +37,13 @@ use Rattle.mt_operation.specs.Operations.{OperationView, view_of, moved}
 use Rattle.mt_operation.specs.Phases.{is_done, MayFollow, IsDescent, IsOfKind}
 use Rattle.mt_operation.specs.Tables.{op_at as operation_at}
 use Rattle.mt_descent.specs.Pasts.{Past, IsNow}
-use Rattle.mt_descent.specs.Kept.{GoesThrough, IsInSlot, HasSlot, IsAtBorder, KeptAt, IsKept}
-use Rattle.mt_descent.specs.Moves.{FindsIn, after_search}
+use Rattle.mt_descent.specs.KeptWalks.{GoesThrough, IsInSlot, HasSlot, IsAtBorder, KeptAt, IsKept}
+use Rattle.mt_descent.specs.WalkMoves.{FindsIn, after_search}
 use Rattle.mt_state.specs.Views.{StateView, Core, shown, past_of}
 use Rattle.mt_state.specs.Steps.{told_change}
 use Rattle.mt_state.specs.Notes.{Notes}
 use Rattle.mt_state.specs.Ways.{IsOnWay, Descends}
-use Rattle.mt_state.specs.Kept.{IsOpenOperation, TellsTaken, IsOnItsWay, IsAtLoad, IsAtConfirm, IsKeptAt}
+use Rattle.mt_state.specs.KeptOperations.{IsOpenOperation, TellsTaken, IsOnItsWay, IsAtLoad, IsAtConfirm, IsKeptAt}
 use Rattle.mt_state.specs.Invariant.{StateInvariant}
 use Rattle.mt_state.proofs.Descents.{first_aside}
 use Rattle.mt_state.proofs.Telling.{Gives}

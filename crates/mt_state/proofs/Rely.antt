@@ -20,15 +20,15 @@ use Rattle.mt_operation.specs.declared.phase.Phase.TheVariants.{Enter, Pick, Chi
 use Rattle.mt_operation.specs.declared.splits.Halves.{Halves}
 use Rattle.mt_operation.specs.Operations.{OperationView, view_of}
 use Rattle.mt_descent.specs.Pasts.{ExtendsPast}
-use Rattle.mt_descent.specs.Kept.{IsKept}
+use Rattle.mt_descent.specs.KeptWalks.{IsKept}
 use Rattle.mt_descent.proofs.Rely as descent
 use Rattle.mt_insert.proofs.Rely as insert
 use Rattle.mt_insert.proofs.SplitRely as splits
-use Rattle.mt_layer.specs.Kept.{KeptLayer}
+use Rattle.mt_layer.specs.KeptLayers.{KeptLayer}
 use Rattle.mt_layer.proofs.Rely as layers
 use Rattle.mt_state.specs.Views.{StateView, Core, shown, past_of, map_of, quota_of, KeepsPast, IsPlaced}
 use Rattle.mt_state.specs.Promises.{IsAnswer}
-use Rattle.mt_state.specs.Kept.{IsOpenOperation, IsOnItsWay, HasAnswer, MayUnlock, IsClimbing, IsLayering, IsReturning, IsKeptAt, IsPlacedOnce, IsKeptOf}
+use Rattle.mt_state.specs.KeptOperations.{IsOpenOperation, IsOnItsWay, HasAnswer, MayUnlock, IsClimbing, IsLayering, IsReturning, IsKeptAt, IsPlacedOnce, IsKeptOf}
 use Rattle.mt_state.specs.Invariant.{IsUnremoved, StateGuarantee}
 use Rattle.mt_state.proofs.Granted.{quota_stays}
 

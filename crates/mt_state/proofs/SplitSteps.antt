@@ -22,14 +22,14 @@ use Rattle.mt_operation.specs.declared.operation.Operation.{Operation}
 use Rattle.mt_operation.specs.Operations.{OperationView, view_of}
 use Rattle.mt_operation.specs.Phases.{is_done, MayFollow, IsOfKind, has_splits, IsClimb}
 use Rattle.mt_operation.specs.Tables.{op_at as operation_at}
-use Rattle.mt_insert.specs.Moves.{released}
-use Rattle.mt_insert.specs.Splitting.{IsAmong, IsAtSplitMove, IsAtUnlockAll, KeptSplit, HoldsSplits}
+use Rattle.mt_insert.specs.Placing.{released}
+use Rattle.mt_insert.specs.KeptSplits.{IsAmong, IsAtSplitMove, IsAtUnlockAll, KeptSplit, HoldsSplits}
 use Rattle.mt_insert.specs.Unlock.{Returns, IsUnlockAll}
 use Rattle.mt_state.specs.Views.{StateView, Core, shown}
 use Rattle.mt_state.specs.Steps.{told_change}
 use Rattle.mt_state.specs.Notes.{Notes}
 use Rattle.mt_state.specs.Promises.{IsAnswer, Touches}
-use Rattle.mt_state.specs.Kept.{IsOpenOperation, IsSplitStarting, IsSplitMoving, HasAnswer, MayUnlock, IsUnlocking, IsKeptAt, IsClimbing}
+use Rattle.mt_state.specs.KeptOperations.{IsOpenOperation, IsSplitStarting, IsSplitMoving, HasAnswer, MayUnlock, IsUnlocking, IsKeptAt, IsClimbing}
 use Rattle.mt_state.specs.Invariant.{IsCountedUpTo, IsUnremoved, HoldsLast, HoldsAt, StateInvariant}
 use Rattle.mt_state.specs.Writes.{splitting}
 use Rattle.mt_state.proofs.Rely.{answer_stays}
@@ -43,9 +43,9 @@ use Rattle.mt_state.proofs.Locking.{ready_one, room_for}
 use Rattle.mt_state.proofs.Growing.{makes_same}
 use Rattle.mt_insert.specs.SplitStart.{IsSplitStart, IsSplitStopped}
 use Rattle.mt_insert.specs.Climbs.{IsClimbFrom}
-use Rattle.mt_insert.specs.Kept.{HoldsOnly, IsAtSplitStart}
-use Rattle.mt_insert.specs.SplitMoves.{walk_at}
-use Rattle.mt_descent.specs.Moves.{Continues}
+use Rattle.mt_insert.specs.KeptPuts.{HoldsOnly, IsAtSplitStart}
+use Rattle.mt_insert.specs.SplitEdits.{walk_at}
+use Rattle.mt_descent.specs.WalkMoves.{Continues}
 use Rattle.mt_state.proofs.Climbing.{LeavesNodes, MovesNoPair, moves_by}
 use Rattle.mt_state.proofs.ClimbingNodes.{climb_leaves, climb_keeps, climb_follows, climb_some, begun_leaves}
 use Rattle.mt_operation.specs.declared.prepared.Prepared.{Prepared}

@@ -18,7 +18,7 @@ use Rattle.mt_operation.specs.Tables.{op_at as operation_at}
 use Rattle.mt_state.specs.Views.{StateView, Core, shown}
 use Rattle.mt_state.specs.Steps.{change_in}
 use Rattle.mt_state.specs.Notes.{Notes}
-use Rattle.mt_state.specs.Kept.{IsKeptAt, IsKeptOf}
+use Rattle.mt_state.specs.KeptOperations.{IsKeptAt, IsKeptOf}
 use Rattle.mt_state.specs.Invariant.{IsTape, HoldsAt, StateInvariant, one_if_prepared}
 use Rattle.mt_state.proofs.Quiet.{quiet, LeavesPairs, quiet_move, is_quiet}
 use Rattle.mt_state.proofs.Telling.{Gives, gives}

@@ -11,7 +11,7 @@ use Rattle.mt_operation.specs.Operations.{view_of}
 use Rattle.mt_operation.specs.Phases.{is_done}
 use Rattle.mt_state.specs.Views.{StateView, Core, shown, map_of}
 use Rattle.mt_state.specs.Promises.{IsStep}
-use Rattle.mt_state.specs.Kept.{HasAnswer, IsKeptAt}
+use Rattle.mt_state.specs.KeptOperations.{HasAnswer, IsKeptAt}
 use Rattle.mt_state.specs.Invariant.{AreLogs, IsTape, StateInvariant}
 use Rattle.mt_state.proofs.Shown.{shown_table, shown_there, shown_set}
 use Rattle.mt_state.specs.Moves.{IsMove, IsTold}

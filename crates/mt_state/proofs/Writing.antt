@@ -28,7 +28,7 @@ use Rattle.mt_insert.specs.Puts.{change_of}
 use Rattle.mt_state.specs.Views.{Core, shown, granted_in, quota_of}
 use Rattle.mt_state.specs.Steps.{told_change, change_in}
 use Rattle.mt_state.specs.Promises.{IsPlacing}
-use Rattle.mt_state.specs.Kept.{IsPlacedOnce}
+use Rattle.mt_state.specs.KeptOperations.{IsPlacedOnce}
 use Rattle.mt_state.specs.Written.{KeepsQuotas, IsMadeByChange}
 use Rattle.mt_state.specs.Invariant.{StateInvariant}
 use Rattle.mt_state.specs.Moves.{IsMove, IsTold}

@@ -6,8 +6,8 @@ use Rattle.mt_arena.specs.Accesses.{at}
 use Rattle.mt_operation.specs.declared.walk.Walk.{Walk}
 use Rattle.mt_operation.specs.declared.operation.Operation.{Operation}
 use Rattle.mt_descent.specs.Pasts.{Past, IsNow, AreStamped}
-use Rattle.mt_descent.specs.Kept.{IsAtConfirm, IsKept}
-use Rattle.mt_descent.specs.Moves.{Continues, FindsIn, after_search, Loads, Confirms}
+use Rattle.mt_descent.specs.KeptWalks.{IsAtConfirm, IsKept}
+use Rattle.mt_descent.specs.WalkMoves.{Continues, FindsIn, after_search, Loads, Confirms}
 use Rattle.mt_state.specs.Views.{Core, shown}
 use Rattle.mt_state.specs.Promises.{IsStep}
 use Rattle.mt_state.specs.Invariant.{StateInvariant}

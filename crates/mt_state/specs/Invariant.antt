@@ -27,8 +27,8 @@ use Rattle.mt_operation.specs.Tables.{Table, op_at as operation_at}
 use Rattle.mt_descent.specs.Pasts.{ExtendsPast}
 use Rattle.mt_state.specs.Views.{Shown, Core, shown, past_of, KeepsPast}
 use Rattle.mt_operation.specs.Operations.{OperationView}
-use Rattle.mt_insert.specs.Splitting.{IsAmong}
-use Rattle.mt_state.specs.Kept.{IsKeptOf}
+use Rattle.mt_insert.specs.KeptSplits.{IsAmong}
+use Rattle.mt_state.specs.KeptOperations.{IsKeptOf}
 use Rattle.mt_state.specs.Written.{KeepsQuotas, IsMadeByChange}
 
 -- the logs, at most 64: each was given its worker's changes up to a step that was made, and the tape goes back to that

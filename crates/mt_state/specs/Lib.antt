@@ -2,7 +2,7 @@ pub mod Views
 pub mod Steps
 pub mod Notes
 pub mod Promises
-pub mod Kept
+pub mod KeptOperations
 pub mod Invariant
 pub mod Moves
 pub mod Ways

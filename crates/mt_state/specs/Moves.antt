@@ -9,7 +9,7 @@ use Rattle.mt_state.specs.Views.{Core, shown}
 use Rattle.mt_state.specs.Steps.{HasMoved}
 use Rattle.mt_state.specs.Notes.{Notes}
 use Rattle.mt_state.specs.Promises.{IsQuiet, IsPlacing, Touches}
-use Rattle.mt_state.specs.Kept.{IsKeptOf}
+use Rattle.mt_state.specs.KeptOperations.{IsKeptOf}
 use Rattle.mt_state.specs.Growth.{MakesFew}
 use Rattle.mt_state.specs.Invariant.{IsTape, AreStamps, AreVersions, HoldsAt, AreCounted, IsUnremoved, StateGuarantee, one_if_prepared}
 

@@ -14,8 +14,8 @@ use Rattle.mt_border.specs.declared.entry.FoundKind.TheVariants.{Link}
 use Rattle.mt_tape.specs.declared.entry.Entry.{Entry as TapeEntry}
 use Rattle.mt_tape.specs.Histories.{written_key}
 use Rattle.mt_arena.specs.Accesses.{at}
-use Rattle.mt_descent.specs.Kept.{GoesThrough, IsInSlot, HasSlot}
-use Rattle.mt_descent.specs.Moves.{TakesOut}
+use Rattle.mt_descent.specs.KeptWalks.{GoesThrough, IsInSlot, HasSlot}
+use Rattle.mt_descent.specs.WalkMoves.{TakesOut}
 use Rattle.mt_operation.specs.declared.phase.Phase.{Phase}
 use Rattle.mt_operation.specs.declared.phase.Phase.TheVariants.{Enter, Search, Load, Confirm, Judge, Store, Publish, SplitStart, SplitMove, SplitPrev, LockParent, InsertChild, InteriorSplit, Reparent, RootGrow, MakeLayer, Unlock, Done}
 use Rattle.mt_operation.specs.declared.walk.Taken.TheVariants.{Row}

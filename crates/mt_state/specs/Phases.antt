@@ -20,15 +20,15 @@ use Rattle.mt_operation.specs.declared.walk.Walk.{Walk}
 use Rattle.mt_operation.specs.declared.outcome.Outcome.{Outcome}
 use Rattle.mt_operation.specs.Operations.{OperationView, SplitsView}
 use Rattle.mt_descent.specs.Seen.{child_for}
-use Rattle.mt_descent.specs.Kept.{IsInSlot, slice_in}
-use Rattle.mt_descent.specs.Moves.{Verifies, FindsIn, Loads, Confirms, Locks, walk_into, walk_here, after_enter, after_pick, after_child, after_search, after_forward}
-use Rattle.mt_insert.specs.Moves.{walk_placed}
+use Rattle.mt_descent.specs.KeptWalks.{IsInSlot, slice_in}
+use Rattle.mt_descent.specs.WalkMoves.{Verifies, FindsIn, Loads, Confirms, Locks, walk_into, walk_here, after_enter, after_pick, after_child, after_search, after_forward}
+use Rattle.mt_insert.specs.Placing.{walk_placed}
 use Rattle.mt_insert.specs.Judge.{StandsIn, after_judge}
 use Rattle.mt_insert.specs.Unlock.{walk_done}
-use Rattle.mt_insert.specs.Splitting.{last_half}
-use Rattle.mt_insert.specs.SplitMoves.{walk_at, for_parent, after_reparent}
+use Rattle.mt_insert.specs.KeptSplits.{last_half}
+use Rattle.mt_insert.specs.SplitEdits.{walk_at, for_parent, after_reparent}
 use Rattle.mt_insert.specs.SplitMove.{after_parting}
-use Rattle.mt_layer.specs.Moves.{walk_linked}
+use Rattle.mt_layer.specs.NewLayers.{walk_linked}
 use Rattle.mt_state.specs.declared.moves.Move.{Move}
 use Rattle.mt_state.specs.declared.moves.Move.TheVariants.{Moved, Done as DoneMove}
 use Rattle.mt_state.specs.Views.{StateView, op_at}

@@ -6,7 +6,7 @@ use Rattle.mt_rows.specs.Rows.{columns_of}
 use Rattle.mt_rows.specs.Changes.{changed}
 use Rattle.mt_rows.specs.Commands.{key_of}
 use Rattle.mt_insert.specs.Puts.{change_of}
-use Rattle.mt_insert.specs.Splitting.{last_half}
+use Rattle.mt_insert.specs.KeptSplits.{last_half}
 use Rattle.mt_rows.specs.Maps.{reply_of, is_change, is_no_memory}
 use Rattle.mt_rows.specs.Tenants.{tenant_map}
 use Rattle.mt_tape.specs.declared.entry.Entry.{Entry as TapeEntry}
@@ -20,7 +20,7 @@ use Rattle.mt_operation.specs.declared.phase.Phase.{Phase}
 use Rattle.mt_operation.specs.declared.walk.Walk.{Walk}
 use Rattle.mt_operation.specs.declared.outcome.Outcome.{Outcome}
 use Rattle.mt_operation.specs.Operations.{OperationView, SplitsView}
-use Rattle.mt_descent.specs.Moves.{IsBlocked, IsBlockedAt}
+use Rattle.mt_descent.specs.WalkMoves.{IsBlocked, IsBlockedAt}
 use Rattle.mt_state.specs.declared.moves.Move.{Move}
 use Rattle.mt_state.specs.declared.moves.Move.TheVariants.{Moved, Again, NoMemory as NoMemoryMove, Done as DoneMove, Spent, NoSuch}
 use Rattle.mt_state.specs.Views.{StateView, contents_of, op_at, map_of, quota_of, KeepsPast, IsPlaced}

@@ -5,7 +5,7 @@ use Rattle.mt_rows.specs.Rows.{Columns, shown}
 use Rattle.mt_operation.specs.declared.phase.Phase.{Phase}
 use Rattle.mt_operation.specs.declared.phase.Phase.TheVariants.{Search, Lock}
 use Rattle.mt_operation.specs.declared.walk.Walk.{Walk}
-use Rattle.mt_descent.specs.Moves.{Continues}
+use Rattle.mt_descent.specs.WalkMoves.{Continues}
 use Rattle.mt_operation.specs.Phases.{MayFollow, IsOfKind, IsDescent}
 use Rattle.mt_state.specs.Notes.{Says, columns_asked}
 use Rattle.mt_operation.specs.declared.outcome.Outcome.{Outcome}

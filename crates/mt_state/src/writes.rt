@@ -19,7 +19,7 @@ ghost use Rattle.mt_state.specs.Writes.{wrote};
 ghost use Rattle.mt_insert.specs.Publish.{IsPublish, IsPublishFull};
 ghost use Rattle.mt_insert.specs.Store.{IsStore};
 ghost use Rattle.mt_insert.specs.Judge.{IsMadeReady};
-ghost use Rattle.mt_descent.specs.Moves.{IsLock};
+ghost use Rattle.mt_descent.specs.WalkMoves.{IsLock};
 ghost use Rattle.mt_insert.specs.Unlock.{IsUnlock};
 
 /// Each phase of a put makes a lawful step, by what its call ensures, and the invariant stays: where it

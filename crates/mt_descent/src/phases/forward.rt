@@ -5,8 +5,8 @@ ghost use Rattle.std.specs.Option.{ForSome};
 ghost use Rattle.mt_rows.specs.Rows.{Columns};
 ghost use Rattle.mt_arena.specs.Accesses.{at};
 ghost use Rattle.mt_descent.specs.Pasts.{Past};
-ghost use Rattle.mt_descent.specs.Kept.{slice_in, IsKept, IsAtForward};
-ghost use Rattle.mt_descent.specs.Moves.{AnswersAgain, Continues, walk_here, after_forward};
+ghost use Rattle.mt_descent.specs.KeptWalks.{slice_in, IsKept, IsAtForward};
+ghost use Rattle.mt_descent.specs.WalkMoves.{AnswersAgain, Continues, walk_here, after_forward};
 
 use crate::walks::{arrival, blocker};
 use mt_arena::{Arena, Node};

@@ -4,8 +4,8 @@ ghost use Rattle.std.specs.Prelude.{◌≡◌, ◌<◌, ◌≤◌, IfOk, IfErr, 
 ghost use Rattle.std.specs.Option.{option_map};
 ghost use Rattle.mt_arena.specs.Accesses.{at};
 ghost use Rattle.mt_descent.specs.Pasts.{Past, AreStamped};
-ghost use Rattle.mt_descent.specs.Kept.{IsKept, IsAtLoad};
-ghost use Rattle.mt_descent.specs.Moves.{IsBlockedAt, Continues, after_load, Loads};
+ghost use Rattle.mt_descent.specs.KeptWalks.{IsKept, IsAtLoad};
+ghost use Rattle.mt_descent.specs.WalkMoves.{IsBlockedAt, Continues, after_load, Loads};
 
 use mt_arena::Arena;
 use mt_border::Held;

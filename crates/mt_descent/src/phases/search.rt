@@ -5,8 +5,8 @@ ghost use Rattle.mt_border.specs.declared.entry.Find.{Find as AnyFind};
 ghost use Rattle.mt_rows.specs.Rows.{Columns};
 ghost use Rattle.mt_arena.specs.Accesses.{at};
 ghost use Rattle.mt_descent.specs.Pasts.{Past, IsNow};
-ghost use Rattle.mt_descent.specs.Kept.{IsKept, IsAtBorder};
-ghost use Rattle.mt_descent.specs.Moves.{Continues, after_search, FindsIn};
+ghost use Rattle.mt_descent.specs.KeptWalks.{IsKept, IsAtBorder};
+ghost use Rattle.mt_descent.specs.WalkMoves.{Continues, after_search, FindsIn};
 
 use mt_arena::Arena;
 use mt_border::laws::suffix_fits_mark;

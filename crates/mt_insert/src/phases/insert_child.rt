@@ -1,6 +1,6 @@
 //! InsertChild: puts the right half into the parent.
 
-ghost use Rattle.mt_insert.specs.Splitting.{IsAtInsertChild};
+ghost use Rattle.mt_insert.specs.KeptSplits.{IsAtInsertChild};
 ghost use Rattle.mt_insert.specs.Climbs.{IsInsertChild};
 
 use crate::halves::{above, last};

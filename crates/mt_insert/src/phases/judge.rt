@@ -5,7 +5,7 @@ ghost use Rattle.std.specs.Prelude.{◌≡◌, ◌<◌, ◌==◌, ℕ, if◌then
 ghost use Rattle.mt_border.specs.Node.{IsLive, entries_of, entry_at};
 ghost use Rattle.mt_arena.specs.Accesses.{at};
 ghost use Rattle.mt_insert.specs.Puts.{IsPut};
-ghost use Rattle.mt_insert.specs.Kept.{HoldsBorder};
+ghost use Rattle.mt_insert.specs.KeptPuts.{HoldsBorder};
 ghost use Rattle.mt_insert.specs.Judge.{StandsIn, TellsJudged, after_judge};
 
 use crate::phases::unlock::{go_below, unlock};

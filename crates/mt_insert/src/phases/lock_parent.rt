@@ -2,8 +2,8 @@
 
 ghost use Rattle.std.specs.Prelude.{◌≡◌, ◌<◌, ℕ, length, Some, IfSome, IfNone, ◌≢◌};
 ghost use Rattle.mt_arena.specs.Accesses.{at};
-ghost use Rattle.mt_insert.specs.Splitting.{last_of, HoldsSplits, IsAtLockParent};
-ghost use Rattle.mt_insert.specs.SplitMoves.{for_parent};
+ghost use Rattle.mt_insert.specs.KeptSplits.{last_of, HoldsSplits, IsAtLockParent};
+ghost use Rattle.mt_insert.specs.SplitEdits.{for_parent};
 ghost use Rattle.mt_insert.specs.Climbs.{IsLockParent};
 
 use crate::halves::last;

@@ -8,8 +8,8 @@ ghost use Rattle.mt_arena.specs.Edits.{with_slots};
 ghost use Rattle.mt_arena.specs.Arena.{Guarantee};
 ghost use Rattle.mt_arena.specs.Accesses.{at, with_node};
 ghost use Rattle.mt_insert.specs.Puts.{IsPut};
-ghost use Rattle.mt_insert.specs.Kept.{IsAtPublish, IsAtUnlock};
-ghost use Rattle.mt_insert.specs.Moves.{walk_placed, entry_of, Places};
+ghost use Rattle.mt_insert.specs.KeptPuts.{IsAtPublish, IsAtUnlock};
+ghost use Rattle.mt_insert.specs.Placing.{walk_placed, entry_of, Places};
 ghost use Rattle.mt_insert.specs.Publish.{TellsPublished};
 
 use crate::phases::store::push_write;

@@ -1,6 +1,6 @@
 //! SplitPrev: names the right half in the border node behind it.
 
-ghost use Rattle.mt_insert.specs.Splitting.{IsAtSplitPrev};
+ghost use Rattle.mt_insert.specs.KeptSplits.{IsAtSplitPrev};
 ghost use Rattle.mt_insert.specs.Climbs.{IsSplitPrev};
 
 use crate::halves::last;

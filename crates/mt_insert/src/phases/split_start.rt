@@ -4,9 +4,9 @@ ghost use Rattle.std.specs.Prelude.{◌≡◌, ◌<◌, length, OnOk, OnErr};
 ghost use Rattle.mt_arena.specs.Arena.{content_of, Guarantee};
 ghost use Rattle.mt_operation.specs.declared.task.Task.{Task as AnyTask};
 ghost use Rattle.mt_operation.specs.declared.prepared.Prepared.{Prepared as AnyPrepared};
-ghost use Rattle.mt_insert.specs.Kept.{IsAtSplitStart};
+ghost use Rattle.mt_insert.specs.KeptPuts.{IsAtSplitStart};
 ghost use Rattle.mt_operation.specs.Operations.{IsUnsplit};
-ghost use Rattle.mt_insert.specs.SplitMoves.{Starts, HasOneMore};
+ghost use Rattle.mt_insert.specs.SplitEdits.{Starts, HasOneMore};
 ghost use Rattle.mt_insert.specs.SplitStart.{IsSplitStart, IsSplitStopped};
 
 use crate::phases::unlock::unlock;

@@ -3,8 +3,8 @@
 ghost use Rattle.std.specs.Prelude.{◌≡◌, ◌<◌};
 ghost use Rattle.mt_tape.specs.Tapes.{last_write};
 ghost use Rattle.mt_insert.specs.Puts.{IsPut};
-ghost use Rattle.mt_insert.specs.Kept.{IsAtStore};
-ghost use Rattle.mt_insert.specs.Moves.{pushed};
+ghost use Rattle.mt_insert.specs.KeptPuts.{IsAtStore};
+ghost use Rattle.mt_insert.specs.Placing.{pushed};
 ghost use Rattle.mt_insert.specs.Store.{IsStore};
 
 use mt_arena::Arena;

@@ -7,8 +7,8 @@ ghost use Rattle.mt_arena.specs.Layers.{slot_at};
 ghost use Rattle.mt_arena.specs.Arena.{content_of, Guarantee};
 ghost use Rattle.mt_arena.specs.Accesses.{at};
 ghost use Rattle.mt_arena.specs.Layering.{prefix_below, with_layer};
-ghost use Rattle.mt_insert.specs.Kept.{IsAtMakeLayer};
-ghost use Rattle.mt_layer.specs.Moves.{entry_below};
+ghost use Rattle.mt_insert.specs.KeptPuts.{IsAtMakeLayer};
+ghost use Rattle.mt_layer.specs.NewLayers.{entry_below};
 ghost use Rattle.mt_layer.specs.Builds.{IsMakeLayer};
 ghost use Rattle.mt_insert.specs.Unlock.{IsUnlock};
 

@@ -1,7 +1,7 @@
 //! MarkUnstable: makes the pair of the other key unstable.
 
 ghost use Rattle.mt_rows.specs.Rows.{Bytes};
-ghost use Rattle.mt_layer.specs.Kept.{IsAtMarkUnstable};
+ghost use Rattle.mt_layer.specs.KeptLayers.{IsAtMarkUnstable};
 ghost use Rattle.mt_layer.specs.Builds.{IsMarkUnstable};
 
 use mt_arena::Arena;

@@ -5,7 +5,7 @@ use Rattle.mt_operation.specs.declared.phase.Phase.TheVariants.{InsertChild, Int
 use Rattle.mt_operation.specs.declared.walk.Walk.{Walk}
 use Rattle.mt_operation.specs.declared.splits.Splits.{Splits}
 use Rattle.mt_arena.specs.Arena.{ArenaView}
-use Rattle.mt_insert.specs.Splitting.{IsAtLockParent, KeptSplit, last_of}
+use Rattle.mt_insert.specs.KeptSplits.{IsAtLockParent, KeptSplit, last_of}
 use Rattle.mt_insert.specs.Climbs.{IsClimbFrom}
 use Rattle.mt_core.proofs.climbs.climb_on.Goals as goal
 

@@ -1,7 +1,7 @@
 -- Where a step goes that comes to a root, compares the version of the interior node, or reads the next border node, for `go_down`; and how each brings on.
 use Rattle.std.proofs.Common.{sym, ◌∙◌}
 use Rattle.mt_arena.specs.Accesses.{at}
-use Rattle.mt_descent.specs.Kept.{slice_in}
+use Rattle.mt_descent.specs.KeptWalks.{slice_in}
 use Rattle.mt_core.proofs.LookSteps.{enter_goes, verify_goes, forward_goes, enter_leads, pick_leads, child_leads, verify_leads, forward_leads, enter_way, child_way, verify_way, forward_way}
 use Rattle.mt_core.proofs.LookPoints.{enter_nears, pick_nears, child_nears, verify_nears, forward_nears}
 use Rattle.mt_core.proofs.looks.go_down.Goals as goal

@@ -1,5 +1,5 @@
 -- What is kept of the split by its next phase.
-use Rattle.mt_insert.specs.Splitting.{KeptSplit}
+use Rattle.mt_insert.specs.KeptSplits.{KeptSplit}
 use Rattle.mt_phases_tests.proofs.phases.climb.Given as goal
 
 abbrev pub invariant-loop-steps : goal.invariant-loop-steps

@@ -4,7 +4,7 @@ use Rattle.std.proofs.lemmas.Option.{same_Some}
 use Rattle.mt_arena.specs.Arena.{ArenaView}
 use Rattle.mt_arena.specs.Several.{MayInsert, with_right}
 use Rattle.mt_operation.specs.declared.splits.Halves.{Halves}
-use Rattle.mt_insert.specs.Splitting.{last_of, IsAtUnlockAll, HoldsSplits}
+use Rattle.mt_insert.specs.KeptSplits.{last_of, IsAtUnlockAll, HoldsSplits}
 use Rattle.mt_insert.proofs.InsertingChildren.{may_insert, kept_inserted, holds_inserted}
 use Rattle.mt_insert.proofs.phases.insert_child.insert_child.Goals as goal
 

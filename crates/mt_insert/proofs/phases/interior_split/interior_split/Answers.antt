@@ -1,5 +1,5 @@
 -- That the parent may be split, and what is kept of it and of its right half.
-use Rattle.mt_insert.specs.SplitMoves.{HasOneMore}
+use Rattle.mt_insert.specs.SplitEdits.{HasOneMore}
 use Rattle.std.proofs.Common.{rules, ◌≡◌, None, refl, sym, ap, subst, ◌∙◌, ℕ, Some, length}
 use Rattle.std.proofs.lemmas.Option.{same_Some}
 use Rattle.mt_arena.specs.NodeView.{NodeView}
@@ -8,7 +8,7 @@ use Rattle.mt_arena.specs.Accesses.{at}
 use Rattle.mt_arena.specs.Several.{MaySplitInner, with_parts}
 use Rattle.mt_operation.specs.declared.splits.Halves.{Halves}
 use Rattle.mt_operation.specs.declared.splits.Splits.{Splits}
-use Rattle.mt_insert.specs.Splitting.{last_of, IsAtReparent, HoldsSplits}
+use Rattle.mt_insert.specs.KeptSplits.{last_of, IsAtReparent, HoldsSplits}
 use Rattle.mt_insert.proofs.SplittingParents.{may_split, kept_parted, holds_parted}
 use Rattle.mt_insert.proofs.phases.interior_split.interior_split.Goals as goal
 

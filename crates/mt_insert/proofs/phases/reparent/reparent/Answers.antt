@@ -6,8 +6,8 @@ use Rattle.mt_arena.specs.Edits.{pointed}
 use Rattle.mt_arena.specs.Arena.{ArenaView}
 use Rattle.mt_arena.specs.Accesses.{at, with_node}
 use Rattle.mt_operation.specs.declared.splits.Halves.{Halves}
-use Rattle.mt_insert.specs.Splitting.{last_of}
-use Rattle.mt_insert.specs.SplitMoves.{with_named_parent}
+use Rattle.mt_insert.specs.KeptSplits.{last_of}
+use Rattle.mt_insert.specs.SplitEdits.{with_named_parent}
 use Rattle.mt_insert.proofs.Reparenting.{child_no_root, child_range, child_knows, child_open, last_kept, more_kept, child_holds}
 use Rattle.mt_insert.proofs.phases.reparent.reparent.Goals as goal
 

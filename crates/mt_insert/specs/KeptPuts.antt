@@ -15,7 +15,7 @@ use Rattle.mt_operation.specs.declared.phase.Phase.TheVariants.{Store, Publish, 
 use Rattle.mt_operation.specs.declared.walk.Walk.{Walk}
 use Rattle.mt_operation.specs.declared.task.Task.{Task}
 use Rattle.mt_operation.specs.declared.prepared.Prepared.{Prepared}
-use Rattle.mt_descent.specs.Kept.{IsInSlot, IsAtJudge}
+use Rattle.mt_descent.specs.KeptWalks.{IsInSlot, IsAtJudge}
 use Rattle.mt_insert.specs.Puts.{IsReady}
 
 -- at Judge: the operation holds the border node as its lock was taken: unmarked, with the range that was seen, and nothing lags behind it

@@ -24,7 +24,7 @@ use Rattle.mt_operation.specs.declared.walk.Taken.{Taken}
 use Rattle.mt_operation.specs.declared.walk.Taken.TheVariants.{Missing, Row, Link, Nothing}
 use Rattle.mt_operation.specs.declared.walk.Walk.{Walk}
 use Rattle.mt_descent.specs.Seen.{IsOutdated}
-use Rattle.mt_descent.specs.Kept.{IsInSlot, IsAtJudge, IsKept}
+use Rattle.mt_descent.specs.KeptWalks.{IsInSlot, IsAtJudge, IsKept}
 use Rattle.mt_arena.specs.Settled.{IsSettled}
 use Rattle.mt_descent.specs.Pasts.{Past}
 

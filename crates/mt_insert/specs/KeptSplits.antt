@@ -19,7 +19,7 @@ use Rattle.mt_operation.specs.declared.prepared.Prepared.{Prepared}
 use Rattle.mt_operation.specs.declared.splits.Halves.{Halves}
 use Rattle.mt_operation.specs.declared.splits.Splits.{Splits}
 use Rattle.mt_operation.specs.Operations.{SplitsView}
-use Rattle.mt_descent.specs.Kept.{GoesThrough}
+use Rattle.mt_descent.specs.KeptWalks.{GoesThrough}
 use Rattle.mt_insert.specs.Puts.{IsReady}
 
 -- the halves at a place of the list, and the last ones

@@ -13,9 +13,9 @@ use Rattle.mt_operation.specs.declared.phase.Phase.{Phase}
 use Rattle.mt_operation.specs.declared.phase.Phase.TheVariants as phases
 use Rattle.mt_operation.specs.declared.walk.Taken.TheVariants.{Link}
 use Rattle.mt_operation.specs.declared.walk.Walk.{Walk}
-use Rattle.mt_descent.specs.Kept.{GoesThrough, IsAtEnter}
-use Rattle.mt_insert.specs.Kept.{IsAtMakeLayer, IsAtUnlock}
-use Rattle.mt_layer.specs.Moves.{entry_below}
+use Rattle.mt_descent.specs.KeptWalks.{GoesThrough, IsAtEnter}
+use Rattle.mt_insert.specs.KeptPuts.{IsAtMakeLayer, IsAtUnlock}
+use Rattle.mt_layer.specs.NewLayers.{entry_below}
 
 -- the key is one of tree t, which is a layer further down, and has bytes there
 pub record GoesBelow (v : ArenaView) (t layer : ℕ) (key : Bytes) : Type 0 where

@@ -25,10 +25,10 @@ use Rattle.mt_operation.specs.Tasks.{ask}
 use Rattle.mt_operation.specs.declared.splits.Halves.{Halves}
 use Rattle.mt_operation.specs.Operations.{view_of, IsUnsplit}
 use Rattle.mt_insert.specs.Puts.{change_of}
-use Rattle.mt_descent.specs.Kept.{HasSlot, IsKept}
-use Rattle.mt_insert.specs.Kept.{HoldsBorder, IsAtStore, IsAtPublish, IsAtSplitStart, IsAtUnlock}
-use Rattle.mt_insert.specs.Splitting.{IsAtSplitMove, IsAtUnlockAll, KeptSplit}
-use Rattle.mt_layer.specs.Kept.{KeptLayer}
+use Rattle.mt_descent.specs.KeptWalks.{HasSlot, IsKept}
+use Rattle.mt_insert.specs.KeptPuts.{HoldsBorder, IsAtStore, IsAtPublish, IsAtSplitStart, IsAtUnlock}
+use Rattle.mt_insert.specs.KeptSplits.{IsAtSplitMove, IsAtUnlockAll, KeptSplit}
+use Rattle.mt_layer.specs.KeptLayers.{KeptLayer}
 use Rattle.mt_state.specs.Views.{Core, shown, past_of}
 use Rattle.mt_state.specs.Notes.{Says, columns_asked}
 use Rattle.mt_state.specs.Steps.{change_in}
