@@ -1,6 +1,7 @@
 -- A session over sorted maps writes one text, where no reply tells of want of memory. For the law `one_text`.
 use Rattle.std.proofs.Common.{◌≡◌, ◌⊎◌, ℕ, Bool, true, false, List, [], ◌∷◌, Option, None, Some, Result, Ok, Err, refl, sym, ap, subst, ◌∙◌, inl, inr}
 use Rattle.std.specs.List.{flat_map, AllByRecursion}
+use Rattle.std.proofs.lemmas.Option.{same_Some}
 use Rattle.mt_rows.specs.Rows.{Bytes}
 use Rattle.mt_rows.specs.declared.command.Command.{Command}
 use Rattle.mt_rows.specs.declared.reply.Reply.{Reply}
@@ -15,7 +16,6 @@ use Rattle.mt_wire.specs.declared.message.WireReply.{WireReply}
 use Rattle.mt_wire.specs.declared.message.WireReply.TheVariants.{Told}
 use Rattle.mt_wire.specs.Fronts.{IsReadingEnd}
 use Rattle.mt_wire.specs.Replies.{reply_spelling}
-use Rattle.mt_wire.proofs.FieldLaws.{some_is}
 use Rattle.mt_wire.proofs.FrameLaws.{one_reading}
 use Rattle.mt_wire.proofs.RequestLaws.{requests}
 use Rattle.mt_session.specs.declared.caller.CallerFault.{CallerFault}
@@ -32,7 +32,7 @@ open_same (Some quota) tenant d a b e f p q = (p.0 ∙ sym q.0, p.1 ∙ sym q.1)
 
 -- a refusal that tells of no want of memory is a first fault
 first_fault : (command : Command) (refusal : Refusal) (w : WireReply) → IsFault command refusal → call_told (Err (Refused refusal)) ≡ Some w → IsAmple w → IsFirstFault command refusal
-first_fault command Memory w is told ample = absurd (ample.1 (sym (some_is (refused Memory) w told)))
+first_fault command Memory w is told ample = absurd (ample.1 (sym (same_Some (refused Memory) w told)))
 first_fault command _ w is told ample = is
 
 -- a reply that was given by the map, where memory sufficed
@@ -51,16 +51,16 @@ answer_same tenant quota d command (Ok r) (Err (Refused g)) e f w v p q s t ampl
 answer_same tenant quota d command (Err (Refused g)) (Ok y) e f w v p q s t ample enough = absurd (fault_not_taken command g q.0 (first_fault command g w p.0 s ample))
 answer_same tenant quota d command (Err (Refused g)) (Err (Refused h)) e f w v p q s t ample enough =
     let same = fault_same command g h (first_fault command g w p.0 s ample) (first_fault command h v q.0 t enough) in
-    (some_is w v (sym s ∙ ap (λ (r : Refusal). call_told (Err (Refused r))) same ∙ t), p.1 ∙ sym q.1)
+    (same_Some w v (sym s ∙ ap (λ (r : Refusal). call_told (Err (Refused r))) same ∙ t), p.1 ∙ sym q.1)
 answer_same tenant quota d command (Err Stuck) b e f w v p q s t ample enough = absurd (cc)
 answer_same tenant quota d command (Ok r) (Err Stuck) e f w v p q s t ample enough = absurd (cc)
 answer_same tenant quota d command (Err (Refused g)) (Err Stuck) e f w v p q s t ample enough = absurd (cc)
 
 -- and so has a command of the opened tenant
 call_same : (opened : Option ℕ) (command : Command) (d : TenantMaps) (a b : Result Reply CallerFault) (e f : TenantMaps) (w v : WireReply) → MapsCall opened d command a e → MapsCall opened d command b f → call_told a ≡ Some w → call_told b ≡ Some v → IsAmple w → IsAmple v → (w ≡ v) × (e ≡ f)
-call_same None command d a b e f w v p q s t ample enough = let same : a ≡ b = p.0 ∙ sym q.0 in (some_is w v (sym s ∙ ap call_told same ∙ t), p.1 ∙ sym q.1)
+call_same None command d a b e f w v p q s t ample enough = let same : a ≡ b = p.0 ∙ sym q.0 in (same_Some w v (sym s ∙ ap call_told same ∙ t), p.1 ∙ sym q.1)
 call_same (Some tenant) command d a b e f w v (x, at, p) (y, here, q) s t ample enough =
-    answer_same tenant x d command a b e f w v p (subst (λ (n : ℕ). MapsAnswer tenant n d command b f) (some_is y x (sym here ∙ at)) q) s t ample enough
+    answer_same tenant x d command a b e f w v p (subst (λ (n : ℕ). MapsAnswer tenant n d command b f) (same_Some y x (sym here ∙ at)) q) s t ample enough
 
 -- a request has one reply
 reply_same : (r : Request) (o : Bool) (d : TenantMaps) (w v : WireReply) (p q : Bool) (e f : TenantMaps) → IsReply MapsExchange o d r w p e → IsReply MapsExchange o d r v q f → IsAmple w → IsAmple v → (w ≡ v) × (p ≡ q) × (e ≡ f)

@@ -6,18 +6,21 @@ use Rattle.std.specs.List.{flat_map, AllByRecursion}
 use Rattle.std.proofs.lemmas.Bool.{eqb-true}
 use Rattle.std.proofs.lemmas.List.{append-nil, nil_from_length}
 use Rattle.std.proofs.lemmas.List.Elements.{All-from_recursion, recursion_from_All, All-weaker}
+use Rattle.std.proofs.lemmas.Option.{same_Some}
 use Rattle.mt_rows.specs.Rows.{Bytes, Columns, IsRow}
 use Rattle.mt_rows.specs.Commands.{IsKey}
 use Rattle.mt_rows.specs.declared.record.Record.{Record}
 use Rattle.mt_rows.specs.declared.record.Batch.{Batch}
+use Rattle.mt_fields.specs.Fields.{string}
+use Rattle.mt_fields.specs.Reading.{◌>>=◌, byte_at, number_at, taken_at, string_at, each_at}
+use Rattle.mt_fields.proofs.FieldLaws.{IsBytes, bind_some, guard_ended, choose, Takes, Takes-then, Takes-more, byte_takes, wide32, wide64, number_takes, number_again, taken_takes, taken_fits, taken_again, string_takes, string_again, each_takes, each_again}
 use Rattle.mt_log.specs.declared.batch.LogBatch.{LogBatch}
 use Rattle.mt_log.specs.declared.batch.LogBatch.TheVariants.{Records, Resume}
-use Rattle.mt_log.specs.Format.{string, row_bytes, change_bytes, record_bytes, body, told_body}
+use Rattle.mt_log.specs.Format.{row_bytes, change_bytes, record_bytes, body, told_body}
 use Rattle.mt_batches.specs.Batches.{IsRowOrNone, IsRecord}
 use Rattle.mt_log.specs.Contents.{IsLogBatch}
-use Rattle.mt_log.specs.Reading.{◌>>=◌, byte_at, number_at, taken_at, string_at, each_at, is_row, row_at, written_at, change_kind_at, change_at, key_at, record_of, record_at, is_step, records_at, resume_at, batch_kind_at, batch_in, batch_at}
+use Rattle.mt_log.specs.Reading.{is_row, row_at, written_at, change_kind_at, change_at, key_at, record_of, record_at, is_step, records_at, resume_at, batch_kind_at, batch_in, batch_at}
 use Rattle.mt_log.proofs.Tests.{row_from_test, test_from_row, at_most_from_test, test_from_at_most}
-use Rattle.mt_log.proofs.FieldLaws.{IsBytes, bind_some, guard_ended, choose, some_is, Takes, Takes-then, Takes-more, byte_takes, wide32, wide64, number_takes, number_again, taken_takes, taken_fits, taken_again, string_takes, string_again, each_takes, each_again}
 
 -- ---- rows
 
@@ -53,12 +56,12 @@ written_takes bytes x fits e =
     let a = bind_some (row_at bytes) (λ row. Some (Some row.0, row.1)) x e in
     let t = row_takes bytes a.0 fits a.1 in
     let made : Option Columns × Bytes = (Some a.0.0, a.0.1) in
-    subst (ReadsChange (1 ∷ bytes)) (some_is made x a.2) (Takes-more 1 bytes (row_bytes a.0.0) a.0.1 t.0, t.1)
+    subst (ReadsChange (1 ∷ bytes)) (same_Some made x a.2) (Takes-more 1 bytes (row_bytes a.0.0) a.0.1 t.0, t.1)
 
 removed_takes : (bytes : Bytes) (x : Option Columns × Bytes) → IsBytes bytes → Some (None, bytes) ≡ Some x → ReadsChange (0 ∷ bytes) x
 removed_takes bytes x fits e =
     let made : Option Columns × Bytes = (None, bytes) in
-    subst (ReadsChange (0 ∷ bytes)) (some_is made x e) (record { parts = refl; rest_fits = fits }, tt)
+    subst (ReadsChange (0 ∷ bytes)) (same_Some made x e) (record { parts = refl; rest_fits = fits }, tt)
 
 change_kind_takes : (kind : ℕ) (bytes : Bytes) (x : Option Columns × Bytes) → IsBytes bytes → change_kind_at kind bytes ≡ Some x → ReadsChange (kind ∷ bytes) x
 unfolding change_kind_at
@@ -108,7 +111,8 @@ record_takes bytes x fits e =
     let middle = Takes-then a.0.1 (to_be_bytes w32 b.0.0) b.0.1 (string d.0.0 ++ change_bytes f.0.0) f.0.1 t.0 last in
     let whole = Takes-then bytes (to_be_bytes w64 a.0.0) a.0.1 (to_be_bytes w32 b.0.0 ++ (string d.0.0 ++ change_bytes f.0.0)) f.0.1 s.0 middle in
     let made : Record × Bytes = (record_of a.0.0 b.0.0 d.0.0 f.0.0, f.0.1) in
-    subst (λ (y : Record × Bytes). Takes bytes (record_bytes y.0) y.1 × IsRecord y.0) (some_is made x f.2) (whole, record { stamp = s.1; tenant = t.1; key = u.1; row = v.1 })
+    subst (λ (y : Record × Bytes). Takes bytes (record_bytes y.0) y.1 × IsRecord y.0) (same_Some made x f.2)
+    (whole, record { stamp = s.1; tenant = t.1; key = u.1; row = v.1 })
 
 record_again : (r : Record) (rest : Bytes) → IsRecord r → record_at (record_bytes r ++ rest) ≡ Some (r, rest)
 unfolding record_at
@@ -202,7 +206,8 @@ batch_takes bytes b rest fits e =
     let both = Takes-then bytes (to_be_bytes w32 n.0.0) n.0.1 t.0.0 t.0.1 number.0 taken.0 in
     let parts : bytes ≡ told_body (body x.0) ++ t.0.1 = both.parts ∙ ap (λ (k : ℕ). (to_be_bytes w32 k ++ t.0.0) ++ t.0.1) (sym len) ∙ ap (λ (l : Bytes). (to_be_bytes w32 (length (body x.0)) ++ l) ++ t.0.1) read.0 in
     let made : LogBatch × Bytes = (x.0, t.0.1) in
-    subst (λ (y : LogBatch × Bytes). (bytes ≡ told_body (body y.0) ++ y.1) × IsLogBatch y.0) (some_is made (b, rest) x.2) (parts, read.1 (omega (arith, len, number.1)))
+    subst (λ (y : LogBatch × Bytes). (bytes ≡ told_body (body y.0) ++ y.1) × IsLogBatch y.0) (same_Some made (b, rest) x.2)
+    (parts, read.1 (omega (arith, len, number.1)))
 
 -- ---- what is spelled so is read
 

@@ -2,6 +2,7 @@
 use Rattle.std.proofs.Common.{◌≡◌, ◌≢◌, ◌⊎◌, ◌≤◌, ◌^◌, inl, inr, ⊎_elim, ℕ, List, [], ◌∷◌, ◌++◌, length, drop, get_or, refl, sym, ◌∙◌, ap, subst, arith, append_assoc}
 use Rattle.std.specs.List.{flat_map, AllByRecursion}
 use Rattle.std.proofs.lemmas.List.{flat_map_more}
+use Rattle.std.proofs.lemmas.Option.{same_Some}
 use Rattle.mt_rows.specs.Rows.{Bytes}
 use Rattle.mt_disk.specs.Disk.{DiskState, LeavesOnly, synced}
 use Rattle.mt_disk.proofs.CrashLaws.{after_sync, joined, widened}
@@ -11,7 +12,6 @@ use Rattle.mt_rows.specs.declared.record.Batch.{Batch}
 use Rattle.mt_log.specs.Format.{header, body, told_body, open_batch, batch_bytes}
 use Rattle.mt_log.specs.Contents.{Contents, IsContents, IsBatch, IsLogBatch, JoinsAndRises, Rises, from_of, to_of, Join, end_of, log_bytes, with_batch}
 use Rattle.mt_log.specs.Fronts.{HasFront, IsBadGate, IsBadLog, IsShut, IsTorn, IsBeforeOrAfter, IsLeft, IsOldOrNew, IsFound}
-use Rattle.mt_log.proofs.FieldLaws.{some_is}
 use Rattle.mt_log.proofs.BatchLaws.{batch_again}
 use Rattle.mt_log.specs.Reading.{batch_at}
 
@@ -65,7 +65,7 @@ more_bytes c b = sym (flat_map_more batch_bytes (header c.worker c.logs) c.batch
 
 one_batch : (b c : LogBatch) (x y : Bytes) → IsLogBatch b → IsLogBatch c → told_body (body b) ++ x ≡ told_body (body c) ++ y → (b ≡ c) × (x ≡ y)
 one_batch b c x y is_b is_c e =
-    let same = some_is (b, x) (c, y) (sym (batch_again b x is_b) ∙ ap batch_at e ∙ batch_again c y is_c) in
+    let same = same_Some (b, x) (c, y) (sym (batch_again b x is_b) ∙ ap batch_at e ∙ batch_again c y is_c) in
     (ap (λ (p : LogBatch × Bytes). p.0) same, ap (λ (p : LogBatch × Bytes). p.1) same)
 
 abbrev first : Bytes → ℕ

@@ -1,19 +1,16 @@
 -- Format 1 of a log: how a header, a record and a batch are spelled. All numbers have their highest byte first.
 use Rattle.std.specs.Prelude.{ℕ, [], ◌∷◌, ◌++◌, length, Option, Some, None}
-use Rattle.std.specs.Int.{to_be_bytes, w16, w32, w64}
+use Rattle.std.specs.Int.{to_be_bytes, w32, w64}
 use Rattle.std.specs.List.{flat_map}
 use Rattle.mt_rows.specs.Rows.{Bytes, Columns}
 use Rattle.mt_rows.specs.declared.record.Record.{Record}
+use Rattle.mt_fields.specs.Fields.{string}
 use Rattle.mt_log.specs.declared.batch.LogBatch.{LogBatch}
 use Rattle.mt_log.specs.declared.batch.LogBatch.TheVariants.{Records, Resume}
 
 -- MTLOG, the format's number, the worker, the number of logs
 abbrev pub header : ℕ → ℕ → Bytes
 header worker logs = 77 ∷ 84 ∷ 76 ∷ 79 ∷ 71 ∷ 1 ∷ worker ∷ logs ∷ []
-
--- a key or a column: two bytes of length, and that many bytes
-abbrev pub string : Bytes → Bytes
-string bytes = to_be_bytes w16 (length bytes) ++ bytes
 
 -- a row: a byte of count, and that many columns
 abbrev pub row_bytes : Columns → Bytes

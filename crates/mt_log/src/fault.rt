@@ -1,12 +1,11 @@
 //! Why a log was not opened, not appended to, or not read.
 
 ghost use Rattle.std.specs.Prelude.{◌≡◌};
-ghost use Rattle.mt_log.specs.declared.fault.DecodeFault.TheVariants.{Memory};
 
 use crate::log_file::LogFile;
 use mt_disk::{DeviceFailed, Disk};
+pub use mt_fields::DecodeFault;
 use mt_rows::Batch;
-use std::alloc::{AllocError, AllocFailed};
 
 /// Why a file was not opened. The disk comes back.
 pub enum OpenFault<D: Disk> {
@@ -36,31 +35,6 @@ pub enum ResumeFault<D: Disk> {
     Memory(LogFile<D>),
     /// The disk failed. The file has the batch whole or not at all, and has to be opened again.
     Device(D),
-}
-
-/// Why bytes could not be read as a field.
-#[derive(Drop)]
-pub enum DecodeFault {
-    /// A growth was refused.
-    Memory,
-    /// They aren't in the format.
-    Bad,
-}
-
-impl From<AllocError> for DecodeFault {
-    ghost from_gives = { λ _ e. e ≡ Memory };
-
-    fn from(_e: AllocError) -> DecodeFault {
-        DecodeFault::Memory
-    }
-}
-
-impl<T: Drop> From<AllocFailed<T>> for DecodeFault {
-    ghost from_gives = { λ _ e. e ≡ Memory };
-
-    fn from(_e: AllocFailed<T>) -> DecodeFault {
-        DecodeFault::Memory
-    }
 }
 
 /// Why a file was not read, or not set right.

@@ -6,7 +6,6 @@
 
 pub mod batch;
 mod fault;
-mod fields;
 mod gate;
 pub mod laws;
 pub mod log_file;

@@ -2,15 +2,16 @@
 //! a list grows with the records that stand there.
 
 ghost use Rattle.std.specs.Prelude.{◌≡◌, ◌<◌, ◌≤◌, ◌^◌, [], ◌∷◌, ◌++◌, length, drop, IfSome, IfNone, IfOk, IfErr};
+ghost use Rattle.mt_fields.specs.Reading.{Gives, each_at, string_at};
 ghost use Rattle.mt_log.specs.Format.{header};
 ghost use Rattle.mt_log.specs.Fronts.{HasNoHeader};
-ghost use Rattle.mt_log.specs.Reading.{Gives, each_at, string_at, row_at, written_at, change_kind_at, change_at, key_at, record_at, records_at, resume_at, batch_kind_at, batch_in, batch_at};
+ghost use Rattle.mt_log.specs.Reading.{row_at, written_at, change_kind_at, change_at, key_at, record_at, records_at, resume_at, batch_kind_at, batch_in, batch_at};
 ghost use Rattle.mt_log.specs.Stops.{IsAtGate, IsStop, IsRead, IsBadRead};
 
 use crate::batch::{Front, LogBatch, LoggedBatch, is_step};
 use crate::fault::{DecodeFault, ReadFault};
-use crate::fields::{slice_of, string_of, u8_at, u32_at, u64_at};
 use crate::gate::OPEN;
+use mt_fields::{slice_of, string_of, u8_at, u32_at, u64_at};
 use mt_rows::key::USER_KEY_BYTES;
 use mt_rows::{Column, Key, Record, Row};
 use std::alloc::{AllocError, Global};

@@ -10,7 +10,7 @@ ghost use Rattle.mt_log.specs.declared.batch.LogBatch.{LogBatch};
 ghost use Rattle.mt_log.specs.Format.{row_bytes, change_bytes, record_bytes, body, told_body};
 ghost use Rattle.mt_log.specs.Contents.{IsBatch};
 
-use crate::fields::{put_string, put_u32, put_u64};
+use mt_fields::{put_string, put_u32, put_u64};
 use mt_rows::{Batch, Column, Record, Row};
 use std::alloc::{AllocError, Global};
 

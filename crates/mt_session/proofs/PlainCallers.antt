@@ -2,6 +2,7 @@
 use Rattle.std.proofs.Common.{◌≡◌, ◌⊎◌, ℕ, Bool, true, false, List, [], ◌∷◌, Option, None, Some, Result, Ok, Err, refl, sym, ap, subst, ◌∙◌, inl, inr}
 use Rattle.std.specs.Prelude.{slice_set}
 use Rattle.std.specs.List.{flat_map, AllByRecursion}
+use Rattle.std.proofs.lemmas.Option.{same_Some}
 use Rattle.mt_rows.specs.Rows.{Bytes}
 use Rattle.mt_rows.specs.declared.command.Command.{Command}
 use Rattle.mt_rows.specs.declared.reply.Reply.{Reply}
@@ -16,7 +17,6 @@ use Rattle.mt_wire.specs.declared.message.WireReply.{WireReply}
 use Rattle.mt_wire.specs.declared.message.WireReply.TheVariants.{Told}
 use Rattle.mt_wire.specs.Fronts.{IsReadingEnd}
 use Rattle.mt_wire.specs.Replies.{reply_spelling}
-use Rattle.mt_wire.proofs.FieldLaws.{some_is}
 use Rattle.mt_wire.proofs.FrameLaws.{one_reading}
 use Rattle.mt_wire.proofs.RequestLaws.{requests}
 use Rattle.mt_session.specs.declared.caller.CallerFault.{CallerFault}
@@ -83,9 +83,9 @@ tenant_same x command (Err (Refused g)) (Err Stuck) e f w v p q s t ample enough
 
 -- and so has a command of the opened tenant
 call_same : (opened : Option ℕ) (command : Command) (d : PlainTenants) (a b : Result Reply CallerFault) (e f : PlainTenants) (w v : WireReply) → PlainCalls opened d command a e → PlainCalls opened d command b f → call_told a ≡ Some w → call_told b ≡ Some v → IsAmple w → IsAmple v → (w ≡ v) × (e ≡ f)
-call_same None command d a b e f w v p q s t ample enough = let same : a ≡ b = p.0 ∙ sym q.0 in (some_is w v (sym s ∙ ap call_told same ∙ t), p.1 ∙ sym q.1)
+call_same None command d a b e f w v p q s t ample enough = let same : a ≡ b = p.0 ∙ sym q.0 in (same_Some w v (sym s ∙ ap call_told same ∙ t), p.1 ∙ sym q.1)
 call_same (Some place) command d a b e f w v (x, u, at, p, is) (y, z, here, q, becomes) s t ample enough =
-    let same : y ≡ x = some_is y x (sym here ∙ at) in
+    let same : y ≡ x = same_Some y x (sym here ∙ at) in
     let one = tenant_same x command a b u z w v p (subst (λ k. TenantCalls k command b z) same q) s t ample enough in
     (one.0, is ∙ ap (λ k. record d { list = slice_set d.list place k }) one.1 ∙ sym becomes)
 

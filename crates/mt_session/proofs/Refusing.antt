@@ -1,9 +1,10 @@
 -- What no session writes: an answer behind the reply to a bad frame, and two replies to one request. For the laws.
-use Rattle.std.proofs.Common.{◌≡◌, ℕ, ◌+◌, Bool, false, List, [], ◌∷◌, ◌++◌, length, Option, Some, Result, Ok, Err, sym, ap, subst, ◌∙◌, append_assoc, append-nil, arith, inl, ⊎_elim}
+use Rattle.std.proofs.Common.{◌≡◌, ◌+◌, Bool, false, List, [], ◌∷◌, ◌++◌, length, Option, Some, Result, Ok, Err, sym, ap, subst, ◌∙◌, append_assoc, append-nil, arith, inl, ⊎_elim}
 use Rattle.std.specs.Int.{w32, to_be_bytes}
 use Rattle.std.specs.List.{flat_map, AllByRecursion}
 use Rattle.std.proofs.lemmas.List.{length-append}
 use Rattle.std.proofs.lemmas.List.Concat.{flat_map-cons}
+use Rattle.std.proofs.lemmas.Nat.{from_be_bytes-to_be_bytes_4}
 use Rattle.mt_rows.specs.Rows.{Bytes}
 use Rattle.mt_wire.specs.declared.message.Request.{Request}
 use Rattle.mt_wire.specs.declared.message.WireReply.{WireReply}
@@ -11,7 +12,6 @@ use Rattle.mt_wire.specs.Frames.{length_at}
 use Rattle.mt_wire.specs.Fronts.{IsBad, IsReadingEnd}
 use Rattle.mt_wire.specs.Requests.{spelling, IsSpellable}
 use Rattle.mt_wire.specs.Replies.{reply_body, reply_spelling, IsSpellableReply}
-use Rattle.mt_wire.proofs.FieldLaws.{wide32}
 use Rattle.mt_wire.proofs.FrameLaws.{whole_not_bad, one_reading}
 use Rattle.mt_wire.proofs.RequestLaws.{requests}
 use Rattle.mt_wire.proofs.ReplyLaws.{replies}
@@ -87,7 +87,7 @@ one_reply exchanges request left written old new fits sv =
 
 -- how long a reply's frame is
 length_of_frame : (reply : WireReply) → length (reply_spelling reply) ≡ 4 + length (reply_body reply)
-length_of_frame reply = length-append (to_be_bytes w32 (length (reply_body reply))) (reply_body reply) ∙ ap (λ (n : ℕ). n + length (reply_body reply)) (wide32.len (length (reply_body reply)))
+length_of_frame reply = length-append (to_be_bytes w32 (length (reply_body reply))) (reply_body reply)
 
 -- two frames are not one
 two_not_one : (first second reply : WireReply) → IsSpellableReply first → IsSpellableReply second → reply_spelling first ++ reply_spelling second ≡ reply_spelling reply → ⊥
@@ -99,8 +99,9 @@ two_not_one first second reply fits fit e =
     let one = length_of_frame first in
     let two = length_of_frame second in
     let three = length_of_frame reply in
-    let at_first : length_at (reply_spelling first ++ reply_spelling second) ≡ length (reply_body first) = wide32.again (length (reply_body first)) (omega arith) in
-    let at_reply : length_at (reply_spelling reply) ≡ length (reply_body reply) = wide32.again (length (reply_body reply)) (omega arith) in
+    let at_first : length_at (reply_spelling first ++ reply_spelling second) ≡ length (reply_body first) =
+    from_be_bytes-to_be_bytes_4 (length (reply_body first)) (omega arith) in
+    let at_reply : length_at (reply_spelling reply) ≡ length (reply_body reply) = from_be_bytes-to_be_bytes_4 (length (reply_body reply)) (omega arith) in
     let same : length (reply_body first) ≡ length (reply_body reply) = sym at_first ∙ ap length_at e ∙ at_reply in
     omega arith
 

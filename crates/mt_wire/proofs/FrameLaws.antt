@@ -4,9 +4,10 @@ use Rattle.std.specs.Int.{w32, to_be_bytes}
 use Rattle.std.specs.List.{flat_map, AllByRecursion}
 use Rattle.std.proofs.lemmas.List.{take-append-drop, length-append, length-take, length-drop, drop-drop, take_at, drop_at}
 use Rattle.std.proofs.lemmas.List.Concat.{flat_map-cons}
+use Rattle.std.proofs.lemmas.Option.{same_Some}
 use Rattle.mt_rows.specs.Rows.{Bytes}
+use Rattle.mt_fields.proofs.FieldLaws.{IsBytes, IsBytes-drop, IsBytes-take, wide32}
 use Rattle.mt_wire.specs.Frames.{frame, length_at, body_at, IsLength, IsPartOfFrame, IsBadLength, IsBadBody}
-use Rattle.mt_wire.proofs.FieldLaws.{IsBytes, IsBytes-drop, IsBytes-take, some_is, wide32}
 
 -- messages with one body each, of 1 to `most` bytes, from which the message is read again
 pub record AreMessages {M : Type 0} (body : M → Bytes) (Fits : M → Type 0) (read : Bytes → Option M) (most : ℕ) : Type 0 where
@@ -65,7 +66,7 @@ module _ {M : Type 0} {body : M → Bytes} {Fits : M → Type 0} {read : Bytes �
   pub one_message : (r s : M) (a b : Bytes) → Fits r → Fits s → frame (body r) ++ a ≡ frame (body s) ++ b → (r ≡ s) × (a ≡ b)
   one_message r s a b fr fs e =
       let same : body r ≡ body s = sym (body_of r a fr) ∙ ap body_at e ∙ body_of s b fs in
-      let one : r ≡ s = some_is r s (sym (are.again r fr) ∙ ap read same ∙ are.again s fs) in
+      let one : r ≡ s = same_Some r s (sym (are.again r fr) ∙ ap read same ∙ are.again s fs) in
       let tails : body r ++ a ≡ body s ++ b = ap (drop 4) e in
       (one, sym (drop_at (body r) a (length (body r)) refl) ∙ ap (drop (length (body r))) tails ∙ ap (λ (n : ℕ). drop n (body s ++ b)) (ap length same) ∙ drop_at (body s) b (length (body s)) refl)
 

@@ -1,7 +1,5 @@
-pub mod Numbers
-pub mod Loop
-pub mod FieldLaws
 pub mod FrameLaws
+pub mod RequestFields
 pub mod RequestLaws
 pub mod ReplyLaws
 pub mod Tests

@@ -7,18 +7,19 @@ use Rattle.std.proofs.lemmas.Bool.Decides.{nat_tests}
 use Rattle.std.proofs.lemmas.List.{append-nil, nil_from_length, length-append}
 use Rattle.std.proofs.lemmas.List.Concat.{flat_map-cons}
 use Rattle.std.proofs.lemmas.List.Elements.{All-weaker, All-from_recursion, recursion_from_All}
+use Rattle.std.proofs.lemmas.Option.{same_Some}
 use Rattle.mt_rows.specs.Rows.{Bytes, Columns, IsRow}
 use Rattle.mt_rows.specs.Limits.{ArePairs}
 use Rattle.mt_rows.specs.declared.reply.Reply.TheVariants.{Absent, Found, New, Replaced, Full, Removed, Pairs, NoMemory}
+use Rattle.mt_fields.specs.Fields.{string}
+use Rattle.mt_fields.specs.Reading.{◌>>=◌, byte_at, number_at, string_at, each_at}
+use Rattle.mt_fields.proofs.FieldLaws.{IsBytes, bind_some, guard_ended, choose, Takes, Takes-then, Takes-more, byte_takes, wide64, number_takes, string_takes, string_again, each_takes, each_again}
 use Rattle.mt_wire.specs.declared.message.WireReply.{WireReply}
 use Rattle.mt_wire.specs.declared.message.WireReply.TheVariants.{Opened, Told, Settled, Refused}
-use Rattle.mt_wire.specs.Requests.{string}
 use Rattle.mt_wire.specs.Replies.{shown_row, shown_pair, reply_body, IsSpellableReply}
-use Rattle.mt_wire.specs.Reading.{◌>>=◌, byte_at, number_at, string_at, each_at}
 use Rattle.mt_wire.specs.ReplyReading.{is_row, are_pairs, row_at, pair_at, pairs_at, found_at, scanned_at, settled_at, reply_kind_at, reply_in}
 use Rattle.mt_wire.proofs.Tests.{row_from_test, test_from_row, pairs_from_test, test_from_pairs}
 use Rattle.mt_wire.proofs.FrameLaws.{AreMessages}
-use Rattle.mt_wire.proofs.FieldLaws.{IsBytes, bind_some, guard_ended, choose, some_is, Takes, Takes-then, Takes-more, byte_takes, wide64, number_takes, string_takes, string_again, each_takes, each_again}
 
 -- ---- rows
 
@@ -57,7 +58,7 @@ pair_takes bytes x fits e =
     let s = row_takes a.0.1 b.0 t.0.rest_fits b.1 in
     let both = Takes-then bytes (string a.0.0) a.0.1 (shown_row b.0.0) b.0.1 t.0 s.0 in
     let made : (Bytes × Columns) × Bytes = ((a.0.0, b.0.0), b.0.1) in
-    subst (λ (y : (Bytes × Columns) × Bytes). Takes bytes (shown_pair y.0) y.1 × FitsPair y.0) (some_is made x b.2) (both, (t.1, s.1))
+    subst (λ (y : (Bytes × Columns) × Bytes). Takes bytes (shown_pair y.0) y.1 × FitsPair y.0) (same_Some made x b.2) (both, (t.1, s.1))
 
 pair_again : (p : Bytes × Columns) (rest : Bytes) → FitsPair p → pair_at (shown_pair p ++ rest) ≡ Some (p, rest)
 unfolding pair_at
@@ -98,7 +99,7 @@ found_takes bytes x fits e =
     let a = bind_some (row_at bytes) (λ row. Some (Told (Found row.0), row.1)) x e in
     let t = row_takes bytes a.0 fits a.1 in
     let made : WireReply × Bytes = (Told (Found a.0.0), a.0.1) in
-    subst (Reads 2 bytes) (some_is made x a.2) (Takes-more 2 bytes (shown_row a.0.0) a.0.1 t.0, t.1)
+    subst (Reads 2 bytes) (same_Some made x a.2) (Takes-more 2 bytes (shown_row a.0.0) a.0.1 t.0, t.1)
 
 scanned_takes : (bytes : Bytes) (x : WireReply × Bytes) → IsBytes bytes → scanned_at bytes ≡ Some x → Reads 6 bytes x
 unfolding scanned_at
@@ -106,7 +107,7 @@ scanned_takes bytes x fits e =
     let a = bind_some (pairs_at bytes) (λ pairs. Some (Told (Pairs pairs.0), pairs.1)) x e in
     let t = pairs_takes bytes a.0 fits a.1 in
     let made : WireReply × Bytes = (Told (Pairs a.0.0), a.0.1) in
-    subst (Reads 6 bytes) (some_is made x a.2) (Takes-more 6 bytes (length a.0.0 ∷ flat_map shown_pair a.0.0) a.0.1 t.0, (t.1, t.2))
+    subst (Reads 6 bytes) (same_Some made x a.2) (Takes-more 6 bytes (length a.0.0 ∷ flat_map shown_pair a.0.0) a.0.1 t.0, (t.1, t.2))
 
 settled_takes : (bytes : Bytes) (x : WireReply × Bytes) → IsBytes bytes → settled_at bytes ≡ Some x → Reads 7 bytes x
 unfolding settled_at
@@ -114,11 +115,12 @@ settled_takes bytes x fits e =
     let a = bind_some (number_at w64 bytes) (λ number. Some (Settled number.0, number.1)) x e in
     let t = number_takes w64 (2 ^ 64) wide64 bytes a.0.0 a.0.1 fits a.1 in
     let made : WireReply × Bytes = (Settled a.0.0, a.0.1) in
-    subst (Reads 7 bytes) (some_is made x a.2) (Takes-more 7 bytes (to_be_bytes w64 a.0.0) a.0.1 t.0, t.1)
+    subst (Reads 7 bytes) (same_Some made x a.2) (Takes-more 7 bytes (to_be_bytes w64 a.0.0) a.0.1 t.0, t.1)
 
 -- a reply of one byte
 plain_takes : (kind : ℕ) (bytes : Bytes) (r : WireReply) (x : WireReply × Bytes) → IsBytes bytes → reply_body r ≡ kind ∷ [] → IsSpellableReply r → Some (r, bytes) ≡ Some x → Reads kind bytes x
-plain_takes kind bytes r x fits body one e = subst (Reads kind bytes) (some_is (r, bytes) x e) (record { parts = ap (λ (b : Bytes). b ++ bytes) (sym body); rest_fits = fits }, one)
+plain_takes kind bytes r x fits body one e =
+    subst (Reads kind bytes) (same_Some (r, bytes) x e) (record { parts = ap (λ (b : Bytes). b ++ bytes) (sym body); rest_fits = fits }, one)
 
 refused_takes : (kind : ℕ) (bytes : Bytes) (x : WireReply × Bytes) → kind < 256 → 128 < kind → IsBytes bytes → Some (Refused (kind - 128), bytes) ≡ Some x → Reads kind bytes x
 refused_takes kind bytes x small large fits e =

@@ -3,15 +3,18 @@ use Rattle.std.proofs.Common.{◌≡◌, ℕ, ◌^◌, ◌≤◌, arith, true, c
 use Rattle.std.specs.Int.{w32, to_be_bytes}
 use Rattle.std.proofs.lemmas.Bool.{eqb-true}
 use Rattle.std.proofs.lemmas.List.{append-nil, nil_from_length}
+use Rattle.std.proofs.lemmas.Option.{same_Some}
 use Rattle.mt_rows.specs.Rows.{Bytes}
 use Rattle.mt_rows.specs.declared.command.Command.TheVariants.{Get, Put, Remove, Scan}
+use Rattle.mt_fields.specs.Fields.{string}
+use Rattle.mt_fields.specs.Reading.{◌>>=◌, byte_at, number_at, string_at}
+use Rattle.mt_fields.proofs.FieldLaws.{IsBytes, bind_some, guard_ended, choose, Takes, Takes-then, Takes-more, byte_takes, wide32, number_takes, string_takes, string_again}
 use Rattle.mt_wire.specs.declared.message.Request.{Request}
 use Rattle.mt_wire.specs.declared.message.Request.TheVariants.{Open, Call, Settle}
-use Rattle.mt_wire.specs.Requests.{string, asked_columns, named_columns, start_flag, request_body, RequestFits, IsSpellable}
-use Rattle.mt_wire.specs.Reading.{◌>>=◌, byte_at, number_at, start_at, string_at}
-use Rattle.mt_wire.specs.RequestReading.{asked_at, named_columns_at, open_at, get_at, put_at, remove_at, scan_at, kind_at, request_in}
+use Rattle.mt_wire.specs.Requests.{asked_columns, named_columns, start_flag, request_body, RequestFits, IsSpellable}
+use Rattle.mt_wire.specs.RequestReading.{start_at, asked_at, named_columns_at, open_at, get_at, put_at, remove_at, scan_at, kind_at, request_in}
 use Rattle.mt_wire.proofs.FrameLaws.{AreMessages}
-use Rattle.mt_wire.proofs.FieldLaws.{IsBytes, bind_some, guard_ended, choose, some_is, Takes, Takes-then, Takes-more, byte_takes, wide32, number_takes, string_takes, string_again, asked_takes, asked_again, named_columns_takes, named_columns_again, start_takes, start_again}
+use Rattle.mt_wire.proofs.RequestFields.{asked_takes, asked_again, named_columns_takes, named_columns_again, start_takes, start_again}
 
 -- what was read behind the first byte
 abbrev Reads : ℕ → Bytes → Request × Bytes → Type 0
@@ -23,7 +26,7 @@ open_takes bytes x fits e =
     let a = bind_some (number_at w32 bytes) (λ tenant. Some (Open tenant.0, tenant.1)) x e in
     let t = number_takes w32 (2 ^ 32) wide32 bytes a.0.0 a.0.1 fits a.1 in
     let made : Request × Bytes = (Open a.0.0, a.0.1) in
-    subst (Reads 1 bytes) (some_is made x a.2) (Takes-more 1 bytes (to_be_bytes w32 a.0.0) a.0.1 t.0, t.1)
+    subst (Reads 1 bytes) (same_Some made x a.2) (Takes-more 1 bytes (to_be_bytes w32 a.0.0) a.0.1 t.0, t.1)
 
 get_takes : (bytes : Bytes) (x : Request × Bytes) → IsBytes bytes → get_at bytes ≡ Some x → Reads 2 bytes x
 unfolding get_at
@@ -34,7 +37,7 @@ get_takes bytes x fits e =
     let s = asked_takes a.0.1 b.0.0 b.0.1 t.0.rest_fits b.1 in
     let both = Takes-then bytes (string a.0.0) a.0.1 (asked_columns b.0.0) b.0.1 t.0 s.0 in
     let made : Request × Bytes = (Call (Get a.0.0 b.0.0), b.0.1) in
-    subst (Reads 2 bytes) (some_is made x b.2) (Takes-more 2 bytes (string a.0.0 ++ asked_columns b.0.0) b.0.1 both, (t.1, s.1))
+    subst (Reads 2 bytes) (same_Some made x b.2) (Takes-more 2 bytes (string a.0.0 ++ asked_columns b.0.0) b.0.1 both, (t.1, s.1))
 
 put_takes : (bytes : Bytes) (x : Request × Bytes) → IsBytes bytes → put_at bytes ≡ Some x → Reads 3 bytes x
 unfolding put_at
@@ -45,7 +48,7 @@ put_takes bytes x fits e =
     let s = named_columns_takes a.0.1 b.0.0 b.0.1 t.0.rest_fits b.1 in
     let both = Takes-then bytes (string a.0.0) a.0.1 (named_columns b.0.0) b.0.1 t.0 s.0 in
     let made : Request × Bytes = (Call (Put a.0.0 b.0.0), b.0.1) in
-    subst (Reads 3 bytes) (some_is made x b.2) (Takes-more 3 bytes (string a.0.0 ++ named_columns b.0.0) b.0.1 both, (t.1, s.1, s.2))
+    subst (Reads 3 bytes) (same_Some made x b.2) (Takes-more 3 bytes (string a.0.0 ++ named_columns b.0.0) b.0.1 both, (t.1, s.1, s.2))
 
 remove_takes : (bytes : Bytes) (x : Request × Bytes) → IsBytes bytes → remove_at bytes ≡ Some x → Reads 4 bytes x
 unfolding remove_at
@@ -53,7 +56,7 @@ remove_takes bytes x fits e =
     let a = bind_some (string_at bytes) (λ key. Some (Call (Remove key.0), key.1)) x e in
     let t = string_takes bytes a.0.0 a.0.1 fits a.1 in
     let made : Request × Bytes = (Call (Remove a.0.0), a.0.1) in
-    subst (Reads 4 bytes) (some_is made x a.2) (Takes-more 4 bytes (string a.0.0) a.0.1 t.0, t.1)
+    subst (Reads 4 bytes) (same_Some made x a.2) (Takes-more 4 bytes (string a.0.0) a.0.1 t.0, t.1)
 
 scan_takes : (bytes : Bytes) (x : Request × Bytes) → IsBytes bytes → scan_at bytes ≡ Some x → Reads 5 bytes x
 unfolding scan_at
@@ -70,7 +73,8 @@ scan_takes bytes x fits e =
     let middle = Takes-then a.0.1 (string b.0.0) b.0.1 (d.0.0 ∷ asked_columns f.0.0) f.0.1 s.0 last in
     let whole = Takes-then bytes (start_flag a.0.0 ∷ []) a.0.1 (string b.0.0 ++ (d.0.0 ∷ asked_columns f.0.0)) f.0.1 t middle in
     let made : Request × Bytes = (Call (Scan b.0.0 a.0.0 d.0.0 f.0.0), f.0.1) in
-    subst (Reads 5 bytes) (some_is made x f.2) (Takes-more 5 bytes (start_flag a.0.0 ∷ (string b.0.0 ++ (d.0.0 ∷ asked_columns f.0.0))) f.0.1 whole, (s.1, v.1))
+    subst (Reads 5 bytes) (same_Some made x f.2)
+    (Takes-more 5 bytes (start_flag a.0.0 ∷ (string b.0.0 ++ (d.0.0 ∷ asked_columns f.0.0))) f.0.1 whole, (s.1, v.1))
 
 kind_takes : (kind : ℕ) (bytes : Bytes) (x : Request × Bytes) → IsBytes bytes → kind_at kind bytes ≡ Some x → Reads kind bytes x
 unfolding kind_at
@@ -81,7 +85,8 @@ kind_takes kind bytes x fits e =
     choose (eqb kind 3) _ _ _ e3 (λ t h. at 3 t (put_takes bytes x fits h)) (λ _ e4.
     choose (eqb kind 4) _ _ _ e4 (λ t h. at 4 t (remove_takes bytes x fits h)) (λ _ e5.
     choose (eqb kind 5) _ _ _ e5 (λ t h. at 5 t (scan_takes bytes x fits h)) (λ _ e6.
-    choose (eqb kind 6) _ _ _ e6 (λ t h. at 6 t (subst (Reads 6 bytes) (some_is (Settle, bytes) x h) (record { parts = refl; rest_fits = fits }, tt))) (λ _ h. absurd cc))))))
+    choose (eqb kind 6) _ _ _ e6 (λ t h. at 6 t (subst (Reads 6 bytes) (same_Some (Settle, bytes) x h) (record { parts = refl; rest_fits = fits }, tt)))
+    (λ _ h. absurd cc))))))
 
 -- what is read is spelled so
 pub request_takes : (bytes : Bytes) (r : Request) → IsBytes bytes → request_in bytes ≡ Some r → (bytes ≡ request_body r) × RequestFits r

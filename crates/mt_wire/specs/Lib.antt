@@ -2,6 +2,5 @@ pub mod Frames
 pub mod Requests
 pub mod Replies
 pub mod Fronts
-pub mod Reading
 pub mod RequestReading
 pub mod ReplyReading

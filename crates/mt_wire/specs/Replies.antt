@@ -6,10 +6,10 @@ use Rattle.mt_rows.specs.Rows.{Bytes, Columns, IsRow}
 use Rattle.mt_rows.specs.Limits.{ArePairs}
 use Rattle.mt_rows.specs.declared.reply.Reply.{Reply}
 use Rattle.mt_rows.specs.declared.reply.Reply.TheVariants.{Absent, Found, New, Replaced, Full, Removed, Pairs, NoMemory}
+use Rattle.mt_fields.specs.Fields.{string}
 use Rattle.mt_wire.specs.declared.message.WireReply.{WireReply}
 use Rattle.mt_wire.specs.declared.message.WireReply.TheVariants.{Opened, Told, Settled, Refused}
 use Rattle.mt_wire.specs.Frames.{frame}
-use Rattle.mt_wire.specs.Requests.{string}
 
 -- a shown row: a byte of count, and that many columns
 abbrev pub shown_row : Columns → Bytes

@@ -7,9 +7,9 @@ use Rattle.std.specs.Cmp.Lexicographic.{slice_cmp}
 use Rattle.std.specs.FinMap.{is_sorted}
 use Rattle.mt_rows.specs.Rows.{Bytes, Columns}
 use Rattle.mt_rows.specs.declared.reply.Reply.TheVariants.{Absent, Found, New, Replaced, Full, Removed, Pairs, NoMemory}
+use Rattle.mt_fields.specs.Reading.{◌>>=◌, byte_at, number_at, string_at, each_at}
 use Rattle.mt_wire.specs.declared.message.WireReply.{WireReply}
 use Rattle.mt_wire.specs.declared.message.WireReply.TheVariants.{Opened, Told, Settled, Refused}
-use Rattle.mt_wire.specs.Reading.{◌>>=◌, byte_at, number_at, string_at, each_at}
 
 -- whether columns make a row
 abbrev pub is_row : Columns → Bool

@@ -5,7 +5,6 @@
 #![tactic(auto)]
 
 mod fault;
-mod fields;
 mod frame;
 pub mod laws;
 pub mod message;

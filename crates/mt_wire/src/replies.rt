@@ -5,15 +5,15 @@ ghost use Rattle.std.specs.List.{flat_map};
 ghost use Rattle.std.specs.Int.{w32, w64, to_be_bytes};
 ghost use Rattle.mt_rows.specs.Rows.{IsRow};
 ghost use Rattle.mt_rows.specs.Limits.{ArePairs};
+ghost use Rattle.mt_fields.specs.Reading.{Gives, string_at, each_at};
 ghost use Rattle.mt_wire.specs.Replies.{shown_row, shown_pair, reply_spelling};
 ghost use Rattle.mt_wire.specs.Fronts.{IsReplyFront};
-ghost use Rattle.mt_wire.specs.Reading.{Gives, string_at, each_at};
 ghost use Rattle.mt_wire.specs.ReplyReading.{row_at, pair_at, pairs_at, found_at, scanned_at, settled_at, reply_kind_at, reply_in};
 
 use crate::fault::DecodeFault;
-use crate::fields::{put_length, put_string, string_of, u8_at, u64_at};
-use crate::frame::{Announced, LENGTH_BYTES, read_length};
+use crate::frame::{Announced, LENGTH_BYTES, put_length, read_length};
 use crate::message::{RefusalNumber, ReplyFront, WireReply};
+use mt_fields::{put_string, put_u64, string_of, u8_at, u64_at};
 use mt_rows::{Column, Key, PairList, Reply, Row};
 use std::alloc::{AllocError, Global};
 
@@ -104,7 +104,7 @@ fn put_settled(out: &mut Vec<u8>, number: u64) -> Result<(), AllocError>
     ensures front { take (length out.old.items) out.new.items ≡ out.old.items }
 {
     out.extend_from_slice(&[0, 0, 0, 9, 7])?;
-    out.extend_from_slice(&number.to_be_bytes())
+    put_u64(out, number)
 }
 
 // How many bytes a scan's pairs are spelled with.

@@ -2,15 +2,15 @@
 
 ghost use Rattle.std.specs.Prelude.{◌≡◌, ◌↔◌, ◌≤◌, ◌<◌, ◌*◌, ◌^◌, ◌++◌, length, take, IsTrue, IfOk, IsOk, OnOk, OnErr};
 ghost use Rattle.std.specs.List.{All};
+ghost use Rattle.mt_fields.specs.Reading.{Gives, each_at};
 ghost use Rattle.mt_wire.specs.Requests.{asked_columns, named_column, named_columns, command_body, request_body, spelling, CommandFits, RequestFits, IsSpellable};
-ghost use Rattle.mt_wire.specs.Reading.{Gives, each_at};
-ghost use Rattle.mt_wire.specs.RequestReading.{asked_at, named_column_at, named_columns_at, open_at, get_at, put_at, remove_at, scan_at, kind_at, request_in};
+ghost use Rattle.mt_wire.specs.RequestReading.{start_at, asked_at, named_column_at, named_columns_at, open_at, get_at, put_at, remove_at, scan_at, kind_at, request_in};
 ghost use Rattle.mt_wire.specs.Fronts.{IsFront};
 
 use crate::fault::{DecodeFault, EncodeFault};
-use crate::fields::{put_length, put_string, slice_of, start_of, string_of, u8_at, u32_at};
-use crate::frame::{Announced, LENGTH_BYTES, read_length};
+use crate::frame::{Announced, LENGTH_BYTES, put_length, read_length};
 use crate::message::{Front, Request};
+use mt_fields::{put_string, put_u32, slice_of, string_of, u8_at, u32_at};
 use mt_rows::{Column, ColumnIndexes, Command, Key, NamedColumns};
 use std::alloc::{AllocError, Global};
 
@@ -64,6 +64,18 @@ impl Request {
         ensures { IsTrue result ↔ IsSpellable self.now }
     {
         fields_fit(self) && body_len(self) <= REQUEST_BYTES
+    }
+}
+
+// Where a scan starts.
+fn start_of(bytes: &[u8]) -> Result<(bool, &[u8]), DecodeFault>
+    ensures { Gives (λ x. (x.0, x.1.now)) result (start_at bytes.now) }
+{
+    match bytes {
+        [] => Err(DecodeFault::Bad),
+        [0, rest @ ..] => Ok((false, rest)),
+        [1, rest @ ..] => Ok((true, rest)),
+        [_, ..] => Err(DecodeFault::Bad),
     }
 }
 
@@ -278,7 +290,7 @@ fn put_request(out: &mut Vec<u8>, request: &Request) -> Result<(), AllocError>
     match request {
         Request::Open(tenant) => {
             out.push(1)?;
-            out.extend_from_slice(&tenant.to_be_bytes())
+            put_u32(out, *tenant)
         }
         Request::Call(command) => put_command(out, command),
         Request::Settle => {

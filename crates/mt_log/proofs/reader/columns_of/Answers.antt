@@ -1,7 +1,7 @@
 -- each turn reads a column, or none is read
 use Rattle.std.proofs.lemmas.Result.{err_from_is_err_and}
-use Rattle.mt_log.specs.Reading.{string_at, each_at}
-use Rattle.mt_log.proofs.Loop.{goes_on, ends, is_done}
+use Rattle.mt_fields.specs.Reading.{string_at, each_at}
+use Rattle.mt_fields.proofs.Loop.{goes_on, ends, is_done}
 use Rattle.mt_log.proofs.reader.columns_of.Goals as goal
 
 pub returns-in_err-column : goal.returns-in_err-column

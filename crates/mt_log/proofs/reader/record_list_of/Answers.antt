@@ -1,7 +1,8 @@
 -- each turn reads a record, or none is read
 use Rattle.std.proofs.lemmas.Result.{err_from_is_err_and}
-use Rattle.mt_log.specs.Reading.{each_at, record_at}
-use Rattle.mt_log.proofs.Loop.{goes_on, ends, is_done}
+use Rattle.mt_fields.specs.Reading.{each_at}
+use Rattle.mt_fields.proofs.Loop.{goes_on, ends, is_done}
+use Rattle.mt_log.specs.Reading.{record_at}
 use Rattle.mt_log.proofs.reader.record_list_of.Goals as goal
 
 pub returns-in_err-record : goal.returns-in_err-record

@@ -3,7 +3,8 @@ use Rattle.mt_disk.proofs.CrashLaws.{at_ok}
 use Rattle.std.proofs.Common.{ap, ◌∙◌, ◌++◌}
 use Rattle.std.specs.Int.{to_be_bytes, w32, w64}
 use Rattle.mt_rows.specs.Rows.{Bytes}
-use Rattle.mt_log.specs.Format.{string, change_bytes}
+use Rattle.mt_fields.specs.Fields.{string}
+use Rattle.mt_log.specs.Format.{change_bytes}
 use Rattle.mt_log.proofs.ReadLaws.{fields_joined}
 use Rattle.mt_log.proofs.writer.put_record.Goals as goal
 
@@ -13,7 +14,7 @@ returns c =
     at_ok c.put_change.result
     (λ e. fields_joined c.args.out.now.items c.put_u64.new.out.items c.put_u32.new.out.items c.put_string.new.out.items c.put_change.new.out.items
     (to_be_bytes w64 r.stamp) (to_be_bytes w32 r.tenant) (string r.key) (change_bytes r.row)
-    c.in_ok-put_u64.ensures c.in_ok-put_u32.ensures
-    (c.in_ok-put_string.ensures ∙ ap (λ (key : Bytes). c.put_u32.new.out.items ++ string key) c.as_bytes.ensures)
+    c.in_ok-put_u64.ensures.ok c.in_ok-put_u32.ensures.ok
+    (c.in_ok-put_string.ensures.ok ∙ ap (λ (key : Bytes). c.put_u32.new.out.items ++ string key) c.as_bytes.ensures)
     e)
     c.put_change.ensures

@@ -1,8 +1,8 @@
 -- each turn reads a pair, or none is read
 use Rattle.std.proofs.lemmas.Result.{err_from_is_err_and}
-use Rattle.mt_wire.specs.Reading.{each_at}
+use Rattle.mt_fields.specs.Reading.{each_at}
+use Rattle.mt_fields.proofs.Loop.{goes_on, ends, is_done}
 use Rattle.mt_wire.specs.ReplyReading.{pair_at}
-use Rattle.mt_wire.proofs.Loop.{goes_on, ends, is_done}
 use Rattle.mt_wire.proofs.replies.list_of.Goals as goal
 
 pub returns-in_err-pair : goal.returns-in_err-pair

@@ -1,6 +1,6 @@
 -- each turn writes a column behind those before it; where one can't be written, what was there before stands at the front
 use Rattle.std.proofs.Common.{[], ◌∷◌, length}
-use Rattle.mt_wire.specs.Requests.{string}
+use Rattle.mt_fields.specs.Fields.{string}
 use Rattle.mt_wire.proofs.Lists.{front_then, front_of, written_more, written_all}
 use Rattle.mt_wire.proofs.replies.put_row.Goals as goal
 

@@ -1,12 +1,12 @@
-//! Fields of a body, read from the front of some bytes and written at the end of others.
+//! Fields, read from the front of some bytes and written behind others.
 //!
 //! A reader gives a value and the bytes behind it. A writer leaves what was written before, also
 //! where it fails.
 
 ghost use Rattle.std.specs.Prelude.{◌≡◌, ◌<◌, ◌^◌, ◌++◌, length, take, OnOk};
 ghost use Rattle.std.specs.Int.{w16, w32, w64, to_be_bytes};
-ghost use Rattle.mt_wire.specs.Requests.{string};
-ghost use Rattle.mt_wire.specs.Reading.{Gives, byte_at, number_at, taken_at, start_at, string_at};
+ghost use Rattle.mt_fields.specs.Fields.{string};
+ghost use Rattle.mt_fields.specs.Reading.{Gives, byte_at, number_at, taken_at, string_at};
 
 use crate::fault::DecodeFault;
 use byteorder::{BigEndian, ByteOrder};
@@ -68,19 +68,7 @@ pub fn slice_of(count: usize, bytes: &[u8]) -> Result<(&[u8], &[u8]), DecodeFaul
     Ok(bytes.split_at(count))
 }
 
-/// Where a scan starts.
-pub fn start_of(bytes: &[u8]) -> Result<(bool, &[u8]), DecodeFault>
-    ensures { Gives (λ x. (x.0, x.1.now)) result (start_at bytes.now) }
-{
-    match bytes {
-        [] => Err(DecodeFault::Bad),
-        [0, rest @ ..] => Ok((false, rest)),
-        [1, rest @ ..] => Ok((true, rest)),
-        [_, ..] => Err(DecodeFault::Bad),
-    }
-}
-
-/// A key or a column.
+/// A string.
 #[tactic(auto, unfolding(crate::specs::Reading::string_at))]
 pub fn string_of(alloc: Global, bytes: &[u8]) -> Result<(Vec<u8>, &[u8]), DecodeFault>
     ensures { Gives (λ x. (x.0.items, x.1.now)) result (string_at bytes.now) }
@@ -90,16 +78,23 @@ pub fn string_of(alloc: Global, bytes: &[u8]) -> Result<(Vec<u8>, &[u8]), Decode
     Ok((Vec::from_slice(alloc, text)?, rest))
 }
 
-/// A frame's length.
-pub fn put_length(out: &mut Vec<u8>, len: usize) -> Result<(), AllocError>
-    requires { len < 2 ^ 32 }
-    ensures ok { OnOk result (out.new.items ≡ out.old.items ++ to_be_bytes w32 len) }
+/// A number of four bytes. What was written before stays, also where it fails.
+pub fn put_u32(out: &mut Vec<u8>, number: u32) -> Result<(), AllocError>
+    ensures ok { OnOk result (out.new.items ≡ out.old.items ++ to_be_bytes w32 number) }
     ensures front { take (length out.old.items) out.new.items ≡ out.old.items }
 {
-    out.extend_from_slice(&(len as u32).to_be_bytes())
+    out.extend_from_slice(&number.to_be_bytes())
 }
 
-/// A key or a column.
+/// A number of eight bytes. What was written before stays, also where it fails.
+pub fn put_u64(out: &mut Vec<u8>, number: u64) -> Result<(), AllocError>
+    ensures ok { OnOk result (out.new.items ≡ out.old.items ++ to_be_bytes w64 number) }
+    ensures front { take (length out.old.items) out.new.items ≡ out.old.items }
+{
+    out.extend_from_slice(&number.to_be_bytes())
+}
+
+/// A string. What was written before stays, also where it fails.
 pub fn put_string(out: &mut Vec<u8>, text: &[u8]) -> Result<(), AllocError>
     requires { length text.now < 2 ^ 16 }
     ensures ok { OnOk result (out.new.items ≡ out.old.items ++ string text.now) }

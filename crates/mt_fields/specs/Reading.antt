@@ -1,9 +1,9 @@
 -- Reading fields from left to right: for the functions that do it, whose callers see the spellings alone.
-use Rattle.std.specs.Prelude.{◌≡◌, ℕ, zero, suc, Bool, true, false, List, [], ◌∷◌, length, take, drop, Option, Some, None, Result, Ok, Err, nat_lt, if◌then◌else◌}
+use Rattle.std.specs.Prelude.{◌≡◌, ℕ, zero, suc, List, [], ◌∷◌, length, take, drop, Option, Some, None, Result, Ok, Err, nat_lt, if◌then◌else◌}
 use Rattle.std.specs.Int.{Width, w16, byte_len, from_be_bytes}
-use Rattle.mt_rows.specs.Rows.{Bytes}
-use Rattle.mt_wire.specs.declared.fault.DecodeFault.{DecodeFault}
-use Rattle.mt_wire.specs.declared.fault.DecodeFault.TheVariants as faults
+use Rattle.mt_fields.specs.declared.fault.DecodeFault.{DecodeFault}
+use Rattle.mt_fields.specs.declared.fault.DecodeFault.TheVariants as faults
+use Rattle.mt_fields.specs.Fields.{Bytes}
 
 -- a step and, where it gives something, the next
 infixl 10 ◌>>=◌
@@ -28,20 +28,15 @@ byte_at (b ∷ rest) = Some (b, rest)
 
 -- a number
 abbrev pub number_at : Width → Bytes → Option (ℕ × Bytes)
-number_at w bytes = if nat_lt (length bytes) (byte_len w) then None else Some (from_be_bytes w (take (byte_len w) bytes), drop (byte_len w) bytes)
+number_at w bytes =
+    if nat_lt (length bytes) (byte_len w) then None else
+    Some (from_be_bytes w (take (byte_len w) bytes), drop (byte_len w) bytes)
 
 -- so many bytes
 abbrev pub taken_at : ℕ → Bytes → Option (Bytes × Bytes)
 taken_at n bytes = if nat_lt (length bytes) n then None else Some (take n bytes, drop n bytes)
 
--- where a scan starts
-abbrev pub start_at : Bytes → Option (Bool × Bytes)
-start_at [] = None
-start_at (zero ∷ rest) = Some (false, rest)
-start_at (suc zero ∷ rest) = Some (true, rest)
-start_at (suc (suc b) ∷ rest) = None
-
--- a key or a column
+-- a string
 unfoldable pub string_at : Bytes → Option (Bytes × Bytes)
 string_at bytes = do
   n ← number_at w16 bytes
