@@ -29,7 +29,8 @@ module _ (nodes : List NodeView) (trees : List Tree) (arena : IsArena nodes tree
   whole = ap end_of (sym (one.reach.exact (not_true x.version.splitting (λ marked. one.lock.splitting marked free.free))) ∙ root.reach)
 
   -- no other live node of its tree has a range: going down from it would end at a border node beside this one
-  down : (l k : ℕ) → k < length nodes → k ≢ r → (node_at nodes k).tree ≡ x.tree → (node_at nodes k).version.deleted ≡ false → HasRange (node_at nodes k) → (node_at nodes k).level ≡ l → ⊥
+  down : (l k : ℕ) → k < length nodes → k ≢ r → (node_at nodes k).tree ≡ x.tree → (node_at nodes k).version.deleted ≡ false
+      → HasRange (node_at nodes k) → (node_at nodes k).level ≡ l → ⊥
   down zero k lk other tree live range level =
       let n = node_at nodes k in
       (arena.nodes.pairs k r lk free.there).apart other tree (level ∙ sym free.border) live root.live n.low (omega arith, range)

@@ -18,10 +18,12 @@ use Rattle.mt_arena.proofs.Ranges.{rises, not_empty, length_bounds, separators_r
 
 -- what stands behind an element that was put in
 above_insert : (xs : List ℕ) (a s b : ℕ) → a ≤ length xs → a < b → get_or (insert xs a s) b 0 ≡ get_or xs (b - 1) 0
-above_insert xs a s b within lt = subst (λ q. get_or (insert xs a s) q 0 ≡ get_or xs (b - 1) 0) {x = b - 1 + 1} (omega arith) (get_or-insert_above xs a s 0 (b - 1) (omega arith) within)
+above_insert xs a s b within lt =
+    subst (λ q. get_or (insert xs a s) q 0 ≡ get_or xs (b - 1) 0) {x = b - 1 + 1} (omega arith) (get_or-insert_above xs a s 0 (b - 1) (omega arith) within)
 
 -- each element of a list with one more
-all_insert : (P : ℕ → Type 0) (xs : List ℕ) (at x : ℕ) → at ≤ length xs → P x → ((i : ℕ) → i < length xs → P (get_or xs i 0)) → (i : ℕ) → i < length xs + 1 → P (get_or (insert xs at x) i 0)
+all_insert : (P : ℕ → Type 0) (xs : List ℕ) (at x : ℕ) → at ≤ length xs → P x → ((i : ℕ) → i < length xs → P (get_or xs i 0)) → (i : ℕ)
+    → i < length xs + 1 → P (get_or (insert xs at x) i 0)
 all_insert P xs at x within new old i lt = elim (cases_eq i at) [
   | inl is ↦ rw (is, get_or-insert_at xs at x 0 within) new
   | inr other ↦ elim (cases_lt i at) [
@@ -142,7 +144,8 @@ module _ (xs : List NodeView) (i j q : ℕ) (nodes : AreNodes xs) (f : Inserts x
     level = f.right_level;
     knows = f.right_knows;
     low = sym bounds_at;
-    reach = ap end_of f.right_reach ∙ left_child.reach ∙ ap (λ k. get_or (bounds p) k 0) {x = a + 1} {y = a + 1 + 1 - 1} (omega arith) ∙ sym (bounds_above (a + 1 + 1) (omega arith));
+    reach =
+        ap end_of f.right_reach ∙ left_child.reach ∙ ap (λ k. get_or (bounds p) k 0) {x = a + 1} {y = a + 1 + 1 - 1} (omega arith) ∙ sym (bounds_above (a + 1 + 1) (omega arith));
   }
 
   left_still : IsChild y a z
@@ -217,7 +220,8 @@ module _ (xs : List NodeView) (i j q : ℕ) (nodes : AreNodes xs) (f : Inserts x
     apart = g.apart;
   }
 
-  left_to : (k : ℕ) (n : NodeView) → IsPair k n j l → ((b : ℕ) → b < length n.children → get_or n.children b 0 ≡ j → n.version.deleted ≡ false → ⊥) → IsPair k n j z
+  left_to : (k : ℕ) (n : NodeView) → IsPair k n j l → ((b : ℕ) → b < length n.children → get_or n.children b 0 ≡ j → n.version.deleted ≡ false → ⊥)
+      → IsPair k n j z
   left_to k n g none = record {
     next = g.next;
     named = g.named;
@@ -225,7 +229,8 @@ module _ (xs : List NodeView) (i j q : ℕ) (nodes : AreNodes xs) (f : Inserts x
     apart = g.apart;
   }
 
-  not_left : (k : ℕ) → k < length xs → k ≢ i → (b : ℕ) → b < length (node_at xs k).children → get_or (node_at xs k).children b 0 ≡ j → (node_at xs k).version.deleted ≡ false → ⊥
+  not_left : (k : ℕ) → k < length xs → k ≢ i → (b : ℕ) → b < length (node_at xs k).children → get_or (node_at xs k).children b 0 ≡ j
+      → (node_at xs k).version.deleted ≡ false → ⊥
   not_left k lk ni b lt is live = ni (one_parent xs i k j a b nodes f.parent_there lk f.left_there f.parent_live live f.child.in_range f.child.is lt is)
 
   no_self : (b : ℕ) → b < length y.children → get_or y.children b 0 ≡ i → IsChild y b y
@@ -279,7 +284,8 @@ module _ (xs : List NodeView) (i j q : ℕ) (nodes : AreNodes xs) (f : Inserts x
 
   -- the place of the new child is the one behind the left half
   pub inserts_at : place_of p.separators r.low ≡ a
-  inserts_at = place_of-between p.low p.separators p.high r.low a h.children.interior.rising at_separators (omega (arith, left_child.low, f.above), omega (arith, left_child.reach, f.below))
+  inserts_at =
+      place_of-between p.low p.separators p.high r.low a h.children.interior.rising at_separators (omega (arith, left_child.low, f.above), omega (arith, left_child.reach, f.below))
 
 -- node q becomes a child of node i, which has room, and the range of node j in its parent ends at its fence
 pub nodes_insert_child : (xs : List NodeView) (i j q : ℕ) → AreNodes xs → Inserts xs i j q → length (node_at xs i).separators < 15
@@ -290,7 +296,8 @@ nodes_insert_child xs i j q nodes f room =
     let size = length-set xs i y in
     let size2 = length-set (set xs i y) j z in
     record {
-      each = subst (λ n. AllNodes (IsNode n) (set (set xs i y) j z)) (sym (size2 ∙ size)) (nodes_set (IsNode (length xs)) (set xs i y) j z (omega (arith, f.left_there, size))
+      each =
+          subst (λ n. AllNodes (IsNode n) (set (set xs i y) j z)) (sym (size2 ∙ size)) (nodes_set (IsNode (length xs)) (set xs i y) j z (omega (arith, f.left_there, size))
           (nodes_set (IsNode (length xs)) xs i y f.parent_there nodes.each (rw (inserts_at xs i j q nodes f) (parent_node xs i j q nodes f room))) (left_node xs i j q nodes f));
       pairs = rw (inserts_at xs i j q nodes f) (inserted_pairs xs i j q nodes f);
     }

@@ -7,7 +7,8 @@ use Rattle.mt_arena.specs.Nodes.{AreNodes, IsChild}
 use Rattle.mt_arena.proofs.Ranges.{not_empty, length_bounds, separators_rise}
 
 -- a child of a live node stands at the place where its low fence belongs among the separators
-pub child_place : (nodes : List NodeView) (q k a : ℕ) → AreNodes nodes → q < length nodes → k < length nodes → (node_at nodes q).version.deleted ≡ false → a < length (node_at nodes q).children → get_or (node_at nodes q).children a 0 ≡ k
+pub child_place : (nodes : List NodeView) (q k a : ℕ) → AreNodes nodes → q < length nodes → k < length nodes
+    → (node_at nodes q).version.deleted ≡ false → a < length (node_at nodes q).children → get_or (node_at nodes q).children a 0 ≡ k
     → place_of (node_at nodes q).separators (node_at nodes k).low ≡ a
 child_place nodes q k a are lq lk live inside is =
     let p = node_at nodes q in

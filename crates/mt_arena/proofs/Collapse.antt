@@ -42,7 +42,8 @@ crowned_from k n j m h = record {
   apart = h.apart;
 }
 
-crowned_to : (k : ℕ) (n : NodeView) (j : ℕ) (m : NodeView) → IsPair k n j m → ((i : ℕ) → i < length n.children → get_or n.children i 0 ≡ j → n.version.deleted ≡ true) → IsPair k n j (crowned m)
+crowned_to : (k : ℕ) (n : NodeView) (j : ℕ) (m : NodeView) → IsPair k n j m
+    → ((i : ℕ) → i < length n.children → get_or n.children i 0 ≡ j → n.version.deleted ≡ true) → IsPair k n j (crowned m)
 crowned_to k n j m h none = record {
   next = h.next;
   named = h.named;
@@ -99,7 +100,8 @@ nodes_collapsed xs i q nodes ranged f =
     ]))
 
 -- who has a range stays so where a root gives way to its child
-pub ranged_collapsed : (xs : List NodeView) (i q : ℕ) → AreNodes xs → AreRanged xs → Collapses xs i q → AreRanged (set (set xs q (retired (node_at xs q))) i (crowned (node_at xs i)))
+pub ranged_collapsed : (xs : List NodeView) (i q : ℕ) → AreNodes xs → AreRanged xs → Collapses xs i q
+    → AreRanged (set (set xs q (retired (node_at xs q))) i (crowned (node_at xs i)))
 ranged_collapsed xs i q nodes ranged f =
     let p = node_at xs q in
     let x = node_at xs i in

@@ -36,16 +36,20 @@ module _ {X Y : Type 0} (d : X) where
   flat_agree f g (x ∷ xs) same = (λ a. same 0 (omega arith) a ++ flat_agree f g xs (λ k lt. same (suc k) (omega arith)) a)
 
 -- a change of a node that leaves its pairs
-pub content-set : (trees : List Tree) (nodes : List NodeView) (i : ℕ) (y : NodeView) → live_pairs trees y ≡ live_pairs trees (node_at nodes i) → content trees (set nodes i y) ≡ content trees nodes
-content-set trees nodes i y same = content-is trees (set nodes i y) ∙ ap map_of (flat_set no_node (live_pairs trees) nodes i y same) ∙ sym (content-is trees nodes)
+pub content-set : (trees : List Tree) (nodes : List NodeView) (i : ℕ) (y : NodeView) → live_pairs trees y ≡ live_pairs trees (node_at nodes i)
+    → content trees (set nodes i y) ≡ content trees nodes
+content-set trees nodes i y same =
+    content-is trees (set nodes i y) ∙ ap map_of (flat_set no_node (live_pairs trees) nodes i y same) ∙ sym (content-is trees nodes)
 
 -- a node that changes but for its slots, whether it is deleted, and its tree
-pub stands_unchanged : (trees : List Tree) (nodes : List NodeView) (i : ℕ) (y : NodeView) → HasSlots (node_at nodes i) y (node_at nodes i).slots → content trees (set nodes i y) ≡ content trees nodes
+pub stands_unchanged : (trees : List Tree) (nodes : List NodeView) (i : ℕ) (y : NodeView) → HasSlots (node_at nodes i) y (node_at nodes i).slots
+    → content trees (set nodes i y) ≡ content trees nodes
 stands_unchanged trees nodes i y same = content-set trees nodes i y
     (λ a. if (if same.deleted a then false else is_live (tree_at trees (same.tree a)).standing) then filter_map (pair_in (tree_at trees (same.tree a)).prefix) (same.slots a) else [])
 
 -- a node without slots, whatever becomes of it
-pub stands_without_slots : (trees : List Tree) (nodes : List NodeView) (i : ℕ) (y : NodeView) → (node_at nodes i).slots ≡ [] → y.slots ≡ [] → content trees (set nodes i y) ≡ content trees nodes
+pub stands_without_slots : (trees : List Tree) (nodes : List NodeView) (i : ℕ) (y : NodeView) → (node_at nodes i).slots ≡ [] → y.slots ≡ []
+    → content trees (set nodes i y) ≡ content trees nodes
 stands_without_slots trees nodes i y were are = content-set trees nodes i y (pairs-nil trees y are ∙ sym (pairs-nil trees (node_at nodes i) were))
 
 -- one more node without slots
@@ -56,8 +60,10 @@ stands_pushed trees nodes y none =
     ∙ sym (content-is trees nodes)
 
 -- trees of which those that nodes name have the same prefix and standing
-pub stands_of_trees : (were are : List Tree) (nodes : List NodeView) → ((k : ℕ) → k < length nodes → (tree_at are (node_at nodes k).tree).prefix ≡ (tree_at were (node_at nodes k).tree).prefix)
-    → ((k : ℕ) → k < length nodes → (tree_at are (node_at nodes k).tree).standing ≡ (tree_at were (node_at nodes k).tree).standing) → content are nodes ≡ content were nodes
+pub stands_of_trees : (were are : List Tree) (nodes : List NodeView)
+    → ((k : ℕ) → k < length nodes → (tree_at are (node_at nodes k).tree).prefix ≡ (tree_at were (node_at nodes k).tree).prefix)
+    → ((k : ℕ) → k < length nodes → (tree_at are (node_at nodes k).tree).standing ≡ (tree_at were (node_at nodes k).tree).standing)
+    → content are nodes ≡ content were nodes
 stands_of_trees were are nodes prefixes standings =
     content-is are nodes
     ∙ ap map_of (flat_agree no_node (live_pairs are) (live_pairs were) nodes (λ k lt a.
@@ -65,14 +71,16 @@ stands_of_trees were are nodes prefixes standings =
     ∙ sym (content-is were nodes)
 
 -- one more tree
-pub stands_tree_pushed : (trees : List Tree) (nodes : List NodeView) (tree : Tree) → IsArena nodes trees → content (trees ++ tree ∷ []) nodes ≡ content trees nodes
+pub stands_tree_pushed : (trees : List Tree) (nodes : List NodeView) (tree : Tree) → IsArena nodes trees
+    → content (trees ++ tree ∷ []) nodes ≡ content trees nodes
 stands_tree_pushed trees nodes tree arena =
     let same : (k : ℕ) → k < length nodes → tree_at (trees ++ tree ∷ []) (node_at nodes k).tree ≡ tree_at trees (node_at nodes k).tree =
     λ k lt. get_or_append_left trees (tree ∷ []) no_tree (node_at nodes k).tree (arena.forest.tree_there k lt) in
     stands_of_trees trees (trees ++ tree ∷ []) nodes (λ k lt. ap (λ (t : Tree). t.prefix) (same k lt)) (λ k lt. ap (λ (t : Tree). t.standing) (same k lt))
 
 -- a tree with another root
-pub stands_tree_set : (trees : List Tree) (nodes : List NodeView) (t : ℕ) (tree : Tree) → t < length trees → tree.prefix ≡ (tree_at trees t).prefix → tree.standing ≡ (tree_at trees t).standing → content (set trees t tree) nodes ≡ content trees nodes
+pub stands_tree_set : (trees : List Tree) (nodes : List NodeView) (t : ℕ) (tree : Tree) → t < length trees → tree.prefix ≡ (tree_at trees t).prefix
+    → tree.standing ≡ (tree_at trees t).standing → content (set trees t tree) nodes ≡ content trees nodes
 stands_tree_set trees nodes t tree there prefix standing =
     stands_of_trees trees (set trees t tree) nodes (λ k lt. by (λ (u : Tree). u.prefix) prefix (node_at nodes k).tree) (λ k lt. by (λ (u : Tree). u.standing) standing (node_at nodes k).tree)
   where
@@ -97,13 +105,17 @@ module _ (h : Entry → Option ((ℕ × Bytes) × Columns)) where
 
 -- a node whose new slots have the same pairs
 pub stands_same_pairs : (trees : List Tree) (nodes : List NodeView) (k : ℕ) (y : NodeView) (entries : List Entry) → HasSlots (node_at nodes k) y entries
-    → filter_map (pair_in (tree_at trees (node_at nodes k).tree).prefix) entries ≡ filter_map (pair_in (tree_at trees (node_at nodes k).tree).prefix) (node_at nodes k).slots → content trees (set nodes k y) ≡ content trees nodes
+   
+    → filter_map (pair_in (tree_at trees (node_at nodes k).tree).prefix) entries ≡ filter_map (pair_in (tree_at trees (node_at nodes k).tree).prefix) (node_at nodes k).slots
+    → content trees (set nodes k y) ≡ content trees nodes
 stands_same_pairs trees nodes k y entries has same = content-set trees nodes k y
     ((λ a. if (if has.deleted a then false else is_live (tree_at trees (has.tree a)).standing) then filter_map (pair_in (tree_at trees (has.tree a)).prefix) (has.slots a) else [])
     ∙ ap (λ ps. if (if (node_at nodes k).version.deleted then false else is_live (tree_at trees (node_at nodes k).tree).standing) then ps else []) same)
 
 -- a slot that holds the same pair otherwise
-pub stands_held : (trees : List Tree) (nodes : List NodeView) (k i : ℕ) (y : NodeView) (held : Held) → pair_of held ≡ pair_of (slot_at (node_at nodes k) i).held → HasSlots (node_at nodes k) y (set (node_at nodes k).slots i (record (slot_at (node_at nodes k) i) { held = held }))
+pub stands_held : (trees : List Tree) (nodes : List NodeView) (k i : ℕ) (y : NodeView) (held : Held)
+    → pair_of held ≡ pair_of (slot_at (node_at nodes k) i).held
+    → HasSlots (node_at nodes k) y (set (node_at nodes k).slots i (record (slot_at (node_at nodes k) i) { held = held }))
     → content trees (set nodes k y) ≡ content trees nodes
 stands_held trees nodes k i y held same has =
     let n = node_at nodes k in
@@ -112,14 +124,17 @@ stands_held trees nodes k i y held same has =
     (ap (option_map (λ (p : Pair). (owned (key_at begins (slot_at n i) p), p.row))) same))
 
 -- a link that is taken out
-pub stands_unlinked : (trees : List Tree) (nodes : List NodeView) (k i u : ℕ) (y : NodeView) → (slot_at (node_at nodes k) i).held ≡ Link u → HasSlots (node_at nodes k) y (remove (node_at nodes k).slots i) → content trees (set nodes k y) ≡ content trees nodes
+pub stands_unlinked : (trees : List Tree) (nodes : List NodeView) (k i u : ℕ) (y : NodeView) → (slot_at (node_at nodes k) i).held ≡ Link u
+    → HasSlots (node_at nodes k) y (remove (node_at nodes k).slots i) → content trees (set nodes k y) ≡ content trees nodes
 stands_unlinked trees nodes k i u y link has =
     let n = node_at nodes k in
     let begins = (tree_at trees n.tree).prefix in
     stands_same_pairs trees nodes k y _ has (filter_map-remove (pair_in begins) n.slots i (ap (λ held. option_map (λ (p : Pair). (owned (key_at begins (slot_at n i) p), p.row)) (pair_of held)) link))
 
 -- a tree whose nodes are deleted or have no slots, whatever becomes of it
-pub stands_tree_left : (trees : List Tree) (nodes : List NodeView) (t : ℕ) (tree : Tree) → ((l : ℕ) → l < length nodes → (node_at nodes l).tree ≡ t → ((node_at nodes l).version.deleted ≡ true) ⊎ ((node_at nodes l).slots ≡ [])) → content (set trees t tree) nodes ≡ content trees nodes
+pub stands_tree_left : (trees : List Tree) (nodes : List NodeView) (t : ℕ) (tree : Tree)
+    → ((l : ℕ) → l < length nodes → (node_at nodes l).tree ≡ t → ((node_at nodes l).version.deleted ≡ true) ⊎ ((node_at nodes l).slots ≡ []))
+    → content (set trees t tree) nodes ≡ content trees nodes
 stands_tree_left trees nodes t tree left =
     content-is (set trees t tree) nodes
     ∙ ap map_of (flat_agree no_node (live_pairs (set trees t tree)) (live_pairs trees) nodes (λ l lt. elim (cases_eq (node_at nodes l).tree t) [

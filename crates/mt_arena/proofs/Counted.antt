@@ -51,7 +51,8 @@ counted-live false (Made by) ps live tree = absurd (cc)
 counted-live false Live ps live tree = refl
 counted-live false Dead ps live tree = absurd (cc)
 
-counted-none : (deleted : Bool) (standing : Standing) (ps : Pairs) (q : ℕ × Bytes) → (deleted ≡ false → standing ≡ Live → get (map_of ps) q ≡ None) → get (map_of (counted deleted standing ps)) q ≡ None
+counted-none : (deleted : Bool) (standing : Standing) (ps : Pairs) (q : ℕ × Bytes) → (deleted ≡ false → standing ≡ Live → get (map_of ps) q ≡ None)
+    → get (map_of (counted deleted standing ps)) q ≡ None
 counted-none true standing ps q none = get-empty owned_cmp q
 counted-none false (Made by) ps q none = get-empty owned_cmp q
 counted-none false Live ps q none = none refl refl
@@ -64,12 +65,15 @@ counted-nil false Live = refl
 counted-nil false Dead = refl
 
 -- the pairs of a live node of a live tree
-pub pairs-live : (trees : List Tree) (n : NodeView) → n.version.deleted ≡ false → (tree_at trees n.tree).standing ≡ Live → map_of (live_pairs trees n) ≡ contents_of (tree_at trees n.tree).prefix n.slots
-pairs-live trees n live tree = ap map_of (counted-live n.version.deleted (tree_at trees n.tree).standing _ live tree) ∙ sym (contents_of-is (tree_at trees n.tree).prefix n.slots)
+pub pairs-live : (trees : List Tree) (n : NodeView) → n.version.deleted ≡ false → (tree_at trees n.tree).standing ≡ Live
+    → map_of (live_pairs trees n) ≡ contents_of (tree_at trees n.tree).prefix n.slots
+pairs-live trees n live tree =
+    ap map_of (counted-live n.version.deleted (tree_at trees n.tree).standing _ live tree) ∙ sym (contents_of-is (tree_at trees n.tree).prefix n.slots)
 
 -- a node without slots has none
 pub pairs-nil : (trees : List Tree) (n : NodeView) → n.slots ≡ [] → live_pairs trees n ≡ []
-pairs-nil trees n none = ap (λ es. counted n.version.deleted (tree_at trees n.tree).standing (filter_map (pair_in (tree_at trees n.tree).prefix) es)) none ∙ counted-nil n.version.deleted (tree_at trees n.tree).standing
+pairs-nil trees n none =
+    ap (λ es. counted n.version.deleted (tree_at trees n.tree).standing (filter_map (pair_in (tree_at trees n.tree).prefix) es)) none ∙ counted-nil n.version.deleted (tree_at trees n.tree).standing
 
 -- nor has a deleted one
 pub pairs-gone : (trees : List Tree) (n : NodeView) → n.version.deleted ≡ true → live_pairs trees n ≡ []
@@ -85,7 +89,8 @@ pairs-made trees n maker made = ap (λ s. counted n.version.deleted s (filter_ma
 
 -- what becomes of one tree leaves the pairs of another's nodes
 pub pairs-other : (trees : List Tree) (t : ℕ) (tree : Tree) (n : NodeView) → n.tree ≢ t → live_pairs (set trees t tree) n ≡ live_pairs trees n
-pairs-other trees t tree n differ = ap (λ (u : Tree). counted n.version.deleted u.standing (filter_map (pair_in u.prefix) n.slots)) (get_or-set_other trees t n.tree tree no_tree differ)
+pairs-other trees t tree n differ =
+    ap (λ (u : Tree). counted n.version.deleted u.standing (filter_map (pair_in u.prefix) n.slots)) (get_or-set_other trees t n.tree tree no_tree differ)
 
 -- the entry of one place taken out of a list, behind and before entries of other keys
 remove_again : (c : Contents) (q : ℕ × Bytes) (row : Columns) → get c q ≡ None → c ≡ remove (insert c q row) q
@@ -99,8 +104,10 @@ remove_again c q row none = same_contents _ _ (λ r. sym (
     by false x none = refl
 
 -- without an entry whose key no other entry has, the map loses that key
-pub contents-remove : (prefix : Bytes) (q : ℕ × Bytes) (es : List Entry) (at : ℕ) (pair : Pair) → at < length es → pair_of (get_or es at any_entry).held ≡ Some pair → owned (key_at prefix (get_or es at any_entry) pair) ≡ q
-    → All (IsApart prefix q) (take at es) → All (IsApart prefix q) (drop (suc at) es) → contents_of prefix (remove_at_place es at) ≡ remove (contents_of prefix es) q
+pub contents-remove : (prefix : Bytes) (q : ℕ × Bytes) (es : List Entry) (at : ℕ) (pair : Pair) → at < length es
+    → pair_of (get_or es at any_entry).held ≡ Some pair → owned (key_at prefix (get_or es at any_entry) pair) ≡ q
+    → All (IsApart prefix q) (take at es) → All (IsApart prefix q) (drop (suc at) es)
+    → contents_of prefix (remove_at_place es at) ≡ remove (contents_of prefix es) q
 contents-remove prefix q es at pair within is here before behind =
     let front = filter_map (pair_in prefix) (take at es) in
     let back = filter_map (pair_in prefix) (drop (suc at) es) in
@@ -117,7 +124,8 @@ contents-remove prefix q es at pair within is here before behind =
     ∙ ap (λ c. remove c q) (sym (contents_of-is prefix es ∙ ap map_of listed))
 
 -- the other entries of a border than the key's stand for other keys
-pub apart_behind : (prefix : Bytes) (layer : ℕ) (es : List Entry) (key : Bytes) (slot : ℕ) → IsBorder es → AreKeys prefix layer es → IsOfTree prefix layer key → slot < length es → order_of (get_or es slot any_entry) ≡ order_at (slice_of key layer) (mark_of key layer)
+pub apart_behind : (prefix : Bytes) (layer : ℕ) (es : List Entry) (key : Bytes) (slot : ℕ) → IsBorder es → AreKeys prefix layer es
+    → IsOfTree prefix layer key → slot < length es → order_of (get_or es slot any_entry) ≡ order_at (slice_of key layer) (mark_of key layer)
     → All (IsApart prefix (owned key)) (drop (suc slot) es)
 apart_behind prefix layer es key slot border keys of_tree live place k d inside =
     let size = length-drop (suc slot) es in
@@ -142,7 +150,8 @@ module _ (trees : List Tree) (nodes : List NodeView) (q : ℕ × Bytes) where
     here = pairs-live trees (node_at nodes i) live tree_live
 
     pub content-some : (row : Columns) → get (contents_of prefix (node_at nodes i).slots) q ≡ Some row → get (content trees nodes) q ≡ Some row
-    content-some row some = ap (λ c. get c q) (content-is trees nodes) ∙ some_at (live_pairs trees) q no_node nodes i row there none (ap (λ c. get c q) here ∙ some)
+    content-some row some =
+        ap (λ c. get c q) (content-is trees nodes) ∙ some_at (live_pairs trees) q no_node nodes i row there none (ap (λ c. get c q) here ∙ some)
 
     module _ (y : NodeView) (entries : List Entry) (has : HasSlots (node_at nodes i) y entries) where
       changed : map_of (live_pairs trees y) ≡ contents_of prefix entries
@@ -150,13 +159,15 @@ module _ (trees : List Tree) (nodes : List NodeView) (q : ℕ × Bytes) where
           pairs-live trees y (has.deleted ∙ live) (ap (λ t. (tree_at trees t).standing) has.tree ∙ tree_live)
           ∙ (λ a. contents_of (tree_at trees (has.tree a)).prefix (has.slots a))
 
-      pub content-insert : (row : Columns) → contents_of prefix entries ≡ insert (contents_of prefix (node_at nodes i).slots) q row → content trees (set nodes i y) ≡ insert (content trees nodes) q row
+      pub content-insert : (row : Columns) → contents_of prefix entries ≡ insert (contents_of prefix (node_at nodes i).slots) q row
+          → content trees (set nodes i y) ≡ insert (content trees nodes) q row
       content-insert row is =
           content-is trees (set nodes i y)
           ∙ insert_at (live_pairs trees) q no_node nodes i y row there none (changed ∙ is ∙ ap (λ c. insert c q row) (sym here))
           ∙ ap (λ c. insert c q row) (sym (content-is trees nodes))
 
-      pub content-remove : contents_of prefix entries ≡ remove (contents_of prefix (node_at nodes i).slots) q → content trees (set nodes i y) ≡ remove (content trees nodes) q
+      pub content-remove : contents_of prefix entries ≡ remove (contents_of prefix (node_at nodes i).slots) q
+          → content trees (set nodes i y) ≡ remove (content trees nodes) q
       content-remove is =
           content-is trees (set nodes i y)
           ∙ remove_at (live_pairs trees) q no_node nodes i y there none (changed ∙ is ∙ ap (λ c. remove c q) (sym here))

@@ -15,7 +15,8 @@ abbrev pub dead : Tree → Tree
 dead tree = record tree { standing = Dead }
 
 -- what stands after it, stood and is another tree
-pub stood : (trees : List Tree) (u t : ℕ) → u < length trees → (tree_at (set trees u (dead (tree_at trees u))) t).standing ≡ Live → (t ≢ u) × ((tree_at trees t).standing ≡ Live)
+pub stood : (trees : List Tree) (u t : ℕ) → u < length trees → (tree_at (set trees u (dead (tree_at trees u))) t).standing ≡ Live
+    → (t ≢ u) × ((tree_at trees t).standing ≡ Live)
 stood trees u t within live = elim (cases_eq t u) [
   | inl is ↦ absurd (let both = ap (λ (w : Tree). w.standing) (sym (get_or-set_same trees u (dead (tree_at trees u)) no_tree within)) ∙ ap (λ t. (tree_at (set trees u (dead (tree_at trees u))) t).standing) (sym is) ∙ live in cc)
   | inr other ↦ (other, ap (λ (w : Tree). w.standing) (sym (get_or-set_other trees u t (dead (tree_at trees u)) no_tree other)) ∙ live)

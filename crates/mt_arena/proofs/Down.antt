@@ -34,7 +34,8 @@ long_below key layer is =
     ]
 
 -- a prefix and the next slice are the prefix of the next layer
-pub next_prefix : (prefix key : Bytes) (layer slice : ℕ) → AreBytes key → 8 * (layer + 1) ≤ length key → prefix ≡ take (8 * layer) key → slice ≡ slice_of key layer → prefix ++ to_be_bytes w64 slice ≡ take (8 * (layer + 1)) key
+pub next_prefix : (prefix key : Bytes) (layer slice : ℕ) → AreBytes key → 8 * (layer + 1) ≤ length key → prefix ≡ take (8 * layer) key
+    → slice ≡ slice_of key layer → prefix ++ to_be_bytes w64 slice ≡ take (8 * (layer + 1)) key
 next_prefix prefix key layer slice bytes reaches begins is =
     let rest = rest_of key layer in
     let more : 8 * layer + 8 ≡ 8 * (layer + 1) = omega arith in
@@ -45,7 +46,8 @@ next_prefix prefix key layer slice bytes reaches begins is =
 
 -- the tree of a link at the key's slice and mark is live, and the key is one of it
 pub goes_on : (nodes : List NodeView) (trees : List Tree) (key : Bytes) (layer k i u : ℕ) → IsArena nodes trees → BelongsIn nodes trees key layer k
-    → StandsAt nodes (node_at nodes k).tree (slice_of key layer) (mark_of key layer) k i → (slot_at (node_at nodes k) i).held ≡ Link u → GoesOn trees key (layer + 1) u
+    → StandsAt nodes (node_at nodes k).tree (slice_of key layer) (mark_of key layer) k i → (slot_at (node_at nodes k) i).held ≡ Link u
+    → GoesOn trees key (layer + 1) u
 goes_on nodes trees key layer k i u arena in_k at link =
     let e = slot_at (node_at nodes k) i in
     let leads : LeadsTo trees (node_at nodes k) i u = arena.layers.links k at.border.there at.border.live i u at.in_range link in
@@ -57,7 +59,8 @@ goes_on nodes trees key layer k i u arena in_k at link =
       of_tree = record {
         stored = in_k.of_tree.stored;
         reaches = omega (arith, below);
-        begins = leads.prefix ∙ next_prefix (tree_at trees (node_at nodes k).tree).prefix key layer e.slice in_k.of_tree.stored.are_bytes (omega (arith, below)) in_k.of_tree.begins at.slice_is;
+        begins =
+            leads.prefix ∙ next_prefix (tree_at trees (node_at nodes k).tree).prefix key layer e.slice in_k.of_tree.stored.are_bytes (omega (arith, below)) in_k.of_tree.begins at.slice_is;
       };
       begun = below;
     }
@@ -72,7 +75,8 @@ goes_on_top nodes trees key arena stored = record {
 }
 
 -- where the descent ends, in the live border node that has the slice in its range, the key belongs
-pub belongs_here : (nodes : List NodeView) (trees : List Tree) (key : Bytes) (layer u k : ℕ) → GoesOn trees key layer u → IsLiveBorder nodes u k → Holds (node_at nodes k) (slice_of key layer) → BelongsIn nodes trees key layer k
+pub belongs_here : (nodes : List NodeView) (trees : List Tree) (key : Bytes) (layer u k : ℕ) → GoesOn trees key layer u → IsLiveBorder nodes u k
+    → Holds (node_at nodes k) (slice_of key layer) → BelongsIn nodes trees key layer k
 belongs_here nodes trees key layer u k goes border holds = record {
   border = record { there = border.there; live = border.live; level = border.level; tree_is = refl };
   tree_live = ap (λ t. (tree_at trees t).standing) border.tree_is ∙ goes.live;

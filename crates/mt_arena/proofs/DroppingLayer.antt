@@ -161,7 +161,8 @@ module _ (v : ArenaView) (room node i u step op : ℕ) (sound : ArenaInvariant v
   left_are = without_at n.slots i e was_border.rising may.in_range (get_or_default n.slots i any_entry e may.in_range)
 
   inside : (k : ℕ) → k < length es → Holds n (get_or (slices es) k 0)
-  inside = within_all n es (subst (All (λ (d : Entry). Holds n d.slice)) (sym left_are) (All-remove (λ (d : Entry). Holds n d.slice) n.slots i (within_each n n.slots (nodes.each node ln).slots.within)))
+  inside =
+      within_all n es (subst (All (λ (d : Entry). Holds n d.slice)) (sym left_are) (All-remove (λ (d : Entry). Holds n d.slice) n.slots i (within_each n n.slots (nodes.each node ln).slots.within)))
 
   keys : HaveKeys (tree_at v.trees n.tree).prefix es
   keys =
@@ -203,7 +204,8 @@ module _ (v : ArenaView) (room node i u step op : ℕ) (sound : ArenaInvariant v
 
   -- trees
   forest_ys : IsForest ys v.trees
-  forest_ys = forest_set xs v.trees node y ln forest (record { tree = refl; deleted = refl; flag = refl; root = λ h. record { live = h.live; flag = h.flag; parentless = h.parentless; low = h.low; reach = h.reach } }) keys
+  forest_ys =
+      forest_set xs v.trees node y ln forest (record { tree = refl; deleted = refl; flag = refl; root = λ h. record { live = h.live; flag = h.flag; parentless = h.parentless; low = h.low; reach = h.reach } }) keys
 
   forest_out : IsForest new ts
   forest_out = subst (λ (m : NodeView). IsForest (set ys r (retired m)) ts) at_root
@@ -267,8 +269,10 @@ module _ (v : ArenaView) (room node i u step op : ℕ) (sound : ArenaInvariant v
           slot = now.place;
           there = omega (arith, ln, size);
           live = ap (λ (m : NodeView). m.version.deleted) new_node ∙ may.live;
-          in_range = subst (λ (m : NodeView). now.place < length m.slots) (sym new_node) (subst (λ (ds : List Entry). now.place < length ds) (sym left_are) now.in_range);
-          is = ap (λ (m : NodeView). (slot_at m now.place).held) new_node ∙ ap (λ (ds : List Entry). (get_or ds now.place any_entry).held) left_are ∙ ap (λ (d : Entry). d.held) now.same ∙ held;
+          in_range =
+              subst (λ (m : NodeView). now.place < length m.slots) (sym new_node) (subst (λ (ds : List Entry). now.place < length ds) (sym left_are) now.in_range);
+          is =
+              ap (λ (m : NodeView). (slot_at m now.place).held) new_node ∙ ap (λ (ds : List Entry). (get_or ds now.place any_entry).held) left_are ∙ ap (λ (d : Entry). d.held) now.same ∙ held;
         }
     | inr nn ↦ elim (cases_eq h.node r) [
       | inl is ↦ absurd (no_slot h.node h.slot is h.in_range)

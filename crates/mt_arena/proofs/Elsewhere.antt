@@ -73,7 +73,8 @@ module _ (nodes : List NodeView) (trees : List Tree) (arena : IsArena nodes tree
     holds = subst (Holds (node_at nodes k)) at.has.slice (slot_within nodes k i arena.nodes at.there at.in_range);
   }
 
-  stands : (key : Bytes) (layer k i : ℕ) (pair : Pair) → StandsFor nodes trees key layer k i pair → StandsAt nodes (node_at nodes k).tree (slice_of key layer) (mark_of key layer) k i
+  stands : (key : Bytes) (layer k i : ℕ) (pair : Pair) → StandsFor nodes trees key layer k i pair
+      → StandsAt nodes (node_at nodes k).tree (slice_of key layer) (mark_of key layer) k i
   stands key layer k i pair at = record {
     border = (belongs key layer k i pair at).border;
     in_range = at.in_range;
@@ -141,7 +142,8 @@ module _ (nodes : List NodeView) (trees : List Tree) (arena : IsArena nodes tree
     nowhere_missing missing = let m = meets in missing m.slot any_entry m.here.in_range m.here.slice_is m.here.mark_is
 
     -- and where a pair has its slice and mark there, nowhere but in its slot
-    pub only_there : (i : ℕ) (other : Pair) → StandsAt nodes (node_at nodes k).tree (slice_of key layer) (mark_of key layer) k i → pair_of (slot_at (node_at nodes k) i).held ≡ Some other → (k ≡ l) × (i ≡ j)
+    pub only_there : (i : ℕ) (other : Pair) → StandsAt nodes (node_at nodes k).tree (slice_of key layer) (mark_of key layer) k i
+        → pair_of (slot_at (node_at nodes k) i).held ≡ Some other → (k ≡ l) × (i ≡ j)
     only_there i other here is =
         let m = meets in
         let same = same_slot nodes k m.slot i arena.nodes here.border.there m.here.in_range here.in_range (m.here.slice_is ∙ sym here.slice_is) (m.here.mark_is ∙ sym here.mark_is) in
@@ -151,7 +153,8 @@ module _ (nodes : List NodeView) (trees : List Tree) (arena : IsArena nodes tree
         ]
 
     -- so nowhere, where that pair goes on otherwise
-    pub nowhere_other : (i : ℕ) (other : Pair) → StandsAt nodes (node_at nodes k).tree (slice_of key layer) (mark_of key layer) k i → pair_of (slot_at (node_at nodes k) i).held ≡ Some other → other.suffix ≢ suffix_of key layer → ⊥
+    pub nowhere_other : (i : ℕ) (other : Pair) → StandsAt nodes (node_at nodes k).tree (slice_of key layer) (mark_of key layer) k i
+        → pair_of (slot_at (node_at nodes k) i).held ≡ Some other → other.suffix ≢ suffix_of key layer → ⊥
     nowhere_other i other here is differ =
         let same = only_there i other here is in
         let pairs : other ≡ pair = same_Some other pair (sym is ∙ (λ a. pair_of (slot_at (node_at nodes (same.0 a)) (same.1 a)).held) ∙ at.pair_is) in
@@ -162,6 +165,7 @@ module _ (nodes : List NodeView) (trees : List Tree) (arena : IsArena nodes tree
         differ ((λ a. (pairs a).suffix) ∙ at.has.suffix pair at.pair_is ∙ ap (suffix_of key) layers)
 
   -- a key's pair stands in one place
-  pub stands_once : (key : Bytes) (layer k i : ℕ) (pair : Pair) (low l j : ℕ) (other : Pair) → StandsFor nodes trees key layer k i pair → StandsFor nodes trees key low l j other → (k ≡ l) × (i ≡ j)
+  pub stands_once : (key : Bytes) (layer k i : ℕ) (pair : Pair) (low l j : ℕ) (other : Pair) → StandsFor nodes trees key layer k i pair
+      → StandsFor nodes trees key low l j other → (k ≡ l) × (i ≡ j)
   stands_once key layer k i pair low l j other here there =
       only_there key layer k (belongs key layer k i pair here) low l j other there i pair (stands key layer k i pair here) here.pair_is

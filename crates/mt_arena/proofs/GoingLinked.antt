@@ -200,13 +200,15 @@ module _ (v : ArenaView) (room node i t op : ℕ) (key : Bytes) (pair : Pair) (s
   }
 
   forest_new : IsForest new v.trees
-  forest_new = forest_set xs v.trees node y ln forest (record { tree = refl; deleted = refl; flag = refl; root = λ h. record { live = h.live; flag = h.flag; parentless = h.parentless; low = h.low; reach = h.reach } })
+  forest_new =
+      forest_set xs v.trees node y ln forest (record { tree = refl; deleted = refl; flag = refl; root = λ h. record { live = h.live; flag = h.flag; parentless = h.parentless; low = h.low; reach = h.reach } })
       (keys_after v room node i op sound (Unstable pair (Some t)) may.slot (Link t) holds)
 
   pub sound_live : ArenaInvariant new ts v.retired room
   sound_live = record {
     arena = record {
-      nodes = nodes_slots xs node y.slots ln sound.arena.nodes (is_held op n may.slot.held.holder) may.slot.border (border_after v room node i op sound (Unstable pair (Some t)) may.slot (Link t) holds)
+      nodes =
+          nodes_slots xs node y.slots ln sound.arena.nodes (is_held op n may.slot.held.holder) may.slot.border (border_after v room node i op sound (Unstable pair (Some t)) may.slot (Link t) holds)
           (within_all n y.slots (inside_after v room node i op sound (Unstable pair (Some t)) may.slot (Link t) holds));
       ranged = ranged_marked xs node y.slots y.version ln sound.arena.ranged refl (λ marked. marked) (λ whole. whole);
       forest = forest_live new v.trees t op forest_new lt may.layer.mine fresh;

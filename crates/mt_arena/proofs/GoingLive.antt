@@ -37,16 +37,20 @@ pairless : (prefix : Bytes) (q : ℕ × Bytes) (e : Entry) → pair_of e.held �
 pairless prefix q e none pair is = absurd (none-some pair (sym none ∙ is))
 
 -- one pair more before two maps that say the same of an owner
-more : (o : Option ((ℕ × Bytes) × Columns)) (ps qs : Pairs) (q : ℕ × Bytes) → get (map_of ps) q ≡ get (map_of qs) q → get (map_of (cons_option o ps)) q ≡ get (map_of (cons_option o qs)) q
+more : (o : Option ((ℕ × Bytes) × Columns)) (ps qs : Pairs) (q : ℕ × Bytes) → get (map_of ps) q ≡ get (map_of qs) q
+    → get (map_of (cons_option o ps)) q ≡ get (map_of (cons_option o qs)) q
 more None ps qs q same = same
-more (Some p) ps qs q same = get-insert owned_total (map_of ps) p.0 p.1 q ∙ ap (cond (eq_by_cmp owned_cmp q p.0) (Some p.1)) same ∙ sym (get-insert owned_total (map_of qs) p.0 p.1 q)
+more (Some p) ps qs q same =
+    get-insert owned_total (map_of ps) p.0 p.1 q ∙ ap (cond (eq_by_cmp owned_cmp q p.0) (Some p.1)) same ∙ sym (get-insert owned_total (map_of qs) p.0 p.1 q)
 
-more_of : (prefix : Bytes) (e : Entry) (es new : List Entry) (q : ℕ × Bytes) → get (contents_of prefix es) q ≡ get (contents_of prefix new) q → get (contents_of prefix (e ∷ es)) q ≡ get (contents_of prefix (e ∷ new)) q
+more_of : (prefix : Bytes) (e : Entry) (es new : List Entry) (q : ℕ × Bytes) → get (contents_of prefix es) q ≡ get (contents_of prefix new) q
+    → get (contents_of prefix (e ∷ es)) q ≡ get (contents_of prefix (e ∷ new)) q
 unfolding contents_of
 more_of prefix e es new q same = more (pair_in prefix e) (filter_map (pair_in prefix) es) (filter_map (pair_in prefix) new) q same
 
 -- an entry in the place of another one, both of other keys, leaves what is read
-get-set : (prefix : Bytes) (q : ℕ × Bytes) (es : List Entry) (i : ℕ) (e : Entry) → i < length es → IsApart prefix q e → IsApart prefix q (get_or es i any_entry) → get (contents_of prefix (set es i e)) q ≡ get (contents_of prefix es) q
+get-set : (prefix : Bytes) (q : ℕ × Bytes) (es : List Entry) (i : ℕ) (e : Entry) → i < length es → IsApart prefix q e
+    → IsApart prefix q (get_or es i any_entry) → get (contents_of prefix (set es i e)) q ≡ get (contents_of prefix es) q
 get-set prefix q [] i e within new old = absurd (omega arith)
 get-set prefix q (x ∷ es) zero e within new old = get-other prefix q e es new ∙ sym (get-other prefix q x es old)
 get-set prefix q (x ∷ es) (suc i) e within new old = more_of prefix x (set es i e) es q (get-set prefix q es i e (omega arith) new old)
@@ -151,7 +155,8 @@ module _ (nodes : List NodeView) (trees : List Tree) (arena : IsArena nodes tree
       ∙ sym (ap (λ c. get c (owned key)) (sym (content-is trees nodes)) ∙ found nodes trees arena begun key layer k i pair at)
 
   -- and of other keys each node says what it said
-  elsewhere : (q : ℕ × Bytes) → q ≢ owned key → (l : ℕ) → l < length new → get (map_of (live_pairs are (node_at new l))) q ≡ get (map_of (live_pairs trees (node_at nodes l))) q
+  elsewhere : (q : ℕ × Bytes) → q ≢ owned key → (l : ℕ) → l < length new
+      → get (map_of (live_pairs are (node_at new l))) q ≡ get (map_of (live_pairs trees (node_at nodes l))) q
   elsewhere q differ l lt = elim (cases_eq l k) [
     | inl is_k ↦ ap (λ m. get (map_of (live_pairs are (node_at new m))) q) is_k ∙ ap (λ m. get (map_of (live_pairs are m)) q) new_k ∙ ap (λ c. get c q) k_is
         ∙ get-set begins q n.slots i e at.in_range (pairless begins q e none) slot_apart
@@ -167,7 +172,8 @@ module _ (nodes : List NodeView) (trees : List Tree) (arena : IsArena nodes tree
       slot_apart : IsApart begins q (slot_at n i)
       slot_apart p is same = differ (sym same ∙ owned_at begins layer (slot_at n i) key p at.has is)
 
-  by_tie : (q : ℕ × Bytes) (b : Bool) → eq_by_cmp owned_cmp q (owned key) ≡ b → get (map_of (flat_map (live_pairs are) new)) q ≡ get (map_of (flat_map (live_pairs trees) nodes)) q
+  by_tie : (q : ℕ × Bytes) (b : Bool) → eq_by_cmp owned_cmp q (owned key) ≡ b
+      → get (map_of (flat_map (live_pairs are) new)) q ≡ get (map_of (flat_map (live_pairs trees) nodes)) q
   by_tie q true tied = let one = tied_owner q (owned key) tied in
       ap (get (map_of (flat_map (live_pairs are) new))) one ∙ here ∙ ap (get (map_of (flat_map (live_pairs trees) nodes))) (sym one)
   by_tie q false apart = agree_by (live_pairs are) (live_pairs trees) q no_node new nodes size

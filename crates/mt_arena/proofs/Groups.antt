@@ -6,15 +6,18 @@ use Rattle.mt_arena.specs.Nodes.{IsNode, IsNamed}
 use Rattle.mt_arena.specs.NodeFacts.{AreThere, IsGuarded, FitsSlots, FitsChildren, FitsChain}
 
 -- a held node need only be locked: its marks and slots are free
-pub held_lock : {lock insert split : Bool} (holder : Option ℕ) (entries : List Entry) → holder ≢ None → lock ≡ is_some holder → IsGuarded lock insert split holder entries
+pub held_lock : {lock insert split : Bool} (holder : Option ℕ) (entries : List Entry) → holder ≢ None → lock ≡ is_some holder
+    → IsGuarded lock insert split holder entries
 held_lock holder entries held is = record { locked = is; inserting = λ e. held; splitting = λ e. held; stable = λ free. absurd (held free) }
 
 -- a border node has no children, whichever its high fence
-pub border_children : {level low : ℕ} {high : Option ℕ} {separators below : List ℕ} (new : Option ℕ) → level ≡ 0 → FitsChildren level low high separators below → FitsChildren level low new separators below
+pub border_children : {level low : ℕ} {high : Option ℕ} {separators below : List ℕ} (new : Option ℕ) → level ≡ 0
+    → FitsChildren level low high separators below → FitsChildren level low new separators below
 border_children new border fit = record { childless = fit.childless; interior = fit.interior; rise = λ some. absurd (some (fit.childless border)); peopled = λ above. absurd (omega (arith, above, border)) }
 
 -- an interior node has no slots, whichever its high fence
-pub interior_slots : {level low : ℕ} {high : Option ℕ} {entries : List Entry} (new : Option ℕ) → 0 < level → FitsSlots level low high entries → FitsSlots level low new entries
+pub interior_slots : {level low : ℕ} {high : Option ℕ} {entries : List Entry} (new : Option ℕ) → 0 < level → FitsSlots level low high entries
+    → FitsSlots level low new entries
 interior_slots new above fit = record { border = fit.border; within = λ i lt. absurd (omega (arith, lt, ap length (fit.slotless above))); slotless = fit.slotless }
 
 -- and is in no chain

@@ -15,7 +15,8 @@ use Rattle.mt_arena.proofs.Pairs.{here, there, last, before, nodes_set, nodes_pu
 use Rattle.mt_arena.proofs.Push.{no_slots}
 
 -- a node without parent comes below a new one, which is behind all others
-below_from : (top k : ℕ) (n : NodeView) (j : ℕ) (m : NodeView) (reach : Option ℕ) (root : Bool) → j < top → IsPair k n j m → IsPair k (below_top n top reach root) j m
+below_from : (top k : ℕ) (n : NodeView) (j : ℕ) (m : NodeView) (reach : Option ℕ) (root : Bool) → j < top → IsPair k n j m
+    → IsPair k (below_top n top reach root) j m
 below_from top k n j m reach root lt h = record {
   next = h.next;
   named = λ live free. record { back = (h.named live free).back; live = (h.named live free).live; knows = λ e. absurd (omega (arith, same_Some _ _ e, lt)) };
@@ -23,7 +24,8 @@ below_from top k n j m reach root lt h = record {
   apart = h.apart;
 }
 
-below_to : (top k : ℕ) (n : NodeView) (j : ℕ) (m : NodeView) (reach : Option ℕ) (root : Bool) → m.parent ≡ None → IsPair k n j m → IsPair k n j (below_top m top reach root)
+below_to : (top k : ℕ) (n : NodeView) (j : ℕ) (m : NodeView) (reach : Option ℕ) (root : Bool) → m.parent ≡ None → IsPair k n j m
+    → IsPair k n j (below_top m top reach root)
 below_to top k n j m reach root parentless h = record {
   next = h.next;
   named = h.named;
@@ -31,7 +33,8 @@ below_to top k n j m reach root parentless h = record {
   apart = h.apart;
 }
 
-below_node : (count : ℕ) (n : NodeView) (reach : Option ℕ) (root : Bool) → IsNode count n → end_of n.high ≤ end_of reach → (n.version.splitting ≡ false → reach ≡ n.high) → IsNode (count + 1) (below_top n count reach root)
+below_node : (count : ℕ) (n : NodeView) (reach : Option ℕ) (root : Bool) → IsNode count n → end_of n.high ≤ end_of reach
+    → (n.version.splitting ≡ false → reach ≡ n.high) → IsNode (count + 1) (below_top n count reach root)
 below_node count n reach root node within exact =
     let h = node_more count (count + 1) n (omega arith) node in
     record {
@@ -180,7 +183,8 @@ module _ (xs : List NodeView) (i j op : ℕ) (nodes : AreNodes xs) (f : AreRootH
   top_child k (suc (suc a)) lt is = absurd (omega arith)
 
   -- it is on a level of its own
-  top_alone : (k : ℕ) → k < length xs → (node_at ws k).tree ≡ l.tree → (node_at ws k).level ≡ l.level + 1 → (node_at ws k).version.deleted ≡ false → (s : ℕ) → Holds (node_at ws k) s → 18446744073709551616 ≤ s
+  top_alone : (k : ℕ) → k < length xs → (node_at ws k).tree ≡ l.tree → (node_at ws k).level ≡ l.level + 1 → (node_at ws k).version.deleted ≡ false
+      → (s : ℕ) → Holds (node_at ws k) s → 18446744073709551616 ≤ s
   top_alone k lt = elim (cases_eq k i) [
     | inl k_i ↦ rw (k_i, at_i) (λ tree level. absurd (omega (arith, level)))
     | inr k_ni ↦ elim (cases_eq k j) [
@@ -211,8 +215,11 @@ module _ (xs : List NodeView) (i j op : ℕ) (nodes : AreNodes xs) (f : AreRootH
       beyond (suc (suc a)) la is = omega arith
 
   -- nobody but its children names it
-  to_top : (k : ℕ) (m : NodeView) → IsNode (length xs + 1) m → ((c : ℕ) → m.next ≡ Some c → c < length xs) → ((c : ℕ) → m.previous ≡ Some c → c < length xs) → ((a : ℕ) → a < length m.children → get_or m.children a 0 < length xs)
-      → (m.parent ≡ Some (length ws) → HasChild g k) → (m.tree ≡ l.tree → m.level ≡ l.level + 1 → m.version.deleted ≡ false → (s : ℕ) → Holds m s → 18446744073709551616 ≤ s) → IsPair k m (length ws) g
+  to_top : (k : ℕ) (m : NodeView) → IsNode (length xs + 1) m → ((c : ℕ) → m.next ≡ Some c → c < length xs)
+      → ((c : ℕ) → m.previous ≡ Some c → c < length xs) → ((a : ℕ) → a < length m.children → get_or m.children a 0 < length xs)
+      → (m.parent ≡ Some (length ws) → HasChild g k)
+      → (m.tree ≡ l.tree → m.level ≡ l.level + 1 → m.version.deleted ≡ false → (s : ℕ) → Holds m s → 18446744073709551616 ≤ s)
+      → IsPair k m (length ws) g
   to_top k m h next previous children knows lonely = record {
     next = λ e. absurd (omega (arith, next (length ws) e, size));
     named = λ _ _. record {
@@ -290,7 +297,8 @@ not_none (c ∷ cs) some = omega arith
 
 -- no other node of the tree stands above the halves of its root: its first child would overlap one of them
 pub none_above : (xs : List NodeView) (i j : ℕ) → AreNodes xs → AreRanged xs → AreRootHalves xs i j
-    → (k : ℕ) → k < length xs → (node_at xs k).tree ≡ (node_at xs i).tree → (node_at xs k).level ≡ (node_at xs i).level + 1 → (node_at xs k).version.deleted ≡ false
+    → (k : ℕ) → k < length xs → (node_at xs k).tree ≡ (node_at xs i).tree → (node_at xs k).level ≡ (node_at xs i).level + 1
+    → (node_at xs k).version.deleted ≡ false
     → (s : ℕ) → Holds (node_at xs k) s → 18446744073709551616 ≤ s
 none_above xs i j nodes ranged f k lk tree level live s holds =
     let m = node_at xs k in

@@ -75,7 +75,8 @@ module _ (xs : List NodeView) (i low op : ℕ) (within : i < length xs) (held : 
   at_m : node_at ys i ≡ m
   at_m = here xs i m within
 
-  pub sound_half : (trees : List Tree) (gone : List Retired) (room more : ℕ) → ArenaInvariant xs trees gone room → length xs + 1 ≤ more → HasRange (node_at xs i) → ArenaInvariant (ys ++ half ∷ []) trees gone more
+  pub sound_half : (trees : List Tree) (gone : List Retired) (room more : ℕ) → ArenaInvariant xs trees gone room → length xs + 1 ≤ more
+      → HasRange (node_at xs i) → ArenaInvariant (ys ++ half ∷ []) trees gone more
   sound_half trees gone room more sound enough range =
       let marked = sound_splitting xs trees gone room i within sound (is_held op (node_at xs i) held) in
       let forest = marked.arena.forest in
@@ -85,7 +86,8 @@ module _ (xs : List NodeView) (i low op : ℕ) (within : i < length xs) (held : 
         arena = record {
           nodes = nodes_half ys x i low op (omega (arith, within, size_y)) (rw at_m (is_held op x held)) level marked.arena.nodes;
           ranged = ranged_half xs i low op within marked.arena.nodes sound.arena.ranged live level range held;
-          forest = forest_push ys trees half forest there_is ((sound.arena.forest.homes i x.tree within there_is).standing refl live) refl (no_keys (tree_at trees x.tree).prefix [] refl);
+          forest =
+              forest_push ys trees half forest there_is ((sound.arena.forest.homes i x.tree within there_is).standing refl live) refl (no_keys (tree_at trees x.tree).prefix [] refl);
           layers = layers_push ys trees half refl marked.arena.layers;
         };
         retired = retired_push ys gone half marked.retired refl;
@@ -93,7 +95,8 @@ module _ (xs : List NodeView) (i low op : ℕ) (within : i < length xs) (held : 
       }
 
   -- the guarantee: of nodes and trees, and of who names whom
-  pub guarantee_half : (trees : List Tree) → IsForest xs trees → ((q : ℕ) → (tree_at trees (node_at xs i).tree).standing ≡ Made q → q ≡ op) → NodesGuarantee op xs (ys ++ half ∷ []) trees trees
+  pub guarantee_half : (trees : List Tree) → IsForest xs trees → ((q : ℕ) → (tree_at trees (node_at xs i).tree).standing ≡ Made q → q ≡ op)
+      → NodesGuarantee op xs (ys ++ half ∷ []) trees trees
   guarantee_half trees forest mine =
       guarantee_on op xs ys (ys ++ half ∷ []) trees trees trees
       (guarantee_set op xs trees i m within (changes_splitting op (node_at xs i) held) mine)
@@ -110,7 +113,8 @@ module _ (xs : List NodeView) (i low op : ℕ) (within : i < length xs) (held : 
   content_half trees = stands_pushed trees ys half refl ∙ content-set trees xs i m refl
 
 -- what the start of a border split leaves to others
-pub step_half : (v : ArenaView) (room i low op : ℕ) → i < length v.nodes → (at v i).holder ≡ Some op → (at v i).version.deleted ≡ false → (at v i).level ≡ 0 → ArenaInvariant v.nodes v.trees v.retired room → IsOpen v i op → Guarantee op v (with_half v i low op)
+pub step_half : (v : ArenaView) (room i low op : ℕ) → i < length v.nodes → (at v i).holder ≡ Some op → (at v i).version.deleted ≡ false
+    → (at v i).level ≡ 0 → ArenaInvariant v.nodes v.trees v.retired room → IsOpen v i op → Guarantee op v (with_half v i low op)
 step_half v room i low op within held live level sound mine = record {
   nodes = guarantee_half v.nodes i low op within held live level v.trees sound.arena.forest mine;
   points = points_half v.nodes i low op within held live level;
@@ -125,7 +129,8 @@ leads_more trees u n i k lt leads = record {
   prefix = rw (before_tree trees u k leads.there, before_tree trees u n.tree lt) leads.prefix;
 }
 
-layers_tree : (xs : List NodeView) (trees : List Tree) (y : NodeView) (u : Tree) (op : ℕ) → y.slots ≡ [] → u.standing ≡ Made op → IsForest xs trees → AreLayered xs trees → AreLayered (xs ++ y ∷ []) (trees ++ u ∷ [])
+layers_tree : (xs : List NodeView) (trees : List Tree) (y : NodeView) (u : Tree) (op : ℕ) → y.slots ≡ [] → u.standing ≡ Made op → IsForest xs trees
+    → AreLayered xs trees → AreLayered (xs ++ y ∷ []) (trees ++ u ∷ [])
 layers_tree xs trees y u op none standing forest layers = record {
   links = λ k lt. elim (cases_eq k (length xs)) [
     | inl is ↦ rw (is, last xs y) (no_links (trees ++ u ∷ []) y none)
@@ -143,7 +148,8 @@ layers_tree xs trees y u op none standing forest layers = record {
 }
 
 -- a tree more that an operation makes
-pub sound_tree : (xs : List NodeView) (trees : List Tree) (gone : List Retired) (room more op : ℕ) (prefix : Bytes) → ArenaInvariant xs trees gone room → length xs + 1 ≤ more → 8 * layer_of prefix ≡ length prefix
+pub sound_tree : (xs : List NodeView) (trees : List Tree) (gone : List Retired) (room more op : ℕ) (prefix : Bytes)
+    → ArenaInvariant xs trees gone room → length xs + 1 ≤ more → 8 * layer_of prefix ≡ length prefix
     → ArenaInvariant (xs ++ fresh_root (length trees) ∷ []) (trees ++ made prefix (length xs) op ∷ []) gone more
 sound_tree xs trees gone room more op prefix sound enough whole =
     let y = fresh_root (length trees) in
@@ -160,5 +166,6 @@ sound_tree xs trees gone room more op prefix sound enough whole =
     }
 
 -- one more tree with an empty root leaves the contents
-pub content_tree : (xs : List NodeView) (trees : List Tree) (y : NodeView) (u : Tree) → IsArena xs trees → y.slots ≡ [] → content (trees ++ u ∷ []) (xs ++ y ∷ []) ≡ content trees xs
+pub content_tree : (xs : List NodeView) (trees : List Tree) (y : NodeView) (u : Tree) → IsArena xs trees → y.slots ≡ []
+    → content (trees ++ u ∷ []) (xs ++ y ∷ []) ≡ content trees xs
 content_tree xs trees y u arena none = stands_pushed (trees ++ u ∷ []) xs y none ∙ stands_tree_pushed trees xs u arena

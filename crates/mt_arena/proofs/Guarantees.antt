@@ -122,7 +122,8 @@ tree_changes_on op a b c first second = record {
 }
 
 -- two steps, one after the other
-pub guarantee_on : (op : ℕ) (old mid new : List NodeView) (were between are : List Tree) → NodesGuarantee op old mid were between → NodesGuarantee op mid new between are → ((k : ℕ) → k < length old → (node_at old k).tree < length were)
+pub guarantee_on : (op : ℕ) (old mid new : List NodeView) (were between are : List Tree) → NodesGuarantee op old mid were between
+    → NodesGuarantee op mid new between are → ((k : ℕ) → k < length old → (node_at old k).tree < length were)
     → NodesGuarantee op old new were are
 guarantee_on op old mid new were between are a b inside = record {
   count = omega (arith, a.count, b.count);
@@ -165,27 +166,33 @@ guarantee_set op xs trees i y within change mine = record {
 }
 
 -- a node more, and a tree more with its root
-pub guarantee_push : (op : ℕ) (xs : List NodeView) (trees : List Tree) (y : NodeView) → ((q : ℕ) → (tree_at trees y.tree).standing ≡ Made q → q ≡ op) → ((q : ℕ) → q ≢ op → y.holder ≢ Some q) → NodesGuarantee op xs (xs ++ y ∷ []) trees trees
+pub guarantee_push : (op : ℕ) (xs : List NodeView) (trees : List Tree) (y : NodeView) → ((q : ℕ) → (tree_at trees y.tree).standing ≡ Made q → q ≡ op)
+    → ((q : ℕ) → q ≢ op → y.holder ≢ Some q) → NodesGuarantee op xs (xs ++ y ∷ []) trees trees
 guarantee_push op xs trees y mine holder = record {
   count = omega (arith, length-append xs (y ∷ []));
   tree_count = omega arith;
   nodes = λ k lt. rw (before xs y k lt) (changes_none op (node_at xs k));
   trees = λ t lt. tree_changes_none op (tree_at trees t);
   made = λ k q lt other e. before xs y k lt;
-  made_new = λ k q from lt other e. other (mine q (ap (λ (n : NodeView). (tree_at trees n.tree).standing) (sym (last xs y)) ∙ ap (λ k. (tree_at trees (node_at (xs ++ y ∷ []) k).tree).standing) {x = length xs} {y = k} (omega (arith, from, lt, length-append xs (y ∷ []))) ∙ e));
-  taken_new = λ k q from lt other e. holder q other (ap (λ (n : NodeView). n.holder) (sym (last xs y)) ∙ ap (λ k. (node_at (xs ++ y ∷ []) k).holder) {x = length xs} {y = k} (omega (arith, from, lt, length-append xs (y ∷ []))) ∙ e);
+  made_new =
+      λ k q from lt other e. other (mine q (ap (λ (n : NodeView). (tree_at trees n.tree).standing) (sym (last xs y)) ∙ ap (λ k. (tree_at trees (node_at (xs ++ y ∷ []) k).tree).standing) {x = length xs} {y = k} (omega (arith, from, lt, length-append xs (y ∷ []))) ∙ e));
+  taken_new =
+      λ k q from lt other e. holder q other (ap (λ (n : NodeView). n.holder) (sym (last xs y)) ∙ ap (λ k. (node_at (xs ++ y ∷ []) k).holder) {x = length xs} {y = k} (omega (arith, from, lt, length-append xs (y ∷ []))) ∙ e);
 }
 
 -- one more node in one more tree leaves all that was there
-pub guarantee_tree : (op : ℕ) (xs : List NodeView) (trees : List Tree) (y : NodeView) (u : Tree) → length trees ≤ y.tree → ((q : ℕ) → q ≢ op → y.holder ≢ Some q) → NodesGuarantee op xs (xs ++ y ∷ []) trees (trees ++ u ∷ [])
+pub guarantee_tree : (op : ℕ) (xs : List NodeView) (trees : List Tree) (y : NodeView) (u : Tree) → length trees ≤ y.tree
+    → ((q : ℕ) → q ≢ op → y.holder ≢ Some q) → NodesGuarantee op xs (xs ++ y ∷ []) trees (trees ++ u ∷ [])
 guarantee_tree op xs trees y u new_tree holder = record {
   count = omega (arith, length-append xs (y ∷ []));
   tree_count = omega (arith, length-append trees (u ∷ []));
   nodes = λ k lt. rw (before xs y k lt) (changes_none op (node_at xs k));
   trees = λ t lt. rw (before_tree trees u t lt) (tree_changes_none op (tree_at trees t));
   made = λ k q lt other e. before xs y k lt;
-  made_new = λ k q from lt other e. omega (arith, new_tree, made_there trees y.tree q (ap (λ (n : NodeView). (tree_at trees n.tree).standing) (sym (last xs y)) ∙ ap (λ k. (tree_at trees (node_at (xs ++ y ∷ []) k).tree).standing) {x = length xs} {y = k} (omega (arith, from, lt, length-append xs (y ∷ []))) ∙ e));
-  taken_new = λ k q from lt other e. holder q other (ap (λ (n : NodeView). n.holder) (sym (last xs y)) ∙ ap (λ k. (node_at (xs ++ y ∷ []) k).holder) {x = length xs} {y = k} (omega (arith, from, lt, length-append xs (y ∷ []))) ∙ e);
+  made_new =
+      λ k q from lt other e. omega (arith, new_tree, made_there trees y.tree q (ap (λ (n : NodeView). (tree_at trees n.tree).standing) (sym (last xs y)) ∙ ap (λ k. (tree_at trees (node_at (xs ++ y ∷ []) k).tree).standing) {x = length xs} {y = k} (omega (arith, from, lt, length-append xs (y ∷ []))) ∙ e));
+  taken_new =
+      λ k q from lt other e. holder q other (ap (λ (n : NodeView). n.holder) (sym (last xs y)) ∙ ap (λ k. (node_at (xs ++ y ∷ []) k).holder) {x = length xs} {y = k} (omega (arith, from, lt, length-append xs (y ∷ []))) ∙ e);
 }
 
 -- one node changes and names the same neighbours and the same parent, or others that the operation holds
@@ -194,7 +201,8 @@ pub record PointsSo (op : ℕ) (nodes : List NodeView) (x y : NodeView) : Type 0
   pub parent : (j : ℕ) → y.parent ≡ Some j → (node_at nodes j).holder ≢ Some op → x.parent ≡ Some j
 
 -- one changed node names its neighbour and its parent as a step may, where that one does
-pub points_set : (op : ℕ) (xs : List NodeView) (i : ℕ) (y : NodeView) → i < length xs → PointsSo op (set xs i y) (node_at xs i) y → PointsOnly op xs (set xs i y)
+pub points_set : (op : ℕ) (xs : List NodeView) (i : ℕ) (y : NodeView) → i < length xs → PointsSo op (set xs i y) (node_at xs i) y
+    → PointsOnly op xs (set xs i y)
 points_set op xs i y within so = record {
   previous = λ k j lt _ e not_mine. elim (cases_eq k i) [
     | inl same ↦ ap (λ k. (node_at xs k).previous) same ∙ so.previous j (ap (λ (n : NodeView). n.previous) (sym (here xs i y within)) ∙ ap (λ k. (node_at (set xs i y) k).previous) (sym same) ∙ e) not_mine
@@ -209,7 +217,8 @@ points_set op xs i y within so = record {
 }
 
 -- a new node names no parent, and nobody before it but one that the operation holds
-pub points_push : (op : ℕ) (xs : List NodeView) (y : NodeView) → ((j : ℕ) → j < length xs → y.previous ≡ Some j → (node_at xs j).holder ≡ Some op) → y.parent ≡ None → PointsOnly op xs (xs ++ y ∷ [])
+pub points_push : (op : ℕ) (xs : List NodeView) (y : NodeView) → ((j : ℕ) → j < length xs → y.previous ≡ Some j → (node_at xs j).holder ≡ Some op)
+    → y.parent ≡ None → PointsOnly op xs (xs ++ y ∷ [])
 points_push op xs y previous parent =
     let size : length (xs ++ y ∷ []) ≡ length xs + 1 = length-append xs (y ∷ []) in
     record {

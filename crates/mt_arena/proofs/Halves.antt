@@ -55,11 +55,14 @@ owns_later prefix e es q o = record { place = suc o.place; within = omega (arith
 
 -- of one entry more, by what it holds
 module _ (prefix : Bytes) (e : Entry) (es : List Entry) (q : ℕ × Bytes) (row : Columns) (rest : get (map_of (filter_map (pair_in prefix) es)) q ≡ Some row → Owns prefix es q) where
-  owns_here : (pair : Pair) → pair_of e.held ≡ Some pair → (b : Bool) → eq_by_cmp owned_cmp q (owned (key_at prefix e pair)) ≡ b → cond b (Some pair.row) (get (map_of (filter_map (pair_in prefix) es)) q) ≡ Some row → Owns prefix (e ∷ es) q
+  owns_here : (pair : Pair) → pair_of e.held ≡ Some pair → (b : Bool) → eq_by_cmp owned_cmp q (owned (key_at prefix e pair)) ≡ b
+      → cond b (Some pair.row) (get (map_of (filter_map (pair_in prefix) es)) q) ≡ Some row → Owns prefix (e ∷ es) q
   owns_here pair is true tied said = record { place = 0; within = omega arith; pair = pair; is = is; owner = sym (tied_owner q (owned (key_at prefix e pair)) tied) }
   owns_here pair is false apart said = owns_later prefix e es q (rest said)
 
-  owns_by : (o : Option Pair) → pair_of e.held ≡ o → get (map_of (cons_option (option_map (λ (pair : Pair). (owned (key_at prefix e pair), pair.row)) o) (filter_map (pair_in prefix) es))) q ≡ Some row → Owns prefix (e ∷ es) q
+  owns_by : (o : Option Pair) → pair_of e.held ≡ o
+      → get (map_of (cons_option (option_map (λ (pair : Pair). (owned (key_at prefix e pair), pair.row)) o) (filter_map (pair_in prefix) es))) q ≡ Some row
+      → Owns prefix (e ∷ es) q
   owns_by None is said = owns_later prefix e es q (rest said)
   owns_by (Some pair) is said = owns_here pair is (eq_by_cmp owned_cmp q (owned (key_at prefix e pair))) refl
       (sym (get-insert owned_total (map_of (filter_map (pair_in prefix) es)) (owned (key_at prefix e pair)) pair.row q) ∙ said)
@@ -124,7 +127,8 @@ module _ (trees : List Tree) (nodes : List NodeView) (k j : ℕ) (x y z : NodeVi
   one_none : (q : ℕ × Bytes) (row : Columns) → at q y ≡ Some row → (l : ℕ) → l < length one → l ≢ k → at q (node_at one l) ≡ None
   one_none q row some l lt not_k = ap (at q) (one_l l not_k) ∙ others_none q row some l (omega (arith, size)) not_k
 
-  parted_at : (q : ℕ × Bytes) (o : Option Columns) → at q y ≡ o → get (map_of (flat_map (live_pairs trees) two)) q ≡ get (map_of (flat_map (live_pairs trees) one)) q
+  parted_at : (q : ℕ × Bytes) (o : Option Columns) → at q y ≡ o
+      → get (map_of (flat_map (live_pairs trees) two)) q ≡ get (map_of (flat_map (live_pairs trees) one)) q
   parted_at q None none = agree_by (live_pairs trees) (live_pairs trees) q no_node two one long (λ l lt. without q none l)
   parted_at q (Some row) some =
       only_at (live_pairs trees) q no_node two j (omega (arith, long, size)) (two_none q row some)
@@ -163,8 +167,10 @@ module _ (nodes : List NodeView) (trees : List Tree) (layer k j : ℕ) (within :
     z_is : map_of (live_pairs trees joined_one) ≡ map_of (filter_map (pair_in bytes) left ++ filter_map (pair_in bytes) right)
     z_is = pairs-live trees joined_one live tree_live ∙ contents_of-is bytes (left ++ right) ∙ ap map_of (filter_map-append (pair_in bytes) left right)
 
-    whole : (q : ℕ × Bytes) → get (map_of (live_pairs trees joined_one)) q ≡ option_or (get (map_of (live_pairs trees x)) q) (get (map_of (live_pairs trees y)) q)
-    whole q = ap (λ c. get c q) z_is ∙ get-append (filter_map (pair_in bytes) left) (filter_map (pair_in bytes) right) q ∙ (λ a. option_or (get (sym x_is a) q) (get (sym y_is a) q))
+    whole : (q : ℕ × Bytes)
+        → get (map_of (live_pairs trees joined_one)) q ≡ option_or (get (map_of (live_pairs trees x)) q) (get (map_of (live_pairs trees y)) q)
+    whole q =
+        ap (λ c. get c q) z_is ∙ get-append (filter_map (pair_in bytes) left) (filter_map (pair_in bytes) right) q ∙ (λ a. option_or (get (sym x_is a) q) (get (sym y_is a) q))
 
     empty : (q : ℕ × Bytes) → HasNone trees nodes q j
     empty q = ap (λ ps. get (map_of ps) q) (pairs-nil trees (node_at nodes j) half.empty) ∙ get-empty owned_cmp q
@@ -185,7 +191,8 @@ module _ (nodes : List NodeView) (trees : List Tree) (layer k j : ℕ) (within :
     left_none : (q : ℕ × Bytes) (row : Columns) → get (map_of (live_pairs trees y)) q ≡ Some row → get (map_of (live_pairs trees x)) q ≡ None
     left_none q row some = ap (λ c. get c q) (x_is ∙ sym (contents_of-is bytes left)) ∙ get-apart bytes q left (left_apart q (right_owns q row some))
 
-    others_none : (q : ℕ × Bytes) (row : Columns) → get (map_of (live_pairs trees y)) q ≡ Some row → (l : ℕ) → l < length nodes → l ≢ k → HasNone trees nodes q l
+    others_none : (q : ℕ × Bytes) (row : Columns) → get (map_of (live_pairs trees y)) q ≡ Some row → (l : ℕ) → l < length nodes → l ≢ k
+        → HasNone trees nodes q l
     others_none q row some l lt differ =
         let o = right_owns q row some in
         subst (λ r. HasNone trees nodes r l) o.owner (All-right IsAlone left right all_alone o.place any_entry o.within o.pair o.is l lt differ)

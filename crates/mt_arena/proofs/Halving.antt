@@ -82,7 +82,8 @@ pub record Gathers (trees : List Tree) (x : NodeView) (all : List Entry) : Type 
   pub back : HasLinksOf x.slots all
 
 -- those of a node, and those with one key more
-pub gathers_same : (xs : List NodeView) (trees : List Tree) (gone : List Retired) (room i : ℕ) → i < length xs → ArenaInvariant xs trees gone room → Gathers trees (node_at xs i) (node_at xs i).slots
+pub gathers_same : (xs : List NodeView) (trees : List Tree) (gone : List Retired) (room i : ℕ) → i < length xs → ArenaInvariant xs trees gone room
+    → Gathers trees (node_at xs i) (node_at xs i).slots
 gathers_same xs trees gone room i within sound =
     let x = node_at xs i in
     let h = sound.arena.nodes.each i within in
@@ -118,7 +119,8 @@ gathers_some v room left right op slice mark (Some e) sound may (slice_is, mark_
       inside = All-insert (λ (e : Entry). Holds x e.slice) x.slots p e was.inside (subst (Holds x) (sym place.has.slice) place.belongs.holds);
       keys = record {
         keys = keys-publish (tree_of v left).prefix layer x.slots e key was.keys.keys place.has;
-        begun = All-insert (λ (e : Entry). e.mark ≢ Short 0) x.slots p e was.keys.begun (λ none. begun_mark key layer place.belongs.begun (sym place.has.mark ∙ none));
+        begun =
+            All-insert (λ (e : Entry). e.mark ≢ Short 0) x.slots p e was.keys.begun (λ none. begun_mark key layer place.belongs.begun (sym place.has.mark ∙ none));
       };
       forth = links_insert x.slots p e le;
       back = links_insert_back x.slots p e le (no_link e.held place.stable);
@@ -199,20 +201,24 @@ module _ (v : ArenaView) (room left right op : ℕ) (all kept moved : List Entry
   }
 
   pub sound_halved : ArenaInvariant new v.trees v.retired room
-  sound_halved = sound_split v.nodes v.trees left right kept moved half.held.there half.right_held.there half.differ splits v.retired room sound half.empty half.no_root
+  sound_halved =
+      sound_split v.nodes v.trees left right kept moved half.held.there half.right_held.there half.differ splits v.retired room sound half.empty half.no_root
       keys_kept (subst (λ t. HaveKeys (tree_at v.trees t).prefix moved) (sym half.right_tree) keys_moved)
       (links_on x.slots all kept ok.back (subst (λ (es : List Entry). HasLinksOf es kept) parted.joined (links_left kept moved)))
       (links_on x.slots all moved ok.back (subst (λ (es : List Entry). HasLinksOf es moved) parted.joined (links_right kept moved)))
       (λ a u lt is. slot_parted kept moved u (get_or x.slots a any_entry).slice (subst (λ (es : List Entry). HasSlot es u (get_or x.slots a any_entry).slice) (sym parted.joined) (ok.forth a u lt is)))
 
   still_held : (node_at new left).holder ≡ Some op
-  still_held = each_set2 (λ k n. k ≡ left → n.holder ≡ Some op) v.nodes left right (left_half x kept r.low right) (right_half x r moved left) half.held.there half.right_held.there half.differ
+  still_held =
+      each_set2 (λ k n. k ≡ left → n.holder ≡ Some op) v.nodes left right (left_half x kept r.low right) (right_half x r moved left) half.held.there half.right_held.there half.differ
       (λ _. half.held.holder) (λ e. absurd (half.differ (sym e))) (λ k lt ni nj e. absurd (ni e)) left half.held.there refl
 
   pub step_halved : Guarantee op v (record v { nodes = new })
   step_halved = record {
-    nodes = guarantee_split v.nodes v.trees left right kept moved half.held.there half.right_held.there half.differ splits op half.held.holder half.right_held.holder sound.arena.forest half.mine;
-    points = points_each op v.nodes new (length-set (set v.nodes left (left_half x kept r.low right)) right (right_half x r moved left) ∙ length-set v.nodes left (left_half x kept r.low right))
+    nodes =
+        guarantee_split v.nodes v.trees left right kept moved half.held.there half.right_held.there half.differ splits op half.held.holder half.right_held.holder sound.arena.forest half.mine;
+    points =
+        points_each op v.nodes new (length-set (set v.nodes left (left_half x kept r.low right)) right (right_half x r moved left) ∙ length-set v.nodes left (left_half x kept r.low right))
         (each_set2 (λ k n. PointsSo op new (at v k) n) v.nodes left right (left_half x kept r.low right) (right_half x r moved left) half.held.there half.right_held.there half.differ
         (names_same op new x (left_half x kept r.low right) refl refl)
         (record {

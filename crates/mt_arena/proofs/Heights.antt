@@ -51,7 +51,8 @@ count_up m [] = omega arith
 count_up m (n ∷ ns) = omega (arith, one_more n.version.deleted n.level m, count_up m ns)
 
 -- one more, where a live node is of this level
-count_hit : (m : ℕ) (ns : List NodeView) (d : ℕ) → d < length ns → (node_at ns d).version.deleted ≡ false → (node_at ns d).level ≡ m → count m ns < count (suc m) ns
+count_hit : (m : ℕ) (ns : List NodeView) (d : ℕ) → d < length ns → (node_at ns d).version.deleted ≡ false → (node_at ns d).level ≡ m
+    → count m ns < count (suc m) ns
 count_hit m [] d lt live is = absurd (omega (arith, lt))
 count_hit m (n ∷ ns) zero lt live is = omega (arith, one_hit n.version.deleted n.level m live is, count_up m ns)
 count_hit m (n ∷ ns) (suc d) lt live is = omega (arith, one_more n.version.deleted n.level m, count_hit m ns d (omega (arith, lt)) live is)
@@ -77,7 +78,8 @@ live_count_le (n ∷ ns) = omega (arith, live_le n.version.deleted, live_count_l
 
 module _ (xs : List NodeView) (nodes : AreNodes xs) (ranged : AreRanged xs) where
   -- on each level up to that of a live node with a range a live node stands: the first child's first child, and so on
-  down : (l k : ℕ) → k < length xs → (node_at xs k).version.deleted ≡ false → HasRange (node_at xs k) → (node_at xs k).level ≡ l → (m : ℕ) → m < suc l → HasLevel xs m
+  down : (l k : ℕ) → k < length xs → (node_at xs k).version.deleted ≡ false → HasRange (node_at xs k) → (node_at xs k).level ≡ l → (m : ℕ) → m < suc l
+      → HasLevel xs m
   down zero k lk live range is m lt = (k, lk, live, omega (arith, is, lt))
   down (suc l) k lk live range is m lt = elim (cases_eq m (suc l)) [
     | inl same ↦ (k, lk, live, is ∙ sym same)

@@ -25,8 +25,10 @@ take_some [] k some e = some refl
 take_some (x ∷ xs) k some e = absurd (cc)
 
 -- a node that the operation holds before and after: its range narrows, and its keys and children change, only under a mark
-pub changes_held : (op : ℕ) (n m : NodeView) → n.holder ≡ Some op → m.holder ≡ Some op → m.tree ≡ n.tree → m.level ≡ n.level → m.low ≡ n.low → Ages n.version m.version → (n.children ≢ [] → m.children ≢ [])
-    → (n.version.splitting ≡ false → m.version.deleted ≡ false → end_of n.high ≤ end_of m.high) → (n.version.splitting ≡ false → n.version.inserting ≡ false → HasSameKeys n m)
+pub changes_held : (op : ℕ) (n m : NodeView) → n.holder ≡ Some op → m.holder ≡ Some op → m.tree ≡ n.tree → m.level ≡ n.level → m.low ≡ n.low
+    → Ages n.version m.version → (n.children ≢ [] → m.children ≢ [])
+    → (n.version.splitting ≡ false → m.version.deleted ≡ false → end_of n.high ≤ end_of m.high)
+    → (n.version.splitting ≡ false → n.version.inserting ≡ false → HasSameKeys n m)
     → Changes op n m
 changes_held op n m before after tree level low ages peopled widens keys = record {
   tree = tree;
@@ -45,22 +47,28 @@ pub marks : (b : Bool) → b ≡ true → b ≡ false → ⊥
 marks b is isnt = absurd (cc)
 
 -- one that is marked as split
-pub changes_split : (op : ℕ) (n m : NodeView) → n.holder ≡ Some op → m.holder ≡ Some op → m.tree ≡ n.tree → m.level ≡ n.level → m.low ≡ n.low → Ages n.version m.version → (n.children ≢ [] → m.children ≢ [])
+pub changes_split : (op : ℕ) (n m : NodeView) → n.holder ≡ Some op → m.holder ≡ Some op → m.tree ≡ n.tree → m.level ≡ n.level → m.low ≡ n.low
+    → Ages n.version m.version → (n.children ≢ [] → m.children ≢ [])
     → n.version.splitting ≡ true → Changes op n m
 changes_split op n m before after tree level low ages peopled marked =
     changes_held op n m before after tree level low ages peopled (λ whole. absurd (marks n.version.splitting marked whole)) (λ whole. absurd (marks n.version.splitting marked whole))
 
 -- the halves of a border node
-pub changes_left_half : (op : ℕ) (x : NodeView) (kept : List Entry) (low right : ℕ) → x.holder ≡ Some op → x.version.splitting ≡ true → Changes op x (left_half x kept low right)
-changes_left_half op x kept low right held marked = changes_split op x (left_half x kept low right) held held refl refl refl (versions.ages_refl x.version) (λ some. some) marked
+pub changes_left_half : (op : ℕ) (x : NodeView) (kept : List Entry) (low right : ℕ) → x.holder ≡ Some op → x.version.splitting ≡ true
+    → Changes op x (left_half x kept low right)
+changes_left_half op x kept low right held marked =
+    changes_split op x (left_half x kept low right) held held refl refl refl (versions.ages_refl x.version) (λ some. some) marked
 
 -- a held right half may be filled
-pub changes_right_half : (op : ℕ) (x r : NodeView) (moved : List Entry) (left : ℕ) → r.holder ≡ Some op → r.version.splitting ≡ true → Changes op r (right_half x r moved left)
-changes_right_half op x r moved left held marked = changes_split op r (right_half x r moved left) held held refl refl refl (versions.ages_refl r.version) (λ some. some) marked
+pub changes_right_half : (op : ℕ) (x r : NodeView) (moved : List Entry) (left : ℕ) → r.holder ≡ Some op → r.version.splitting ≡ true
+    → Changes op r (right_half x r moved left)
+changes_right_half op x r moved left held marked =
+    changes_split op r (right_half x r moved left) held held refl refl refl (versions.ages_refl r.version) (λ some. some) marked
 
 -- the left half whose range in its parent ends at its fence
 pub changes_exact : (op : ℕ) (n : NodeView) → n.holder ≡ Some op → Changes op n (exact n)
-changes_exact op n held = changes_held op n (exact n) held held refl refl refl (versions.ages_refl n.version) (λ some. some) (λ whole live. omega arith) (λ whole still. record { slots = refl; separators = refl; children = refl })
+changes_exact op n held =
+    changes_held op n (exact n) held held refl refl refl (versions.ages_refl n.version) (λ some. some) (λ whole live. omega arith) (λ whole still. record { slots = refl; separators = refl; children = refl })
 
 -- the halves of a root below the new one: the left one is no root any more
 pub changes_left_below : (op : ℕ) (n : NodeView) (top : ℕ) → n.holder ≡ Some op → n.version.splitting ≡ true → Changes op n (left_below n top)
@@ -80,19 +88,24 @@ changes_right_below op n top held marked = changes_split op n (right_below n top
 
 -- a parent that is marked for it gets a child
 pub changes_with_child : (op : ℕ) (p : NodeView) (separator q : ℕ) → p.holder ≡ Some op → p.version.inserting ≡ true → Changes op p (with_child p separator q)
-changes_with_child op p separator q held marked = changes_held op p (with_child p separator q) held held refl refl refl (versions.ages_refl p.version) (λ some. insert_some p.children (place_of p.separators separator + 1) q)
+changes_with_child op p separator q held marked =
+    changes_held op p (with_child p separator q) held held refl refl refl (versions.ages_refl p.version) (λ some. insert_some p.children (place_of p.separators separator + 1) q)
     (λ whole live. omega arith) (λ whole still. absurd (marks p.version.inserting marked still))
 
 -- or loses one
-pub changes_without_child : (op : ℕ) (p : NodeView) (a : ℕ) → p.holder ≡ Some op → p.version.inserting ≡ true → 0 < a → a < length p.children → Changes op p (without_child p a)
+pub changes_without_child : (op : ℕ) (p : NodeView) (a : ℕ) → p.holder ≡ Some op → p.version.inserting ≡ true → 0 < a → a < length p.children
+    → Changes op p (without_child p a)
 changes_without_child op p a held marked not_first within = changes_held op p (without_child p a) held held refl refl refl (versions.ages_refl p.version)
     (λ some. not_empty (remove p.children a) 0 (omega (arith, length-remove p.children a within))) (λ whole live. omega arith) (λ whole still. absurd (marks p.version.inserting marked still))
 
 -- the left half of an interior node that is marked as split
-pub changes_inner_left : (op : ℕ) (p : NodeView) (separator q : ℕ) → p.holder ≡ Some op → p.version.splitting ≡ true → Changes op p (inner_left (with_child p separator q))
-changes_inner_left op p separator q held marked = changes_split op p (inner_left (with_child p separator q)) held held refl refl refl (versions.ages_refl p.version)
+pub changes_inner_left : (op : ℕ) (p : NodeView) (separator q : ℕ) → p.holder ≡ Some op → p.version.splitting ≡ true
+    → Changes op p (inner_left (with_child p separator q))
+changes_inner_left op p separator q held marked =
+    changes_split op p (inner_left (with_child p separator q)) held held refl refl refl (versions.ages_refl p.version)
     (λ some. take_some (with_child p separator q).children 8 (insert_some p.children (place_of p.separators separator + 1) q)) marked
 
 -- the left neighbour of a removed node gets its range
 pub changes_joined : (op : ℕ) (n x : NodeView) → n.holder ≡ Some op → end_of n.high ≤ end_of x.high → Changes op n (joined n x)
-changes_joined op n x held wider = changes_held op n (joined n x) held held refl refl refl (versions.ages_refl n.version) (λ some. some) (λ whole live. wider) (λ whole still. record { slots = refl; separators = refl; children = refl })
+changes_joined op n x held wider =
+    changes_held op n (joined n x) held held refl refl refl (versions.ages_refl n.version) (λ some. some) (λ whole live. wider) (λ whole still. record { slots = refl; separators = refl; children = refl })

@@ -60,7 +60,8 @@ module _ (v : ArenaView) (room node i op : ℕ) (sound : ArenaInvariant v.nodes 
   slots_are = replaced_at n.slots i new any_entry border.rising slot.in_range refl
 
   pub border_after : IsBorder (replaced n.slots new)
-  border_after = subst IsBorder (sym slots_are) (border_set n.slots i new border (record { mark = (border.each i any_entry slot.in_range).mark; held = may.can }) (sym (get_or-map order_of n.slots i any_entry 0 slot.in_range)))
+  border_after =
+      subst IsBorder (sym slots_are) (border_set n.slots i new border (record { mark = (border.each i any_entry slot.in_range).mark; held = may.can }) (sym (get_or-map order_of n.slots i any_entry 0 slot.in_range)))
 
   pub inside_after : All (λ (d : Entry). Holds n d.slice) (replaced n.slots new)
   inside_after =
@@ -107,7 +108,8 @@ module _ (v : ArenaView) (room node i op : ℕ) (sound : ArenaInvariant v.nodes 
         record { can = (may.long, fits); goes_on = λ other is. ap pair_of may.is ∙ is }
 
     pub sound_unsettled : ArenaInvariant (set v.nodes node (with_held (at v node) i (Unstable pair None))) v.trees v.retired room
-    sound_unsettled = sound_held v room node i op sound (Stable pair) may (Unstable pair None) may_unsettle (λ u is. absurd (let both = sym may.is ∙ is in cc)) (λ u is. absurd (cc))
+    sound_unsettled =
+        sound_held v room node i op sound (Stable pair) may (Unstable pair None) may_unsettle (λ u is. absurd (let both = sym may.is ∙ is in cc)) (λ u is. absurd (cc))
 
     pub step_unsettled : Guarantee op v (with_slot v node i (Unstable pair None))
     step_unsettled = step_held v room node i op sound (Stable pair) may (Unstable pair None) may_unsettle
@@ -127,7 +129,8 @@ module _ (v : ArenaView) (room node i op : ℕ) (sound : ArenaInvariant v.nodes 
         record { can = fits; goes_on = λ other is. ap pair_of may.is ∙ is }
 
     pub sound_linked : ArenaInvariant (set v.nodes node (with_held (at v node) i (Unstable pair (Some t)))) v.trees v.retired room
-    sound_linked = sound_held v room node i op sound (Unstable pair None) may (Unstable pair (Some t)) may_link (λ u is. absurd (let both = sym may.is ∙ is in cc)) (λ u is. absurd (cc))
+    sound_linked =
+        sound_held v room node i op sound (Unstable pair None) may (Unstable pair (Some t)) may_link (λ u is. absurd (let both = sym may.is ∙ is in cc)) (λ u is. absurd (cc))
 
     pub step_linked : Guarantee op v (with_slot v node i (Unstable pair (Some t)))
     step_linked = step_held v room node i op sound (Unstable pair None) may (Unstable pair (Some t)) may_link

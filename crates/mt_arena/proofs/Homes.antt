@@ -37,7 +37,8 @@ tree_more : (count more : ℕ) (tree : Tree) → count ≤ more → IsTree count
 tree_more count more tree le h = record { root_there = omega (arith, h.root_there); whole = h.whole }
 
 -- the forest stands where one node changes and keeps its place and its keys
-pub forest_set : (xs : List NodeView) (trees : List Tree) (i : ℕ) (y : NodeView) → i < length xs → IsForest xs trees → KeepsHome (node_at xs i) y → HasKeysOf trees y → IsForest (set xs i y) trees
+pub forest_set : (xs : List NodeView) (trees : List Tree) (i : ℕ) (y : NodeView) → i < length xs → IsForest xs trees → KeepsHome (node_at xs i) y
+    → HasKeysOf trees y → IsForest (set xs i y) trees
 forest_set xs trees i y within forest keeps keys =
     let x = node_at xs i in
     let size = length-set xs i y in
@@ -57,7 +58,8 @@ forest_set xs trees i y within forest keeps keys =
     }
 
 -- a node more that is no root, of a tree that stands
-pub forest_push : (xs : List NodeView) (trees : List Tree) (y : NodeView) → IsForest xs trees → y.tree < length trees → (tree_at trees y.tree).standing ≢ Dead → y.version.root ≡ false → HasKeysOf trees y
+pub forest_push : (xs : List NodeView) (trees : List Tree) (y : NodeView) → IsForest xs trees → y.tree < length trees
+    → (tree_at trees y.tree).standing ≢ Dead → y.version.root ≡ false → HasKeysOf trees y
     → IsForest (xs ++ y ∷ []) trees
 forest_push xs trees y forest there_is stands no_root keys =
     let size : length (xs ++ y ∷ []) ≡ length xs + 1 = length-append xs (y ∷ []) in
@@ -82,7 +84,8 @@ forest_push xs trees y forest there_is stands no_root keys =
     }
 
 -- a node that has a parent is no root
-pub no_root : (xs : List NodeView) (trees : List Tree) (k : ℕ) → IsForest xs trees → k < length xs → (node_at xs k).version.deleted ≡ false → (node_at xs k).parent ≢ None → (node_at xs k).version.root ≡ false
+pub no_root : (xs : List NodeView) (trees : List Tree) (k : ℕ) → IsForest xs trees → k < length xs → (node_at xs k).version.deleted ≡ false
+    → (node_at xs k).parent ≢ None → (node_at xs k).version.root ≡ false
 no_root xs trees k forest lt live some = by (node_at xs k).version.root refl
   where
     by : (b : Bool) → (node_at xs k).version.root ≡ b → (node_at xs k).version.root ≡ false

@@ -76,7 +76,8 @@ module _ (ws : List NodeView) (i h k : ℕ) (p : NodeView) (separators children 
   low_middle = omega (arith, middle_is, wide.rise 0 (suc k) (omega arith) (omega (arith, size_bounds, wide.in_range)))
 
   middle_high : middle < end_of p.high
-  middle_high = omega (arith, middle_is, bounds_of-end p.low separators p.high, wide.rise (suc k) (suc (length separators)) (omega (arith, wide.in_range)) (omega (arith, size_bounds)))
+  middle_high =
+      omega (arith, middle_is, bounds_of-end p.low separators p.high, wide.rise (suc k) (suc (length separators)) (omega (arith, wide.in_range)) (omega (arith, size_bounds)))
 
   -- the bounds and children of the halves
   left_bounds : bounds y ≡ take (suc (suc k)) (bounds w)
@@ -119,7 +120,8 @@ module _ (ws : List NodeView) (i h k : ℕ) (p : NodeView) (separators children 
       next = hp.names.next;
       previous = hp.names.previous;
       parent = hp.names.parent;
-      children = λ b lt. rw (get_or-take (suc k) children b 0 (omega (arith, lt, left_count))) (wide.there b (omega (arith, lt, left_count, wide.between, wide.in_range)));
+      children =
+          λ b lt. rw (get_or-take (suc k) children b 0 (omega (arith, lt, left_count))) (wide.there b (omega (arith, lt, left_count, wide.between, wide.in_range)));
     };
     lock = hp.lock;
     kind = hp.kind;
@@ -221,15 +223,18 @@ module _ (ws : List NodeView) (i h k : ℕ) (p : NodeView) (separators children 
     next = λ is. absurd (let none = f.right_next in cc);
     named = e.named;
     child = λ b lt is _. right_child m n g b lt is;
-    apart = λ d tree level _ also s hu hn. g.apart (λ same. ni (sym same)) (sym f.right_tree ∙ tree) (sym f.right_level ∙ level) live also s (omega (arith, hu.0, low_middle, f.right_low), hu.1) hn;
+    apart =
+        λ d tree level _ also s hu hn. g.apart (λ same. ni (sym same)) (sym f.right_tree ∙ tree) (sym f.right_level ∙ level) live also s (omega (arith, hu.0, low_middle, f.right_low), hu.1) hn;
   }
 
   right_to : (m : ℕ) (n : NodeView) → m ≢ i → IsNode (length ws) n → IsPair m n i w → IsPair m n h t → IsPair m n h u
   right_to m n ni one g e = record {
     next = e.next;
     named = λ _ free. absurd (f.right_held free);
-    child = λ b lt is alive. absurd (omega (arith, child_ranges (length ws) n b t one lt (e.child b lt is alive), rw f.right_reach at (child_ranges (length ws) n b t one lt (e.child b lt is alive))));
-    apart = λ d tree level alive _ s hn hu. g.apart ni (tree ∙ f.right_tree) (level ∙ f.right_level) alive live s hn (omega (arith, hu.0, low_middle, f.right_low), hu.1);
+    child =
+        λ b lt is alive. absurd (omega (arith, child_ranges (length ws) n b t one lt (e.child b lt is alive), rw f.right_reach at (child_ranges (length ws) n b t one lt (e.child b lt is alive))));
+    apart =
+        λ d tree level alive _ s hn hu. g.apart ni (tree ∙ f.right_tree) (level ∙ f.right_level) alive live s hn (omega (arith, hu.0, low_middle, f.right_low), hu.1);
   }
 
   left_self : IsPair i y i y

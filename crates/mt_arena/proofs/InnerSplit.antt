@@ -107,7 +107,8 @@ module _ (xs : List NodeView) (i j q h : ℕ) (nodes : AreNodes xs) (f : Inserts
       (parted_pairs ws i h 8 p separators children at_i (inserted_pairs xs i j q nodes f) each hp li_ws lh_ws differ f.parent_held f.parent_live above wide s_ws)
 
   left : IsNode (length xs) y
-  left = subst (λ n. IsNode n y) size (left_node ws i h 8 p separators children at_i (inserted_pairs xs i j q nodes f) each hp li_ws lh_ws differ f.parent_held f.parent_live above wide s_ws)
+  left =
+      subst (λ n. IsNode n y) size (left_node ws i h 8 p separators children at_i (inserted_pairs xs i j q nodes f) each hp li_ws lh_ws differ f.parent_held f.parent_live above wide s_ws)
 
   right : IsNode (length xs) u
   right = subst (λ (n : NodeView). IsNode (length xs) (given w n)) at_h
@@ -142,10 +143,12 @@ module _ (xs : List NodeView) (i j q h : ℕ) (nodes : AreNodes xs) (f : Inserts
 pub nodes_split_inner : (xs : List NodeView) (i j q h : ℕ) → AreNodes xs → Inserts xs i j q → length (node_at xs i).separators ≡ 15 → h < length xs → i ≢ h
     → SplitsInner (node_at xs i) (node_at xs h) (middle (with_child (node_at xs i) (node_at xs q).low q))
     → AreNodes (set (set (set xs i (inner_left (with_child (node_at xs i) (node_at xs q).low q))) j (exact (node_at xs j))) h (given (with_child (node_at xs i) (node_at xs q).low q) (node_at xs h)))
-nodes_split_inner xs i j q h nodes f full lh differ s = rw (inserts_at xs i j q nodes f) (parted_nodes xs i j q h nodes f full lh differ (rw (inserts_at xs i j q nodes f) at s))
+nodes_split_inner xs i j q h nodes f full lh differ s =
+    rw (inserts_at xs i j q nodes f) (parted_nodes xs i j q h nodes f full lh differ (rw (inserts_at xs i j q nodes f) at s))
 
 -- and both halves have a range
 pub ranges_split_inner : (xs : List NodeView) (i j q h : ℕ) → AreNodes xs → Inserts xs i j q → length (node_at xs i).separators ≡ 15 → h < length xs → i ≢ h
     → SplitsInner (node_at xs i) (node_at xs h) (middle (with_child (node_at xs i) (node_at xs q).low q))
     → HasRange (inner_left (with_child (node_at xs i) (node_at xs q).low q)) × HasRange (given (with_child (node_at xs i) (node_at xs q).low q) (node_at xs h))
-ranges_split_inner xs i j q h nodes f full lh differ s = rw (inserts_at xs i j q nodes f) (parted_ranges xs i j q h nodes f full lh differ (rw (inserts_at xs i j q nodes f) at s))
+ranges_split_inner xs i j q h nodes f full lh differ s =
+    rw (inserts_at xs i j q nodes f) (parted_ranges xs i j q h nodes f full lh differ (rw (inserts_at xs i j q nodes f) at s))

@@ -107,13 +107,15 @@ module _ (xs : List NodeView) (i j q : ℕ) (nodes : AreNodes xs) (f : Inserts x
   }
 
   same : set (set ys i (with_child (node_at ys i) (node_at ys q).low q)) j (exact (node_at ys j)) ≡ with_right xs i j q
-  same = (λ a. set (set ys i (with_child (at_i a) (at_q a).low q)) j (exact (at_j a))) ∙ ap (λ zs. set zs j (exact l)) (set-set xs i (inserting p) (with_child (inserting p) r.low q))
+  same =
+      (λ a. set (set ys i (with_child (at_i a) (at_q a).low q)) j (exact (at_j a))) ∙ ap (λ zs. set zs j (exact l)) (set-set xs i (inserting p) (with_child (inserting p) r.low q))
 
   pub nodes_right : length p.separators < 15 → AreNodes (with_right xs i j q)
   nodes_right room = subst AreNodes same (nodes_insert_child ys i j q (nodes_inserting xs i f.parent_there nodes f.parent_held) marked (rw at_i room))
 
   pub ranged_right : AreRanged xs → AreRanged (with_right xs i j q)
-  ranged_right ranged = subst AreRanged same (ranged_insert_child ys i j (node_at ys q).low q (omega (arith, size, f.parent_there)) (omega (arith, size, f.left_there)) apart_j
+  ranged_right ranged =
+      subst AreRanged same (ranged_insert_child ys i j (node_at ys q).low q (omega (arith, size, f.parent_there)) (omega (arith, size, f.left_there)) apart_j
       (ranged_marked xs i p.slots (inserting p).version f.parent_there ranged refl (λ marked. marked) (λ whole. whole)))
 
   -- a child is no root
@@ -124,7 +126,8 @@ module _ (xs : List NodeView) (i j q : ℕ) (nodes : AreNodes xs) (f : Inserts x
   }
 
   -- and of the parent's tree
-  pub exact_turn : (op : ℕ) (trees : List Tree) → l.holder ≡ Some op → ((q : ℕ) → (tree_at trees p.tree).standing ≡ Made q → q ≡ op) → MayTurn op trees l (exact l)
+  pub exact_turn : (op : ℕ) (trees : List Tree) → l.holder ≡ Some op → ((q : ℕ) → (tree_at trees p.tree).standing ≡ Made q → q ≡ op)
+      → MayTurn op trees l (exact l)
   exact_turn op trees held mine = record {
     changes = changes_exact op l held;
     mine = λ q e. mine q (ap (λ t. (tree_at trees t).standing) (sym child.tree) ∙ e);
@@ -144,7 +147,8 @@ module _ (v : ArenaView) (room parent left right op : ℕ) (sound : ArenaInvaria
   apart = apart_j v.nodes parent left right sound.arena.nodes may.inserts
 
   kept : AreKept v.nodes new v.trees v.retired
-  kept = kept_set2 v.nodes v.trees v.retired parent left y z may.held.there may.left_held.there apart (record { slots = refl; deleted = refl; tree = refl }) (record { slots = refl; deleted = refl; tree = refl })
+  kept =
+      kept_set2 v.nodes v.trees v.retired parent left y z may.held.there may.left_held.there apart (record { slots = refl; deleted = refl; tree = refl }) (record { slots = refl; deleted = refl; tree = refl })
 
   pub sound_right : ArenaInvariant new v.trees v.retired room
   sound_right = record {
@@ -164,10 +168,12 @@ module _ (v : ArenaView) (room parent left right op : ℕ) (sound : ArenaInvaria
   pub step_right : Guarantee op v (record v { nodes = new })
   step_right = record {
     nodes = guarantee_set2 op v.nodes v.trees parent left y z may.held.there may.left_held.there apart sound.arena.forest (record {
-      changes = changes_on op (at v parent) (inserting (at v parent)) y (changes_slots op (at v parent) (at v parent).slots may.held.holder) (changes_with_child op (inserting (at v parent)) (at v right).low right may.held.holder refl);
+      changes =
+          changes_on op (at v parent) (inserting (at v parent)) y (changes_slots op (at v parent) (at v parent).slots may.held.holder) (changes_with_child op (inserting (at v parent)) (at v right).low right may.held.holder refl);
       mine = may.mine;
     }) (exact_turn v.nodes parent left right sound.arena.nodes may.inserts op v.trees may.left_held.holder may.mine);
-    points = points_each op v.nodes new kept.count (each_set2 (λ k n. PointsSo op new (at v k) n) v.nodes parent left y z may.held.there may.left_held.there apart
+    points =
+        points_each op v.nodes new kept.count (each_set2 (λ k n. PointsSo op new (at v k) n) v.nodes parent left y z may.held.there may.left_held.there apart
         (names_same op new (at v parent) y refl refl) (names_same op new (at v left) z refl refl) (λ k lt ni nj. names_same op new (at v k) (at v k) refl refl));
   }
 

@@ -58,7 +58,8 @@ get-append (p ∷ ps) qs q =
     ∙ ap (λ o. option_or o (get (map_of qs) q)) (sym (get-insert owned_total (map_of ps) p.0 p.1 q))
 
 -- an insert in the first list is one in both
-pub insert-first : (ps new qs : Pairs) (q : ℕ × Bytes) (row : Columns) → map_of new ≡ insert (map_of ps) q row → map_of (new ++ qs) ≡ insert (map_of (ps ++ qs)) q row
+pub insert-first : (ps new qs : Pairs) (q : ℕ × Bytes) (row : Columns) → map_of new ≡ insert (map_of ps) q row
+    → map_of (new ++ qs) ≡ insert (map_of (ps ++ qs)) q row
 insert-first ps new qs q row is = same_contents _ _ (λ r.
     get-append new qs r
     ∙ ap (λ c. option_or (get c r) (get (map_of qs) r)) is
@@ -66,12 +67,14 @@ insert-first ps new qs q row is = same_contents _ _ (λ r.
     ∙ sym (get-insert owned_total (map_of (ps ++ qs)) q row r ∙ ap (cond (eq_by_cmp owned_cmp r q) (Some row)) (get-append ps qs r) ∙ or_cond (eq_by_cmp owned_cmp r q) row (get (map_of ps) r) (get (map_of qs) r)))
 
 -- so is one in the second list, where the first has nothing there
-insert_behind : (b : Bool) (row : Columns) (x y : Option Columns) → (b ≡ true → x ≡ None) → option_or x (cond b (Some row) y) ≡ cond b (Some row) (option_or x y)
+insert_behind : (b : Bool) (row : Columns) (x y : Option Columns) → (b ≡ true → x ≡ None)
+    → option_or x (cond b (Some row) y) ≡ cond b (Some row) (option_or x y)
 insert_behind true row x y none = or_none x (Some row) (none refl)
 insert_behind false row x y none = refl
 
 -- in two lists of pairs of which the first lacks the key, a pair may be put into the second
-pub insert-second : (ps qs new : Pairs) (q : ℕ × Bytes) (row : Columns) → get (map_of ps) q ≡ None → map_of new ≡ insert (map_of qs) q row → map_of (ps ++ new) ≡ insert (map_of (ps ++ qs)) q row
+pub insert-second : (ps qs new : Pairs) (q : ℕ × Bytes) (row : Columns) → get (map_of ps) q ≡ None → map_of new ≡ insert (map_of qs) q row
+    → map_of (ps ++ new) ≡ insert (map_of (ps ++ qs)) q row
 insert-second ps qs new q row none is = same_contents _ _ (λ r.
     get-append ps new r
     ∙ ap (λ c. option_or (get (map_of ps) r) (get c r)) is
@@ -89,7 +92,8 @@ remove_behind true x y none = or_none x None (none refl)
 remove_behind false x y none = refl
 
 -- a key that the second list lacks may be taken out of the first
-pub remove-first : (ps new qs : Pairs) (q : ℕ × Bytes) → get (map_of qs) q ≡ None → map_of new ≡ remove (map_of ps) q → map_of (new ++ qs) ≡ remove (map_of (ps ++ qs)) q
+pub remove-first : (ps new qs : Pairs) (q : ℕ × Bytes) → get (map_of qs) q ≡ None → map_of new ≡ remove (map_of ps) q
+    → map_of (new ++ qs) ≡ remove (map_of (ps ++ qs)) q
 remove-first ps new qs q none is = same_contents _ _ (λ r.
     get-append new qs r
     ∙ ap (λ c. option_or (get c r) (get (map_of qs) r)) is
@@ -98,7 +102,8 @@ remove-first ps new qs q none is = same_contents _ _ (λ r.
     ∙ sym (get-remove owned_total (map_of (ps ++ qs)) q r ∙ ap (cond (eq_by_cmp owned_cmp r q) None) (get-append ps qs r)))
 
 -- and one that the first lacks out of the second
-pub remove-second : (ps qs new : Pairs) (q : ℕ × Bytes) → get (map_of ps) q ≡ None → map_of new ≡ remove (map_of qs) q → map_of (ps ++ new) ≡ remove (map_of (ps ++ qs)) q
+pub remove-second : (ps qs new : Pairs) (q : ℕ × Bytes) → get (map_of ps) q ≡ None → map_of new ≡ remove (map_of qs) q
+    → map_of (ps ++ new) ≡ remove (map_of (ps ++ qs)) q
 remove-second ps qs new q none is = same_contents _ _ (λ r.
     get-append ps new r
     ∙ ap (λ c. option_or (get (map_of ps) r) (get c r)) is
@@ -115,7 +120,8 @@ pub some-first : (ps qs : Pairs) (q : ℕ × Bytes) (row : Columns) → get (map
 some-first ps qs q row some = get-append ps qs q ∙ ap (λ o. option_or o (get (map_of qs) q)) some
 
 -- a row in the second list is the key's in both, where the first lacks it
-pub some-second : (ps qs : Pairs) (q : ℕ × Bytes) (row : Columns) → get (map_of ps) q ≡ None → get (map_of qs) q ≡ Some row → get (map_of (ps ++ qs)) q ≡ Some row
+pub some-second : (ps qs : Pairs) (q : ℕ × Bytes) (row : Columns) → get (map_of ps) q ≡ None → get (map_of qs) q ≡ Some row
+    → get (map_of (ps ++ qs)) q ≡ Some row
 some-second ps qs q row none some = get-append ps qs q ∙ or_none (get (map_of ps) q) (get (map_of qs) q) none ∙ some
 
 -- of two lists what one says where the other has nothing
@@ -137,14 +143,16 @@ module _ {X : Type 0} (f : X → Pairs) (q : ℕ × Bytes) (d : X) where
   all_none [] none = get-empty owned_cmp q
   all_none (x ∷ xs) none = none-append (f x) (flat_map f xs) q (none 0 (omega arith)) (all_none xs (λ k lt. none (suc k) (omega arith)))
 
-  pub some_at : (xs : List X) (i : ℕ) (row : Columns) → i < length xs → ((k : ℕ) → k < length xs → k ≢ i → get (map_of (f (get_or xs k d))) q ≡ None) → get (map_of (f (get_or xs i d))) q ≡ Some row → get (map_of (flat_map f xs)) q ≡ Some row
+  pub some_at : (xs : List X) (i : ℕ) (row : Columns) → i < length xs → ((k : ℕ) → k < length xs → k ≢ i → get (map_of (f (get_or xs k d))) q ≡ None)
+      → get (map_of (f (get_or xs i d))) q ≡ Some row → get (map_of (flat_map f xs)) q ≡ Some row
   some_at [] i row lt none is = absurd (omega arith)
   some_at (x ∷ xs) zero row lt none is = some-first (f x) (flat_map f xs) q row is
   some_at (x ∷ xs) (suc i) row lt none is =
       some-second (f x) (flat_map f xs) q row (none 0 (omega arith) (omega arith))
       (some_at xs i row (omega arith) (λ k within differ. none (suc k) (omega arith) (omega arith)) is)
 
-  pub insert_at : (xs : List X) (i : ℕ) (y : X) (row : Columns) → i < length xs → ((k : ℕ) → k < length xs → k ≢ i → get (map_of (f (get_or xs k d))) q ≡ None) → map_of (f y) ≡ insert (map_of (f (get_or xs i d))) q row
+  pub insert_at : (xs : List X) (i : ℕ) (y : X) (row : Columns) → i < length xs
+      → ((k : ℕ) → k < length xs → k ≢ i → get (map_of (f (get_or xs k d))) q ≡ None) → map_of (f y) ≡ insert (map_of (f (get_or xs i d))) q row
       → map_of (flat_map f (set xs i y)) ≡ insert (map_of (flat_map f xs)) q row
   insert_at [] i y row lt none is = absurd (omega arith)
   insert_at (x ∷ xs) zero y row lt none is = insert-first (f x) (f y) (flat_map f xs) q row is
@@ -152,7 +160,8 @@ module _ {X : Type 0} (f : X → Pairs) (q : ℕ × Bytes) (d : X) where
       insert-second (f x) (flat_map f xs) (flat_map f (set xs i y)) q row (none 0 (omega arith) (omega arith))
       (insert_at xs i y row (omega arith) (λ k within differ. none (suc k) (omega arith) (omega arith)) is)
 
-  pub remove_at : (xs : List X) (i : ℕ) (y : X) → i < length xs → ((k : ℕ) → k < length xs → k ≢ i → get (map_of (f (get_or xs k d))) q ≡ None) → map_of (f y) ≡ remove (map_of (f (get_or xs i d))) q
+  pub remove_at : (xs : List X) (i : ℕ) (y : X) → i < length xs → ((k : ℕ) → k < length xs → k ≢ i → get (map_of (f (get_or xs k d))) q ≡ None)
+      → map_of (f y) ≡ remove (map_of (f (get_or xs i d))) q
       → map_of (flat_map f (set xs i y)) ≡ remove (map_of (flat_map f xs)) q
   remove_at [] i y lt none is = absurd (omega arith)
   remove_at (x ∷ xs) zero y lt none is =
@@ -161,7 +170,8 @@ module _ {X : Type 0} (f : X → Pairs) (q : ℕ × Bytes) (d : X) where
       remove-second (f x) (flat_map f xs) (flat_map f (set xs i y)) q (none 0 (omega arith) (omega arith))
       (remove_at xs i y (omega arith) (λ k within differ. none (suc k) (omega arith) (omega arith)) is)
 
-  pub only_at : (xs : List X) (i : ℕ) → i < length xs → ((k : ℕ) → k < length xs → k ≢ i → get (map_of (f (get_or xs k d))) q ≡ None) → get (map_of (flat_map f xs)) q ≡ get (map_of (f (get_or xs i d))) q
+  pub only_at : (xs : List X) (i : ℕ) → i < length xs → ((k : ℕ) → k < length xs → k ≢ i → get (map_of (f (get_or xs k d))) q ≡ None)
+      → get (map_of (flat_map f xs)) q ≡ get (map_of (f (get_or xs i d))) q
   only_at [] i lt none = absurd (omega arith)
   only_at (x ∷ xs) zero lt none = get-first (f x) (flat_map f xs) q (all_none xs (λ k within. none (suc k) (omega arith) (omega arith)))
   only_at (x ∷ xs) (suc i) lt none =
@@ -169,7 +179,9 @@ module _ {X : Type 0} (f : X → Pairs) (q : ℕ × Bytes) (d : X) where
       ∙ only_at xs i (omega arith) (λ k within differ. none (suc k) (omega arith) (omega arith))
 
 -- two lists of nodes that say the same one by one
-pub agree_by : {X : Type 0} (f g : X → Pairs) (q : ℕ × Bytes) (d : X) (xs ys : List X) → length xs ≡ length ys → ((k : ℕ) → k < length xs → get (map_of (f (get_or xs k d))) q ≡ get (map_of (g (get_or ys k d))) q) → get (map_of (flat_map f xs)) q ≡ get (map_of (flat_map g ys)) q
+pub agree_by : {X : Type 0} (f g : X → Pairs) (q : ℕ × Bytes) (d : X) (xs ys : List X) → length xs ≡ length ys
+    → ((k : ℕ) → k < length xs → get (map_of (f (get_or xs k d))) q ≡ get (map_of (g (get_or ys k d))) q)
+    → get (map_of (flat_map f xs)) q ≡ get (map_of (flat_map g ys)) q
 agree_by f g q d [] [] long same = refl
 agree_by f g q d [] (y ∷ ys) long same = absurd (omega (arith, long))
 agree_by f g q d (x ∷ xs) [] long same = absurd (omega (arith, long))

@@ -22,11 +22,14 @@ use Rattle.mt_arena.proofs.Pairs.{here, there, last, before}
 use Rattle.mt_arena.proofs.Settled.{alive}
 
 -- other operations let no node name one that this operation holds
-not_theirs : (op q : ℕ) (old new : List NodeView) (were are : List Tree) (i : ℕ) → NodesGuarantee op old new were are → q ≢ op → i < length old → (node_at old i).holder ≡ Some q → (node_at new i).holder ≢ Some op
-not_theirs op q old new were are i guarantee other within holder e = other (same_Some _ _ (sym (((guarantee.nodes i within).held q other holder).holder ∙ holder) ∙ e))
+not_theirs : (op q : ℕ) (old new : List NodeView) (were are : List Tree) (i : ℕ) → NodesGuarantee op old new were are → q ≢ op → i < length old
+    → (node_at old i).holder ≡ Some q → (node_at new i).holder ≢ Some op
+not_theirs op q old new were are i guarantee other within holder e =
+    other (same_Some _ _ (sym (((guarantee.nodes i within).held q other holder).holder ∙ holder) ∙ e))
 
 -- who names a held node after a step of another operation named it before
-pub follows_before : (op q : ℕ) (old new : List NodeView) (were are : List Tree) (i k : ℕ) → NodesGuarantee op old new were are → PointsOnly op old new → q ≢ op → i < length old → (node_at old i).holder ≡ Some q
+pub follows_before : (op q : ℕ) (old new : List NodeView) (were are : List Tree) (i k : ℕ) → NodesGuarantee op old new were are
+    → PointsOnly op old new → q ≢ op → i < length old → (node_at old i).holder ≡ Some q
     → Follows new i k → Follows old i k
 follows_before op q old new were are i k guarantee points other within holder is = elim (cases_lt k (length old)) [
   | inl was ↦ (was, points.previous k i was within is.1 (not_theirs op q old new were are i guarantee other within holder), alive _ _ (guarantee.nodes k was).ages.deleted is.2)
@@ -34,7 +37,8 @@ follows_before op q old new were are i k guarantee points other within holder is
 ]
 
 -- a node that names a held one as its parent after another's step did so before
-pub under_before : (op q : ℕ) (old new : List NodeView) (were are : List Tree) (i k : ℕ) → NodesGuarantee op old new were are → PointsOnly op old new → q ≢ op → i < length old → (node_at old i).holder ≡ Some q
+pub under_before : (op q : ℕ) (old new : List NodeView) (were are : List Tree) (i k : ℕ) → NodesGuarantee op old new were are → PointsOnly op old new
+    → q ≢ op → i < length old → (node_at old i).holder ≡ Some q
     → IsUnder new i k → IsUnder old i k
 under_before op q old new were are i k guarantee points other within holder is = elim (cases_lt k (length old)) [
   | inl was ↦ (was, points.parent k i was within is.1 (not_theirs op q old new were are i guarantee other within holder), alive _ _ (guarantee.nodes k was).ages.deleted is.2)
@@ -42,7 +46,8 @@ under_before op q old new were are i k guarantee points other within holder is =
 ]
 
 -- a live node in a list where one node is another
-pub follows_in : (xs : List NodeView) (i k b : ℕ) (y : NodeView) → b < length xs → Follows (set xs b y) i k → ((k ≡ b) × (y.previous ≡ Some i)) ⊎ ((k ≢ b) × Follows xs i k)
+pub follows_in : (xs : List NodeView) (i k b : ℕ) (y : NodeView) → b < length xs → Follows (set xs b y) i k
+    → ((k ≡ b) × (y.previous ≡ Some i)) ⊎ ((k ≢ b) × Follows xs i k)
 follows_in xs i k b y within is = elim (cases_eq k b) [
   | inl same ↦ inl (same, sym (ap (λ (n : NodeView). n.previous) (ap (node_at (set xs b y)) same ∙ here xs b y within)) ∙ is.1)
   | inr other ↦
@@ -51,7 +56,8 @@ follows_in xs i k b y within is = elim (cases_eq k b) [
 ]
 
 -- who names a parent in changed nodes: the changed one, or one that did so before
-pub under_in : (xs : List NodeView) (i k b : ℕ) (y : NodeView) → b < length xs → IsUnder (set xs b y) i k → ((k ≡ b) × (y.parent ≡ Some i) × (y.version.deleted ≡ false)) ⊎ ((k ≢ b) × IsUnder xs i k)
+pub under_in : (xs : List NodeView) (i k b : ℕ) (y : NodeView) → b < length xs → IsUnder (set xs b y) i k
+    → ((k ≡ b) × (y.parent ≡ Some i) × (y.version.deleted ≡ false)) ⊎ ((k ≢ b) × IsUnder xs i k)
 under_in xs i k b y within is = elim (cases_eq k b) [
   | inl same ↦
       let new = ap (node_at (set xs b y)) same ∙ here xs b y within in
@@ -62,7 +68,8 @@ under_in xs i k b y within is = elim (cases_eq k b) [
 ]
 
 -- after the slots were parted, all that name the left half as the one before are, as they were, the right half and the one that was next
-pub left_followers : (xs : List NodeView) (i j : ℕ) (kept moved : List Entry) → i < length xs → j < length xs → i ≢ j → Splits (node_at xs i) (node_at xs j) kept moved → AreFollowersBut xs i (node_at xs i).next j
+pub left_followers : (xs : List NodeView) (i j : ℕ) (kept moved : List Entry) → i < length xs → j < length xs → i ≢ j
+    → Splits (node_at xs i) (node_at xs j) kept moved → AreFollowersBut xs i (node_at xs i).next j
     → AreFollowersBut (set (set xs i (left_half (node_at xs i) kept (node_at xs j).low j)) j (right_half (node_at xs i) (node_at xs j) moved i)) i (node_at xs i).next j
 left_followers xs i j kept moved li lj differ splits followers k nj is =
     let y = left_half (node_at xs i) kept (node_at xs j).low j in
@@ -75,7 +82,8 @@ left_followers xs i j kept moved li lj differ splits followers k nj is =
     ]
 
 -- and none names the right half
-pub right_followers : (xs : List NodeView) (i j : ℕ) (kept moved : List Entry) → i < length xs → j < length xs → i ≢ j → Splits (node_at xs i) (node_at xs j) kept moved → AreFollowers xs j None
+pub right_followers : (xs : List NodeView) (i j : ℕ) (kept moved : List Entry) → i < length xs → j < length xs → i ≢ j
+    → Splits (node_at xs i) (node_at xs j) kept moved → AreFollowers xs j None
     → AreFollowers (set (set xs i (left_half (node_at xs i) kept (node_at xs j).low j)) j (right_half (node_at xs i) (node_at xs j) moved i)) j None
 right_followers xs i j kept moved li lj differ splits followers k is =
     let y = left_half (node_at xs i) kept (node_at xs j).low j in
@@ -88,7 +96,8 @@ right_followers xs i j kept moved li lj differ splits followers k is =
     ]
 
 -- the one behind names the right half: then each half has the follower that it names as its next
-pub left_again : (xs : List NodeView) (i j b : ℕ) (parent : Option ℕ) → i ≢ j → b < length xs → AreFollowersBut xs i (Some b) j → AreFollowers (set xs b (pointed (node_at xs b) (Some j) parent)) i (Some j)
+pub left_again : (xs : List NodeView) (i j b : ℕ) (parent : Option ℕ) → i ≢ j → b < length xs → AreFollowersBut xs i (Some b) j
+    → AreFollowers (set xs b (pointed (node_at xs b) (Some j) parent)) i (Some j)
 left_again xs i j b parent differ lb followers k is = elim (follows_in xs i k b (pointed (node_at xs b) (Some j) parent) lb is) [
   | inl behind ↦ absurd (differ (sym (same_Some _ _ behind.1)))
   | inr other ↦ elim (cases_eq k j) [
@@ -98,7 +107,8 @@ left_again xs i j b parent differ lb followers k is = elim (follows_in xs i k b 
 ]
 
 -- and the right half has the one behind it alone
-pub right_again : (xs : List NodeView) (j b : ℕ) (parent : Option ℕ) → b < length xs → AreFollowers xs j None → AreFollowers (set xs b (pointed (node_at xs b) (Some j) parent)) j (Some b)
+pub right_again : (xs : List NodeView) (j b : ℕ) (parent : Option ℕ) → b < length xs → AreFollowers xs j None
+    → AreFollowers (set xs b (pointed (node_at xs b) (Some j) parent)) j (Some b)
 right_again xs j b parent lb followers k is = elim (follows_in xs j k b (pointed (node_at xs b) (Some j) parent) lb is) [
   | inl behind ↦ ap (λ (c : ℕ). Some c) (sym behind.0)
   | inr other ↦ absurd (let none = followers k other.1 in cc)
@@ -158,7 +168,8 @@ pub children_of : (xs : List NodeView) (i : ℕ) (x : NodeView) → IsSettled xs
 children_of xs i x settled k is = settled.parent k is.0 is.1 is.2
 
 -- and how a settled node is made of the words
-pub settled_of : (xs : List NodeView) (i : ℕ) (x : NodeView) → AreFollowers xs i x.next → ((k : ℕ) → Follows xs i k → x.version.deleted ≡ false) → AreChildren xs i x → x.reach ≡ x.high → All (λ e. ¬ IsUnstable e.held) x.slots
+pub settled_of : (xs : List NodeView) (i : ℕ) (x : NodeView) → AreFollowers xs i x.next → ((k : ℕ) → Follows xs i k → x.version.deleted ≡ false)
+    → AreChildren xs i x → x.reach ≡ x.high → All (λ e. ¬ IsUnstable e.held) x.slots
     → (x.version.deleted ≡ false → x.parent ≡ None → x.version.root ≡ true) → IsSettled xs i x
 settled_of xs i x followers followed children reach stable rooted = record {
   previous = λ k lt e live. followers k (lt, e, live);
@@ -170,7 +181,8 @@ settled_of xs i x followers followed children reach stable rooted = record {
 }
 
 -- nobody names a new right half, and it alone comes to name its left half
-pub fresh_followers : (xs : List NodeView) (x : NodeView) (i low op : ℕ) → AreNodes xs → i < length xs → AreFollowers (xs ++ fresh_half x i low op ∷ []) (length xs) None
+pub fresh_followers : (xs : List NodeView) (x : NodeView) (i low op : ℕ) → AreNodes xs → i < length xs
+    → AreFollowers (xs ++ fresh_half x i low op ∷ []) (length xs) None
 fresh_followers xs x i low op nodes within k is =
     let y = fresh_half x i low op in
     let size : length (xs ++ y ∷ []) ≡ length xs + 1 = length-append xs (y ∷ []) in
@@ -183,14 +195,16 @@ fresh_followers xs x i low op nodes within k is =
     ]
 
 -- the new right half alone comes to name its left half
-pub half_followers : (xs : List NodeView) (x : NodeView) (i low op : ℕ) (next : Option ℕ) → AreFollowers xs i next → AreFollowersBut (xs ++ fresh_half x i low op ∷ []) i next (length xs)
+pub half_followers : (xs : List NodeView) (x : NodeView) (i low op : ℕ) (next : Option ℕ) → AreFollowers xs i next
+    → AreFollowersBut (xs ++ fresh_half x i low op ∷ []) i next (length xs)
 half_followers xs x i low op next followers k nk is =
     let y = fresh_half x i low op in
     let lt : k < length xs = omega (arith, is.0, length-append xs (y ∷ []), nk) in
     followers k (lt, sym (ap (λ (n : NodeView). n.previous) (before xs y k lt)) ∙ is.1, sym (ap (λ (n : NodeView). n.version.deleted) (before xs y k lt)) ∙ is.2)
 
 -- as a split begins: all that name the left node as the one before are the half and the one that was next, and none names the half
-pub begun_left : (xs : List NodeView) (i low op : ℕ) (next : Option ℕ) → i < length xs → AreFollowers xs i next → AreFollowersBut (set xs i (splitting (node_at xs i)) ++ fresh_half (node_at xs i) i low op ∷ []) i next (length xs)
+pub begun_left : (xs : List NodeView) (i low op : ℕ) (next : Option ℕ) → i < length xs → AreFollowers xs i next
+    → AreFollowersBut (set xs i (splitting (node_at xs i)) ++ fresh_half (node_at xs i) i low op ∷ []) i next (length xs)
 begun_left xs i low op next within followers =
     let x = node_at xs i in
     let ys = set xs i (splitting x) in
@@ -200,7 +214,8 @@ begun_left xs i low op next within followers =
     ]))
 
 -- nobody names a right half that was just made as the one before
-pub begun_right : (xs : List NodeView) (i low op : ℕ) → i < length xs → AreNodes (set xs i (splitting (node_at xs i))) → AreFollowers (set xs i (splitting (node_at xs i)) ++ fresh_half (node_at xs i) i low op ∷ []) (length xs) None
+pub begun_right : (xs : List NodeView) (i low op : ℕ) → i < length xs → AreNodes (set xs i (splitting (node_at xs i)))
+    → AreFollowers (set xs i (splitting (node_at xs i)) ++ fresh_half (node_at xs i) i low op ∷ []) (length xs) None
 begun_right xs i low op within nodes =
     let x = node_at xs i in
     let ys = set xs i (splitting x) in
@@ -222,7 +237,8 @@ fresh_children xs y n nodes none k is =
     ]
 
 -- one node comes to name node i as its parent
-pub children_but : (xs : List NodeView) (i q : ℕ) (n : NodeView) (previous : Option ℕ) → q < length xs → AreChildren xs i n → AreChildrenBut (set xs q (pointed (node_at xs q) previous (Some i))) i n q
+pub children_but : (xs : List NodeView) (i q : ℕ) (n : NodeView) (previous : Option ℕ) → q < length xs → AreChildren xs i n
+    → AreChildrenBut (set xs q (pointed (node_at xs q) previous (Some i))) i n q
 children_but xs i q n previous within children k nq is = elim (under_in xs i k q (pointed (node_at xs q) previous (Some i)) within is) [
   | inl own ↦ absurd (nq own.0)
   | inr old ↦ children k old.1
@@ -246,7 +262,8 @@ child_parted wide op k c = elim (cases_lt c.place 9) [
 ]
 
 -- as one node is told that the right half is its parent, one less names the left one
-pub reparented : (xs : List NodeView) (i h b : ℕ) (y u : NodeView) (previous : Option ℕ) → i ≢ h → b < length xs → ((k : ℕ) → IsUnder xs i k → HasChild y k ⊎ HasChild u k)
+pub reparented : (xs : List NodeView) (i h b : ℕ) (y u : NodeView) (previous : Option ℕ) → i ≢ h → b < length xs
+    → ((k : ℕ) → IsUnder xs i k → HasChild y k ⊎ HasChild u k)
     → (k : ℕ) → IsUnder (set xs b (pointed (node_at xs b) previous (Some h))) i k → (k ≢ b) × (HasChild y k ⊎ HasChild u k)
 reparented xs i h b y u previous differ within children k is = elim (under_in xs i k b (pointed (node_at xs b) previous (Some h)) within is) [
   | inl own ↦ absurd (differ (sym (same_Some _ _ own.1)))

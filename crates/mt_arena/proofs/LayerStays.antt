@@ -117,7 +117,8 @@ module _ (op maker : ℕ) (old new : ArenaView) (step : Guarantee op old new) (o
     }
 
   -- and both
-  pub whole_stays : (node i t : ℕ) (what : Held) (key : Bytes) (row : Columns) → (tree_of new node).standing ≢ Dead → IsLayerOf old node i t maker what key row → IsLayerOf new node i t maker what key row
+  pub whole_stays : (node i t : ℕ) (what : Held) (key : Bytes) (row : Columns) → (tree_of new node).standing ≢ Dead
+      → IsLayerOf old node i t maker what key row → IsLayerOf new node i t maker what key row
   whole_stays node i t what key row alive whole =
       let slot = slot_same node i what whole.slot in
       let prefix = prefix_same node i what whole.slot in
@@ -236,7 +237,8 @@ module _ (v : ArenaView) (node i t op : ℕ) (what held : Held) (key : Bytes) (r
 
   -- the root of the tree is another node
   away : (tree_at v.trees t).root ≢ node
-  away same = absurd (let both = sym whole.slot.tree_live ∙ ap (λ k. (tree_of v k).standing) (sym same) ∙ ap (λ u. (tree_at v.trees u).standing) whole.layer.made.tree ∙ whole.layer.mine in cc)
+  away same =
+      absurd (let both = sym whole.slot.tree_live ∙ ap (λ k. (tree_of v k).standing) (sym same) ∙ ap (λ u. (tree_at v.trees u).standing) whole.layer.made.tree ∙ whole.layer.mine in cc)
 
   root_still : at rewritten (tree_at v.trees t).root ≡ at v (tree_at v.trees t).root
   root_still = there v.nodes node (tree_at v.trees t).root z away
@@ -248,7 +250,8 @@ module _ (v : ArenaView) (node i t op : ℕ) (what held : Held) (key : Bytes) (r
   ]
 
   has_key : HasKey (tree_of v node).prefix (layer_of (tree_of v node).prefix) after key
-  has_key = has_held_key (tree_of v node).prefix (layer_of (tree_of v node).prefix) d key held whole.has (λ pair is. whole.has.suffix pair (ap pair_of whole.slot.is ∙ goes_on pair is))
+  has_key =
+      has_held_key (tree_of v node).prefix (layer_of (tree_of v node).prefix) d key held whole.has (λ pair is. whole.has.suffix pair (ap pair_of whole.slot.is ∙ goes_on pair is))
 
   pub whole_rewritten : IsLayerOf rewritten node i t op held key row
   whole_rewritten =
@@ -259,7 +262,8 @@ module _ (v : ArenaView) (node i t op : ℕ) (what held : Held) (key : Bytes) (r
           live = ap (λ (y : NodeView). y.version.deleted) now ∙ whole.slot.live;
           border = ap (λ (y : NodeView). y.level) now ∙ whole.slot.border;
           tree_live = ap (λ (y : NodeView). (tree_at v.trees y.tree).standing) now ∙ whole.slot.tree_live;
-          in_range = subst (λ (y : NodeView). i < length y.slots) (sym now) (omega (arith, ap length slots_are, length-set x.slots i after, whole.slot.in_range));
+          in_range =
+              subst (λ (y : NodeView). i < length y.slots) (sym now) (omega (arith, ap length slots_are, length-set x.slots i after, whole.slot.in_range));
           long = ap (λ (y : NodeView). (slot_at y i).mark) now ∙ ap (λ (e : Entry). e.mark) slot_is ∙ whole.slot.long;
           is = ap (λ (y : NodeView). (slot_at y i).held) now ∙ ap (λ (e : Entry). e.held) slot_is;
         };
@@ -281,6 +285,7 @@ module _ (v : ArenaView) (node i t op : ℕ) (what held : Held) (key : Bytes) (r
             row_is = made.row_is;
           };
         };
-        prefix = whole.prefix ∙ (λ a. (tree_at v.trees (sym now a).tree).prefix ++ piece_bytes d.slice Long) ∙ ap (λ (e : Entry). (tree_of rewritten node).prefix ++ piece_bytes e.slice Long) (sym slot_is)
+        prefix =
+            whole.prefix ∙ (λ a. (tree_at v.trees (sym now a).tree).prefix ++ piece_bytes d.slice Long) ∙ ap (λ (e : Entry). (tree_of rewritten node).prefix ++ piece_bytes e.slice Long) (sym slot_is)
             ∙ ap (λ (y : NodeView). (tree_of rewritten node).prefix ++ piece_bytes (slot_at y i).slice Long) (sym now);
       }

@@ -113,7 +113,8 @@ links_kept trees x y keeps links live i u lt is =
       from = ap (λ t. (tree_at trees t).standing) keeps.tree ∙ leads.from;
       there = leads.there;
       live = leads.live;
-      prefix = leads.prefix ∙ ap (λ s. (tree_at trees x.tree).prefix ++ piece_bytes s Long) was.slice_is ∙ ap (λ t. (tree_at trees t).prefix ++ piece_bytes (slot_at y i).slice Long) (sym keeps.tree);
+      prefix =
+          leads.prefix ∙ ap (λ s. (tree_at trees x.tree).prefix ++ piece_bytes s Long) was.slice_is ∙ ap (λ t. (tree_at trees t).prefix ++ piece_bytes (slot_at y i).slice Long) (sym keeps.tree);
     }
 
 has_link_set : (xs : List NodeView) (i : ℕ) (y : NodeView) (u : ℕ) → i < length xs → KeepsLinks (node_at xs i) y → HasLink xs u → HasLink (set xs i y) u
@@ -144,7 +145,8 @@ has_link_set xs i y u within keeps h =
     ]
 
 -- links and layers stand where one node changes and keeps its links
-pub layers_set : (xs : List NodeView) (trees : List Tree) (i : ℕ) (y : NodeView) → i < length xs → AreLayered xs trees → KeepsLinks (node_at xs i) y → AreLayered (set xs i y) trees
+pub layers_set : (xs : List NodeView) (trees : List Tree) (i : ℕ) (y : NodeView) → i < length xs → AreLayered xs trees → KeepsLinks (node_at xs i) y
+    → AreLayered (set xs i y) trees
 layers_set xs trees i y within layers keeps = record {
   links = λ k lt. elim (cases_eq k i) [
     | inl is ↦ rw (is, here xs i y within) (links_kept trees (node_at xs i) y keeps (layers.links i within))
@@ -163,7 +165,8 @@ pub no_links : (trees : List Tree) (y : NodeView) → y.slots ≡ [] → AreLink
 no_links trees y none live i u lt is = absurd (omega (arith, subst (λ (es : List Entry). i < length es) none lt))
 
 -- and where the node has no slots before and after
-pub layers_empty : (xs : List NodeView) (trees : List Tree) (i : ℕ) (y : NodeView) → i < length xs → AreLayered xs trees → HasNoSlots (node_at xs i) y → AreLayered (set xs i y) trees
+pub layers_empty : (xs : List NodeView) (trees : List Tree) (i : ℕ) (y : NodeView) → i < length xs → AreLayered xs trees → HasNoSlots (node_at xs i) y
+    → AreLayered (set xs i y) trees
 layers_empty xs trees i y within layers empty = record {
   links = λ k lt. elim (cases_eq k i) [
     | inl is ↦ rw (is, here xs i y within) (no_links trees y empty.new)

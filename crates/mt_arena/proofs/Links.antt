@@ -30,7 +30,8 @@ live_there trees t live = elim (cases_lt t (length trees)) [
 ]
 
 -- two live trees of one prefix are one
-pub one_tree : (nodes : List NodeView) (trees : List Tree) (t u : ℕ) → IsForest nodes trees → (tree_at trees t).standing ≡ Live → (tree_at trees u).standing ≡ Live → (tree_at trees t).prefix ≡ (tree_at trees u).prefix → t ≡ u
+pub one_tree : (nodes : List NodeView) (trees : List Tree) (t u : ℕ) → IsForest nodes trees → (tree_at trees t).standing ≡ Live
+    → (tree_at trees u).standing ≡ Live → (tree_at trees t).prefix ≡ (tree_at trees u).prefix → t ≡ u
 one_tree nodes trees t u forest live also same = elim (cases_eq t u) [
   | inl is ↦ is
   | inr differ ↦ absurd ((forest.peers t u (live_there trees t live) (live_there trees u also)).one_live differ live also same)
@@ -95,7 +96,8 @@ module _ (nodes : List NodeView) (trees : List Tree) (arena : IsArena nodes tree
         subst (λ s. s < 2 ^ 64) (sym has.1.slice) (slice_of_lt has.0 (layer_of (tree_at trees n.tree).prefix) has.1.of_tree.stored.are_bytes)
 
     slice_is : e.slice ≡ slice_of key layer
-    slice_is = sym (slice_again (rest_of key layer) e.slice (omega (arith, length-drop (8 * layer) key, reaches)) slice_fits (back_of key (tree_at trees n.tree).prefix (to_be_bytes w64 e.slice) (8 * layer) cut front_long))
+    slice_is =
+        sym (slice_again (rest_of key layer) e.slice (omega (arith, length-drop (8 * layer) key, reaches)) slice_fits (back_of key (tree_at trees n.tree).prefix (to_be_bytes w64 e.slice) (8 * layer) cut front_long))
 
     level : n.level ≡ 0
     level = elim (cases_lt 0 n.level) [
@@ -123,7 +125,8 @@ module _ (nodes : List NodeView) (trees : List Tree) (arena : IsArena nodes tree
     }
 
   -- and those of all layers above it
-  links_from : (gap t layer : ℕ) → (tree_at trees t).standing ≡ Live → (tree_at trees t).prefix ≡ take (8 * (layer + gap + 1)) key → 8 * (layer + gap + 1) ≤ length key → LinksOn nodes trees key layer
+  links_from : (gap t layer : ℕ) → (tree_at trees t).standing ≡ Live → (tree_at trees t).prefix ≡ take (8 * (layer + gap + 1)) key
+      → 8 * (layer + gap + 1) ≤ length key → LinksOn nodes trees key layer
   links_from zero t layer live prefix reaches =
       let same : layer + 0 + 1 ≡ layer + 1 = omega arith in
       link_to t layer live (prefix ∙ ap (λ m. take (8 * m) key) same) (omega arith)
@@ -132,7 +135,8 @@ module _ (nodes : List NodeView) (trees : List Tree) (arena : IsArena nodes tree
       let above = link_to t (layer + suc gap) live prefix reaches in
       links_from gap above.tree layer above.live (above.prefix ∙ ap (λ m. take (8 * m) key) same) (omega arith)
 
-  pub links_above : (t layer above : ℕ) → (tree_at trees t).standing ≡ Live → (tree_at trees t).prefix ≡ take (8 * layer) key → 8 * layer ≤ length key → above < layer → LinksOn nodes trees key above
+  pub links_above : (t layer above : ℕ) → (tree_at trees t).standing ≡ Live → (tree_at trees t).prefix ≡ take (8 * layer) key → 8 * layer ≤ length key
+      → above < layer → LinksOn nodes trees key above
   links_above t layer above live prefix reaches higher =
       let same : layer ≡ above + (layer - above - 1) + 1 = omega arith in
       links_from (layer - above - 1) t above live (prefix ∙ ap (λ m. take (8 * m) key) same) (omega arith)

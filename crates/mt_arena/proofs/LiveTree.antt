@@ -68,7 +68,8 @@ module _ (xs : List NodeView) (trees : List Tree) (t op : ℕ) (forest : IsFores
     | inr other ↦ rw (tree_u u other) (forest.each u lu)
   ]
 
-  apart : (a b : ℕ) → a < length trees → b < length trees → a ≢ b → (tree_at ts a).standing ≡ Live → (tree_at ts b).standing ≡ Live → (tree_at trees a).prefix ≢ (tree_at trees b).prefix
+  apart : (a b : ℕ) → a < length trees → b < length trees → a ≢ b → (tree_at ts a).standing ≡ Live → (tree_at ts b).standing ≡ Live
+      → (tree_at trees a).prefix ≢ (tree_at trees b).prefix
   apart a b la lb differ one two same = elim (cases_eq a t) [
     | inl a_is ↦
         let b_other : b ≢ t = λ b_is. differ (a_is ∙ sym b_is) in
@@ -85,7 +86,8 @@ module _ (xs : List NodeView) (trees : List Tree) (t op : ℕ) (forest : IsFores
     homes = λ k u lk lu. home_at k u lk (omega (arith, lu, trees_size));
     each = λ u lu. each_tree u (omega (arith, lu, trees_size));
     peers = λ a b la lb. record {
-      one_live = λ differ one two same. apart a b (omega (arith, la, trees_size)) (omega (arith, lb, trees_size)) differ one two (sym (same_prefix a) ∙ same ∙ same_prefix b);
+      one_live =
+          λ differ one two same. apart a b (omega (arith, la, trees_size)) (omega (arith, lb, trees_size)) differ one two (sym (same_prefix a) ∙ same ∙ same_prefix b);
     };
     top = record {
       there = omega (arith, forest.top.there, trees_size);

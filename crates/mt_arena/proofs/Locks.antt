@@ -19,7 +19,8 @@ use Rattle.mt_arena.proofs.LinkEdits.{same_links}
 use Rattle.mt_arena.proofs.Steps.{sound_set, keys_of, step_set}
 
 -- the whole invariant stands as a lock is taken
-pub sound_locked : (xs : List NodeView) (trees : List Tree) (gone : List Retired) (room i op : ℕ) → i < length xs → ArenaInvariant xs trees gone room → (node_at xs i).holder ≡ None → ArenaInvariant (set xs i (locked (node_at xs i) op)) trees gone room
+pub sound_locked : (xs : List NodeView) (trees : List Tree) (gone : List Retired) (room i op : ℕ) → i < length xs → ArenaInvariant xs trees gone room
+    → (node_at xs i).holder ≡ None → ArenaInvariant (set xs i (locked (node_at xs i) op)) trees gone room
 sound_locked xs trees gone room i op within sound free =
     let x = node_at xs i in
     sound_set xs trees gone room i (locked x op) within sound (nodes_locked xs i op within sound.arena.nodes) (ranged_locked xs i op within sound.arena.nodes sound.arena.ranged free)
@@ -46,7 +47,8 @@ step_locked v i op within free mine =
     step_set op v i (locked (at v i) op) within (changes_locked op (at v i) free) mine record { previous = λ j e not_mine. e; parent = λ j e not_mine. e }
 
 -- a live node behind which nothing lags has a range: it has a parent, or is a root
-settled_range : (xs : List NodeView) (trees : List Tree) (i : ℕ) → i < length xs → IsArena xs trees → IsSettled xs i (node_at xs i) → (node_at xs i).version.deleted ≡ false → HasRange (node_at xs i)
+settled_range : (xs : List NodeView) (trees : List Tree) (i : ℕ) → i < length xs → IsArena xs trees → IsSettled xs i (node_at xs i)
+    → (node_at xs i).version.deleted ≡ false → HasRange (node_at xs i)
 settled_range xs trees i within arena settled live = by (node_at xs i).parent refl
   where
     by : (p : Option ℕ) → (node_at xs i).parent ≡ p → HasRange (node_at xs i)
@@ -58,7 +60,8 @@ settled_range xs trees i within arena settled live = by (node_at xs i).parent re
         omega (arith, root.low, ap end_of (sym settled.reach ∙ root.reach))
 
 -- a lock is given back
-pub sound_unlocked : (xs : List NodeView) (trees : List Tree) (gone : List Retired) (room i : ℕ) → i < length xs → ArenaInvariant xs trees gone room → IsSettled xs i (node_at xs i) → ArenaInvariant (set xs i (unlocked (node_at xs i))) trees gone room
+pub sound_unlocked : (xs : List NodeView) (trees : List Tree) (gone : List Retired) (room i : ℕ) → i < length xs → ArenaInvariant xs trees gone room
+    → IsSettled xs i (node_at xs i) → ArenaInvariant (set xs i (unlocked (node_at xs i))) trees gone room
 sound_unlocked xs trees gone room i within sound settled =
     let x = node_at xs i in
     sound_set xs trees gone room i (unlocked x) within sound (nodes_unlocked xs i within sound.arena.nodes settled) (ranged_unlocked xs i within sound.arena.ranged settled (settled_range xs trees i within sound.arena settled))
@@ -84,12 +87,14 @@ changes_unlocked op x mine = record {
 }
 
 -- and one that is given back
-pub step_unlocked : (v : ArenaView) (i op : ℕ) → i < length v.nodes → (at v i).holder ≡ Some op → IsOpen v i op → Guarantee op v (with_node v i (unlocked (at v i)))
+pub step_unlocked : (v : ArenaView) (i op : ℕ) → i < length v.nodes → (at v i).holder ≡ Some op → IsOpen v i op
+    → Guarantee op v (with_node v i (unlocked (at v i)))
 step_unlocked v i op within held mine =
     step_set op v i (unlocked (at v i)) within (changes_unlocked op (at v i) held) mine record { previous = λ j e not_mine. e; parent = λ j e not_mine. e }
 
 -- the mark that readers of the range wait for
-pub sound_splitting : (xs : List NodeView) (trees : List Tree) (gone : List Retired) (room i : ℕ) → i < length xs → ArenaInvariant xs trees gone room → (node_at xs i).holder ≢ None → ArenaInvariant (set xs i (splitting (node_at xs i))) trees gone room
+pub sound_splitting : (xs : List NodeView) (trees : List Tree) (gone : List Retired) (room i : ℕ) → i < length xs → ArenaInvariant xs trees gone room
+    → (node_at xs i).holder ≢ None → ArenaInvariant (set xs i (splitting (node_at xs i))) trees gone room
 sound_splitting xs trees gone room i within sound held =
     let x = node_at xs i in
     sound_set xs trees gone room i (splitting x) within sound (nodes_splitting xs i within sound.arena.nodes held) (ranged_marked xs i x.slots (splitting x).version within sound.arena.ranged refl (λ _. refl) (λ e. absurd (cc)))

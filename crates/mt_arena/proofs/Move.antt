@@ -118,15 +118,18 @@ module _ (xs : List NodeView) (i j : ℕ) (kept moved : List Entry) (nodes : Are
       knows = (q.named live free).knows;
     };
     child = λ a lt. absurd (no_right_child a lt);
-    apart = λ d t l _ also s hz hm. p.apart (λ e. other (sym e)) (sym splits.right_tree ∙ t) (sym splits.right_level ∙ l) splits.live also s (omega (arith, hz.0, splits.above), hz.1) hm;
+    apart =
+        λ d t l _ also s hz hm. p.apart (λ e. other (sym e)) (sym splits.right_tree ∙ t) (sym splits.right_level ∙ l) splits.live also s (omega (arith, hz.0, splits.above), hz.1) hm;
   }
 
   right_to : (k : ℕ) (m : NodeView) → k ≢ i → IsNode (length xs) m → IsPair k m i x → IsPair k m j r → IsPair k m j z
   right_to k m other one p q = record {
     next = q.next;
     named = λ _ free. absurd (splits.right_held free);
-    child = λ a lt e live. absurd (omega (arith, child_ranges (length xs) m a r one lt (q.child a lt e live), rw splits.right_reach at (child_ranges (length xs) m a r one lt (q.child a lt e live))));
-    apart = λ d t l live _ s hm hz. p.apart other (t ∙ splits.right_tree) (l ∙ splits.right_level) live splits.live s hm (omega (arith, hz.0, splits.above), hz.1);
+    child =
+        λ a lt e live. absurd (omega (arith, child_ranges (length xs) m a r one lt (q.child a lt e live), rw splits.right_reach at (child_ranges (length xs) m a r one lt (q.child a lt e live))));
+    apart =
+        λ d t l live _ s hm hz. p.apart other (t ∙ splits.right_tree) (l ∙ splits.right_level) live splits.live s hm (omega (arith, hz.0, splits.above), hz.1);
   }
 
   -- the halves
@@ -166,6 +169,7 @@ module _ (xs : List NodeView) (i j : ℕ) (kept moved : List Entry) (nodes : Are
       ))
 
 -- node i keeps some of its slots, and node j gets the others
-pub nodes_split_move : (xs : List NodeView) (i j : ℕ) (kept moved : List Entry) → i < length xs → j < length xs → i ≢ j → AreNodes xs → Splits (node_at xs i) (node_at xs j) kept moved
+pub nodes_split_move : (xs : List NodeView) (i j : ℕ) (kept moved : List Entry) → i < length xs → j < length xs → i ≢ j → AreNodes xs
+    → Splits (node_at xs i) (node_at xs j) kept moved
     → AreNodes (set (set xs i (left_half (node_at xs i) kept (node_at xs j).low j)) j (right_half (node_at xs i) (node_at xs j) moved i))
 nodes_split_move xs i j kept moved li lj differ nodes splits = moved_nodes xs i j kept moved nodes differ li lj splits

@@ -17,7 +17,8 @@ names_same op nodes x y previous parent = record {
 }
 
 -- each node names so
-pub points_each : (op : ℕ) (old new : List NodeView) → length new ≡ length old → ((k : ℕ) → k < length old → PointsSo op new (node_at old k) (node_at new k)) → PointsOnly op old new
+pub points_each : (op : ℕ) (old new : List NodeView) → length new ≡ length old
+    → ((k : ℕ) → k < length old → PointsSo op new (node_at old k) (node_at new k)) → PointsOnly op old new
 points_each op old new same each = record {
   previous = λ k j lt _ e not_mine. (each k lt).previous j e not_mine;
   parent = λ k j lt _ e not_mine. (each k lt).parent j e not_mine;
@@ -26,11 +27,13 @@ points_each op old new same each = record {
 }
 
 -- and one more, which names none
-pub points_more : (op : ℕ) (old new : List NodeView) (g : NodeView) → length new ≡ length old → g.previous ≡ None → g.parent ≡ None → ((k : ℕ) → k < length old → PointsSo op (new ++ g ∷ []) (node_at old k) (node_at new k)) → PointsOnly op old (new ++ g ∷ [])
+pub points_more : (op : ℕ) (old new : List NodeView) (g : NodeView) → length new ≡ length old → g.previous ≡ None → g.parent ≡ None
+    → ((k : ℕ) → k < length old → PointsSo op (new ++ g ∷ []) (node_at old k) (node_at new k)) → PointsOnly op old (new ++ g ∷ [])
 points_more op old new g same no_previous no_parent each =
     let size : length (new ++ g ∷ []) ≡ length new + 1 = length-append new (g ∷ []) in
     record {
-      previous = λ k j lt _ e not_mine. (each k lt).previous j (ap (λ (n : NodeView). n.previous) (sym (before new g k (omega (arith, lt, same)))) ∙ e) not_mine;
+      previous =
+          λ k j lt _ e not_mine. (each k lt).previous j (ap (λ (n : NodeView). n.previous) (sym (before new g k (omega (arith, lt, same)))) ∙ e) not_mine;
       parent = λ k j lt _ e not_mine. (each k lt).parent j (ap (λ (n : NodeView). n.parent) (sym (before new g k (omega (arith, lt, same)))) ∙ e) not_mine;
       new_previous = λ k j from lt _ e.
           let is : k ≡ length new = omega (arith, from, lt, same, size) in
@@ -41,7 +44,8 @@ points_more op old new g same no_previous no_parent each =
     }
 
 -- what holds of each node and its number, where two are changed, and where three are
-pub each_set2 : (P : ℕ → NodeView → Type 0) (xs : List NodeView) (i j : ℕ) (y z : NodeView) → i < length xs → j < length xs → i ≢ j → P i y → P j z → ((k : ℕ) → k < length xs → k ≢ i → k ≢ j → P k (node_at xs k)) → (k : ℕ) → k < length xs → P k (node_at (set (set xs i y) j z) k)
+pub each_set2 : (P : ℕ → NodeView → Type 0) (xs : List NodeView) (i j : ℕ) (y z : NodeView) → i < length xs → j < length xs → i ≢ j → P i y → P j z
+    → ((k : ℕ) → k < length xs → k ≢ i → k ≢ j → P k (node_at xs k)) → (k : ℕ) → k < length xs → P k (node_at (set (set xs i y) j z) k)
 each_set2 P xs i j y z li lj differ one two others k lk = elim (cases_eq k j) [
   | inl k_j ↦ rw (k_j, here (set xs i y) j z (omega (arith, lj, length-set xs i y))) two
   | inr k_nj ↦ elim (cases_eq k i) [
@@ -51,7 +55,8 @@ each_set2 P xs i j y z li lj differ one two others k lk = elim (cases_eq k j) [
 ]
 
 -- what holds of each node holds where three of them change, if it holds of the three
-pub each_set3 : (P : ℕ → NodeView → Type 0) (xs : List NodeView) (i j q : ℕ) (y z w : NodeView) → i < length xs → j < length xs → q < length xs → i ≢ j → i ≢ q → j ≢ q → P i y → P j z → P q w → ((k : ℕ) → k < length xs → k ≢ i → k ≢ j → k ≢ q → P k (node_at xs k))
+pub each_set3 : (P : ℕ → NodeView → Type 0) (xs : List NodeView) (i j q : ℕ) (y z w : NodeView) → i < length xs → j < length xs → q < length xs
+    → i ≢ j → i ≢ q → j ≢ q → P i y → P j z → P q w → ((k : ℕ) → k < length xs → k ≢ i → k ≢ j → k ≢ q → P k (node_at xs k))
     → (k : ℕ) → k < length xs → P k (node_at (set (set (set xs i y) j z) q w) k)
 each_set3 P xs i j q y z w li lj lq ij iq jq one two three others k lk =
     let size = length-set xs i y in
@@ -70,10 +75,13 @@ is_holder (Some q) op = elim (cases_eq q op) [
 ]
 
 -- two steps of an operation that gives no lock back in the second
-pub points_on : (op : ℕ) (old mid new : List NodeView) → length old ≤ length mid → PointsOnly op old mid → PointsOnly op mid new → ((j : ℕ) → j < length mid → (node_at mid j).holder ≡ Some op → (node_at new j).holder ≡ Some op) → PointsOnly op old new
+pub points_on : (op : ℕ) (old mid new : List NodeView) → length old ≤ length mid → PointsOnly op old mid → PointsOnly op mid new
+    → ((j : ℕ) → j < length mid → (node_at mid j).holder ≡ Some op → (node_at new j).holder ≡ Some op) → PointsOnly op old new
 points_on op old mid new more a b kept = record {
-  previous = λ k j lt lt_j e not_mine. a.previous k j lt lt_j (b.previous k j (omega (arith, lt, more)) (omega (arith, lt_j, more)) e not_mine) (λ mine. not_mine (kept j (omega (arith, lt_j, more)) mine));
-  parent = λ k j lt lt_j e not_mine. a.parent k j lt lt_j (b.parent k j (omega (arith, lt, more)) (omega (arith, lt_j, more)) e not_mine) (λ mine. not_mine (kept j (omega (arith, lt_j, more)) mine));
+  previous =
+      λ k j lt lt_j e not_mine. a.previous k j lt lt_j (b.previous k j (omega (arith, lt, more)) (omega (arith, lt_j, more)) e not_mine) (λ mine. not_mine (kept j (omega (arith, lt_j, more)) mine));
+  parent =
+      λ k j lt lt_j e not_mine. a.parent k j lt lt_j (b.parent k j (omega (arith, lt, more)) (omega (arith, lt_j, more)) e not_mine) (λ mine. not_mine (kept j (omega (arith, lt_j, more)) mine));
   new_previous = λ k j from lt lt_j e. elim (cases_lt k (length mid)) [
     | inr new_one ↦ b.new_previous k j new_one lt (omega (arith, lt_j, more)) e
     | inl was ↦ elim (is_holder (node_at new j).holder op) [

@@ -42,7 +42,8 @@ module _ (v : ArenaView) (node i op : ℕ) (pair : Pair) (key : Bytes) (row : Co
   whole_above = (arena.forest.each (at v node).tree (arena.forest.tree_there node ln)).whole
 
   long : length prefix ≡ length above + 8
-  long = let eight : length (to_be_bytes w64 (slot_at (at v node) i).slice) ≡ 8 = refl in omega (arith, length-append above (to_be_bytes w64 (slot_at (at v node) i).slice), eight)
+  long =
+      let eight : length (to_be_bytes w64 (slot_at (at v node) i).slice) ≡ 8 = refl in omega (arith, length-append above (to_be_bytes w64 (slot_at (at v node) i).slice), eight)
 
   layer_is : layer_of prefix ≡ layer + 1
   layer_is = omega (arith, long, whole_above)

@@ -21,7 +21,8 @@ use Rattle.mt_arena.proofs.Places.{one_place}
 module _ (nodes : List NodeView) (trees : List Tree) (tree slice k i : ℕ) (arena : IsArena nodes trees) (live : (tree_at trees tree).standing ≡ Live) (at : StandsAt nodes tree slice Long k i)
     (none : (u : ℕ) → (slot_at (node_at nodes k) i).held ≢ Link u) (u : ℕ) (live_u : (tree_at trees u).standing ≡ Live) (same : (tree_at trees u).prefix ≡ (tree_at trees tree).prefix ++ piece_bytes slice Long) where
   long : length (tree_at trees u).prefix ≡ length (tree_at trees tree).prefix + 8
-  long = let eight : length (to_be_bytes w64 slice) ≡ 8 = refl in omega (arith, ap length same, length-append (tree_at trees tree).prefix (to_be_bytes w64 slice), eight)
+  long =
+      let eight : length (to_be_bytes w64 slice) ≡ 8 = refl in omega (arith, ap length same, length-append (tree_at trees tree).prefix (to_be_bytes w64 slice), eight)
 
   -- it would have its link
   has : HasLink nodes u

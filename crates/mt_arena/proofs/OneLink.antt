@@ -69,7 +69,8 @@ module _ (nodes : List NodeView) (trees : List Tree) (arena : IsArena nodes tree
       let e = slot_at (node_at nodes k) i in
       long_link e.mark e u ((arena.nodes.each k link.there).slots.border.each i any_entry link.in_range).held link.is
 
-  pub stands : (k i u tree slice : ℕ) → IsLinkTo nodes k i u → (node_at nodes k).tree ≡ tree → (slot_at (node_at nodes k) i).slice ≡ slice → StandsAt nodes tree slice Long k i
+  pub stands : (k i u tree slice : ℕ) → IsLinkTo nodes k i u → (node_at nodes k).tree ≡ tree → (slot_at (node_at nodes k) i).slice ≡ slice
+      → StandsAt nodes tree slice Long k i
   stands k i u tree slice link in_tree at_slice = record {
     border = record { there = link.there; live = link.live; level = level k i u link; tree_is = in_tree };
     in_range = link.in_range;

@@ -35,24 +35,29 @@ module _ (nodes : List NodeView) (trees : List Tree) (arena : IsArena nodes tree
 
   -- the slots of a node stand for keys of its tree's layer
   pub keys_of : k < length nodes → IsOfTree begins layer key → AreKeys begins layer n.slots
-  keys_of there of_tree = subst (λ m. AreKeys begins m n.slots) (layer_is begins key layer of_tree) ((arena.forest.homes k n.tree there (arena.forest.tree_there k there)).keys refl).keys
+  keys_of there of_tree =
+      subst (λ m. AreKeys begins m n.slots) (layer_is begins key layer of_tree) ((arena.forest.homes k n.tree there (arena.forest.tree_there k there)).keys refl).keys
 
   -- where the key belongs in a node
   module _ (in_k : BelongsIn nodes trees key layer k) where
     -- and is missing in it, no node has its pair
     pub nodes_missing : IsMissing n.slots (slice_of key layer) (mark_of key layer) → (l : ℕ) → l < length nodes → HasNone trees nodes (owned key) l
-    nodes_missing missing l there = none_at nodes trees arena begins layer key in_k.of_tree l there (λ low j pair at. nowhere_missing nodes trees arena begun key layer k in_k low l j pair at missing)
+    nodes_missing missing l there =
+        none_at nodes trees arena begins layer key in_k.of_tree l there (λ low j pair at. nowhere_missing nodes trees arena begun key layer k in_k low l j pair at missing)
 
     pub none_elsewhere : IsMissing n.slots (slice_of key layer) (mark_of key layer) → get (content trees nodes) (owned key) ≡ None
     none_elsewhere missing = content-none trees nodes (owned key) (nodes_missing missing)
 
     -- nor where another key's pair has its slice and mark
-    pub none_beside : (i : ℕ) (other : Pair) → StandsAt nodes n.tree (slice_of key layer) (mark_of key layer) k i → pair_of (slot_at n i).held ≡ Some other → other.suffix ≢ suffix_of key layer → get (content trees nodes) (owned key) ≡ None
+    pub none_beside : (i : ℕ) (other : Pair) → StandsAt nodes n.tree (slice_of key layer) (mark_of key layer) k i
+        → pair_of (slot_at n i).held ≡ Some other → other.suffix ≢ suffix_of key layer → get (content trees nodes) (owned key) ≡ None
     none_beside i other at is differ = content-none trees nodes (owned key) (λ l there. none_at nodes trees arena begins layer key in_k.of_tree l there
         (λ low j pair also. nowhere_other nodes trees arena begun key layer k in_k low l j pair also i other at is differ))
 
     -- to publish its entry there is to insert its pair
-    pub published : (y : NodeView) (e : Entry) (pair : Pair) → HasKey begins layer e key → IsMissing n.slots e.slice e.mark → pair_of e.held ≡ Some pair → HasSlots n y (with_entry n.slots e) → content trees (set nodes k y) ≡ insert (content trees nodes) (owned key) pair.row
+    pub published : (y : NodeView) (e : Entry) (pair : Pair) → HasKey begins layer e key → IsMissing n.slots e.slice e.mark
+        → pair_of e.held ≡ Some pair → HasSlots n y (with_entry n.slots e)
+        → content trees (set nodes k y) ≡ insert (content trees nodes) (owned key) pair.row
     published y e pair has missing is slots =
         let there = in_k.border.there in
         let none = nodes_missing (missing_key begins layer n.slots e key has missing) in
@@ -84,13 +89,15 @@ module _ (nodes : List NodeView) (trees : List Tree) (arena : IsArena nodes tree
         (get-at begins (owned key) n.slots i any_entry pair at.in_range at.pair_is (owned_at begins layer (slot_at n i) key pair at.has at.pair_is) before)
 
     -- another entry of the key in its place inserts that one's row
-    pub replaced : (y : NodeView) (e : Entry) (new : Pair) → HasKey begins layer e key → pair_of e.held ≡ Some new → HasSlots n y (set n.slots i e) → content trees (set nodes k y) ≡ insert (content trees nodes) (owned key) new.row
+    pub replaced : (y : NodeView) (e : Entry) (new : Pair) → HasKey begins layer e key → pair_of e.held ≡ Some new → HasSlots n y (set n.slots i e)
+        → content trees (set nodes k y) ≡ insert (content trees nodes) (owned key) new.row
     replaced y e new has is slots = content-insert trees nodes (owned key) k at.there at.live at.tree_live others y (set n.slots i e) slots new.row
         (contents-set begins (owned key) n.slots i e any_entry pair new at.in_range at.pair_is (owned_at begins layer (slot_at n i) key pair at.has at.pair_is) is (owned_at begins layer e key new has is) before)
 
     -- as another row with its stamp does
     pub stored : (y : NodeView) (row : Columns) (stamp : ℕ) → HasSlots n y (set n.slots i (record (slot_at n i) { held = Stable (record pair { row = row; stamp = stamp }) })) → content trees (set nodes k y) ≡ insert (content trees nodes) (owned key) row
-    stored y row stamp slots = replaced y (record (slot_at n i) { held = Stable (record pair { row = row; stamp = stamp }) }) (record pair { row = row; stamp = stamp })
+    stored y row stamp slots =
+        replaced y (record (slot_at n i) { held = Stable (record pair { row = row; stamp = stamp }) }) (record pair { row = row; stamp = stamp })
         (has_rewritten_key begins layer (slot_at n i) key pair row stamp at.has at.pair_is) refl slots
 
     -- to drop the slot is to remove its pair

@@ -58,7 +58,8 @@ pairs_set R xs i y within all self from to k j lk lj =
     ]
 
 -- two nodes are others
-pub pairs_set2 : (R : ℕ → NodeView → ℕ → NodeView → Type 0) (xs : List NodeView) (i j : ℕ) (y z : NodeView) → i < length xs → j < length xs → i ≢ j → AllPairs R xs
+pub pairs_set2 : (R : ℕ → NodeView → ℕ → NodeView → Type 0) (xs : List NodeView) (i j : ℕ) (y z : NodeView) → i < length xs → j < length xs → i ≢ j
+    → AllPairs R xs
     → R i y i y → R j z j z → R i y j z → R j z i y
     → ((k : ℕ) → k < length xs → k ≢ i → k ≢ j → (R i y k (node_at xs k) × R k (node_at xs k) i y) × (R j z k (node_at xs k) × R k (node_at xs k) j z))
     → AllPairs R (set (set xs i y) j z)
@@ -121,7 +122,8 @@ pairs_off R xs i y within all self beside k j lk lj =
     ]
 
 -- three nodes are others
-pub pairs_set3 : (R : ℕ → NodeView → ℕ → NodeView → Type 0) (xs : List NodeView) (i j q : ℕ) (y z w : NodeView) → i < length xs → j < length xs → q < length xs → i ≢ j → i ≢ q → j ≢ q → AllPairs R xs
+pub pairs_set3 : (R : ℕ → NodeView → ℕ → NodeView → Type 0) (xs : List NodeView) (i j q : ℕ) (y z w : NodeView) → i < length xs → j < length xs
+    → q < length xs → i ≢ j → i ≢ q → j ≢ q → AllPairs R xs
     → R i y i y → R j z j z → R q w q w → (R i y j z × R j z i y) → (R i y q w × R q w i y) → (R j z q w × R q w j z)
     → ((k : ℕ) → k < length xs → k ≢ i → k ≢ j → k ≢ q → (R i y k (node_at xs k) × R k (node_at xs k) i y) × (R j z k (node_at xs k) × R k (node_at xs k) j z) × (R q w k (node_at xs k) × R k (node_at xs k) q w))
     → AllPairs R (set (set (set xs i y) j z) q w)
@@ -183,7 +185,8 @@ are_set xs i y within nodes one self from to = record {
 }
 
 -- and where two are
-pub are_set2 : (xs : List NodeView) (i j : ℕ) (y z : NodeView) → i < length xs → j < length xs → i ≢ j → AreNodes xs → IsNode (length xs) y → IsNode (length xs) z
+pub are_set2 : (xs : List NodeView) (i j : ℕ) (y z : NodeView) → i < length xs → j < length xs → i ≢ j → AreNodes xs → IsNode (length xs) y
+    → IsNode (length xs) z
     → IsPair i y i y → IsPair j z j z → IsPair i y j z → IsPair j z i y
     → ((k : ℕ) → k < length xs → k ≢ i → k ≢ j → (IsPair i y k (node_at xs k) × IsPair k (node_at xs k) i y) × (IsPair j z k (node_at xs k) × IsPair k (node_at xs k) j z))
     → AreNodes (set (set xs i y) j z)
@@ -191,14 +194,16 @@ are_set2 xs i j y z li lj differ nodes one two yy zz yz zy others =
     let size = length-set xs i y in
     let size2 = length-set (set xs i y) j z in
     record {
-      each = subst (λ n. AllNodes (IsNode n) (set (set xs i y) j z)) (sym (size2 ∙ size)) (nodes_set (IsNode (length xs)) (set xs i y) j z (omega arith) (nodes_set (IsNode (length xs)) xs i y li nodes.each one) two);
+      each =
+          subst (λ n. AllNodes (IsNode n) (set (set xs i y) j z)) (sym (size2 ∙ size)) (nodes_set (IsNode (length xs)) (set xs i y) j z (omega arith) (nodes_set (IsNode (length xs)) xs i y li nodes.each one) two);
       pairs = pairs_set2 IsPair xs i j y z li lj differ nodes.pairs yy zz yz zy others;
     }
 
 -- and where three are
 pub are_set3 : (xs : List NodeView) (i j q : ℕ) (y z w : NodeView) → i < length xs → j < length xs → q < length xs → i ≢ j → i ≢ q → j ≢ q → AreNodes xs
     → IsNode (length xs) y → IsNode (length xs) z → IsNode (length xs) w
-    → IsPair i y i y → IsPair j z j z → IsPair q w q w → (IsPair i y j z × IsPair j z i y) → (IsPair i y q w × IsPair q w i y) → (IsPair j z q w × IsPair q w j z)
+    → IsPair i y i y → IsPair j z j z → IsPair q w q w → (IsPair i y j z × IsPair j z i y) → (IsPair i y q w × IsPair q w i y)
+    → (IsPair j z q w × IsPair q w j z)
     → ((k : ℕ) → k < length xs → k ≢ i → k ≢ j → k ≢ q → (IsPair i y k (node_at xs k) × IsPair k (node_at xs k) i y) × (IsPair j z k (node_at xs k) × IsPair k (node_at xs k) j z) × (IsPair q w k (node_at xs k) × IsPair k (node_at xs k) q w))
     → AreNodes (set (set (set xs i y) j z) q w)
 are_set3 xs i j q y z w li lj lq ij iq jq nodes one two three yy zz ww yz yw zw others =
@@ -220,6 +225,7 @@ pub nodes_pushed : (xs : List NodeView) (y : NodeView) → AreNodes xs → IsNod
 nodes_pushed xs y nodes one self from to =
     let size : length (xs ++ y ∷ []) ≡ length xs + 1 = length-append xs (y ∷ []) in
     record {
-      each = subst (λ n. AllNodes (IsNode n) (xs ++ y ∷ [])) (sym size) (nodes_push (IsNode (length xs + 1)) xs y (λ k lt. node_more (length xs) (length xs + 1) (node_at xs k) (omega arith) (nodes.each k lt)) one);
+      each =
+          subst (λ n. AllNodes (IsNode n) (xs ++ y ∷ [])) (sym size) (nodes_push (IsNode (length xs + 1)) xs y (λ k lt. node_more (length xs) (length xs + 1) (node_at xs k) (omega arith) (nodes.each k lt)) one);
       pairs = pairs_push IsPair xs y nodes.pairs self from to;
     }

@@ -187,7 +187,8 @@ module _ (v : ArenaView) (room more parent left right op : ℕ) (sound : ArenaIn
   apart = apart_j v.nodes parent left right sound.arena.nodes may.inserts
 
   kept : AreKept v.nodes halves v.trees v.retired
-  kept = kept_set2 v.nodes v.trees v.retired parent left y z li lj apart (record { slots = refl; deleted = refl; tree = refl }) (record { slots = refl; deleted = refl; tree = refl })
+  kept =
+      kept_set2 v.nodes v.trees v.retired parent left y z li lj apart (record { slots = refl; deleted = refl; tree = refl }) (record { slots = refl; deleted = refl; tree = refl })
 
   ranges : HasRange y × HasRange u
   ranges = ranges_parts v.nodes parent left right op sound.arena.nodes may.inserts may.full may.next
@@ -215,7 +216,8 @@ module _ (v : ArenaView) (room more parent left right op : ℕ) (sound : ArenaIn
   step_parts = record {
     nodes = guarantee_on op v.nodes halves new v.trees v.trees v.trees
         (guarantee_set2 op v.nodes v.trees parent left y z li lj apart sound.arena.forest (record {
-          changes = changes_on op x (splitting x) y (changes_splitting op x may.held.holder) (changes_inner_left op (splitting x) (at v right).low right may.held.holder refl);
+          changes =
+              changes_on op x (splitting x) y (changes_splitting op x may.held.holder) (changes_inner_left op (splitting x) (at v right).low right may.held.holder refl);
           mine = may.mine;
         }) (exact_turn v.nodes parent left right sound.arena.nodes may.inserts op v.trees may.left_held.holder may.mine))
         (guarantee_push op halves v.trees u may.mine (λ q other e. other (same_Some q op (sym e)))) sound.arena.forest.tree_there;

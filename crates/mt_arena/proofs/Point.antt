@@ -6,7 +6,8 @@ use Rattle.mt_arena.specs.Edits.{Points, pointed}
 use Rattle.mt_arena.proofs.Pairs.{are_set}
 
 -- the second node of a pair
-pointed_to : (k : ℕ) (n : NodeView) (j : ℕ) (m : NodeView) (previous parent : Option ℕ) → IsPair k n j m → (parent ≡ None → m.parent ≡ None) → IsPair k n j (pointed m previous parent)
+pointed_to : (k : ℕ) (n : NodeView) (j : ℕ) (m : NodeView) (previous parent : Option ℕ) → IsPair k n j m → (parent ≡ None → m.parent ≡ None)
+    → IsPair k n j (pointed m previous parent)
 pointed_to k n j m previous parent h stays = record {
   next = h.next;
   named = h.named;

@@ -61,7 +61,8 @@ bare_to count k m border tree level low op h = record {
 }
 
 -- one more held node without range leaves the facts of nodes
-pub nodes_bare : (xs : List NodeView) (border : Bool) (tree level low op : ℕ) → TellsKind border level → AreNodes xs → AreNodes (xs ++ bare border tree level low op ∷ [])
+pub nodes_bare : (xs : List NodeView) (border : Bool) (tree level low op : ℕ) → TellsKind border level → AreNodes xs
+    → AreNodes (xs ++ bare border tree level low op ∷ [])
 nodes_bare xs border tree level low op kind nodes =
     let y = bare border tree level low op in
     nodes_pushed xs y nodes (bare_node (length xs + 1) border tree level low op kind)
@@ -70,7 +71,8 @@ nodes_bare xs border tree level low op kind nodes =
     (λ j lt. bare_to (length xs) j (node_at xs j) border tree level low op (nodes.each j lt))
 
 -- the right half of a border node that an operation holds, which it names as the one before
-pub nodes_half : (xs : List NodeView) (x : NodeView) (i low op : ℕ) → i < length xs → (node_at xs i).holder ≢ None → x.level ≡ 0 → AreNodes xs → AreNodes (xs ++ fresh_half x i low op ∷ [])
+pub nodes_half : (xs : List NodeView) (x : NodeView) (i low op : ℕ) → i < length xs → (node_at xs i).holder ≢ None → x.level ≡ 0 → AreNodes xs
+    → AreNodes (xs ++ fresh_half x i low op ∷ [])
 nodes_half xs x i low op within held level nodes =
     let y = bare true x.tree x.level low op in
     let more : length (xs ++ y ∷ []) ≡ length xs + 1 = length-append xs (y ∷ []) in
@@ -81,7 +83,8 @@ nodes_half xs x i low op within held level nodes =
     (nodes_pointed (xs ++ y ∷ []) (length xs) (Some i) None (omega (arith, more)) made record {
       previous_there = λ j e. omega (arith, same_Some _ _ e, within, more);
       parent_there = λ j e. absurd (cc);
-      previous_held = λ j e. inr (subst (λ k. (node_at (xs ++ y ∷ []) k).holder ≢ None) (same_Some _ _ e) (λ none. held (ap (λ (n : NodeView). n.holder) (sym at_i) ∙ none)));
+      previous_held =
+          λ j e. inr (subst (λ k. (node_at (xs ++ y ∷ []) k).holder ≢ None) (same_Some _ _ e) (λ none. held (ap (λ (n : NodeView). n.holder) (sym at_i) ∙ none)));
       parent_held = λ j e. absurd (cc);
       previous_stays = λ none. absurd (cc);
       parent_stays = λ none. ap (λ (n : NodeView). n.parent) at_y;

@@ -64,7 +64,8 @@ nodes_quiet xs i slots version holder within nodes same held one =
 
 -- a node that is held, with other marks and slots that may stand in it
 held_node : (count : ℕ) (n : NodeView) (slots : List Entry) (version : Parts) (holder : Option ℕ) → IsNode count n → holder ≢ None
-    → version.locked ≡ is_some holder → version.border ≡ n.version.border → version.deleted ≡ n.version.deleted → (version.splitting ≡ false → n.version.splitting ≡ false)
+    → version.locked ≡ is_some holder → version.border ≡ n.version.border → version.deleted ≡ n.version.deleted
+    → (version.splitting ≡ false → n.version.splitting ≡ false)
     → FitsSlots n.level n.low n.high slots → IsNode count (turned n slots version holder)
 held_node count n slots version holder h held lock kind standing marked fit = record {
   names = h.names;

@@ -33,7 +33,8 @@ pub record Stays (x y : NodeView) : Type 0 where
   pub holder : y.holder ≡ x.holder
 
 -- one that keeps its deleted mark, its splitting mark, its tree, its level and its holder
-pub stays : (x y : NodeView) → y.version.deleted ≡ x.version.deleted → y.version.splitting ≡ x.version.splitting → (HasRange x → HasRange y) → y.tree ≡ x.tree → y.level ≡ x.level → y.holder ≡ x.holder → Stays x y
+pub stays : (x y : NodeView) → y.version.deleted ≡ x.version.deleted → y.version.splitting ≡ x.version.splitting → (HasRange x → HasRange y)
+    → y.tree ≡ x.tree → y.level ≡ x.level → y.holder ≡ x.holder → Stays x y
 stays x y deleted splitting range tree level holder = record { live = λ live. deleted ∙ live; range = range; marked = λ marked. splitting ∙ marked; tree = tree; level = level; holder = holder }
 
 left_stays : (x y n : NodeView) → Stays x y → IsLeftHalf x n → IsLeftHalf y n
@@ -44,7 +45,8 @@ pub tied_to : (k : ℕ) (n : NodeView) (j : ℕ) (x y : NodeView) → Stays x y 
 tied_to k n j x y s h = record { next = λ e. s.range (h.next e); left = λ e waits. left_stays x y n s (h.left e waits) }
 
 -- what ties a node to those that it names stays where the node changes little
-pub tied_from : (k : ℕ) (x y : NodeView) (j : ℕ) (m : NodeView) → Stays x y → y.next ≡ x.next → (Waits y → Waits x × (y.previous ≡ x.previous)) → AreTied k x j m → AreTied k y j m
+pub tied_from : (k : ℕ) (x y : NodeView) (j : ℕ) (m : NodeView) → Stays x y → y.next ≡ x.next → (Waits y → Waits x × (y.previous ≡ x.previous))
+    → AreTied k x j m → AreTied k y j m
 tied_from k x y j m s next was h = record {
   next = λ e. h.next (sym next ∙ e);
   left = λ e waits.
@@ -58,7 +60,8 @@ pub ranged_from : (k : ℕ) (y : NodeView) (j : ℕ) (m : NodeView) → HasRange
 ranged_from k y j m range next = record { next = next; left = λ e waits. absurd (no_wait y range waits) }
 
 -- a node changes, and keeps its place beside the others
-pub ranged_set : (xs : List NodeView) (i : ℕ) (y : NodeView) → i < length xs → AreRanged xs → IsRanged y → Stays (node_at xs i) y → y.next ≡ (node_at xs i).next → (Waits y → Waits (node_at xs i) × (y.previous ≡ (node_at xs i).previous))
+pub ranged_set : (xs : List NodeView) (i : ℕ) (y : NodeView) → i < length xs → AreRanged xs → IsRanged y → Stays (node_at xs i) y
+    → y.next ≡ (node_at xs i).next → (Waits y → Waits (node_at xs i) × (y.previous ≡ (node_at xs i).previous))
     → AreRanged (set xs i y)
 ranged_set xs i y within ranged one s next was =
     let x = node_at xs i in
@@ -71,7 +74,8 @@ ranged_set xs i y within ranged one s next was =
     }
 
 -- other slots and marks
-pub ranged_marked : (xs : List NodeView) (i : ℕ) (slots : List Entry) (version : Parts) → i < length xs → AreRanged xs → version.deleted ≡ (node_at xs i).version.deleted → ((node_at xs i).version.splitting ≡ true → version.splitting ≡ true)
+pub ranged_marked : (xs : List NodeView) (i : ℕ) (slots : List Entry) (version : Parts) → i < length xs → AreRanged xs
+    → version.deleted ≡ (node_at xs i).version.deleted → ((node_at xs i).version.splitting ≡ true → version.splitting ≡ true)
     → (version.splitting ≡ false → (node_at xs i).version.splitting ≡ false) → AreRanged (set xs i (turned (node_at xs i) slots version (node_at xs i).holder))
 ranged_marked xs i slots version within ranged same kept marked =
     let x = node_at xs i in
@@ -86,7 +90,8 @@ ranged_marked xs i slots version within ranged same kept marked =
     } record { live = λ live. same ∙ live; range = λ range. range; marked = kept; tree = refl; level = refl; holder = refl } refl (λ waits. ((sym same ∙ waits.0, waits.1), refl))
 
 -- a lock is taken: nobody waits at a node that nobody holds
-pub ranged_locked : (xs : List NodeView) (i op : ℕ) → i < length xs → AreNodes xs → AreRanged xs → (node_at xs i).holder ≡ None → AreRanged (set xs i (locked (node_at xs i) op))
+pub ranged_locked : (xs : List NodeView) (i op : ℕ) → i < length xs → AreNodes xs → AreRanged xs → (node_at xs i).holder ≡ None
+    → AreRanged (set xs i (locked (node_at xs i) op))
 ranged_locked xs i op within nodes ranged free =
     let x = node_at xs i in
     let y = locked x op in
@@ -94,10 +99,12 @@ ranged_locked xs i op within nodes ranged free =
     let range : Waits x → ⊥ = λ waits. waits_held (length xs) x (nodes.each i within) h waits free in
     let to : (k : ℕ) → k < length xs → AreTied k (node_at xs k) i y = λ k lk. record {
       next = (ranged.ties k i lk within).next;
-      left = λ e waits. absurd (waits_held (length xs) (node_at xs k) (nodes.each k lk) (ranged.each k lk) waits (sym ((ranged.ties k i lk within).left e waits).holder ∙ free));
+      left =
+          λ e waits. absurd (waits_held (length xs) (node_at xs k) (nodes.each k lk) (ranged.each k lk) waits (sym ((ranged.ties k i lk within).left e waits).holder ∙ free));
     } in
     record {
-      each = nodes_set IsRanged xs i y within ranged.each record { next = h.next; parent = h.parent; unmarked = h.unmarked; interior = h.interior; named = h.named; fits = h.fits };
+      each =
+          nodes_set IsRanged xs i y within ranged.each record { next = h.next; parent = h.parent; unmarked = h.unmarked; interior = h.interior; named = h.named; fits = h.fits };
       ties = pairs_set AreTied xs i y within ranged.ties
           record { next = (to i within).next; left = λ e waits. absurd (range waits) }
           (λ j lt _. record { next = (ranged.ties i j within lt).next; left = λ e waits. absurd (range waits) })
@@ -105,7 +112,8 @@ ranged_locked xs i op within nodes ranged free =
     }
 
 -- a lock is given back: nothing lags behind the node, so nobody waits at it
-pub ranged_unlocked : (xs : List NodeView) (i : ℕ) → i < length xs → AreRanged xs → IsSettled xs i (node_at xs i) → ((node_at xs i).version.deleted ≡ false → HasRange (node_at xs i)) → AreRanged (set xs i (unlocked (node_at xs i)))
+pub ranged_unlocked : (xs : List NodeView) (i : ℕ) → i < length xs → AreRanged xs → IsSettled xs i (node_at xs i)
+    → ((node_at xs i).version.deleted ≡ false → HasRange (node_at xs i)) → AreRanged (set xs i (unlocked (node_at xs i)))
 ranged_unlocked xs i within ranged settled range =
     let x = node_at xs i in
     let y = unlocked x in
@@ -116,7 +124,8 @@ ranged_unlocked xs i within ranged settled range =
       left = λ e waits. absurd (no_wait (node_at xs k) ((ranged.ties i k within lk).next (settled.previous k lk e waits.0)) waits);
     } in
     record {
-      each = nodes_set IsRanged xs i y within ranged.each record { next = h.next; parent = h.parent; unmarked = λ whole live. range live; interior = h.interior; named = h.named; fits = h.fits };
+      each =
+          nodes_set IsRanged xs i y within ranged.each record { next = h.next; parent = h.parent; unmarked = λ whole live. range live; interior = h.interior; named = h.named; fits = h.fits };
       ties = pairs_set AreTied xs i y within ranged.ties
           record { next = (to i within).next; left = λ e waits. absurd (none waits) }
           (λ j lt _. record { next = (ranged.ties i j within lt).next; left = λ e waits. absurd (none waits) })
@@ -124,13 +133,15 @@ ranged_unlocked xs i within ranged settled range =
     }
 
 -- a node is taken out at which nobody waits
-pub ranged_retired : (xs : List NodeView) (i : ℕ) → i < length xs → AreRanged xs → ((k : ℕ) → k < length xs → (node_at xs k).previous ≡ Some i → Waits (node_at xs k) → ⊥) → AreRanged (set xs i (retired (node_at xs i)))
+pub ranged_retired : (xs : List NodeView) (i : ℕ) → i < length xs → AreRanged xs
+    → ((k : ℕ) → k < length xs → (node_at xs k).previous ≡ Some i → Waits (node_at xs k) → ⊥) → AreRanged (set xs i (retired (node_at xs i)))
 ranged_retired xs i within ranged unawaited =
     let x = node_at xs i in
     let y = retired x in
     let h = ranged.each i within in
     record {
-      each = nodes_set IsRanged xs i y within ranged.each record { next = h.next; parent = h.parent; unmarked = λ whole live. absurd (cc); interior = λ above live. absurd (cc); named = λ waits. absurd (let dead = waits.0 in cc); fits = h.fits };
+      each =
+          nodes_set IsRanged xs i y within ranged.each record { next = h.next; parent = h.parent; unmarked = λ whole live. absurd (cc); interior = λ above live. absurd (cc); named = λ waits. absurd (let dead = waits.0 in cc); fits = h.fits };
       ties = pairs_set AreTied xs i y within ranged.ties
           record { next = (ranged.ties i i within within).next; left = λ e waits. absurd (let dead = waits.0 in cc) }
           (λ j lt _. record { next = (ranged.ties i j within lt).next; left = λ e waits. absurd (let dead = waits.0 in cc) })
@@ -138,7 +149,8 @@ ranged_retired xs i within ranged unawaited =
     }
 
 -- another node before it and another parent: only a node with a range comes to have a parent, and one that waits keeps its left half
-pub ranged_pointed : (xs : List NodeView) (i : ℕ) (previous parent : Option ℕ) → i < length xs → AreRanged xs → (parent ≢ None → HasRange (node_at xs i)) → (Waits (node_at xs i) → previous ≡ (node_at xs i).previous)
+pub ranged_pointed : (xs : List NodeView) (i : ℕ) (previous parent : Option ℕ) → i < length xs → AreRanged xs
+    → (parent ≢ None → HasRange (node_at xs i)) → (Waits (node_at xs i) → previous ≡ (node_at xs i).previous)
     → AreRanged (set xs i (pointed (node_at xs i) previous parent))
 ranged_pointed xs i previous parent within ranged range tied =
     let x = node_at xs i in
@@ -156,8 +168,10 @@ pub all_beside : (xs : List NodeView) → AreNodes xs → (j : ℕ) → j < leng
 all_beside xs nodes j lt = (λ e. omega (arith, (nodes.each j lt).names.next (length xs) e), λ e. omega (arith, (nodes.each j lt).names.previous (length xs) e))
 
 -- one node more, which no other one names
-pub ranged_push : (xs : List NodeView) (y : NodeView) → ((j : ℕ) → j < length xs → IsBeside (length xs) (node_at xs j)) → AreRanged xs → IsRanged y → y.next ≡ None
-    → (y.previous ≡ Some (length xs) → Waits y → IsLeftHalf y y) → ((j : ℕ) → j < length xs → y.previous ≡ Some j → Waits y → IsLeftHalf (node_at xs j) y) → AreRanged (xs ++ y ∷ [])
+pub ranged_push : (xs : List NodeView) (y : NodeView) → ((j : ℕ) → j < length xs → IsBeside (length xs) (node_at xs j)) → AreRanged xs → IsRanged y
+    → y.next ≡ None
+    → (y.previous ≡ Some (length xs) → Waits y → IsLeftHalf y y)
+    → ((j : ℕ) → j < length xs → y.previous ≡ Some j → Waits y → IsLeftHalf (node_at xs j) y) → AreRanged (xs ++ y ∷ [])
 ranged_push xs y beside ranged one none self left = record {
   each = nodes_push IsRanged xs y ranged.each one;
   ties = pairs_push AreTied xs y ranged.ties
@@ -171,8 +185,10 @@ pub with_range : (y : NodeView) → HasRange y → end_of y.high ≤ 18446744073
 with_range y range fits = record { next = λ some. range; parent = λ some. range; unmarked = λ whole live. range; interior = λ above live. range; named = λ waits. absurd (no_wait y range waits); fits = λ _. fits }
 
 -- one with a range
-pub ranged_more : (xs : List NodeView) (y : NodeView) → ((j : ℕ) → j < length xs → IsBeside (length xs) (node_at xs j)) → AreRanged xs → HasRange y → end_of y.high ≤ 18446744073709551616 → y.next ≡ None → AreRanged (xs ++ y ∷ [])
-ranged_more xs y beside ranged range fits none = ranged_push xs y beside ranged (with_range y range fits) none (λ _ waits. absurd (no_wait y range waits)) (λ j lt _ waits. absurd (no_wait y range waits))
+pub ranged_more : (xs : List NodeView) (y : NodeView) → ((j : ℕ) → j < length xs → IsBeside (length xs) (node_at xs j)) → AreRanged xs → HasRange y
+    → end_of y.high ≤ 18446744073709551616 → y.next ≡ None → AreRanged (xs ++ y ∷ [])
+ranged_more xs y beside ranged range fits none =
+    ranged_push xs y beside ranged (with_range y range fits) none (λ _ waits. absurd (no_wait y range waits)) (λ j lt _ waits. absurd (no_wait y range waits))
 
 -- and the root of a new tree
 pub ranged_root : (xs : List NodeView) (tree : ℕ) → AreNodes xs → AreRanged xs → AreRanged (xs ++ fresh_root tree ∷ [])

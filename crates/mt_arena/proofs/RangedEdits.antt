@@ -18,7 +18,8 @@ use Rattle.mt_arena.proofs.Unlink.{differ_ij, differ_iq, differ_jq}
 use Rattle.mt_arena.proofs.Ranged.{stays, IsBeside, all_beside, no_wait, tied_to, ranged_from, ranged_set, ranged_marked, with_range, ranged_push, ranged_more}
 
 -- a right half more, beside its left half, which is marked
-pub ranged_half : (xs : List NodeView) (i low op : ℕ) → i < length xs → AreNodes (set xs i (splitting (node_at xs i))) → AreRanged xs → (node_at xs i).version.deleted ≡ false → (node_at xs i).level ≡ 0 → HasRange (node_at xs i) → (node_at xs i).holder ≡ Some op
+pub ranged_half : (xs : List NodeView) (i low op : ℕ) → i < length xs → AreNodes (set xs i (splitting (node_at xs i))) → AreRanged xs
+    → (node_at xs i).version.deleted ≡ false → (node_at xs i).level ≡ 0 → HasRange (node_at xs i) → (node_at xs i).holder ≡ Some op
     → AreRanged (set xs i (splitting (node_at xs i)) ++ fresh_half (node_at xs i) i low op ∷ [])
 ranged_half xs i low op within nodes ranged live level range held =
     let x = node_at xs i in
@@ -32,7 +33,8 @@ ranged_half xs i low op within nodes ranged live level range held =
     (λ j lt e _. subst (λ k. IsLeftHalf (node_at ys k) y) (same_Some _ _ e) (rw (here xs i m within) (record { live = live; range = range; marked = refl; tree = refl; level = refl; holder = held })))
 
 -- both halves of a split have a range
-pub ranged_split_move : (xs : List NodeView) (i j : ℕ) (kept moved : List Entry) → i < length xs → j < length xs → i ≢ j → AreRanged xs → Splits (node_at xs i) (node_at xs j) kept moved
+pub ranged_split_move : (xs : List NodeView) (i j : ℕ) (kept moved : List Entry) → i < length xs → j < length xs → i ≢ j → AreRanged xs
+    → Splits (node_at xs i) (node_at xs j) kept moved
     → AreRanged (set (set xs i (left_half (node_at xs i) kept (node_at xs j).low j)) j (right_half (node_at xs i) (node_at xs j) moved i))
 ranged_split_move xs i j kept moved li lj differ ranged s =
     let x = node_at xs i in
@@ -43,7 +45,8 @@ ranged_split_move xs i j kept moved li lj differ ranged s =
     let to_y : (k : ℕ) → k < length xs → AreTied k (node_at xs k) i y = λ k lk. tied_to k (node_at xs k) i x y (stays x y refl refl (λ _. s.above) refl refl refl) (ranged.ties k i lk li) in
     let to_z : (k : ℕ) → k < length xs → AreTied k (node_at xs k) j z = λ k lk. tied_to k (node_at xs k) j r z (stays r z refl refl (λ _. s.below) refl refl refl) (ranged.ties k j lk lj) in
     record {
-      each = nodes_set IsRanged (set xs i y) j z (omega (arith, lj, length-set xs i y)) (nodes_set IsRanged xs i y li ranged.each (with_range y s.above (omega (arith, s.below, fits)))) (with_range z s.below fits);
+      each =
+          nodes_set IsRanged (set xs i y) j z (omega (arith, lj, length-set xs i y)) (nodes_set IsRanged xs i y li ranged.each (with_range y s.above (omega (arith, s.below, fits)))) (with_range z s.below fits);
       ties = pairs_set2 AreTied xs i j y z li lj differ ranged.ties
           (ranged_from i y i y s.above (λ e. s.above))
           (ranged_from j z j z s.below (λ e. s.below))
@@ -63,11 +66,14 @@ ranged_exact xs j lj ranged =
     (stays (node_at xs j) (exact (node_at xs j)) refl refl (λ range. range) refl refl refl) refl (λ waits. (waits, refl))
 
 -- beside a node that was changed
-exact_beside : (xs : List NodeView) (i j : ℕ) (y : NodeView) → i ≢ j → j < length xs → AreRanged (set xs i y) → AreRanged (set (set xs i y) j (exact (node_at xs j)))
-exact_beside xs i j y differ lj ranged = subst (λ (n : NodeView). AreRanged (set (set xs i y) j (exact n))) (there xs i j y (λ e. differ (sym e))) (ranged_exact (set xs i y) j (omega (arith, lj, length-set xs i y)) ranged)
+exact_beside : (xs : List NodeView) (i j : ℕ) (y : NodeView) → i ≢ j → j < length xs → AreRanged (set xs i y)
+    → AreRanged (set (set xs i y) j (exact (node_at xs j)))
+exact_beside xs i j y differ lj ranged =
+    subst (λ (n : NodeView). AreRanged (set (set xs i y) j (exact n))) (there xs i j y (λ e. differ (sym e))) (ranged_exact (set xs i y) j (omega (arith, lj, length-set xs i y)) ranged)
 
 -- a right half that comes to stand in the parent changes no range
-pub ranged_insert_child : (xs : List NodeView) (i j s q : ℕ) → i < length xs → j < length xs → i ≢ j → AreRanged xs → AreRanged (set (set xs i (with_child (node_at xs i) s q)) j (exact (node_at xs j)))
+pub ranged_insert_child : (xs : List NodeView) (i j s q : ℕ) → i < length xs → j < length xs → i ≢ j → AreRanged xs
+    → AreRanged (set (set xs i (with_child (node_at xs i) s q)) j (exact (node_at xs j)))
 ranged_insert_child xs i j s q li lj differ ranged =
     let y = with_child (node_at xs i) s q in
     let h = ranged.each i li in
@@ -142,7 +148,8 @@ ranged_unlinked xs i j q a nodes ranged f =
     let to_v : (k : ℕ) → k < length xs → AreTied k (node_at xs k) q v = λ k lk. tied_to k (node_at xs k) q p v (stays p v refl refl (λ range. range) refl refl refl) (ranged.ties k q lk f.parent_there) in
     let from_v : (k : ℕ) (m : NodeView) → AreTied q p k m → AreTied q v k m = λ k m h. record {
       next = h.next;
-      left = λ e waits. let t = h.left e waits in record { live = t.live; range = t.range; marked = t.marked; tree = t.tree; level = t.level; holder = t.holder };
+      left =
+          λ e waits. let t = h.left e waits in record { live = t.live; range = t.range; marked = t.marked; tree = t.tree; level = t.level; holder = t.holder };
     } in
     let from_y : (k : ℕ) (m : NodeView) → (y.next ≡ Some k → HasRange m) → AreTied i y k m = λ k m next. ranged_from i y k m range next in
     let from_w : (k : ℕ) (m : NodeView) → (x.next ≡ Some k → HasRange m) → AreTied j w k m = λ k m next. record { next = next; left = λ e waits. absurd (gone waits) } in

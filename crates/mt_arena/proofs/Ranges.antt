@@ -52,7 +52,8 @@ holds_low count n a h lt =
 -- a node is a child of one live node
 pub one_parent : (xs : List NodeView) (i k j a b : ℕ) → AreNodes xs → i < length xs → k < length xs → j < length xs
     → (node_at xs i).version.deleted ≡ false → (node_at xs k).version.deleted ≡ false
-    → a < length (node_at xs i).children → get_or (node_at xs i).children a 0 ≡ j → b < length (node_at xs k).children → get_or (node_at xs k).children b 0 ≡ j → k ≡ i
+    → a < length (node_at xs i).children → get_or (node_at xs i).children a 0 ≡ j → b < length (node_at xs k).children
+    → get_or (node_at xs k).children b 0 ≡ j → k ≡ i
 one_parent xs i k j a b nodes li lk lj live also la ca lb cb =
     let one = (nodes.pairs i j li lj).child a la ca live in
     let two = (nodes.pairs k j lk lj).child b lb cb also in
@@ -64,7 +65,8 @@ one_parent xs i k j a b nodes li lk lj live also la ca lb cb =
     ]
 
 -- and it is there once
-pub one_place : (count : ℕ) (n : NodeView) (a b : ℕ) (m : NodeView) → IsNode count n → a < length n.children → b < length n.children → IsChild n a m → IsChild n b m → a ≡ b
+pub one_place : (count : ℕ) (n : NodeView) (a b : ℕ) (m : NodeView) → IsNode count n → a < length n.children → b < length n.children → IsChild n a m
+    → IsChild n b m → a ≡ b
 one_place count n a b m h la lb first second =
     let size = length_children count n a h la in
     let some = not_empty n.children a la in

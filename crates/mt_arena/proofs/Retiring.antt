@@ -12,7 +12,8 @@ use Rattle.mt_arena.specs.Arena.{AreRetired, WasRetired, retired_at, live_count,
 use Rattle.mt_arena.proofs.Pairs.{here, there, before}
 
 -- how many are live, where one changes
-pub live-set : (xs : List NodeView) (i : ℕ) (y : NodeView) → i < length xs → live_count (set xs i y) + one_if_live (node_at xs i) ≡ live_count xs + one_if_live y
+pub live-set : (xs : List NodeView) (i : ℕ) (y : NodeView) → i < length xs
+    → live_count (set xs i y) + one_if_live (node_at xs i) ≡ live_count xs + one_if_live y
 live-set [] i y within = absurd (omega arith)
 live-set (x ∷ xs) zero y within = omega arith
 live-set (x ∷ xs) (suc i) y within = omega (arith, live-set xs i y (omega arith))
@@ -26,7 +27,8 @@ same_count : (x y : NodeView) → y.version.deleted ≡ x.version.deleted → on
 same_count x y same = ap (λ (b : Bool). if b then 0 else 1) same
 
 -- the retired stay so where a node keeps its deleted mark
-was_set : (xs : List NodeView) (i : ℕ) (y : NodeView) (r : Retired) → i < length xs → ((node_at xs i).version.deleted ≡ true → y.version.deleted ≡ true) → WasRetired xs r → WasRetired (set xs i y) r
+was_set : (xs : List NodeView) (i : ℕ) (y : NodeView) (r : Retired) → i < length xs
+    → ((node_at xs i).version.deleted ≡ true → y.version.deleted ≡ true) → WasRetired xs r → WasRetired (set xs i y) r
 was_set xs i y r within stays was = (
   omega (arith, length-set xs i y, was.0),
   elim (cases_eq r.node i) [
@@ -36,7 +38,8 @@ was_set xs i y r within stays was = (
 )
 
 -- the list of the retired stands where a node stays live, or stays taken out
-pub retired_set : (xs : List NodeView) (gone : List Retired) (i : ℕ) (y : NodeView) → i < length xs → AreRetired xs gone → y.version.deleted ≡ (node_at xs i).version.deleted → AreRetired (set xs i y) gone
+pub retired_set : (xs : List NodeView) (gone : List Retired) (i : ℕ) (y : NodeView) → i < length xs → AreRetired xs gone
+    → y.version.deleted ≡ (node_at xs i).version.deleted → AreRetired (set xs i y) gone
 retired_set xs gone i y within are same = record {
   each = λ k d lt. was_set xs i y (get_or gone k d) within (λ e. same ∙ e) (are.each k d lt);
   once = are.once;
@@ -49,7 +52,8 @@ retired_push xs gone y are live =
     let size : length (xs ++ y ∷ []) ≡ length xs + 1 = length-append xs (y ∷ []) in
     let one : one_if_live y ≡ 1 = ap (λ (b : Bool). if b then 0 else 1) live in
     record {
-      each = λ k d lt. let was = are.each k d lt in (omega (arith, was.0), ap (λ (n : NodeView). n.version.deleted) (before xs y (get_or gone k d).node was.0) ∙ was.1);
+      each =
+          λ k d lt. let was = are.each k d lt in (omega (arith, was.0), ap (λ (n : NodeView). n.version.deleted) (before xs y (get_or gone k d).node was.0) ∙ was.1);
       once = are.once;
       counted = omega (arith, live-push xs y, are.counted);
     }
@@ -80,7 +84,8 @@ retired_more xs gone i step within are live =
     }
 
 -- a live node is none of the retired, so that these are fewer than all
-pub retired_few : (xs : List NodeView) (gone : List Retired) (i : ℕ) → i < length xs → AreRetired xs gone → (node_at xs i).version.deleted ≡ false → length gone < length xs
+pub retired_few : (xs : List NodeView) (gone : List Retired) (i : ℕ) → i < length xs → AreRetired xs gone → (node_at xs i).version.deleted ≡ false
+    → length gone < length xs
 retired_few xs gone i within are live =
     let one : one_if_live (node_at xs i) ≡ 1 = ap (λ (b : Bool). if b then 0 else 1) live in
     let none : one_if_live (retired (node_at xs i)) ≡ 0 = refl in

@@ -58,7 +58,8 @@ settled_stays op q old new were are i guarantee points other within holder settl
       ];
       reach = kept.reach ∙ settled.reach ∙ sym kept.high;
       stable = subst (λ (slots : List Entry). All (λ (e : Entry). ¬ IsUnstable e.held) slots) (sym kept.slots) settled.stable;
-      rooted = λ live none. ap (λ (v : Parts). v.root) kept.version ∙ settled.rooted (live_before i within live) (was_none (node_at old i).parent (node_at new i).parent kept.parented none);
+      rooted =
+          λ live none. ap (λ (v : Parts). v.root) kept.version ∙ settled.rooted (live_before i within live) (was_none (node_at old i).parent (node_at new i).parent kept.parented none);
     }
 
 -- behind a node that nobody holds nothing lags

@@ -63,7 +63,8 @@ record LeadsAsBefore (x y : NodeView) : Type 0 where
   pub rooted : (x.version.deleted ≡ false → x.parent ≡ None → x.version.root ≡ true) → y.version.deleted ≡ false → y.parent ≡ None → y.version.root ≡ true
 
 -- nothing comes to lag behind a node that leads where it did and that no more nodes name
-settled_as : (xs ys : List NodeView) (k : ℕ) (x y : NodeView) → ((j : ℕ) → Follows ys k j → Follows xs k j) → ((j : ℕ) → IsUnder ys k j → IsUnder xs k j) → LeadsAsBefore x y → All IsCalm y.slots → IsSettled xs k x → IsSettled ys k y
+settled_as : (xs ys : List NodeView) (k : ℕ) (x y : NodeView) → ((j : ℕ) → Follows ys k j → Follows xs k j)
+    → ((j : ℕ) → IsUnder ys k j → IsUnder xs k j) → LeadsAsBefore x y → All IsCalm y.slots → IsSettled xs k x → IsSettled ys k y
 settled_as xs ys k x y follows under same calm settled = record {
   previous = λ j lt is live. let was = follows j (lt, is, live) in same.next ∙ settled.previous j was.0 was.1 was.2;
   previous_live = λ j lt is live. let was = follows j (lt, is, live) in same.deleted ∙ settled.previous_live j was.0 was.1 was.2;
@@ -77,7 +78,8 @@ settled_as xs ys k x y follows under same calm settled = record {
 }
 
 -- while others go on
-pub settled_but_stays : (op q : ℕ) (old new : List NodeView) (were are : List Tree) (k i : ℕ) → NodesGuarantee op old new were are → PointsOnly op old new → q ≢ op → k < length old → (node_at old k).holder ≡ Some q
+pub settled_but_stays : (op q : ℕ) (old new : List NodeView) (were are : List Tree) (k i : ℕ) → NodesGuarantee op old new were are
+    → PointsOnly op old new → q ≢ op → k < length old → (node_at old k).holder ≡ Some q
     → IsSettledBut old k i → IsSettledBut new k i
 settled_but_stays op q old new were are k i guarantee points other within holder settled =
     let kept = (guarantee.nodes k within).held q other holder in
@@ -92,13 +94,15 @@ settled_but_stays op q old new were are k i guarantee points other within holder
       deleted = ap (λ (v : Parts). v.deleted) kept.version;
       high = kept.high;
       reach = kept.reach;
-      rooted = λ was live none. ap (λ (v : Parts). v.root) kept.version ∙ was (sym (ap (λ (v : Parts). v.deleted) kept.version) ∙ live) (was_none n.parent m.parent kept.parented none);
+      rooted =
+          λ was live none. ap (λ (v : Parts). v.root) kept.version ∙ was (sym (ap (λ (v : Parts). v.deleted) kept.version) ∙ live) (was_none n.parent m.parent kept.parented none);
     })
     (subst (λ (es : List Entry). All IsCalm (remove es i)) (sym kept.slots) settled.stable)
     settled
 
 -- as a tree is made
-pub settled_but_made : (v : ArenaView) (prefix : Bytes) (e : Entry) (op k i : ℕ) → k < length v.nodes → IsSettledBut v.nodes k i → IsSettledBut (with_layer v prefix e op).nodes k i
+pub settled_but_made : (v : ArenaView) (prefix : Bytes) (e : Entry) (op k i : ℕ) → k < length v.nodes → IsSettledBut v.nodes k i
+    → IsSettledBut (with_layer v prefix e op).nodes k i
 settled_but_made v prefix e op k i within settled =
     let xs = v.nodes in
     let y = root_of (length v.trees) e in

@@ -13,7 +13,9 @@ use Rattle.mt_arena.proofs.Settled.{settled_free}
 
 -- another node changes: it comes to name this one only where this one leads to it
 pub settled_beside : (xs : List NodeView) (i k : ℕ) (y : NodeView) → k < length xs → i ≢ k → IsSettled xs i (node_at xs i)
-    → (y.previous ≡ Some i → y.version.deleted ≡ false → (node_at xs i).next ≡ Some k) → (y.previous ≡ Some i → y.version.deleted ≡ false → (node_at xs i).version.deleted ≡ false) → (y.parent ≡ Some i → y.version.deleted ≡ false → HasChild (node_at xs i) k)
+    → (y.previous ≡ Some i → y.version.deleted ≡ false → (node_at xs i).next ≡ Some k)
+    → (y.previous ≡ Some i → y.version.deleted ≡ false → (node_at xs i).version.deleted ≡ false)
+    → (y.parent ≡ Some i → y.version.deleted ≡ false → HasChild (node_at xs i) k)
     → IsSettled (set xs k y) i (node_at (set xs k y) i)
 settled_beside xs i k y within differ settled back back_live up =
     let ys = set xs k y in
@@ -48,7 +50,8 @@ pub record KeepsSettled (x y : NodeView) : Type 0 where
   pub reach : y.reach ≡ x.reach
 
 -- a settled node that keeps what `KeepsSettled` names stays settled
-pub settled_self : (xs : List NodeView) (i : ℕ) (y : NodeView) → i < length xs → IsSettled xs i (node_at xs i) → KeepsSettled (node_at xs i) y → All (λ e. ¬ IsUnstable e.held) y.slots
+pub settled_self : (xs : List NodeView) (i : ℕ) (y : NodeView) → i < length xs → IsSettled xs i (node_at xs i) → KeepsSettled (node_at xs i) y
+    → All (λ e. ¬ IsUnstable e.held) y.slots
     → IsSettled (set xs i y) i (node_at (set xs i y) i)
 settled_self xs i y within settled keeps stable =
     let ys = set xs i y in

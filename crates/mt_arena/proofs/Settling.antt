@@ -63,12 +63,14 @@ child_less p a k within other c =
         live = c.live;
         place = c.place - 1;
         in_range = omega (arith, above, moved, c.in_range, size);
-        is = get_or-remove_above p.children a 0 (c.place - 1) (omega (arith, above, moved)) within ∙ ap (λ b. get_or p.children b 0) {x = c.place - 1 + 1} {y = c.place} (omega (arith, above, moved)) ∙ c.is;
+        is =
+            get_or-remove_above p.children a 0 (c.place - 1) (omega (arith, above, moved)) within ∙ ap (λ b. get_or p.children b 0) {x = c.place - 1 + 1} {y = c.place} (omega (arith, above, moved)) ∙ c.is;
       }
     ]
 
 -- as other operations go on, no more comes to lag behind the node
-pub followed_stays : (op q : ℕ) (old new : List NodeView) (were are : List Tree) (i : ℕ) (named : Option ℕ) → NodesGuarantee op old new were are → PointsOnly op old new → q ≢ op → i < length old → (node_at old i).holder ≡ Some q
+pub followed_stays : (op q : ℕ) (old new : List NodeView) (were are : List Tree) (i : ℕ) (named : Option ℕ) → NodesGuarantee op old new were are
+    → PointsOnly op old new → q ≢ op → i < length old → (node_at old i).holder ≡ Some q
     → IsFollowedBy old i (node_at old i) named → IsFollowedBy new i (node_at new i) named
 followed_stays op q old new were are i named guarantee points other within holder followed =
     let kept = (guarantee.nodes i within).held q other holder in
@@ -84,7 +86,8 @@ followed_stays op q old new were are i named guarantee points other within holde
           };
       reach = kept.reach ∙ followed.reach ∙ sym kept.high;
       stable = subst (λ (slots : List Entry). All (λ (e : Entry). ¬ IsUnstable e.held) slots) (sym kept.slots) followed.stable;
-      rooted = λ live none. ap (λ (v : Parts). v.root) kept.version ∙ followed.rooted (alive _ _ (guarantee.nodes i within).ages.deleted live) (was_none (node_at old i).parent (node_at new i).parent kept.parented none);
+      rooted =
+          λ live none. ap (λ (v : Parts). v.root) kept.version ∙ followed.rooted (alive _ _ (guarantee.nodes i within).ages.deleted live) (was_none (node_at old i).parent (node_at new i).parent kept.parented none);
     }
 
 -- where no node names it as the one before, nothing lags behind the node
@@ -118,7 +121,8 @@ module _ (xs : List NodeView) (i j b : ℕ) (lb : b < length xs) where
   ys = set xs b n
 
   -- all else that lags behind a node does as before
-  lags_as_before : (k : ℕ) (named other : Option ℕ) → k ≢ b → AreFollowers ys k other → IsFollowedBy xs k (node_at xs k) named → IsFollowedBy ys k (node_at ys k) other
+  lags_as_before : (k : ℕ) (named other : Option ℕ) → k ≢ b → AreFollowers ys k other → IsFollowedBy xs k (node_at xs k) named
+      → IsFollowedBy ys k (node_at ys k) other
   lags_as_before k named other kb followers followed = subst (λ (x : NodeView). IsFollowedBy ys k x other) (sym (there xs b k n kb)) (record {
     followers = followers;
     children = λ c is. elim (under_in xs k c b n lb is) [
@@ -141,4 +145,5 @@ module _ (xs : List NodeView) (i j b : ℕ) (lb : b < length xs) where
 
   -- and nothing comes to lag behind any other node
   pub settled_aside : (k : ℕ) → k ≢ i → k ≢ b → IsSettled xs k (node_at xs k) → IsSettled ys k (node_at ys k)
-  settled_aside k ki kb settled = settled_beside xs k b n lb kb settled (λ e live. absurd (ki (sym (same_Some _ _ e)))) (λ e live. absurd (ki (sym (same_Some _ _ e)))) (λ e live. settled.parent b lb e live)
+  settled_aside k ki kb settled =
+      settled_beside xs k b n lb kb settled (λ e live. absurd (ki (sym (same_Some _ _ e)))) (λ e live. absurd (ki (sym (same_Some _ _ e)))) (λ e live. settled.parent b lb e live)

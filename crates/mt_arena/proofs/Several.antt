@@ -39,7 +39,8 @@ kept_on a b c trees gone one two = record {
   content = two.content ∙ one.content;
 }
 
-kept_set : (xs : List NodeView) (trees : List Tree) (gone : List Retired) (i : ℕ) (y : NodeView) → i < length xs → KeepsSlots (node_at xs i) y → AreKept xs (set xs i y) trees gone
+kept_set : (xs : List NodeView) (trees : List Tree) (gone : List Retired) (i : ℕ) (y : NodeView) → i < length xs → KeepsSlots (node_at xs i) y
+    → AreKept xs (set xs i y) trees gone
 kept_set xs trees gone i y within same = record {
   count = length-set xs i y;
   layers = λ layers. layers_set xs trees i y within layers (record {
@@ -56,12 +57,14 @@ kept_set xs trees gone i y within same = record {
 beside : (xs : List NodeView) (i j : ℕ) (y z : NodeView) → i ≢ j → KeepsSlots (node_at xs j) z → KeepsSlots (node_at (set xs i y) j) z
 beside xs i j y z differ = subst (λ (n : NodeView). KeepsSlots n z) (sym (there xs i j y (λ e. differ (sym e))))
 
-pub kept_set2 : (xs : List NodeView) (trees : List Tree) (gone : List Retired) (i j : ℕ) (y z : NodeView) → i < length xs → j < length xs → i ≢ j → KeepsSlots (node_at xs i) y → KeepsSlots (node_at xs j) z → AreKept xs (set (set xs i y) j z) trees gone
+pub kept_set2 : (xs : List NodeView) (trees : List Tree) (gone : List Retired) (i j : ℕ) (y z : NodeView) → i < length xs → j < length xs → i ≢ j
+    → KeepsSlots (node_at xs i) y → KeepsSlots (node_at xs j) z → AreKept xs (set (set xs i y) j z) trees gone
 kept_set2 xs trees gone i j y z li lj ij one two =
     kept_on xs (set xs i y) (set (set xs i y) j z) trees gone (kept_set xs trees gone i y li one)
     (kept_set (set xs i y) trees gone j z (omega (arith, lj, length-set xs i y)) (beside xs i j y z ij two))
 
-pub kept_set3 : (xs : List NodeView) (trees : List Tree) (gone : List Retired) (i j q : ℕ) (y z w : NodeView) → i < length xs → j < length xs → q < length xs → i ≢ j → i ≢ q → j ≢ q → KeepsSlots (node_at xs i) y → KeepsSlots (node_at xs j) z → KeepsSlots (node_at xs q) w
+pub kept_set3 : (xs : List NodeView) (trees : List Tree) (gone : List Retired) (i j q : ℕ) (y z w : NodeView) → i < length xs → j < length xs
+    → q < length xs → i ≢ j → i ≢ q → j ≢ q → KeepsSlots (node_at xs i) y → KeepsSlots (node_at xs j) z → KeepsSlots (node_at xs q) w
     → AreKept xs (set (set (set xs i y) j z) q w) trees gone
 kept_set3 xs trees gone i j q y z w li lj lq ij iq jq one two three =
     let two_set = kept_set2 xs trees gone i j y z li lj ij one two in
@@ -73,12 +76,14 @@ pub record KeepsPlace (trees : List Tree) (x y : NodeView) : Type 0 where
   pub home : KeepsHome x y
   pub keys : HasKeysOf trees y
 
-pub forest_set2 : (xs : List NodeView) (trees : List Tree) (i j : ℕ) (y z : NodeView) → i < length xs → j < length xs → i ≢ j → IsForest xs trees → KeepsPlace trees (node_at xs i) y → KeepsPlace trees (node_at xs j) z → IsForest (set (set xs i y) j z) trees
+pub forest_set2 : (xs : List NodeView) (trees : List Tree) (i j : ℕ) (y z : NodeView) → i < length xs → j < length xs → i ≢ j → IsForest xs trees
+    → KeepsPlace trees (node_at xs i) y → KeepsPlace trees (node_at xs j) z → IsForest (set (set xs i y) j z) trees
 forest_set2 xs trees i j y z li lj ij forest one two =
     forest_set (set xs i y) trees j z (omega (arith, lj, length-set xs i y)) (forest_set xs trees i y li forest one.home one.keys)
     (subst (λ (n : NodeView). KeepsHome n z) (sym (there xs i j y (λ e. ij (sym e)))) two.home) two.keys
 
-pub forest_set3 : (xs : List NodeView) (trees : List Tree) (i j q : ℕ) (y z w : NodeView) → i < length xs → j < length xs → q < length xs → i ≢ j → i ≢ q → j ≢ q → IsForest xs trees → KeepsPlace trees (node_at xs i) y → KeepsPlace trees (node_at xs j) z → KeepsPlace trees (node_at xs q) w
+pub forest_set3 : (xs : List NodeView) (trees : List Tree) (i j q : ℕ) (y z w : NodeView) → i < length xs → j < length xs → q < length xs → i ≢ j
+    → i ≢ q → j ≢ q → IsForest xs trees → KeepsPlace trees (node_at xs i) y → KeepsPlace trees (node_at xs j) z → KeepsPlace trees (node_at xs q) w
     → IsForest (set (set (set xs i y) j z) q w) trees
 forest_set3 xs trees i j q y z w li lj lq ij iq jq forest one two three =
     forest_set (set (set xs i y) j z) trees q w (omega (arith, lq, length-set xs i y, length-set (set xs i y) j z)) (forest_set2 xs trees i j y z li lj ij forest one two)
@@ -89,16 +94,21 @@ pub record MayTurn (op : ℕ) (trees : List Tree) (x y : NodeView) : Type 0 wher
   pub changes : Changes op x y
   pub mine : (q : ℕ) → (tree_at trees x.tree).standing ≡ Made q → q ≡ op
 
-guarantee_beside : (op : ℕ) (xs ys : List NodeView) (trees : List Tree) (j : ℕ) (z : NodeView) → j < length ys → node_at ys j ≡ node_at xs j → MayTurn op trees (node_at xs j) z → NodesGuarantee op ys (set ys j z) trees trees
+guarantee_beside : (op : ℕ) (xs ys : List NodeView) (trees : List Tree) (j : ℕ) (z : NodeView) → j < length ys → node_at ys j ≡ node_at xs j
+    → MayTurn op trees (node_at xs j) z → NodesGuarantee op ys (set ys j z) trees trees
 guarantee_beside op xs ys trees j z lj same may =
     guarantee_set op ys trees j z lj (subst (λ (n : NodeView). Changes op n z) (sym same) may.changes) (λ q e. may.mine q (ap (λ (n : NodeView). (tree_at trees n.tree).standing) (sym same) ∙ e))
 
-pub guarantee_set2 : (op : ℕ) (xs : List NodeView) (trees : List Tree) (i j : ℕ) (y z : NodeView) → i < length xs → j < length xs → i ≢ j → IsForest xs trees → MayTurn op trees (node_at xs i) y → MayTurn op trees (node_at xs j) z → NodesGuarantee op xs (set (set xs i y) j z) trees trees
+pub guarantee_set2 : (op : ℕ) (xs : List NodeView) (trees : List Tree) (i j : ℕ) (y z : NodeView) → i < length xs → j < length xs → i ≢ j
+    → IsForest xs trees → MayTurn op trees (node_at xs i) y → MayTurn op trees (node_at xs j) z
+    → NodesGuarantee op xs (set (set xs i y) j z) trees trees
 guarantee_set2 op xs trees i j y z li lj ij forest one two =
     guarantee_on op xs (set xs i y) (set (set xs i y) j z) trees trees trees (guarantee_set op xs trees i y li one.changes one.mine)
     (guarantee_beside op xs (set xs i y) trees j z (omega (arith, lj, length-set xs i y)) (there xs i j y (λ e. ij (sym e))) two) forest.tree_there
 
-pub guarantee_set3 : (op : ℕ) (xs : List NodeView) (trees : List Tree) (i j q : ℕ) (y z w : NodeView) → i < length xs → j < length xs → q < length xs → i ≢ j → i ≢ q → j ≢ q → IsForest xs trees → MayTurn op trees (node_at xs i) y → MayTurn op trees (node_at xs j) z → MayTurn op trees (node_at xs q) w
+pub guarantee_set3 : (op : ℕ) (xs : List NodeView) (trees : List Tree) (i j q : ℕ) (y z w : NodeView) → i < length xs → j < length xs → q < length xs
+    → i ≢ j → i ≢ q → j ≢ q → IsForest xs trees → MayTurn op trees (node_at xs i) y → MayTurn op trees (node_at xs j) z
+    → MayTurn op trees (node_at xs q) w
     → NodesGuarantee op xs (set (set (set xs i y) j z) q w) trees trees
 guarantee_set3 op xs trees i j q y z w li lj lq ij iq jq forest one two three =
     guarantee_on op xs (set (set xs i y) j z) (set (set (set xs i y) j z) q w) trees trees trees (guarantee_set2 op xs trees i j y z li lj ij forest one two)

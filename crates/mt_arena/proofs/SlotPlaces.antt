@@ -38,6 +38,7 @@ at_still es i s within lt other = elim (cases_lt s i) [
   | inr above ↦ record {
     place = s - 1;
     in_range = omega (arith, above, other, lt, length-remove es i within);
-    same = get_or-remove_above es i any_entry (s - 1) (omega (arith, above, other)) within ∙ ap (λ k. get_or es k any_entry) {x = s - 1 + 1} {y = s} (omega (arith, above, other));
+    same =
+        get_or-remove_above es i any_entry (s - 1) (omega (arith, above, other)) within ∙ ap (λ k. get_or es k any_entry) {x = s - 1 + 1} {y = s} (omega (arith, above, other));
   }
 ]

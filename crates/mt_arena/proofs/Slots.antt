@@ -57,7 +57,8 @@ pub record MayHold (trees : List Tree) (x : NodeView) (slots : List Entry) : Typ
   pub back : HasLinksOf x.slots slots
 
 -- the whole invariant stands where a held border node gets slots that it may hold
-pub sound_slots : (xs : List NodeView) (trees : List Tree) (gone : List Retired) (room i : ℕ) (slots : List Entry) → i < length xs → ArenaInvariant xs trees gone room → (node_at xs i).holder ≢ None → (node_at xs i).level ≡ 0
+pub sound_slots : (xs : List NodeView) (trees : List Tree) (gone : List Retired) (room i : ℕ) (slots : List Entry) → i < length xs
+    → ArenaInvariant xs trees gone room → (node_at xs i).holder ≢ None → (node_at xs i).level ≡ 0
     → MayHold trees (node_at xs i) slots → ArenaInvariant (set xs i (with_slots (node_at xs i) slots)) trees gone room
 sound_slots xs trees gone room i slots within sound held level may =
     let x = node_at xs i in
@@ -81,7 +82,8 @@ changes_slots op x slots mine = record {
 }
 
 -- what other slots of a held node leave to others
-pub step_slots : (v : ArenaView) (i op : ℕ) (slots : List Entry) → i < length v.nodes → (at v i).holder ≡ Some op → IsOpen v i op → Guarantee op v (with_node v i (with_slots (at v i) slots))
+pub step_slots : (v : ArenaView) (i op : ℕ) (slots : List Entry) → i < length v.nodes → (at v i).holder ≡ Some op → IsOpen v i op
+    → Guarantee op v (with_node v i (with_slots (at v i) slots))
 step_slots v i op slots within held mine =
     step_set op v i (with_slots (at v i) slots) within (changes_slots op (at v i) slots held) mine record { previous = λ j e not_mine. e; parent = λ j e not_mine. e }
 
@@ -109,7 +111,8 @@ module _ (xs : List NodeView) (trees : List Tree) (gone : List Retired) (room i 
   was_keys = keys_of xs trees i within sound.arena.forest
 
   -- one key more
-  pub may_publish : (e : Entry) (key : Bytes) → length x.slots < 15 → IsEntry e → IsMissing x.slots e.slice e.mark → Holds x e.slice → IsStablePair e.held → HasKey prefix (layer_of prefix) e key → e.mark ≢ Short 0
+  pub may_publish : (e : Entry) (key : Bytes) → length x.slots < 15 → IsEntry e → IsMissing x.slots e.slice e.mark → Holds x e.slice
+      → IsStablePair e.held → HasKey prefix (layer_of prefix) e key → e.mark ≢ Short 0
       → MayHold trees x (with_entry x.slots e)
   may_publish e key few entry missing inside stable has begun =
       let at = place_in x.slots (order_of e) in
@@ -126,7 +129,8 @@ module _ (xs : List NodeView) (trees : List Tree) (gone : List Retired) (room i 
       }
 
   -- one key less, which is no link
-  pub may_drop : (slot : ℕ) → slot < length x.slots → IsStablePair (get_or x.slots slot any_entry).held → MayHold trees x (without x.slots (get_or x.slots slot any_entry))
+  pub may_drop : (slot : ℕ) → slot < length x.slots → IsStablePair (get_or x.slots slot any_entry).held
+      → MayHold trees x (without x.slots (get_or x.slots slot any_entry))
   may_drop slot inside stable =
       let e = get_or x.slots slot any_entry in
       let at : without x.slots e ≡ remove x.slots slot = without_at x.slots slot e was_border.rising inside (get_or_default x.slots slot any_entry e inside) in
@@ -155,7 +159,8 @@ module _ (xs : List NodeView) (trees : List Tree) (gone : List Retired) (room i 
         border = border_set x.slots slot new was_border record { mark = was.mark; held = held } (sym (get_or-map order_of x.slots slot any_entry 0 inside));
         inside = All-set (λ (e : Entry). Holds x e.slice) x.slots slot new (was_inside slot any_entry inside) was_inside;
         keys = record {
-          keys = All-set (λ e. (key : Bytes) × HasKey prefix (layer_of prefix) e key) x.slots slot new (key.0, has_rewritten_key prefix (layer_of prefix) e key.0 pair row stamp key.1 (ap pair_of is)) was_keys.keys;
+          keys =
+              All-set (λ e. (key : Bytes) × HasKey prefix (layer_of prefix) e key) x.slots slot new (key.0, has_rewritten_key prefix (layer_of prefix) e key.0 pair row stamp key.1 (ap pair_of is)) was_keys.keys;
           begun = All-set (λ (e : Entry). e.mark ≢ Short 0) x.slots slot new (was_keys.begun slot any_entry inside) was_keys.begun;
         };
         forth = links_set x.slots slot new (λ u e. absurd (let link = sym is ∙ e in cc));
@@ -197,12 +202,14 @@ module _ (v : ArenaView) (room k op : ℕ) (key : Bytes) (sound : ArenaInvariant
     is_stable : IsStablePair was.held
     is_stable = subst IsStablePair (sym may.stable) tt
 
-    pub sound_stored : (row : Columns) (stamp : ℕ) → ArenaInvariant (set v.nodes k (with_slots n (replaced n.slots (with_row was pair row stamp)))) v.trees v.retired room
+    pub sound_stored : (row : Columns) (stamp : ℕ)
+        → ArenaInvariant (set v.nodes k (with_slots n (replaced n.slots (with_row was pair row stamp)))) v.trees v.retired room
     sound_stored row stamp =
         sound_slots v.nodes v.trees v.retired room k (replaced n.slots (with_row was pair row stamp)) may.held.there sound (is_held op n may.held.holder) may.level
         (may_store v.nodes v.trees v.retired room k may.held.there sound i pair row stamp may.stands.in_range may.stable)
 
-    pub content_stored : (row : Columns) (stamp : ℕ) → content v.trees (set v.nodes k (with_slots n (replaced n.slots (with_row was pair row stamp)))) ≡ finite.insert (content v.trees v.nodes) (owned key) row
+    pub content_stored : (row : Columns) (stamp : ℕ)
+        → content v.trees (set v.nodes k (with_slots n (replaced n.slots (with_row was pair row stamp)))) ≡ finite.insert (content v.trees v.nodes) (owned key) row
     content_stored row stamp =
         stored v.nodes v.trees sound.arena (begun v.nodes v.trees sound.arena.forest) key (layer_of (tree_of v k).prefix) k i pair may.stands (with_slots n (replaced n.slots (with_row was pair row stamp))) row stamp
         record { slots = replaced_at n.slots i (with_row was pair row stamp) any_entry (sound.arena.nodes.each k may.held.there).slots.border.rising may.stands.in_range refl; deleted = refl; tree = refl }

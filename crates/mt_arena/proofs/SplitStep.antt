@@ -63,7 +63,8 @@ module _ (xs : List NodeView) (trees : List Tree) (i j : ℕ) (kept moved : List
   at : (k : ℕ) → k ≢ i → k ≢ j → node_at zs k ≡ node_at xs k
   at k ni nj = there ys j k z nj ∙ there xs i k y ni
 
-  forest_split : IsForest xs trees → HaveKeys (tree_at trees x.tree).prefix kept → HaveKeys (tree_at trees r.tree).prefix moved → r.version.root ≡ false → IsForest zs trees
+  forest_split : IsForest xs trees → HaveKeys (tree_at trees x.tree).prefix kept → HaveKeys (tree_at trees r.tree).prefix moved
+      → r.version.root ≡ false → IsForest zs trees
   forest_split forest left right no_root =
       let one = forest_set xs trees i y li forest (record { tree = refl; deleted = refl; flag = refl; root = λ h. record { live = h.live; flag = h.flag; parentless = h.parentless; low = h.low; reach = h.reach } }) left in
       forest_set ys trees j z ljy one
@@ -97,7 +98,8 @@ module _ (xs : List NodeView) (trees : List Tree) (i j : ℕ) (kept moved : List
             from = ap (λ t. (tree_at trees t).standing) s.right_tree ∙ leads.from;
             there = leads.there;
             live = leads.live;
-            prefix = leads.prefix ∙ ap (λ c. (tree_at trees x.tree).prefix ++ piece_bytes c Long) was.slice_is ∙ ap (λ t. (tree_at trees t).prefix ++ piece_bytes (slot_at z a).slice Long) (sym s.right_tree);
+            prefix =
+                leads.prefix ∙ ap (λ c. (tree_at trees x.tree).prefix ++ piece_bytes c Long) was.slice_is ∙ ap (λ t. (tree_at trees t).prefix ++ piece_bytes (slot_at z a).slice Long) (sym s.right_tree);
           }
 
       moved_link : (u : ℕ) → HasLink xs u → HasLink zs u
@@ -135,7 +137,9 @@ module _ (xs : List NodeView) (trees : List Tree) (i j : ℕ) (kept moved : List
         ]
       ]
 
-  pub sound_split : (gone : List Retired) (room : ℕ) → ArenaInvariant xs trees gone room → r.slots ≡ [] → r.version.root ≡ false → HaveKeys (tree_at trees x.tree).prefix kept → HaveKeys (tree_at trees r.tree).prefix moved → HasLinksOf x.slots kept → HasLinksOf x.slots moved
+  pub sound_split : (gone : List Retired) (room : ℕ) → ArenaInvariant xs trees gone room → r.slots ≡ [] → r.version.root ≡ false
+      → HaveKeys (tree_at trees x.tree).prefix kept → HaveKeys (tree_at trees r.tree).prefix moved → HasLinksOf x.slots kept
+      → HasLinksOf x.slots moved
       → ((a u : ℕ) → a < length x.slots → (get_or x.slots a any_entry).held ≡ Link u → HasSlot kept u (get_or x.slots a any_entry).slice ⊎ HasSlot moved u (get_or x.slots a any_entry).slice)
       → ArenaInvariant zs trees gone room
   sound_split gone room sound empty no_root left right back_kept back_moved forth = record {
@@ -149,7 +153,8 @@ module _ (xs : List NodeView) (trees : List Tree) (i j : ℕ) (kept moved : List
     enough = omega (arith, size, sound.enough);
   }
 
-  pub guarantee_split : (op : ℕ) → x.holder ≡ Some op → r.holder ≡ Some op → IsForest xs trees → ((q : ℕ) → (tree_at trees x.tree).standing ≡ Made q → q ≡ op) → NodesGuarantee op xs zs trees trees
+  pub guarantee_split : (op : ℕ) → x.holder ≡ Some op → r.holder ≡ Some op → IsForest xs trees
+      → ((q : ℕ) → (tree_at trees x.tree).standing ≡ Made q → q ≡ op) → NodesGuarantee op xs zs trees trees
   guarantee_split op held also forest mine =
       guarantee_on op xs ys zs trees trees trees
       (guarantee_set op xs trees i y li (changes_left_half op x kept r.low j held s.marked) mine)

@@ -50,7 +50,8 @@ pub sound_first : (room : ℕ) → 1 ≤ room → ArenaInvariant first_nodes fir
 sound_first room enough = record {
   arena = record {
     nodes = nodes_root [] 0 record { each = λ k lt. absurd (omega arith); pairs = λ k j lt. absurd (omega arith) } (λ k lt. absurd (omega arith));
-    ranged = ranged_root [] 0 (record { each = λ k lt. absurd (omega arith); pairs = λ k j lt. absurd (omega arith) }) (record { each = λ k lt. absurd (omega arith); ties = λ k j lt. absurd (omega arith) });
+    ranged =
+        ranged_root [] 0 (record { each = λ k lt. absurd (omega arith); pairs = λ k j lt. absurd (omega arith) }) (record { each = λ k lt. absurd (omega arith); ties = λ k j lt. absurd (omega arith) });
     forest = first_forest;
     layers = record { links = λ k lt. none k lt; linked = λ u lt live deep. absurd (shallow u lt deep) };
   };

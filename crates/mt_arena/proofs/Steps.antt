@@ -16,7 +16,8 @@ use Rattle.mt_arena.proofs.Retiring.{retired_set}
 use Rattle.mt_arena.proofs.Guarantees.{guarantee_set, points_set, PointsSo}
 
 -- a node changes and keeps its place among nodes, trees and links
-pub sound_set : (xs : List NodeView) (trees : List Tree) (gone : List Retired) (room i : ℕ) (y : NodeView) → i < length xs → ArenaInvariant xs trees gone room → AreNodes (set xs i y) → AreRanged (set xs i y)
+pub sound_set : (xs : List NodeView) (trees : List Tree) (gone : List Retired) (room i : ℕ) (y : NodeView) → i < length xs
+    → ArenaInvariant xs trees gone room → AreNodes (set xs i y) → AreRanged (set xs i y)
     → KeepsHome (node_at xs i) y → HasKeysOf trees y → KeepsLinks (node_at xs i) y → ArenaInvariant (set xs i y) trees gone room
 sound_set xs trees gone room i y within sound nodes ranged home keys links = record {
   arena = record {
@@ -34,7 +35,8 @@ pub keys_of : (xs : List NodeView) (trees : List Tree) (k : ℕ) → k < length 
 keys_of xs trees k within forest = (forest.homes k (node_at xs k).tree within (forest.tree_there k within)).keys refl
 
 -- one node changes: what others rely on
-pub step_set : (op : ℕ) (v : ArenaView) (i : ℕ) (y : NodeView) → i < length v.nodes → Changes op (at v i) y → IsOpen v i op → PointsSo op (set v.nodes i y) (at v i) y → Guarantee op v (with_node v i y)
+pub step_set : (op : ℕ) (v : ArenaView) (i : ℕ) (y : NodeView) → i < length v.nodes → Changes op (at v i) y → IsOpen v i op
+    → PointsSo op (set v.nodes i y) (at v i) y → Guarantee op v (with_node v i y)
 step_set op v i y within changes mine points = record {
   nodes = guarantee_set op v.nodes v.trees i y within changes mine;
   points = points_set op v.nodes i y within points;

@@ -14,7 +14,9 @@ use Rattle.mt_arena.proofs.Pairs.{here, there}
 use Rattle.mt_arena.proofs.HeldChanges.{changes_held}
 
 -- trees and their nodes, where the node is no root of a tree that stands
-pub forest_retired : (xs : List NodeView) (trees : List Tree) (i : ℕ) → i < length xs → IsForest xs trees → ((t : ℕ) → t < length trees → (tree_at trees t).root ≡ i → (tree_at trees t).standing ≡ Dead) → IsForest (set xs i (retired (node_at xs i))) trees
+pub forest_retired : (xs : List NodeView) (trees : List Tree) (i : ℕ) → i < length xs → IsForest xs trees
+    → ((t : ℕ) → t < length trees → (tree_at trees t).root ≡ i → (tree_at trees t).standing ≡ Dead)
+    → IsForest (set xs i (retired (node_at xs i))) trees
 forest_retired xs trees i within forest no_root =
     let x = node_at xs i in
     let y = retired x in
@@ -41,7 +43,8 @@ forest_retired xs trees i within forest no_root =
 
 -- the operation that takes it out holds it
 pub changes_retired : (op : ℕ) (x : NodeView) → x.holder ≡ Some op → Changes op x (retired x)
-changes_retired op x held = changes_held op x (retired x) held held refl refl refl (ages-deleted x.version) (λ some. some) (λ whole live. absurd (cc)) (λ whole still. record { slots = refl; separators = refl; children = refl })
+changes_retired op x held =
+    changes_held op x (retired x) held held refl refl refl (ages-deleted x.version) (λ some. some) (λ whole live. absurd (cc)) (λ whole still. record { slots = refl; separators = refl; children = refl })
 
 -- what does not stand is dead
 pub standing_dead : (s : Standing) → (s ≢ Dead → ⊥) → s ≡ Dead
@@ -50,7 +53,8 @@ standing_dead Live none = absurd (none (λ e. cc))
 standing_dead Dead none = refl
 
 -- what a record in the place of a tree's has as that one had it, each tree has as it had it
-pub same_of_trees : {A : Type 0} (f : Tree → A) (trees : List Tree) (t : ℕ) (tree : Tree) → t < length trees → f tree ≡ f (tree_at trees t) → (u : ℕ) → f (tree_at (set trees t tree) u) ≡ f (tree_at trees u)
+pub same_of_trees : {A : Type 0} (f : Tree → A) (trees : List Tree) (t : ℕ) (tree : Tree) → t < length trees → f tree ≡ f (tree_at trees t) → (u : ℕ)
+    → f (tree_at (set trees t tree) u) ≡ f (tree_at trees u)
 same_of_trees f trees t tree there same u = elim (cases_eq u t) [
   | inl is ↦ ap (λ v. f (tree_at (set trees t tree) v)) is ∙ ap f (get_or-set_same trees t tree no_tree there) ∙ same ∙ ap (λ v. f (tree_at trees v)) (sym is)
   | inr differ ↦ ap f (get_or-set_other trees t u tree no_tree differ)

@@ -34,7 +34,9 @@ pub read_tree : (trees : List Tree) (t : ℕ) (tree : Tree) → t < length trees
 read_tree trees t tree within is = is ∙ get_or_default trees t tree no_tree within
 
 -- links, where the records of trees keep prefix and standing
-pub layers_trees : (xs : List NodeView) (were are : List Tree) → length are ≡ length were → ((u : ℕ) → (tree_at are u).prefix ≡ (tree_at were u).prefix) → ((u : ℕ) → (tree_at are u).standing ≡ (tree_at were u).standing) → AreLayered xs were → AreLayered xs are
+pub layers_trees : (xs : List NodeView) (were are : List Tree) → length are ≡ length were
+    → ((u : ℕ) → (tree_at are u).prefix ≡ (tree_at were u).prefix) → ((u : ℕ) → (tree_at are u).standing ≡ (tree_at were u).standing)
+    → AreLayered xs were → AreLayered xs are
 layers_trees xs were are count prefix standing layers = record {
   links = λ k lt live a u lt_a is.
       let leads = layers.links k lt live a u lt_a is in
@@ -49,7 +51,8 @@ layers_trees xs were are count prefix standing layers = record {
 }
 
 -- one tree's record changes
-pub guarantee_record : (op : ℕ) (nodes : List NodeView) (trees : List Tree) (t : ℕ) (tree : Tree) → t < length trees → TreeChanges op (tree_at trees t) tree → NodesGuarantee op nodes nodes trees (set trees t tree)
+pub guarantee_record : (op : ℕ) (nodes : List NodeView) (trees : List Tree) (t : ℕ) (tree : Tree) → t < length trees
+    → TreeChanges op (tree_at trees t) tree → NodesGuarantee op nodes nodes trees (set trees t tree)
 guarantee_record op nodes trees t tree within change = record {
   count = omega arith;
   tree_count = omega (arith, length-set trees t tree);
@@ -98,7 +101,8 @@ module _ (v : ArenaView) (room more left right op : ℕ) (sound : ArenaInvariant
   lj = may.right_held.there
 
   kept : AreKept xs ws v.trees v.retired
-  kept = kept_set2 xs v.trees v.retired left right y z li lj may.grows.differ (record { slots = refl; deleted = refl; tree = refl }) (record { slots = refl; deleted = refl; tree = refl })
+  kept =
+      kept_set2 xs v.trees v.retired left right y z li lj may.grows.differ (record { slots = refl; deleted = refl; tree = refl }) (record { slots = refl; deleted = refl; tree = refl })
 
   lt_t : l.tree < length v.trees
   lt_t = sound.arena.forest.tree_there left li
@@ -153,7 +157,8 @@ module _ (v : ArenaView) (room more left right op : ℕ) (sound : ArenaInvariant
 
   -- nothing lags behind the new root
   pub settled_grown : IsSettled (ws ++ g ∷ []) (length xs) (node_at (ws ++ g ∷ []) (length xs))
-  settled_grown = subst (λ (n : NodeView). IsSettled (ws ++ g ∷ []) (length xs) n) (sym top_is) (settled_root_grow xs left right op sound.arena.nodes sound.arena.ranged may.grows)
+  settled_grown =
+      subst (λ (n : NodeView). IsSettled (ws ++ g ∷ []) (length xs) n) (sym top_is) (settled_root_grow xs left right op sound.arena.nodes sound.arena.ranged may.grows)
 
   -- a half names the new root, which the operation holds
   names_top : (x y : NodeView) → y.previous ≡ x.previous → y.parent ≡ Some (length xs) → PointsSo op (ws ++ g ∷ []) x y

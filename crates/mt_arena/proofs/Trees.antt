@@ -25,7 +25,8 @@ abbrev pub made : Bytes → ℕ → ℕ → Tree
 made prefix root op = record { prefix = prefix; root = root; standing = Made op }
 
 -- the new root and a tree that was there
-old_home : (xs : List NodeView) (trees : List Tree) (t : ℕ) → IsForest xs trees → t < length trees → IsHome (length xs) (fresh_root (length trees)) t (tree_at trees t)
+old_home : (xs : List NodeView) (trees : List Tree) (t : ℕ) → IsForest xs trees → t < length trees
+    → IsHome (length xs) (fresh_root (length trees)) t (tree_at trees t)
 old_home xs trees t forest lt = record {
   root_tree = λ e standing. absurd (omega (arith, e, (forest.each t lt).root_there));
   root_is = λ e standing. absurd (omega (arith, e, (forest.each t lt).root_there));
@@ -35,7 +36,8 @@ old_home xs trees t forest lt = record {
 }
 
 -- a node that was there and the new tree
-other_home : (xs : List NodeView) (trees : List Tree) (k op : ℕ) (prefix : Bytes) → IsForest xs trees → k < length xs → IsHome k (node_at xs k) (length trees) (made prefix (length xs) op)
+other_home : (xs : List NodeView) (trees : List Tree) (k op : ℕ) (prefix : Bytes) → IsForest xs trees → k < length xs
+    → IsHome k (node_at xs k) (length trees) (made prefix (length xs) op)
 other_home xs trees k op prefix forest lt = record {
   root_tree = λ e standing. absurd (omega (arith, e));
   root_is = λ e standing. absurd (omega (arith, e));

@@ -29,7 +29,8 @@ module _ (all : List Entry) (xs : List NodeView) (i j : ℕ) (y z : NodeView) wh
   r = node_at xs j
 
   -- the two halves as the clause of a split wants them
-  pub halved : (ys : List NodeView) → ys ≡ set (set xs i y) j z → IsParted all y.slots z.slots r.low → 0 < length y.slots → 0 < length z.slots → y ≡ left_half x y.slots r.low j → z ≡ right_half x r z.slots i → AreHalved all xs ys i j
+  pub halved : (ys : List NodeView) → ys ≡ set (set xs i y) j z → IsParted all y.slots z.slots r.low → 0 < length y.slots → 0 < length z.slots
+      → y ≡ left_half x y.slots r.low j → z ≡ right_half x r z.slots i → AreHalved all xs ys i j
   halved ys are parted some_kept some_moved left right = record {
     kept = y.slots;
     moved = z.slots;
@@ -40,7 +41,8 @@ module _ (all : List Entry) (xs : List NodeView) (i j : ℕ) (y z : NodeView) wh
   }
 
 -- and where the right one stands before the left one
-pub both_back : (xs : List NodeView) (i j : ℕ) (y z : NodeView) → i ≢ j → j ≤ i → i < length xs → set (take i xs) j z ++ set (drop i xs) 0 y ≡ set (set xs i y) j z
+pub both_back : (xs : List NodeView) (i j : ℕ) (y z : NodeView) → i ≢ j → j ≤ i → i < length xs
+    → set (take i xs) j z ++ set (drop i xs) 0 y ≡ set (set xs i y) j z
 both_back xs i j y z differ le within = both_set xs j i z y (omega (arith, differ, le)) within ∙ set_comm xs j i z y (λ e. differ (sym e))
 
 -- what was read of the two parts
@@ -49,7 +51,8 @@ in_front xs front i j d is lt within = ap (λ ys. get_or ys i d) is ∙ get_or-t
 
 -- the first node behind a cut is the one of that number
 pub in_back : (xs back : List NodeView) (j : ℕ) (d : NodeView) → back ≡ drop j xs → j < length xs → get_or back 0 d ≡ node_at xs j
-in_back xs back j d is within = ap (λ ys. get_or ys 0 d) is ∙ get_or-drop j xs 0 d ∙ ap (λ k. get_or xs k d) {x = j + 0} {y = j} (omega arith) ∙ get_or_default xs j d no_node within
+in_back xs back j d is within =
+    ap (λ ys. get_or ys 0 d) is ∙ get_or-drop j xs 0 d ∙ ap (λ k. get_or xs k d) {x = j + 0} {y = j} (omega arith) ∙ get_or_default xs j d no_node within
 
 -- both halves, where the left one stands before the right one, and behind it
 module _ (entry : Option Entry) (xs front back : List NodeView) (i j : ℕ) (d e y z : NodeView) where

@@ -17,7 +17,8 @@ use Rattle.mt_arena.proofs.Pairs.{are_set3}
 use Rattle.mt_arena.proofs.Ranges.{not_empty, length_bounds, separators_rise, one_parent, one_place}
 
 -- each element of a list with one less
-all_remove : (P : ℕ → Type 0) (xs : List ℕ) (at : ℕ) → at < length xs → ((i : ℕ) → i < length xs → P (get_or xs i 0)) → (i : ℕ) → i < length (remove xs at) → P (get_or (remove xs at) i 0)
+all_remove : (P : ℕ → Type 0) (xs : List ℕ) (at : ℕ) → at < length xs → ((i : ℕ) → i < length xs → P (get_or xs i 0)) → (i : ℕ)
+    → i < length (remove xs at) → P (get_or (remove xs at) i 0)
 all_remove P xs at within all i lt =
     let size = length-remove xs at within in
     elim (cases_lt i at) [
@@ -112,10 +113,12 @@ module _ (xs : List NodeView) (i j q a : ℕ) (nodes : AreNodes xs) (ranged : Ar
   not_own_next : x.next ≢ Some j
   not_own_next e = omega (arith, range, ap end_of (((nodes.pairs j j lj lj).next e).meets))
 
-  only_child : (k b : ℕ) → k < length xs → k ≢ q → b < length (node_at xs k).children → get_or (node_at xs k).children b 0 ≡ j → (node_at xs k).version.deleted ≡ false → ⊥
+  only_child : (k b : ℕ) → k < length xs → k ≢ q → b < length (node_at xs k).children → get_or (node_at xs k).children b 0 ≡ j
+      → (node_at xs k).version.deleted ≡ false → ⊥
   only_child k b lk nq lb is live = nq (one_parent xs q k j a b nodes lq lk lj f.parent_live live f.in_range f.child lb is)
 
-  only_left : (k b : ℕ) → k < length xs → k ≢ q → b < length (node_at xs k).children → get_or (node_at xs k).children b 0 ≡ i → (node_at xs k).version.deleted ≡ false → ⊥
+  only_left : (k b : ℕ) → k < length xs → k ≢ q → b < length (node_at xs k).children → get_or (node_at xs k).children b 0 ≡ i
+      → (node_at xs k).version.deleted ≡ false → ⊥
   only_left k b lk nq lb is live = nq (one_parent xs q k i (a - 1) b nodes lq lk li f.parent_live live la f.left_child lb is)
 
   no_child : (b : ℕ) → b < length l.children → ⊥
@@ -265,7 +268,8 @@ module _ (xs : List NodeView) (i j q a : ℕ) (nodes : AreNodes xs) (ranged : Ar
   -- the left neighbour beside any node but the removed one
   left_from : (k : ℕ) (m : NodeView) → k ≢ j → IsPair i l k m → IsPair j x k m → IsPair i y k m
   left_from k m nj g h = record {
-    next = λ e. record { meets = (h.next e).meets; tree = (h.next e).tree ∙ ((nodes.pairs i j li lj).next f.next).tree; level = (h.next e).level ∙ ((nodes.pairs i j li lj).next f.next).level; live = λ live. (h.next e).live f.removed_live };
+    next =
+        λ e. record { meets = (h.next e).meets; tree = (h.next e).tree ∙ ((nodes.pairs i j li lj).next f.next).tree; level = (h.next e).level ∙ ((nodes.pairs i j li lj).next f.next).level; live = λ live. (h.next e).live f.removed_live };
     named = g.named;
     child = λ b lt. absurd (no_child b lt);
     apart = λ differ tree level live also s hy hm. elim (cases_lt s x.low) [
@@ -274,7 +278,8 @@ module _ (xs : List NodeView) (i j q a : ℕ) (nodes : AreNodes xs) (ranged : Ar
     ];
   }
 
-  left_to : (k : ℕ) (m : NodeView) → k ≢ j → IsPair k m i l → IsPair k m j x → ((b : ℕ) → b < length m.children → get_or m.children b 0 ≡ i → m.version.deleted ≡ false → IsChild m b y) → IsPair k m i y
+  left_to : (k : ℕ) (m : NodeView) → k ≢ j → IsPair k m i l → IsPair k m j x
+      → ((b : ℕ) → b < length m.children → get_or m.children b 0 ≡ i → m.version.deleted ≡ false → IsChild m b y) → IsPair k m i y
   left_to k m nj g h child = record {
     next = g.next;
     named = λ _ free. absurd (f.left_held free);
@@ -294,7 +299,8 @@ module _ (xs : List NodeView) (i j q a : ℕ) (nodes : AreNodes xs) (ranged : Ar
     apart = λ differ tree level live. absurd (cc);
   }
 
-  removed_to : (k : ℕ) (m : NodeView) → IsPair k m j x → (m.next ≡ Some j → m.version.deleted ≡ false → ⊥) → ((b : ℕ) → b < length m.children → get_or m.children b 0 ≡ j → m.version.deleted ≡ false → ⊥) → IsPair k m j w
+  removed_to : (k : ℕ) (m : NodeView) → IsPair k m j x → (m.next ≡ Some j → m.version.deleted ≡ false → ⊥)
+      → ((b : ℕ) → b < length m.children → get_or m.children b 0 ≡ j → m.version.deleted ≡ false → ⊥) → IsPair k m j w
   removed_to k m h none childless = record {
     next = λ e. record { meets = (h.next e).meets; tree = (h.next e).tree; level = (h.next e).level; live = λ live. absurd (none e live) };
     named = λ _ free. absurd (f.removed_held free);
@@ -320,11 +326,13 @@ module _ (xs : List NodeView) (i j q a : ℕ) (nodes : AreNodes xs) (ranged : Ar
   }
 
   -- any other node has neither of the two as a child
-  stays_apart : (k : ℕ) → k < length xs → k ≢ q → (b : ℕ) → b < length (node_at xs k).children → get_or (node_at xs k).children b 0 ≡ i → (node_at xs k).version.deleted ≡ false → IsChild (node_at xs k) b y
+  stays_apart : (k : ℕ) → k < length xs → k ≢ q → (b : ℕ) → b < length (node_at xs k).children → get_or (node_at xs k).children b 0 ≡ i
+      → (node_at xs k).version.deleted ≡ false → IsChild (node_at xs k) b y
   stays_apart k lk nq b lt is live = absurd (only_left k b lk nq lt is live)
 
   parent_self : IsPair q v q v
-  parent_self = parent_from q v (parent_to q p (nodes.pairs q q lq lq)) (λ b lt is. absurd (omega (arith, (other_child q lq (λ e. differ_iq (sym e)) b lt is).level)))
+  parent_self =
+      parent_from q v (parent_to q p (nodes.pairs q q lq lq)) (λ b lt is. absurd (omega (arith, (other_child q lq (λ e. differ_iq (sym e)) b lt is).level)))
 
   left_parent : IsPair i y q v
   left_parent = left_from q v (λ e. differ_jq (sym e)) (parent_to i l (nodes.pairs i q li lq)) (parent_to j x (nodes.pairs j q lj lq))
@@ -345,7 +353,8 @@ module _ (xs : List NodeView) (i j q a : ℕ) (nodes : AreNodes xs) (ranged : Ar
   parent_removed =
       let h = nodes.pairs q j lq lj in
       record {
-        next = λ e. record { meets = (h.next e).meets; tree = (h.next e).tree; level = (h.next e).level; live = λ live. absurd (only_next q lq (λ e. differ_iq (sym e)) e live) };
+        next =
+            λ e. record { meets = (h.next e).meets; tree = (h.next e).tree; level = (h.next e).level; live = λ live. absurd (only_next q lq (λ e. differ_iq (sym e)) e live) };
         named = λ _ free. absurd (f.removed_held free);
         child = λ b lt e live. absurd (removed_no_child b lt e);
         apart = λ differ tree level live also. absurd (cc);

@@ -179,7 +179,8 @@ module _ (v : ArenaView) (room parent left node step op : ℕ) (sound : ArenaInv
       subst AreRanged marked (ranged_marked zs parent z.slots (inserting z).version (omega (arith, lq, size_us, size)) (ranged_unlinked xs left node parent a nodes ranged unlinks) refl (λ splits. splits) (λ whole. whole))
 
   -- trees: a node that has a parent is no root
-  same_root : (n m : NodeView) → m.version.deleted ≡ n.version.deleted → m.version.root ≡ n.version.root → m.parent ≡ n.parent → m.low ≡ n.low → m.reach ≡ n.reach → (IsRoot n → IsRoot m)
+  same_root : (n m : NodeView) → m.version.deleted ≡ n.version.deleted → m.version.root ≡ n.version.root → m.parent ≡ n.parent → m.low ≡ n.low
+      → m.reach ≡ n.reach → (IsRoot n → IsRoot m)
   same_root n m deleted flag above low reach h = record {
     live = deleted ∙ h.live;
     flag = flag ∙ h.flag;
@@ -192,16 +193,19 @@ module _ (v : ArenaView) (room parent left node step op : ℕ) (sound : ArenaInv
   keeps_parent = record { tree = refl; deleted = refl; flag = refl; root = same_root p q refl refl refl refl refl }
 
   forest_ys : IsForest ys v.trees
-  forest_ys = forest_set xs v.trees left y li sound.arena.forest (record { tree = refl; deleted = refl; flag = refl; root = λ root. absurd (left_child.knows root.parentless) }) (keys_of xs v.trees left li sound.arena.forest)
+  forest_ys =
+      forest_set xs v.trees left y li sound.arena.forest (record { tree = refl; deleted = refl; flag = refl; root = λ root. absurd (left_child.knows root.parentless) }) (keys_of xs v.trees left li sound.arena.forest)
 
   no_root : (t : ℕ) → t < length v.trees → (tree_at v.trees t).root ≡ node → (tree_at v.trees t).standing ≡ Dead
   no_root t lt is = standing_dead ((tree_at v.trees t).standing) (λ stands. child.knows ((sound.arena.forest.homes node t lj lt).root_is is stands).parentless)
 
   forest_us : IsForest us v.trees
-  forest_us = subst (λ (n : NodeView). IsForest (set ys node (retired n)) v.trees) at_node (forest_retired ys v.trees node (omega (arith, lj, size_ys)) forest_ys no_root)
+  forest_us =
+      subst (λ (n : NodeView). IsForest (set ys node (retired n)) v.trees) at_node (forest_retired ys v.trees node (omega (arith, lj, size_ys)) forest_ys no_root)
 
   forest_out : IsForest new v.trees
-  forest_out = forest_set us v.trees parent q (omega (arith, lq, size_us)) forest_us (subst (λ (n : NodeView). KeepsHome n q) (sym at_parent) keeps_parent) (keys_of xs v.trees parent lq sound.arena.forest)
+  forest_out =
+      forest_set us v.trees parent q (omega (arith, lq, size_us)) forest_us (subst (λ (n : NodeView). KeepsHome n q) (sym at_parent) keeps_parent) (keys_of xs v.trees parent lq sound.arena.forest)
 
   -- links, and the list of the retired
   keeps_left : KeepsLinks l y
@@ -245,14 +249,17 @@ module _ (v : ArenaView) (room parent left node step op : ℕ) (sound : ArenaInv
 
   turns_parent : MayTurn op v.trees p q
   turns_parent = record {
-    changes = changes_on op p (inserting p) q (changes_slots op p p.slots may.held.holder) (changes_without_child op (inserting p) a may.held.holder refl may.beside.not_first may.beside.in_range);
+    changes =
+        changes_on op p (inserting p) q (changes_slots op p p.slots may.held.holder) (changes_without_child op (inserting p) a may.held.holder refl may.beside.not_first may.beside.in_range);
     mine = may.mine;
   }
 
   guarantee_out : Guarantee op v (record (without_node v parent left node step) { nodes = new })
   guarantee_out = record {
-    nodes = guarantee_set3 op xs v.trees left node parent y w q li lj lq apart_nodes apart_left apart_node sound.arena.forest turns_left turns_node turns_parent;
-    points = points_each op xs new (length-set us parent q ∙ size_us) (each_set3 (λ k n. PointsSo op new (at v k) n) xs left node parent y w q li lj lq apart_nodes apart_left apart_node
+    nodes =
+        guarantee_set3 op xs v.trees left node parent y w q li lj lq apart_nodes apart_left apart_node sound.arena.forest turns_left turns_node turns_parent;
+    points =
+        points_each op xs new (length-set us parent q ∙ size_us) (each_set3 (λ k n. PointsSo op new (at v k) n) xs left node parent y w q li lj lq apart_nodes apart_left apart_node
         (names_same op new l y refl refl) (names_same op new x w refl refl) (names_same op new p q refl refl) (λ k lt ni nj nq. names_same op new (at v k) (at v k) refl refl));
   }
 
@@ -286,7 +293,8 @@ module _ (v : ArenaView) (room parent left node step op : ℕ) (sound : ArenaInv
 
   -- the removed node names nobody
   other_than : (k : ℕ) → (node_at new k).version.deleted ≡ false → node ≢ k
-  other_than k live same = absurd (let dead = sym (ap (λ (n : NodeView). n.version.deleted) new_node) ∙ ap (λ k. (node_at new k).version.deleted) same ∙ live in cc)
+  other_than k live same =
+      absurd (let dead = sym (ap (λ (n : NodeView). n.version.deleted) new_node) ∙ ap (λ k. (node_at new k).version.deleted) same ∙ live in cc)
 
   parent_settled : IsSettled xs parent p → IsSettled new parent (node_at new parent)
   parent_settled settled = subst (λ (n : NodeView). IsSettled new parent n) (sym new_parent) (record {
@@ -305,8 +313,10 @@ module _ (v : ArenaView) (room parent left node step op : ℕ) (sound : ArenaInv
 
   left_followed : IsSettled xs left l → IsFollowedBy new left (node_at new left) None
   left_followed settled = subst (λ (n : NodeView). IsFollowedBy new left n None) (sym new_left) (record {
-    followers = λ k is. let was = follows_was xs new size each left k is in absurd (other_than k is.2 (same_Some _ _ (sym may.next ∙ settled.previous k was.0 was.1 was.2)));
-    children = λ k is. let was = under_was xs new size each left k is in absurd (childless l k ((nodes.each left li).children.childless left_border) (settled.parent k was.0 was.1 was.2));
+    followers =
+        λ k is. let was = follows_was xs new size each left k is in absurd (other_than k is.2 (same_Some _ _ (sym may.next ∙ settled.previous k was.0 was.1 was.2)));
+    children =
+        λ k is. let was = under_was xs new size each left k is in absurd (childless l k ((nodes.each left li).children.childless left_border) (settled.parent k was.0 was.1 was.2));
     reach = (nodes.each node lj).reach.exact may.whole;
     stable = settled.stable;
     rooted = settled.rooted;
@@ -315,7 +325,8 @@ module _ (v : ArenaView) (room parent left node step op : ℕ) (sound : ArenaInv
   node_followed : IsSettled xs node x → IsFollowedBy new node (node_at new node) x.next
   node_followed settled = subst (λ (n : NodeView). IsFollowedBy new node n x.next) (sym new_node) (record {
     followers = λ k is. let was = follows_was xs new size each node k is in settled.previous k was.0 was.1 was.2;
-    children = λ k is. let was = under_was xs new size each node k is in absurd (childless x k ((nodes.each node lj).children.childless may.border) (settled.parent k was.0 was.1 was.2));
+    children =
+        λ k is. let was = under_was xs new size each node k is in absurd (childless x k ((nodes.each node lj).children.childless may.border) (settled.parent k was.0 was.1 was.2));
     reach = settled.reach;
     stable = settled.stable;
     rooted = λ live. absurd (cc);
@@ -330,6 +341,7 @@ module _ (v : ArenaView) (room parent left node step op : ℕ) (sound : ArenaInv
   pub node_unlinked : IsSettled xs node x → IsFollowedBy (nodes_without xs parent left node) node (node_at (nodes_without xs parent left node) node) x.next
   node_unlinked settled = subst (λ (ns : List NodeView). IsFollowedBy ns node (node_at ns node) x.next) (sym new_is) (node_followed settled)
 
-  pub others_unlinked : (k : ℕ) → k ≢ parent → k ≢ left → k ≢ node → IsSettled xs k (at v k) → IsSettled (nodes_without xs parent left node) k (node_at (nodes_without xs parent left node) k)
+  pub others_unlinked : (k : ℕ) → k ≢ parent → k ≢ left → k ≢ node → IsSettled xs k (at v k)
+      → IsSettled (nodes_without xs parent left node) k (node_at (nodes_without xs parent left node) k)
   others_unlinked k np nl nn settled = subst (λ (ns : List NodeView). IsSettled ns k (node_at ns k)) (sym new_is)
       (settled_same xs new size each k (there us parent k q np ∙ there ys node k w nn ∙ there xs left k y nl) settled)

@@ -16,7 +16,8 @@ unlocked_from k n j m h = record {
 }
 
 -- the second one, behind which nothing lags
-unlocked_to : (nodes : List NodeView) (k i : ℕ) (x : NodeView) → k < length nodes → IsSettled nodes i x → IsPair k (node_at nodes k) i x → IsPair k (node_at nodes k) i (unlocked x)
+unlocked_to : (nodes : List NodeView) (k i : ℕ) (x : NodeView) → k < length nodes → IsSettled nodes i x → IsPair k (node_at nodes k) i x
+    → IsPair k (node_at nodes k) i (unlocked x)
 unlocked_to nodes k i x within settled h = record {
   next = h.next;
   named = λ live free. record {

@@ -36,7 +36,8 @@ pub record Changes (op : ℕ) (n m : NodeView) : Type 0 where
   -- while its range part stands unmarked, its range only widens
   pub widens : range_age n.version ≡ range_age m.version → n.version.splitting ≡ false → m.version.deleted ≡ false → end_of n.high ≤ end_of m.high
   -- while its version stands unmarked, its keys and children stand
-  pub keys : range_age n.version ≡ range_age m.version → insert_age n.version ≡ insert_age m.version → n.version.splitting ≡ false → n.version.inserting ≡ false → HasSameKeys n m
+  pub keys : range_age n.version ≡ range_age m.version → insert_age n.version ≡ insert_age m.version → n.version.splitting ≡ false
+      → n.version.inserting ≡ false → HasSameKeys n m
   -- another operation's lock protects it
   pub held : (q : ℕ) → q ≢ op → n.holder ≡ Some q → IsUntouched n m
   -- and no other operation comes to hold it
@@ -63,7 +64,9 @@ pub record NodesGuarantee (op : ℕ) (old new : List NodeView) (were are : List 
 
 -- neighbours before and parents come to be named by this operation alone: each is as it was, or names a node that it holds
 pub record PointsOnly (op : ℕ) (old new : List NodeView) : Type 0 where
-  pub previous : (k j : ℕ) → k < length old → j < length old → (node_at new k).previous ≡ Some j → (node_at new j).holder ≢ Some op → (node_at old k).previous ≡ Some j
-  pub parent : (k j : ℕ) → k < length old → j < length old → (node_at new k).parent ≡ Some j → (node_at new j).holder ≢ Some op → (node_at old k).parent ≡ Some j
+  pub previous : (k j : ℕ) → k < length old → j < length old → (node_at new k).previous ≡ Some j → (node_at new j).holder ≢ Some op
+      → (node_at old k).previous ≡ Some j
+  pub parent : (k j : ℕ) → k < length old → j < length old → (node_at new k).parent ≡ Some j → (node_at new j).holder ≢ Some op
+      → (node_at old k).parent ≡ Some j
   pub new_previous : (k j : ℕ) → length old ≤ k → k < length new → j < length old → (node_at new k).previous ≡ Some j → (node_at new j).holder ≡ Some op
   pub new_parent : (k j : ℕ) → length old ≤ k → k < length new → j < length old → (node_at new k).parent ≡ Some j → (node_at new j).holder ≡ Some op

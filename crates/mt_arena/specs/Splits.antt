@@ -79,4 +79,5 @@ abbrev pub inner_left : NodeView → NodeView
 inner_left wide = record wide { separators = take 8 wide.separators; children = take 9 wide.children; high = Some (middle wide) }
 
 abbrev pub inner_right : NodeView → ℕ → NodeView
-inner_right wide op = record (bare false wide.tree wide.level (middle wide) op) { separators = drop 9 wide.separators; children = drop 9 wide.children; high = wide.high; reach = wide.reach }
+inner_right wide op =
+    record (bare false wide.tree wide.level (middle wide) op) { separators = drop 9 wide.separators; children = drop 9 wide.children; high = wide.high; reach = wide.reach }

@@ -50,7 +50,8 @@ nodes_below : (c : Core) → StateInvariant c → IsArena c.arena.nodes c.arena.
 nodes_below c h arena k within = any_below_live c.arena.nodes arena.nodes arena.ranged k within (h.unremoved.live k within)
 
 -- at whatever phase an operation stands, it may find its way again, and has made no step so far
-starts_at : (p : Phase) (c : Core) (o : ℕ) (op : Operation) → StateInvariant c → IsArena c.arena.nodes c.arena.trees → is_done p ≡ false → IsKeptAt p c o op → HasMade p (live_count c.arena.nodes) 0 c.arena op.walk op.splits
+starts_at : (p : Phase) (c : Core) (o : ℕ) (op : Operation) → StateInvariant c → IsArena c.arena.nodes c.arena.trees → is_done p ≡ false
+    → IsKeptAt p c o op → HasMade p (live_count c.arena.nodes) 0 c.arena op.walk op.splits
 starts_at Enter c o op h arena left kept = omega arith
 starts_at Pick c o op h arena left kept = inr (omega arith)
 starts_at Child c o op h arena left kept = inr (omega arith)
@@ -69,7 +70,8 @@ starts_at SplitPrev c o op h arena left kept = omega arith
 starts_at LockParent c o op h arena left kept = omega arith
 starts_at InsertChild c o op h arena left kept = omega arith
 starts_at InteriorSplit c o op h arena left kept = omega arith
-starts_at Reparent c o op h arena left kept = omega (arith, (arena.nodes.each (last_of op.splits).right kept.climbs.splits.parted.right.held.there).children.interior.room)
+starts_at Reparent c o op h arena left kept =
+    omega (arith, (arena.nodes.each (last_of op.splits).right kept.climbs.splits.parted.right.held.there).children.interior.room)
 starts_at RootGrow c o op h arena left kept = omega arith
 starts_at MakeLayer c o op h arena left kept = omega arith
 starts_at MarkUnstable c o op h arena left kept = omega arith
@@ -79,7 +81,8 @@ starts_at Unlock c o op h arena left kept = omega arith
 starts_at Done c o op h arena left kept = absurd (let no = sym left in cc)
 
 -- nobody is in the way of an operation while nobody else holds a node
-pub unhindered_first : (c : Core) (o : ℕ) (op : OperationView) → StateInvariant c → IsArena c.arena.nodes c.arena.trees → IsUndisturbed (shown c) o op → IsUnhindered c o (live_count c.arena.nodes) 0
+pub unhindered_first : (c : Core) (o : ℕ) (op : OperationView) → StateInvariant c → IsArena c.arena.nodes c.arena.trees → IsUndisturbed (shown c) o op
+    → IsUnhindered c o (live_count c.arena.nodes) 0
 unhindered_first c o op h arena u =
     let inside = inside_of c.table o op u.there in
     let inner : Operation = inside.0 in
@@ -111,10 +114,12 @@ most_unlock (x ∷ halves) height = omega arith
 
 -- at most 31 layers are above its own
 most_above : (height : ℕ) (w : Walk) → above height w ≤ astray height + 31 * (3 * height + 12)
-most_above height w = let capped : min w.layer 31 * (3 * height + 12) ≤ 31 * (3 * height + 12) = mul-le-mul_right (3 * height + 12) (min-le_right w.layer 31) in omega (arith, capped)
+most_above height w =
+    let capped : min w.layer 31 * (3 * height + 12) ≤ 31 * (3 * height + 12) = mul-le-mul_right (3 * height + 12) (min-le_right w.layer 31) in omega (arith, capped)
 
 -- at no phase has it made many steps
-few_made : (p : Phase) (c : Core) (o : ℕ) (op : Operation) (height made : ℕ) → IsKeptAt p c o op → above height op.walk ≤ astray height + 31 * (3 * height + 12) → (¬ MayHaveGrown p op.splits.halves.items → AreBelow c.arena height)
+few_made : (p : Phase) (c : Core) (o : ℕ) (op : Operation) (height made : ℕ) → IsKeptAt p c o op
+    → above height op.walk ≤ astray height + 31 * (3 * height + 12) → (¬ MayHaveGrown p op.splits.halves.items → AreBelow c.arena height)
     → HasMade p height made c.arena op.walk op.splits → made < 256 * (height + 64)
 few_made Enter c o op height made kept most below few = omega (arith, few, most)
 few_made Pick c o op height made kept most below few = elim few [ inl now ↦ omega (arith, now.1, most) | inr strays ↦ omega (arith, strays) ]
@@ -134,10 +139,13 @@ few_made Publish c o op height made kept most below few = omega (arith, few, mos
 few_made SplitStart c o op height made kept most below few = omega (arith, few, most)
 few_made SplitMove c o op height made kept most below few = omega (arith, few, most)
 few_made SplitPrev c o op height made kept most below few = omega (arith, few, most)
-few_made LockParent c o op height made kept most below few = omega (arith, few, most, split_below c.arena height o op (below (λ grown. grown)) kept.climbs.named.splits)
+few_made LockParent c o op height made kept most below few =
+    omega (arith, few, most, split_below c.arena height o op (below (λ grown. grown)) kept.climbs.named.splits)
 few_made InsertChild c o op height made kept most below few = omega (arith, few, most)
-few_made InteriorSplit c o op height made kept most below few = omega (arith, few, most, split_below c.arena height o op (below (λ grown. grown)) kept.climbs.at_parent.named.splits)
-few_made Reparent c o op height made kept most below few = omega (arith, few, most, kept.climbs.more, split_below c.arena height o op (below (λ grown. grown)) kept.climbs.splits)
+few_made InteriorSplit c o op height made kept most below few =
+    omega (arith, few, most, split_below c.arena height o op (below (λ grown. grown)) kept.climbs.at_parent.named.splits)
+few_made Reparent c o op height made kept most below few =
+    omega (arith, few, most, kept.climbs.more, split_below c.arena height o op (below (λ grown. grown)) kept.climbs.splits)
 few_made RootGrow c o op height made kept most below few = omega (arith, few, most)
 few_made MakeLayer c o op height made kept most below few = omega (arith, few, most)
 few_made MarkUnstable c o op height made kept most below few = omega (arith, few, most)
@@ -174,7 +182,8 @@ pub record GoesAlone (old v : Core) (o : ℕ) (op : OperationView) (made : ℕ) 
   pub run : IsRunning (shown old) (shown v) o op made
   pub free : IsUnhindered v o (live_count old.arena.nodes) made
 
-pub alone_first : (old : Core) (o : ℕ) (op : OperationView) → StateInvariant old → IsArena old.arena.nodes old.arena.trees → IsAlone (shown old) o op → GoesAlone old old o op 0
+pub alone_first : (old : Core) (o : ℕ) (op : OperationView) → StateInvariant old → IsArena old.arena.nodes old.arena.trees → IsAlone (shown old) o op
+    → GoesAlone old old o op 0
 alone_first old o op h arena alone = record { run = running_first (shown old) o op alone; free = unhindered_first old o op h arena (undisturbed_alone (shown old) o op alone) }
 
 -- an operation that moved goes on
@@ -189,7 +198,8 @@ module _ (old v : Core) (o : ℕ) (op : OperationView) (made : ℕ) (h : StateIn
   inner = g.free.op
 
   few : made < most_steps (shown old)
-  few = few_made inner.walk.phase v o inner (live_count old.arena.nodes) made (h.ops o inner g.free.there).kept (most_above (live_count old.arena.nodes) inner.walk) g.free.point.below g.free.point.few
+  few =
+      few_made inner.walk.phase v o inner (live_count old.arena.nodes) made (h.ops o inner g.free.there).kept (most_above (live_count old.arena.nodes) inner.walk) g.free.point.below g.free.point.few
 
   -- what is shown of it
   same : g.run.after ≡ view_of inner
@@ -246,7 +256,8 @@ never_again v o holder free held =
     held.other (free way.0 holder way.1 way.2)
 
 -- each answer but Moved is Done, or that there is no memory
-pub alone_stops : (old v w : Core) (o : ℕ) (op : OperationView) (made : ℕ) (answer : Move) → StateInvariant v → IsAlone (shown old) o op → GoesAlone old v o op made
+pub alone_stops : (old v w : Core) (o : ℕ) (op : OperationView) (made : ℕ) (answer : Move) → StateInvariant v → IsAlone (shown old) o op
+    → GoesAlone old v o op made
     → answer ≢ Moved → StepsOn v w o answer → EndsAlone (shown old) (shown w) o op answer
 alone_stops old v w o op made Moved h alone g other s = absurd (other refl)
 alone_stops old v w o op made DoneMove h alone g other s = ends_done old v o op made h g (shown w) s.tells
@@ -263,13 +274,15 @@ module _ (old v : Core) (o made : ℕ) (h : StateInvariant v) (u : IsUnhindered 
   met = u.op
 
   made_few : made < most_steps (shown old)
-  made_few = few_made met.walk.phase v o met (live_count old.arena.nodes) made (h.ops o met u.there).kept (most_above (live_count old.arena.nodes) met.walk) u.point.below u.point.few
+  made_few =
+      few_made met.walk.phase v o met (live_count old.arena.nodes) made (h.ops o met u.there).kept (most_above (live_count old.arena.nodes) met.walk) u.point.below u.point.few
 
   met_left : HasStep (shown v) o
   met_left = (view_of met, shown_there v.table o met u.there, left_at met.walk.phase v met (live_count old.arena.nodes) made u.point.few)
 
 -- each answer but Moved is Done, or that there is no memory
-pub undisturbed_stops : (old v w : Core) (o : ℕ) (op : OperationView) (made : ℕ) (answer : Move) → StateInvariant v → IsUndisturbed (shown old) o op → v.steps ≡ old.steps + made
+pub undisturbed_stops : (old v w : Core) (o : ℕ) (op : OperationView) (made : ℕ) (answer : Move) → StateInvariant v → IsUndisturbed (shown old) o op
+    → v.steps ≡ old.steps + made
     → IsUnhindered v o (live_count old.arena.nodes) made → answer ≢ Moved → StepsOn v w o answer → EndsSoon (shown old) (shown w) o answer
 undisturbed_stops old v w o op made Moved h from number u other s = absurd (other refl)
 undisturbed_stops old v w o op made DoneMove h from number u other s = record {

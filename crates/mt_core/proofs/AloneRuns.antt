@@ -46,10 +46,12 @@ module _ (v old : StateView) (a op : OperationView) (same : IsSameAsked op a) (q
 
 -- a command whose reply tells of no change makes the maps that were there
 maps_stay : (old : StateView) (op : OperationView) → is_change (reply_of (quota_of old op.tenant) op.command (tenant_map op.tenant (contents_of old))) ≡ false
-    → (t : ℕ) → tenant_map t (contents_of old) ≡ maps_after_one (quota_of old) (Some (record { tenant = op.tenant; command = op.command })) (λ u. tenant_map u (contents_of old)) t
+    → (t : ℕ)
+    → tenant_map t (contents_of old) ≡ maps_after_one (quota_of old) (Some (record { tenant = op.tenant; command = op.command })) (λ u. tenant_map u (contents_of old)) t
 maps_stay old op look t = by (eqb t op.tenant) refl
   where
-    by : (b : Bool) → eqb t op.tenant ≡ b → tenant_map t (contents_of old) ≡ cond b (map_after (quota_of old t) op.command (tenant_map t (contents_of old))) (tenant_map t (contents_of old))
+    by : (b : Bool) → eqb t op.tenant ≡ b
+        → tenant_map t (contents_of old) ≡ cond b (map_after (quota_of old t) op.command (tenant_map t (contents_of old))) (tenant_map t (contents_of old))
     by false e = refl
     by true e =
         subst (λ u. tenant_map u (contents_of old) ≡ map_after (quota_of old u) op.command (tenant_map u (contents_of old))) (sym (eqb-true t op.tenant e))
@@ -118,7 +120,8 @@ from_enter : (old : StateView) (op : OperationView) (p q : Phase) (told : Option
 from_enter old op p q told is notes = subst (λ x. Notes old op x q told) is notes
 
 -- an outcome of another reply tells of no change
-other_reply : (told : Option Outcome) (o : Outcome) (reply : Reply) (m : ℕ) → told ≡ Some o → told ≡ Some (record { reply = reply; at = m }) → is_change o.reply ≡ true → is_change reply ≡ true
+other_reply : (told : Option Outcome) (o : Outcome) (reply : Reply) (m : ℕ) → told ≡ Some o → told ≡ Some (record { reply = reply; at = m })
+    → is_change o.reply ≡ true → is_change reply ≡ true
 other_reply told o reply m is says changes =
     let same : o ≡ record { reply = reply; at = m } = same_Some o (record { reply = reply; at = m }) (sym is ∙ says) in
     sym (ap (λ (x : Outcome). is_change x.reply) same) ∙ changes
@@ -130,7 +133,8 @@ no_change : false ≡ true → ⊥
 no_change e = cc
 
 -- an outcome that tells of a change was set by a step to a phase in which nothing is placed any more, or before
-sets : (old : StateView) (op : OperationView) (p q : Phase) (told : Option Outcome) (o : Outcome) → MayFollow p q → Notes old op p q told → told ≡ Some o → is_change o.reply ≡ true
+sets : (old : StateView) (op : OperationView) (p q : Phase) (told : Option Outcome) (o : Outcome) → MayFollow p q → Notes old op p q told
+    → told ≡ Some o → is_change o.reply ≡ true
     → (is_unplaced q ≡ false) ⊎ (told ≡ op.outcome)
 sets old op Enter q told o follows notes is changes = absurd (no_reply told o is notes)
 sets old op Pick q told o follows notes is changes = absurd (no_reply told o is notes)
@@ -198,7 +202,8 @@ sets old op Unlock _ told o follows notes is changes = absurd follows
 sets old op Done q told o follows notes is changes = absurd follows
 
 -- from such a phase on nothing is placed, and the outcome stays
-pub stays : (old : StateView) (op : OperationView) (p q : Phase) (told : Option Outcome) (outcome : Outcome) → op.outcome ≡ Some outcome → is_unplaced p ≡ false → MayFollow p q → Notes old op p q told
+pub stays : (old : StateView) (op : OperationView) (p q : Phase) (told : Option Outcome) (outcome : Outcome) → op.outcome ≡ Some outcome
+    → is_unplaced p ≡ false → MayFollow p q → Notes old op p q told
     → (is_unplaced q ≡ false) × (told ≡ op.outcome)
 stays old op SplitPrev LockParent told outcome is placed follows notes = (refl, notes)
 stays old op SplitPrev _ told outcome is placed follows notes = absurd follows
@@ -271,7 +276,8 @@ module _ (old v w : StateView) (o : ℕ) (op : OperationView) (made : ℕ) (done
   -- a step that places the operation's change makes it of the maps of before
   placed_run : HasLeft old v s.before → (p : IsPlacing v w s.before s.after) → IsRun old w op p.reply
   placed_run u p = record {
-    told = p.told ∙ ap (λ x. reply_of (quota_of v s.before.tenant) s.before.command (tenant_map s.before.tenant x)) u.contents ∙ same_reply v old s.before op asked (quota_stays old v r.grows) (contents_of old);
+    told =
+        p.told ∙ ap (λ x. reply_of (quota_of v s.before.tenant) s.before.command (tenant_map s.before.tenant x)) u.contents ∙ same_reply v old s.before op asked (quota_stays old v r.grows) (contents_of old);
     makes = λ t.
         p.makes t
         ∙ ap (λ x. maps_after_one (quota_of v) (Some (record { tenant = s.before.tenant; command = s.before.command })) (λ u. tenant_map u x) t) u.contents
@@ -363,6 +369,7 @@ module _ (old v : StateView) (o : ℕ) (op : OperationView) (made : ℕ) (r : Is
         inr (record { told = ap (λ (x : Outcome). x.reply) said ∙ p.run.told; makes = p.run.makes })
   ]
     where
-      by : HasLeft old v r.after → (b : Bool) → is_no_memory told.reply ≡ b → ((told.reply ≡ NoMemory) × (contents_of v ≡ contents_of old)) ⊎ IsRun old v op told.reply
+      by : HasLeft old v r.after → (b : Bool) → is_no_memory told.reply ≡ b
+          → ((told.reply ≡ NoMemory) × (contents_of v ≡ contents_of old)) ⊎ IsRun old v op told.reply
       by u true e = inl (memory_is told.reply e, u.contents)
       by u false e = inr (looked u other upto e)

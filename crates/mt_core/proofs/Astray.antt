@@ -38,4 +38,5 @@ one_at_most low l false live = elim (cases_lt low l) [
 
 pub behind_most : (ns : List NodeView) (low : ℕ) → ((k : ℕ) → k < length ns → (node_at ns k).version.deleted ≡ false) → behind_count ns low ≤ live_count ns
 behind_most [] low live = omega arith
-behind_most (n ∷ ns) low live = omega (arith, one_at_most low n.low n.version.deleted (live 0 (omega arith)), behind_most ns low (λ k within. live (suc k) (omega (arith, within))))
+behind_most (n ∷ ns) low live =
+    omega (arith, one_at_most low n.low n.version.deleted (live 0 (omega arith)), behind_most ns low (λ k within. live (suc k) (omega (arith, within))))

@@ -49,7 +49,8 @@ module _ (c : Core) (now : StateView) (opening : OpeningView) (op : Operation) (
     a = accepted.right.admitted
 
     known_tenant : IsSome (account_of c.accounts op.task.tenant)
-    known_tenant = subst (λ t. IsSome (account_of c.accounts t)) (sym accepted.right.tenant_is) (subst (λ (v : StateView). IsSome (account_of v.accounts opening.tenant)) (sym is) accepted.tenant)
+    known_tenant =
+        subst (λ t. IsSome (account_of c.accounts t)) (sym accepted.right.tenant_is) (subst (λ (v : StateView). IsSome (account_of v.accounts opening.tenant)) (sym is) accepted.tenant)
 
     kept_begun : IsKeptOf (with_table c c.answers table) o op
     kept_begun = record {
@@ -77,7 +78,8 @@ module _ (c : Core) (now : StateView) (opening : OpeningView) (op : Operation) (
 
     -- the invariant with it
     pub begun_keeps : StateInvariant (with_table c c.answers table)
-    begun_keeps = begun_sound c o op table h vacant there others (ap (λ (w : Walk). w.first) a.walk) (ap (λ (w : Walk). one_if_prepared (Some (record op { walk = w }))) a.walk) kept_begun
+    begun_keeps =
+        begun_sound c o op table h vacant there others (ap (λ (w : Walk). w.first) a.walk) (ap (λ (w : Walk). one_if_prepared (Some (record op { walk = w }))) a.walk) kept_begun
 
     -- and what is told of it
     pub begun_tells : (ticket : Ticket) → ticket.id ≡ o → TellsAdmitted now (shown (with_table c c.answers table)) opening (Ok ticket)
@@ -95,12 +97,14 @@ module _ (c : Core) (now : StateView) (opening : OpeningView) (op : Operation) (
 
   -- where there was no place for it, it is refused for memory
   pub refused_for_memory : (told : Result Ticket Refusal) → told ≡ Err Memory → (tables.HasPlaces c.table 1 → ⊥) → RefusesOpening now opening told
-  refused_for_memory told told_is none = subst (RefusesOpening now opening) (sym told_is) (subst (λ made. IsRefusedFor (account_of now.accounts opening.tenant) now made Memory) (sym accepted.made) (by_account (account_of now.accounts opening.tenant) accepted.tenant))
+  refused_for_memory told told_is none =
+      subst (RefusesOpening now opening) (sym told_is) (subst (λ made. IsRefusedFor (account_of now.accounts opening.tenant) now made Memory) (sym accepted.made) (by_account (account_of now.accounts opening.tenant) accepted.tenant))
     where
       by_account : (account : Option Account) → IsSome account → IsRefusedFor account now (Ok (view_of op)) Memory
       by_account None some = absurd (cc)
       by_account (Some account) some = (accepted.steps, subst (λ v. HasPlaces v 1 → ⊥) is (no_place c none))
 
   -- else it takes one
-  pub begun_takes : (table : Table) → tables.open_count table ≡ tables.open_count c.table + 1 → length c.table ≤ length table → TakesPlace now (shown (with_table c c.answers table))
+  pub begun_takes : (table : Table) → tables.open_count table ≡ tables.open_count c.table + 1 → length c.table ≤ length table
+      → TakesPlace now (shown (with_table c c.answers table))
   begun_takes table one more = subst (λ v. TakesPlace v (shown (with_table c c.answers table))) is (place_taken c table one more)

@@ -94,7 +94,8 @@ module _ (s t : Splits) (same : AreSame s t) where
   splits_same v o h = record {
     some = subst (λ (hs : List Halves). 0 < length hs) (sym same.halves) h.some;
     lower = subst (λ (hs : List Halves). AreReturnable v o hs (length hs - 1)) (sym same.halves) h.lower;
-    parted = subst (λ (hs : List Halves). AreParted v o (length hs - 1) (halves_at hs (length hs - 1)).left (halves_at hs (length hs - 1)).right) (sym same.halves) h.parted;
+    parted =
+        subst (λ (hs : List Halves). AreParted v o (length hs - 1) (halves_at hs (length hs - 1)).left (halves_at hs (length hs - 1)).right) (sym same.halves) h.parted;
   }
 
   named_same : (v : ArenaView) (o : ℕ) → HasSplitsNamed v o s → HasSplitsNamed v o t
@@ -111,7 +112,8 @@ module _ (s t : Splits) (same : AreSame s t) where
       named = named_same v o h.at_parent.named;
       above = same.above ∙ h.at_parent.above;
       moved = same.moved ∙ h.at_parent.moved;
-      parent = subst (λ (hs : List Halves). IsParent v o (length hs) (halves_at hs (length hs - 1)).left (halves_at hs (length hs - 1)).right h.p) (sym same.halves) h.at_parent.parent;
+      parent =
+          subst (λ (hs : List Halves). IsParent v o (length hs) (halves_at hs (length hs - 1)).left (halves_at hs (length hs - 1)).right h.p) (sym same.halves) h.at_parent.parent;
     };
     full = h.full;
   }
@@ -285,10 +287,12 @@ module _ (c now : Core) (o : ℕ) (is : c ≡ now) (h : StateInvariant c) (next 
           pub climb_steps : StepsOn now (made c arena c.tape c.accounts all) o Moved
           climb_steps = subst (λ (v : Core). StepsOn v (made c arena c.tape c.accounts all) o Moved) is (record {
             tells = climb_gives.1;
-            nears = nears_by c (made c arena c.tape c.accounts all) o op after there over_all.there (climb_keeps op.walk.phase at_climb o c.arena arena op.walk w op.splits t told).keeps.guarantee
+            nears =
+                nears_by c (made c arena c.tape c.accounts all) o op after there over_all.there (climb_keeps op.walk.phase at_climb o c.arena arena op.walk w op.splits t told).keeps.guarantee
                 (λ height n p. point_first height (n + 1) arena w t after.walk.first
                 (climb_nears op.walk.phase at_climb o c.arena arena op.walk w op.splits t refl arena_is.nodes kept.climbs told height n p));
-            leads = leads_over c o h op there op.walk.phase refl c refl arena c.tape c.accounts all after over_all w (climb_leads op.walk.phase at_climb o c.arena arena op.walk w op.splits t told (c.steps + 1) op.task.key op.outcome) refl;
+            leads =
+                leads_over c o h op there op.walk.phase refl c refl arena c.tape c.accounts all after over_all w (climb_leads op.walk.phase at_climb o c.arena arena op.walk w op.splits t told (c.steps + 1) op.task.key op.outcome) refl;
           })
 
         -- it was not made: all is as it was, but for the splits
@@ -319,7 +323,8 @@ module _ (c now : Core) (o : ℕ) (is : c ≡ now) (h : StateInvariant c) (next 
                 unfinished = (view_of f.0, shown_there c.table holder f.0 f.1, holder_open f.0.walk.phase f.0.walk f.0.splits parent f.2);
                 op = view_of op;
                 there = shown_there c.table o op there;
-                holds = subst (λ (p : Phase). IsInTheWay c.arena p op.walk (splits_of op.splits) holder) (sym held_back.3) (parent, held_back.5, held_back.6, held_back.7);
+                holds =
+                    subst (λ (p : Phase). IsInTheWay c.arena p op.walk (splits_of op.splits) holder) (sym held_back.3) (parent, held_back.5, held_back.6, held_back.7);
               }
 
           pub blocked_steps : (answer : Move) → answer ≡ Again holder → StepsOn now stopped o answer

@@ -29,7 +29,8 @@ last_same : (s t : Splits) → t.halves.items ≡ s.halves.items → last_of t �
 last_same s t same = ap (λ (hs : List Halves). halves_at hs (length hs - 1)) same
 
 -- the level of the last split stays
-level_stays : (op : ℕ) (old new : ArenaView) (s t : Splits) → HasSplits old op s → LeavesNodes op old new → t.halves.items ≡ s.halves.items → split_level new t ≡ split_level old s
+level_stays : (op : ℕ) (old new : ArenaView) (s t : Splits) → HasSplits old op s → LeavesNodes op old new → t.halves.items ≡ s.halves.items
+    → split_level new t ≡ split_level old s
 level_stays op old new s t h leaves same =
     ap (λ (b : Halves). (at new b.left).level) (last_same s t same) ∙ (leaves.each (last_of s).left h.parted.left.held.there).level
 
@@ -104,7 +105,8 @@ module _ (op : ℕ) (old new : ArenaView) (before after : Walk) (s t : Splits) w
   -- it is full, and was split
   module _ (kept : IsAtInteriorSplit old op s) where
     half_is : at (u op old new before after s t kept) (length old.nodes) ≡ half op old new before after s t kept
-    half_is = pushed_at (zs op old new before after s t kept) (half op old new before after s t kept) (length old.nodes) (length old.nodes) (size_z op old new before after s t kept) (omega arith)
+    half_is =
+        pushed_at (zs op old new before after s t kept) (half op old new before after s t kept) (length old.nodes) (length old.nodes) (size_z op old new before after s t kept) (omega arith)
         (omega (arith, size_z op old new before after s t kept, length-append (zs op old new before after s t kept) (half op old new before after s t kept ∷ [])))
 
     -- the right half has at most half of the children
@@ -166,13 +168,15 @@ module _ (op : ℕ) (old new : ArenaView) (before after : Walk) (s t : Splits) w
           ap (λ (b : Halves). length (at new b.right).children) (last_same s t same) ∙ ap (λ (v : ArenaView). length (at v q).children) c.is
           ∙ each_set (λ j n. length n.children ≡ length (at old j).children) old.nodes child named (λ j lt. refl) refl q kept.splits.parted.right.held.there
 
-      counts : (b : Bool) → (s.moved + 1 == length (at old q).children) ≡ b → t.moved ≡ (if b then 0 else s.moved + 1) → (height made : ℕ) → AreBelow old height → HasMade Reparent height made old before s
+      counts : (b : Bool) → (s.moved + 1 == length (at old q).children) ≡ b → t.moved ≡ (if b then 0 else s.moved + 1) → (height made : ℕ)
+          → AreBelow old height → HasMade Reparent height made old before s
           → HasMade (if b then LockParent else Reparent) height (made + 1) new (walk_at (if b then LockParent else Reparent) before) t
       counts true last moved height made below few =
           let level = level_stays op old new s t kept.splits leaves same in
           let all = eqb-true (s.moved + 1) (length (at old q).children) last in
           omega (arith, few, level, all)
-      counts false last moved height made below few = let level = level_stays op old new s t kept.splits leaves same in omega (arith, few, level, moved, same_children)
+      counts false last moved height made below few =
+          let level = level_stays op old new s t kept.splits leaves same in omega (arith, few, level, moved, same_children)
 
   -- a root was made
   grow_nears : before.phase ≡ RootGrow → IsAtRootGrow old op s → IsRootGrow op old new before after s t → Nearer
@@ -182,7 +186,8 @@ module _ (op : ℕ) (old new : ArenaView) (before after : Walk) (s t : Splits) w
       (λ height made below few. omega (arith, few, unlock_most t.halves.items height some))
 
 -- so each, by its phase
-pub climb_nears : (p : Phase) → IsClimb p → (op : ℕ) (old new : ArenaView) (before after : Walk) (s t : Splits) → before.phase ≡ p → AreNodes old.nodes → KeptSplit p old op s → IsClimbFrom p op old new before after s t
+pub climb_nears : (p : Phase) → IsClimb p → (op : ℕ) (old new : ArenaView) (before after : Walk) (s t : Splits) → before.phase ≡ p
+    → AreNodes old.nodes → KeptSplit p old op s → IsClimbFrom p op old new before after s t
     → (height made : ℕ) → IsAtPoint height made old before s → IsAtPoint height (made + 1) new after t
 climb_nears SplitPrev i op old new before after s t at_p nodes kept c = prev_nears op old new before after s t at_p kept c
 climb_nears LockParent i op old new before after s t at_p nodes kept c = lock_nears op old new before after s t at_p kept c

@@ -44,7 +44,8 @@ rises_filtered p floor (e ∷ entries) h = by (p e) (rises_filtered p e.step ent
     by false rest = rises_lower floor e.step (filter p entries) (omega (arith, h.0)) rest
 
 -- what a log is given are records
-pub are_records : (worker m floor : ℕ) (entries : List Entry) → RisesOver floor entries → All (λ e. IsKey e.key) entries → AreRecords (records_after worker m entries)
+pub are_records : (worker m floor : ℕ) (entries : List Entry) → RisesOver floor entries → All (λ e. IsKey e.key) entries
+    → AreRecords (records_after worker m entries)
 are_records worker m floor entries rises keys = record {
   keys = All-map (λ r. IsKey r.key) record_of (filter (λ e. e.worker == worker) (later_entries m entries))
       (All-filter (λ e. e.worker == worker) (λ e. IsKey e.key) (later_entries m entries) (All-filter (λ e. nat_lt m e.step) (λ e. IsKey e.key) entries keys));
@@ -53,7 +54,8 @@ are_records worker m floor entries rises keys = record {
 }
 
 -- and their stamps lie over the step after which they were placed, and at most at the last step that was made
-stamps_within : (worker m steps floor : ℕ) (entries : List Entry) → RisesOver floor entries → last_step_over floor entries ≤ steps → All (λ r. (m < r.stamp) × (r.stamp ≤ steps)) (records_after worker m entries)
+stamps_within : (worker m steps floor : ℕ) (entries : List Entry) → RisesOver floor entries → last_step_over floor entries ≤ steps
+    → All (λ r. (m < r.stamp) × (r.stamp ≤ steps)) (records_after worker m entries)
 stamps_within worker m steps floor entries rises made =
     let later = later_entries m entries in
     let own = filter (λ e. e.worker == worker) later in
@@ -64,14 +66,16 @@ stamps_within worker m steps floor entries rises made =
     All-map (λ r. (m < r.stamp) × (r.stamp ≤ steps)) record_of own (λ k d lt. (over k d lt, upto k d lt))
 
 -- what a drain gives is in order
-pub in_order : (c : Core) (worker from : ℕ) (records : List Record) → StateInvariant c → from ≤ c.steps → records ≡ records_after worker from c.tape.entries → All IsRecord records →
+pub in_order : (c : Core) (worker from : ℕ) (records : List Record) → StateInvariant c → from ≤ c.steps
+    → records ≡ records_after worker from c.tape.entries → All IsRecord records →
     IsInOrder (record { from = from; to = c.steps; records = records })
 in_order c worker from records h order is each = record {
   order = order;
   last = h.few;
   records = record {
     limits = subst AreRecords (sym is) (are_records worker from c.tape.floor c.tape.entries h.tape.rises h.tape.keys);
-    within = subst (All (λ r. (from < r.stamp) × (r.stamp ≤ c.steps))) (sym is) (stamps_within worker from c.steps c.tape.floor c.tape.entries h.tape.rises h.tape.made);
+    within =
+        subst (All (λ r. (from < r.stamp) × (r.stamp ≤ c.steps))) (sym is) (stamps_within worker from c.steps c.tape.floor c.tape.entries h.tape.rises h.tape.made);
     each = each;
   };
 }
@@ -92,7 +96,8 @@ drained c worker h = record {
     logs = record {
       few = let same = length-set c.logs worker c.steps in omega (arith, same, h.tape.logs.few);
       made = All-set (λ m. m ≤ c.steps) c.logs worker c.steps (omega arith) h.tape.logs.made;
-      reached = All-set (λ m. c.tape.floor ≤ m) c.logs worker c.steps (omega (arith, floor_upto_last c.tape.floor c.tape.entries h.tape.rises, h.tape.made)) h.tape.logs.reached;
+      reached =
+          All-set (λ m. c.tape.floor ≤ m) c.logs worker c.steps (omega (arith, floor_upto_last c.tape.floor c.tape.entries h.tape.rises, h.tape.made)) h.tape.logs.reached;
     };
   };
   stamps = h.stamps;
@@ -109,8 +114,10 @@ drained c worker h = record {
 }
 
 -- the least of the numbers so far, and of one more
-pub least_more : (numbers : List ℕ) (i bound least : ℕ) → i < length numbers → IsLeastOf (take i numbers) bound least → IsLeastOf (take (i + 1) numbers) bound (min least (get_or numbers i 0))
-least_more numbers i bound least within h = subst (λ (ns : List ℕ). IsLeastOf ns bound (min least (get_or numbers i 0))) (sym (take_more numbers i 0 within)) (record {
+pub least_more : (numbers : List ℕ) (i bound least : ℕ) → i < length numbers → IsLeastOf (take i numbers) bound least
+    → IsLeastOf (take (i + 1) numbers) bound (min least (get_or numbers i 0))
+least_more numbers i bound least within h =
+    subst (λ (ns : List ℕ). IsLeastOf ns bound (min least (get_or numbers i 0))) (sym (take_more numbers i 0 within)) (record {
   within = omega (arith, h.within);
   each = All-push (λ m. min least (get_or numbers i 0) ≤ m) (take i numbers) (get_or numbers i 0)
       (λ k d lt. let was = h.each k d lt in omega (arith, was)) (omega arith);

@@ -42,7 +42,8 @@ other_key o q ne = by (nat_cmp o q) refl
     by Greater e = refl
 
 -- one entry more, or another one at a name
-pub renamed : (old new : BTreeMap ℕ (Option Ticket)) (o : ℕ) (t : Ticket) → Updates nat_cmp old new o (Some (Some t)) → Renames (named old) (named new) o (Some t.id)
+pub renamed : (old new : BTreeMap ℕ (Option Ticket)) (o : ℕ) (t : Ticket) → Updates nat_cmp old new o (Some (Some t))
+    → Renames (named old) (named new) o (Some t.id)
 renamed old new o t u = record {
   here = ap id_in u.1;
   others = λ q ne. ap id_in (u.2 q (other_key o q ne));
@@ -52,7 +53,8 @@ none_named : {n : ℕ} → ◌≡◌ {A = Option (Option ℕ)} (Some None) (Some
 none_named e = cc
 
 -- a map from ids has the names still where one operation more has one, at an id that none had
-pub by_id_begun : (ids now : BTreeMap ℕ ℕ) (old new : Names) (table : Shown) (o n : ℕ) → AreById ids old → AreHeld old table → op_at table n ≡ None → Renames old new o (Some n) → Updates nat_cmp ids now n (Some o) → AreById now new
+pub by_id_begun : (ids now : BTreeMap ℕ ℕ) (old new : Names) (table : Shown) (o n : ℕ) → AreById ids old → AreHeld old table → op_at table n ≡ None
+    → Renames old new o (Some n) → Updates nat_cmp ids now n (Some o) → AreById now new
 by_id_begun ids now old new table o n by_id held free renames u q m e = elim (cases_eq q o) [
   | inl is ↦
       let same : n ≡ m = same_Some n m (same_Some _ _ (sym renames.here ∙ ap new (sym is) ∙ e)) in
@@ -73,7 +75,8 @@ by_id_taken ids old new o by_id renames q m e = elim (cases_eq q o) [
 ]
 
 -- the name that the map has of an operation stands for it
-pub by_id_names : (ids : BTreeMap ℕ ℕ) (names : Names) (o n : ℕ) → AreById ids names → (p : ℕ) × (names p ≡ Some (Some n)) → get nat_cmp ids n ≡ Some o → names o ≡ Some (Some n)
+pub by_id_names : (ids : BTreeMap ℕ ℕ) (names : Names) (o n : ℕ) → AreById ids names → (p : ℕ) × (names p ≡ Some (Some n))
+    → get nat_cmp ids n ≡ Some o → names o ≡ Some (Some n)
 by_id_names ids names o n by_id (p, e) at = ap names (sym (same_Some p o (sym (by_id p n e) ∙ at))) ∙ e
 
 -- there is one, for an operation that has a name

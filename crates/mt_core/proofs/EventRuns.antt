@@ -50,7 +50,8 @@ named_after start new run names v leads = (history_of start new run names v lead
 pub held_after : (start : StateView) → IsNew start → (run : Run) (names : Names) (v : StateView) → BringsTo no_names start run names v → AreHeld names v.table
 held_after start new run names v leads o n e = ap is_some ((history_of start new run names v leads).told o n e).1
 
-zip_suc : (es : List Event) (ts : List Told) (i : ℕ) (e : Event) (t : Told) → i < length es → e ≡ get_or es i e → length ts ≡ i → zip (take (suc i) es) (ts ++ t ∷ []) ≡ zip (take i es) ts ++ (e, t) ∷ []
+zip_suc : (es : List Event) (ts : List Told) (i : ℕ) (e : Event) (t : Told) → i < length es → e ≡ get_or es i e → length ts ≡ i
+    → zip (take (suc i) es) (ts ++ t ∷ []) ≡ zip (take i es) ts ++ (e, t) ∷ []
 zip_suc [] ts i e t lt same is = absurd (omega arith)
 zip_suc (x ∷ es) [] zero e t lt same is = ap (λ (w : Event). (w, t) ∷ []) (sym same)
 zip_suc (x ∷ es) [] (suc i) e t lt same is = absurd (omega arith)
@@ -58,5 +59,7 @@ zip_suc (x ∷ es) (u ∷ ts) zero e t lt same is = absurd (omega arith)
 zip_suc (x ∷ es) (u ∷ ts) (suc i) e t lt same is = ap (λ w. (x, u) ∷ w) (zip_suc es ts i e t (omega arith) same (omega arith))
 
 -- one event more of a list, with what it answered
-pub zip_more : (es : List Event) (ts : List Told) (i : ℕ) (e : Event) (t : Told) → i < length es → e ≡ get_or es i e → length ts ≡ i → zip (take (i + 1) es) (ts ++ t ∷ []) ≡ zip (take i es) ts ++ (e, t) ∷ []
-zip_more es ts i e t lt same is = subst (λ n. zip (take n es) (ts ++ t ∷ []) ≡ zip (take i es) ts ++ (e, t) ∷ []) {x = suc i} (omega arith) (zip_suc es ts i e t lt same is)
+pub zip_more : (es : List Event) (ts : List Told) (i : ℕ) (e : Event) (t : Told) → i < length es → e ≡ get_or es i e → length ts ≡ i
+    → zip (take (i + 1) es) (ts ++ t ∷ []) ≡ zip (take i es) ts ++ (e, t) ∷ []
+zip_more es ts i e t lt same is =
+    subst (λ n. zip (take n es) (ts ++ t ∷ []) ≡ zip (take i es) ts ++ (e, t) ∷ []) {x = suc i} (omega arith) (zip_suc es ts i e t lt same is)

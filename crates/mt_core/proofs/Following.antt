@@ -46,7 +46,8 @@ pub record IsOver (old table : Table) (o : ℕ) (x : Operation) : Type 0 where
   pub there : operation_at table o ≡ Some x
 
 -- after one such call, and after one more
-pub over_first : (old new : Table) (o : ℕ) (f : Operation → Operation) (x : Operation) → operation_at old o ≡ Some x → Writes old new o f → IsOver old new o (f x)
+pub over_first : (old new : Table) (o : ℕ) (f : Operation → Operation) (x : Operation) → operation_at old o ≡ Some x → Writes old new o f
+    → IsOver old new o (f x)
 over_first old new o f x there writes = record { is = writes x there; there = ap (λ (t : Table). operation_at t o) (writes x there) ∙ set_is old o (f x) x there }
 
 pub over_next : (old mid new : Table) (o : ℕ) (f : Operation → Operation) (x : Operation) → IsOver old mid o x → Writes mid new o f → IsOver old new o (f x)
@@ -65,13 +66,15 @@ module _ (c : Core) (o : ℕ) (h : StateInvariant c) (op : Operation) (there : o
   -- the next step may be made by it, also once something of it was written that is not its walk
   pub may_over : is_done op.walk.phase ≡ false → (table : Table) (x : Operation) → IsOver c.table table o x → x.walk ≡ op.walk → MayMove table o (c.steps + 1)
   may_over left table x over same = record {
-    later = λ q y there_y. let found : operation_at (set c.table o (Some x)) q ≡ Some y = ap (λ (t : Table). operation_at t q) (sym over.is) ∙ there_y in elim (cases_eq q o) [
+    later =
+        λ q y there_y. let found : operation_at (set c.table o (Some x)) q ≡ Some y = ap (λ (t : Table). operation_at t q) (sym over.is) ∙ there_y in elim (cases_eq q o) [
       | inl own ↦
           let it : x ≡ y = set_here c.table o x y (subst (λ k. operation_at (set c.table o (Some x)) k ≡ Some y) own found) in
           subst (λ (z : Operation). z.walk.first < c.steps + 1) it (subst (λ (w : Walk). w.first < c.steps + 1) (sym same) (first o op there))
       | inr other ↦ first q y (sym (set_there c.table o q (Some x) other) ∙ found)
     ];
-    unfinished = λ y there_y. ap (λ (w : Walk). not (is_done w.phase)) (ap (λ (z : Operation). z.walk) (sym (opened c.table table o x y over there_y)) ∙ same) ∙ ap not left;
+    unfinished =
+        λ y there_y. ap (λ (w : Walk). not (is_done w.phase)) (ap (λ (z : Operation). z.walk) (sym (opened c.table table o x y over there_y)) ∙ same) ∙ ap not left;
   }
     where
       first : (q : ℕ) (y : Operation) → operation_at c.table q ≡ Some y → y.walk.first < c.steps + 1
@@ -97,7 +100,8 @@ holder_open Done w s k holds = absurd holds
 holder_open _ w s k holds = refl
 
 -- and who is in the way of a step holds one
-pub in_the_way : (v : ArenaView) (p : Phase) (w : Walk) (s : SplitsView) (holder : ℕ) → IsInTheWay v p w s holder → (k : ℕ) × (k < length v.nodes) × ((at v k).holder ≡ Some holder)
+pub in_the_way : (v : ArenaView) (p : Phase) (w : Walk) (s : SplitsView) (holder : ℕ) → IsInTheWay v p w s holder
+    → (k : ℕ) × (k < length v.nodes) × ((at v k).holder ≡ Some holder)
 in_the_way v p w s holder way = (way.0, way.2, held_by p (at v way.0) way.3)
   where
     held_by : (q : Phase) (n : NodeView) → Blocks q n w.slot holder → n.holder ≡ Some holder
@@ -107,7 +111,8 @@ in_the_way v p w s holder way = (way.0, way.2, held_by p (at v way.0) way.3)
     held_by _ n blocks = blocks.by
 
 -- an outcome of this reply
-pub outcome_is : (told : Outcome) (reply of : Reply) (step : ℕ) → told ≡ record { reply = reply; at = step } → reply ≡ of → told ≡ record { reply = of; at = step }
+pub outcome_is : (told : Outcome) (reply of : Reply) (step : ℕ) → told ≡ record { reply = reply; at = step } → reply ≡ of
+    → told ≡ record { reply = of; at = step }
 outcome_is told reply of step says same = says ∙ ap (λ (r : Reply). record { reply = r; at = step }) same
 
 -- the state after the step, by what is left of it

@@ -53,7 +53,8 @@ layer_ungrown Unlock i halves grown = i
 layer_ungrown _ i halves grown = grown
 
 -- the number of steps after it
-layer_made : (p : Phase) → IsLayerPhase p → (old new : ArenaView) (before after : Walk) (s : Splits) (height n : ℕ) → above height after ≡ above height before → HasMade p height n old before s → HasMade (layer_next p) height (n + 1) new after s
+layer_made : (p : Phase) → IsLayerPhase p → (old new : ArenaView) (before after : Walk) (s : Splits) (height n : ℕ)
+    → above height after ≡ above height before → HasMade p height n old before s → HasMade (layer_next p) height (n + 1) new after s
 layer_made MakeLayer i old new before after s height n alike few = omega (arith, alike, few)
 layer_made MarkUnstable i old new before after s height n alike few = omega (arith, alike, few)
 layer_made Link i old new before after s height n alike few = omega (arith, alike, few)
@@ -65,7 +66,8 @@ layer_made MarkLayer i old new before after s height n alike few = by s.halves.i
 layer_made _ i old new before after s height n alike few = absurd i
 
 -- so it comes nearer
-layer_nears : (p : Phase) → IsLayerPhase p → (o : ℕ) (key : Bytes) (old new : ArenaView) (before after : Walk) (s : Splits) → before.phase ≡ p → before.place.node < length old.nodes → KeptLayer p old o key before → IsLayerFrom p o key old new before after
+layer_nears : (p : Phase) → IsLayerPhase p → (o : ℕ) (key : Bytes) (old new : ArenaView) (before after : Walk) (s : Splits) → before.phase ≡ p
+    → before.place.node < length old.nodes → KeptLayer p old o key before → IsLayerFrom p o key old new before after
     → (height n : ℕ) → IsAtPoint height n old before s → IsAtPoint height (n + 1) new after s
 layer_nears p i o key old new before after s at_p within kept b height n point =
     let goes = layer_goes p i o key old new before after b in
@@ -126,8 +128,10 @@ module _ (c now : Core) (o : ℕ) (is : c ≡ now) (h : StateInvariant c) (x : O
       )
 
   -- a layer that came one step nearer
-  pub build_made : now.steps < 2 ^ 59 → IsNext now o IsLayerPhase → (arena : ArenaView) (w : Walk) (table : Table) → KeptLayer x.walk.phase c.arena o x.task.key x.walk → IsLayerFrom x.walk.phase o x.task.key c.arena arena x.walk w
-      → Writes c.table table o (λ y. moved y (c.steps + 1) w) → StateInvariant (made c arena c.tape c.accounts table) × StepsOn now (made c arena c.tape c.accounts table) o Moved
+  pub build_made : now.steps < 2 ^ 59 → IsNext now o IsLayerPhase → (arena : ArenaView) (w : Walk) (table : Table)
+      → KeptLayer x.walk.phase c.arena o x.task.key x.walk → IsLayerFrom x.walk.phase o x.task.key c.arena arena x.walk w
+      → Writes c.table table o (λ y. moved y (c.steps + 1) w)
+      → StateInvariant (made c arena c.tape c.accounts table) × StepsOn now (made c arena c.tape c.accounts table) o Moved
   build_made few next arena w table kept b writes =
       let p = x.walk.phase in
       let layer = phase_is c now o IsLayerPhase is x there next in
@@ -137,16 +141,19 @@ module _ (c now : Core) (o : ℕ) (is : c ≡ now) (h : StateInvariant c) (x : O
       (build_done c o h (steps_few few) x there arena w layer b)
 
   -- no memory for it
-  pub stop_made : now.steps < 2 ^ 59 → (arena : ArenaView) (w : Walk) (told : Outcome) (table : Table) → x.walk.phase ≡ MakeLayer → IsUnlock o c.arena arena x.walk w → told ≡ record { reply = NoMemory; at = c.steps + 1 }
+  pub stop_made : now.steps < 2 ^ 59 → (arena : ArenaView) (w : Walk) (told : Outcome) (table : Table) → x.walk.phase ≡ MakeLayer
+      → IsUnlock o c.arena arena x.walk w → told ≡ record { reply = NoMemory; at = c.steps + 1 }
       → Writes c.table table o (λ y. noted (moved y (c.steps + 1) w) (Some told)) → Gives (shown now) (made c arena c.tape c.accounts table) o true
   stop_made few arena w told table at_make t says writes = gives_now (made c arena c.tape c.accounts table) true
       (subst (λ (all : Table). Gives (shown c) (made c arena c.tape c.accounts all) o true) (sym (writes x there))
       (subst (λ (r : Outcome). Gives (shown c) (made c arena c.tape c.accounts (set c.table o (Some (noted (moved x (c.steps + 1) w) (Some r))))) o true) (sym says)
       (make_stopped c o h (steps_few few) x there at_make arena w t)))
 
-  pub stop_leads : (arena : ArenaView) (w : Walk) (told : Outcome) (table : Table) → x.walk.phase ≡ MakeLayer → IsUnlock o c.arena arena x.walk w → Writes c.table table o (λ y. noted (moved y (c.steps + 1) w) (Some told))
+  pub stop_leads : (arena : ArenaView) (w : Walk) (told : Outcome) (table : Table) → x.walk.phase ≡ MakeLayer → IsUnlock o c.arena arena x.walk w
+      → Writes c.table table o (λ y. noted (moved y (c.steps + 1) w) (Some told))
       → Leads (shown now) (shown (made c arena c.tape c.accounts table)) o
-  stop_leads arena w told table at_make t writes = leads_over c o h x there MakeLayer at_make now is arena c.tape c.accounts table _ (over_first c.table table o (λ y. noted (moved y (c.steps + 1) w) (Some told)) x there writes) w (inr t.walk) refl
+  stop_leads arena w told table at_make t writes =
+      leads_over c o h x there MakeLayer at_make now is arena c.tape c.accounts table _ (over_first c.table table o (λ y. noted (moved y (c.steps + 1) w) (Some told)) x there writes) w (inr t.walk) refl
 
   -- one that leaves its layer has split nothing
   unsplit : x.walk.phase ≡ Unlock → x.outcome ≡ None → x.splits.halves.items ≡ []
@@ -155,7 +162,8 @@ module _ (c now : Core) (o : ℕ) (is : c ≡ now) (h : StateInvariant c) (x : O
       leaving.unsplit.halves
 
   -- its lock was given back, and it goes on in the tree of the next layer
-  pub leave_made : now.steps < 2 ^ 59 → IsNext now o (λ q. q ≡ Unlock) → x.outcome ≡ None → (arena : ArenaView) (w : Walk) (table : Table) (leaves : IsAtLeave c.arena o x.task.key x.walk) → IsLeave o c.arena arena x.walk w
+  pub leave_made : now.steps < 2 ^ 59 → IsNext now o (λ q. q ≡ Unlock) → x.outcome ≡ None
+      → (arena : ArenaView) (w : Walk) (table : Table) (leaves : IsAtLeave c.arena o x.task.key x.walk) → IsLeave o c.arena arena x.walk w
       → Writes c.table table o (λ y. moved y (c.steps + 1) w)
       → StateInvariant (made c arena c.tape c.accounts table) × StepsOn now (made c arena c.tape c.accounts table) o Moved
   leave_made few next untold arena w table leaves t writes = steps_on arena w table writes g.keeps.guarantee brings leads
@@ -192,5 +200,6 @@ module _ (c now : Core) (o : ℕ) (is : c ≡ now) (h : StateInvariant c) (x : O
           (point_at height (n + 1) arena (walk_into x.walk leaves.tree (x.walk.layer + 1)) x.splits Enter refl (λ other. stays) deeper)
 
 -- an operation that has no outcome has none where it is found inside
-pub untold_inside : (c now : Core) (o : ℕ) → c ≡ now → ((op : Operation) → operation_at now.table o ≡ Some op → op.outcome ≡ None) → (x : Operation) → operation_at c.table o ≡ Some x → x.outcome ≡ None
+pub untold_inside : (c now : Core) (o : ℕ) → c ≡ now → ((op : Operation) → operation_at now.table o ≡ Some op → op.outcome ≡ None) → (x : Operation)
+    → operation_at c.table o ≡ Some x → x.outcome ≡ None
 untold_inside c now o is none x there = none x (ap (λ (v : Core). operation_at v.table o) (sym is) ∙ there)

@@ -24,14 +24,16 @@ use Rattle.mt_core.proofs.Following.{IsOver, made}
 
 module _ (c : Core) (o : ℕ) (h : StateInvariant c) (op : Operation) (there : operation_at c.table o ≡ Some op) (p : Phase) (at_p : op.walk.phase ≡ p) where
   -- a walk to which the table leads is shown so
-  pub leads_by : (new : Core) (after : Operation) → operation_at new.table o ≡ Some after → (w : Walk) → LeadsTo p c.arena new.arena o (c.steps + 1) op.task.key op.outcome (splits_of op.splits) op.walk w
+  pub leads_by : (new : Core) (after : Operation) → operation_at new.table o ≡ Some after → (w : Walk)
+      → LeadsTo p c.arena new.arena o (c.steps + 1) op.task.key op.outcome (splits_of op.splits) op.walk w
       → after.walk ≡ record w { first = after.walk.first } → Leads (shown c) (shown new) o
   leads_by new after came w goes is before now at_before at_now =
       let k = (h.ops o op there).always in
       let key = key_of_owner op.task.key op.task.tenant (key_of (ask op.task)) k.stored k.owner in
       let by : GoesBy c.arena new.arena o (c.steps + 1) (view_of op) (view_of after) = record {
         walk = w;
-        leads = subst (λ (q : Phase). LeadsTo q c.arena new.arena o (c.steps + 1) (stored_key op.task.tenant (key_of (ask op.task))) op.outcome (splits_of op.splits) op.walk w) (sym at_p)
+        leads =
+            subst (λ (q : Phase). LeadsTo q c.arena new.arena o (c.steps + 1) (stored_key op.task.tenant (key_of (ask op.task))) op.outcome (splits_of op.splits) op.walk w) (sym at_p)
             (subst (λ (k : Bytes). LeadsTo p c.arena new.arena o (c.steps + 1) k op.outcome (splits_of op.splits) op.walk w) key goes);
         is = is;
       } in
@@ -39,8 +41,10 @@ module _ (c : Core) (o : ℕ) (h : StateInvariant c) (op : Operation) (there : o
       (subst (λ (y : OperationView). GoesBy c.arena new.arena o (c.steps + 1) (view_of op) y) (same_Some (view_of after) now (sym (shown_there new.table o after came) ∙ at_now)) by)
 
   -- by the table that is left, and in a state that is shown so
-  pub leads_over : (now : Core) → c ≡ now → (arena : ArenaView) (tape : Kept) (accounts : Accounts) (table : Table) (after : Operation) → IsOver c.table table o after → (w : Walk)
-      → LeadsTo p c.arena arena o (c.steps + 1) op.task.key op.outcome (splits_of op.splits) op.walk w → after.walk ≡ record w { first = after.walk.first } → Leads (shown now) (shown (made c arena tape accounts table)) o
+  pub leads_over : (now : Core) → c ≡ now → (arena : ArenaView) (tape : Kept) (accounts : Accounts) (table : Table) (after : Operation)
+      → IsOver c.table table o after → (w : Walk)
+      → LeadsTo p c.arena arena o (c.steps + 1) op.task.key op.outcome (splits_of op.splits) op.walk w
+      → after.walk ≡ record w { first = after.walk.first } → Leads (shown now) (shown (made c arena tape accounts table)) o
   leads_over now is arena tape accounts table after over w goes same =
       subst (λ (v : Core). Leads (shown v) (shown (made c arena tape accounts table)) o) is (leads_by (made c arena tape accounts table) after over.there w goes same)
 

@@ -26,7 +26,8 @@ use Rattle.mt_core.specs.declared.shape.ShapeLine.TheVariants.{Interior}
 use Rattle.mt_core.specs.Shapes.{HasLiveRoot, IsListing, lines_from, prefix_cmp}
 
 -- what comes of the elements so far and of the next one
-pub next_piece : {X A : Type 0} (f : X → List A) (xs : List X) (i : ℕ) (d : X) → i < length xs → flat_map f (take i xs) ++ f (get_or xs i d) ≡ flat_map f (take (i + 1) xs)
+pub next_piece : {X A : Type 0} (f : X → List A) (xs : List X) (i : ℕ) (d : X) → i < length xs
+    → flat_map f (take i xs) ++ f (get_or xs i d) ≡ flat_map f (take (i + 1) xs)
 next_piece f xs i d lt = flat_map_more f [] (take i xs) (get_or xs i d) ∙ ap (flat_map f) (sym (take_more xs i d lt))
 
 -- an interior node's line, and those of its children
@@ -49,7 +50,8 @@ second_ties Greater p tie = absurd cc
 
 -- prefixes that tie are one
 same_prefix : (one other : List ℕ) → is_eq (prefix_cmp one other) ≡ true → one ≡ other
-same_prefix one other tie = same_text one other (sym (texts_ties one other ∙ second_ties (nat_cmp (length one) (length other)) (slice_cmp nat_cmp one other) tie))
+same_prefix one other tie =
+    same_text one other (sym (texts_ties one other ∙ second_ties (nat_cmp (length one) (length other)) (slice_cmp nat_cmp one other) tie))
 
 refuted : (b : Bool) → (b ≢ true) → b ≡ false
 refuted true differs = absurd (differs refl)
@@ -62,7 +64,8 @@ before o Equal turned after apart = absurd (let tie = ap is_eq turned in cc)
 before o Greater turned after apart = turned
 
 -- what is sorted by prefixes that differ rises strictly
-rises : {X : Type 0} (prefix : X → List ℕ) (xs : List X) (d : X) → IsDistinct (eq_by_cmp prefix_cmp) (map prefix xs) → IsSortedByKey prefix prefix_cmp xs → IsStrictlySortedBy prefix_cmp (map prefix xs)
+rises : {X : Type 0} (prefix : X → List ℕ) (xs : List X) (d : X) → IsDistinct (eq_by_cmp prefix_cmp) (map prefix xs)
+    → IsSortedByKey prefix prefix_cmp xs → IsStrictlySortedBy prefix_cmp (map prefix xs)
 rises prefix xs d apart sorted =
     sorted_from_all_adjacent prefix_cmp_total (map prefix xs) [] (λ k lt.
     let there : k + 1 < length xs = rw length-map at lt in
@@ -105,13 +108,15 @@ module _ (v : ArenaView) (arena : IsArena v.nodes v.trees) where
       rw (get_or-map (λ (t : Tree). t.prefix) (live_of v.trees) i no_tree d first, get_or-map (λ (t : Tree). t.prefix) (live_of v.trees) j no_tree d second) (refuted _ (λ tie. differ (same_prefix _ _ tie))))
 
   -- the live trees, once they are sorted by their prefixes
-  pub listing : (listed : List (Bor Tree)) → IsPermutation (live_of v.trees) (map (λ t. t.now) listed) → IsSortedByKey (λ t. t.now.prefix) prefix_cmp listed → IsListing v.trees (map (λ t. t.now) listed)
+  pub listing : (listed : List (Bor Tree)) → IsPermutation (live_of v.trees) (map (λ t. t.now) listed)
+      → IsSortedByKey (λ t. t.now.prefix) prefix_cmp listed → IsListing v.trees (map (λ t. t.now) listed)
   listing listed moved sorted =
       let prefixes : map (λ (t : Tree). t.prefix) (map (λ (t : Bor Tree). t.now) listed) ≡ map (λ (t : Bor Tree). t.now.prefix) listed = map-map (λ (t : Tree). t.prefix) (λ (t : Bor Tree). t.now) listed in
       let apart = IsDistinct-IsPermutation (eq_by_cmp prefix_cmp) (eq_by_cmp_equiv prefix_cmp_total).symm _ _ (IsPermutation-map (λ (t : Tree). t.prefix) _ _ moved) prefixes_differ in
       record {
         live = moved;
-        rising = subst (IsStrictlySortedBy prefix_cmp) (sym prefixes) (rises (λ (t : Bor Tree). t.now.prefix) listed (record { ref_ptr = (0, 0); now = no_tree }) (subst (IsDistinct (eq_by_cmp prefix_cmp)) prefixes apart) sorted);
+        rising =
+            subst (IsStrictlySortedBy prefix_cmp) (sym prefixes) (rises (λ (t : Bor Tree). t.now.prefix) listed (record { ref_ptr = (0, 0); now = no_tree }) (subst (IsDistinct (eq_by_cmp prefix_cmp)) prefixes apart) sorted);
       }
 
   live_roots : All (λ t. t.standing ≡ Live → HasLiveRoot v t) v.trees
@@ -124,7 +129,8 @@ module _ (v : ArenaView) (arena : IsArena v.nodes v.trees) where
       subst (HasLiveRoot v) same (record { there = there; live = root.live })
 
   -- each of the listed trees has its root
-  pub root_of : (listed : List (Bor Tree)) → IsListing v.trees (map (λ t. t.now) listed) → (i : ℕ) (d : Bor Tree) → i < length listed → HasLiveRoot v (get_or listed i d).now
+  pub root_of : (listed : List (Bor Tree)) → IsListing v.trees (map (λ t. t.now) listed) → (i : ℕ) (d : Bor Tree) → i < length listed
+      → HasLiveRoot v (get_or listed i d).now
   root_of listed list i d lt =
       let live : All (HasLiveRoot v) (live_of v.trees) = λ k e there. All-filter (λ t. is_live t.standing) (λ t. t.standing ≡ Live → HasLiveRoot v t) v.trees live_roots k e there (all_live v.trees k e there) in
       let each = All-permutation (HasLiveRoot v) _ _ list.live live in

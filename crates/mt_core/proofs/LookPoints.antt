@@ -39,7 +39,8 @@ same_now : (v : ArenaView) (w : Walk) → SeesNow v w → SameButLock (at v w.pl
 same_now v w now = ap (λ (p : Parts). record p { locked = true }) (sym now)
 
 -- the child of a live interior node for a slice is a level below it
-child_level : (v : ArenaView) (key : Bytes) (w : Walk) → IsArena v.nodes v.trees → IsAtVerify v key w → Stands (at v w.place.node) w.place.seen → (at v w.child).level + 1 ≡ (at v w.place.node).level
+child_level : (v : ArenaView) (key : Bytes) (w : Walk) → IsArena v.nodes v.trees → IsAtVerify v key w → Stands (at v w.place.node) w.place.seen
+    → (at v w.child).level + 1 ≡ (at v w.place.node).level
 child_level v key w arena h stands =
     let k = w.place.node in
     let remembered = h.above.covers.remembered in
@@ -48,7 +49,8 @@ child_level v key w arena h stands =
     (arena.nodes.pairs k w.child remembered.there h.picked.there).child (place_of (at v k).separators (slice_in key w)) inside (sym (h.picked.is stands)) stands.in_range.live in
     c.level
   where
-    has_place : (xs : List ℕ) → (at v w.place.node).children ≡ xs → (at v w.place.node).children ≢ [] → place_of (at v w.place.node).separators (slice_in key w) < length (at v w.place.node).children
+    has_place : (xs : List ℕ) → (at v w.place.node).children ≡ xs → (at v w.place.node).children ≢ []
+        → place_of (at v w.place.node).separators (slice_in key w) < length (at v w.place.node).children
     has_place [] e some = absurd (some e)
     has_place (x ∷ xs) e some =
         let between = (arena.nodes.each w.place.node h.above.covers.remembered.there).children.interior.between in
@@ -56,12 +58,14 @@ child_level v key w arena h stands =
 
 module _ (v : ArenaView) (height made : ℕ) (s : Splits) where
   -- a walk that comes to a node with its version of now
-  few_by : (border writes : Bool) (w : Walk) → SeesNow v w → made + 3 * level_of v w ≤ above height w + 3 * height → HasMade (arrival_at border writes) height made v w s
+  few_by : (border writes : Bool) (w : Walk) → SeesNow v w → made + 3 * level_of v w ≤ above height w + 3 * height
+      → HasMade (arrival_at border writes) height made v w s
   few_by true true w now few = inl (now, omega (arith, few))
   few_by true false w now few = inl (now, omega (arith, few))
   few_by false writes w now few = inl (now, few)
 
-  comes_onto : (w : Walk) (k : ℕ) (seen : Parts) → AreBelow v height → seen ≡ (at v k).version → made + 3 * (at v k).level ≤ above height w + 3 * height → IsAtPoint height made v (walk_onto w k seen) s
+  comes_onto : (w : Walk) (k : ℕ) (seen : Parts) → AreBelow v height → seen ≡ (at v k).version
+      → made + 3 * (at v k).level ≤ above height w + 3 * height → IsAtPoint height made v (walk_onto w k seen) s
   comes_onto w k seen below now few = record { below = λ other. below; few = few_by seen.border w.writes (walk_onto w k seen) now few }
 
   -- and one that comes with an older one
@@ -74,11 +78,13 @@ module _ (v : ArenaView) (height made : ℕ) (s : Splits) where
   strays_onto w k seen below few = record { below = λ other. below; few = strays_by seen.border w.writes (walk_onto w k seen) few }
 
   -- one that stays at its border node, to search or to lock
-  stays_by : (writes : Bool) (w : Walk) → (SeesNow v w × (made ≤ astray height)) ⊎ (made + (4 + behind v w.place.node) ≤ astray height) → HasMade (arrival writes) height made v w s
+  stays_by : (writes : Bool) (w : Walk) → (SeesNow v w × (made ≤ astray height)) ⊎ (made + (4 + behind v w.place.node) ≤ astray height)
+      → HasMade (arrival writes) height made v w s
   stays_by true w few = elim few [ inl now ↦ inl (now.0, omega (arith, now.1)) | inr strays ↦ inr (omega (arith, strays)) ]
   stays_by false w few = elim few [ inl now ↦ inl (now.0, omega (arith, now.1)) | inr strays ↦ inr strays ]
 
-  stays_here : (w : Walk) → AreBelow v height → (SeesNow v w × (made ≤ astray height)) ⊎ (made + (4 + behind v w.place.node) ≤ astray height) → IsAtPoint height made v (walk_here w) s
+  stays_here : (w : Walk) → AreBelow v height → (SeesNow v w × (made ≤ astray height)) ⊎ (made + (4 + behind v w.place.node) ≤ astray height)
+      → IsAtPoint height made v (walk_here w) s
   stays_here w below few = record { below = λ other. below; few = stays_by w.writes (walk_here w) few }
 
 -- a tree that nobody is making is live, where none is dead
@@ -89,11 +95,13 @@ still_live Dead unmade alive = absurd (alive refl)
 
 -- a border node that stands leads on
 pub after_live : (w : Walk) (now : Parts) (next : Option ℕ) → now.deleted ≡ false → after_change w now next ≡ record w { place = record w.place { seen = now }; next = next; phase = Forward }
-after_live w now next live = ap (λ (deleted : Bool). cond deleted (walk_anew w) (record w { place = record w.place { seen = now }; next = next; phase = Forward })) live
+after_live w now next live =
+    ap (λ (deleted : Bool). cond deleted (walk_anew w) (record w { place = record w.place { seen = now }; next = next; phase = Forward })) live
 
 module _ (v : ArenaView) (w after : Walk) where
   -- a walk picks a child, and looks at it
-  pub pick_nears : (c : ℕ) → w.phase ≡ Pick → after ≡ after_pick w c → (height made : ℕ) (s : Splits) → IsAtPoint height made v w s → IsAtPoint height (made + 1) v after s
+  pub pick_nears : (c : ℕ) → w.phase ≡ Pick → after ≡ after_pick w c → (height made : ℕ) (s : Splits) → IsAtPoint height made v w s
+      → IsAtPoint height (made + 1) v after s
   pick_nears c picks is height made s point =
       let below = below_at height made v w s Pick picks (λ grown. grown) point in
       let few : (SeesNow v w × (made + 3 * level_of v w ≤ above height w + 3 * height)) ⊎ (made + 3 ≤ astray height) = few_at height made v w s Pick picks point in
@@ -105,7 +113,8 @@ module _ (v : ArenaView) (w after : Walk) where
         ];
       })
 
-  pub child_nears : (r : Option ℕ) → w.phase ≡ Child → IfNone r (after ≡ after_child w (at v w.child).version) → (height made : ℕ) (s : Splits) → IfNone r (IsAtPoint height made v w s → IsAtPoint height (made + 1) v after s)
+  pub child_nears : (r : Option ℕ) → w.phase ≡ Child → IfNone r (after ≡ after_child w (at v w.child).version) → (height made : ℕ) (s : Splits)
+      → IfNone r (IsAtPoint height made v w s → IsAtPoint height (made + 1) v after s)
   child_nears (Some holder) looks is height made s = tt
   child_nears None looks is height made s = λ point.
       let below = below_at height made v w s Child looks (λ grown. grown) point in
@@ -120,7 +129,8 @@ module _ (v : ArenaView) (w after : Walk) where
 
 module _ (v : ArenaView) (arena : IsArena v.nodes v.trees) (one : IsUnremoved v) (key : Bytes) (past : Past) (w after : Walk) (kept : IsKept v past key None w) where
   -- from its beginning a walk comes to the root
-  pub enter_nears : (r : Option ℕ) → w.phase ≡ Enter → IfNone r (after ≡ after_enter (tree_at v.trees w.place.tree).standing w (tree_at v.trees w.place.tree).root (at v (tree_at v.trees w.place.tree).root).version)
+  pub enter_nears : (r : Option ℕ) → w.phase ≡ Enter
+      → IfNone r (after ≡ after_enter (tree_at v.trees w.place.tree).standing w (tree_at v.trees w.place.tree).root (at v (tree_at v.trees w.place.tree).root).version)
       → (height made : ℕ) (s : Splits) → IfNone r (IsAtPoint height made v w s → IsAtPoint height (made + 1) v after s)
   enter_nears (Some holder) enters is height made s = tt
   enter_nears None enters is height made s = λ point.
@@ -145,7 +155,8 @@ module _ (v : ArenaView) (arena : IsArena v.nodes v.trees) (one : IsUnremoved v)
   ]
 
   -- and so does one that is not
-  pub verify_nears : (r : Option ℕ) → w.phase ≡ Verify → IfNone r (Verifies (at v w.place.node) w after) → (height made : ℕ) (s : Splits) → IfNone r (IsAtPoint height made v w s → IsAtPoint height (made + 1) v after s)
+  pub verify_nears : (r : Option ℕ) → w.phase ≡ Verify → IfNone r (Verifies (at v w.place.node) w after) → (height made : ℕ) (s : Splits)
+      → IfNone r (IsAtPoint height made v w s → IsAtPoint height (made + 1) v after s)
   verify_nears (Some holder) verifies is height made s = tt
   verify_nears None verifies is height made s = λ point.
       let verifying : IsAtVerify v key w = subst (λ (p : Phase). KeptAt p v past key None w) verifies kept in
@@ -166,7 +177,8 @@ module _ (v : ArenaView) (arena : IsArena v.nodes v.trees) (one : IsUnremoved v)
       ]
 
   -- it goes on to the next border node, which begins behind its own, or stays
-  pub forward_nears : (r : Option ℕ) (slice : ℕ) → w.phase ≡ Forward → (w.next ≡ None → IsNone r × (after ≡ walk_here w)) → ((j : ℕ) → w.next ≡ Some j → IfNone r (after ≡ after_forward w slice j (at v j)))
+  pub forward_nears : (r : Option ℕ) (slice : ℕ) → w.phase ≡ Forward → (w.next ≡ None → IsNone r × (after ≡ walk_here w))
+      → ((j : ℕ) → w.next ≡ Some j → IfNone r (after ≡ after_forward w slice j (at v j)))
       → (height made : ℕ) (s : Splits) → IfNone r (IsAtPoint height made v w s → IsAtPoint height (made + 1) v after s)
   forward_nears (Some holder) slice forwards last is height made s = tt
   forward_nears None slice forwards last is height made s = λ point.
@@ -186,19 +198,23 @@ module _ (v : ArenaView) (arena : IsArena v.nodes v.trees) (one : IsUnremoved v)
       by_next height made s here (λ j e. subst (λ (x : Walk). IsAtPoint height (made + 1) v x s) (sym (is j e ∙ to j e))
       (onward height made s forward.next below upto here j e (nat_le (at v j).low slice))) w.next refl
     where
-      onward : (height made : ℕ) (s : Splits) → HasNext v w.place.tree w.place.node w.place.seen w.next → AreBelow v height → made + (1 + behind v w.place.node) ≤ astray height → IsAtPoint height (made + 1) v (walk_here w) s
+      onward : (height made : ℕ) (s : Splits) → HasNext v w.place.tree w.place.node w.place.seen w.next → AreBelow v height
+          → made + (1 + behind v w.place.node) ≤ astray height → IsAtPoint height (made + 1) v (walk_here w) s
           → (j : ℕ) → w.next ≡ Some j → (b : Bool) → IsAtPoint height (made + 1) v (cond b (walk_to_next w j (at v j)) (walk_here w)) s
       onward height made s next below upto here j e false = here
       onward height made s next below upto here j e true =
           let fewer = behind_fewer v.nodes (at v w.place.node).low (at v j).low j (next.after j e) (next.there j e) refl in
           record { below = λ grown. below; few = inl (refl, omega (arith, upto, fewer)) }
 
-      by_next : (height made : ℕ) (s : Splits) → IsAtPoint height (made + 1) v (walk_here w) s → ((j : ℕ) → w.next ≡ Some j → IsAtPoint height (made + 1) v after s) → (next : Option ℕ) → w.next ≡ next → IsAtPoint height (made + 1) v after s
+      by_next : (height made : ℕ) (s : Splits) → IsAtPoint height (made + 1) v (walk_here w) s
+          → ((j : ℕ) → w.next ≡ Some j → IsAtPoint height (made + 1) v after s) → (next : Option ℕ) → w.next ≡ next
+          → IsAtPoint height (made + 1) v after s
       by_next height made s here there None e = subst (λ (x : Walk). IsAtPoint height (made + 1) v x s) (sym (last e).1) here
       by_next height made s here there (Some j) e = there j e
 
 -- a search leaves its walk at the node
-pub search_nears : (v : ArenaView) (w after : Walk) (f : Find) (step : ℕ) → w.phase ≡ Search → after ≡ after_search f w step → (height made : ℕ) (s : Splits) → IsAtPoint height made v w s → IsAtPoint height (made + 1) v after s
+pub search_nears : (v : ArenaView) (w after : Walk) (f : Find) (step : ℕ) → w.phase ≡ Search → after ≡ after_search f w step
+    → (height made : ℕ) (s : Splits) → IsAtPoint height made v w s → IsAtPoint height (made + 1) v after s
 search_nears v w after f step looks is height made s point = subst (λ (x : Walk). IsAtPoint height (made + 1) v x s) (sym is) (by f)
   where
     below : AreBelow v height
@@ -226,7 +242,8 @@ search_nears v w after f step looks is height made s point = subst (λ (x : Walk
     by (finds.Slot slot ToTree) = record { below = λ other. below; few = load }
 
 -- so does a load that took something
-pub load_nears : (v : ArenaView) (w after : Walk) (taken : Taken) (right : ℕ) → w.phase ≡ Load → after ≡ after_load w taken right → (height made : ℕ) (s : Splits) → IsAtPoint height made v w s → IsAtPoint height (made + 1) v after s
+pub load_nears : (v : ArenaView) (w after : Walk) (taken : Taken) (right : ℕ) → w.phase ≡ Load → after ≡ after_load w taken right
+    → (height made : ℕ) (s : Splits) → IsAtPoint height made v w s → IsAtPoint height (made + 1) v after s
 load_nears v w after taken right loads is height made s point =
     let below = below_at height made v w s Load loads (λ grown. grown) point in
     let few : (SeesNow v w × (made ≤ above height w + 3 * height + 1)) ⊎ (made + (3 + behind v w.place.node) ≤ astray height) = few_at height made v w s Load loads point in
@@ -239,10 +256,12 @@ load_nears v w after taken right loads is height made s point =
     })
 
 -- a step into the next layer is within what the layers above it may take
-layer_more : (height layer made : ℕ) → made ≤ astray height + layer * (3 * height + 12) + 3 * height + 10 → made + 1 ≤ astray height + (layer + 1) * (3 * height + 12)
+layer_more : (height layer made : ℕ) → made ≤ astray height + layer * (3 * height + 12) + 3 * height + 10
+    → made + 1 ≤ astray height + (layer + 1) * (3 * height + 12)
 layer_more height layer made few = let more = add-mul layer 1 (3 * height + 12) in omega (arith, few, more)
 
-pub next_layer : (height layer made : ℕ) → layer + 1 < 32 → made ≤ astray height + min layer 31 * (3 * height + 12) + 3 * height + 10 → made + 1 ≤ astray height + min (layer + 1) 31 * (3 * height + 12)
+pub next_layer : (height layer made : ℕ) → layer + 1 < 32 → made ≤ astray height + min layer 31 * (3 * height + 12) + 3 * height + 10
+    → made + 1 ≤ astray height + min (layer + 1) 31 * (3 * height + 12)
 next_layer height layer made shallow few =
     let here : min layer 31 ≡ layer = min-eq_left (omega (arith, shallow)) in
     let next : min (layer + 1) 31 ≡ layer + 1 = min-eq_left (omega (arith, shallow)) in
@@ -253,9 +272,12 @@ pub shallow_below : (layer : ℕ) (key : Bytes) → IsStoredKey key → 8 * (lay
 shallow_below layer key stored begun = omega (arith, stored.within, begun)
 
 -- a get that goes on from a node that is as it was goes into the tree of a link; from another it goes to the next node
-pub confirm_nears : (v : ArenaView) (past : Past) (key : Bytes) (row : Option Columns) (w after : Walk) → IsStoredKey key → w.phase ≡ Confirm → IsAtConfirm v past key row w → (at v w.place.node).version.deleted ≡ false
-    → Confirms (at v w.place.node) w after → after.phase ≢ Done → (height made : ℕ) (s : Splits) → IsAtPoint height made v w s → IsAtPoint height (made + 1) v after s
-confirm_nears v past key row w after stored confirming h live confirms goes_on height made s point = elim (same_or_not (at v w.place.node).version w.place.seen) [
+pub confirm_nears : (v : ArenaView) (past : Past) (key : Bytes) (row : Option Columns) (w after : Walk) → IsStoredKey key → w.phase ≡ Confirm
+    → IsAtConfirm v past key row w → (at v w.place.node).version.deleted ≡ false
+    → Confirms (at v w.place.node) w after → after.phase ≢ Done → (height made : ℕ) (s : Splits) → IsAtPoint height made v w s
+    → IsAtPoint height (made + 1) v after s
+confirm_nears v past key row w after stored confirming h live confirms goes_on height made s point =
+    elim (same_or_not (at v w.place.node).version w.place.seen) [
   | inl same ↦
       let is = confirms.same same in
       subst (λ (x : Walk). IsAtPoint height (made + 1) v x s) (sym is)
@@ -280,7 +302,8 @@ confirm_nears v past key row w after stored confirming h live confirms goes_on h
       | inr strays ↦ omega (arith, strays)
     ]
 
-    onward : Stands (at v w.place.node) w.place.seen → (taken : Taken) → TakenHolds v past key row w taken → (after_confirm taken w).phase ≢ Done → IsAtPoint height (made + 1) v (after_confirm taken w) s
+    onward : Stands (at v w.place.node) w.place.seen → (taken : Taken) → TakenHolds v past key row w taken → (after_confirm taken w).phase ≢ Done
+        → IsAtPoint height (made + 1) v (after_confirm taken w) s
     onward stands (Link u) holds on = record {
       below = λ other. below;
       few = next_layer height w.layer made (shallow_below w.layer key stored (holds stands).begun) (omega (arith, upto));

@@ -32,7 +32,8 @@ use Rattle.mt_core.specs.Points.{IsAtPoint}
 use Rattle.mt_core.specs.Looks.{led_to, MayLoad, MayConfirm, TellsDescended, TellsLoaded}
 
 -- a walk that enters a tree goes on so
-pub enter_goes : (r : Option ℕ) (v : ArenaView) (before after : Walk) → before.phase ≡ Enter → IfNone r (after ≡ after_enter (tree_at v.trees before.place.tree).standing before (tree_at v.trees before.place.tree).root (at v (tree_at v.trees before.place.tree).root).version)
+pub enter_goes : (r : Option ℕ) (v : ArenaView) (before after : Walk) → before.phase ≡ Enter
+    → IfNone r (after ≡ after_enter (tree_at v.trees before.place.tree).standing before (tree_at v.trees before.place.tree).root (at v (tree_at v.trees before.place.tree).root).version)
     → Continues before after → IfNone r (Descends before after)
 enter_goes None v before after at_enter is same =
     let tree = tree_at v.trees before.place.tree in
@@ -40,14 +41,17 @@ enter_goes None v before after at_enter is same =
 enter_goes (Some holder) v before after at_enter is same = tt
 
 -- a walk that compared the version of its interior node goes on so
-pub verify_goes : (r : Option ℕ) (n : NodeView) (before after : Walk) → before.phase ≡ Verify → IfNone r (Verifies n before after) → Continues before after → IfNone r (Descends before after)
+pub verify_goes : (r : Option ℕ) (n : NodeView) (before after : Walk) → before.phase ≡ Verify → IfNone r (Verifies n before after)
+    → Continues before after → IfNone r (Descends before after)
 verify_goes None n before after at_verify v same = descends before after same (verified n before after at_verify v)
 verify_goes (Some holder) n before after at_verify v same = tt
 
 -- one that reads the next border node, if there is one, goes on there or stays
-pub forward_goes : (r : Option ℕ) (slice : ℕ) (nodes : ℕ → NodeView) (before after : Walk) → before.phase ≡ Forward → (before.next ≡ None → IsNone r × (after ≡ walk_here before))
+pub forward_goes : (r : Option ℕ) (slice : ℕ) (nodes : ℕ → NodeView) (before after : Walk) → before.phase ≡ Forward
+    → (before.next ≡ None → IsNone r × (after ≡ walk_here before))
     → ((j : ℕ) → before.next ≡ Some j → IfNone r (after ≡ after_forward before slice j (nodes j))) → Continues before after → IfNone r (Descends before after)
-forward_goes None slice nodes before after at_forward last is same = descends before after same (subst (λ (p : Phase). Leads p after.phase after.writes) (sym at_forward) (by before.next refl))
+forward_goes None slice nodes before after at_forward last is same =
+    descends before after same (subst (λ (p : Phase). Leads p after.phase after.writes) (sym at_forward) (by before.next refl))
   where
     by : (next : Option ℕ) → before.next ≡ next → Leads Forward after.phase after.writes
     by None e = subst (λ (x : Walk). Leads Forward x.phase x.writes) (sym (last e).1) (stayed before)
@@ -55,34 +59,44 @@ forward_goes None slice nodes before after at_forward last is same = descends be
 forward_goes (Some holder) slice nodes before after at_forward last is same = tt
 
 -- the table of phases leads it there: from Enter
-pub enter_leads : (r : Option ℕ) (v : ArenaView) (key : Bytes) (before after : Walk) → before.phase ≡ Enter → AnswersAgain (at v (tree_at v.trees before.place.tree).root) before after r
+pub enter_leads : (r : Option ℕ) (v : ArenaView) (key : Bytes) (before after : Walk) → before.phase ≡ Enter
+    → AnswersAgain (at v (tree_at v.trees before.place.tree).root) before after r
     → IfNone r (after ≡ after_enter (tree_at v.trees before.place.tree).standing before (tree_at v.trees before.place.tree).root (at v (tree_at v.trees before.place.tree).root).version)
     → (o step : ℕ) (told : Option Outcome) (s : SplitsView) → IfNone r (LeadsTo before.phase v v o step key told s before after)
-enter_leads None v key before after at_enter again is o step told s = subst (λ (p : Phase). LeadsTo p v v o step key told s before after) (sym at_enter) (again, is)
+enter_leads None v key before after at_enter again is o step told s =
+    subst (λ (p : Phase). LeadsTo p v v o step key told s before after) (sym at_enter) (again, is)
 enter_leads (Some holder) v key before after at_enter again is o step told s = tt
 
 -- from Pick
-pub pick_leads : (v : ArenaView) (key : Bytes) (before after : Walk) → before.phase ≡ Pick → after ≡ after_pick before (child_for (at v before.place.node) (slice_in key before))
+pub pick_leads : (v : ArenaView) (key : Bytes) (before after : Walk) → before.phase ≡ Pick
+    → after ≡ after_pick before (child_for (at v before.place.node) (slice_in key before))
     → (o step : ℕ) (told : Option Outcome) (s : SplitsView) → LeadsTo before.phase v v o step key told s before after
 pick_leads v key before after at_pick is o step told s = subst (λ (p : Phase). LeadsTo p v v o step key told s before after) (sym at_pick) is
 
 -- from Child
-pub child_leads : (r : Option ℕ) (v : ArenaView) (key : Bytes) (before after : Walk) → before.phase ≡ Child → AnswersAgain (at v before.child) before after r → IfNone r (after ≡ after_child before (at v before.child).version)
+pub child_leads : (r : Option ℕ) (v : ArenaView) (key : Bytes) (before after : Walk) → before.phase ≡ Child
+    → AnswersAgain (at v before.child) before after r → IfNone r (after ≡ after_child before (at v before.child).version)
     → (o step : ℕ) (told : Option Outcome) (s : SplitsView) → IfNone r (LeadsTo before.phase v v o step key told s before after)
-child_leads None v key before after at_child again is o step told s = subst (λ (p : Phase). LeadsTo p v v o step key told s before after) (sym at_child) (again, is)
+child_leads None v key before after at_child again is o step told s =
+    subst (λ (p : Phase). LeadsTo p v v o step key told s before after) (sym at_child) (again, is)
 child_leads (Some holder) v key before after at_child again is o step told s = tt
 
 -- from Verify
-pub verify_leads : (r : Option ℕ) (v : ArenaView) (key : Bytes) (before after : Walk) → before.phase ≡ Verify → AnswersAgain (at v before.place.node) before after r → IfNone r (Verifies (at v before.place.node) before after)
+pub verify_leads : (r : Option ℕ) (v : ArenaView) (key : Bytes) (before after : Walk) → before.phase ≡ Verify
+    → AnswersAgain (at v before.place.node) before after r → IfNone r (Verifies (at v before.place.node) before after)
     → (o step : ℕ) (told : Option Outcome) (s : SplitsView) → IfNone r (LeadsTo before.phase v v o step key told s before after)
-verify_leads None v key before after at_verify again is o step told s = subst (λ (p : Phase). LeadsTo p v v o step key told s before after) (sym at_verify) (again, is)
+verify_leads None v key before after at_verify again is o step told s =
+    subst (λ (p : Phase). LeadsTo p v v o step key told s before after) (sym at_verify) (again, is)
 verify_leads (Some holder) v key before after at_verify again is o step told s = tt
 
 -- and from Forward, by the next node
-pub forward_leads : (r : Option ℕ) (v : ArenaView) (key : Bytes) (before after : Walk) → before.phase ≡ Forward → ((j : ℕ) → before.next ≡ Some j → AnswersAgain (at v j) before after r)
-    → (before.next ≡ None → IsNone r × (after ≡ walk_here before)) → ((j : ℕ) → before.next ≡ Some j → IfNone r (after ≡ after_forward before (slice_in key before) j (at v j)))
+pub forward_leads : (r : Option ℕ) (v : ArenaView) (key : Bytes) (before after : Walk) → before.phase ≡ Forward
+    → ((j : ℕ) → before.next ≡ Some j → AnswersAgain (at v j) before after r)
+    → (before.next ≡ None → IsNone r × (after ≡ walk_here before))
+    → ((j : ℕ) → before.next ≡ Some j → IfNone r (after ≡ after_forward before (slice_in key before) j (at v j)))
     → (o step : ℕ) (told : Option Outcome) (s : SplitsView) → IfNone r (LeadsTo before.phase v v o step key told s before after)
-forward_leads None v key before after at_forward again last is o step told s = subst (λ (p : Phase). LeadsTo p v v o step key told s before after) (sym at_forward) (by before.next refl)
+forward_leads None v key before after at_forward again last is o step told s =
+    subst (λ (p : Phase). LeadsTo p v v o step key told s before after) (sym at_forward) (by before.next refl)
   where
     by : (next : Option ℕ) → before.next ≡ next → GoesForward next v key before after
     by None e = (last e).1
@@ -90,24 +104,29 @@ forward_leads None v key before after at_forward again last is o step told s = s
 forward_leads (Some holder) v key before after at_forward again last is o step told s = tt
 
 -- who is in the way of such a step is the holder of the node that it reads
-pub read_way : (v : ArenaView) (p : Phase) (before after : Walk) (s : SplitsView) (k : ℕ) (r : Option ℕ) → before.phase ≡ p → needed_node p v before s ≡ Some k → k < length v.nodes → ((holder : ℕ) → IsBlocked (at v k) holder → Blocks p (at v k) before.slot holder)
+pub read_way : (v : ArenaView) (p : Phase) (before after : Walk) (s : SplitsView) (k : ℕ) (r : Option ℕ) → before.phase ≡ p
+    → needed_node p v before s ≡ Some k → k < length v.nodes → ((holder : ℕ) → IsBlocked (at v k) holder → Blocks p (at v k) before.slot holder)
     → AnswersAgain (at v k) before after r → IfSome r (λ holder. IsInTheWay v before.phase before s holder × (after ≡ before))
 read_way v p before after s k None at_p needs within blocks again = tt
-read_way v p before after s k (Some holder) at_p needs within blocks again = (subst (λ (q : Phase). IsInTheWay v q before s holder) (sym at_p) (k, needs, within, blocks holder again.1), again.0)
+read_way v p before after s k (Some holder) at_p needs within blocks again =
+    (subst (λ (q : Phase). IsInTheWay v q before s holder) (sym at_p) (k, needs, within, blocks holder again.1), again.0)
 
 -- so at the root of its tree, at the child, at the interior node, and at the next border node
 module _ (v : ArenaView) (arena : IsArena v.nodes v.trees) (past : Past) (key : Bytes) (w after : Walk) (kept : IsKept v past key None w) (s : SplitsView) (r : Option ℕ) where
   at_phase : (p : Phase) → w.phase ≡ p → KeptAt p v past key None w
   at_phase p at_p = subst (λ (q : Phase). KeptAt q v past key None w) at_p kept
 
-  pub enter_way : w.phase ≡ Enter → AnswersAgain (at v (tree_at v.trees w.place.tree).root) w after r → IfSome r (λ holder. IsInTheWay v w.phase w s holder × (after ≡ w))
-  enter_way at_enter = read_way v Enter w after s (tree_at v.trees w.place.tree).root r at_enter refl (arena.forest.each w.place.tree (at_phase Enter at_enter).there).root_there (λ holder blocked. blocked)
+  pub enter_way : w.phase ≡ Enter → AnswersAgain (at v (tree_at v.trees w.place.tree).root) w after r
+      → IfSome r (λ holder. IsInTheWay v w.phase w s holder × (after ≡ w))
+  enter_way at_enter =
+      read_way v Enter w after s (tree_at v.trees w.place.tree).root r at_enter refl (arena.forest.each w.place.tree (at_phase Enter at_enter).there).root_there (λ holder blocked. blocked)
 
   pub child_way : w.phase ≡ Child → AnswersAgain (at v w.child) w after r → IfSome r (λ holder. IsInTheWay v w.phase w s holder × (after ≡ w))
   child_way at_child = read_way v Child w after s w.child r at_child refl (at_phase Child at_child).picked.there (λ holder blocked. blocked)
 
   pub verify_way : w.phase ≡ Verify → AnswersAgain (at v w.place.node) w after r → IfSome r (λ holder. IsInTheWay v w.phase w s holder × (after ≡ w))
-  verify_way at_verify = read_way v Verify w after s w.place.node r at_verify refl (at_phase Verify at_verify).above.covers.remembered.there (λ holder blocked. blocked)
+  verify_way at_verify =
+      read_way v Verify w after s w.place.node r at_verify refl (at_phase Verify at_verify).above.covers.remembered.there (λ holder blocked. blocked)
 
   no_way : IsNone r → IfSome r (λ holder. IsInTheWay v w.phase w s holder × (after ≡ w))
   no_way none = by r none
@@ -116,7 +135,8 @@ module _ (v : ArenaView) (arena : IsArena v.nodes v.trees) (past : Past) (key : 
       by None is = tt
       by (Some holder) is = absurd (cc)
 
-  pub forward_way : w.phase ≡ Forward → ((j : ℕ) → w.next ≡ Some j → AnswersAgain (at v j) w after r) → (w.next ≡ None → IsNone r × (after ≡ walk_here w)) → IfSome r (λ holder. IsInTheWay v w.phase w s holder × (after ≡ w))
+  pub forward_way : w.phase ≡ Forward → ((j : ℕ) → w.next ≡ Some j → AnswersAgain (at v j) w after r)
+      → (w.next ≡ None → IsNone r × (after ≡ walk_here w)) → IfSome r (λ holder. IsInTheWay v w.phase w s holder × (after ≡ w))
   forward_way at_forward again last = by w.next refl
     where
       by : (next : Option ℕ) → w.next ≡ next → IfSome r (λ holder. IsInTheWay v w.phase w s holder × (after ≡ w))
@@ -127,11 +147,14 @@ module _ (v : ArenaView) (arena : IsArena v.nodes v.trees) (past : Past) (key : 
 same_operation : (op : Operation) (w : Walk) → w ≡ op.walk → record op { walk = w } ≡ op
 same_operation op w same = λ a. record op { walk = same a }
 
-pub blocked_descent : (v : ArenaView) (op : Operation) (w : Walk) (holder : ℕ) → IsInTheWay v op.walk.phase op.walk (splits_of op.splits) holder × (w ≡ op.walk) → IsInTheWay v op.walk.phase op.walk (splits_of op.splits) holder × (record op { walk = w } ≡ op)
+pub blocked_descent : (v : ArenaView) (op : Operation) (w : Walk) (holder : ℕ)
+    → IsInTheWay v op.walk.phase op.walk (splits_of op.splits) holder × (w ≡ op.walk)
+    → IsInTheWay v op.walk.phase op.walk (splits_of op.splits) holder × (record op { walk = w } ≡ op)
 blocked_descent v op w holder way = (way.0, same_operation op w way.1)
 
 -- who is in the way of a load, and of a confirmation
-pub blocked_load : (v : ArenaView) (op : Operation) (w : Walk) (holder : ℕ) → MayLoad v op → (w ≡ op.walk) × IsBlockedAt (at v op.walk.place.node) op.walk.slot holder
+pub blocked_load : (v : ArenaView) (op : Operation) (w : Walk) (holder : ℕ) → MayLoad v op
+    → (w ≡ op.walk) × IsBlockedAt (at v op.walk.place.node) op.walk.slot holder
     → IsInTheWay v op.walk.phase op.walk (splits_of op.splits) holder × (record op { walk = w } ≡ op)
 blocked_load v op w holder may again =
     (subst (λ (p : Phase). IsInTheWay v p op.walk (splits_of op.splits) holder) (sym may.phase) (op.walk.place.node, refl, may.kept.at_border.covers.remembered.there, again.1), same_operation op w again.0)
@@ -155,12 +178,15 @@ shows_taken f None reply op after gets is = record {
 }
 shows_taken f (Some r) reply op after gets is = record {
   none = λ e. absurd (cc);
-  some = λ columns asked e by. ap (option_map (placed_at after.right_at)) (is asked by) ∙ ap (λ (x : Columns). Some (placed_at after.right_at (Found (shown asked x)))) (same_Some (f r) columns e);
+  some =
+      λ columns asked e by. ap (option_map (placed_at after.right_at)) (is asked by) ∙ ap (λ (x : Columns). Some (placed_at after.right_at (Found (shown asked x)))) (same_Some (f r) columns e);
 }
 
 -- what a load tells that had memory for the row that it shows
-pub tells_shown : {R : Type 0} (f : R → Columns) (taken : Option R) (reply : Option Reply) (v : ArenaView) (op : Operation) (step : ℕ) (after : Walk) (told : Option Outcome) → is_get (ask op.task) ≡ true → Loads (at v op.walk.place.node) op.walk after (option_map f taken)
-    → ((asked : List ℕ) → columns_asked (ask op.task) ≡ Some asked → reply ≡ option_map (λ r. Found (shown asked (f r))) taken) → told ≡ option_map (placed_at after.right_at) reply
+pub tells_shown : {R : Type 0} (f : R → Columns) (taken : Option R) (reply : Option Reply) (v : ArenaView) (op : Operation) (step : ℕ) (after : Walk) (told : Option Outcome)
+    → is_get (ask op.task) ≡ true → Loads (at v op.walk.place.node) op.walk after (option_map f taken)
+    → ((asked : List ℕ) → columns_asked (ask op.task) ≡ Some asked → reply ≡ option_map (λ r. Found (shown asked (f r))) taken)
+    → told ≡ option_map (placed_at after.right_at) reply
     → TellsLoaded v step op (led_to op after told)
 tells_shown f taken reply v op step after told gets loads is says = record {
   row = option_map f taken;
@@ -171,7 +197,9 @@ tells_shown f taken reply v op step after told gets loads is says = record {
 }
 
 -- what a step makes of an operation of which it leads the walk down
-pub looks_down : (v : ArenaView) (op : Operation) (w : Walk) → ((o step : ℕ) (told : Option Outcome) (s : SplitsView) → LeadsTo op.walk.phase v v o step op.task.key told s op.walk w) → Descends op.walk w
-    → ((height made : ℕ) (splits : Splits) → IsAtPoint height made v op.walk splits → IsAtPoint height (made + 1) v w splits) → ((past : Past) → IsKept v past op.task.key None w)
+pub looks_down : (v : ArenaView) (op : Operation) (w : Walk)
+    → ((o step : ℕ) (told : Option Outcome) (s : SplitsView) → LeadsTo op.walk.phase v v o step op.task.key told s op.walk w) → Descends op.walk w
+    → ((height made : ℕ) (splits : Splits) → IsAtPoint height made v op.walk splits → IsAtPoint height (made + 1) v w splits)
+    → ((past : Past) → IsKept v past op.task.key None w)
     → TellsDescended v op (led_to op w op.outcome)
 looks_down v op w leads goes nears kept = record { leads = leads; goes = goes; nears = nears; kept = kept; others = refl }

@@ -14,18 +14,21 @@ use Rattle.mt_state.specs.Views.{Core}
 use Rattle.mt_core.specs.Points.{AreBelow, HasMade, MayHaveGrown, IsAtPoint, IsFreeOfOthers, Nears}
 
 -- the number of the first step says nothing of the point
-made_first : (p : Phase) (height made : ℕ) (v : ArenaView) (w : Walk) (s : Splits) (first : ℕ) → HasMade p height made v w s → HasMade p height made v (record w { first = first }) s
+made_first : (p : Phase) (height made : ℕ) (v : ArenaView) (w : Walk) (s : Splits) (first : ℕ) → HasMade p height made v w s
+    → HasMade p height made v (record w { first = first }) s
 made_first Enter height made v w s first h = h
 made_first _ height made v w s first h = h
 
-pub point_first : (height made : ℕ) (v : ArenaView) (w : Walk) (s : Splits) (first : ℕ) → IsAtPoint height made v w s → IsAtPoint height made v (record w { first = first }) s
+pub point_first : (height made : ℕ) (v : ArenaView) (w : Walk) (s : Splits) (first : ℕ) → IsAtPoint height made v w s
+    → IsAtPoint height made v (record w { first = first }) s
 point_first height made v w s first p = record {
   below = p.below;
   few = made_first w.phase height made v w s first p.few;
 }
 
 -- the point of a walk at this phase
-pub point_at : (height made : ℕ) (v : ArenaView) (w : Walk) (s : Splits) (p : Phase) → w.phase ≡ p → (¬ MayHaveGrown p s.halves.items → AreBelow v height) → HasMade p height made v w s → IsAtPoint height made v w s
+pub point_at : (height made : ℕ) (v : ArenaView) (w : Walk) (s : Splits) (p : Phase) → w.phase ≡ p
+    → (¬ MayHaveGrown p s.halves.items → AreBelow v height) → HasMade p height made v w s → IsAtPoint height made v w s
 point_at height made v w s p is below few = record {
   below = λ other. below (subst (λ (q : Phase). ¬ MayHaveGrown q s.halves.items) is other);
   few = subst (λ (q : Phase). HasMade q height made v w s) (sym is) few;
@@ -51,7 +54,8 @@ module _ (c new : Core) (o : ℕ) (op after : Operation) (there : operation_at c
   ]
 
   -- a step brings the operation on whose walk came to the next point
-  pub nears_by : ((height made : ℕ) → IsAtPoint height made c.arena op.walk op.splits → IsAtPoint height (made + 1) new.arena after.walk after.splits) → Nears c new o Moved
+  pub nears_by : ((height made : ℕ) → IsAtPoint height made c.arena op.walk op.splits → IsAtPoint height (made + 1) new.arena after.walk after.splits)
+      → Nears c new o Moved
   nears_by brings height made u = record {
     op = after;
     there = came;

@@ -55,7 +55,8 @@ use Rattle.mt_core.proofs.Following.{IsOver, Writes, made, may_move, may_over, n
 use Rattle.mt_core.proofs.Leading.{done_from, leads_over}
 
 -- the walk of a put that takes its lock, or that goes on to the next node, in a live tree
-lock_brings : (o : ℕ) (v arena : ArenaView) (w x : Walk) (s : Splits) → Locks o v arena x w → x.phase ≡ Lock → x.place.node < length v.nodes → (at v x.place.node).version.deleted ≡ false
+lock_brings : (o : ℕ) (v arena : ArenaView) (w x : Walk) (s : Splits) → Locks o v arena x w → x.phase ≡ Lock → x.place.node < length v.nodes
+    → (at v x.place.node).version.deleted ≡ false
     → (height n : ℕ) → IsAtPoint height n v x s → IsAtPoint height (n + 1) arena w s
 lock_brings o v arena w x s locks at_lock within live height n point = elim (outdated_or_not (at v x.place.node) x.place.seen) [
   | inl outdated ↦ elim few [
@@ -94,7 +95,8 @@ lock_brings o v arena w x s locks at_lock within live height n point = elim (out
         (record { below = λ other. below; few = inl (refl, strays) }))
 
 -- of one that has made all ready
-judge_brings : (v : ArenaView) (m : NodeView) (slot : Option ℕ) (w x : Walk) (s : Splits) → w ≡ after_judge m slot x → x.phase ≡ Judge → (height n : ℕ) → IsAtPoint height n v x s → IsAtPoint height (n + 1) v w s
+judge_brings : (v : ArenaView) (m : NodeView) (slot : Option ℕ) (w x : Walk) (s : Splits) → w ≡ after_judge m slot x → x.phase ≡ Judge
+    → (height n : ℕ) → IsAtPoint height n v x s → IsAtPoint height (n + 1) v w s
 judge_brings v m slot w x s goes at_judge height n point = subst (λ (y : Walk). IsAtPoint height (n + 1) v y s) (sym goes) (by_slot slot)
   where
     few : HasMade Judge height n v x s
@@ -112,14 +114,16 @@ judge_brings v m slot w x s goes at_judge height n point = subst (λ (y : Walk).
     by_slot None = by_full (eqb (length m.slots) 15)
 
 -- of one that meets another long key in the place of its own
-meet_brings : (v : ArenaView) (slot : ℕ) (w x : Walk) (s : Splits) → w ≡ record x { slot = slot; phase = MakeLayer } → x.phase ≡ Judge → (height n : ℕ) → IsAtPoint height n v x s → IsAtPoint height (n + 1) v w s
+meet_brings : (v : ArenaView) (slot : ℕ) (w x : Walk) (s : Splits) → w ≡ record x { slot = slot; phase = MakeLayer } → x.phase ≡ Judge
+    → (height n : ℕ) → IsAtPoint height n v x s → IsAtPoint height (n + 1) v w s
 meet_brings v slot w x s goes at_judge height n point =
     let few : HasMade Judge height n v x s = few_at height n v x s Judge at_judge point in
     let below = below_at height n v x s Judge at_judge (λ grown. grown) point in
     subst (λ (y : Walk). IsAtPoint height (n + 1) v y s) (sym goes) (point_at height (n + 1) v _ s MakeLayer refl (λ other. below) (omega (arith, few)))
 
 -- of one that gives its lock back, and goes on in the tree of a link
-link_brings : (v : ArenaView) (key : Bytes) (tree : ℕ) (w x : Walk) (s : Splits) → w ≡ walk_into x tree (x.layer + 1) → x.phase ≡ Judge → x.place.node < length v.nodes → IsStoredKey key → 8 * w.layer < length key
+link_brings : (v : ArenaView) (key : Bytes) (tree : ℕ) (w x : Walk) (s : Splits) → w ≡ walk_into x tree (x.layer + 1) → x.phase ≡ Judge
+    → x.place.node < length v.nodes → IsStoredKey key → 8 * w.layer < length key
     → (height n : ℕ) → IsAtPoint height n v x s → IsAtPoint height (n + 1) (with_node v x.place.node (unlocked (at v x.place.node))) w s
 link_brings v key tree w x s goes at_judge within stored begun height n point =
     let k = x.place.node in
@@ -131,13 +135,16 @@ link_brings v key tree w x s goes at_judge within stored begun height n point =
     (next_layer height x.layer n (shallow_below x.layer key stored reaches) (omega (arith, few))))
 
 -- a node that keeps its level keeps all below
-levels_stay : (v arena : ArenaView) (k : ℕ) (m : NodeView) → k < length v.nodes → arena ≡ with_node v k m → m.level ≡ (at v k).level → (height : ℕ) → AreBelow v height → AreBelow arena height
+levels_stay : (v arena : ArenaView) (k : ℕ) (m : NodeView) → k < length v.nodes → arena ≡ with_node v k m → m.level ≡ (at v k).level → (height : ℕ)
+    → AreBelow v height → AreBelow arena height
 levels_stay v arena k m within is same height below = subst (λ (a : ArenaView). AreBelow a height) (sym is)
     (replaced_all v k within m (λ (x : NodeView). x.level < height) (subst (λ (l : ℕ). l < height) (sym same) (below k within)) below)
 
 -- of one that has placed its change, or found its quota full: nothing is split
-place_brings : (v arena : ArenaView) (w x : Walk) (s : Splits) (p : Phase) → x.phase ≡ p → w ≡ walk_placed x → s.halves.items ≡ [] → ¬ MayHaveGrown p s.halves.items → ((height : ℕ) → AreBelow v height → AreBelow arena height)
-    → ((height n : ℕ) → IsAtPoint height n v x s → n < above height x + 3 * height + 3) → (height n : ℕ) → IsAtPoint height n v x s → IsAtPoint height (n + 1) arena w s
+place_brings : (v arena : ArenaView) (w x : Walk) (s : Splits) (p : Phase) → x.phase ≡ p → w ≡ walk_placed x → s.halves.items ≡ []
+    → ¬ MayHaveGrown p s.halves.items → ((height : ℕ) → AreBelow v height → AreBelow arena height)
+    → ((height n : ℕ) → IsAtPoint height n v x s → n < above height x + 3 * height + 3) → (height n : ℕ) → IsAtPoint height n v x s
+    → IsAtPoint height (n + 1) arena w s
 place_brings v arena w x s p at_p goes none other stays least height n point =
     let few = least height n point in
     let made : n + 1 ≤ above height x + before_unlock [] height = omega (arith, few) in
@@ -146,11 +153,13 @@ place_brings v arena w x s p at_p goes none other stays least height n point =
     (subst (λ (halves : List Halves). n + 1 ≤ above height x + before_unlock halves height) (sym none) made))
 
 -- the splits of an operation have no halves, nor have they where it is found inside
-pub splits_none : (c now : Core) (o : ℕ) → c ≡ now → ((op : Operation) → operation_at now.table o ≡ Some op → op.splits.halves.items ≡ []) → (x : Operation) → operation_at c.table o ≡ Some x → x.splits.halves.items ≡ []
+pub splits_none : (c now : Core) (o : ℕ) → c ≡ now → ((op : Operation) → operation_at now.table o ≡ Some op → op.splits.halves.items ≡ [])
+    → (x : Operation) → operation_at c.table o ≡ Some x → x.splits.halves.items ≡ []
 splits_none c now o is none x there = none x (ap (λ (v : Core). operation_at v.table o) (sym is) ∙ there)
 
 -- it was told something, also where it is found inside
-pub told_some : (c now : Core) (o : ℕ) → c ≡ now → ((op : Operation) → operation_at now.table o ≡ Some op → op.outcome ≢ None) → (x : Operation) → operation_at c.table o ≡ Some x → x.outcome ≢ None
+pub told_some : (c now : Core) (o : ℕ) → c ≡ now → ((op : Operation) → operation_at now.table o ≡ Some op → op.outcome ≢ None) → (x : Operation)
+    → operation_at c.table o ≡ Some x → x.outcome ≢ None
 told_some c now o is told x there = told x (ap (λ (v : Core). operation_at v.table o) (sym is) ∙ there)
 
 module _ (c now : Core) (o : ℕ) (is : c ≡ now) (h : StateInvariant c) where
@@ -163,17 +172,21 @@ module _ (c now : Core) (o : ℕ) (is : c ≡ now) (h : StateInvariant c) where
   may_step p left next = let s = standing p next in may_move c o h s.0 s.1 (ap is_done s.2 ∙ left)
 
   -- a step that moves the operation brings it on, by the point to which its walk came
-  nears_made : (x after : Operation) → operation_at c.table o ≡ Some x → (arena : ArenaView) (tape : Kept) (accounts : Accounts) (table : Table) → IsOver c.table table o after → Guarantee o c.arena arena
-      → ((height n : ℕ) → IsAtPoint height n c.arena x.walk x.splits → IsAtPoint height (n + 1) arena after.walk after.splits) → Nears now (made c arena tape accounts table) o Moved
+  nears_made : (x after : Operation) → operation_at c.table o ≡ Some x → (arena : ArenaView) (tape : Kept) (accounts : Accounts) (table : Table)
+      → IsOver c.table table o after → Guarantee o c.arena arena
+      → ((height n : ℕ) → IsAtPoint height n c.arena x.walk x.splits → IsAtPoint height (n + 1) arena after.walk after.splits)
+      → Nears now (made c arena tape accounts table) o Moved
   nears_made x after there arena tape accounts table over guarantee brings = subst (λ (v : Core). Nears v (made c arena tape accounts table) o Moved) is
       (nears_by c (made c arena tape accounts table) o x after there over.there guarantee brings)
 
   -- what is told of it, and that
-  steps_on : (new : Core) → Gives (shown now) new o false → Nears now new o Moved → Leads (shown now) (shown new) o → StateInvariant new × StepsOn now new o Moved
+  steps_on : (new : Core) → Gives (shown now) new o false → Nears now new o Moved → Leads (shown now) (shown new) o
+      → StateInvariant new × StepsOn now new o Moved
   steps_on new g nears leads = (g.0, record { tells = g.1; nears = nears; leads = leads })
 
   -- another operation holds the border node that is to be locked
-  pub lock_waits : IsNext now o (λ q. q ≡ Lock) → (x : Operation) → operation_at c.table o ≡ Some x → (arena : ArenaView) → arena ≡ c.arena → (holder : ℕ) → (at c.arena x.walk.place.node).holder ≡ Some holder
+  pub lock_waits : IsNext now o (λ q. q ≡ Lock) → (x : Operation) → operation_at c.table o ≡ Some x → (arena : ArenaView) → arena ≡ c.arena
+      → (holder : ℕ) → (at c.arena x.walk.place.node).holder ≡ Some holder
       → (answer : Move) → answer ≡ Again holder → StepsOn now (record c { arena = arena }) o answer
   lock_waits next x there arena stays holder held answer answers = subst (StepsOn now (record c { arena = arena }) o) (sym answers) (record {
     tells = (
@@ -190,8 +203,10 @@ module _ (c now : Core) (o : ℕ) (is : c ≡ now) (h : StateInvariant c) where
     few_inside = subst (λ (v : Core). v.steps < 2 ^ 59) (sym is) few
 
     -- what a step tells that leaves the tape, by the table that is left
-    gives_on : (x : Operation) (arena : ArenaView) (tape : Kept) (w : Walk) (table : Table) → IsOver c.table table o (moved x (c.steps + 1) w) → (from : ArenaView) → arena ≡ from → tape ≡ c.tape
-        → Gives (shown c) (made c from c.tape c.accounts (set c.table o (Some (moved x (c.steps + 1) w)))) o false → Gives (shown now) (made c arena tape c.accounts table) o false
+    gives_on : (x : Operation) (arena : ArenaView) (tape : Kept) (w : Walk) (table : Table) → IsOver c.table table o (moved x (c.steps + 1) w)
+        → (from : ArenaView) → arena ≡ from → tape ≡ c.tape
+        → Gives (shown c) (made c from c.tape c.accounts (set c.table o (Some (moved x (c.steps + 1) w)))) o false
+        → Gives (shown now) (made c arena tape c.accounts table) o false
     gives_on x arena tape w table over from stays keeps g =
         let after = moved x (c.steps + 1) w in
         subst (λ (all : Table). Gives (shown now) (made c arena tape c.accounts all) o false) (sym over.is)
@@ -200,7 +215,8 @@ module _ (c now : Core) (o : ℕ) (is : c ≡ now) (h : StateInvariant c) where
         (subst (λ (t : Kept). Gives (shown c) (made c from t c.accounts (set c.table o (Some after))) o false) (sym keeps) g)))
 
     -- a lock that was taken, or not because the node was deleted or split
-    pub lock_made : IsNext now o (λ q. q ≡ Lock) → (x : Operation) → operation_at c.table o ≡ Some x → (arena : ArenaView) (w : Walk) (table : Table) → IsLock o x.task.key c.arena arena x.walk w → Writes c.table table o (λ y. moved y (c.steps + 1) w)
+    pub lock_made : IsNext now o (λ q. q ≡ Lock) → (x : Operation) → operation_at c.table o ≡ Some x → (arena : ArenaView) (w : Walk) (table : Table)
+        → IsLock o x.task.key c.arena arena x.walk w → Writes c.table table o (λ y. moved y (c.steps + 1) w)
         → StateInvariant (made c arena c.tape c.accounts table) × StepsOn now (made c arena c.tape c.accounts table) o Moved
     lock_made next x there arena w table t writes =
         let at_lock = phase_is c now o (λ q. q ≡ Lock) is x there next in
@@ -215,21 +231,27 @@ module _ (c now : Core) (o : ℕ) (is : c ≡ now) (h : StateInvariant c) where
         (leads_over c o h x there Lock at_lock now is arena c.tape c.accounts table after over w (t.free, t.locks) refl)
 
     -- a lock that was given back
-    pub unlock_made : IsNext now o (λ q. q ≡ Unlock) → (x : Operation) → operation_at c.table o ≡ Some x → x.outcome ≢ None → x.splits.halves.items ≡ [] → (arena : ArenaView) (w : Walk) (table : Table) → IsUnlock o c.arena arena x.walk w → Writes c.table table o (λ y. moved y (c.steps + 1) w)
+    pub unlock_made : IsNext now o (λ q. q ≡ Unlock) → (x : Operation) → operation_at c.table o ≡ Some x → x.outcome ≢ None
+        → x.splits.halves.items ≡ [] → (arena : ArenaView) (w : Walk) (table : Table) → IsUnlock o c.arena arena x.walk w
+        → Writes c.table table o (λ y. moved y (c.steps + 1) w)
         → Gives (shown now) (made c arena c.tape c.accounts table) o true
     unlock_made next x there told none arena w table t writes =
         subst (λ (all : Table). Gives (shown now) (made c arena c.tape c.accounts all) o true) (sym (writes x there))
         (unlock_done c (shown now) o (ap shown is) h few x there (phase_is c now o (λ q. q ≡ Unlock) is x there next) told none arena w t)
 
-    pub unlock_leads : IsNext now o (λ q. q ≡ Unlock) → (x : Operation) → operation_at c.table o ≡ Some x → x.outcome ≢ None → (arena : ArenaView) (w : Walk) (table : Table) → IsUnlock o c.arena arena x.walk w → Writes c.table table o (λ y. moved y (c.steps + 1) w)
+    pub unlock_leads : IsNext now o (λ q. q ≡ Unlock) → (x : Operation) → operation_at c.table o ≡ Some x → x.outcome ≢ None
+        → (arena : ArenaView) (w : Walk) (table : Table) → IsUnlock o c.arena arena x.walk w → Writes c.table table o (λ y. moved y (c.steps + 1) w)
         → Leads (shown now) (shown (made c arena c.tape c.accounts table)) o
     unlock_leads next x there told arena w table t writes =
         leads_over c o h x there Unlock (phase_is c now o (λ q. q ≡ Unlock) is x there next) now is arena c.tape c.accounts table _ (over_first c.table table o (λ y. moved y (c.steps + 1) w) x there writes) w
         (done_from x.outcome x.walk w told t.walk) refl
 
     -- all that was made ready
-    pub ready_made : IsNext now o (λ q. q ≡ Judge) → (x : Operation) → operation_at c.table o ≡ Some x → (arena : ArenaView) (tape : Kept) (w : Walk) (prepared : Prepared) (mid table : Table) → IsMadeReady o x.task c.arena arena c.tape tape x.walk w prepared
-        → Writes c.table mid o (λ y. moved y (c.steps + 1) w) → Writes mid table o (λ y. made_ready y prepared) → StateInvariant (made c arena tape c.accounts table) × StepsOn now (made c arena tape c.accounts table) o Moved
+    pub ready_made : IsNext now o (λ q. q ≡ Judge) → (x : Operation) → operation_at c.table o ≡ Some x
+        → (arena : ArenaView) (tape : Kept) (w : Walk) (prepared : Prepared) (mid table : Table)
+        → IsMadeReady o x.task c.arena arena c.tape tape x.walk w prepared
+        → Writes c.table mid o (λ y. moved y (c.steps + 1) w) → Writes mid table o (λ y. made_ready y prepared)
+        → StateInvariant (made c arena tape c.accounts table) × StepsOn now (made c arena tape c.accounts table) o Moved
     ready_made next x there arena tape w prepared mid table t moves readies =
         let at_judge = phase_is c now o (λ q. q ≡ Judge) is x there next in
         let after = made_ready (moved x (c.steps + 1) w) prepared in
@@ -243,8 +265,10 @@ module _ (c now : Core) (o : ℕ) (is : c ≡ now) (h : StateInvariant c) where
         (leads_over c o h x there Judge at_judge now is arena tape c.accounts table after over w (inl (record { slot = t.slot; stands = t.stands; goes = t.walk })) refl)
 
     -- another long key in the key's place
-    meets_made : IsNext now o (λ q. q ≡ Judge) → (x : Operation) → operation_at c.table o ≡ Some x → (arena : ArenaView) (tape : Kept) (w : Walk) (table : Table) → tape ≡ c.tape → MeetsOther o x.task.key c.arena arena x.walk w
-        → Writes c.table table o (λ y. moved y (c.steps + 1) w) → StateInvariant (made c arena tape c.accounts table) × StepsOn now (made c arena tape c.accounts table) o Moved
+    meets_made : IsNext now o (λ q. q ≡ Judge) → (x : Operation) → operation_at c.table o ≡ Some x
+        → (arena : ArenaView) (tape : Kept) (w : Walk) (table : Table) → tape ≡ c.tape → MeetsOther o x.task.key c.arena arena x.walk w
+        → Writes c.table table o (λ y. moved y (c.steps + 1) w)
+        → StateInvariant (made c arena tape c.accounts table) × StepsOn now (made c arena tape c.accounts table) o Moved
     meets_made next x there arena tape w table keeps t writes =
         let at_judge = phase_is c now o (λ q. q ≡ Judge) is x there next in
         let after = moved x (c.steps + 1) w in
@@ -260,8 +284,10 @@ module _ (c now : Core) (o : ℕ) (is : c ≡ now) (h : StateInvariant c) where
         stands = subst (λ (y : Walk). IsInSlot (at c.arena y.place.node) y.slot x.task.key y.layer OtherLong) t.walk t.kept.in_slot
 
     -- a link that leads on
-    link_made : IsNext now o (λ q. q ≡ Judge) → (x : Operation) → operation_at c.table o ≡ Some x → (arena : ArenaView) (tape : Kept) (w : Walk) (table : Table) → tape ≡ c.tape
-        → MeetsLink o x.task.key c.arena arena x.walk w → Writes c.table table o (λ y. moved y (c.steps + 1) w) → StateInvariant (made c arena tape c.accounts table) × StepsOn now (made c arena tape c.accounts table) o Moved
+    link_made : IsNext now o (λ q. q ≡ Judge) → (x : Operation) → operation_at c.table o ≡ Some x
+        → (arena : ArenaView) (tape : Kept) (w : Walk) (table : Table) → tape ≡ c.tape
+        → MeetsLink o x.task.key c.arena arena x.walk w → Writes c.table table o (λ y. moved y (c.steps + 1) w)
+        → StateInvariant (made c arena tape c.accounts table) × StepsOn now (made c arena tape c.accounts table) o Moved
     link_made next x there arena tape w table keeps t writes =
         let at_judge = phase_is c now o (λ q. q ≡ Judge) is x there next in
         let within = (judge_kept c o h x there at_judge).judged.held.there in
@@ -276,21 +302,25 @@ module _ (c now : Core) (o : ℕ) (is : c ≡ now) (h : StateInvariant c) where
         (leads_over c o h x there Judge at_judge now is arena tape c.accounts table after over w (inr (inr (inl (record { slot = t.slot; stands = t.in_slot; tree = t.tree; leads = t.leads; goes = t.goes.walk })))) refl)
 
     -- either of them: it goes on
-    pub on_made : IsNext now o (λ q. q ≡ Judge) → (x : Operation) → operation_at c.table o ≡ Some x → (arena : ArenaView) (tape : Kept) (w : Walk) (table : Table) → tape ≡ c.tape
+    pub on_made : IsNext now o (λ q. q ≡ Judge) → (x : Operation) → operation_at c.table o ≡ Some x
+        → (arena : ArenaView) (tape : Kept) (w : Walk) (table : Table) → tape ≡ c.tape
         → MeetsOther o x.task.key c.arena arena x.walk w ⊎ MeetsLink o x.task.key c.arena arena x.walk w → Writes c.table table o (λ y. moved y (c.steps + 1) w)
         → StateInvariant (made c arena tape c.accounts table) × StepsOn now (made c arena tape c.accounts table) o Moved
     on_made next x there arena tape w table keeps (inl t) writes = meets_made next x there arena tape w table keeps t writes
     on_made next x there arena tape w table keeps (inr t) writes = link_made next x there arena tape w table keeps t writes
 
     -- no memory for it
-    pub refused_made : IsNext now o (λ q. q ≡ Judge) → (x : Operation) → operation_at c.table o ≡ Some x → (arena : ArenaView) (tape : Kept) (w : Walk) (told : Outcome) (table : Table) → tape ≡ c.tape → IsUnlock o c.arena arena x.walk w
-        → told ≡ record { reply = NoMemory; at = c.steps + 1 } → Writes c.table table o (λ y. noted (moved y (c.steps + 1) w) (Some told)) → Gives (shown now) (made c arena tape c.accounts table) o true
+    pub refused_made : IsNext now o (λ q. q ≡ Judge) → (x : Operation) → operation_at c.table o ≡ Some x
+        → (arena : ArenaView) (tape : Kept) (w : Walk) (told : Outcome) (table : Table) → tape ≡ c.tape → IsUnlock o c.arena arena x.walk w
+        → told ≡ record { reply = NoMemory; at = c.steps + 1 } → Writes c.table table o (λ y. noted (moved y (c.steps + 1) w) (Some told))
+        → Gives (shown now) (made c arena tape c.accounts table) o true
     refused_made next x there arena tape w told table keeps t says moves =
         subst (λ (all : Table). Gives (shown now) (made c arena tape c.accounts all) o true) (sym (moves x there))
         (subst (λ (r : Outcome). Gives (shown now) (made c arena tape c.accounts (set c.table o (Some (noted (moved x (c.steps + 1) w) (Some r))))) o true) (sym says)
         (judge_refused c (shown now) o (ap shown is) h few x there (phase_is c now o (λ q. q ≡ Judge) is x there next) arena tape w keeps t))
 
-    pub refused_leads : IsNext now o (λ q. q ≡ Judge) → (x : Operation) → operation_at c.table o ≡ Some x → (arena : ArenaView) (tape : Kept) (w : Walk) (told : Outcome) (table : Table) → IsUnlock o c.arena arena x.walk w
+    pub refused_leads : IsNext now o (λ q. q ≡ Judge) → (x : Operation) → operation_at c.table o ≡ Some x
+        → (arena : ArenaView) (tape : Kept) (w : Walk) (told : Outcome) (table : Table) → IsUnlock o c.arena arena x.walk w
         → Writes c.table table o (λ y. noted (moved y (c.steps + 1) w) (Some told)) → Leads (shown now) (shown (made c arena tape c.accounts table)) o
     refused_leads next x there arena tape w told table t writes =
         leads_over c o h x there Judge (phase_is c now o (λ q. q ≡ Judge) is x there next) now is arena tape c.accounts table _ (over_first c.table table o (λ y. noted (moved y (c.steps + 1) w) (Some told)) x there writes) w
@@ -298,7 +328,8 @@ module _ (c now : Core) (o : ℕ) (is : c ≡ now) (h : StateInvariant c) where
 
   -- what taking out what an operation has ready ensures
   abbrev TakesOut : Table → Prepared → Type 0
-  TakesOut table prepared = (y : Operation) → operation_at c.table o ≡ Some y → (y.prepared ≡ Some prepared) × (table ≡ set c.table o (Some (record y { prepared = None })))
+  TakesOut table prepared =
+      (y : Operation) → operation_at c.table o ≡ Some y → (y.prepared ≡ Some prepared) × (table ≡ set c.table o (Some (record y { prepared = None })))
 
   -- what is there is not none
   some_ready : (ready : Option Prepared) → IsSome ready → ready ≢ None
@@ -334,7 +365,8 @@ module _ (c now : Core) (o : ℕ) (is : c ≡ now) (h : StateInvariant c) where
     may_go_on left = may_over c o h op there (ap is_done (standing p next).2 ∙ left) table (with_nothing_ready op) over refl
 
     -- after the step
-    over_last : (w : Walk) (told : Option Outcome) (last : Table) → Writes table last o (λ y. noted (moved y (c.steps + 1) w) told) → IsOver c.table last o (noted (moved (with_nothing_ready op) (c.steps + 1) w) told)
+    over_last : (w : Walk) (told : Option Outcome) (last : Table) → Writes table last o (λ y. noted (moved y (c.steps + 1) w) told)
+        → IsOver c.table last o (noted (moved (with_nothing_ready op) (c.steps + 1) w) told)
     over_last w told last moves = over_next c.table table last o (λ y. noted (moved y (c.steps + 1) w) told) (with_nothing_ready op) over moves
 
     -- it has split nothing
@@ -342,9 +374,11 @@ module _ (c now : Core) (o : ℕ) (is : c ≡ now) (h : StateInvariant c) where
     unsplit none = ((h.ops o op there).unsplit (ap has_splits (standing p next).2 ∙ none)).halves
 
     -- it comes to give its lock back
-    nears_placed : (arena : ArenaView) (tape : Kept) (accounts : Accounts) (w : Walk) (told : Option Outcome) (last : Table) → Writes table last o (λ y. noted (moved y (c.steps + 1) w) told) → Guarantee o c.arena arena → w ≡ walk_placed op.walk
+    nears_placed : (arena : ArenaView) (tape : Kept) (accounts : Accounts) (w : Walk) (told : Option Outcome) (last : Table)
+        → Writes table last o (λ y. noted (moved y (c.steps + 1) w) told) → Guarantee o c.arena arena → w ≡ walk_placed op.walk
         → has_splits p ≡ false → ¬ MayHaveGrown p op.splits.halves.items → ((height : ℕ) → AreBelow c.arena height → AreBelow arena height)
-        → ((height n : ℕ) → IsAtPoint height n c.arena op.walk op.splits → n < above height op.walk + 3 * height + 3) → Nears now (made c arena tape accounts last) o Moved
+        → ((height n : ℕ) → IsAtPoint height n c.arena op.walk op.splits → n < above height op.walk + 3 * height + 3)
+        → Nears now (made c arena tape accounts last) o Moved
     nears_placed arena tape accounts w told last moves guarantee goes none other stays least =
         let after = noted (moved (with_nothing_ready op) (c.steps + 1) w) told in
         nears_made op after there arena tape accounts last (over_last w told last moves) guarantee
@@ -369,8 +403,10 @@ module _ (c now : Core) (o : ℕ) (is : c ≡ now) (h : StateInvariant c) where
         (let s = standing Store next in store_kept c o h s.0 s.1 s.2 prepared (has Store next table prepared takes))
 
     -- a row that was written over the one of its key
-    pub store_made : (few : now.steps < 2 ^ 59) (arena : ArenaView) (tape : Kept) (w : Walk) (before : Columns) (told : Outcome) (last : Table) → IsArena c.arena.nodes c.arena.trees → IsStore o (c.steps + 1) x.task prepared.row c.arena arena c.tape tape x.walk w before
-        → told ≡ record { reply = Replaced; at = c.steps + 1 } → Writes table last o (λ y. noted (moved y (c.steps + 1) w) (Some told)) → StateInvariant (made c arena tape c.accounts last) × StepsOn now (made c arena tape c.accounts last) o Moved
+    pub store_made : (few : now.steps < 2 ^ 59) (arena : ArenaView) (tape : Kept) (w : Walk) (before : Columns) (told : Outcome) (last : Table)
+        → IsArena c.arena.nodes c.arena.trees → IsStore o (c.steps + 1) x.task prepared.row c.arena arena c.tape tape x.walk w before
+        → told ≡ record { reply = Replaced; at = c.steps + 1 } → Writes table last o (λ y. noted (moved y (c.steps + 1) w) (Some told))
+        → StateInvariant (made c arena tape c.accounts last) × StepsOn now (made c arena tape c.accounts last) o Moved
     store_made few arena tape w before told last is_arena stores says moves =
         let s = standing Store next in
         let y = with_nothing_ready s.0 in
@@ -393,7 +429,8 @@ module _ (c now : Core) (o : ℕ) (is : c ≡ now) (h : StateInvariant c) where
         (let s = standing Publish next in publish_kept c o h s.0 s.1 s.2 prepared (has Publish next table prepared takes))
 
     module _ (few : now.steps < 2 ^ 59) (arena : ArenaView) (tape : Kept) (accounts : Accounts) (w : Walk) (told : Outcome) (last : Table) (moves : Writes table last o (λ y. noted (moved y (c.steps + 1) w) (Some told))) where
-      by_outcome : (reply : Reply) → told ≡ record { reply = reply; at = c.steps + 1 } → Guarantee o c.arena arena → w ≡ walk_placed (standing Publish next).0.walk → ((height : ℕ) → AreBelow c.arena height → AreBelow arena height)
+      by_outcome : (reply : Reply) → told ≡ record { reply = reply; at = c.steps + 1 } → Guarantee o c.arena arena
+          → w ≡ walk_placed (standing Publish next).0.walk → ((height : ℕ) → AreBelow c.arena height → AreBelow arena height)
           → Gives (shown now) (made c arena tape accounts (set c.table o (Some (noted (moved (with_nothing_ready (standing Publish next).0) (c.steps + 1) w) (Some (record { reply = reply; at = c.steps + 1 })))))) o false
           → StateInvariant (made c arena tape accounts last) × StepsOn now (made c arena tape accounts last) o Moved
       by_outcome reply says guarantee goes stays gives =
@@ -406,7 +443,9 @@ module _ (c now : Core) (o : ℕ) (is : c ≡ now) (h : StateInvariant c) where
           (leads_over c o h s.0 s.1 Publish s.2 now is arena tape accounts last _ (over_last Publish next table prepared takes w (Some told) last moves) w goes refl)
 
       -- a pair that was made live
-      pub publish_made : IsArena c.arena.nodes c.arena.trees → IsPublish o (c.steps + 1) x.task prepared.row c.arena arena c.tape tape c.accounts accounts x.walk w → told ≡ record { reply = New; at = c.steps + 1 }
+      pub publish_made : IsArena c.arena.nodes c.arena.trees
+          → IsPublish o (c.steps + 1) x.task prepared.row c.arena arena c.tape tape c.accounts accounts x.walk w
+          → told ≡ record { reply = New; at = c.steps + 1 }
           → StateInvariant (made c arena tape accounts last) × StepsOn now (made c arena tape accounts last) o Moved
       publish_made is_arena publishes says =
           let s = standing Publish next in
@@ -418,7 +457,8 @@ module _ (c now : Core) (o : ℕ) (is : c ≡ now) (h : StateInvariant c) where
           (publish_done c (shown now) o (ap shown is) h few s.0 s.1 (put_at c o h s.0 s.1 Publish s.2 tt) s.2 arena tape accounts w prepared.row is_arena pb)
 
       -- a quota that had no room
-      pub full_made : IsPublishFull o x.task c.arena arena c.tape tape c.accounts accounts x.walk w → told ≡ record { reply = Full; at = c.steps + 1 } → StateInvariant (made c arena tape accounts last) × StepsOn now (made c arena tape accounts last) o Moved
+      pub full_made : IsPublishFull o x.task c.arena arena c.tape tape c.accounts accounts x.walk w → told ≡ record { reply = Full; at = c.steps + 1 }
+          → StateInvariant (made c arena tape accounts last) × StepsOn now (made c arena tape accounts last) o Moved
       full_made full says =
           let s = standing Publish next in
           let ff = subst (λ (z : Operation). IsPublishFull o z.task c.arena arena c.tape tape c.accounts accounts z.walk w) (sym (it_is Publish next table prepared takes x there_x)) full in

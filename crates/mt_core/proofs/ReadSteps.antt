@@ -99,7 +99,8 @@ stepped c table = record c { steps = c.steps + 1; table = table }
 
 module _ (c now : Core) (o : ℕ) (is : c ≡ now) (h : StateInvariant c) (room : now.steps < 2 ^ 59) (op : Operation) (there : operation_at c.table o ≡ Some op) where
   -- where another operation is in the way, nothing happens
-  pub blocked : IsFree op.walk.phase → (holder : ℕ) → IsInTheWay c.arena op.walk.phase op.walk (splits_of op.splits) holder → (answer : Move) → answer ≡ Again holder → StepsOn now now o answer
+  pub blocked : IsFree op.walk.phase → (holder : ℕ) → IsInTheWay c.arena op.walk.phase op.walk (splits_of op.splits) holder → (answer : Move)
+      → answer ≡ Again holder → StepsOn now now o answer
   blocked free holder way answer again =
       let held = in_the_way c.arena op.walk.phase op.walk (splits_of op.splits) holder way in
       let by = h.holders held.0 holder held.1 held.2 in
@@ -135,7 +136,8 @@ module _ (c now : Core) (o : ℕ) (is : c ≡ now) (h : StateInvariant c) (room 
   led_over : (w : Walk) (told : Option Outcome) → IsOver c.table (led w told) o (noted (moved op (c.steps + 1) w) told)
   led_over w told = record { is = refl; there = set_is c.table o (noted (moved op (c.steps + 1) w) told) op there }
 
-  moved_gives : (w : Walk) (told : Option Outcome) → Gives (shown now) (stepped c (led w told)) o false → BringsOn w → GoesOn op.walk.phase w → (table : Table) → table ≡ led w told → StepGives table Moved
+  moved_gives : (w : Walk) (told : Option Outcome) → Gives (shown now) (stepped c (led w told)) o false → BringsOn w → GoesOn op.walk.phase w
+      → (table : Table) → table ≡ led w told → StepGives table Moved
   moved_gives w told g brings goes table e = subst (λ (t : Table). StepGives t Moved) (sym e) (
     g.0,
     record {
@@ -151,7 +153,8 @@ module _ (c now : Core) (o : ℕ) (is : c ≡ now) (h : StateInvariant c) (room 
           nears_by c (stepped c (led w told)) o op after there (set_is c.table o after op there) (nothing_changes o c.arena)
           (λ height made point. point_first height (made + 1) c.arena w op.splits after.walk.first (brings height made point))
 
-  done_gives : (w : Walk) (told : Option Outcome) → Gives (shown now) (stepped c (led w told)) o true → GoesOn op.walk.phase w → (table : Table) → table ≡ led w told → StepGives table DoneMove
+  done_gives : (w : Walk) (told : Option Outcome) → Gives (shown now) (stepped c (led w told)) o true → GoesOn op.walk.phase w → (table : Table)
+      → table ≡ led w told → StepGives table DoneMove
   done_gives w told g goes table e = subst (λ (t : Table). StepGives t DoneMove) (sym e) (
     g.0,
     record {
@@ -169,7 +172,8 @@ module _ (c now : Core) (o : ℕ) (is : c ≡ now) (h : StateInvariant c) (room 
   descent_kept descent = (way_of op.walk.phase descent c o op (h.ops o op there).kept).kept
 
   -- a step down
-  pub descent_gives : (w : Walk) → IsDescent op.walk.phase → Descends op.walk w → ((past : Past) → IsKept c.arena past op.task.key None w) → BringsOn w → GoesOn op.walk.phase w → (table : Table) → table ≡ set c.table o (Some (moved op (c.steps + 1) w)) → StepGives table Moved
+  pub descent_gives : (w : Walk) → IsDescent op.walk.phase → Descends op.walk w → ((past : Past) → IsKept c.arena past op.task.key None w)
+      → BringsOn w → GoesOn op.walk.phase w → (table : Table) → table ≡ set c.table o (Some (moved op (c.steps + 1) w)) → StepGives table Moved
   descent_gives w descent goes kept brings = moved_gives w op.outcome (descend_done c (shown now) o (ap shown is) h room op there w descent goes kept) brings
 
   -- what is kept of an operation that is to search
@@ -202,17 +206,22 @@ module _ (c now : Core) (o : ℕ) (is : c ≡ now) (h : StateInvariant c) (room 
   confirm_kept at_confirm = (confirming at_confirm).1.at_border
 
   -- who is in the way of a load, and of a confirmation
-  pub load_way : op.walk.phase ≡ Load → (holder : ℕ) → IsBlockedAt (at c.arena op.walk.place.node) op.walk.slot holder → IsInTheWay c.arena op.walk.phase op.walk (splits_of op.splits) holder
+  pub load_way : op.walk.phase ≡ Load → (holder : ℕ) → IsBlockedAt (at c.arena op.walk.place.node) op.walk.slot holder
+      → IsInTheWay c.arena op.walk.phase op.walk (splits_of op.splits) holder
   load_way at_load holder way =
       subst (λ (p : Phase). IsInTheWay c.arena p op.walk (splits_of op.splits) holder) (sym at_load) (op.walk.place.node, refl, (load_kept at_load).at_border.covers.remembered.there, way)
 
-  pub confirm_way : op.walk.phase ≡ Confirm → (holder : ℕ) → IsBlocked (at c.arena op.walk.place.node) holder → IsInTheWay c.arena op.walk.phase op.walk (splits_of op.splits) holder
+  pub confirm_way : op.walk.phase ≡ Confirm → (holder : ℕ) → IsBlocked (at c.arena op.walk.place.node) holder
+      → IsInTheWay c.arena op.walk.phase op.walk (splits_of op.splits) holder
   confirm_way at_confirm holder way =
       subst (λ (p : Phase). IsInTheWay c.arena p op.walk (splits_of op.splits) holder) (sym at_confirm) (op.walk.place.node, refl, (confirm_kept at_confirm).covers.remembered.there, way)
 
   -- a search that found nothing
-  pub search_gives_missing : IsArena c.arena.nodes c.arena.trees → (at_search : op.walk.phase ≡ Search) → (w : Walk) → (found : (f : Find) × FindsIn (at c.arena op.walk.place.node) op.task.key op.walk.layer f × (w ≡ after_search f op.walk (c.steps + 1)))
-      → ((past : Past) (row : Option Columns) → IsNow past (c.steps + 1) c.arena → op.walk.first ≤ c.steps + 1 → IsKept c.arena past op.task.key row w) → w.phase ≡ Confirm
+  pub search_gives_missing : IsArena c.arena.nodes c.arena.trees → (at_search : op.walk.phase ≡ Search) → (w : Walk)
+      → (found : (f : Find) × FindsIn (at c.arena op.walk.place.node) op.task.key op.walk.layer f × (w ≡ after_search f op.walk (c.steps + 1)))
+     
+      → ((past : Past) (row : Option Columns) → IsNow past (c.steps + 1) c.arena → op.walk.first ≤ c.steps + 1 → IsKept c.arena past op.task.key row w)
+      → w.phase ≡ Confirm
       → (told : Outcome) → told ≡ record { reply = Absent; at = c.steps + 1 } → (table : Table) → table ≡ led w (Some told) → StepGives table Moved
   search_gives_missing arena at_search w found kept confirms told says table e =
       moved_gives w (Some (record { reply = Absent; at = c.steps + 1 })) (search_missing c (shown now) o (ap shown is) h room arena op there at_search w found.0 found.1 found.2 kept confirms)
@@ -221,8 +230,11 @@ module _ (c now : Core) (o : ℕ) (is : c ≡ now) (h : StateInvariant c) (room 
       table (e ∙ ap (λ (x : Outcome). led w (Some x)) says)
 
   -- a search that found a slot
-  pub search_gives_found : IsArena c.arena.nodes c.arena.trees → (at_search : op.walk.phase ≡ Search) → (w : Walk) → (found : (f : Find) × FindsIn (at c.arena op.walk.place.node) op.task.key op.walk.layer f × (w ≡ after_search f op.walk (c.steps + 1)))
-      → ((past : Past) (row : Option Columns) → IsNow past (c.steps + 1) c.arena → op.walk.first ≤ c.steps + 1 → IsKept c.arena past op.task.key row w) → w.phase ≢ Confirm
+  pub search_gives_found : IsArena c.arena.nodes c.arena.trees → (at_search : op.walk.phase ≡ Search) → (w : Walk)
+      → (found : (f : Find) × FindsIn (at c.arena op.walk.place.node) op.task.key op.walk.layer f × (w ≡ after_search f op.walk (c.steps + 1)))
+     
+      → ((past : Past) (row : Option Columns) → IsNow past (c.steps + 1) c.arena → op.walk.first ≤ c.steps + 1 → IsKept c.arena past op.task.key row w)
+      → w.phase ≢ Confirm
       → (table : Table) → table ≡ set c.table o (Some (moved op (c.steps + 1) w)) → StepGives table Moved
   search_gives_found arena at_search w found kept other =
       moved_gives w op.outcome (search_found c (shown now) o (ap shown is) h room arena op there at_search w found.0 found.1 found.2 kept (loads found.0 found.2))
@@ -236,13 +248,16 @@ module _ (c now : Core) (o : ℕ) (is : c ≡ now) (h : StateInvariant c) (room 
       loads (finds.Slot slot ToTree) is_after = ap (λ (x : Walk). x.phase) is_after
 
   -- a get that has confirmed what it took
-  pub confirm_gives_done : (at_confirm : op.walk.phase ≡ Confirm) → IsStable (at c.arena op.walk.place.node).version → (w : Walk) → Continues op.walk w → Confirms (at c.arena op.walk.place.node) op.walk w
+  pub confirm_gives_done : (at_confirm : op.walk.phase ≡ Confirm) → IsStable (at c.arena op.walk.place.node).version → (w : Walk)
+      → Continues op.walk w → Confirms (at c.arena op.walk.place.node) op.walk w
       → ((past : Past) (row : Option Columns) → WalksConfirm c.arena past op.task.key row op.walk → IsKept c.arena past op.task.key row w) → w.phase ≡ Done
       → (table : Table) → table ≡ set c.table o (Some (moved op (c.steps + 1) w)) → StepGives table DoneMove
-  confirm_gives_done at_confirm stable w same confirms kept done = done_gives w op.outcome (confirm_done c (shown now) o (ap shown is) h room op there at_confirm w same confirms kept done) (goes_at Confirm at_confirm w (stable, confirms))
+  confirm_gives_done at_confirm stable w same confirms kept done =
+      done_gives w op.outcome (confirm_done c (shown now) o (ap shown is) h room op there at_confirm w same confirms kept done) (goes_at Confirm at_confirm w (stable, confirms))
 
   -- or goes on its way
-  pub confirm_gives_back : (at_confirm : op.walk.phase ≡ Confirm) → IsStable (at c.arena op.walk.place.node).version → (w : Walk) → Continues op.walk w → Confirms (at c.arena op.walk.place.node) op.walk w
+  pub confirm_gives_back : (at_confirm : op.walk.phase ≡ Confirm) → IsStable (at c.arena op.walk.place.node).version → (w : Walk)
+      → Continues op.walk w → Confirms (at c.arena op.walk.place.node) op.walk w
       → ((past : Past) (row : Option Columns) → WalksConfirm c.arena past op.task.key row op.walk → IsKept c.arena past op.task.key row w) → w.phase ≢ Done
       → (table : Table) → table ≡ led w None → StepGives table Moved
   confirm_gives_back at_confirm stable w same confirms kept other =
@@ -282,10 +297,12 @@ module _ (c now : Core) (o : ℕ) (is : c ≡ now) (h : StateInvariant c) (room 
 
   -- what the step of a body gives, by what the body tells
   abbrev Comes : (Operation → Operation → Type 0) → Type 0
-  Comes Tells = (after : Operation) → Tells op after → (table : Table) → table ≡ set c.table o (Some (counted after (c.steps + 1) op.walk.first)) → (answer : Move) → answer ≡ ending after.walk.phase → StepGives table answer
+  Comes Tells =
+      (after : Operation) → Tells op after → (table : Table) → table ≡ set c.table o (Some (counted after (c.steps + 1) op.walk.first)) → (answer : Move) → answer ≡ ending after.walk.phase → StepGives table answer
 
   -- the table that it makes of an operation that has walked on, with this outcome or none
-  led_table : (after : Operation) (w : Walk) (told : Option Outcome) → after ≡ led_to op w told → (table : Table) → table ≡ set c.table o (Some (counted after (c.steps + 1) op.walk.first)) → table ≡ led w told
+  led_table : (after : Operation) (w : Walk) (told : Option Outcome) → after ≡ led_to op w told → (table : Table)
+      → table ≡ set c.table o (Some (counted after (c.steps + 1) op.walk.first)) → table ≡ led w told
   led_table after w told others table e = e ∙ ap (λ (x : Operation). set c.table o (Some (counted x (c.steps + 1) op.walk.first))) others
 
   -- a body that goes down
@@ -314,7 +331,8 @@ module _ (c now : Core) (o : ℕ) (is : c ≡ now) (h : StateInvariant c) (room 
 
   -- one that loads
   pub load_comes : IsArena c.arena.nodes c.arena.trees → op.walk.phase ≡ Load → Comes (TellsLoaded c.arena (c.steps + 1))
-  load_comes arena at_load after t table e answer ends = load_gives arena at_load after t table (led_table after after.walk after.outcome t.others table e) answer ends
+  load_comes arena at_load after t table e answer ends =
+      load_gives arena at_load after t table (led_table after after.walk after.outcome t.others table e) answer ends
 
   -- and one that confirms what was taken
   pub confirm_comes : op.walk.phase ≡ Confirm → Comes (TellsConfirmed c.arena)
@@ -351,7 +369,8 @@ module _ (c now : Core) (o : ℕ) (is : c ≡ now) (h : StateInvariant c) (room 
   loaded_first : (step : ℕ) (after : Operation) → TellsLoaded c.arena step op after → after.walk.first ≡ op.walk.first
   loaded_first step after t = walk_first t.told ∙ ap (λ (w : Walk). w.first) t.loads.is
     where
-      walk_first : ((after.walk ≡ t.walk) × ShowsTaken op t.row t.walk after.outcome) ⊎ ((after.walk ≡ record t.walk { phase = Done }) × Says after.outcome NoMemory step) → after.walk.first ≡ t.walk.first
+      walk_first : ((after.walk ≡ t.walk) × ShowsTaken op t.row t.walk after.outcome) ⊎ ((after.walk ≡ record t.walk { phase = Done }) × Says after.outcome NoMemory step)
+          → after.walk.first ≡ t.walk.first
       walk_first (inl told) = ap (λ (w : Walk). w.first) told.0
       walk_first (inr told) = ap (λ (w : Walk). w.first) told.0
 
@@ -396,7 +415,8 @@ module _ (c now : Core) (o : ℕ) (is : c ≡ now) (h : StateInvariant c) (room 
   look_comes arena _ e = λ after t. absurd (let no_step : ◌≡◌ {A = Made} Step Nothing = t.0 in cc)
 
   -- where somebody is in the way, that one is told
-  pub look_blocked : (p : Phase) → op.walk.phase ≡ p → (step holder : ℕ) (after : Operation) → LooksAt p c.arena step op (Blocked holder) after → (answer : Move) → answer ≡ Again holder → StepsOn now now o answer
+  pub look_blocked : (p : Phase) → op.walk.phase ≡ p → (step holder : ℕ) (after : Operation) → LooksAt p c.arena step op (Blocked holder) after
+      → (answer : Move) → answer ≡ Again holder → StepsOn now now o answer
   look_blocked Enter e step holder after t = blocked (subst IsFree (sym e) tt) holder t.0
   look_blocked Pick e step holder after t = blocked (subst IsFree (sym e) tt) holder t.0
   look_blocked Child e step holder after t = blocked (subst IsFree (sym e) tt) holder t.0

@@ -23,16 +23,19 @@ module _ (v : StateView) (tenant : ℕ) (command : Command) where
   of_fault _ there is = (there, is)
 
   -- what was made of a command without fault is refused for want of numbers, or of memory
-  of_made : (op : OperationView) (refusal : Refusal) → IsSome (account_of v.accounts tenant) → IsTaken command → IsRefusalMade v (Ok op) refusal → IsRefusal v tenant command refusal
+  of_made : (op : OperationView) (refusal : Refusal) → IsSome (account_of v.accounts tenant) → IsTaken command → IsRefusalMade v (Ok op) refusal
+      → IsRefusal v tenant command refusal
   of_made op Memory there taken is = (there, taken)
   of_made op Spent there taken is = (there, taken, is)
   of_made op _ there taken is = absurd is
 
-  by_made : (made : Result OperationView Refusal) (refusal : Refusal) → IsSome (account_of v.accounts tenant) → Makes command made → IsRefusalMade v made refusal → IsRefusal v tenant command refusal
+  by_made : (made : Result OperationView Refusal) (refusal : Refusal) → IsSome (account_of v.accounts tenant) → Makes command made
+      → IsRefusalMade v made refusal → IsRefusal v tenant command refusal
   by_made (Ok op) refusal there makes is = of_made op refusal there makes is
   by_made (Err fault) refusal there makes is = subst (IsRefusal v tenant command) (sym is) (of_fault fault there makes)
 
-  by_account : (account : Option Account) (made : Result OperationView Refusal) (refusal : Refusal) → account_of v.accounts tenant ≡ account → Makes command made → IsRefusedFor account v made refusal → IsRefusal v tenant command refusal
+  by_account : (account : Option Account) (made : Result OperationView Refusal) (refusal : Refusal) → account_of v.accounts tenant ≡ account
+      → Makes command made → IsRefusedFor account v made refusal → IsRefusal v tenant command refusal
   by_account None made refusal same makes is = subst (IsRefusal v tenant command) (sym is) same
   by_account (Some account) made refusal same makes is = by_made made refusal (subst IsSome (sym same) refl) makes is
 
@@ -41,10 +44,12 @@ module _ (v : StateView) (tenant : ℕ) (command : Command) where
   of_ok (Err fault) ok makes = absurd (cc)
 
   -- what a begin of a command's opening answers
-  pub refused_by : (opening : OpeningView) (told : Result Ticket Refusal) → opening.tenant ≡ tenant → Makes command opening.made → RefusesOpening v opening told → TellsRefusal v tenant command told
+  pub refused_by : (opening : OpeningView) (told : Result Ticket Refusal) → opening.tenant ≡ tenant → Makes command opening.made
+      → RefusesOpening v opening told → TellsRefusal v tenant command told
   refused_by opening (Ok ticket) same makes h = record {
     there = subst (λ t. IsSome (account_of v.accounts t)) same h.0;
     taken = of_ok opening.made h.1 makes;
     numbered = h.2;
   }
-  refused_by opening (Err refusal) same makes h = by_account (account_of v.accounts opening.tenant) opening.made refusal (ap (account_of v.accounts) (sym same)) makes h
+  refused_by opening (Err refusal) same makes h =
+      by_account (account_of v.accounts opening.tenant) opening.made refusal (ap (account_of v.accounts) (sym same)) makes h

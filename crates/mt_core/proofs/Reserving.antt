@@ -39,7 +39,8 @@ module _ (c : Core) (table : Table) where
   shown_places more places = omega (arith, places, shown_open table, length-map table (option_map view_of))
 
   -- one that is taken
-  pub place_taken : tables.open_count table ≡ tables.open_count c.table + 1 → length c.table ≤ length table → TakesPlace (shown c) (shown (with_table c c.answers table))
+  pub place_taken : tables.open_count table ≡ tables.open_count c.table + 1 → length c.table ≤ length table
+      → TakesPlace (shown c) (shown (with_table c c.answers table))
   place_taken one more = record {
     count = omega (arith, one, shown_open table, shown_open c.table);
     places = omega (arith, more, length-map table (option_map view_of), length-map c.table (option_map view_of));
@@ -66,7 +67,8 @@ module _ (c : Core) (table : Table) where
       versions = h.versions;
       holders = λ k o within held. let w = h.holders k o within held in (w.0, adds.same o ∙ w.1, w.2);
       counts = h.counts;
-      ops = λ o op there. let was = h.ops o op (sym (adds.same o) ∙ there) in retained c c.answers c.logs c.tape table o op (own_tape c op was.always) was.always was;
+      ops =
+          λ o op there. let was = h.ops o op (sym (adds.same o) ∙ there) in retained c c.answers c.logs c.tape table o op (own_tape c op was.always) was.always was;
       reserved = h.reserved ∙ sym (same_count table c.table (λ q. ap one_if_prepared (adds.same q)));
       answered = omega (arith, h.answered, same_made (shown_table table) (shown_table c.table) (λ q. ap one_if_made (shown_same q)));
       unremoved = h.unremoved;

@@ -37,12 +37,14 @@ retaped c answers logs tape table = record c { answers = answers; logs = logs; t
 -- a tape that tells of an operation that has begun what the state's own one tells: the contents from just before its first step on, and the writes from that step on
 pub record TellsOf (c : Core) (tape : Kept) (op : Operation) : Type 0 where
   pub floor : 0 < op.walk.first → tape.floor < op.walk.first
-  pub contents : 0 < op.walk.first → (n : ℕ) → op.walk.first ≤ n + 1 → contents_at tape.entries (content_of c.arena) n ≡ contents_at c.tape.entries (content_of c.arena) n
+  pub contents : 0 < op.walk.first → (n : ℕ) → op.walk.first ≤ n + 1
+      → contents_at tape.entries (content_of c.arena) n ≡ contents_at c.tape.entries (content_of c.arena) n
   pub changes : 0 < op.walk.first → (n : ℕ) → op.walk.first ≤ n → is_changed tape.entries n ≡ is_changed c.tape.entries n
   pub writes : 0 < op.walk.first → (e : TapeEntry) → op.walk.first ≤ e.step → Contains c.tape.entries e → Contains tape.entries e
 
 -- a walk that has begun goes on by a past that tells the same from its first step on
-kept_past : (v : ArenaView) (old new : Past) (key : Bytes) (row : Option Columns) (w : Walk) (p : Phase) → (p ≢ Enter → ExtendsPast w.first old new) → KeptAt p v old key row w → KeptAt p v new key row w
+kept_past : (v : ArenaView) (old new : Past) (key : Bytes) (row : Option Columns) (w : Walk) (p : Phase) → (p ≢ Enter → ExtendsPast w.first old new)
+    → KeptAt p v old key row w → KeptAt p v new key row w
 kept_past v old new key row w Confirm past h = descent.kept_stays 0 v v (nothing_changes 0 v).nodes old new key row w Confirm (past (λ e. cc)) h
 kept_past v old new key row w Done past h = descent.kept_stays 0 v v (nothing_changes 0 v).nodes old new key row w Done (past (λ e. cc)) h
 kept_past v old new key row w _ past h = h
@@ -120,9 +122,11 @@ module _ (c : Core) (answers : ℕ) (logs : List ℕ) (tape : Kept) (table : Tab
   same_map : 0 < op.walk.first → (u m : ℕ) → op.walk.first ≤ m + 1 → map_of (shown new) u m ≡ map_of (shown c) u m
   same_map begun u m from = ap (tenant_map u) (t.contents begun m from)
 
-  placed_stays : 0 < op.walk.first → (u : ℕ) (command : Command) (at : ℕ) (reply : Reply) → op.walk.first ≤ at → IsPlaced (shown c) u command at reply → IsPlaced (shown new) u command at reply
+  placed_stays : 0 < op.walk.first → (u : ℕ) (command : Command) (at : ℕ) (reply : Reply) → op.walk.first ≤ at → IsPlaced (shown c) u command at reply
+      → IsPlaced (shown new) u command at reply
   placed_stays begun u command at reply from h = record {
-    changes = λ e. let w = h.changes e in (t.changes begun at from ∙ w.0, w.1 ∙ ap (reply_of (quota_of (shown c) u) command) (sym (same_map begun u (at - 1) (omega (arith, from)))));
+    changes =
+        λ e. let w = h.changes e in (t.changes begun at from ∙ w.0, w.1 ∙ ap (reply_of (quota_of (shown c) u) command) (sym (same_map begun u (at - 1) (omega (arith, from)))));
     looks = λ e. h.looks e ∙ ap (reply_of (quota_of (shown c) u) command) (sym (same_map begun u at (omega (arith, from))));
   }
 

@@ -69,7 +69,8 @@ level_set (x ∷ xs) (suc i) y e zero = refl
 level_set (x ∷ xs) (suc i) y e (suc k) = level_set xs i y e k
 
 -- so it does where the keys of a node are parted
-halved_below : (all : List Entry) (old new : ArenaView) (left right : ℕ) → AreHalved all old.nodes new.nodes left right → (height : ℕ) → AreBelow old height → AreBelow new height
+halved_below : (all : List Entry) (old new : ArenaView) (left right : ℕ) → AreHalved all old.nodes new.nodes left right → (height : ℕ)
+    → AreBelow old height → AreBelow new height
 halved_below all old new left right parted height below k within =
     let x = node_at old.nodes left in
     let r = node_at old.nodes right in
@@ -81,7 +82,8 @@ halved_below all old new left right parted height below k within =
     subst (λ l. l < height) (sym same) (below k (omega (arith, within, size)))
 
 -- the number of steps after the keys were parted
-made_parted : (next : Option ℕ) (height made : ℕ) (v : ArenaView) (w : Walk) (s : Splits) → made ≤ above height w + 3 * height + 3 → HasMade (after_parting next) height (made + 1) v w s
+made_parted : (next : Option ℕ) (height made : ℕ) (v : ArenaView) (w : Walk) (s : Splits) → made ≤ above height w + 3 * height + 3
+    → HasMade (after_parting next) height (made + 1) v w s
 made_parted None height made v w s few = omega (arith, few)
 made_parted (Some behind) height made v w s few = omega (arith, few)
 
@@ -100,19 +102,25 @@ module _ (c : Core) (o : ℕ) (h : StateInvariant c) (few : c.steps < 2 ^ 59) (o
     starting = subst (λ (p : Phase). IsKeptAt p c o op) at_start (h.ops o op there).kept
 
     -- what is kept of it is what `split_start` asks
-    start_kept : (y : Operation) (s : Splits) → with_splits op s ≡ y → (task : Task) × (prepared : Prepared) × (task.key ≡ y.task.key) × IsAtSplitStart c.arena o task prepared y.walk
-    start_kept y s is = subst (λ (z : Operation). (task : Task) × (prepared : Prepared) × (task.key ≡ z.task.key) × IsAtSplitStart c.arena o task prepared z.walk) is (op.task, starting.prepared, refl, starting.starts)
+    start_kept : (y : Operation) (s : Splits) → with_splits op s ≡ y
+        → (task : Task) × (prepared : Prepared) × (task.key ≡ y.task.key) × IsAtSplitStart c.arena o task prepared y.walk
+    start_kept y s is =
+        subst (λ (z : Operation). (task : Task) × (prepared : Prepared) × (task.key ≡ z.task.key) × IsAtSplitStart c.arena o task prepared z.walk) is (op.task, starting.prepared, refl, starting.starts)
 
     module _ (arena : ArenaView) (tape : Kept) (w : Walk) (s t was : Splits) (y : Operation) (is : with_splits op s ≡ y) (came : was ≡ op.splits) (starts : IsSplitStart o y.task.key c.arena arena c.tape tape y.walk w was t) where
       begins : IsSplitStart o op.task.key c.arena arena c.tape tape op.walk w op.splits t
-      begins = subst (λ (r : Splits). IsSplitStart o op.task.key c.arena arena c.tape tape op.walk w r t) came (subst (λ (z : Operation). IsSplitStart o z.task.key c.arena arena c.tape tape z.walk w was t) (sym is) starts)
+      begins =
+          subst (λ (r : Splits). IsSplitStart o op.task.key c.arena arena c.tape tape op.walk w r t) came (subst (λ (z : Operation). IsSplitStart o z.task.key c.arena arena c.tape tape z.walk w was t) (sym is) starts)
 
       -- the right half of the full node is made
-      start_made : (table : Table) → IsOver c.table table o (moved (with_splits (with_splits op s) t) (c.steps + 1) w) → Gives (shown c) (made c arena tape c.accounts table) o false
-      start_made table over = subst (λ (all : Table). Gives (shown c) (made c arena tape c.accounts all) o false) (sym over.is) (start_done c o h few op there at_start arena tape w t begins)
+      start_made : (table : Table) → IsOver c.table table o (moved (with_splits (with_splits op s) t) (c.steps + 1) w)
+          → Gives (shown c) (made c arena tape c.accounts table) o false
+      start_made table over =
+          subst (λ (all : Table). Gives (shown c) (made c arena tape c.accounts all) o false) (sym over.is) (start_done c o h few op there at_start arena tape w t begins)
 
       -- and nobody's level rises
-      start_nears : (table : Table) → IsOver c.table table o (moved (with_splits (with_splits op s) t) (c.steps + 1) w) → Nears c (made c arena tape c.accounts table) o Moved
+      start_nears : (table : Table) → IsOver c.table table o (moved (with_splits (with_splits op s) t) (c.steps + 1) w)
+          → Nears c (made c arena tape c.accounts table) o Moved
       start_nears table over =
           let b = begins in
           let after = moved (with_splits (with_splits op s) t) (c.steps + 1) w in
@@ -125,9 +133,11 @@ module _ (c : Core) (o : ℕ) (h : StateInvariant c) (few : c.steps < 2 ^ 59) (o
           (subst (λ (x : Walk). HasMade SplitMove height (made + 1) arena x t) (sym b.walk) (omega (arith, was)))))
 
     -- there is no memory for it
-    start_stopped : (arena : ArenaView) (tape : Kept) (w : Walk) (s t : Splits) (y : Operation) → with_splits op s ≡ y → IsSplitStopped o c.arena arena c.tape tape y.walk w t
+    start_stopped : (arena : ArenaView) (tape : Kept) (w : Walk) (s t : Splits) (y : Operation) → with_splits op s ≡ y
+        → IsSplitStopped o c.arena arena c.tape tape y.walk w t
         → (told : Outcome) → told ≡ record { reply = NoMemory; at = c.steps + 1 } → (table : Table)
-        → IsOver c.table table o (noted (moved (with_nothing_ready (with_splits (with_splits op s) t)) (c.steps + 1) w) (Some told)) → Gives (shown c) (made c arena tape c.accounts table) o true
+        → IsOver c.table table o (noted (moved (with_nothing_ready (with_splits (with_splits op s) t)) (c.steps + 1) w) (Some told))
+        → Gives (shown c) (made c arena tape c.accounts table) o true
     start_stopped arena tape w s t y is stops told says table over =
         subst (λ (all : Table). Gives (shown c) (made c arena tape c.accounts all) o true) (sym over.is)
         (subst (λ (r : Outcome). Gives (shown c) (made c arena tape c.accounts (set c.table o (Some (noted (moved (with_nothing_ready (with_splits (with_splits op s) t)) (c.steps + 1) w) (Some r))))) o true) (sym says)
@@ -142,33 +152,38 @@ module _ (c : Core) (o : ℕ) (h : StateInvariant c) (few : c.steps < 2 ^ 59) (o
     move_ready none = let no = sym moving.has ∙ none in cc
 
     -- what is kept of it is what `split_move` asks
-    move_kept : (y : Operation) → with_nothing_ready op ≡ y → (prepared : Prepared) → op.prepared ≡ Some prepared → IsAtSplitMove c.arena o y.task prepared y.walk y.splits
+    move_kept : (y : Operation) → with_nothing_ready op ≡ y → (prepared : Prepared) → op.prepared ≡ Some prepared
+        → IsAtSplitMove c.arena o y.task prepared y.walk y.splits
     move_kept y is prepared has = subst (λ (z : Operation). IsAtSplitMove c.arena o z.task prepared z.walk z.splits) is
         (subst (λ (x : Prepared). IsAtSplitMove c.arena o op.task x op.walk op.splits) (same_Some moving.prepared prepared (sym moving.has ∙ has)) moving.moves)
 
     module _ (arena : ArenaView) (tape : Kept) (accounts : Accounts) (w : Walk) (y : Operation) (is : with_nothing_ready op ≡ y) (told : Outcome) (table : Table)
         (over : IsOver c.table table o (noted (moved (with_nothing_ready op) (c.steps + 1) w) (Some told))) where
       by_reply : (reply : Reply) → told ≡ record { reply = reply; at = c.steps + 1 }
-          → Gives (shown c) (split_core c arena tape accounts o op w (Some (record { reply = reply; at = c.steps + 1 })) None op.splits) o false → Gives (shown c) (made c arena tape accounts table) o false
+          → Gives (shown c) (split_core c arena tape accounts o op w (Some (record { reply = reply; at = c.steps + 1 })) None op.splits) o false
+          → Gives (shown c) (made c arena tape accounts table) o false
       by_reply reply says gives =
           subst (λ (all : Table). Gives (shown c) (made c arena tape accounts all) o false) (sym over.is)
           (subst (λ (r : Outcome). Gives (shown c) (made c arena tape accounts (set c.table o (Some (noted (moved (with_nothing_ready op) (c.steps + 1) w) (Some r))))) o false) (sym says) gives)
 
       -- the keys are parted with the new pair
-      parts_with : IsArena c.arena.nodes c.arena.trees → (row : Columns) → IsSplitMove o (c.steps + 1) y.task row c.arena arena c.tape tape c.accounts accounts y.walk w y.splits
+      parts_with : IsArena c.arena.nodes c.arena.trees → (row : Columns)
+          → IsSplitMove o (c.steps + 1) y.task row c.arena arena c.tape tape c.accounts accounts y.walk w y.splits
           → told ≡ record { reply = New; at = c.steps + 1 } → Gives (shown c) (made c arena tape accounts table) o false
       parts_with is_arena row parts says =
           by_reply New says (part_done c o h few op there (put_at c o h op there SplitMove at_move tt) at_move arena tape accounts w row is_arena
           (subst (λ (z : Operation). IsSplitMove o (c.steps + 1) z.task row c.arena arena c.tape tape c.accounts accounts z.walk w z.splits) (sym is) parts))
 
       -- and without it
-      parts_without : IsSplitMoveFull o y.task c.arena arena c.tape tape c.accounts accounts y.walk w y.splits → told ≡ record { reply = Full; at = c.steps + 1 } → Gives (shown c) (made c arena tape accounts table) o false
+      parts_without : IsSplitMoveFull o y.task c.arena arena c.tape tape c.accounts accounts y.walk w y.splits
+          → told ≡ record { reply = Full; at = c.steps + 1 } → Gives (shown c) (made c arena tape accounts table) o false
       parts_without parts says =
           by_reply Full says (fill_done c o h few op there (put_at c o h op there SplitMove at_move tt) at_move arena tape accounts w
           (subst (λ (z : Operation). IsSplitMoveFull o z.task c.arena arena c.tape tape c.accounts accounts z.walk w z.splits) (sym is) parts))
 
       -- no level is another one then
-      parts_nears : (all : List Entry) → AreHalved all c.arena.nodes arena.nodes y.walk.place.node (last_of y.splits).right → w ≡ walk_at (after_parting (at c.arena y.walk.place.node).next) y.walk → Guarantee o c.arena arena
+      parts_nears : (all : List Entry) → AreHalved all c.arena.nodes arena.nodes y.walk.place.node (last_of y.splits).right
+          → w ≡ walk_at (after_parting (at c.arena y.walk.place.node).next) y.walk → Guarantee o c.arena arena
           → Nears c (made c arena tape accounts table) o Moved
       parts_nears all halved_y goes_y step =
           let halved = subst (λ (z : Operation). AreHalved all c.arena.nodes arena.nodes z.walk.place.node (last_of z.splits).right) (sym is) halved_y in
@@ -190,8 +205,10 @@ module _ (c : Core) (o : ℕ) (h : StateInvariant c) (few : c.steps < 2 ^ 59) (o
     all_unlock = all_of op.splits.halves.items c.arena o op some unlocking.unlocks
 
     -- the locks of all nodes of the splits are given back
-    returns_made : (arena : ArenaView) (w : Walk) (s t was : Splits) (y : Operation) → with_splits op s ≡ y → was ≡ op.splits → IsUnlockAll o c.arena arena y.walk w was t
-        → (table : Table) → IsOver c.table table o (moved (with_splits (with_splits op s) t) (c.steps + 1) w) → Gives (shown c) (made c arena c.tape c.accounts table) o true
+    returns_made : (arena : ArenaView) (w : Walk) (s t was : Splits) (y : Operation) → with_splits op s ≡ y → was ≡ op.splits
+        → IsUnlockAll o c.arena arena y.walk w was t
+        → (table : Table) → IsOver c.table table o (moved (with_splits (with_splits op s) t) (c.steps + 1) w)
+        → Gives (shown c) (made c arena c.tape c.accounts table) o true
     returns_made arena w s t was y is came returns table over =
         subst (λ (all : Table). Gives (shown c) (made c arena c.tape c.accounts all) o true) (sym over.is)
         (return_done c o h few op there at_unlock told some arena w t
@@ -237,7 +254,8 @@ module _ (c now : Core) (o : ℕ) (is : c ≡ now) (h : StateInvariant c) (few :
       pub may_go_on : is_done p ≡ false → MayMove mid o (c.steps + 1)
       may_go_on left = may_over c o h op there (ap is_done (standing p next).2 ∙ left) mid (with_splits (with_splits op s) t) over_two refl
 
-      over_moved : (last : Table) (w : Walk) → Writes mid last o (λ x. moved x (c.steps + 1) w) → IsOver c.table last o (moved (with_splits (with_splits op s) t) (c.steps + 1) w)
+      over_moved : (last : Table) (w : Walk) → Writes mid last o (λ x. moved x (c.steps + 1) w)
+          → IsOver c.table last o (moved (with_splits (with_splits op s) t) (c.steps + 1) w)
       over_moved last w moves = over_next c.table mid last o (λ x. moved x (c.steps + 1) w) (with_splits (with_splits op s) t) over_two moves
 
   module _ (next : IsNext now o (λ q. q ≡ SplitStart)) (table : Table) (s : Splits) (takes : Writes c.table table o (λ x. with_splits x s)) where
@@ -254,7 +272,8 @@ module _ (c now : Core) (o : ℕ) (is : c ≡ now) (h : StateInvariant c) (few :
 
       module _ (mid : Table) (t : Splits) (gives : Writes table mid o (λ x. with_splits x t)) (arena : ArenaView) (tape : Kept) (w : Walk) where
         -- the right half was made
-        pub start_steps : (was : Splits) → ((x : Operation) → operation_at c.table o ≡ Some x → was ≡ x.splits) → IsSplitStart o y.task.key c.arena arena c.tape tape y.walk w was t → (last : Table) → Writes mid last o (λ x. moved x (c.steps + 1) w)
+        pub start_steps : (was : Splits) → ((x : Operation) → operation_at c.table o ≡ Some x → was ≡ x.splits)
+            → IsSplitStart o y.task.key c.arena arena c.tape tape y.walk w was t → (last : Table) → Writes mid last o (λ x. moved x (c.steps + 1) w)
             → StateInvariant (made c arena tape c.accounts last) × StepsOn now (made c arena tape c.accounts last) o Moved
         start_steps was came starts last moves =
             let n = standing SplitStart next in
@@ -267,13 +286,17 @@ module _ (c now : Core) (o : ℕ) (is : c ≡ now) (h : StateInvariant c) (few :
         -- there was no memory for it
         module _ (bare : Table) (drops : Writes mid bare o with_nothing_ready) where
           over_bare : IsOver c.table bare o (with_nothing_ready (with_splits (with_splits (standing SplitStart next).0 s) t))
-          over_bare = over_next c.table mid bare o with_nothing_ready (with_splits (with_splits (standing SplitStart next).0 s) t) (over_two SplitStart next table s takes mid t gives) drops
+          over_bare =
+              over_next c.table mid bare o with_nothing_ready (with_splits (with_splits (standing SplitStart next).0 s) t) (over_two SplitStart next table s takes mid t gives) drops
 
           pub may_stop : MayMove bare o (c.steps + 1)
-          may_stop = let n = standing SplitStart next in may_over c o h n.0 n.1 (ap is_done n.2) bare (with_nothing_ready (with_splits (with_splits n.0 s) t)) over_bare refl
+          may_stop =
+              let n = standing SplitStart next in may_over c o h n.0 n.1 (ap is_done n.2) bare (with_nothing_ready (with_splits (with_splits n.0 s) t)) over_bare refl
 
-          pub start_stops : IsSplitStopped o c.arena arena c.tape tape y.walk w t → (told : Outcome) → told ≡ record { reply = NoMemory; at = c.steps + 1 } → (last : Table)
-              → Writes bare last o (λ x. noted (moved x (c.steps + 1) w) (Some told)) → StateInvariant (made c arena tape c.accounts last) × StepsOn now (made c arena tape c.accounts last) o DoneMove
+          pub start_stops : IsSplitStopped o c.arena arena c.tape tape y.walk w t → (told : Outcome)
+              → told ≡ record { reply = NoMemory; at = c.steps + 1 } → (last : Table)
+              → Writes bare last o (λ x. noted (moved x (c.steps + 1) w) (Some told))
+              → StateInvariant (made c arena tape c.accounts last) × StepsOn now (made c arena tape c.accounts last) o DoneMove
           start_stops stops told says last moves =
               let n = standing SplitStart next in
               let opens = opened_after SplitStart next table s takes y there_y in
@@ -312,7 +335,8 @@ module _ (c now : Core) (o : ℕ) (is : c ≡ now) (h : StateInvariant c) (few :
 
         module _ (arena : ArenaView) (tape : Kept) (accounts : Accounts) (w : Walk) (told : Outcome) (last : Table) (moves : Writes table last o (λ x. noted (moved x (c.steps + 1) w) (Some told))) where
           over_parted : IsOver c.table last o (noted (moved (with_nothing_ready (standing SplitMove next).0) (c.steps + 1) w) (Some told))
-          over_parted = over_next c.table table last o (λ x. noted (moved x (c.steps + 1) w) (Some told)) (with_nothing_ready (standing SplitMove next).0) over_taken moves
+          over_parted =
+              over_next c.table table last o (λ x. noted (moved x (c.steps + 1) w) (Some told)) (with_nothing_ready (standing SplitMove next).0) over_taken moves
 
           -- the walk goes on by the node behind the halves
           parts_leads : w ≡ walk_at (after_parting (at c.arena y.walk.place.node).next) y.walk → Leads (shown c) (shown (made c arena tape accounts last)) o
@@ -322,7 +346,9 @@ module _ (c now : Core) (o : ℕ) (is : c ≡ now) (h : StateInvariant c) (few :
               (subst (λ (z : Operation). w ≡ walk_at (after_parting (at c.arena z.walk.place.node).next) z.walk) (sym opened_move) goes) refl
 
           -- the keys were parted with the new pair
-          pub move_with : IsArena c.arena.nodes c.arena.trees → IsSplitMove o (c.steps + 1) y.task prepared.row c.arena arena c.tape tape c.accounts accounts y.walk w y.splits → told ≡ record { reply = New; at = c.steps + 1 }
+          pub move_with : IsArena c.arena.nodes c.arena.trees
+              → IsSplitMove o (c.steps + 1) y.task prepared.row c.arena arena c.tape tape c.accounts accounts y.walk w y.splits
+              → told ≡ record { reply = New; at = c.steps + 1 }
               → StateInvariant (made c arena tape accounts last) × StepsOn now (made c arena tape accounts last) o Moved
           move_with is_arena parts says =
               let n = standing SplitMove next in
@@ -331,7 +357,8 @@ module _ (c now : Core) (o : ℕ) (is : c ≡ now) (h : StateInvariant c) (few :
               (parts_leads parts.parts.walk)
 
           -- and without it
-          pub move_without : IsSplitMoveFull o y.task c.arena arena c.tape tape c.accounts accounts y.walk w y.splits → told ≡ record { reply = Full; at = c.steps + 1 }
+          pub move_without : IsSplitMoveFull o y.task c.arena arena c.tape tape c.accounts accounts y.walk w y.splits
+              → told ≡ record { reply = Full; at = c.steps + 1 }
               → StateInvariant (made c arena tape accounts last) × StepsOn now (made c arena tape accounts last) o Moved
           move_without parts says =
               let n = standing SplitMove next in
@@ -351,11 +378,13 @@ module _ (c now : Core) (o : ℕ) (is : c ≡ now) (h : StateInvariant c) (few :
     module _ (was : Splits) (came : (x : Operation) → operation_at c.table o ≡ Some x → was ≡ x.splits) where
       -- what `unlock_all` asks
       pub return_asks : IsAtUnlockAll c.arena o was
-      return_asks = let n = standing Unlock next in subst (IsAtUnlockAll c.arena o) (sym (came n.0 n.1)) (all_unlock c o h few_here n.0 n.1 n.2 told_here some_here)
+      return_asks =
+          let n = standing Unlock next in subst (IsAtUnlockAll c.arena o) (sym (came n.0 n.1)) (all_unlock c o h few_here n.0 n.1 n.2 told_here some_here)
 
       module _ (table : Table) (s : Splits) (takes : Writes c.table table o (λ x. with_splits x s)) (y : Operation) (there_y : operation_at table o ≡ Some y)
           (mid : Table) (t : Splits) (gives : Writes table mid o (λ x. with_splits x t)) where
-        pub return_steps : (arena : ArenaView) (w : Walk) → IsUnlockAll o c.arena arena y.walk w was t → (last : Table) → Writes mid last o (λ x. moved x (c.steps + 1) w)
+        pub return_steps : (arena : ArenaView) (w : Walk) → IsUnlockAll o c.arena arena y.walk w was t → (last : Table)
+            → Writes mid last o (λ x. moved x (c.steps + 1) w)
             → StateInvariant (made c arena c.tape c.accounts last) × StepsOn now (made c arena c.tape c.accounts last) o DoneMove
         return_steps arena w returns last moves =
             let n = standing Unlock next in

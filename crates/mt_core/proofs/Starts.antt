@@ -83,7 +83,8 @@ start_sound logs accounts few none = record {
 
 -- the same of the values that the code has
 pub start_state : (logs : ℕ) (accounts : Accounts) (given : List ℕ) (arena : ArenaView) (tape : Kept) (table : Table) → logs ≤ 64 → HaveNoPairs accounts
-    → given ≡ replicate logs 0 → arena ≡ new_arena → tape ≡ no_tape → table ≡ [] → StateInvariant (record (start logs accounts) { logs = given; arena = arena; tape = tape; table = table })
+    → given ≡ replicate logs 0 → arena ≡ new_arena → tape ≡ no_tape → table ≡ []
+    → StateInvariant (record (start logs accounts) { logs = given; arena = arena; tape = tape; table = table })
 start_state logs accounts given arena tape table few none g a t e =
     let P : Core → Type 0 = λ c. StateInvariant c in
     subst (λ w. P (record (start logs accounts) { logs = w; arena = arena; tape = tape; table = table })) (sym g)

@@ -30,8 +30,10 @@ same_count (x ∷ t) (y ∷ u) h = let rest = same_count t u (λ q. h (suc q)) i
 
 module _ (c : Core) (o answers : ℕ) (table : Table) (h : StateInvariant c) (others : (q : ℕ) → q ≢ o → operation_at table q ≡ operation_at c.table q) where
   -- the invariant stays where it holds of that one operation
-  table_sound : ((k : ℕ) → k < length c.arena.nodes → (at c.arena k).holder ≡ Some o → ⊥) → ((op : Operation) → operation_at table o ≡ Some op → IsKeptOf (with_table c answers table) o op)
-      → one_if_prepared (operation_at table o) ≡ one_if_prepared (operation_at c.table o) → answers + made_count (shown_table table) ≤ c.steps → StateInvariant (with_table c answers table)
+  table_sound : ((k : ℕ) → k < length c.arena.nodes → (at c.arena k).holder ≡ Some o → ⊥)
+      → ((op : Operation) → operation_at table o ≡ Some op → IsKeptOf (with_table c answers table) o op)
+      → one_if_prepared (operation_at table o) ≡ one_if_prepared (operation_at c.table o) → answers + made_count (shown_table table) ≤ c.steps
+      → StateInvariant (with_table c answers table)
   table_sound free own weight bound = record {
     tape = record { rises = h.tape.rises; made = h.tape.made; legal = h.tape.legal; keys = h.tape.keys; logs = h.tape.logs };
     stamps = h.stamps;
@@ -65,7 +67,8 @@ pub made_inside : (table : Table) (o : ℕ) → made_count (shown_table (set tab
 made_inside table o = let is = ap made_count (shown_set table o None) in let less = made_without (shown_table table) o in omega (arith, is, less)
 
 -- an operation less, which held nothing and had nothing ready
-pub removed_sound : (c : Core) (o answers : ℕ) (op : Operation) → StateInvariant c → operation_at c.table o ≡ Some op → ((k : ℕ) → HoldsAt op.walk.phase op.walk op.splits k → ⊥) → is_prepared op.walk.phase ≡ false
+pub removed_sound : (c : Core) (o answers : ℕ) (op : Operation) → StateInvariant c → operation_at c.table o ≡ Some op
+    → ((k : ℕ) → HoldsAt op.walk.phase op.walk op.splits k → ⊥) → is_prepared op.walk.phase ≡ false
     → answers + made_count (shown_table (set c.table o None)) ≤ c.steps → StateInvariant (with_table c answers (set c.table o None))
 removed_sound c o answers op h there free unready bound =
     table_sound c o answers (set c.table o None) h (λ q ne. set_there c.table o q None ne)
@@ -80,7 +83,8 @@ removed_sound c o answers op h there free unready bound =
 -- an operation more
 module _ (c : Core) (o : ℕ) (op : Operation) (table : Table) (h : StateInvariant c) (vacant : operation_at c.table o ≡ None) (there : operation_at table o ≡ Some op) (others : (q : ℕ) → q ≢ o → operation_at table q ≡ operation_at c.table q) where
   -- the invariant with an operation more
-  pub begun_sound : op.walk.first ≡ 0 → one_if_prepared (Some op) ≡ 0 → IsKeptOf (with_table c c.answers table) o op → StateInvariant (with_table c c.answers table)
+  pub begun_sound : op.walk.first ≡ 0 → one_if_prepared (Some op) ≡ 0 → IsKeptOf (with_table c c.answers table) o op
+      → StateInvariant (with_table c c.answers table)
   begun_sound still unready kept = table_sound c o c.answers table h others
       (λ k within held. let w = h.holders k o within held in none-some w.0 (sym vacant ∙ w.1))
       (λ x is. subst (IsKeptOf (with_table c c.answers table) o) (same_Some op x (sym there ∙ is)) kept)

@@ -49,7 +49,8 @@ abbrev GaveNone : Core → ℕ → Table → Type 0
 GaveNone c o table = (table ≡ c.table) × ((op : Operation) → operation_at c.table o ≡ Some op → is_unfinished op ≡ true)
 
 -- a take leaves the invariant, with one answer more
-pub taken_state : (c : Core) (o : ℕ) (table : Table) (answer : Answer) → StateInvariant c → GaveUp c o table answer → StateInvariant (with_table c (c.answers + 1) table)
+pub taken_state : (c : Core) (o : ℕ) (table : Table) (answer : Answer) → StateInvariant c → GaveUp c o table answer
+    → StateInvariant (with_table c (c.answers + 1) table)
 taken_state c o table answer h took =
     let a = done_answer c o took.0 h took.1 took.2.finished in
     subst (λ t. StateInvariant (with_table c (c.answers + 1) t)) (sym took.3)
@@ -57,7 +58,8 @@ taken_state c o table answer h took =
     (answered_out c.answers c.steps c.table o took.0 took.1 a.right.begun h.answered))
 
 -- what a take tells
-pub takes_by : (c : Core) (now : StateView) (o : ℕ) (table : Table) (answer : Answer) → shown c ≡ now → StateInvariant c → GaveUp c o table answer → Takes now (shown (with_table c (c.answers + 1) table)) o answer
+pub takes_by : (c : Core) (now : StateView) (o : ℕ) (table : Table) (answer : Answer) → shown c ≡ now → StateInvariant c → GaveUp c o table answer
+    → Takes now (shown (with_table c (c.answers + 1) table)) o answer
 takes_by c now o table answer is h gave =
     subst (λ (v : StateView). Takes v (shown (with_table c (c.answers + 1) table)) o answer) is
     (subst (λ t. Takes (shown c) (shown (with_table c (c.answers + 1) t)) o answer) (sym gave.3) (record {
@@ -71,7 +73,8 @@ takes_by c now o table answer is h gave =
     }))
 
 -- and the rest that it hands out is that of a finished operation
-pub hands_out_by : (c : Core) (now : StateView) (o : ℕ) (table : Table) (answer : Answer) (before after : Displaced) → shown c ≡ now → StateInvariant c → GaveUp c o table answer
+pub hands_out_by : (c : Core) (now : StateView) (o : ℕ) (table : Table) (answer : Answer) (before after : Displaced) → shown c ≡ now
+    → StateInvariant c → GaveUp c o table answer
     → DisplacesRestOf c.table o before after → HandsOutRest now.table o before after
 hands_out_by c now o table answer before after is h gave displaces =
     let op = gave.0 in
@@ -89,7 +92,8 @@ hands_out_by c now o table answer before after is h gave displaces =
     }
 
 -- what it tells of an operation that is not finished
-pub keeps_by : (c : Core) (now : StateView) (o : ℕ) (table : Table) → shown c ≡ now → GaveNone c o table → (shown (with_table c c.answers table) ≡ now) × ¬ IsEnded now.table o
+pub keeps_by : (c : Core) (now : StateView) (o : ℕ) (table : Table) → shown c ≡ now → GaveNone c o table
+    → (shown (with_table c c.answers table) ≡ now) × ¬ IsEnded now.table o
 keeps_by c now o table is gave = (
   ap (λ t. shown (with_table c c.answers t)) gave.0 ∙ is,
   λ ended.
@@ -120,7 +124,8 @@ cancelled_state c o table h gave =
     (let less = made_inside c.table o in let bound = h.answered in omega (arith, less, bound)))
 
 -- what it tells
-pub cancels_by : (c : Core) (now : StateView) (o : ℕ) (table : Table) → shown c ≡ now → GaveBack c o table → Cancels now (shown (with_table c c.answers table)) o
+pub cancels_by : (c : Core) (now : StateView) (o : ℕ) (table : Table) → shown c ≡ now → GaveBack c o table
+    → Cancels now (shown (with_table c c.answers table)) o
 cancels_by c now o table view gave =
     subst (λ (v : StateView). Cancels v (shown (with_table c c.answers table)) o) view
     (subst (λ t. Cancels (shown c) (shown (with_table c c.answers t)) o) (sym gave.3) (record {
@@ -129,7 +134,8 @@ cancels_by c now o table view gave =
     }))
 
 -- what it tells of an operation that has made a step, or is not there
-pub stays_by : (c : Core) (now : StateView) (o : ℕ) → shown c ≡ now → ((op : Operation) → operation_at c.table o ≡ Some op → 0 < op.walk.first) → ¬ IsStill now.table o
+pub stays_by : (c : Core) (now : StateView) (o : ℕ) → shown c ≡ now → ((op : Operation) → operation_at c.table o ≡ Some op → 0 < op.walk.first)
+    → ¬ IsStill now.table o
 stays_by c now o view made still =
     let inside = inside_of c.table o still.0 (ap (λ (v : StateView). op_at v.table o) view ∙ still.1) in
     let first = ap (λ (x : OperationView). x.first) inside.2 in

@@ -22,7 +22,8 @@ hex_written count n = ap Some (filled count (digits 16 false n))
 module _ (e : Edge) (slice : Option (List ℕ)) (written : slice ≡ Some (hex_digits 16 e.slice)) where
   -- the mark of a short key
   pub short_written : (bytes : ℕ) → e.mark ≡ Short bytes → (slice ++? Some (codes ":" ++ decimal bytes)) ≡ Some (edge_text e)
-  short_written bytes is = ap (λ o. o ++? Some (codes ":" ++ decimal bytes)) written ∙ ap (λ m. Some (hex_digits 16 e.slice ++ (codes ":" ++ mark_text m e.is_link))) (sym is)
+  short_written bytes is =
+      ap (λ o. o ++? Some (codes ":" ++ decimal bytes)) written ∙ ap (λ m. Some (hex_digits 16 e.slice ++ (codes ":" ++ mark_text m e.is_link))) (sym is)
 
   -- the mark of a link
   pub link_written : e.mark ≡ Long → e.is_link ≡ true → (slice ++? Some (codes ":T")) ≡ Some (edge_text e)

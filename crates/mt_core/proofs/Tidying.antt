@@ -92,7 +92,8 @@ module _ (c : Core) (floor : ℕ) (h : StateInvariant c) (rises : c.tape.floor �
     answered = h.answered;
     unremoved = h.unremoved;
     few = h.few;
-    quotas = λ t m a there from upto. subst (λ all. len all ≤ a.quota) (sym (map_at-trim floor m c.tape.entries (content_of c.arena) t from)) (h.quotas t m a there (omega (arith, rises, from)) upto);
+    quotas =
+        λ t m a there from upto. subst (λ all. len all ≤ a.quota) (sym (map_at-trim floor m c.tape.entries (content_of c.arena) t from)) (h.quotas t m a there (omega (arith, rises, from)) upto);
     written = All-filter (λ e. nat_lt floor e.step) IsMadeByChange c.tape.entries h.written;
   }
 
@@ -143,7 +144,8 @@ leaves_trimmed c floor up = record {
 }
 
 -- what the code has after the trim: the invariant, and what the tidying tells
-pub tidied : (c : Core) (now : StateView) (bound floor : ℕ) (tape : Kept) → shown c ≡ now → StateInvariant c → IsFloorNeeded c.table c.steps bound → IsLeastOf c.logs bound floor → tape ≡ trimmed c floor
+pub tidied : (c : Core) (now : StateView) (bound floor : ℕ) (tape : Kept) → shown c ≡ now → StateInvariant c → IsFloorNeeded c.table c.steps bound
+    → IsLeastOf c.logs bound floor → tape ≡ trimmed c floor
     → StateInvariant (record c { tape = tape }) × Tidies now (shown (record c { tape = tape }))
 tidied c now bound floor tape is h needed least trims =
     let up = floor_rises c bound floor h needed least in
@@ -154,7 +156,8 @@ tidied c now bound floor tape is h needed least trims =
     ))
 
 -- and after one that hands out
-pub handed : (c : Core) (now : StateView) (bound floor : ℕ) (tape : Kept) (before after : Displaced) → shown c ≡ now → StateInvariant c → IsFloorNeeded c.table c.steps bound → IsLeastOf c.logs bound floor
+pub handed : (c : Core) (now : StateView) (bound floor : ℕ) (tape : Kept) (before after : Displaced) → shown c ≡ now → StateInvariant c
+    → IsFloorNeeded c.table c.steps bound → IsLeastOf c.logs bound floor
     → HandsOut floor c.tape tape before.writes.items after.writes.items (vec_capacity before.writes - vec_len before.writes) → after.rest ≡ before.rest
     → StateInvariant (record c { tape = tape }) × TidiesInto now (shown (record c { tape = tape })) before after
 handed c now bound floor tape before after is h needed least g rest =

@@ -53,7 +53,8 @@ pub record IsUndisturbed (v : StateView) (o : ℕ) (op : OperationView) : Type 0
 -- the reply is that of the operation's command on its tenant's map, and the maps are those that the command leaves
 pub record IsRun (old new : StateView) (op : OperationView) (reply : Reply) : Type 0 where
   pub told : reply ≡ reply_of (quota_of old op.tenant) op.command (tenant_map op.tenant (contents_of old))
-  pub makes : (t : ℕ) → tenant_map t (contents_of new) ≡ maps_after_one (quota_of old) (Some (record { tenant = op.tenant; command = op.command })) (λ u. tenant_map u (contents_of old)) t
+  pub makes : (t : ℕ)
+      → tenant_map t (contents_of new) ≡ maps_after_one (quota_of old) (Some (record { tenant = op.tenant; command = op.command })) (λ u. tenant_map u (contents_of old)) t
 
 -- it is done, or it has placed its change and there is no memory for a node
 abbrev pub EndsAt : Move → Phase → Type 0

@@ -67,7 +67,8 @@ abbrev pub HasMade : Phase → ℕ → ℕ → ArenaView → Walk → Splits →
 HasMade Enter height made v w s = made ≤ above height w
 HasMade Pick height made v w s = (SeesNow v w × (made + 3 * level_of v w ≤ above height w + 3 * height)) ⊎ (made + 3 ≤ astray height)
 HasMade Child height made v w s = (SeesNow v w × (made + 3 * level_of v w ≤ above height w + 3 * height + 1)) ⊎ (made + 2 ≤ astray height)
-HasMade Verify height made v w s = (SeesNow v w × SeesChild v w × (made + 3 * level_of v w ≤ above height w + 3 * height + 2)) ⊎ (SeesChild v w × (made + 1 ≤ astray height))
+HasMade Verify height made v w s =
+    (SeesNow v w × SeesChild v w × (made + 3 * level_of v w ≤ above height w + 3 * height + 2)) ⊎ (SeesChild v w × (made + 1 ≤ astray height))
     ⊎ (made + (5 + behind v w.child) ≤ astray height)
 HasMade Search height made v w s = (SeesNow v w × (made ≤ above height w + 3 * height)) ⊎ (made + (4 + behind v w.place.node) ≤ astray height)
 HasMade Load height made v w s = (SeesNow v w × (made ≤ above height w + 3 * height + 1)) ⊎ (made + (3 + behind v w.place.node) ≤ astray height)

@@ -52,7 +52,8 @@ prefix_text bytes = flat_map (hex_digits 2) bytes
 abbrev pub line_text : ShapeLine → List ℕ
 line_text (TreeLine prefix) = codes "tree " ++ (prefix_text prefix ++ (codes " layer " ++ decimal (layer_of prefix)))
 line_text (Interior depth separators) = indent_text depth ++ (codes "interior" ++ separators_text separators)
-line_text (Border depth count (Some first) (Some last)) = indent_text depth ++ (codes "border " ++ (decimal count ++ (codes " " ++ (edge_text first ++ (codes " " ++ edge_text last)))))
+line_text (Border depth count (Some first) (Some last)) =
+    indent_text depth ++ (codes "border " ++ (decimal count ++ (codes " " ++ (edge_text first ++ (codes " " ++ edge_text last)))))
 line_text (Border depth count first last) = indent_text depth ++ (codes "border " ++ decimal count)
 
 -- whether a slot holds a link

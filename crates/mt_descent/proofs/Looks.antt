@@ -38,7 +38,8 @@ use Rattle.mt_descent.specs.WalkMoves.{FindsIn, after_search, after_load, TakesO
 use Rattle.mt_descent.proofs.Ways.{live_tree}
 
 -- what a border node finds, its view finds
-in_slot : (n : NodeView) (b : BorderNode) (slot : ℕ) (key : Bytes) (layer : ℕ) (kind : FoundKind) → n.slots ≡ b.slots → IsFound b (slice_of key layer) (mark_of key layer) (suffix_of key layer) slot kind → IsInSlot n slot key layer kind
+in_slot : (n : NodeView) (b : BorderNode) (slot : ℕ) (key : Bytes) (layer : ℕ) (kind : FoundKind) → n.slots ≡ b.slots
+    → IsFound b (slice_of key layer) (mark_of key layer) (suffix_of key layer) slot kind → IsInSlot n slot key layer kind
 in_slot n b slot key layer kind same h = record {
   in_range = subst (λ (s : List Entry). slot < length s) (sym same) h.live;
   slice_is = subst (λ (s : List Entry). (slot_at (record n { slots = s }) slot).slice ≡ slice_of key layer) (sym same) h.slice_is;
@@ -47,7 +48,8 @@ in_slot n b slot key layer kind same h = record {
 }
 
 -- the answer of a border node's search is one of its view
-pub finds_in : (n : NodeView) (b : BorderNode) (key : Bytes) (layer : ℕ) (f : Find) → n.slots ≡ b.slots → Finds b (slice_of key layer) (mark_of key layer) (suffix_of key layer) f → FindsIn n key layer f
+pub finds_in : (n : NodeView) (b : BorderNode) (key : Bytes) (layer : ℕ) (f : Find) → n.slots ≡ b.slots
+    → Finds b (slice_of key layer) (mark_of key layer) (suffix_of key layer) f → FindsIn n key layer f
 finds_in n b key layer finds.Missing same h = subst (λ (s : List Entry). IsMissing s (slice_of key layer) (mark_of key layer)) (sym same) h
 finds_in n b key layer (finds.Slot slot kind) same h = in_slot n b slot key layer kind same h
 
@@ -61,13 +63,15 @@ module _ (v : ArenaView) (key : Bytes) (w : Walk) (arena : IsArena v.nodes v.tre
       let remembered = h.covers.remembered in
       record {
         border = record { there = remembered.there; live = stands.live; level = h.border; tree_is = refl };
-        tree_live = ap (λ t. (tree_at v.trees t).standing) remembered.tree_is ∙ live_tree v w.place.tree w.layer w.place.node key arena h.through remembered.there remembered.tree_is stands.live;
+        tree_live =
+            ap (λ t. (tree_at v.trees t).standing) remembered.tree_is ∙ live_tree v w.place.tree w.layer w.place.node key arena h.through remembered.there remembered.tree_is stands.live;
         of_tree = rw remembered.tree_is h.through.of_tree;
         begun = h.through.begun;
         holds = (remembered.from, h.covers.below stands);
       }
 
-  stands_at : (slot : ℕ) (kind : FoundKind) → RangeStands n w.place.seen → IsInSlot n slot key w.layer kind → StandsAt v.nodes n.tree (slice_of key w.layer) (mark_of key w.layer) w.place.node slot
+  stands_at : (slot : ℕ) (kind : FoundKind) → RangeStands n w.place.seen → IsInSlot n slot key w.layer kind
+      → StandsAt v.nodes n.tree (slice_of key w.layer) (mark_of key w.layer) w.place.node slot
   stands_at slot kind stands f = record {
     border = record { there = h.covers.remembered.there; live = stands.live; level = h.border; tree_is = refl };
     in_range = f.in_range;
@@ -75,18 +79,23 @@ module _ (v : ArenaView) (key : Bytes) (w : Walk) (arena : IsArena v.nodes v.tre
     mark_is = f.mark_is;
   }
 
-  had_now : (past : Past) (step : ℕ) (row : Option Columns) → IsNow past step v → w.first ≤ step → get (content_of v) (owned key) ≡ row → Had past w.first step key row
+  had_now : (past : Past) (step : ℕ) (row : Option Columns) → IsNow past step v → w.first ≤ step → get (content_of v) (owned key) ≡ row
+      → Had past w.first step key row
   had_now past step row now since is = record { since = since; made = now.made; had = ap (λ m. get m (owned key)) now.contents ∙ is }
 
-  no_other : (slot : ℕ) (p : Option Pair) → RangeStands n w.place.seen → IsInSlot n slot key w.layer OtherLong → pair_of (slot_at n slot).held ≡ p → IsSomeAnd p (λ pair. pair.suffix ≢ suffix_of key w.layer) → get (content_of v) (owned key) ≡ None
+  no_other : (slot : ℕ) (p : Option Pair) → RangeStands n w.place.seen → IsInSlot n slot key w.layer OtherLong → pair_of (slot_at n slot).held ≡ p
+      → IsSomeAnd p (λ pair. pair.suffix ≢ suffix_of key w.layer) → get (content_of v) (owned key) ≡ None
   no_other slot None stands f is some = absurd some
-  no_other slot (Some other) stands f is some = none_beside v.nodes v.trees arena (begun v.nodes v.trees arena.forest) key w.layer w.place.node (belongs stands) slot other (stands_at slot OtherLong stands f) is some
+  no_other slot (Some other) stands f is some =
+      none_beside v.nodes v.trees arena (begun v.nodes v.trees arena.forest) key w.layer w.place.node (belongs stands) slot other (stands_at slot OtherLong stands f) is some
 
   -- a walk that has searched, by what was found
-  pub kept_searched : (past : Past) (row : Option Columns) (step : ℕ) (f : Find) → IsNow past step v → w.first ≤ step → FindsIn n key w.layer f → IsKept v past key row (after_search f w step)
+  pub kept_searched : (past : Past) (row : Option Columns) (step : ℕ) (f : Find) → IsNow past step v → w.first ≤ step → FindsIn n key w.layer f
+      → IsKept v past key row (after_search f w step)
   kept_searched past row step finds.Missing now since missing = record {
     at_border = record { through = h.through; covers = h.covers; border = h.border };
-    taken = λ stands. had_now past step None now since (none_elsewhere v.nodes v.trees arena (begun v.nodes v.trees arena.forest) key w.layer w.place.node (belongs stands) missing);
+    taken =
+        λ stands. had_now past step None now since (none_elsewhere v.nodes v.trees arena (begun v.nodes v.trees arena.forest) key w.layer w.place.node (belongs stands) missing);
   }
   kept_searched past row step (finds.Slot slot OtherLong) now since f = record {
     at_border = record { through = h.through; covers = h.covers; border = h.border };
@@ -102,7 +111,8 @@ module _ (v : ArenaView) (key : Bytes) (w : Walk) (arena : IsArena v.nodes v.tre
   }
 
 -- a pair that was found is the key's
-same_suffix : (e : Entry) (suffix : List ℕ) (kind : FoundKind) (pair : Pair) → e.held ≡ helds.Stable pair → kind ≢ OtherLong → IsKind e suffix kind → pair.suffix ≡ suffix
+same_suffix : (e : Entry) (suffix : List ℕ) (kind : FoundKind) (pair : Pair) → e.held ≡ helds.Stable pair → kind ≢ OtherLong → IsKind e suffix kind
+    → pair.suffix ≡ suffix
 same_suffix e suffix ThisKey pair is leads k = subst (λ (h : Held). IsSomeAnd (pair_of h) (λ p. p.suffix ≡ suffix)) is k
 same_suffix e suffix OtherLong pair is leads k = absurd (leads refl)
 same_suffix e suffix ToTree pair is leads k = absurd (subst (λ (h : Held). IsLink h) is k.1)
@@ -112,7 +122,8 @@ module _ (v : ArenaView) (key : Bytes) (w : Walk) (arena : IsArena v.nodes v.tre
   m = at v w.place.node
 
   -- as long as the version stands, a pair in the slot stands for the key
-  stands_for : (pair : Pair) → (slot_at m w.slot).held ≡ helds.Stable pair → Stands m w.place.seen → StandsFor v.nodes v.trees key w.layer w.place.node w.slot pair
+  stands_for : (pair : Pair) → (slot_at m w.slot).held ≡ helds.Stable pair → Stands m w.place.seen
+      → StandsFor v.nodes v.trees key w.layer w.place.node w.slot pair
   stands_for pair is stands =
       let f = h.found stands in
       let b = belongs v key w arena h.at_border stands.in_range in
@@ -126,7 +137,8 @@ module _ (v : ArenaView) (key : Bytes) (w : Walk) (arena : IsArena v.nodes v.tre
           of_tree = b.of_tree;
           slice = f.in_slot.slice_is;
           mark = f.in_slot.mark_is;
-          suffix = λ p at_p. ap (λ (p : Pair). p.suffix) (same_Some _ _ (sym at_p ∙ pair_is)) ∙ same_suffix (slot_at m w.slot) (suffix_of key w.layer) f.kind pair is f.leads f.in_slot.kind_is;
+          suffix =
+              λ p at_p. ap (λ (p : Pair). p.suffix) (same_Some _ _ (sym at_p ∙ pair_is)) ∙ same_suffix (slot_at m w.slot) (suffix_of key w.layer) f.kind pair is f.leads f.in_slot.kind_is;
         };
         pair_is = pair_is;
       }
@@ -142,7 +154,8 @@ module _ (v : ArenaView) (key : Bytes) (w : Walk) (arena : IsArena v.nodes v.tre
   at_border = record { through = h.at_border.through; covers = h.at_border.covers; border = h.at_border.border }
 
   -- a row that has stood since its stamp was there at the first step, or at the one that placed it
-  had_since : (past : Past) (at : ℕ) (row : Option Columns) (pair : Pair) → AreStamped past v → w.first ≤ past.steps → row ≡ Some pair.row → at ≡ max w.first pair.stamp → StandsFor v.nodes v.trees key w.layer w.place.node w.slot pair → Had past w.first at key row
+  had_since : (past : Past) (at : ℕ) (row : Option Columns) (pair : Pair) → AreStamped past v → w.first ≤ past.steps → row ≡ Some pair.row
+      → at ≡ max w.first pair.stamp → StandsFor v.nodes v.trees key w.layer w.place.node w.slot pair → Had past w.first at key row
   had_since past at row pair stamped since is at_is stands =
       let stood = stamped key w.layer w.place.node w.slot pair stands in
       record {
@@ -152,7 +165,8 @@ module _ (v : ArenaView) (key : Bytes) (w : Walk) (arena : IsArena v.nodes v.tre
       }
 
   -- a walk that has loaded, by what was taken
-  pub kept_loaded : (past : Past) (row : Option Columns) (at : ℕ) (taken : Taken) → AreStamped past v → w.first ≤ past.steps → TakesOut m w row taken at → IsKept v past key row (after_load w taken at)
+  pub kept_loaded : (past : Past) (row : Option Columns) (at : ℕ) (taken : Taken) → AreStamped past v → w.first ≤ past.steps
+      → TakesOut m w row taken at → IsKept v past key row (after_load w taken at)
   kept_loaded past row at takens.Missing stamped since t = absurd t
   kept_loaded past row at takens.Row stamped since t = record {
     at_border = record { through = at_border.through; covers = at_border.covers; border = at_border.border };
@@ -168,5 +182,7 @@ module _ (v : ArenaView) (key : Bytes) (w : Walk) (arena : IsArena v.nodes v.tre
   }
 
 -- the same, from what the load tells
-pub kept_loads : (v : ArenaView) (key : Bytes) (w after : Walk) (past : Past) (row : Option Columns) → IsArena v.nodes v.trees → IsAtLoad v key w → AreStamped past v → w.first ≤ past.steps → Loads (at v w.place.node) w after row → IsKept v past key row after
-kept_loads v key w after past row arena h stamped since l = subst (λ (x : Walk). IsKept v past key row x) (sym l.is) (kept_loaded v key w arena h past row after.right_at after.taken stamped since l.takes)
+pub kept_loads : (v : ArenaView) (key : Bytes) (w after : Walk) (past : Past) (row : Option Columns) → IsArena v.nodes v.trees → IsAtLoad v key w
+    → AreStamped past v → w.first ≤ past.steps → Loads (at v w.place.node) w after row → IsKept v past key row after
+kept_loads v key w after past row arena h stamped since l =
+    subst (λ (x : Walk). IsKept v past key row x) (sym l.is) (kept_loaded v key w arena h past row after.right_at after.taken stamped since l.takes)

@@ -72,7 +72,8 @@ module _ (op : ℕ) (n m : NodeView) (c : Changes op n m) (seen : Parts) (was : 
       ((versions.insert_age_tells n.version seen before.insertion).1 ∙ was.still)
 
 -- a slot stays while the keys do
-in_slot_stays : (n m : NodeView) (slot : ℕ) (key : Bytes) (layer : ℕ) (kind : FoundKind) → n.slots ≡ m.slots → IsInSlot n slot key layer kind → IsInSlot m slot key layer kind
+in_slot_stays : (n m : NodeView) (slot : ℕ) (key : Bytes) (layer : ℕ) (kind : FoundKind) → n.slots ≡ m.slots → IsInSlot n slot key layer kind
+    → IsInSlot m slot key layer kind
 in_slot_stays n m slot key layer kind same h = record {
   in_range = subst (λ (s : List Entry). slot < length s) same h.in_range;
   slice_is = subst (λ (s : List Entry). (slot_at (record n { slots = s }) slot).slice ≡ slice_of key layer) same h.slice_is;
@@ -84,7 +85,8 @@ slot_stays : (n m : NodeView) (slot : ℕ) (key : Bytes) (layer : ℕ) → n.slo
 slot_stays n m slot key layer same h = record { kind = h.kind; in_slot = in_slot_stays n m slot key layer h.kind same h.in_slot; leads = h.leads }
 
 -- a tree that is not being made never is
-unmade_stays : (op : ℕ) (tree after : Tree) → TreeChanges op tree after → ((q : ℕ) → tree.standing ≢ Made q) → (s : Standing) → tree.standing ≡ s → (q : ℕ) → after.standing ≢ Made q
+unmade_stays : (op : ℕ) (tree after : Tree) → TreeChanges op tree after → ((q : ℕ) → tree.standing ≢ Made q) → (s : Standing) → tree.standing ≡ s
+    → (q : ℕ) → after.standing ≢ Made q
 unmade_stays op tree after c unmade (Made by) is q e = unmade by is
 unmade_stays op tree after c unmade Live is q e = c.live is q e
 unmade_stays op tree after c unmade Dead is q e = unmade q (ap (λ (t : Tree). t.standing) (sym (c.dead is)) ∙ e)
@@ -117,7 +119,8 @@ module _ (op : ℕ) (old new : ArenaView) (e : NodesGuarantee op old.nodes new.n
       let c = e.nodes k h.remembered.there in
       record {
         remembered = remembered_stays t k seen slice h.remembered;
-        below = λ stands. omega (arith, h.below (range_stood op (at old k) (at new k) c seen h.remembered.was stands), widens op (at old k) (at new k) c seen h.remembered.was stands);
+        below =
+            λ stands. omega (arith, h.below (range_stood op (at old k) (at new k) c seen h.remembered.was stands), widens op (at old k) (at new k) c seen h.remembered.was stands);
       }
 
   pick_stays : (key : Bytes) (w : Walk) → IsAtPick old key w → IsAtPick new key w
@@ -127,7 +130,8 @@ module _ (op : ℕ) (old new : ArenaView) (e : NodesGuarantee op old.nodes new.n
     interior = omega (arith, h.interior, (e.nodes w.place.node h.covers.remembered.there).level);
   }
 
-  picked_stays : (k : ℕ) (seen : Parts) (slice c : ℕ) → k < length old.nodes → WasSeen (at old k) seen → IsPicked old k seen slice c → IsPicked new k seen slice c
+  picked_stays : (k : ℕ) (seen : Parts) (slice c : ℕ) → k < length old.nodes → WasSeen (at old k) seen → IsPicked old k seen slice c
+      → IsPicked new k seen slice c
   picked_stays k seen slice c within was h = record {
     there = omega (arith, h.there, e.count);
     is = λ stands.
@@ -146,18 +150,25 @@ module _ (op : ℕ) (old new : ArenaView) (e : NodesGuarantee op old.nodes new.n
     border = (e.nodes w.place.node h.covers.remembered.there).level ∙ h.border;
   }
 
-  had_stays : (before after : Past) (first step : ℕ) (key : Bytes) (row : Option Columns) → ExtendsPast first before after → Had before first step key row → Had after first step key row
+  had_stays : (before after : Past) (first step : ℕ) (key : Bytes) (row : Option Columns) → ExtendsPast first before after
+      → Had before first step key row → Had after first step key row
   had_stays before after first step key row g h = record { since = h.since; made = omega (arith, h.made, g.steps); had = ap (λ m. get m (owned key)) (g.same step h.since h.made) ∙ h.had }
 
-  taken_stays : (before after : Past) (key : Bytes) (row : Option Columns) (w : Walk) (taken : Taken) → ExtendsPast w.first before after → w.place.node < length old.nodes → WasSeen (at old w.place.node) w.place.seen → TakenHolds old before key row w taken → TakenHolds new after key row w taken
-  taken_stays before after key row w Missing g within was h = λ stands. had_stays before after w.first w.right_at key None g (h (range_stood op (at old w.place.node) (at new w.place.node) (e.nodes w.place.node within) w.place.seen was stands))
+  taken_stays : (before after : Past) (key : Bytes) (row : Option Columns) (w : Walk) (taken : Taken) → ExtendsPast w.first before after
+      → w.place.node < length old.nodes → WasSeen (at old w.place.node) w.place.seen → TakenHolds old before key row w taken
+      → TakenHolds new after key row w taken
+  taken_stays before after key row w Missing g within was h =
+      λ stands. had_stays before after w.first w.right_at key None g (h (range_stood op (at old w.place.node) (at new w.place.node) (e.nodes w.place.node within) w.place.seen was stands))
   taken_stays before after key row w Row g within was h = λ stands.
       let f = h (stood op (at old w.place.node) (at new w.place.node) (e.nodes w.place.node within) w.place.seen was stands) in
       (f.0, f.1, had_stays before after w.first w.right_at key row g f.2)
-  taken_stays before after key row w (Link u) g within was h = λ stands. through_stays u (w.layer + 1) key (h (stood op (at old w.place.node) (at new w.place.node) (e.nodes w.place.node within) w.place.seen was stands))
-  taken_stays before after key row w Nothing g within was h = λ stands. h (stood op (at old w.place.node) (at new w.place.node) (e.nodes w.place.node within) w.place.seen was stands)
+  taken_stays before after key row w (Link u) g within was h =
+      λ stands. through_stays u (w.layer + 1) key (h (stood op (at old w.place.node) (at new w.place.node) (e.nodes w.place.node within) w.place.seen was stands))
+  taken_stays before after key row w Nothing g within was h =
+      λ stands. h (stood op (at old w.place.node) (at new w.place.node) (e.nodes w.place.node within) w.place.seen was stands)
 
-  next_stays : (t k : ℕ) (seen : Parts) (next : Option ℕ) → k < length old.nodes → WasSeen (at old k) seen → HasNext old t k seen next → HasNext new t k seen next
+  next_stays : (t k : ℕ) (seen : Parts) (next : Option ℕ) → k < length old.nodes → WasSeen (at old k) seen → HasNext old t k seen next
+      → HasNext new t k seen next
   next_stays t k seen next within was h =
       let c = e.nodes k within in
       record {
@@ -165,18 +176,22 @@ module _ (op : ℕ) (old new : ArenaView) (e : NodesGuarantee op old.nodes new.n
         tree_is = λ j is. (e.nodes j (h.there j is)).tree ∙ h.tree_is j is;
         border = λ j is. (e.nodes j (h.there j is)).level ∙ h.border j is;
         after = λ j is. omega (arith, h.after j is, c.low, (e.nodes j (h.there j is)).low);
-        meets = λ j is stands. omega (arith, h.meets j is (range_stood op (at old k) (at new k) c seen was stands), widens op (at old k) (at new k) c seen was stands, (e.nodes j (h.there j is)).low);
-        last = λ none stands. omega (arith, h.last none (range_stood op (at old k) (at new k) c seen was stands), widens op (at old k) (at new k) c seen was stands);
+        meets =
+            λ j is stands. omega (arith, h.meets j is (range_stood op (at old k) (at new k) c seen was stands), widens op (at old k) (at new k) c seen was stands, (e.nodes j (h.there j is)).low);
+        last =
+            λ none stands. omega (arith, h.last none (range_stood op (at old k) (at new k) c seen was stands), widens op (at old k) (at new k) c seen was stands);
       }
 
-  answered_stays : (before after : Past) (key : Bytes) (row : Option Columns) (w : Walk) (taken : Taken) → ExtendsPast w.first before after → TakenWasRight before key row w taken → TakenWasRight after key row w taken
+  answered_stays : (before after : Past) (key : Bytes) (row : Option Columns) (w : Walk) (taken : Taken) → ExtendsPast w.first before after
+      → TakenWasRight before key row w taken → TakenWasRight after key row w taken
   answered_stays before after key row w Missing g h = had_stays before after w.first w.right_at key None g h
   answered_stays before after key row w Row g h = (h.0, h.1, had_stays before after w.first w.right_at key row g h.2)
   answered_stays before after key row w (Link u) g h = absurd h
   answered_stays before after key row w Nothing g h = absurd h
 
   -- the rely: what a walk keeps at its phase
-  pub kept_stays : (before after : Past) (key : Bytes) (row : Option Columns) (w : Walk) (phase : Phase) → ExtendsPast w.first before after → KeptAt phase old before key row w → KeptAt phase new after key row w
+  pub kept_stays : (before after : Past) (key : Bytes) (row : Option Columns) (w : Walk) (phase : Phase) → ExtendsPast w.first before after
+      → KeptAt phase old before key row w → KeptAt phase new after key row w
   kept_stays before after key row w Enter g h = through_stays w.place.tree w.layer key h
   kept_stays before after key row w Pick g h = pick_stays key w h
   kept_stays before after key row w Child g h = record {

@@ -47,7 +47,8 @@ same_stands n seen undeleted same =
     record { in_range = record { live = ap (λ (p : Parts). p.deleted) same ∙ undeleted; range = ages.0 }; insertion = ages.1 }
 
 -- a live node of a tree that the walk may be in is of a live tree
-pub live_tree : (v : ArenaView) (t layer k : ℕ) (key : Bytes) → IsArena v.nodes v.trees → GoesThrough v t layer key → k < length v.nodes → (at v k).tree ≡ t → (at v k).version.deleted ≡ false → (tree_at v.trees t).standing ≡ Live
+pub live_tree : (v : ArenaView) (t layer k : ℕ) (key : Bytes) → IsArena v.nodes v.trees → GoesThrough v t layer key → k < length v.nodes
+    → (at v k).tree ≡ t → (at v k).version.deleted ≡ false → (tree_at v.trees t).standing ≡ Live
 live_tree v t layer k key arena through within is live = by (tree_at v.trees t).standing refl
   where
     by : (s : Standing) → (tree_at v.trees t).standing ≡ s → (tree_at v.trees t).standing ≡ Live
@@ -56,14 +57,16 @@ live_tree v t layer k key arena through within is live = by (tree_at v.trees t).
     by Dead e = absurd ((arena.forest.homes k t within through.there).standing is live e)
 
 -- a walk at a node of either kind
-arrived_by : (v : ArenaView) (past : Past) (key : Bytes) (row : Option Columns) (w : Walk) (border writes : Bool) → (border ≡ true → IsAtBorder v key w) → (border ≡ false → IsAtPick v key w) → KeptAt (arrival_at border writes) v past key row w
+arrived_by : (v : ArenaView) (past : Past) (key : Bytes) (row : Option Columns) (w : Walk) (border writes : Bool)
+    → (border ≡ true → IsAtBorder v key w) → (border ≡ false → IsAtPick v key w) → KeptAt (arrival_at border writes) v past key row w
 arrived_by v past key row w true true f g = f refl
 arrived_by v past key row w true false f g = f refl
 arrived_by v past key row w false true f g = g refl
 arrived_by v past key row w false false f g = g refl
 
 -- a walk that comes to a node which covers the slice keeps what its next phase asks, by the node's kind
-pub arrived : (v : ArenaView) (past : Past) (key : Bytes) (row : Option Columns) (w : Walk) (k : ℕ) (seen : Parts) → IsArena v.nodes v.trees → GoesThrough v w.place.tree w.layer key → Covers v w.place.tree k seen (slice_in key w) → IsKept v past key row (walk_onto w k seen)
+pub arrived : (v : ArenaView) (past : Past) (key : Bytes) (row : Option Columns) (w : Walk) (k : ℕ) (seen : Parts) → IsArena v.nodes v.trees
+    → GoesThrough v w.place.tree w.layer key → Covers v w.place.tree k seen (slice_in key w) → IsKept v past key row (walk_onto w k seen)
 arrived v past key row w k seen arena through covers =
     let node = arena.nodes.each k covers.remembered.there in
     arrived_by v past key row (walk_onto w k seen) seen.border w.writes
@@ -71,7 +74,8 @@ arrived v past key row w k seen arena through covers =
     (λ is. record { through = through; covers = covers; interior = node.kind.interior (covers.remembered.was.ages.border ∙ is) })
 
 -- an unmarked root has the whole range
-pub covers_root : (v : ArenaView) (t layer : ℕ) (key : Bytes) → IsArena v.nodes v.trees → GoesThrough v t layer key → (tree_at v.trees t).standing ≢ Dead → IsStable (at v (tree_at v.trees t).root).version
+pub covers_root : (v : ArenaView) (t layer : ℕ) (key : Bytes) → IsArena v.nodes v.trees → GoesThrough v t layer key
+    → (tree_at v.trees t).standing ≢ Dead → IsStable (at v (tree_at v.trees t).root).version
     → Covers v t (tree_at v.trees t).root (at v (tree_at v.trees t).root).version (slice_of key layer)
 covers_root v t layer key arena through undead stable =
     let k = (tree_at v.trees t).root in
@@ -95,7 +99,9 @@ covers_root v t layer key arena through undead stable =
     }
 
 -- a walk that comes to the root of a tree
-pub kept_entered : (v : ArenaView) (past : Past) (key : Bytes) (row : Option Columns) (w : Walk) → IsArena v.nodes v.trees → GoesThrough v w.place.tree w.layer key → (tree_at v.trees w.place.tree).standing ≢ Dead → IsStable (at v (tree_at v.trees w.place.tree).root).version
+pub kept_entered : (v : ArenaView) (past : Past) (key : Bytes) (row : Option Columns) (w : Walk) → IsArena v.nodes v.trees
+    → GoesThrough v w.place.tree w.layer key → (tree_at v.trees w.place.tree).standing ≢ Dead
+    → IsStable (at v (tree_at v.trees w.place.tree).root).version
     → IsKept v past key row (walk_onto w (tree_at v.trees w.place.tree).root (at v (tree_at v.trees w.place.tree).root).version)
 kept_entered v past key row w arena through undead stable =
     let k = (tree_at v.trees w.place.tree).root in
@@ -110,11 +116,13 @@ has_child count n slice node some = by n.children refl
     by (x ∷ xs) e = omega (arith, place_of-le-length n.separators slice, node.children.interior.between, ap length e)
 
 -- an interior node's child is that of its view
-pub same_child : (n : NodeView) (i : InteriorNode) (slice : ℕ) → n.separators ≡ i.separators → n.children ≡ i.children → slice_index i.children (place_of i.separators slice) ≡ child_for n slice
+pub same_child : (n : NodeView) (i : InteriorNode) (slice : ℕ) → n.separators ≡ i.separators → n.children ≡ i.children
+    → slice_index i.children (place_of i.separators slice) ≡ child_for n slice
 same_child n i slice separators children = rw (separators, children) refl
 
 -- a walk with the child for the slice
-pub kept_picked : (v : ArenaView) (key : Bytes) (w : Walk) → IsArena v.nodes v.trees → IsAtPick v key w → IsAtChild v key (after_pick w (child_for (at v w.place.node) (slice_in key w)))
+pub kept_picked : (v : ArenaView) (key : Bytes) (w : Walk) → IsArena v.nodes v.trees → IsAtPick v key w
+    → IsAtChild v key (after_pick w (child_for (at v w.place.node) (slice_in key w)))
 kept_picked v key w arena h =
     let n = at v w.place.node in
     let node = arena.nodes.each w.place.node h.covers.remembered.there in
@@ -124,7 +132,8 @@ kept_picked v key w arena h =
     }
 
 -- where the interior node's version stands, the child has the slice
-pub covers_child : (v : ArenaView) (key : Bytes) (w : Walk) → IsArena v.nodes v.trees → IsAtVerify v key w → Stands (at v w.place.node) w.place.seen → Covers v w.place.tree w.child w.child_seen (slice_in key w)
+pub covers_child : (v : ArenaView) (key : Bytes) (w : Walk) → IsArena v.nodes v.trees → IsAtVerify v key w → Stands (at v w.place.node) w.place.seen
+    → Covers v w.place.tree w.child w.child_seen (slice_in key w)
 covers_child v key w arena h stands =
     let k = w.place.node in
     let n = at v k in
@@ -158,13 +167,15 @@ covers_child v key w arena h stands =
     was_live false b stays live = refl
 
 -- a walk that goes on at the child
-pub kept_verified : (v : ArenaView) (past : Past) (key : Bytes) (row : Option Columns) (w : Walk) → IsArena v.nodes v.trees → IsAtVerify v key w → SameButLock (at v w.place.node).version w.place.seen → IsKept v past key row (walk_onto w w.child w.child_seen)
+pub kept_verified : (v : ArenaView) (past : Past) (key : Bytes) (row : Option Columns) (w : Walk) → IsArena v.nodes v.trees → IsAtVerify v key w
+    → SameButLock (at v w.place.node).version w.place.seen → IsKept v past key row (walk_onto w w.child w.child_seen)
 kept_verified v past key row w arena h same =
     arrived v past key row w w.child w.child_seen arena h.above.through
     (covers_child v key w arena h (same_stands (at v w.place.node) w.place.seen h.above.covers.remembered.undeleted same))
 
 -- what is remembered of an unmarked live border node and its next one
-pub next_now : (v : ArenaView) (k : ℕ) → IsArena v.nodes v.trees → k < length v.nodes → (at v k).level ≡ 0 → IsStable (at v k).version → (at v k).version.deleted ≡ false → HasNext v (at v k).tree k (at v k).version (at v k).next
+pub next_now : (v : ArenaView) (k : ℕ) → IsArena v.nodes v.trees → k < length v.nodes → (at v k).level ≡ 0 → IsStable (at v k).version
+    → (at v k).version.deleted ≡ false → HasNext v (at v k).tree k (at v k).version (at v k).next
 next_now v k arena within border stable live =
     let n = at v k in
     let node = arena.nodes.each k within in
@@ -172,13 +183,16 @@ next_now v k arena within border stable live =
       there = λ j is. node.names.next j is;
       tree_is = λ j is. ((arena.nodes.pairs k j within (node.names.next j is)).next is).tree;
       border = λ j is. ((arena.nodes.pairs k j within (node.names.next j is)).next is).level ∙ border;
-      after = λ j is. omega (arith, (arena.ranged.each k within).unmarked stable.1 live, ap end_of (((arena.nodes.pairs k j within (node.names.next j is)).next is).meets));
+      after =
+          λ j is. omega (arith, (arena.ranged.each k within).unmarked stable.1 live, ap end_of (((arena.nodes.pairs k j within (node.names.next j is)).next is).meets));
       meets = λ j is stands. omega (arith, ap end_of (((arena.nodes.pairs k j within (node.names.next j is)).next is).meets));
       last = λ none stands. omega (arith, ap end_of (node.chain.last border ((arena.ranged.each k within).unmarked stable.1 live) none));
     }
 
 -- an unmarked border node that is live, behind whose low fence the slice lies, is one from which the walk may go on
-pub kept_there : (v : ArenaView) (key : Bytes) (w : Walk) (j : ℕ) → IsArena v.nodes v.trees → GoesThrough v w.place.tree w.layer key → j < length v.nodes → (at v j).tree ≡ w.place.tree → (at v j).level ≡ 0 → IsStable (at v j).version → (at v j).version.deleted ≡ false → (at v j).low ≤ slice_in key w
+pub kept_there : (v : ArenaView) (key : Bytes) (w : Walk) (j : ℕ) → IsArena v.nodes v.trees → GoesThrough v w.place.tree w.layer key
+    → j < length v.nodes → (at v j).tree ≡ w.place.tree → (at v j).level ≡ 0 → IsStable (at v j).version → (at v j).version.deleted ≡ false
+    → (at v j).low ≤ slice_in key w
     → IsAtForward v key (walk_to_next w j (at v j))
 kept_there v key w j arena through within is border stable live from = record {
   through = through;
@@ -195,7 +209,8 @@ kept_there v key w j arena through within is border stable live from = record {
 }
 
 -- where the slice lies before the next node, or there is none, it lies in this one as long as the range stands
-pub covers_here : (v : ArenaView) (key : Bytes) (w : Walk) → IsAtForward v key w → ((j : ℕ) → w.next ≡ Some j → slice_in key w < (at v j).low) → IsAtBorder v key w
+pub covers_here : (v : ArenaView) (key : Bytes) (w : Walk) → IsAtForward v key w → ((j : ℕ) → w.next ≡ Some j → slice_in key w < (at v j).low)
+    → IsAtBorder v key w
 covers_here v key w h before = record {
   through = h.through;
   covers = record { remembered = h.remembered; below = λ stands. by w.next refl stands };
@@ -206,34 +221,42 @@ covers_here v key w h before = record {
     by None e stands = omega (arith, slice_of_lt key w.layer h.through.of_tree.stored.are_bytes, h.next.last e stands)
     by (Some j) e stands = omega (arith, before j e, h.next.meets j e stands)
 
-arrives : (v : ArenaView) (past : Past) (key : Bytes) (row : Option Columns) (w : Walk) (writes : Bool) → IsAtBorder v key w → KeptAt (arrival writes) v past key row w
+arrives : (v : ArenaView) (past : Past) (key : Bytes) (row : Option Columns) (w : Walk) (writes : Bool) → IsAtBorder v key w
+    → KeptAt (arrival writes) v past key row w
 arrives v past key row w true h = h
 arrives v past key row w false h = h
 
 -- a walk that stays at its border node, since the slice lies before the next one
-pub kept_here : (v : ArenaView) (past : Past) (key : Bytes) (row : Option Columns) (w : Walk) → IsAtForward v key w → ((j : ℕ) → w.next ≡ Some j → slice_in key w < (at v j).low) → IsKept v past key row (walk_here w)
+pub kept_here : (v : ArenaView) (past : Past) (key : Bytes) (row : Option Columns) (w : Walk) → IsAtForward v key w
+    → ((j : ℕ) → w.next ≡ Some j → slice_in key w < (at v j).low) → IsKept v past key row (walk_here w)
 kept_here v past key row w h before =
     let b = covers_here v key w h before in
     arrives v past key row (walk_here w) w.writes record { through = b.through; covers = b.covers; border = b.border }
 
 -- or since there is no next one
-pub kept_last : (v : ArenaView) (past : Past) (key : Bytes) (row : Option Columns) (w : Walk) → IsAtForward v key w → w.next ≡ None → IsKept v past key row (walk_here w)
+pub kept_last : (v : ArenaView) (past : Past) (key : Bytes) (row : Option Columns) (w : Walk) → IsAtForward v key w → w.next ≡ None
+    → IsKept v past key row (walk_here w)
 kept_last v past key row w h none = kept_here v past key row w h (λ j is. absurd (let both = sym none ∙ is in cc))
 
 -- a walk that has read the next node, which is unmarked: anew, there, or here
-pub kept_forwarded : (v : ArenaView) (past : Past) (key : Bytes) (row : Option Columns) (w : Walk) (j : ℕ) → IsArena v.nodes v.trees → IsAtForward v key w → w.next ≡ Some j → IsStable (at v j).version → IsKept v past key row (after_forward w (slice_in key w) j (at v j))
+pub kept_forwarded : (v : ArenaView) (past : Past) (key : Bytes) (row : Option Columns) (w : Walk) (j : ℕ) → IsArena v.nodes v.trees
+    → IsAtForward v key w → w.next ≡ Some j → IsStable (at v j).version → IsKept v past key row (after_forward w (slice_in key w) j (at v j))
 kept_forwarded v past key row w j arena h is stable = by (at v j).version.deleted refl
   where
-    to : (b : Bool) → nat_le (at v j).low (slice_in key w) ≡ b → (at v j).version.deleted ≡ false → IsKept v past key row (if b then walk_to_next w j (at v j) else walk_here w)
+    to : (b : Bool) → nat_le (at v j).low (slice_in key w) ≡ b → (at v j).version.deleted ≡ false
+        → IsKept v past key row (if b then walk_to_next w j (at v j) else walk_here w)
     to true e live = kept_there v key w j arena h.through (h.next.there j is) (h.next.tree_is j is) (h.next.border j is) stable live (leb-true _ _ e)
-    to false e live = kept_here v past key row w h (λ i at_i. omega (arith, leb-false (at v j).low (slice_in key w) e, ap (λ k. (at v k).low) (same_Some _ _ (sym at_i ∙ is))))
+    to false e live =
+        kept_here v past key row w h (λ i at_i. omega (arith, leb-false (at v j).low (slice_in key w) e, ap (λ k. (at v k).low) (same_Some _ _ (sym at_i ∙ is))))
 
-    by : (b : Bool) → (at v j).version.deleted ≡ b → IsKept v past key row (if b then walk_anew w else (if nat_le (at v j).low (slice_in key w) then walk_to_next w j (at v j) else walk_here w))
+    by : (b : Bool) → (at v j).version.deleted ≡ b
+        → IsKept v past key row (if b then walk_anew w else (if nat_le (at v j).low (slice_in key w) then walk_to_next w j (at v j) else walk_here w))
     by true e = record { there = h.through.there; unmade = h.through.unmade; of_tree = h.through.of_tree; begun = h.through.begun }
     by false e = to (nat_le (at v j).low (slice_in key w)) refl e
 
 -- a walk whose border node has changed, and is unmarked: anew, or to the next one
-pub kept_moved_on : (v : ArenaView) (past : Past) (key : Bytes) (row : Option Columns) (w : Walk) → IsArena v.nodes v.trees → IsAtBorder v key w → IsStable (at v w.place.node).version → IsKept v past key row (after_change w (at v w.place.node).version (at v w.place.node).next)
+pub kept_moved_on : (v : ArenaView) (past : Past) (key : Bytes) (row : Option Columns) (w : Walk) → IsArena v.nodes v.trees → IsAtBorder v key w
+    → IsStable (at v w.place.node).version → IsKept v past key row (after_change w (at v w.place.node).version (at v w.place.node).next)
 kept_moved_on v past key row w arena h stable = by (at v w.place.node).version.deleted refl
   where
     by : (b : Bool) → (at v w.place.node).version.deleted ≡ b → IsKept v past key row (if b then walk_anew w else record w { place = record w.place { seen = (at v w.place.node).version }; next = (at v w.place.node).next; phase = Forward })

@@ -113,7 +113,8 @@ after_search (finds.Slot slot _) w step = record w { slot = slot; right_at = ste
 -- one that placed it; the tree of a link, or nothing where the slot is no more, at the step of the search.
 abbrev pub TakesOut : NodeView → Walk → Option Columns → Taken → ℕ → Type 0
 TakesOut n w row Missing at = ⊥
-TakesOut n w row Row at = (w.slot < length n.slots) × (pair : Pair) × ((slot_at n w.slot).held ≡ helds.Stable pair) × (row ≡ Some pair.row) × (at ≡ max w.first pair.stamp)
+TakesOut n w row Row at =
+    (w.slot < length n.slots) × (pair : Pair) × ((slot_at n w.slot).held ≡ helds.Stable pair) × (row ≡ Some pair.row) × (at ≡ max w.first pair.stamp)
 TakesOut n w row (Link u) at = (w.slot < length n.slots) × ((slot_at n w.slot).held ≡ helds.Link u) × (row ≡ None) × (at ≡ w.right_at)
 TakesOut n w row Nothing at = ¬ (w.slot < length n.slots) × (row ≡ None) × (at ≡ w.right_at)
 
@@ -157,7 +158,8 @@ pub record Locks (op : ℕ) (old new : ArenaView) (before after : Walk) : Type 0
   pub takes : ¬ IsOutdated (at old before.place.node) before.place.seen → new ≡ with_node old before.place.node (locked (at old before.place.node) op)
   pub judges : ¬ IsOutdated (at old before.place.node) before.place.seen → after ≡ record before { phase = Judge }
   pub leaves : IsOutdated (at old before.place.node) before.place.seen → new ≡ old
-  pub goes_on : IsOutdated (at old before.place.node) before.place.seen → after ≡ after_change before (at old before.place.node).version (at old before.place.node).next
+  pub goes_on : IsOutdated (at old before.place.node) before.place.seen
+      → after ≡ after_change before (at old before.place.node).version (at old before.place.node).next
 
 -- a step of Lock: nobody held the node, and what is kept of the walk is kept of it where it goes on, and of the node where it is locked
 pub record IsLock (op : ℕ) (key : Bytes) (old new : ArenaView) (before after : Walk) : Type 0 where

@@ -53,14 +53,17 @@ pub keeps_child : (x y : NodeView) (k : ℕ) → KeepsButNames x y → HasChild 
 keeps_child x y k keeps c = let stays = stays_so x y keeps in child_stays x y k stays.children stays.deleted c
 
 -- each node keeps all but its names where one does
-pub keeps_each : (xs : List NodeView) (b : ℕ) (y : NodeView) → b < length xs → KeepsButNames (node_at xs b) y → (k : ℕ) → KeepsButNames (node_at xs k) (node_at (set xs b y) k)
+pub keeps_each : (xs : List NodeView) (b : ℕ) (y : NodeView) → b < length xs → KeepsButNames (node_at xs b) y → (k : ℕ)
+    → KeepsButNames (node_at xs k) (node_at (set xs b y) k)
 keeps_each xs b y within keeps k = elim (cases_eq k b) [
   | inl same ↦ rw (same, here xs b y within) keeps
   | inr other ↦ keeps_whole (node_at xs k) (node_at (set xs b y) k) (there xs b k y other)
 ]
 
 -- nobody comes to name node k by an edit of one node, if that one does not
-pub names_no_more : (xs : List NodeView) (b k : ℕ) (y : NodeView) → b < length xs → (y.version.deleted ≡ false → (node_at xs b).version.deleted ≡ false) → (y.previous ≡ Some k → (node_at xs b).previous ≡ Some k) → (y.parent ≡ Some k → (node_at xs b).parent ≡ Some k)
+pub names_no_more : (xs : List NodeView) (b k : ℕ) (y : NodeView) → b < length xs
+    → (y.version.deleted ≡ false → (node_at xs b).version.deleted ≡ false) → (y.previous ≡ Some k → (node_at xs b).previous ≡ Some k)
+    → (y.parent ≡ Some k → (node_at xs b).parent ≡ Some k)
     → NamesNoMoreOf xs (set xs b y) k
 names_no_more xs b k y within live before above = record {
   follows = λ j is. elim (cases_eq j b) [
@@ -86,7 +89,8 @@ pub names_on : (xs ys zs : List NodeView) (k : ℕ) → NamesNoMoreOf xs ys k �
 names_on xs ys zs k a b = record { follows = λ j is. a.follows j (b.follows j is); under = λ j is. a.under j (b.under j is) }
 
 -- what holds of a child and its parent
-pub child_below : (nodes : List NodeView) (p k : ℕ) → AreNodes nodes → p < length nodes → k < length nodes → (c : HasChild (node_at nodes p) k) → IsChild (node_at nodes p) c.place (node_at nodes k)
+pub child_below : (nodes : List NodeView) (p k : ℕ) → AreNodes nodes → p < length nodes → k < length nodes → (c : HasChild (node_at nodes p) k)
+    → IsChild (node_at nodes p) c.place (node_at nodes k)
 child_below nodes p k are lp lk c = (are.pairs p k lp lk).child c.place c.in_range c.is c.live
 
 -- what is kept of the halves where each node that they name keeps all but its names
@@ -131,7 +135,8 @@ module _ (v u : ArenaView) (op : ℕ) (more : length v.nodes ≤ length u.nodes)
       → HasSplits v op s → HasSplits u op (record s { above = above; moved = moved })
   splits_still s above moved lower kl kq h = record {
     some = h.some;
-    lower = all_returnable_still v u op more trees s.halves.items (length s.halves.items - 1) (λ level k lt (m : MayReturn v op level k). let each = lower level k lt m.level_is in (stays_so (at v k) (at u k) each.0, each.1)) h.lower;
+    lower =
+        all_returnable_still v u op more trees s.halves.items (length s.halves.items - 1) (λ level k lt (m : MayReturn v op level k). let each = lower level k lt m.level_is in (stays_so (at v k) (at u k) each.0, each.1)) h.lower;
     parted = parted_still (length s.halves.items - 1) (last_of s).left (last_of s).right kl kq h.parted;
   }
 
@@ -217,7 +222,8 @@ module _ (v : ArenaView) (op behind : ℕ) (s : Splits) (arena : IsArena v.nodes
   pub behind_kept : IsAtLockParent u op s
   behind_kept = record {
     named = record {
-      splits = splits_still v u op more (trees_same v.trees) s s.above s.moved (λ level k lt level_is. absurd (omega (arith, lt, kept.one))) (keeps l) (keeps q) kept.splits;
+      splits =
+          splits_still v u op more (trees_same v.trees) s s.above s.moved (λ level k lt level_is. absurd (omega (arith, lt, kept.one))) (keeps l) (keeps q) kept.splits;
       left = lags_left;
       right = lags_right;
     };
@@ -228,4 +234,5 @@ module _ (v : ArenaView) (op behind : ℕ) (s : Splits) (arena : IsArena v.nodes
 
   -- who holds a node held it
   pub behind_holds : HoldsSplits v op s → HoldsSplits u op s
-  behind_holds holds k within holder = holds k (omega (arith, within, length-set v.nodes behind y)) (sym (ap (λ (n : NodeView). n.holder) (keeps k).is) ∙ holder)
+  behind_holds holds k within holder =
+      holds k (omega (arith, within, length-set v.nodes behind y)) (sym (ap (λ (n : NodeView). n.holder) (keeps k).is) ∙ holder)

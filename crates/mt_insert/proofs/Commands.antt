@@ -53,7 +53,8 @@ module _ (quota step : ℕ) (contents : Contents) (task : Task) (put : IsPut tas
   at_key = get-tenant_map task.tenant contents (key_of (ask task)) ∙ ap (λ (q : ℕ × Bytes). get contents q) (sym put.owner)
 
   -- after the write it has the put's row there
-  written : (before : Option Columns) → get contents (owned task.key) ≡ before → tenant_map task.tenant (with_write contents (write_of task contents step)) ≡ insert m (key_of (ask task)) (row_over task before)
+  written : (before : Option Columns) → get contents (owned task.key) ≡ before
+      → tenant_map task.tenant (with_write contents (write_of task contents step)) ≡ insert m (key_of (ask task)) (row_over task before)
   written before is =
       tenant_map-insert task.tenant contents (key_of (ask task)) (row_over task (get contents (owned task.key)))
       ∙ ap (λ (b : Option Columns). insert m (key_of (ask task)) (row_over task b)) is

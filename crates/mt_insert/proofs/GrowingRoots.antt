@@ -227,7 +227,8 @@ module _ (v : ArenaView) (op : ℕ) (s : Splits) (arena : IsArena v.nodes v.tree
     held = record { there = omega (arith, more); holder = ap (λ (n : NodeView). n.holder) at_top };
     level_is = ap (λ (n : NodeView). n.level) at_top ∙ omega (arith, parted.left.level_is, h.at_root.named.splits.some);
     tree_there = subst (λ t. t < length u.trees) (ap (λ (n : NodeView). n.tree) (sym at_top)) (omega (arith, parted.tree_there, trees.count));
-    mine = λ q e. parted.mine q (sym (trees.standing (at v i).tree parted.tree_there) ∙ ap (λ (n : NodeView). (tree_at u.trees n.tree).standing) (sym at_top) ∙ e);
+    mine =
+        λ q e. parted.mine q (sym (trees.standing (at v i).tree parted.tree_there) ∙ ap (λ (n : NodeView). (tree_at u.trees n.tree).standing) (sym at_top) ∙ e);
     settled = settled;
   }
 

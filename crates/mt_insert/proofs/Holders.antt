@@ -14,7 +14,8 @@ use Rattle.mt_descent.specs.WalkMoves.{Locks}
 use Rattle.mt_insert.specs.KeptPuts.{HoldsOnly}
 
 -- beside the node that changes, who holds a node held it
-held_beside : (v : ArenaView) (k j op : ℕ) (n : NodeView) → j ≢ k → j < length (with_node v k n).nodes → (at (with_node v k n) j).holder ≡ Some op → (j < length v.nodes) × ((at v j).holder ≡ Some op)
+held_beside : (v : ArenaView) (k j op : ℕ) (n : NodeView) → j ≢ k → j < length (with_node v k n).nodes → (at (with_node v k n) j).holder ≡ Some op
+    → (j < length v.nodes) × ((at v j).holder ≡ Some op)
 held_beside v k j op n other within holds = (
   omega (arith, within, length-set v.nodes k n),
   ap (λ (m : NodeView). m.holder) (sym (there v.nodes k j n other)) ∙ holds,
@@ -38,7 +39,8 @@ none_unlocked v op k there_is only j within holds = elim (cases_eq j k) [
 ]
 
 -- the node that was locked is the only one
-pub only_locked : (op : ℕ) (old new : ArenaView) (before after : Walk) → HoldsNothing old op → Locks op old new before after → HoldsOnly new op before.place.node
+pub only_locked : (op : ℕ) (old new : ArenaView) (before after : Walk) → HoldsNothing old op → Locks op old new before after
+    → HoldsOnly new op before.place.node
 only_locked op old new before after nothing l j within holds =
     let k = before.place.node in
     elim (cases_eq j k) [

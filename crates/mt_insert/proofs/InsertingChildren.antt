@@ -56,7 +56,8 @@ module _ (xs ys : List NodeView) (names : KeepNames xs ys) (i : ℕ) where
   named_no_more = record { follows = followed_before; under = named_before }
 
 -- a list with one more node, which names none
-pub names_pushed : (xs ys : List NodeView) (y : NodeView) → length ys ≡ length xs → KeepNames xs ys → y.previous ≡ None → y.parent ≡ None → KeepNames xs (ys ++ y ∷ [])
+pub names_pushed : (xs ys : List NodeView) (y : NodeView) → length ys ≡ length xs → KeepNames xs ys → y.previous ≡ None → y.parent ≡ None
+    → KeepNames xs (ys ++ y ∷ [])
 names_pushed xs ys y same names no_previous no_parent =
     let size : length (ys ++ y ∷ []) ≡ length ys + 1 = length-append ys (y ∷ []) in
     record {
@@ -89,7 +90,8 @@ module _ (v : ArenaView) (op level l q : ℕ) (ys : List NodeView) (names : Keep
     held = record { there = omega (arith, parted.right.held.there, names.more); holder = ap (λ (n : NodeView). n.holder) right_is ∙ parted.right.held.holder };
     level_is = ap (λ (n : NodeView). n.level) right_is ∙ parted.right.level_is;
     tree_there = subst (λ (n : NodeView). n.tree < length v.trees) (sym right_is) (subst (λ t. t < length v.trees) (sym parted.tree) parted.tree_there);
-    mine = λ o making. parted.mine o (sym (ap (λ t. (tree_at v.trees t).standing) parted.tree) ∙ sym (ap (λ (n : NodeView). (tree_at v.trees n.tree).standing) right_is) ∙ making);
+    mine =
+        λ o making. parted.mine o (sym (ap (λ t. (tree_at v.trees t).standing) parted.tree) ∙ sym (ap (λ (n : NodeView). (tree_at v.trees n.tree).standing) right_is) ∙ making);
     settled = subst (λ (n : NodeView). IsSettled ys q n) (sym right_is)
         (settled_of ys q (at v q) (λ k is. right.followers k (followed_before v.nodes ys names q k is)) (λ k is. parted.right.live)
         (λ k is. right.children k (named_before v.nodes ys names q k is)) parted.exact parted.right.stable (λ live none. absurd (knows none)));
@@ -186,7 +188,8 @@ module _ (v : ArenaView) (op : ℕ) (s : Splits) (p : ℕ) (nodes : AreNodes v.n
     pub names : KeepNames v.nodes zs
     names = record {
       more = omega (arith, size);
-      each = each_set2 (λ k n. KeepsNames (at v k) n) v.nodes p l y (exact (at v l)) parent_is_there left_is_there apart_left keeps (record { previous = refl; parent = refl; deleted = refl; holder = refl })
+      each =
+          each_set2 (λ k n. KeepsNames (at v k) n) v.nodes p l y (exact (at v l)) parent_is_there left_is_there apart_left keeps (record { previous = refl; parent = refl; deleted = refl; holder = refl })
           (λ k lt np nl. record { previous = refl; parent = refl; deleted = refl; holder = refl });
       fresh = λ k from lt. absurd (omega (arith, from, lt, size));
     }
@@ -201,7 +204,8 @@ module _ (v : ArenaView) (op : ℕ) (s : Splits) (p : ℕ) (nodes : AreNodes v.n
       k (omega (arith, is.0, size y keeps), same.parent ∙ is.1, same.deleted ∙ is.2)
 
   -- after that, and where others are added behind, the halves of all splits may be given back
-  pub halves_return : (ys : List NodeView) → KeepNames v.nodes ys → node_at ys l ≡ exact (at v l) → ((k : ℕ) → k < length v.nodes → k ≢ p → k ≢ l → node_at ys k ≡ at v k)
+  pub halves_return : (ys : List NodeView) → KeepNames v.nodes ys → node_at ys l ≡ exact (at v l)
+      → ((k : ℕ) → k < length v.nodes → k ≢ p → k ≢ l → node_at ys k ≡ at v k)
       → AreReturnable (record v { nodes = ys }) op s.halves.items count
   halves_return ys names left_is other i lt = elim (cases_lt i (count - 1)) [
     | inl low ↦ all_returnable_still v (record v { nodes = ys }) op names.more (trees_same v.trees) s.halves.items (count - 1)
@@ -252,7 +256,8 @@ module _ (v : ArenaView) (op : ℕ) (s : Splits) (nodes : AreNodes v.nodes) (k :
 
   -- all that name the parent are its children now
   children_now : AreChildren ys k.p y
-  children_now j is = let child = children_then v op s k.p nodes c j (named_before v.nodes ys same_names k.p j is) in record { live = child.live; place = child.place; in_range = child.in_range; is = child.is }
+  children_now j is =
+      let child = children_then v op s k.p nodes c j (named_before v.nodes ys same_names k.p j is) in record { live = child.live; place = child.place; in_range = child.in_range; is = child.is }
 
   above_returns : MayReturn (record v { nodes = ys }) op (length s.halves.items) k.p
   above_returns = record {
@@ -274,4 +279,5 @@ module _ (v : ArenaView) (op : ℕ) (s : Splits) (nodes : AreNodes v.nodes) (k :
 
   -- and no other node is held
   pub holds_inserted : HoldsSplits v op s → HoldsSplits (record v { nodes = ys }) op s
-  holds_inserted holds j lt held = let was : j < length v.nodes = omega (arith, lt, size v op s k.p nodes c y keeps) in holds j was (sym (same_names.each j was).holder ∙ held)
+  holds_inserted holds j lt held =
+      let was : j < length v.nodes = omega (arith, lt, size v op s k.p nodes c y keeps) in holds j was (sym (same_names.each j was).holder ∙ held)

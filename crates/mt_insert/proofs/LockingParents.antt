@@ -27,7 +27,8 @@ use Rattle.mt_insert.proofs.Returns.{NamesNoMoreOf, trees_same, nothing_lags_sti
 use Rattle.mt_insert.proofs.Behind.{KeepsButNames, stays_so, keeps_each, names_no_more, names_on, child_below, splits_still}
 
 -- the two edits, as one
-pub parent_made : (v mid u : ArenaView) (p op : ℕ) (last halves : Halves) → halves ≡ last → mid ≡ with_node v p (locked (at v p) op) → u ≡ with_node mid halves.right (pointed (at mid halves.right) (at mid halves.right).previous (Some p))
+pub parent_made : (v mid u : ArenaView) (p op : ℕ) (last halves : Halves) → halves ≡ last → mid ≡ with_node v p (locked (at v p) op)
+    → u ≡ with_node mid halves.right (pointed (at mid halves.right) (at mid halves.right).previous (Some p))
     → u ≡ with_parent v p last.right op
 parent_made v mid u p op last halves same first second =
     second ∙ ap (λ (m : ArenaView). with_node m halves.right (pointed (at m halves.right) (at m halves.right).previous (Some p))) first ∙ ap (λ (h : Halves). with_parent v p h.right op) same
@@ -54,7 +55,8 @@ module _ (v : ArenaView) (op p : ℕ) (s : Splits) (arena : IsArena v.nodes v.tr
 
   -- a node of a level that is no higher has no child among the halves
   no_child : (k : ℕ) → k < length v.nodes → (at v k).level < length s.halves.items → ¬ HasChild (at v k) l
-  no_child k within low c = let below = child_below v.nodes k l arena.nodes within left_there c in omega (arith, below.level, kept.named.splits.parted.left.level_is, kept.named.splits.some, low)
+  no_child k within low c =
+      let below = child_below v.nodes k l arena.nodes within left_there c in omega (arith, below.level, kept.named.splits.parted.left.level_is, kept.named.splits.some, low)
 
   -- the operation does not hold the parent: all that it holds are halves
   not_held : (at v p).holder ≡ Some op → HoldsSplits v op s → ⊥
@@ -161,7 +163,8 @@ module _ (v : ArenaView) (op p : ℕ) (s : Splits) (arena : IsArena v.nodes v.tr
       held = record { there = omega (arith, parent_there, more); holder = ap (λ (n : NodeView). n.holder) parent_is };
       live = ap (λ (n : NodeView). n.version.deleted) parent_is ∙ child.live;
       level_is = ap (λ (n : NodeView). n.level) parent_is ∙ parent_level;
-      child = subst (λ (n : NodeView). HasChild n l) (sym parent_is) (record { live = child.live; place = child.place; in_range = child.in_range; is = child.is });
+      child =
+          subst (λ (n : NodeView). HasChild n l) (sym parent_is) (record { live = child.live; place = child.place; in_range = child.in_range; is = child.is });
       knows = λ none. absurd (let some = right_is in cc);
       followers = λ k is. ap (λ (n : NodeView). n.next) parent_is ∙ followers_of v.nodes p (at v p) settled k (follows_before k is);
       children = λ k is. elim (under_in mid.nodes p k q y mid_there is) [
@@ -178,7 +181,8 @@ module _ (v : ArenaView) (op p : ℕ) (s : Splits) (arena : IsArena v.nodes v.tr
     at_parent : IsAtParent u op (record s { above = Some p }) p
     at_parent = record {
       named = record {
-        splits = splits_still v u op more (trees_same v.trees) s (Some p) s.moved (λ level k lt level_is. let other = lower level k lt level_is in (keeps k other, no_more k other)) (keeps l not_left) (keeps q not_right) kept.named.splits;
+        splits =
+            splits_still v u op more (trees_same v.trees) s (Some p) s.moved (λ level k lt level_is. let other = lower level k lt level_is in (keeps k other, no_more k other)) (keeps l not_left) (keeps q not_right) kept.named.splits;
         left = nothing_lags_still v.nodes u.nodes l (stays_so (at v l) (at u l) (keeps l not_left)) (no_more l not_left) kept.named.left;
         right = nothing_lags_still v.nodes u.nodes q (stays_so (at v q) (at u q) (keeps q not_right)) (no_more q not_right) kept.named.right;
       };
@@ -223,5 +227,6 @@ module _ (v : ArenaView) (op p : ℕ) (s : Splits) (arena : IsArena v.nodes v.tr
     pub parent_step : Guarantee op v mid → Guarantee op mid u → Guarantee op v u
     parent_step first second = record {
       nodes = guarantee_on op v.nodes mid.nodes u.nodes v.trees v.trees v.trees first.nodes second.nodes arena.forest.tree_there;
-      points = points_on op v.nodes mid.nodes u.nodes first.nodes.count first.points second.points (λ j lt holder. ap (λ (n : NodeView). n.holder) (keeps_each mid.nodes q y mid_there (record { is = refl; parented = λ none. absurd (cc) }) j).is ∙ holder);
+      points =
+          points_on op v.nodes mid.nodes u.nodes first.nodes.count first.points second.points (λ j lt holder. ap (λ (n : NodeView). n.holder) (keeps_each mid.nodes q y mid_there (record { is = refl; parented = λ none. absurd (cc) }) j).is ∙ holder);
     }

@@ -38,7 +38,8 @@ use Rattle.mt_insert.specs.Judge.{StandsIn, ReadyFor, after_judge}
 
 -- what a border node tells of the key, its view tells
 pub stands_in : (n : NodeView) (b : BorderNode) (key : Bytes) (layer : ℕ) (slot : Option ℕ) → n.slots ≡ b.slots
-    → IfSome slot (λ i. IsFound b (slice_of key layer) (mark_of key layer) (suffix_of key layer) i ThisKey) → IfNone slot (IsMissing (entries_of b) (slice_of key layer) (mark_of key layer)) → StandsIn n key layer slot
+    → IfSome slot (λ i. IsFound b (slice_of key layer) (mark_of key layer) (suffix_of key layer) i ThisKey)
+    → IfNone slot (IsMissing (entries_of b) (slice_of key layer) (mark_of key layer)) → StandsIn n key layer slot
 stands_in n b key layer (Some i) same found missing = finds_in n b key layer (finds.Slot i ThisKey) same found
 stands_in n b key layer None same found missing = finds_in n b key layer finds.Missing same missing
 
@@ -61,8 +62,10 @@ linked_tree (Unstable pair tree) link = absurd link
 linked_tree (Link tree) link = (tree, refl)
 
 -- what a border node's slot holds, where its view has a link there
-pub link_there : (n : NodeView) (b : BorderNode) (slot : ℕ) (key : Bytes) (layer : ℕ) → n.slots ≡ b.slots → IsInSlot n slot key layer ToTree → (tree : ℕ) × ((entry_at b slot).held ≡ Link tree)
-link_there n b slot key layer same f = linked_tree (entry_at b slot).held (subst (λ (s : List Entry). IsLink (slot_at (record n { slots = s }) slot).held) same f.kind_is.1)
+pub link_there : (n : NodeView) (b : BorderNode) (slot : ℕ) (key : Bytes) (layer : ℕ) → n.slots ≡ b.slots → IsInSlot n slot key layer ToTree
+    → (tree : ℕ) × ((entry_at b slot).held ≡ Link tree)
+link_there n b slot key layer same f =
+    linked_tree (entry_at b slot).held (subst (λ (s : List Entry). IsLink (slot_at (record n { slots = s }) slot).held) same f.kind_is.1)
 
 -- and the tree that the slot leads to is that of its view
 pub leads_there : (n : NodeView) (b : BorderNode) (slot tree : ℕ) → n.slots ≡ b.slots → (entry_at b slot).held ≡ Link tree → (slot_at n slot).held ≡ Link tree
@@ -73,7 +76,8 @@ pub border_within : (nodes : List NodeView) (trees : List Tree) → IsArena node
 border_within nodes trees arena k there = (arena.nodes.each k there).slots.border.within
 
 -- the walk's phase says nothing of the node that it holds
-holds_on : (v : ArenaView) (op : ℕ) (task : Task) (w : Walk) (phase : Phase) (slot : ℕ) → HoldsBorder v op task.key w → HoldsBorder v op task.key (record w { phase = phase; slot = slot })
+holds_on : (v : ArenaView) (op : ℕ) (task : Task) (w : Walk) (phase : Phase) (slot : ℕ) → HoldsBorder v op task.key w
+    → HoldsBorder v op task.key (record w { phase = phase; slot = slot })
 holds_on v op task w phase slot h =
     let j = h.judged in
     record {
@@ -82,7 +86,8 @@ holds_on v op task w phase slot h =
     }
 
 -- what is kept where the put goes on to place its row
-pub kept_ready : (v : ArenaView) (op : ℕ) (task : Task) (prepared : Prepared) (w : Walk) (slot : Option ℕ) → HoldsBorder v op task.key w → length (at v w.place.node).slots ≤ 15
+pub kept_ready : (v : ArenaView) (op : ℕ) (task : Task) (prepared : Prepared) (w : Walk) (slot : Option ℕ) → HoldsBorder v op task.key w
+    → length (at v w.place.node).slots ≤ 15
     → StandsIn (at v w.place.node) task.key w.layer slot → ReadyFor (at v w.place.node) task w.layer slot prepared
     → KeptReady (after_judge (at v w.place.node) slot w).phase v op task prepared (after_judge (at v w.place.node) slot w)
 kept_ready v op task prepared w (Some slot) h within stands ready =
@@ -122,7 +127,8 @@ not_judging w now next judging = by now.deleted judging
     by false e = absurd (cc)
 
 -- a border node that was locked is held
-pub held_here : (op : ℕ) (old new : ArenaView) (key : Bytes) (before after : Walk) → Locks op old new before after → after.phase ≡ Judge → IsAtJudge new op key after → IsSettled new.nodes before.place.node (at new before.place.node)
+pub held_here : (op : ℕ) (old new : ArenaView) (key : Bytes) (before after : Walk) → Locks op old new before after → after.phase ≡ Judge
+    → IsAtJudge new op key after → IsSettled new.nodes before.place.node (at new before.place.node)
     → HoldsBorder new op key after
 held_here op old new key before after l judging judged settled =
     let n = at old before.place.node in

@@ -160,14 +160,16 @@ module _ (v : ArenaView) (op : ℕ) (task : Task) (prepared : Prepared) (w : Wal
   pub may_place : (row : Columns) (step : ℕ) → MayPlace v l op task.key (entry_of task.key w.layer row step)
   may_place row step = record {
     belongs = subst (λ layer. BelongsIn v.nodes v.trees task.key layer l) (sym layer_here) belongs_here;
-    has = subst (λ layer. HasKey (tree_of v l).prefix layer (entry_of task.key w.layer row step) task.key) (sym layer_here) (new_has_key (tree_of v l).prefix w.layer task.key row step belongs_here.of_tree);
+    has =
+        subst (λ layer. HasKey (tree_of v l).prefix layer (entry_of task.key w.layer row step) task.key) (sym layer_here) (new_has_key (tree_of v l).prefix w.layer task.key row step belongs_here.of_tree);
     entry = new_is_entry task.key w.layer row step;
     stable = tt;
   }
 
   -- the right half names none as its next one
   right_last : r.next ≡ None
-  right_last = no_number r.next (λ some. absurd (omega (arith, (arena.ranged.each q lq).next some, (arena.nodes.each q lq).reach.within, ap end_of h.may.half.right_reach)))
+  right_last =
+      no_number r.next (λ some. absurd (omega (arith, (arena.ranged.each q lq).next some, (arena.nodes.each q lq).reach.within, ap end_of h.may.half.right_reach)))
 
   module _ (all kept moved : List Entry) (stable : All (λ (e : Entry). ¬ IsUnstable e.held) all) (inside : All (λ (e : Entry). Holds x e.slice) all) (parted : IsParted all kept moved r.low) (some_kept : 0 < length kept) (some_moved : 0 < length moved) where
     abbrev both : List NodeView
@@ -195,7 +197,8 @@ module _ (v : ArenaView) (op : ℕ) (task : Task) (prepared : Prepared) (w : Wal
     above_here = omega (arith, (All-left (λ (e : Entry). Holds x e.slice) kept moved inside_both 0 any_entry some_kept).0, parted.below 0 any_entry some_kept)
 
     below_here : r.low < end_of x.high
-    below_here = omega (arith, (All-right (λ (e : Entry). Holds x e.slice) kept moved inside_both 0 any_entry some_moved).1, parted.above 0 any_entry some_moved)
+    below_here =
+        omega (arith, (All-right (λ (e : Entry). Holds x e.slice) kept moved inside_both 0 any_entry some_moved).1, parted.above 0 any_entry some_moved)
 
     are_parted : AreParted after op 0 l q
     are_parted = record {
@@ -320,14 +323,16 @@ module _ (v : ArenaView) (op : ℕ) (task : Task) (prepared : Prepared) (w : Wal
         (halves_held all left_halved.kept left_halved.moved stable inside left_halved.parted left_halved.some_kept left_halved.some_moved holds)
 
   -- what is kept and held where the keys were parted alone
-  pub kept_without : (new : ArenaView) → new ≡ record v { nodes = new.nodes } → AreHalved (at v w.place.node).slots v.nodes new.nodes w.place.node q → KeptSplit (after_parting (at v w.place.node).next) new op s × (HoldsSplits v op s → HoldsSplits new op s)
+  pub kept_without : (new : ArenaView) → new ≡ record v { nodes = new.nodes } → AreHalved (at v w.place.node).slots v.nodes new.nodes w.place.node q
+      → KeptSplit (after_parting (at v w.place.node).next) new op s × (HoldsSplits v op s → HoldsSplits new op s)
   kept_without new alone halved =
       let all = (at v w.place.node).slots in
       (kept_parted all new alone halved stable_slots slots_inside, holds_parted all new alone halved stable_slots slots_inside)
 
   -- and where the pair was placed with them
   pub kept_with : (row : Columns) (step : ℕ) (new : ArenaView) → new ≡ record v { nodes = new.nodes }
-      → AreHalved (with_entry (at v w.place.node).slots (entry_of task.key w.layer row step)) v.nodes new.nodes w.place.node q → KeptSplit (after_parting (at v w.place.node).next) new op s × (HoldsSplits v op s → HoldsSplits new op s)
+      → AreHalved (with_entry (at v w.place.node).slots (entry_of task.key w.layer row step)) v.nodes new.nodes w.place.node q
+      → KeptSplit (after_parting (at v w.place.node).next) new op s × (HoldsSplits v op s → HoldsSplits new op s)
   kept_with row step new alone halved =
       let e = entry_of task.key w.layer row step in
       let all = with_entry (at v w.place.node).slots e in

@@ -51,13 +51,15 @@ module _ (v : ArenaView) (op : ℕ) (key : Bytes) (w : Walk) (arena : IsArena v.
 
   -- whose tree nobody is making
   pub open_here : IsOpen v w.place.node op
-  open_here q making = absurd (h.judged.at_border.through.unmade q (ap (λ t. (tree_at v.trees t).standing) (sym h.judged.at_border.covers.remembered.tree_is) ∙ making))
+  open_here q making =
+      absurd (h.judged.at_border.through.unmade q (ap (λ t. (tree_at v.trees t).standing) (sym h.judged.at_border.covers.remembered.tree_is) ∙ making))
 
   layer_here : layer_of (tree_of v w.place.node).prefix ≡ w.layer
   layer_here = layer_is (tree_of v w.place.node).prefix key w.layer belongs_here.of_tree
 
   -- a slot that has the key stands for it
-  stands_here : (slot : ℕ) (pair : Pair) → IsInSlot n slot key w.layer ThisKey → (slot_at n slot).held ≡ Stable pair → StandsFor v.nodes v.trees key w.layer w.place.node slot pair
+  stands_here : (slot : ℕ) (pair : Pair) → IsInSlot n slot key w.layer ThisKey → (slot_at n slot).held ≡ Stable pair
+      → StandsFor v.nodes v.trees key w.layer w.place.node slot pair
   stands_here slot pair f is =
       let b = belongs_here in
       record {
@@ -75,7 +77,8 @@ module _ (v : ArenaView) (op : ℕ) (key : Bytes) (w : Walk) (arena : IsArena v.
       }
 
   -- the contents have its row
-  pub row_here : (slot : ℕ) (pair : Pair) → IsInSlot n slot key w.layer ThisKey → (slot_at n slot).held ≡ Stable pair → get (content_of v) (owned key) ≡ Some pair.row
+  pub row_here : (slot : ℕ) (pair : Pair) → IsInSlot n slot key w.layer ThisKey → (slot_at n slot).held ≡ Stable pair
+      → get (content_of v) (owned key) ≡ Some pair.row
   row_here slot pair f is = found v.nodes v.trees arena (begun v.nodes v.trees arena.forest) key w.layer w.place.node slot pair (stands_here slot pair f is)
 
   -- and none, where the node misses the key
@@ -90,13 +93,15 @@ module _ (v : ArenaView) (op : ℕ) (key : Bytes) (w : Walk) (arena : IsArena v.
       (record { border = record { there = b.there; live = b.live; level = b.level; tree_is = refl }; in_range = f.in_range; slice_is = f.slice_is; mark_is = f.mark_is }) is
 
   -- so a put that meets the link goes on there, once its lock was given back
-  pub meets_link : (slot tree : ℕ) → IsInSlot n slot key w.layer ToTree → (slot_at n slot).held ≡ Link tree → IsAtEnter (given_back v w.place.node) key (walk_into w tree (w.layer + 1))
+  pub meets_link : (slot tree : ℕ) → IsInSlot n slot key w.layer ToTree → (slot_at n slot).held ≡ Link tree
+      → IsAtEnter (given_back v w.place.node) key (walk_into w tree (w.layer + 1))
   meets_link slot tree f is =
       let g = way_on slot tree f is in
       record { there = g.there; unmade = λ q making. absurd (let both = sym g.live ∙ making in cc); of_tree = g.of_tree; begun = g.begun }
 
   -- another row may be stored in the slot
-  pub may_store : (slot : ℕ) (pair : Pair) → IsInSlot n slot key w.layer ThisKey → (slot_at n slot).held ≡ Stable pair → MayChange v w.place.node op key slot pair
+  pub may_store : (slot : ℕ) (pair : Pair) → IsInSlot n slot key w.layer ThisKey → (slot_at n slot).held ≡ Stable pair
+      → MayChange v w.place.node op key slot pair
   may_store slot pair f is = record {
     held = h.judged.held;
     mine = open_here;
@@ -106,12 +111,14 @@ module _ (v : ArenaView) (op : ℕ) (key : Bytes) (w : Walk) (arena : IsArena v.
   }
 
   -- the pair of the missing key may be published
-  pub may_publish : (row : Columns) (step : ℕ) → IsMissing n.slots (slice_of key w.layer) (mark_of key w.layer) → length n.slots < 15 → MayPublish v w.place.node op key (entry_of key w.layer row step)
+  pub may_publish : (row : Columns) (step : ℕ) → IsMissing n.slots (slice_of key w.layer) (mark_of key w.layer) → length n.slots < 15
+      → MayPublish v w.place.node op key (entry_of key w.layer row step)
   may_publish row step missing room = record {
     held = h.judged.held;
     mine = open_here;
     belongs = subst (λ layer. BelongsIn v.nodes v.trees key layer w.place.node) (sym layer_here) belongs_here;
-    has = subst (λ layer. HasKey (tree_of v w.place.node).prefix layer (entry_of key w.layer row step) key) (sym layer_here) (new_has_key (tree_of v w.place.node).prefix w.layer key row step belongs_here.of_tree);
+    has =
+        subst (λ layer. HasKey (tree_of v w.place.node).prefix layer (entry_of key w.layer row step) key) (sym layer_here) (new_has_key (tree_of v w.place.node).prefix w.layer key row step belongs_here.of_tree);
     entry = new_is_entry key w.layer row step;
     stable = tt;
     missing = missing;
@@ -137,7 +144,8 @@ module _ (v : ArenaView) (op : ℕ) (key : Bytes) (w : Walk) (arena : IsArena v.
   }
 
   -- and so with other slots, none of them unstable
-  unlock_with : (slots : List Entry) → All (λ (e : Entry). ¬ IsUnstable e.held) slots → IsAtUnlock (with_node v w.place.node (with_slots n slots)) op (walk_placed w)
+  unlock_with : (slots : List Entry) → All (λ (e : Entry). ¬ IsUnstable e.held) slots
+      → IsAtUnlock (with_node v w.place.node (with_slots n slots)) op (walk_placed w)
   unlock_with slots stable =
       let y = with_slots n slots in
       let same = here v.nodes w.place.node y within in
@@ -150,7 +158,8 @@ module _ (v : ArenaView) (op : ℕ) (key : Bytes) (w : Walk) (arena : IsArena v.
       }
 
   -- one pair more
-  pub unlock_published : (row : Columns) (step : ℕ) → IsAtUnlock (with_node v w.place.node (with_slots n (with_entry n.slots (entry_of key w.layer row step)))) op (walk_placed w)
+  pub unlock_published : (row : Columns) (step : ℕ)
+      → IsAtUnlock (with_node v w.place.node (with_slots n (with_entry n.slots (entry_of key w.layer row step)))) op (walk_placed w)
   unlock_published row step =
       let e = entry_of key w.layer row step in
       unlock_with (with_entry n.slots e) (each-publish (λ (x : Entry). ¬ IsUnstable x.held) n.slots e h.settled.stable (λ unstable. unstable))

@@ -16,21 +16,25 @@ use Rattle.mt_insert.specs.Puts.{IsPut, row_over, write_over, write_of, IsReady}
 use Rattle.mt_insert.specs.Placing.{pushed, Places}
 
 -- the row that is inserted is that of the put's write
-inserts : (task : Task) (contents : Contents) (before : Option Columns) (row : Columns) (step : ℕ) → IsPut task → get contents (owned task.key) ≡ before → row ≡ row_over task before
+inserts : (task : Task) (contents : Contents) (before : Option Columns) (row : Columns) (step : ℕ) → IsPut task
+    → get contents (owned task.key) ≡ before → row ≡ row_over task before
     → insert contents (owned task.key) row ≡ with_write contents (write_of task contents step)
 inserts task contents before row step put is row_is =
     ap (λ (q : ℕ × Bytes). insert contents q row) put.owner
     ∙ ap (λ (r : Columns). insert contents (task.tenant, key_of (ask task)) r) (row_is ∙ ap (row_over task) (sym is))
 
 -- the write that was made ready is the put's, once it has its number
-numbered : (task : Task) (contents : Contents) (before : Option Columns) (write : Write) (step : ℕ) → get contents (owned task.key) ≡ before → write ≡ write_over task before 0
+numbered : (task : Task) (contents : Contents) (before : Option Columns) (write : Write) (step : ℕ) → get contents (owned task.key) ≡ before
+    → write ≡ write_over task before 0
     → record write { step = step } ≡ write_of task contents step
 numbered task contents before write step is write_is =
     ap (λ (e : Write). record e { step = step }) write_is ∙ ap (λ (b : Option Columns). write_over task b step) (sym is)
 
 -- a placing step, from what its two writes make
-pub places : (task : Task) (step : ℕ) (old new : ArenaView) (was is : Kept) (before : Option Columns) (prepared : Prepared) → IsPut task → get (content_of old) (owned task.key) ≡ before → IsReady task before prepared
-    → content_of new ≡ insert (content_of old) (owned task.key) prepared.row → is ≡ pushed was (record prepared.write { step = step }) → Places task step old new was is
+pub places : (task : Task) (step : ℕ) (old new : ArenaView) (was is : Kept) (before : Option Columns) (prepared : Prepared) → IsPut task
+    → get (content_of old) (owned task.key) ≡ before → IsReady task before prepared
+    → content_of new ≡ insert (content_of old) (owned task.key) prepared.row → is ≡ pushed was (record prepared.write { step = step })
+    → Places task step old new was is
 places task step old new was is before prepared put before_is ready inserted push = record {
   contents = inserted ∙ inserts task (content_of old) before prepared.row step put before_is ready.row;
   tape = push ∙ ap (pushed was) (numbered task (content_of old) before prepared.write step before_is ready.write);

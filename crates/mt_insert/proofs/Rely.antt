@@ -29,7 +29,8 @@ use Rattle.mt_descent.proofs.Rely.{judge_stays}
 use Rattle.mt_insert.specs.KeptPuts.{HoldsBorder, IsAtStore, IsAtPublish, IsAtSplitStart, KeptReady, IsAtUnlock}
 
 -- a slot stays while the slots do
-in_slot_stays : (n m : NodeView) (slot : ℕ) (key : Bytes) (layer : ℕ) (kind : FoundKind) → n.slots ≡ m.slots → IsInSlot n slot key layer kind → IsInSlot m slot key layer kind
+in_slot_stays : (n m : NodeView) (slot : ℕ) (key : Bytes) (layer : ℕ) (kind : FoundKind) → n.slots ≡ m.slots → IsInSlot n slot key layer kind
+    → IsInSlot m slot key layer kind
 in_slot_stays n m slot key layer kind same h = record {
   in_range = subst (λ (s : List Entry). slot < length s) same h.in_range;
   slice_is = subst (λ (s : List Entry). (slot_at (record n { slots = s }) slot).slice ≡ slice_of key layer) same h.slice_is;
@@ -38,7 +39,8 @@ in_slot_stays n m slot key layer kind same h = record {
 }
 
 -- a tree that no other operation is making, none but this one comes to make
-pub open_stays : (op o : ℕ) (tree after : Tree) → TreeChanges op tree after → o ≢ op → ((q : ℕ) → tree.standing ≡ Made q → q ≡ o) → (s : Standing) → tree.standing ≡ s → (q : ℕ) → after.standing ≡ Made q → q ≡ o
+pub open_stays : (op o : ℕ) (tree after : Tree) → TreeChanges op tree after → o ≢ op → ((q : ℕ) → tree.standing ≡ Made q → q ≡ o) → (s : Standing)
+    → tree.standing ≡ s → (q : ℕ) → after.standing ≡ Made q → q ≡ o
 open_stays op o tree after c other mine (Made by) is q e = mine q (ap (λ (t : Tree). t.standing) (sym (c.made o other (is ∙ ap Made (mine by is)))) ∙ e)
 open_stays op o tree after c other mine Live is q e = absurd (c.live is q e)
 open_stays op o tree after c other mine Dead is q e = mine q (ap (λ (t : Tree). t.standing) (sym (c.dead is)) ∙ e)

@@ -123,7 +123,8 @@ module _ (v : ArenaView) (op : ℕ) (s : Splits) (arena : IsArena v.nodes v.tree
   pub last_kept : s.moved + 1 ≡ length (at v q).children → IsAtLockParent u op (record s { moved = 0 })
   last_kept all = record {
     named = record {
-      splits = splits_still v u op more (trees_same v.trees) s s.above 0 (λ level k lt level_is. (keeps k, no_more k (lower level k lt level_is))) (keeps l) (keeps q) kept.splits;
+      splits =
+          splits_still v u op more (trees_same v.trees) s s.above 0 (λ level k lt level_is. (keeps k, no_more k (lower level k lt level_is))) (keeps l) (keeps q) kept.splits;
       left = record {
         followers = left_followers;
         children = λ k is. elim (left_children k is) [
@@ -141,7 +142,8 @@ module _ (v : ArenaView) (op : ℕ) (s : Splits) (arena : IsArena v.nodes v.tree
   -- where more follow
   pub more_kept : s.moved + 1 ≢ length (at v q).children → IsAtReparent u op (record s { moved = s.moved + 1 })
   more_kept some = record {
-    splits = splits_still v u op more (trees_same v.trees) s s.above (s.moved + 1) (λ level k lt level_is. (keeps k, no_more k (lower level k lt level_is))) (keeps l) (keeps q) kept.splits;
+    splits =
+        splits_still v u op more (trees_same v.trees) s s.above (s.moved + 1) (λ level k lt level_is. (keeps k, no_more k (lower level k lt level_is))) (keeps l) (keeps q) kept.splits;
     above = kept.above;
     more = omega (arith, some, kept.more, ap (λ (n : NodeView). length n.children) right_same);
     orphan = orphan_still;
@@ -155,7 +157,8 @@ module _ (v : ArenaView) (op : ℕ) (s : Splits) (arena : IsArena v.nodes v.tree
 
   -- who holds a node held it
   pub child_holds : (moved : ℕ) → HoldsSplits v op s → HoldsSplits u op (record s { moved = moved })
-  child_holds moved holds k within holder = elim (holds k (omega (arith, within, length-set v.nodes b y)) (sym (ap (λ (n : NodeView). n.holder) (keeps k).is) ∙ holder)) [
+  child_holds moved holds k within holder =
+      elim (holds k (omega (arith, within, length-set v.nodes b y)) (sym (ap (λ (n : NodeView). n.holder) (keeps k).is) ∙ holder)) [
     | inl half ↦ inl half
     | inr above ↦ inr above
   ]

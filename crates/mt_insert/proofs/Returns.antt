@@ -60,18 +60,21 @@ child_stays x y j children deleted c = record {
 }
 
 -- nothing lags behind such a node
-pub nothing_lags_still : (xs ys : List NodeView) (k : ℕ) → StaysButNames (node_at xs k) (node_at ys k) → NamesNoMoreOf xs ys k → NothingLags xs k → NothingLags ys k
+pub nothing_lags_still : (xs ys : List NodeView) (k : ℕ) → StaysButNames (node_at xs k) (node_at ys k) → NamesNoMoreOf xs ys k → NothingLags xs k
+    → NothingLags ys k
 nothing_lags_still xs ys k stays names lags = record {
   followers = λ j is. stays.next ∙ lags.followers j (names.follows j is);
   children = λ j is. child_stays (node_at xs k) (node_at ys k) j stays.children stays.deleted (lags.children j (names.under j is));
 }
 
 -- and it is settled still
-pub settled_still : (xs ys : List NodeView) (k : ℕ) → StaysButNames (node_at xs k) (node_at ys k) → NamesNoMoreOf xs ys k → IsSettled xs k (node_at xs k) → IsSettled ys k (node_at ys k)
+pub settled_still : (xs ys : List NodeView) (k : ℕ) → StaysButNames (node_at xs k) (node_at ys k) → NamesNoMoreOf xs ys k
+    → IsSettled xs k (node_at xs k) → IsSettled ys k (node_at ys k)
 settled_still xs ys k stays names settled = record {
   previous = λ j lt e live. let was = names.follows j (lt, e, live) in stays.next ∙ settled.previous j was.0 was.1 was.2;
   previous_live = λ j lt e live. let was = names.follows j (lt, e, live) in stays.deleted ∙ settled.previous_live j was.0 was.1 was.2;
-  parent = λ j lt e live. let was = names.under j (lt, e, live) in child_stays (node_at xs k) (node_at ys k) j stays.children stays.deleted (settled.parent j was.0 was.1 was.2);
+  parent =
+      λ j lt e live. let was = names.under j (lt, e, live) in child_stays (node_at xs k) (node_at ys k) j stays.children stays.deleted (settled.parent j was.0 was.1 was.2);
   reach = stays.reach ∙ settled.reach ∙ sym stays.high;
   stable = subst (λ (s : List Entry). All (λ e. ¬ IsUnstable e.held) s) (sym stays.slots) settled.stable;
   rooted = λ live none. stays.root ∙ settled.rooted (sym stays.deleted ∙ live) (stays.parented none);

@@ -62,7 +62,8 @@ rooted_stays : (n m : NodeView) → IsUntouched n m → (n.parent ≡ None → n
 rooted_stays n m u rooted none = ap (λ (v : Parts). v.root) u.version ∙ rooted (was_none n.parent m.parent u.parented none)
 
 -- a tree that is not being made never is
-unmade_stays : (op : ℕ) (tree after : Tree) → TreeChanges op tree after → ((q : ℕ) → tree.standing ≢ Made q) → (s : Standing) → tree.standing ≡ s → (q : ℕ) → after.standing ≢ Made q
+unmade_stays : (op : ℕ) (tree after : Tree) → TreeChanges op tree after → ((q : ℕ) → tree.standing ≢ Made q) → (s : Standing) → tree.standing ≡ s
+    → (q : ℕ) → after.standing ≢ Made q
 unmade_stays op tree after c unmade (Made by) is q e = unmade by is
 unmade_stays op tree after c unmade Live is q e = c.live is q e
 unmade_stays op tree after c unmade Dead is q e = unmade q (ap (λ (t : Tree). t.standing) (sym (c.dead is)) ∙ e)
@@ -251,7 +252,8 @@ module _ (op o : ℕ) (old new : ArenaView) (g : Guarantee op old new) (other : 
         border = h.border;
         above = h.above;
         moved = h.moved;
-        through = subst (λ (t : ℕ). GoesThrough new t w.layer task.key) (sym (g.nodes.nodes k held_here.there).tree) (through_stays (at old k).tree w.layer task.key h.through);
+        through =
+            subst (λ (t : ℕ). GoesThrough new t w.layer task.key) (sym (g.nodes.nodes k held_here.there).tree) (through_stays (at old k).tree w.layer task.key h.through);
         belongs = holds_stays k (slice_of task.key w.layer) held_here h.belongs;
         may = may_split_stays l q (slice_of task.key w.layer) (mark_of task.key w.layer) tree_there h.may;
         unparted = unparted_stays l q half.held half.right_held h.unparted;

@@ -35,10 +35,12 @@ module _ (old new : Splits) (left right : ℕ) (one : HasOneMore old new left ri
   count_more = ap (λ (hs : List Halves). length hs) one.halves ∙ length-append old.halves.items (more ∷ [])
 
   pub halves_before : (i : ℕ) → i < length old.halves.items → halves_at new.halves.items i ≡ halves_at old.halves.items i
-  halves_before i lt = ap (λ (hs : List Halves). halves_at hs i) one.halves ∙ get_or_append_left old.halves.items (more ∷ []) (record { left = 0; right = 0 }) i lt
+  halves_before i lt =
+      ap (λ (hs : List Halves). halves_at hs i) one.halves ∙ get_or_append_left old.halves.items (more ∷ []) (record { left = 0; right = 0 }) i lt
 
   pub halves_last : halves_at new.halves.items (length old.halves.items) ≡ more
-  halves_last = ap (λ (hs : List Halves). halves_at hs (length old.halves.items)) one.halves ∙ get_or-append_seam old.halves.items more [] (record { left = 0; right = 0 })
+  halves_last =
+      ap (λ (hs : List Halves). halves_at hs (length old.halves.items)) one.halves ∙ get_or-append_seam old.halves.items more [] (record { left = 0; right = 0 })
 
   pub last_more : last_of new ≡ more
   last_more = ap (halves_at new.halves.items) {x = length new.halves.items - 1} {y = length old.halves.items} (omega (arith, count_more)) ∙ halves_last
@@ -188,7 +190,8 @@ module _ (v : ArenaView) (op : ℕ) (s : Splits) (nodes : AreNodes v.nodes) (k :
       splits = record {
         some = omega (arith, count_more s after k.p h one);
         lower = lower;
-        parted = subst (λ (b : Halves). AreParted u op (length after.halves.items - 1) b.left b.right) (sym is_last) (subst (λ level. AreParted u op level k.p h) (sym counted) parents_parted);
+        parted =
+            subst (λ (b : Halves). AreParted u op (length after.halves.items - 1) b.left b.right) (sym is_last) (subst (λ level. AreParted u op level k.p h) (sym counted) parents_parted);
       };
       above = one.above;
       more = subst (λ (b : Halves). after.moved < length (at u b.right).children) (sym is_last) (rw (is_right, one.moved) some_moved);

@@ -88,7 +88,8 @@ module _ (v : ArenaView) (op : ℕ) (task : Task) (prepared : Prepared) (w : Wal
 
   -- nobody is making the tree
   unmade : (p : ℕ) → (tree_at v.trees x.tree).standing ≢ Made p
-  unmade p making = h.holds.judged.at_border.through.unmade p (ap (λ t. (tree_at v.trees t).standing) (sym h.holds.judged.at_border.covers.remembered.tree_is) ∙ making)
+  unmade p making =
+      h.holds.judged.at_border.through.unmade p (ap (λ t. (tree_at v.trees t).standing) (sym h.holds.judged.at_border.covers.remembered.tree_is) ∙ making)
 
   through : GoesThrough v x.tree w.layer task.key
   through = subst (λ t. GoesThrough v t w.layer task.key) (sym h.holds.judged.at_border.covers.remembered.tree_is) h.holds.judged.at_border.through
@@ -186,15 +187,18 @@ module _ (v : ArenaView) (op : ℕ) (task : Task) (prepared : Prepared) (w : Wal
     }
 
 -- what is kept as a split starts
-pub kept_start : (old new : ArenaView) (op : ℕ) (key : Bytes) (task : Task) (prepared : Prepared) (w : Walk) (was is : Splits) → IsArena old.nodes old.trees → IsUnsplit was → Starts op old new key w
-    → HasOneMore was is w.place.node (length old.nodes) → task.key ≡ key → IsAtSplitStart old op task prepared w → IsAtSplitMove new op task prepared (walk_at SplitMove w) is
+pub kept_start : (old new : ArenaView) (op : ℕ) (key : Bytes) (task : Task) (prepared : Prepared) (w : Walk) (was is : Splits)
+    → IsArena old.nodes old.trees → IsUnsplit was → Starts op old new key w
+    → HasOneMore was is w.place.node (length old.nodes) → task.key ≡ key → IsAtSplitStart old op task prepared w
+    → IsAtSplitMove new op task prepared (walk_at SplitMove w) is
 kept_start old new op key task prepared w was is arena none starts more same h =
     subst (λ (a : ArenaView). IsAtSplitMove a op task prepared (walk_at SplitMove w) is) (sym starts.is)
     (kept old op task prepared w arena h starts.low (subst (λ (b : Bytes). IsSeparator (slices_with (at old w.place.node).slots (slice_of b w.layer) (mark_of b w.layer)) starts.low) (sym same) starts.separator)
     is (one_more was is w.place.node (length old.nodes) none more) more.above more.moved)
 
 -- beside the two halves nothing is held
-by_left : (old : ArenaView) (op k low j : ℕ) → HoldsOnly old op k → j ≢ length old.nodes → j < length (with_half old k low op).nodes → (at (with_half old k low op) j).holder ≡ Some op → j ≡ k
+by_left : (old : ArenaView) (op k low j : ℕ) → HoldsOnly old op k → j ≢ length old.nodes → j < length (with_half old k low op).nodes
+    → (at (with_half old k low op) j).holder ≡ Some op → j ≡ k
 by_left old op k low j only other within holder =
     let ys = set old.nodes k (splitting (at old k)) in
     let half = fresh_half (at old k) k low op in
@@ -206,7 +210,8 @@ by_left old op k low j only other within holder =
     ]
 
 -- so no other node is held as a split starts
-pub holds_start : (old new : ArenaView) (op : ℕ) (key : Bytes) (w : Walk) (was is : Splits) → IsUnsplit was → Starts op old new key w → HasOneMore was is w.place.node (length old.nodes) → HoldsOnly old op w.place.node → HoldsSplits new op is
+pub holds_start : (old new : ArenaView) (op : ℕ) (key : Bytes) (w : Walk) (was is : Splits) → IsUnsplit was → Starts op old new key w
+    → HasOneMore was is w.place.node (length old.nodes) → HoldsOnly old op w.place.node → HoldsSplits new op is
 holds_start old new op key w was is none starts more only j within holder =
     let items = one_more was is w.place.node (length old.nodes) none more in
     let in_range : 0 < length is.halves.items = omega (arith, ap length items) in

@@ -47,7 +47,8 @@ back_none P v none = record {
 }
 
 -- and one more
-pub back_more : (P Q : ℕ → Type 0) (v u : ArenaView) (i : ℕ) → GivesBack P v u → i < length v.nodes → ¬ P i → ((k : ℕ) → Q k → P k ⊎ (k ≡ i)) → ((k : ℕ) → P k → Q k) → Q i → GivesBack Q v (given_back u i)
+pub back_more : (P Q : ℕ → Type 0) (v u : ArenaView) (i : ℕ) → GivesBack P v u → i < length v.nodes → ¬ P i → ((k : ℕ) → Q k → P k ⊎ (k ≡ i))
+    → ((k : ℕ) → P k → Q k) → Q i → GivesBack Q v (given_back u i)
 back_more P Q v u i b within not_yet from to at_i =
     let y = unlocked (at u i) in
     let inside : i < length u.nodes = omega (arith, within, b.count) in
@@ -81,7 +82,8 @@ returns_still P v u op level k b np m =
     })
     m
 
-pub both_still : (P : ℕ → Type 0) (v u : ArenaView) (op level : ℕ) (h : Halves) → GivesBack P v u → ¬ P h.left → ¬ P h.right → MayReturnBoth v op level h → MayReturnBoth u op level h
+pub both_still : (P : ℕ → Type 0) (v u : ArenaView) (op level : ℕ) (h : Halves) → GivesBack P v u → ¬ P h.left → ¬ P h.right
+    → MayReturnBoth v op level h → MayReturnBoth u op level h
 both_still P v u op level h b nl nr m = record {
   differ = m.differ;
   left = returns_still P v u op level h.left b nl m.left;
@@ -100,7 +102,8 @@ step_back P op v u b nodes = record {
 }
 
 -- the guarantees of nodes and trees add up
-pub nodes_on : (op : ℕ) (v u w : ArenaView) → IsArena v.nodes v.trees → NodesGuarantee op v.nodes u.nodes v.trees u.trees → Guarantee op u w → NodesGuarantee op v.nodes w.nodes v.trees w.trees
+pub nodes_on : (op : ℕ) (v u w : ArenaView) → IsArena v.nodes v.trees → NodesGuarantee op v.nodes u.nodes v.trees u.trees → Guarantee op u w
+    → NodesGuarantee op v.nodes w.nodes v.trees w.trees
 nodes_on op v u w arena one two = guarantee_on op v.nodes u.nodes w.nodes v.trees u.trees w.trees one two.nodes arena.forest.tree_there
 
 -- of both halves
@@ -186,7 +189,8 @@ module _ (op : ℕ) (v : ArenaView) (halves : List Halves) (all : AreReturnable 
         (λ k p. elim p [ inl below ↦ below_more k below | inr is ↦ record { place = count; before = omega arith; is = inl (sym is) } ])
         (record { place = count; before = omega arith; is = inr refl })
 
-    pub returned_more : (w : ArenaView) → IsArena v.nodes v.trees → w ≡ given_back (given_back u h.left) h.right → Guarantee op u w → content_of w ≡ content_of u → HasReturned op v w halves (count + 1)
+    pub returned_more : (w : ArenaView) → IsArena v.nodes v.trees → w ≡ given_back (given_back u h.left) h.right → Guarantee op u w
+        → content_of w ≡ content_of u → HasReturned op v w halves (count + 1)
     returned_more w arena is step contents = record {
       back = subst (GivesBack (IsBelow halves (count + 1)) v) (sym is) back_next;
       nodes = nodes_on op v u w arena so_far.nodes step;
@@ -194,7 +198,8 @@ module _ (op : ℕ) (v : ArenaView) (halves : List Halves) (all : AreReturnable 
     }
 
 -- both halves of a split: what is left to others
-pub step_both : (op : ℕ) (v u w : ArenaView) (level : ℕ) (h : Halves) → IsArena v.nodes v.trees → MayReturnBoth v op level h → Guarantee op v u → Guarantee op u w → w ≡ given_back (given_back v h.left) h.right → Guarantee op v w
+pub step_both : (op : ℕ) (v u w : ArenaView) (level : ℕ) (h : Halves) → IsArena v.nodes v.trees → MayReturnBoth v op level h → Guarantee op v u
+    → Guarantee op u w → w ≡ given_back (given_back v h.left) h.right → Guarantee op v w
 step_both op v u w level h arena m one two is =
     step_back (Both v op level h m) op v w (subst (GivesBack (Both v op level h m) v) (sym is) (back_both v op level h m)) (nodes_on op v u w arena one.nodes two)
 
@@ -247,7 +252,8 @@ module _ (v : ArenaView) (op : ℕ) (s : Splits) (kept : IsAtUnlockAll v op s) (
   ]
 
   pub rest_room : ((k : ℕ) → IsAmong s k → CanUnlock (at v k).version) → (k : ℕ) → IsAmong rest k → CanUnlock (at u k).version
-  rest_room room k among = subst (λ (n : NodeView). CanUnlock n.version) (sym (back_above.others k (rest_apart k among))) (room k (elim among [ inl half ↦ inl half | inr e ↦ absurd (cc) ]))
+  rest_room room k among =
+      subst (λ (n : NodeView). CanUnlock n.version) (sym (back_above.others k (rest_apart k among))) (room k (elim among [ inl half ↦ inl half | inr e ↦ absurd (cc) ]))
 
   module _ (w : ArenaView) (returns : Returns u w rest) where
     -- then all locks were given back
@@ -258,7 +264,8 @@ module _ (v : ArenaView) (op : ℕ) (s : Splits) (kept : IsAtUnlockAll v op s) (
         | inl half ↦ returns.given k (inl half) ∙ ap unlocked (back_above.others k (above_apart k half))
         | inr e ↦ returns.others k (λ other. rest_apart k other e) ∙ back_above.given k e
       ];
-      others = λ k not_among. returns.others k (λ other. elim other [ inl half ↦ not_among (inl half) | inr e ↦ absurd (cc) ]) ∙ back_above.others k (λ e. not_among (inr e));
+      others =
+          λ k not_among. returns.others k (λ other. elim other [ inl half ↦ not_among (inl half) | inr e ↦ absurd (cc) ]) ∙ back_above.others k (λ e. not_among (inr e));
       trees = returns.trees ∙ back_above.trees;
       retired = returns.retired ∙ back_above.retired;
     }

@@ -75,5 +75,6 @@ pub record MeetsLink (op : ℕ) (key : Bytes) (old new : ArenaView) (before afte
 -- what a put's look at its border node tells: without memory the lock was given back; room on the tape is taken only where all was made ready
 abbrev pub TellsJudged : ℕ → Task → ArenaView → ArenaView → Kept → Kept → Walk → Walk → Judged → Type 0
 TellsJudged op task old new tape taped before after (Ready prepared) = IsMadeReady op task old new tape taped before after prepared
-TellsJudged op task old new tape taped before after GoesOn = (taped ≡ tape) × (MeetsOther op task.key old new before after ⊎ MeetsLink op task.key old new before after)
+TellsJudged op task old new tape taped before after GoesOn =
+    (taped ≡ tape) × (MeetsOther op task.key old new before after ⊎ MeetsLink op task.key old new before after)
 TellsJudged op task old new tape taped before after NoMemory = (taped ≡ tape) × IsUnlock op old new before after

@@ -43,5 +43,6 @@ pub record IsPublishFull (op : ℕ) (task : Task) (old new : ArenaView) (tape ta
 
 -- by what it tells: whether there was room
 abbrev pub TellsPublished : Bool → ℕ → ℕ → Task → Columns → ArenaView → ArenaView → Kept → Kept → Accounts → Accounts → Walk → Walk → Type 0
-TellsPublished true op step task row old new tape taped accounts counted before after = IsPublish op step task row old new tape taped accounts counted before after
+TellsPublished true op step task row old new tape taped accounts counted before after =
+    IsPublish op step task row old new tape taped accounts counted before after
 TellsPublished false op step task row old new tape taped accounts counted before after = IsPublishFull op task old new tape taped accounts counted before after

@@ -55,5 +55,7 @@ pub record IsSplitMoveFull (op : ℕ) (task : Task) (old new : ArenaView) (tape 
 
 -- by what it tells: whether there was room
 abbrev pub TellsSplitMoved : Bool → ℕ → ℕ → Task → Columns → ArenaView → ArenaView → Kept → Kept → Accounts → Accounts → Walk → Walk → Splits → Type 0
-TellsSplitMoved true op step task row old new tape taped accounts counted before after s = IsSplitMove op step task row old new tape taped accounts counted before after s
-TellsSplitMoved false op step task row old new tape taped accounts counted before after s = IsSplitMoveFull op task old new tape taped accounts counted before after s
+TellsSplitMoved true op step task row old new tape taped accounts counted before after s =
+    IsSplitMove op step task row old new tape taped accounts counted before after s
+TellsSplitMoved false op step task row old new tape taped accounts counted before after s =
+    IsSplitMoveFull op task old new tape taped accounts counted before after s

@@ -31,7 +31,8 @@ pub same_tree : (t u : ℕ) (taken : Taken) → taken ≡ takens.Link t → take
 same_tree t u taken is also = let both : takens.Link t ≡ takens.Link u = sym is ∙ also in cc
 
 -- the first node of the tree is another one than the operation's border node
-first_apart : (v : ArenaView) (op : ℕ) (key : Bytes) (w : Walk) (t : ℕ) (what : Held) (pair : Pair) → MakesLayer v op key w t what pair → (tree_at v.trees t).root ≢ w.place.node
+first_apart : (v : ArenaView) (op : ℕ) (key : Bytes) (w : Walk) (t : ℕ) (what : Held) (pair : Pair) → MakesLayer v op key w t what pair
+    → (tree_at v.trees t).root ≢ w.place.node
 first_apart v op key w t what pair m same =
     let mine : (tree_at v.trees t).standing ≡ Made op = m.layer.layer.mine in
     let of_tree : (at v w.place.node).tree ≡ t = ap (λ (k : ℕ). (at v k).tree) (sym same) ∙ m.layer.layer.made.tree in
@@ -50,7 +51,8 @@ otherwise v op key w t what held pair phase arena goes_on m =
       layer = whole_rewritten v w.place.node w.slot t op what held m.other pair.row arena m.layer goes_on;
       settled = settled_but_held v w.place.node w.slot held arena.nodes slot.held.there slot.in_range m.settled;
       goes_on = record { there = m.goes_on.there; of_tree = m.goes_on.of_tree; begun = m.goes_on.begun };
-      first = ap (λ (x : NodeView). x.slots) (there v.nodes w.place.node (tree_at v.trees t).root (with_held (at v w.place.node) w.slot held) (first_apart v op key w t what pair m)) ∙ m.first;
+      first =
+          ap (λ (x : NodeView). x.slots) (there v.nodes w.place.node (tree_at v.trees t).root (with_held (at v w.place.node) w.slot held) (first_apart v op key w t what pair m)) ∙ m.first;
     }
 
 -- unstable

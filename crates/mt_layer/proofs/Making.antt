@@ -91,7 +91,8 @@ module _ (v : ArenaView) (op : ℕ) (key : Bytes) (w : Walk) (arena : IsArena v.
 
   -- the prefix is what the key begins with
   pub prefix_is : prefix ≡ take (8 * (w.layer + 1)) key
-  prefix_is = next_prefix above key w.layer (slot_at n w.slot).slice in_node.of_tree.stored.are_bytes (omega (arith, below)) in_node.of_tree.begins h.in_slot.slice_is
+  prefix_is =
+      next_prefix above key w.layer (slot_at n w.slot).slice in_node.of_tree.stored.are_bytes (omega (arith, below)) in_node.of_tree.begins h.in_slot.slice_is
 
   -- so the tree may be made
   may : MayMakeLayer v prefix e
@@ -101,7 +102,8 @@ module _ (v : ArenaView) (op : ℕ) (key : Bytes) (w : Walk) (arena : IsArena v.
   may_with p x p_is x_is = rw (p_is ∙ sym prefix_is, x_is) may
 
   has : HasKey prefix (layer_of prefix) e other.0
-  has = subst (λ (x : Entry). HasKey prefix (layer_of prefix) x other.0) (sym entry_is) (has_below v k w.slot op h.pair other.0 h.pair.row h.pair.stamp arena held_slot other.1)
+  has =
+      subst (λ (x : Entry). HasKey prefix (layer_of prefix) x other.0) (sym entry_is) (has_below v k w.slot op h.pair other.0 h.pair.row h.pair.stamp arena held_slot other.1)
 
   -- what is kept once it is
   pub made : IsAtMarkUnstable (with_layer v prefix e op) op key (walk_linked w (length v.trees))
@@ -122,12 +124,14 @@ module _ (v : ArenaView) (op : ℕ) (key : Bytes) (w : Walk) (arena : IsArena v.
         };
         begun = below;
       };
-      first = ap (λ (x : Tree). (at (with_layer v prefix e op) x.root).slots) (last_tree v.trees (made_tree prefix (length v.nodes) op)) ∙ ap (λ (x : NodeView). x.slots) (last v.nodes (root_of (length v.trees) e));
+      first =
+          ap (λ (x : Tree). (at (with_layer v prefix e op) x.root).slots) (last_tree v.trees (made_tree prefix (length v.nodes) op)) ∙ ap (λ (x : NodeView). x.slots) (last v.nodes (root_of (length v.trees) e));
     };
   }
 
 -- what a border node has in a slot, its view has there
-pub in_border : (n : NodeView) (b : BorderNode) (slot : ℕ) (pair : Pair) → n.slots ≡ b.slots → (slot_at n slot).held ≡ Stable pair → (entry_at b slot).held ≡ Stable pair
+pub in_border : (n : NodeView) (b : BorderNode) (slot : ℕ) (pair : Pair) → n.slots ≡ b.slots → (slot_at n slot).held ≡ Stable pair
+    → (entry_at b slot).held ≡ Stable pair
 in_border n b slot pair same is = ap (λ (s : List Entry). (slot_at (record n { slots = s }) slot).held) (sym same) ∙ is
 
 -- the root of the new tree is free

@@ -29,7 +29,8 @@ use Rattle.mt_insert.proofs.Rely.{held, unlock}
 use Rattle.mt_layer.specs.KeptLayers.{GoesBelow, MakesLayer, KeptLayer}
 
 -- a tree that is not being made never is
-unmade_stays : (op : ℕ) (tree after : Tree) → TreeChanges op tree after → ((q : ℕ) → tree.standing ≢ Made q) → (s : Standing) → tree.standing ≡ s → (q : ℕ) → after.standing ≢ Made q
+unmade_stays : (op : ℕ) (tree after : Tree) → TreeChanges op tree after → ((q : ℕ) → tree.standing ≢ Made q) → (s : Standing) → tree.standing ≡ s
+    → (q : ℕ) → after.standing ≢ Made q
 unmade_stays op tree after c unmade (Made by) is q e = unmade by is
 unmade_stays op tree after c unmade Live is q e = c.live is q e
 unmade_stays op tree after c unmade Dead is q e = unmade q (ap (λ (t : Tree). t.standing) (sym (c.dead is)) ∙ e)
@@ -54,16 +55,19 @@ module _ (op o : ℕ) (old new : ArenaView) (g : Guarantee op old new) (other : 
     begun = h.begun;
   }
 
-  makes : (key : Bytes) (w : Walk) (t : ℕ) (what : Held) (pair : Pair) → (tree_of new w.place.node).standing ≢ Dead → MakesLayer old o key w t what pair → MakesLayer new o key w t what pair
+  makes : (key : Bytes) (w : Walk) (t : ℕ) (what : Held) (pair : Pair) → (tree_of new w.place.node).standing ≢ Dead
+      → MakesLayer old o key w t what pair → MakesLayer new o key w t what pair
   makes key w t what pair alive m =
       let slot = m.layer.slot in
       record {
         taken = m.taken;
         other = m.other;
         layer = whole_stays op o old new g other w.place.node w.slot t what m.other pair.row alive m.layer;
-        settled = settled_but_stays op o old.nodes new.nodes old.trees new.trees w.place.node w.slot g.nodes g.points other slot.held.there slot.held.holder m.settled;
+        settled =
+            settled_but_stays op o old.nodes new.nodes old.trees new.trees w.place.node w.slot g.nodes g.points other slot.held.there slot.held.holder m.settled;
         goes_on = below t w.layer key m.goes_on;
-        first = ap (λ (x : Tree). (at new x.root).slots) (tree_same op o old new g other t m.other pair.row m.layer.layer) ∙ ap (λ (x : NodeView). x.slots) (root_same op o old new g other t m.other pair.row m.layer.layer) ∙ m.first;
+        first =
+            ap (λ (x : Tree). (at new x.root).slots) (tree_same op o old new g other t m.other pair.row m.layer.layer) ∙ ap (λ (x : NodeView). x.slots) (root_same op o old new g other t m.other pair.row m.layer.layer) ∙ m.first;
       }
 
   -- at MakeLayer

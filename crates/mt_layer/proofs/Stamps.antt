@@ -39,7 +39,8 @@ itself : (e : Entry) → IsLike e e
 itself e = record { slice = refl; mark = refl; pair = λ pair is. is }
 
 -- a slot's pair is as it was, where its node counts as it did
-as_was : (v w : ArenaView) (k i : ℕ) (owner : ℕ × Bytes) (stamp : ℕ) → k < length v.nodes → counts w.trees (at w k) ≡ counts v.trees (at v k) → (tree_of w k).prefix ≡ (tree_of v k).prefix
+as_was : (v w : ArenaView) (k i : ℕ) (owner : ℕ × Bytes) (stamp : ℕ) → k < length v.nodes → counts w.trees (at w k) ≡ counts v.trees (at v k)
+    → (tree_of w k).prefix ≡ (tree_of v k).prefix
     → length (at w k).slots ≡ length (at v k).slots → IsLike (slot_at (at v k) i) (slot_at (at w k) i) → HasStamp w k i owner stamp → HasStamp v k i owner stamp
 as_was v w k i owner stamp within counted prefix size like h = record {
   there = within;
@@ -130,7 +131,8 @@ module _ (v : ArenaView) (k i : ℕ) (held : Held) (arena : IsArena v.nodes v.tr
   ]
 
   -- its node has no pair that it had not, also where other trees change
-  node_keeps : (w : ArenaView) (m : ℕ) (owner : ℕ × Bytes) (stamp : ℕ) → at w k ≡ y → tree_at w.trees n.tree ≡ tree_of v k → HasStamp w k m owner stamp → HasStamp v k m owner stamp
+  node_keeps : (w : ArenaView) (m : ℕ) (owner : ℕ × Bytes) (stamp : ℕ) → at w k ≡ y → tree_at w.trees n.tree ≡ tree_of v k
+      → HasStamp w k m owner stamp → HasStamp v k m owner stamp
   node_keeps w m owner stamp now same_tree =
       as_was v w k m owner stamp within
       (ap (counts w.trees) now ∙ ap (λ (t : Tree). if n.version.deleted then false else is_live t.standing) same_tree)
@@ -150,7 +152,8 @@ module _ (v : ArenaView) (k i : ℕ) (held : Held) (arena : IsArena v.nodes v.tr
       ]
 
 -- the operation's slot holds its pair otherwise
-pub held_keeps : (v : ArenaView) (op : ℕ) (key : Bytes) (w : Walk) (t : ℕ) (what held : Held) (pair : Pair) → IsArena v.nodes v.trees → ((p : Pair) → pair_of held ≡ Some p → pair_of what ≡ Some p)
+pub held_keeps : (v : ArenaView) (op : ℕ) (key : Bytes) (w : Walk) (t : ℕ) (what held : Held) (pair : Pair) → IsArena v.nodes v.trees
+    → ((p : Pair) → pair_of held ≡ Some p → pair_of what ≡ Some p)
     → MakesLayer v op key w t what pair → KeepsStamps v (with_slot v w.place.node w.slot held)
 held_keeps v op key w t what held pair arena goes_on m =
     let slot = m.layer.slot in
@@ -194,7 +197,8 @@ module _ (v : ArenaView) (op : ℕ) (key : Bytes) (walk : Walk) (t : ℕ) (pair 
       cc)
 
   -- the new tree's pair is the one that the slot had
-  pair_below : (es : List Entry) (m : ℕ) (owner : ℕ × Bytes) (stamp : ℕ) (p : Pair) → es ≡ entry_below pair ∷ [] → m < length es → pair_of (get_or es m any_entry).held ≡ Some p
+  pair_below : (es : List Entry) (m : ℕ) (owner : ℕ × Bytes) (stamp : ℕ) (p : Pair) → es ≡ entry_below pair ∷ [] → m < length es
+      → pair_of (get_or es m any_entry).held ≡ Some p
       → owned (key_at tree.prefix (get_or es m any_entry) p) ≡ owner → p.stamp ≡ stamp → HasStamp v k i owner stamp
   pair_below es m owner stamp p are lt is owner_is stamp_is =
       let slot = makes.layer.slot in

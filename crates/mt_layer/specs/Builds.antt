@@ -26,21 +26,24 @@ pub record KeepsLayer (op : ℕ) (old new : ArenaView) (before after : Walk) : T
 
 -- the tree was made, with the other key's pair as its one entry
 pub record IsMakeLayer (op : ℕ) (key : Bytes) (old new : ArenaView) (before after : Walk) : Type 0 where
-  pub is : (pair : Pair) → (slot_at (at old before.place.node) before.slot).held ≡ Stable pair → new ≡ with_layer old (prefix_below old before.place.node before.slot) (entry_below pair) op
+  pub is : (pair : Pair) → (slot_at (at old before.place.node) before.slot).held ≡ Stable pair
+      → new ≡ with_layer old (prefix_below old before.place.node before.slot) (entry_below pair) op
   pub walk : after ≡ walk_linked before (length old.trees)
   pub kept : IsAtMarkUnstable new op key after
   pub on : KeepsLayer op old new before after
 
 -- the pair of the other key is unstable
 pub record IsMarkUnstable (op : ℕ) (old new : ArenaView) (before after : Walk) : Type 0 where
-  pub is : (pair : Pair) → (slot_at (at old before.place.node) before.slot).held ≡ Stable pair → new ≡ with_slot old before.place.node before.slot (Unstable pair None)
+  pub is : (pair : Pair) → (slot_at (at old before.place.node) before.slot).held ≡ Stable pair
+      → new ≡ with_slot old before.place.node before.slot (Unstable pair None)
   pub walk : after ≡ walk_at phases.Link before
   pub kept : (key : Bytes) → IsAtMarkUnstable old op key before → IsAtLink new op key after
   pub on : KeepsLayer op old new before after
 
 -- the number of the tree stands beside it
 pub record IsLink (op : ℕ) (old new : ArenaView) (before after : Walk) : Type 0 where
-  pub is : (pair : Pair) (tree : ℕ) → before.taken ≡ Link tree → (slot_at (at old before.place.node) before.slot).held ≡ Unstable pair None → new ≡ with_slot old before.place.node before.slot (Unstable pair (Some tree))
+  pub is : (pair : Pair) (tree : ℕ) → before.taken ≡ Link tree → (slot_at (at old before.place.node) before.slot).held ≡ Unstable pair None
+      → new ≡ with_slot old before.place.node before.slot (Unstable pair (Some tree))
   pub walk : after ≡ walk_at phases.MarkLayer before
   pub kept : (key : Bytes) → IsAtLink old op key before → IsAtMarkLayer new op key after
   pub on : KeepsLayer op old new before after

@@ -33,7 +33,8 @@ made_over (y ∷ table) (suc o) x = let rest = made_over table o x in omega (ari
 
 -- the same of the table that is inside
 pub made_set : (table : Table) (o : ℕ) (after : Operation) → made_count (shown_table (set table o (Some after))) ≤ suc (made_count (shown_table table))
-made_set table o after = let is = ap made_count (shown_set table o (Some after)) in let over = made_over (shown_table table) o (Some (view_of after)) in omega (arith, is, over)
+made_set table o after =
+    let is = ap made_count (shown_set table o (Some after)) in let over = made_over (shown_table table) o (Some (view_of after)) in omega (arith, is, over)
 
 -- nothing counts where nothing has made a step
 none_made : (table : Shown) → ((q : ℕ) → one_if_made (op_at table q) ≡ 0) → made_count table ≡ 0
@@ -74,11 +75,13 @@ pub answered_begun : (answers steps : ℕ) (old new : Shown) (o : ℕ) (op : Ope
 answered_begun answers steps old new o op free there none others bound = let is = made_begun old new o op free there none others in omega (arith, is, bound)
 
 -- a take keeps the bound: by the table as it is shown, and by the one that is inside
-pub answered_taken : (answers steps : ℕ) (table : Shown) (o : ℕ) (op : OperationView) → op_at table o ≡ Some op → 0 < op.first → answers + made_count table ≤ steps
+pub answered_taken : (answers steps : ℕ) (table : Shown) (o : ℕ) (op : OperationView) → op_at table o ≡ Some op → 0 < op.first
+    → answers + made_count table ≤ steps
     → answers + 1 + made_count (set table o None) ≤ steps
 answered_taken answers steps table o op there begun bound = let one = made_taken table o op there begun in omega (arith, one, bound)
 
-pub answered_out : (answers steps : ℕ) (table : Table) (o : ℕ) (op : Operation) → operation_at table o ≡ Some op → 0 < op.walk.first → answers + made_count (shown_table table) ≤ steps
+pub answered_out : (answers steps : ℕ) (table : Table) (o : ℕ) (op : Operation) → operation_at table o ≡ Some op → 0 < op.walk.first
+    → answers + made_count (shown_table table) ≤ steps
     → answers + 1 + made_count (shown_table (set table o None)) ≤ steps
 answered_out answers steps table o op there begun bound =
     let is = ap made_count (shown_set table o None) in

@@ -48,7 +48,8 @@ pub record LeavesNodes (o : ℕ) (old new : ArenaView) : Type 0 where
   pub one : length new.nodes ≤ length old.nodes + 1
 
 -- what holds of each node and its number, where one node is another
-pub each_set : (P : ℕ → NodeView → Type 0) (xs : List NodeView) (i : ℕ) (y : NodeView) → ((j : ℕ) → j < length xs → P j (node_at xs j)) → P i y → (j : ℕ) → j < length xs → P j (node_at (set xs i y) j)
+pub each_set : (P : ℕ → NodeView → Type 0) (xs : List NodeView) (i : ℕ) (y : NodeView) → ((j : ℕ) → j < length xs → P j (node_at xs j)) → P i y
+    → (j : ℕ) → j < length xs → P j (node_at (set xs i y) j)
 each_set P xs i y all new j lt = elim (cases_eq j i) [
   | inl is ↦ subst (λ k. P k (node_at (set xs i y) k)) (sym is) (subst (P i) (sym (here xs i y (subst (λ k. k < length xs) is lt))) new)
   | inr other ↦ subst (P j) (sym (there xs i j y other)) (all j lt)
@@ -61,7 +62,8 @@ each_pushed P count xs y size all j lt = subst (P j) (sym (as_before xs y j (ome
 
 -- that one is behind them
 pub pushed_at : (xs : List NodeView) (y : NodeView) (count k : ℕ) → length xs ≡ count → count ≤ k → k < length (xs ++ y ∷ []) → node_at (xs ++ y ∷ []) k ≡ y
-pushed_at xs y count k size from lt = ap (node_at (xs ++ y ∷ [])) {x = k} {y = length xs} (omega (arith, size, from, lt, length-append xs (y ∷ []))) ∙ as_pushed xs y
+pushed_at xs y count k size from lt =
+    ap (node_at (xs ++ y ∷ [])) {x = k} {y = length xs} (omega (arith, size, from, lt, length-append xs (y ∷ []))) ∙ as_pushed xs y
 
 -- the nodes of another list in the same trees
 pub leaves_set : (o : ℕ) (old : ArenaView) (ys : List NodeView) → length ys ≡ length old.nodes
@@ -77,7 +79,8 @@ leaves_set o old ys size each = record {
 }
 
 -- a node of the same tree counts as before
-same_counts : (was now : List Tree) (n m : NodeView) → m.version.deleted ≡ n.version.deleted → m.tree ≡ n.tree → (tree_at now n.tree).standing ≡ (tree_at was n.tree).standing
+same_counts : (was now : List Tree) (n m : NodeView) → m.version.deleted ≡ n.version.deleted → m.tree ≡ n.tree
+    → (tree_at now n.tree).standing ≡ (tree_at was n.tree).standing
     → counts now m ≡ counts was n
 same_counts was now n m deleted tree standing =
     ap (λ d. cond d false (is_live (tree_at now m.tree).standing)) deleted ∙ ap (λ t. cond n.version.deleted false (is_live (tree_at now t).standing)) tree
@@ -101,7 +104,8 @@ module _ (o : ℕ) (old new : ArenaView) (l : LeavesNodes o old new) where
     | inr late ↦ inr (l.fresh k late within).slots
   ]
 
-  pub versions : (steps : ℕ) → ((k : ℕ) → k < length old.nodes → IsCountedUpTo steps (at old k)) → (k : ℕ) → k < length new.nodes → IsCountedUpTo steps (at new k)
+  pub versions : (steps : ℕ) → ((k : ℕ) → k < length old.nodes → IsCountedUpTo steps (at old k)) → (k : ℕ) → k < length new.nodes
+      → IsCountedUpTo steps (at new k)
   versions steps were k within = elim (cases_lt k (length old.nodes)) [
     | inl was ↦ let n = l.each k was in let c = were k was in record { inserts = omega (arith, n.inserts, c.inserts); splits = omega (arith, n.splits, c.splits) }
     | inr late ↦ let n = l.fresh k late within in record { inserts = omega (arith, n.inserts); splits = omega (arith, n.splits) }
@@ -127,7 +131,8 @@ pub record MovesNoPair (c : Core) (o : ℕ) (arena : ArenaView) : Type 0 where
   pub makes : MakesFew c.arena arena
 
 -- so by what is left of the nodes
-pub moves_by : (c : Core) (o : ℕ) (arena : ArenaView) → StateInvariant c → LeavesNodes o c.arena arena → Guarantee o c.arena arena → content_of arena ≡ content_of c.arena → MovesNoPair c o arena
+pub moves_by : (c : Core) (o : ℕ) (arena : ArenaView) → StateInvariant c → LeavesNodes o c.arena arena → Guarantee o c.arena arena
+    → content_of arena ≡ content_of c.arena → MovesNoPair c o arena
 moves_by c o arena h leaves guarantee contents = record {
   guarantee = guarantee;
   contents = contents;

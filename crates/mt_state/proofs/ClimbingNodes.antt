@@ -30,7 +30,8 @@ use Rattle.mt_insert.specs.Climbs.{IsClimbFrom, IsInsertChild, IsLockParent, IsR
 
 -- another node before one and another parent of it
 leaves_pointed : (op : ℕ) (old : ArenaView) (k : ℕ) (previous parent : Option ℕ) → LeavesNodes op old (with_node old k (pointed (at old k) previous parent))
-leaves_pointed op old k previous parent = leaves_set op old (set old.nodes k (pointed (at old k) previous parent)) (length-set old.nodes k (pointed (at old k) previous parent))
+leaves_pointed op old k previous parent =
+    leaves_set op old (set old.nodes k (pointed (at old k) previous parent)) (length-set old.nodes k (pointed (at old k) previous parent))
     (each_set (λ j n. Stays op (at old j) n) old.nodes k (pointed (at old k) previous parent) (λ j lt. stays_same op (at old j))
     (record { slots = refl; tree = refl; level = refl; deleted = refl; inserts = refl; splits = refl; touched = inr (inr refl) }))
 
@@ -135,7 +136,8 @@ module _ (op : ℕ) (old new : ArenaView) (before after : Walk) (s t : Splits) w
       each = each_pushed (λ k n. Stays op (at old k) n) (length old.nodes) zs half size_z (each_two op old.nodes p l (inner_left wide) (exact (at old l))
           (record { slots = refl; tree = refl; level = refl; deleted = refl; inserts = refl; splits = refl; touched = inr (inl (inl kept.at_parent.parent.held.holder)) })
           (record { slots = refl; tree = refl; level = refl; deleted = refl; inserts = refl; splits = refl; touched = inr (inl (inl kept.at_parent.named.splits.parted.left.held.holder)) }));
-      fresh = λ k from lt. subst IsBare (sym (pushed_at zs half (length old.nodes) k size_z from lt)) (record { slots = refl; live = refl; inserts = refl; splits = refl });
+      fresh =
+          λ k from lt. subst IsBare (sym (pushed_at zs half (length old.nodes) k size_z from lt)) (record { slots = refl; live = refl; inserts = refl; splits = refl });
       trees = refl;
       prefix = λ t. refl;
       standing = λ t. refl;
@@ -190,17 +192,20 @@ module _ (op : ℕ) (old new : ArenaView) (before after : Walk) (s t : Splits) w
       subst (LeavesNodes op old) (sym c.is) (leaves_pointed op old child (at old child).previous (Some q))
 
 -- so each step, by its phase
-pub climb_leaves : (p : Phase) → IsClimb p → (op : ℕ) (old new : ArenaView) (before after : Walk) (s t : Splits) → KeptSplit p old op s → IsClimbFrom p op old new before after s t → LeavesNodes op old new
+pub climb_leaves : (p : Phase) → IsClimb p → (op : ℕ) (old new : ArenaView) (before after : Walk) (s t : Splits) → KeptSplit p old op s
+    → IsClimbFrom p op old new before after s t → LeavesNodes op old new
 climb_leaves SplitPrev i op old new before after s t kept c = named_leaves op old new before after s t kept c
 climb_leaves LockParent i op old new before after s t kept c = lock_leaves op old new before after s t kept c
 climb_leaves InsertChild i op old new before after s t kept c = inserted_leaves op old new before after s t kept c
-climb_leaves InteriorSplit i op old new before after s t kept c = subst (LeavesNodes op old) (sym (c.is kept.p kept.at_parent.above)) (parts_leaves op old new before after s t kept)
+climb_leaves InteriorSplit i op old new before after s t kept c =
+    subst (LeavesNodes op old) (sym (c.is kept.p kept.at_parent.above)) (parts_leaves op old new before after s t kept)
 climb_leaves Reparent i op old new before after s t kept c = reparented_leaves op old new before after s t c
 climb_leaves RootGrow i op old new before after s t kept c = subst (LeavesNodes op old) (sym c.is) (root_leaves op old new before after s t kept)
 climb_leaves _ i op old new before after s t kept c = absurd i
 
 -- what they do alike
-pub climb_keeps : (p : Phase) → IsClimb p → (op : ℕ) (old new : ArenaView) (before after : Walk) (s t : Splits) → IsClimbFrom p op old new before after s t → KeepsSplits op old new before after s t
+pub climb_keeps : (p : Phase) → IsClimb p → (op : ℕ) (old new : ArenaView) (before after : Walk) (s t : Splits)
+    → IsClimbFrom p op old new before after s t → KeepsSplits op old new before after s t
 climb_keeps SplitPrev i op old new before after s t c = c.on
 climb_keeps LockParent i op old new before after s t c = c.on
 climb_keeps InsertChild i op old new before after s t c = c.on
@@ -213,18 +218,21 @@ climb_keeps _ i op old new before after s t c = absurd i
 some_halves : (v : ArenaView) (op : ℕ) (s : Splits) → HasSplits v op s → (items : List Halves) → items ≡ s.halves.items → items ≢ []
 some_halves v op s h items same none = let no = ap (λ (hs : List Halves). length hs) (sym same ∙ none) in omega (arith, no, h.some)
 
-pub climb_some : (p : Phase) → IsClimb p → (op : ℕ) (old new : ArenaView) (before after : Walk) (s t : Splits) → KeptSplit p old op s → IsClimbFrom p op old new before after s t → t.halves.items ≢ []
+pub climb_some : (p : Phase) → IsClimb p → (op : ℕ) (old new : ArenaView) (before after : Walk) (s t : Splits) → KeptSplit p old op s
+    → IsClimbFrom p op old new before after s t → t.halves.items ≢ []
 climb_some SplitPrev i op old new before after s t kept c = some_halves old op s kept.splits t.halves.items (ap (λ (r : Splits). r.halves.items) c.splits)
 climb_some LockParent i op old new before after s t kept c = some_halves old op s kept.named.splits t.halves.items (by (at old (last_of s).left).parent refl)
   where
     by : (parent : Option ℕ) → (at old (last_of s).left).parent ≡ parent → t.halves.items ≡ s.halves.items
     by None none = ap (λ (r : Splits). r.halves.items) (c.root none).2
     by (Some p) named = ap (λ (r : Splits). r.halves.items) (c.is p named).3
-climb_some InsertChild i op old new before after s t kept c = some_halves old op s kept.at_parent.named.splits t.halves.items (ap (λ (r : Splits). r.halves.items) c.splits)
+climb_some InsertChild i op old new before after s t kept c =
+    some_halves old op s kept.at_parent.named.splits t.halves.items (ap (λ (r : Splits). r.halves.items) c.splits)
 climb_some InteriorSplit i op old new before after s t kept c = λ none.
     let no = ap (λ (hs : List Halves). length hs) none in omega (arith, no, count_more s t kept.p (length old.nodes) (c.splits kept.p kept.at_parent.above))
 climb_some Reparent i op old new before after s t kept c = some_halves old op s kept.splits t.halves.items (ap (λ (r : Splits). r.halves.items) c.splits)
-climb_some RootGrow i op old new before after s t kept c = some_halves old op s kept.at_root.named.splits t.halves.items (ap (λ (r : Splits). r.halves.items) c.splits)
+climb_some RootGrow i op old new before after s t kept c =
+    some_halves old op s kept.at_root.named.splits t.halves.items (ap (λ (r : Splits). r.halves.items) c.splits)
 climb_some _ i op old new before after s t kept c = absurd i
 
 -- where each leads
@@ -246,7 +254,8 @@ climb_leads _ i op old new before after s t c step key told = absurd i
 follows_to : (p q : Phase) (before after : Walk) → after ≡ walk_at q before → MayFollow p q → MayFollow p after.phase
 follows_to p q before after goes follows = subst (λ (w : Walk). MayFollow p w.phase) (sym goes) follows
 
-pub climb_follows : (p : Phase) → IsClimb p → (op : ℕ) (old new : ArenaView) (before after : Walk) (s t : Splits) → IsClimbFrom p op old new before after s t → MayFollow p after.phase
+pub climb_follows : (p : Phase) → IsClimb p → (op : ℕ) (old new : ArenaView) (before after : Walk) (s t : Splits)
+    → IsClimbFrom p op old new before after s t → MayFollow p after.phase
 climb_follows SplitPrev i op old new before after s t c = follows_to SplitPrev LockParent before after c.walk tt
 climb_follows LockParent i op old new before after s t c = by (at old (last_of s).left).parent refl
   where
@@ -259,7 +268,8 @@ climb_follows LockParent i op old new before after s t c = by (at old (last_of s
     by (Some p) named = follows_to LockParent (for_parent (at old p)) before after (c.is p named).2 (full (length (at old p).separators == 15))
 climb_follows InsertChild i op old new before after s t c = follows_to InsertChild Unlock before after c.walk tt
 climb_follows InteriorSplit i op old new before after s t c = follows_to InteriorSplit Reparent before after c.walk tt
-climb_follows Reparent i op old new before after s t c = follows_to Reparent (after_reparent (at old (last_of s).right) s.moved) before after c.walk (last (s.moved + 1 == length (at old (last_of s).right).children))
+climb_follows Reparent i op old new before after s t c =
+    follows_to Reparent (after_reparent (at old (last_of s).right) s.moved) before after c.walk (last (s.moved + 1 == length (at old (last_of s).right).children))
   where
     last : (b : Bool) → MayFollow Reparent (if b then LockParent else Reparent)
     last true = tt
@@ -274,7 +284,8 @@ begun_leaves o v k low held = record {
   each = each_pushed (λ j n. Stays o (at v j) n) (length v.nodes) ys half size
       (each_set (λ j n. Stays o (at v j) n) v.nodes k (splitting (at v k)) (λ j lt. stays_same o (at v j))
       (record { slots = refl; tree = refl; level = refl; deleted = refl; inserts = refl; splits = refl; touched = inr (inl (inl held.holder)) }));
-  fresh = λ j from lt. subst IsBare (sym (pushed_at ys half (length v.nodes) j size from lt)) (record { slots = refl; live = refl; inserts = refl; splits = refl });
+  fresh =
+      λ j from lt. subst IsBare (sym (pushed_at ys half (length v.nodes) j size from lt)) (record { slots = refl; live = refl; inserts = refl; splits = refl });
   trees = refl;
   prefix = λ t. refl;
   standing = λ t. refl;

@@ -40,7 +40,8 @@ use Rattle.mt_state.proofs.Still.{IsFree, IsUnready, still, still_gives}
 use Rattle.mt_state.proofs.Reading.{kept_on_way, on_way_unready, on_way_open}
 
 -- what is kept of a walk on its way does not speak of a row
-row_aside : (p : Phase) → IsOnWay p → (v : ArenaView) (past : Past) (key : Bytes) (row : Option Columns) (w : Walk) → KeptAt p v past key row w → KeptAt p v past key None w
+row_aside : (p : Phase) → IsOnWay p → (v : ArenaView) (past : Past) (key : Bytes) (row : Option Columns) (w : Walk) → KeptAt p v past key row w
+    → KeptAt p v past key None w
 row_aside Enter on v past key row w k = k
 row_aside Pick on v past key row w k = k
 row_aside Child on v past key row w k = k
@@ -51,7 +52,8 @@ row_aside Lock on v past key row w k = k
 row_aside _ on v past key row w k = absurd on
 
 -- nor of the past
-past_aside : (p : Phase) → IsOnWay p → (v : ArenaView) (past other : Past) (key : Bytes) (row : Option Columns) (w : Walk) → KeptAt p v past key row w → KeptAt p v other key row w
+past_aside : (p : Phase) → IsOnWay p → (v : ArenaView) (past other : Past) (key : Bytes) (row : Option Columns) (w : Walk) → KeptAt p v past key row w
+    → KeptAt p v other key row w
 past_aside Enter on v past other key row w k = k
 past_aside Pick on v past other key row w k = k
 past_aside Child on v past other key row w k = k
@@ -94,12 +96,14 @@ module _ (c : Core) (now : StateView) (o : ℕ) (is : shown c ≡ now) (h : Stat
 
   module _ (w : Walk) (same : Continues op.walk w) (confirms : Confirms (at c.arena op.walk.place.node) op.walk w)
       (kept : (past : Past) (row : Option Columns) → WalksConfirm c.arena past op.task.key row op.walk → IsKept c.arena past op.task.key row w) where
-    walks_confirm : (past : Past) → KeptAt Confirm c.arena past op.task.key confirming.row op.walk → WalksConfirm c.arena past op.task.key confirming.row op.walk
+    walks_confirm : (past : Past) → KeptAt Confirm c.arena past op.task.key confirming.row op.walk
+        → WalksConfirm c.arena past op.task.key confirming.row op.walk
     walks_confirm past k = k
 
     -- what is kept of the walk now
     kept_now : IsKept c.arena (past_of c) op.task.key confirming.row w
-    kept_now = kept (past_of c) confirming.row (subst (λ (p : Phase). KeptAt p c.arena (past_of c) op.task.key confirming.row op.walk) at_confirm confirming.kept)
+    kept_now =
+        kept (past_of c) confirming.row (subst (λ (p : Phase). KeptAt p c.arena (past_of c) op.task.key confirming.row op.walk) at_confirm confirming.kept)
 
     -- the walk ends as it is, or goes on its way
     after_taken : (taken : Taken) → w ≡ after_confirm taken op.walk → (w ≡ record op.walk { phase = Done }) ⊎ Leads Confirm w.phase w.writes
@@ -127,8 +131,10 @@ module _ (c : Core) (now : StateView) (o : ℕ) (is : shown c ≡ now) (h : Stat
     ]
 
     -- the get's command on the map at a number, by what its key had then
-    map_has : (m : ℕ) (row : Option Columns) → get (contents_at c.tape.entries (content_of c.arena) m) (owned op.task.key) ≡ row → get (map_of (shown c) op.task.tenant m) (key_of (ask op.task)) ≡ row
-    map_has m row e = get-tenant_map op.task.tenant (contents_at c.tape.entries (content_of c.arena) m) (key_of (ask op.task)) ∙ ap (get (contents_at c.tape.entries (content_of c.arena) m)) (sym always.owner) ∙ e
+    map_has : (m : ℕ) (row : Option Columns) → get (contents_at c.tape.entries (content_of c.arena) m) (owned op.task.key) ≡ row
+        → get (map_of (shown c) op.task.tenant m) (key_of (ask op.task)) ≡ row
+    map_has m row e =
+        get-tenant_map op.task.tenant (contents_at c.tape.entries (content_of c.arena) m) (key_of (ask op.task)) ∙ ap (get (contents_at c.tape.entries (content_of c.arena) m)) (sym always.owner) ∙ e
 
     abbrev pub the_new : Core
     the_new = still c now o is h room op there confirm_free w op.outcome
@@ -172,7 +178,8 @@ module _ (c : Core) (now : StateView) (o : ℕ) (is : shown c ≡ now) (h : Stat
           unprepared = confirming.unprepared;
         }
 
-        by : (taken : Taken) → TakenWasRight (past_of c) op.task.key confirming.row (record op.walk { phase = Done }) taken → TellsTaken op confirming.row taken → HasAnswer the_new the_after
+        by : (taken : Taken) → TakenWasRight (past_of c) op.task.key confirming.row (record op.walk { phase = Done }) taken
+            → TellsTaken op confirming.row taken → HasAnswer the_new the_after
         by Missing had told = answered Absent op.walk.right_at had.since had.made told refl
             (get_absent (quota_of (shown c) op.task.tenant) (ask op.task) (map_of (shown c) op.task.tenant op.walk.right_at) gets (map_has op.walk.right_at None had.had))
         by Row had told = answered (Found (columns_shown told.1 told.0)) op.walk.right_at had.2.since had.2.made told.4 refl

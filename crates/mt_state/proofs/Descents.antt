@@ -22,7 +22,8 @@ abbrev pub Leads : Phase → Phase → Bool → Type 0
 Leads from to writes = IsOnWay to × MayFollow from to × IsOfKind to writes
 
 -- a walk that came to a node
-arrives : (from : Phase) → MayFollow from Pick → MayFollow from Search → MayFollow from Lock → (border writes : Bool) → Leads from (arrival_at border writes) writes
+arrives : (from : Phase) → MayFollow from Pick → MayFollow from Search → MayFollow from Lock → (border writes : Bool)
+    → Leads from (arrival_at border writes) writes
 arrives from pick search lock true true = (tt, lock, refl)
 arrives from pick search lock true false = (tt, search, refl)
 arrives from pick search lock false true = (tt, pick, tt)
@@ -36,8 +37,10 @@ turns from search lock false = (tt, search, refl)
 pub descends : (before after : Walk) → Continues before after → Leads before.phase after.phase after.writes → Descends before after
 descends before after same leads = record { on_way = leads.0; same = same; follows = leads.1; kind = leads.2 }
 
-pub entered : (from : Phase) → from ≡ Enter → (standing : Standing) (w : Walk) (root : ℕ) (seen : Parts) (after : Walk) → after ≡ after_enter standing w root seen → Leads from after.phase after.writes
-entered from e standing w root seen after is = subst (λ (p : Phase). Leads p after.phase after.writes) (sym e) (subst (λ (x : Walk). Leads Enter x.phase x.writes) (sym is) (by standing))
+pub entered : (from : Phase) → from ≡ Enter → (standing : Standing) (w : Walk) (root : ℕ) (seen : Parts) (after : Walk)
+    → after ≡ after_enter standing w root seen → Leads from after.phase after.writes
+entered from e standing w root seen after is =
+    subst (λ (p : Phase). Leads p after.phase after.writes) (sym e) (subst (λ (x : Walk). Leads Enter x.phase x.writes) (sym is) (by standing))
   where
     by : (standing : Standing) → Leads Enter (after_enter standing w root seen).phase (after_enter standing w root seen).writes
     by Dead = (tt, tt, tt)
@@ -54,7 +57,8 @@ verified n w after e v = subst (λ (p : Phase). Leads p after.phase after.writes
 ])
 
 -- a border node that changed leads on
-pub changed_leads : (from : Phase) → MayFollow from Enter → MayFollow from Forward → (w : Walk) (seen : Parts) (next : Option ℕ) → Leads from (after_change w seen next).phase (after_change w seen next).writes
+pub changed_leads : (from : Phase) → MayFollow from Enter → MayFollow from Forward → (w : Walk) (seen : Parts) (next : Option ℕ)
+    → Leads from (after_change w seen next).phase (after_change w seen next).writes
 changed_leads from enter forward w seen next = by seen.deleted
   where
     by : (deleted : Bool) → Leads from (cond deleted (walk_anew w) (record w { place = record w.place { seen = seen }; next = next; phase = Forward })).phase (cond deleted (walk_anew w) (record w { place = record w.place { seen = seen }; next = next; phase = Forward })).writes
@@ -64,7 +68,8 @@ changed_leads from enter forward w seen next = by seen.deleted
 pub forwarded : (w : Walk) (slice j : ℕ) (m : NodeView) → Leads Forward (after_forward w slice j m).phase (after_forward w slice j m).writes
 forwarded w slice j m = by m.version.deleted (nat_le m.low slice)
   where
-    by : (deleted reached : Bool) → Leads Forward (cond deleted (walk_anew w) (cond reached (walk_to_next w j m) (walk_here w))).phase (cond deleted (walk_anew w) (cond reached (walk_to_next w j m) (walk_here w))).writes
+    by : (deleted reached : Bool)
+        → Leads Forward (cond deleted (walk_anew w) (cond reached (walk_to_next w j m) (walk_here w))).phase (cond deleted (walk_anew w) (cond reached (walk_to_next w j m) (walk_here w))).writes
     by true reached = (tt, tt, tt)
     by false true = (tt, tt, tt)
     by false false = turns Forward tt tt w.writes
@@ -73,7 +78,8 @@ pub stayed : (w : Walk) → Leads Forward (walk_here w).phase (walk_here w).writ
 stayed w = turns Forward tt tt w.writes
 
 -- what is kept of a walk on its way does not speak of its first step
-pub first_aside : (p : Phase) → IsOnWay p → (v : ArenaView) (past : Past) (key : Bytes) (row : Option Columns) (w : Walk) (n : ℕ) → KeptAt p v past key row w → KeptAt p v past key row (record w { first = n })
+pub first_aside : (p : Phase) → IsOnWay p → (v : ArenaView) (past : Past) (key : Bytes) (row : Option Columns) (w : Walk) (n : ℕ)
+    → KeptAt p v past key row w → KeptAt p v past key row (record w { first = n })
 first_aside Enter on v past key row w n k = k
 first_aside Pick on v past key row w n k = record { through = k.through; covers = k.covers; interior = k.interior }
 first_aside Child on v past key row w n k = record { above = record { through = k.above.through; covers = k.above.covers; interior = k.above.interior }; picked = k.picked }

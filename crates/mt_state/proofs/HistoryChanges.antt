@@ -32,7 +32,8 @@ unnoted : (told : Option Outcome) (m : ℕ) → told ≡ None → told_change to
 unnoted told m none e = let no = sym (ap told_change none) ∙ e in cc
 
 -- a step that remembers a change has placed it
-pub placed_after : (old : StateView) (op : OperationView) (p q : Phase) (told : Option Outcome) (m : ℕ) → MayFollow p q → Notes old op p q told → told_change told ≡ Some m → is_unplaced q ≡ false
+pub placed_after : (old : StateView) (op : OperationView) (p q : Phase) (told : Option Outcome) (m : ℕ) → MayFollow p q → Notes old op p q told
+    → told_change told ≡ Some m → is_unplaced q ≡ false
 placed_after old op _ SplitPrev told m follows n e = refl
 placed_after old op _ LockParent told m follows n e = refl
 placed_after old op _ InsertChild told m follows n e = refl
@@ -54,7 +55,8 @@ placed_after old op RootGrow _ told m follows n e = absurd follows
 placed_after old op _ _ told m follows n e = absurd (unnoted told m n e)
 
 -- a step that ends its operation with a change ends it with the one that it remembers
-pub same_at_end : (old : StateView) (op : OperationView) (p : Phase) (told : Option Outcome) (m : ℕ) → Notes old op p Done told → told_change told ≡ Some m → told ≡ op.outcome
+pub same_at_end : (old : StateView) (op : OperationView) (p : Phase) (told : Option Outcome) (m : ℕ) → Notes old op p Done told
+    → told_change told ≡ Some m → told ≡ op.outcome
 same_at_end old op Load told m n e = absurd (untold told replies.NoMemory _ m n refl e)
 same_at_end old op Judge told m n e = absurd (untold told replies.NoMemory _ m n refl e)
 same_at_end old op SplitStart told m n e = absurd (untold told replies.NoMemory _ m n refl e)
@@ -70,7 +72,8 @@ same_at_end old op Unlock told m n e = n
 same_at_end old op _ told m n e = absurd (unnoted told m n e)
 
 -- an operation that has placed its change and has a step left keeps its outcome
-pub same_when_placed : (old : StateView) (op : OperationView) (p q : Phase) (told : Option Outcome) → is_unplaced p ≡ false → is_done p ≡ false → MayFollow p q → Notes old op p q told → told ≡ op.outcome
+pub same_when_placed : (old : StateView) (op : OperationView) (p q : Phase) (told : Option Outcome) → is_unplaced p ≡ false → is_done p ≡ false
+    → MayFollow p q → Notes old op p q told → told ≡ op.outcome
 same_when_placed old op SplitPrev q told placed left follows n = n
 same_when_placed old op LockParent q told placed left follows n = n
 same_when_placed old op InsertChild q told placed left follows n = n

@@ -28,7 +28,8 @@ Keeps names old now new event told = (quotas : Quotas) (first : Maps) (base : �
     → History quotas first (story_of base (run ++ (event, told) ∷ [])) now new
 
 -- an event that begins nothing and makes no step
-keeps_quiet : (names now : Names) (old new : StateView) (e : Event) (t : Told) → numbered (e, t) ≡ None → ((q : ℕ) → asked_by q (e, t) ≡ None) → now ≡ names → new ≡ old → Keeps names old now new e t
+keeps_quiet : (names now : Names) (old new : StateView) (e : Event) (t : Told) → numbered (e, t) ≡ None → ((q : ℕ) → asked_by q (e, t) ≡ None)
+    → now ≡ names → new ≡ old → Keeps names old now new e t
 keeps_quiet names now old new e t no_step no_ask still same = λ quotas first base run h.
     subst (λ (w : Names). History quotas first (story_of base (run ++ (e, t) ∷ [])) w new) (sym still)
     (subst (λ s. History quotas first s names new) (sym (story_quiet base run (e, t) no_step no_ask)) (subst (History quotas first (story_of base run) names) (sym same) h))
@@ -40,7 +41,8 @@ begins_no_scan (Put key change) may = refl
 begins_no_scan _ may = absurd (may)
 
 -- a begin
-keeps_begun : (names now : Names) (old new : StateView) (o n worker tenant : ℕ) (command : Command) → MayBegin command → Begins old new n worker tenant command → names o ≡ None → Renames names now o (Some n)
+keeps_begun : (names now : Names) (old new : StateView) (o n worker tenant : ℕ) (command : Command) → MayBegin command
+    → Begins old new n worker tenant command → names o ≡ None → Renames names now o (Some n)
     → Keeps names old now new (Begin o worker tenant command) Begun
 keeps_begun names now old new o n worker tenant command may b unknown r = λ quotas first base run h.
     subst (λ s. History quotas first s now new) (sym (story_begin base run o worker tenant command))
@@ -56,7 +58,8 @@ keeps_moved names old new o n known s = λ quotas first base run h.
     (history_moved quotas first (story_of base run) names old new o n false None h known s (λ a e. absurd (no_answer a e)) no_answer)
 
 -- a step that ends its operation, whose answer is then taken
-keeps_done : (names now : Names) (old mid new : StateView) (o n : ℕ) (a : Answer) → names o ≡ Some (Some n) → IsStep old mid n true → Takes mid new n a → Renames names now o None
+keeps_done : (names now : Names) (old mid new : StateView) (o n : ℕ) (a : Answer) → names o ≡ Some (Some n) → IsStep old mid n true
+    → Takes mid new n a → Renames names now o None
     → Keeps names old now new (Step o) (Done a)
 keeps_done names now old mid new o n a known s t r = λ quotas first base run h.
     subst (λ w. History quotas first w now new) (sym (story_done base run o a))
@@ -82,7 +85,8 @@ keeps_event names now old new (Step o) NoSuch h = keeps_quiet names now old new 
 keeps_event names now old new _ _ h = absurd h
 
 -- and so does a run, after any other
-pub keeps_run : (run : Run) (names now : Names) (old new : StateView) → BringsTo names old run now new → (quotas : Quotas) (first : Maps) (base : ℕ) (before : Run)
+pub keeps_run : (run : Run) (names now : Names) (old new : StateView) → BringsTo names old run now new
+    → (quotas : Quotas) (first : Maps) (base : ℕ) (before : Run)
     → History quotas first (story_of base before) names old → History quotas first (story_of base (before ++ run)) now new
 keeps_run [] names now old new (same, stands) quotas first base before h =
     subst (λ (r : Run). History quotas first (story_of base r) now new) (sym (append-nil before))

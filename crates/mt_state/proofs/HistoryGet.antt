@@ -72,8 +72,10 @@ module _ (logs : ℕ) (accounts : Accounts) where
     table = Some op ∷ [];
   }
 
-  step : (n : ℕ) (before after : OperationView) (done : Bool) → is_done before.phase ≡ false → HasMoved before after (n + 1) → Notes (reached n before) before before.phase after.phase after.outcome
-      → change_in after ≡ change_in before → done ≡ is_done after.phase → (done ≡ true → (told : Outcome) × (after.outcome ≡ Some told) × IsAnswer (reached (n + 1) after) after told)
+  step : (n : ℕ) (before after : OperationView) (done : Bool) → is_done before.phase ≡ false → HasMoved before after (n + 1)
+      → Notes (reached n before) before before.phase after.phase after.outcome
+      → change_in after ≡ change_in before → done ≡ is_done after.phase
+      → (done ≡ true → (told : Outcome) × (after.outcome ≡ Some told) × IsAnswer (reached (n + 1) after) after told)
       → IsStep (reached n before) (reached (n + 1) after) 0 done
   step n before after done left moves notes same ends answer = record {
     before = before;
@@ -120,7 +122,8 @@ module _ (logs : ℕ) (accounts : Accounts) where
     upto = omega arith;
     placed = λ real. record {
       changes = λ e. absurd (cc);
-      looks = λ e. sym (ap (reply_of (quota_of (reached 3 ended) 7) get_k) (ap (tenant_map 7) content-new ∙ tenant_map-empty 7) ∙ get_absent (quota_of (reached 3 ended) 7) get_k refl);
+      looks =
+          λ e. sym (ap (reply_of (quota_of (reached 3 ended) 7) get_k) (ap (tenant_map 7) content-new ∙ tenant_map-empty 7) ∙ get_absent (quota_of (reached 3 ended) 7) get_k refl);
     };
   }
 
@@ -140,15 +143,18 @@ module _ (logs : ℕ) (accounts : Accounts) where
   }
 
   step_1 : IsStep (reached 0 at_first) (reached 1 searching) 0 false
-  step_1 = step 0 at_first searching false refl (record { asked = record { worker = refl; tenant = refl; command = refl }; first = refl; last = refl; follows = tt }) refl refl refl (λ e. absurd (cc))
+  step_1 =
+      step 0 at_first searching false refl (record { asked = record { worker = refl; tenant = refl; command = refl }; first = refl; last = refl; follows = tt }) refl refl refl (λ e. absurd (cc))
 
   step_2 : IsStep (reached 1 searching) (reached 2 confirming) 0 false
-  step_2 = step 1 searching confirming false refl (record { asked = record { worker = refl; tenant = refl; command = refl }; first = refl; last = refl; follows = tt })
+  step_2 =
+      step 1 searching confirming false refl (record { asked = record { worker = refl; tenant = refl; command = refl }; first = refl; last = refl; follows = tt })
       (record { says = refl; lacks = record { through = through_top; there = omega arith; tree_is = refl; border = refl; from = omega arith; missing = λ slot has. omega (arith, has.in_slot.in_range) } })
       refl refl (λ e. absurd (cc))
 
   step_3 : IsStep (reached 2 confirming) (reached 3 ended) 0 true
-  step_3 = step 2 confirming ended true refl (record { asked = record { worker = refl; tenant = refl; command = refl }; first = refl; last = refl; follows = tt }) refl refl refl
+  step_3 =
+      step 2 confirming ended true refl (record { asked = record { worker = refl; tenant = refl; command = refl }; first = refl; last = refl; follows = tt }) refl refl refl
       (λ e. (absent, refl, right))
 
   abbrev pub left : StateView
@@ -190,7 +196,8 @@ only_gets reply q w e = by (eqb 1 q) e
     by false h = absurd (cc)
 
 -- no row is right
-pub row_refused : (logs : ℕ) (accounts : Accounts) (row : Columns) (names : Names) (v : StateView) → BringsTo no_names (new_state logs accounts) (one_get (Found row)) names v → ⊥
+pub row_refused : (logs : ℕ) (accounts : Accounts) (row : Columns) (names : Names) (v : StateView)
+    → BringsTo no_names (new_state logs accounts) (one_get (Found row)) names v → ⊥
 row_refused logs accounts row names v leads =
     never (nothing_found logs accounts (one_get (Found row)) names v leads (only_gets (Found row)) 1 (record { command = get_k; reply = Found row; first = 1; at = 2; last = 3 }) (3, refl))
   where

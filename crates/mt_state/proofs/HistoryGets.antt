@@ -61,7 +61,8 @@ module _ (quotas : Quotas) (run : Run) (map_at : ℕ → ℕ → Map) (changed :
   never zero lt le e = omega (arith, lt)
   never (suc m) lt le e = both_ways _ (unchanged m le) e
 
-  absent : (o : ℕ) (a : Answer) → IsAnswered quotas (story_of 0 run) map_at changed o a → is_placed a ≡ true → (b : Bool) → is_change a.reply ≡ b → a.reply ≡ Absent
+  absent : (o : ℕ) (a : Answer) → IsAnswered quotas (story_of 0 run) map_at changed o a → is_placed a ≡ true → (b : Bool) → is_change a.reply ≡ b
+      → a.reply ≡ Absent
   absent o a t placed true e =
       let so = t.changed_so placed e in
       let inside = owner_in (story_of 0 run) a.at o so.1 in

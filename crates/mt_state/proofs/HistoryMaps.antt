@@ -26,7 +26,8 @@ map_of-now v t m made = ap (λ es. tenant_map t (undone es (contents_of v))) (la
 
 -- no step after it changed a map
 pub unchanged-after : (entries : List Entry) (m n : ℕ) → m < n → AreMade entries m → is_changed entries n ≡ false
-unchanged-after entries m n lt made = list_any_none (λ e. eqb e.step n) entries (λ k d in_. let up = made k d in_ in ne_eqb (get_or entries k d).step n (λ is. omega arith))
+unchanged-after entries m n lt made =
+    list_any_none (λ e. eqb e.step n) entries (λ k d in_. let up = made k d in_ in ne_eqb (get_or entries k d).step n (λ is. omega arith))
 
 module _ (old new : StateView) (before after : OperationView) (number : new.steps ≡ old.steps + 1) (made : AreMade old.tape.entries old.steps) where
   -- a quiet step leaves the maps as they are, and changed none

@@ -21,5 +21,7 @@ right_new logs accounts run names v leads =
 
 -- and where it asks gets alone, each finds nothing
 pub nothing_found : (logs : ℕ) (accounts : Accounts) (run : Run) (names : Names) (v : StateView) → BringsTo no_names (new_state logs accounts) run names v
-    → ((q : ℕ) (w : Asked) → (story_of 0 run).asked q ≡ Some w → is_get w.command ≡ true) → (o : ℕ) (a : Answer) → Finished (story_of 0 run) o a → (a.reply ≡ Absent) ⊎ (a.reply ≡ NoMemory)
-nothing_found logs accounts run names v leads = found_nothing (λ t. quota_in (account_of accounts t)) run (map_of v) (changed_at v) (right_new logs accounts run names v leads)
+    → ((q : ℕ) (w : Asked) → (story_of 0 run).asked q ≡ Some w → is_get w.command ≡ true) → (o : ℕ) (a : Answer) → Finished (story_of 0 run) o a
+    → (a.reply ≡ Absent) ⊎ (a.reply ≡ NoMemory)
+nothing_found logs accounts run names v leads =
+    found_nothing (λ t. quota_in (account_of accounts t)) run (map_of v) (changed_at v) (right_new logs accounts run names v leads)

@@ -20,7 +20,8 @@ no_value : {A : Type 0} {a : A} → ◌≡◌ {A = Option A} None (Some a) → �
 no_value e = cc
 
 -- what is told of an operation reads no table, and counts no answers
-told_without : (story : Story) (v : StateView) (answers : ℕ) (table : Shown) (o : ℕ) (op : OperationView) → StoryTells story v o op → StoryTells story (record v { answers = answers; table = table }) o op
+told_without : (story : Story) (v : StateView) (answers : ℕ) (table : Shown) (o : ℕ) (op : OperationView) → StoryTells story v o op
+    → StoryTells story (record v { answers = answers; table = table }) o op
 told_without story v answers table o op k = record { asked_so = k.asked_so; first = k.first; last = k.last; still = k.still; unfinished = k.unfinished; changes = k.changes; own = k.own; placed = k.placed; no_scan = k.no_scan }
 
 module _ (quotas : Quotas) (first : Maps) (story : Story) (names : Names) (old new : StateView) (o n : ℕ) (done : Bool) (answer : Option Answer)
@@ -45,7 +46,8 @@ module _ (quotas : Quotas) (first : Maps) (story : Story) (names : Names) (old n
   other_number : (q m : ℕ) → q ≢ o → names q ≡ Some (Some m) → m ≢ n
   other_number q m ne e is = ne (h.apart q o n (e ∙ ap (λ k. Some (Some k)) is) known)
 
-  told_elsewhere : (q m : ℕ) → q ≢ o → names q ≡ Some (Some m) → (op : OperationView) × (op_at new.table m ≡ Some op) × StoryTells (with_step story o answer) new q op
+  told_elsewhere : (q m : ℕ) → q ≢ o → names q ≡ Some (Some m)
+      → (op : OperationView) × (op_at new.table m ≡ Some op) × StoryTells (with_step story o answer) new q op
   told_elsewhere q m ne e =
       let k = h.told q m e in
       (k.0, elsewhere m (other_number q m ne e) ∙ k.1, other_told quotas first story old new o n done answer h.right h.quota h.count h.made s told_before ends q k.0 ne k.2)
@@ -83,7 +85,8 @@ module _ (quotas : Quotas) (first : Maps) (story : Story) (names : Names) (old n
   }
 
   -- a step that ends its operation, whose answer is then taken
-  pub history_done : (last : StateView) (now : Names) (a : Answer) → Takes new last n a → Renames names now o None → History quotas first (with_step story o answer) now last
+  pub history_done : (last : StateView) (now : Names) (a : Answer) → Takes new last n a → Renames names now o None
+      → History quotas first (with_step story o answer) now last
   history_done last now a t r = subst (History quotas first (with_step story o answer) now) (sym t.gone) (record {
     right = right_now;
     quota = λ u. quota_stays old new s.grows u ∙ h.quota u;

@@ -25,7 +25,8 @@ no_value : {A : Type 0} {a : A} → ◌≡◌ {A = Option A} None (Some a) → �
 no_value e = cc
 
 -- a state without operations, of which no change is told, is one in which nothing has happened since its last step
-pub history_start : (v : StateView) (first : Maps) → ((n : ℕ) → op_at v.table n ≡ None) → v.tape.entries ≡ [] → ((t : ℕ) → tenant_map t (contents_of v) ≡ first t) → History (quota_of v) first (no_story v.steps) no_names v
+pub history_start : (v : StateView) (first : Maps) → ((n : ℕ) → op_at v.table n ≡ None) → v.tape.entries ≡ []
+    → ((t : ℕ) → tenant_map t (contents_of v) ≡ first t) → History (quota_of v) first (no_story v.steps) no_names v
 history_start v first none quiet begun =
     let made = subst (λ es. AreMade es v.steps) (sym quiet) (All-nil (λ e. e.step ≤ v.steps)) in
     record {

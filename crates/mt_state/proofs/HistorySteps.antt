@@ -197,7 +197,8 @@ module _ (quotas : Quotas) (first : Maps) (story : Story) (old new : StateView) 
         last = subst (IsLast (with_step story o answer) o) (sym (end.last ∙ s.moves.last)) last_number;
         since = λ placed. (s.after.first, ans.since, first_number.0);
         upto = λ placed. (old.steps + 1, subst (λ n. a.at ≤ n) s.moves.last ans.upto, new_owner story o answer (old.steps + 1) (sym next));
-        looked = λ placed look. (right_placed a now (placed_real a placed)).looks look ∙ ap (λ q. reply_of q (s.before.command) (map_of new s.before.tenant a.at)) quota_now;
+        looked =
+            λ placed look. (right_placed a now (placed_real a placed)).looks look ∙ ap (λ q. reply_of q (s.before.command) (map_of new s.before.tenant a.at)) quota_now;
         changed_so = λ placed is. (
           ((right_placed a now (placed_real a placed)).changes is).0,
           elim s.effect [
@@ -264,11 +265,13 @@ module _ (quotas : Quotas) (first : Maps) (story : Story) (old new : StateView) 
       same_asked : ◌≡◌ {A = Option Asked} (Some what) (Some (record { tenant = s.after.tenant; command = s.after.command }))
       same_asked = λ i. Some (record { tenant = sym s.moves.asked.tenant i; command = sym s.moves.asked.command i })
 
-      made_now : (m : ℕ) → m ≡ old.steps + 1 → changed_at new m ≡ true → (IsQuiet old new s.before s.after) ⊎ (IsPlacing old new s.before s.after) → change_in s.after ≡ Some m
+      made_now : (m : ℕ) → m ≡ old.steps + 1 → changed_at new m ≡ true → (IsQuiet old new s.before s.after) ⊎ (IsPlacing old new s.before s.after)
+          → change_in s.after ≡ Some m
       made_now m is e (inl q) = absurd (both_ways _ (changed-quiet old new s.before s.after s.number made q) (ap (changed_at new) (sym is) ∙ e))
       made_now m is e (inr p) = placed_now p ∙ ap (λ n. Some n) (sym is)
 
-      made_before : (m : ℕ) → change_in s.before ≡ Some m → (IsQuiet old new s.before s.after) ⊎ (IsPlacing old new s.before s.after) → change_in s.after ≡ Some m
+      made_before : (m : ℕ) → change_in s.before ≡ Some m → (IsQuiet old new s.before s.after) ⊎ (IsPlacing old new s.before s.after)
+          → change_in s.after ≡ Some m
       made_before m was (inl q) = q.change ∙ was
       made_before m was (inr p) = absurd (placing_once m was p)
 

@@ -86,7 +86,8 @@ module _ (o : ℕ) (v : ArenaView) (k i : ℕ) (mine : IsHeld v k o) where
   held_each held = each_set (λ j m. Stays o (at v j) m) v.nodes k (with_held (at v k) i held) (λ j lt. stays_same o (at v j))
       (record { level = refl; deleted = refl; inserts = refl; splits = refl; touched = inr (inl mine.holder) })
 
-  held_fresh : (held : Held) (j : ℕ) → length v.nodes ≤ j → j < length (set v.nodes k (with_held (at v k) i held)) → IsRoot (node_at (set v.nodes k (with_held (at v k) i held)) j)
+  held_fresh : (held : Held) (j : ℕ) → length v.nodes ≤ j → j < length (set v.nodes k (with_held (at v k) i held))
+      → IsRoot (node_at (set v.nodes k (with_held (at v k) i held)) j)
   held_fresh held j from within = absurd (omega (arith, from, within, length-set v.nodes k (with_held (at v k) i held)))
 
   -- where a slot of the held node holds something else
@@ -140,7 +141,8 @@ pub record BuildsLayer (o : ℕ) (old new : ArenaView) (key : Bytes) (before aft
   pub contents : content_of new ≡ content_of old
   pub touches : Touches o old new
   pub stamps : KeepsStamps old new
-  pub versions : (steps : ℕ) → ((k : ℕ) → k < length old.nodes → IsCountedUpTo steps (at old k)) → (k : ℕ) → k < length new.nodes → IsCountedUpTo steps (at new k)
+  pub versions : (steps : ℕ) → ((k : ℕ) → k < length old.nodes → IsCountedUpTo steps (at old k)) → (k : ℕ) → k < length new.nodes
+      → IsCountedUpTo steps (at new k)
   pub unremoved : IsUnremoved old → IsUnremoved new
   pub follows : MayFollow before.phase after.phase
   pub on : after.phase ≢ Done
@@ -151,7 +153,8 @@ pub record BuildsLayer (o : ℕ) (old new : ArenaView) (key : Bytes) (before aft
   pub makes : MakesFew old new
 
 -- what is left, by the phase
-pub layer_leaves : (p : Phase) → IsLayerPhase p → (o : ℕ) (key : Bytes) (old new : ArenaView) (before after : Walk) → KeptLayer p old o key before → IsLayerFrom p o key old new before after → LeavesNodes o old new
+pub layer_leaves : (p : Phase) → IsLayerPhase p → (o : ℕ) (key : Bytes) (old new : ArenaView) (before after : Walk) → KeptLayer p old o key before
+    → IsLayerFrom p o key old new before after → LeavesNodes o old new
 layer_leaves MakeLayer i o key old new before after kept b =
     subst (LeavesNodes o old) (sym (b.is kept.pair kept.stable)) (made_leaves o old (prefix_below old before.place.node before.slot) (entry_below kept.pair))
 layer_leaves MarkUnstable i o key old new before after kept b =
@@ -163,7 +166,8 @@ layer_leaves MarkLayer i o key old new before after kept b =
 layer_leaves _ i o key old new before after kept b = absurd i
 
 -- what they do alike
-pub layer_keeps : (p : Phase) → IsLayerPhase p → (o : ℕ) (key : Bytes) (old new : ArenaView) (before after : Walk) → IsLayerFrom p o key old new before after → KeepsLayer o old new before after
+pub layer_keeps : (p : Phase) → IsLayerPhase p → (o : ℕ) (key : Bytes) (old new : ArenaView) (before after : Walk)
+    → IsLayerFrom p o key old new before after → KeepsLayer o old new before after
 layer_keeps MakeLayer i o key old new before after b = b.on
 layer_keeps MarkUnstable i o key old new before after b = b.on
 layer_keeps Link i o key old new before after b = b.on
@@ -186,7 +190,8 @@ pub record GoesTo (before after : Walk) (q : Phase) : Type 0 where
 at_phase : (before after : Walk) (q : Phase) → after ≡ walk_at q before → GoesTo before after q
 at_phase before after q goes = record { at = ap (λ (w : Walk). w.phase) goes; layer = ap (λ (w : Walk). w.layer) goes; here = ap (λ (w : Walk). w.place.node) goes }
 
-pub layer_goes : (p : Phase) → IsLayerPhase p → (o : ℕ) (key : Bytes) (old new : ArenaView) (before after : Walk) → IsLayerFrom p o key old new before after → GoesTo before after (layer_next p)
+pub layer_goes : (p : Phase) → IsLayerPhase p → (o : ℕ) (key : Bytes) (old new : ArenaView) (before after : Walk)
+    → IsLayerFrom p o key old new before after → GoesTo before after (layer_next p)
 layer_goes MakeLayer i o key old new before after b = record { at = ap (λ (w : Walk). w.phase) b.walk; layer = ap (λ (w : Walk). w.layer) b.walk; here = ap (λ (w : Walk). w.place.node) b.walk }
 layer_goes MarkUnstable i o key old new before after b = at_phase before after Link b.walk
 layer_goes Link i o key old new before after b = at_phase before after MarkLayer b.walk
@@ -202,7 +207,8 @@ layer_leads MarkLayer i o key old new before after b step told s = b.walk
 layer_leads _ i o key old new before after b step told s = absurd i
 
 -- what is kept then
-kept_next : (p : Phase) → IsLayerPhase p → (o : ℕ) (key : Bytes) (old new : ArenaView) (before after : Walk) → KeptLayer p old o key before → IsLayerFrom p o key old new before after → KeptLayer (layer_next p) new o key after
+kept_next : (p : Phase) → IsLayerPhase p → (o : ℕ) (key : Bytes) (old new : ArenaView) (before after : Walk) → KeptLayer p old o key before
+    → IsLayerFrom p o key old new before after → KeptLayer (layer_next p) new o key after
 kept_next MakeLayer i o key old new before after kept b = b.kept
 kept_next MarkUnstable i o key old new before after kept b = b.kept key kept
 kept_next Link i o key old new before after kept b = b.kept key kept
@@ -216,7 +222,8 @@ next_follows Link i = (tt, λ e. absurd (cc))
 next_follows MarkLayer i = (tt, λ e. absurd (cc))
 next_follows _ i = absurd i
 
-pub builds_by : (p : Phase) → IsLayerPhase p → (o : ℕ) (key : Bytes) (old new : ArenaView) (before after : Walk) → before.phase ≡ p → KeptLayer p old o key before → IsLayerFrom p o key old new before after → BuildsLayer o old new key before after
+pub builds_by : (p : Phase) → IsLayerPhase p → (o : ℕ) (key : Bytes) (old new : ArenaView) (before after : Walk) → before.phase ≡ p
+    → KeptLayer p old o key before → IsLayerFrom p o key old new before after → BuildsLayer o old new key before after
 builds_by p i o key old new before after at_p kept b =
     let leaves = layer_leaves p i o key old new before after kept b in
     let on = layer_keeps p i o key old new before after b in

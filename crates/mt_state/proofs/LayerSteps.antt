@@ -142,7 +142,8 @@ made_kept MakeLayer i c o op unsplit kept = kept
 made_kept MarkUnstable i c o op unsplit kept = kept
 made_kept Link i c o op unsplit kept = kept
 made_kept MarkLayer i c o op unsplit kept = kept
-made_kept Unlock i c o op unsplit kept = subst (λ (told : Option Outcome). IsReturning told c o op) (sym kept.untold) (record { layering = kept; unsplit = unsplit })
+made_kept Unlock i c o op unsplit kept =
+    subst (λ (told : Option Outcome). IsReturning told c o op) (sym kept.untold) (record { layering = kept; unsplit = unsplit })
 made_kept _ i c o op unsplit kept = absurd i
 
 -- a step of it leaves it without an outcome
@@ -186,7 +187,8 @@ module _ (c : Core) (o : ℕ) (h : StateInvariant c) (few : c.steps < 2 ^ 59) (o
     new = quiet c arena c.tape.reserved o after
 
     back_leaves : LeavesPairs c o arena
-    back_leaves = subst (LeavesPairs c o) (sym is) (replaced_leaves c o h k held.there (unlocked n) refl refl refl (counted_unlocked n c.steps (h.versions k held.there) (unlocked n) refl)
+    back_leaves =
+        subst (LeavesPairs c o) (sym is) (replaced_leaves c o h k held.there (unlocked n) refl refl refl (counted_unlocked n c.steps (h.versions k held.there) (unlocked n) refl)
         (subst (Guarantee o c.arena) is keeps.guarantee) (subst (λ (v : ArenaView). content_of v ≡ content_of c.arena) is keeps.contents))
 
     free : (j : ℕ) → j < length (with_node c.arena k (unlocked n)).nodes → (at (with_node c.arena k (unlocked n)) j).holder ≡ Some o → ⊥
@@ -195,8 +197,10 @@ module _ (c : Core) (o : ℕ) (h : StateInvariant c) (few : c.steps < 2 ^ 59) (o
       | inr other ↦ other.0 (only j r.0 (ap (λ (m : NodeView). m.holder) (sym other.1) ∙ holds))
     ]
 
-    back_gives : (p q : Phase) → op.walk.phase ≡ p → w.phase ≡ q → is_done p ≡ false → IsUnready p → IsUnready q → MayFollow p q → w.writes ≡ op.walk.writes → IsOfKind q w.writes
-        → told_change told ≡ told_change op.outcome → Notes (shown c) (view_of op) p q told → IsKeptAt q new o after → IsUnsplit op.splits → Gives (shown c) new o (is_done q)
+    back_gives : (p q : Phase) → op.walk.phase ≡ p → w.phase ≡ q → is_done p ≡ false → IsUnready p → IsUnready q → MayFollow p q
+        → w.writes ≡ op.walk.writes → IsOfKind q w.writes
+        → told_change told ≡ told_change op.outcome → Notes (shown c) (view_of op) p q told → IsKeptAt q new o after → IsUnsplit op.splits
+        → Gives (shown c) new o (is_done q)
     back_gives p q at_p at_q unfinished was_unready unready follows writes kind same notes kept unsplit =
         quiet_gives c (shown c) o refl h few op there arena c.tape.reserved w told op.prepared
         back_leaves (ap is_done at_p ∙ unfinished)
@@ -228,7 +232,8 @@ module _ (c : Core) (o : ℕ) (h : StateInvariant c) (few : c.steps < 2 ^ 59) (o
     judging = kept_at Judge at_judge
 
     -- another long key stands in the place of the operation's own
-    pub meet_done : (arena : ArenaView) (w : Walk) → MeetsOther o op.task.key c.arena arena op.walk w → Gives (shown c) (quiet c arena c.tape.reserved o (went op (c.steps + 1) w op.outcome op.prepared)) o false
+    pub meet_done : (arena : ArenaView) (w : Walk) → MeetsOther o op.task.key c.arena arena op.walk w
+        → Gives (shown c) (quiet c arena c.tape.reserved o (went op (c.steps + 1) w op.outcome op.prepared)) o false
     meet_done arena w t =
         let after = went op (c.steps + 1) w op.outcome op.prepared in
         let new = quiet c c.arena c.tape.reserved o after in
@@ -255,7 +260,8 @@ module _ (c : Core) (o : ℕ) (h : StateInvariant c) (few : c.steps < 2 ^ 59) (o
         false (sym (ap is_done makes)))
 
     -- it goes on below by a link that it found under its lock
-    pub below_done : (arena : ArenaView) (w : Walk) → MeetsLink o op.task.key c.arena arena op.walk w → Gives (shown c) (quiet c arena c.tape.reserved o (went op (c.steps + 1) w op.outcome op.prepared)) o false
+    pub below_done : (arena : ArenaView) (w : Walk) → MeetsLink o op.task.key c.arena arena op.walk w
+        → Gives (shown c) (quiet c arena c.tape.reserved o (went op (c.steps + 1) w op.outcome op.prepared)) o false
     below_done arena w t =
         let enters : w.phase ≡ Enter = ap (λ (x : Walk). x.phase) t.goes.walk in
         back_gives arena w op.outcome t.goes.is t.goes.keeps judging.judges.judged.held (holds_here c (shown c) o refl h few op there Judge at_judge)
@@ -267,7 +273,8 @@ module _ (c : Core) (o : ℕ) (h : StateInvariant c) (few : c.steps < 2 ^ 59) (o
     leaving = subst (λ (told : Option Outcome). IsReturning told c o op) untold (kept_at Unlock at_unlock)
 
     -- it goes on in the layer that it has made
-    pub leave_done : (arena : ArenaView) (w : Walk) → IsLeave o c.arena arena op.walk w → Gives (shown c) (quiet c arena c.tape.reserved o (went op (c.steps + 1) w op.outcome op.prepared)) o false
+    pub leave_done : (arena : ArenaView) (w : Walk) → IsLeave o c.arena arena op.walk w
+        → Gives (shown c) (quiet c arena c.tape.reserved o (went op (c.steps + 1) w op.outcome op.prepared)) o false
     leave_done arena w t =
         let k = leaving.layering.makes in
         let g = t.goes k.tree k.taken in
@@ -349,7 +356,8 @@ module _ (c : Core) (o : ℕ) (h : StateInvariant c) (few : c.steps < 2 ^ 59) (o
         (omega (arith, own.0), own.1, own.2)
 
     build_stamps : AreStamps building
-    build_stamps k inside counted = All-from_get_or (IsStamped (IsStampOf (c.steps + 1) c.tape) (tree_of arena k).prefix) (at arena k).slots any_entry (λ i in_range pair is.
+    build_stamps k inside counted =
+        All-from_get_or (IsStamped (IsStampOf (c.steps + 1) c.tape) (tree_of arena k).prefix) (at arena k).slots any_entry (λ i in_range pair is.
         let old = t.stamps k i _ pair.stamp (record { there = inside; counted = counted; in_range = in_range; pair = pair; is = is; owner_is = refl; stamp_is = refl }) in
         old_stamp old.0 old.1 _ pair.stamp old.2)
 
@@ -393,9 +401,11 @@ module _ (c : Core) (o : ℕ) (h : StateInvariant c) (few : c.steps < 2 ^ 59) (o
           stamps = build_stamps;
           versions = t.versions (c.steps + 1) (λ k inside. counted_later c.steps (at c.arena k) (h.versions k inside));
           held = λ k inside holds. made_held w.phase leads built.walk op.splits k unsplit.halves (t.holds only k inside holds);
-          counts = λ tenant a is. subst (λ (all : Contents). (a.count ≡ len (tenant_map tenant all)) × (a.count ≤ a.quota)) (sym t.contents) (h.counts tenant a is);
+          counts =
+              λ tenant a is. subst (λ (all : Contents). (a.count ≡ len (tenant_map tenant all)) × (a.count ≤ a.quota)) (sym t.contents) (h.counts tenant a is);
           kept = build_kept;
-          reserved = let none = unready_none op op.walk.phase refl (layer_unready op.walk.phase layer) in let no = unready_none built w.phase refl (made_unready w.phase leads) in omega (arith, none, no);
+          reserved =
+              let none = unready_none op op.walk.phase refl (layer_unready op.walk.phase layer) in let no = unready_none built w.phase refl (made_unready w.phase leads) in omega (arith, none, no);
           unremoved = t.unremoved h.unremoved;
         })
         (record {

@@ -25,7 +25,8 @@ module _ (v : ArenaView) (arena : IsArena v.nodes v.trees) (unremoved : IsUnremo
   live_tree = still_live (tree_of v k).standing unmade (unremoved.alive (at v k).tree (arena.forest.tree_there k there))
 
   -- a slot of it stands for a key
-  pub slot_key : (i : ℕ) (pair : Pair) → i < length (at v k).slots → pair_of (slot_at (at v k) i).held ≡ Some pair → (key : Bytes) × StandsFor v.nodes v.trees key (layer_of (tree_of v k).prefix) k i pair
+  pub slot_key : (i : ℕ) (pair : Pair) → i < length (at v k).slots → pair_of (slot_at (at v k) i).held ≡ Some pair
+      → (key : Bytes) × StandsFor v.nodes v.trees key (layer_of (tree_of v k).prefix) k i pair
   slot_key i pair within is =
       let keys = ((arena.forest.homes k (at v k).tree there (arena.forest.tree_there k there)).keys refl).keys in
       let key = keys i any_entry within in

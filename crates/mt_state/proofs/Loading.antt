@@ -72,13 +72,15 @@ counts_live false s live tree = ap is_live tree
 
 module _ (c : Core) (h : StateInvariant c) (arena : IsArena c.arena.nodes c.arena.trees) where
   -- what is known of the stamp of a pair that stands
-  pub stamp_of : (key : Bytes) (layer k i : ℕ) (pair : Pair) → StandsFor c.arena.nodes c.arena.trees key layer k i pair → IsStampOf c.steps c.tape (owned key) pair.stamp
+  pub stamp_of : (key : Bytes) (layer k i : ℕ) (pair : Pair) → StandsFor c.arena.nodes c.arena.trees key layer k i pair
+      → IsStampOf c.steps c.tape (owned key) pair.stamp
   stamp_of key layer k i pair s =
       let n = at c.arena k in
       subst (λ q. IsStampOf c.steps c.tape q pair.stamp) (owned_at (tree_of c.arena k).prefix layer (slot_at n i) key pair s.has s.pair_is)
       (h.stamps k s.there (counts_live n.version.deleted (tree_of c.arena k).standing s.live s.tree_live) i any_entry s.in_range pair s.pair_is)
 
-  pub row_of : (key : Bytes) (layer k i : ℕ) (pair : Pair) → StandsFor c.arena.nodes c.arena.trees key layer k i pair → get (content_of c.arena) (owned key) ≡ Some pair.row
+  pub row_of : (key : Bytes) (layer k i : ℕ) (pair : Pair) → StandsFor c.arena.nodes c.arena.trees key layer k i pair
+      → get (content_of c.arena) (owned key) ≡ Some pair.row
   row_of key layer k i pair s = found c.arena.nodes c.arena.trees arena (homes.begun c.arena.nodes c.arena.trees arena.forest) key layer k i pair s
 
   -- each pair has stood since the step of its stamp
@@ -87,11 +89,13 @@ module _ (c : Core) (h : StateInvariant c) (arena : IsArena c.arena.nodes c.aren
       let stamp = stamp_of key layer k i pair s in
       record {
         made = omega (arith, stamp.0, steps);
-        stood = λ n since upto. ap (λ m. get m (owned key)) (same n) ∙ get-contents_at c.tape.entries (content_of c.arena) (owned key) pair.stamp n stamp.1 since ∙ row_of key layer k i pair s;
+        stood =
+            λ n since upto. ap (λ m. get m (owned key)) (same n) ∙ get-contents_at c.tape.entries (content_of c.arena) (owned key) pair.stamp n stamp.1 since ∙ row_of key layer k i pair s;
       }
 
   -- the write of a row that stands since its step left that row
-  pub row_written : (key : Bytes) (layer k i : ℕ) (pair : Pair) (e : Write) → StandsFor c.arena.nodes c.arena.trees key layer k i pair → Contains c.tape.entries e → e.step ≡ pair.stamp → written_key e ≡ owned key → e.after ≡ Some pair.row
+  pub row_written : (key : Bytes) (layer k i : ℕ) (pair : Pair) (e : Write) → StandsFor c.arena.nodes c.arena.trees key layer k i pair
+      → Contains c.tape.entries e → e.step ≡ pair.stamp → written_key e ≡ owned key → e.after ≡ Some pair.row
   row_written key layer k i pair e s has step is =
       let stamp = stamp_of key layer k i pair s in
       sym (All-contains (λ x. get (contents_at c.tape.entries (content_of c.arena) x.step) (written_key x) ≡ x.after) c.tape.entries e h.tape.legal has)
@@ -125,7 +129,8 @@ module _ (c : Core) (now : StateView) (o : ℕ) (is : shown c ≡ now) (h : Stat
   walks_load = subst (λ (p : Phase). KeptAt p c.arena (past_of c) op.task.key None op.walk) at_load loading.way.kept
 
   -- there is no memory for the row that it shows
-  pub load_stopped : (w : Walk) → w.phase ≡ Done → Continues op.walk w → Gives now (still c now o is h room op there load_free w (Some (record { reply = NoMemory; at = c.steps + 1 }))) o true
+  pub load_stopped : (w : Walk) → w.phase ≡ Done → Continues op.walk w
+      → Gives now (still c now o is h room op there load_free w (Some (record { reply = NoMemory; at = c.steps + 1 }))) o true
   load_stopped w done same =
       let told : Option Outcome = Some (record { reply = NoMemory; at = c.steps + 1 }) in
       let new = still c now o is h room op there load_free w told in
@@ -157,16 +162,19 @@ module _ (c : Core) (now : StateView) (o : ℕ) (is : shown c ≡ now) (h : Stat
 
     -- its tree was no operation's own when the get came to it
     unmade : (q : ℕ) → (tree_of c.arena op.walk.place.node).standing ≢ Made q
-    unmade = subst (λ t. (q : ℕ) → (tree_at c.arena.trees t).standing ≢ Made q) (sym walks_load.at_border.covers.remembered.tree_is) walks_load.at_border.through.unmade
+    unmade =
+        subst (λ t. (q : ℕ) → (tree_at c.arena.trees t).standing ≢ Made q) (sym walks_load.at_border.covers.remembered.tree_is) walks_load.at_border.through.unmade
 
     -- a pair in the slot stands for a key
-    stands : (pair : Pair) → op.walk.slot < length node.slots → pair_of (slot_at node op.walk.slot).held ≡ Some pair → (key : Bytes) × (layer : ℕ) × StandsFor c.arena.nodes c.arena.trees key layer op.walk.place.node op.walk.slot pair
+    stands : (pair : Pair) → op.walk.slot < length node.slots → pair_of (slot_at node op.walk.slot).held ≡ Some pair
+        → (key : Bytes) × (layer : ℕ) × StandsFor c.arena.nodes c.arena.trees key layer op.walk.place.node op.walk.slot pair
     stands pair in_range held =
         let s = slot_key c.arena arena h.unremoved op.walk.place.node within unmade op.walk.slot pair in_range held in
         (s.0, layer_of (tree_of c.arena op.walk.place.node).prefix, s.1)
 
     -- where nobody made a step since the search, a pair in the slot is that of the get's own key
-    own_suffix : (held : Held) (pair : Pair) → pair_of held ≡ Some pair → (kind : FoundKind) → kind ≢ OtherLong → IsKind (record { slice = (slot_at node op.walk.slot).slice; mark = (slot_at node op.walk.slot).mark; held = held }) (suffix_of op.task.key op.walk.layer) kind
+    own_suffix : (held : Held) (pair : Pair) → pair_of held ≡ Some pair → (kind : FoundKind) → kind ≢ OtherLong
+        → IsKind (record { slice = (slot_at node op.walk.slot).slice; mark = (slot_at node op.walk.slot).mark; held = held }) (suffix_of op.task.key op.walk.layer) kind
         → pair.suffix ≡ suffix_of op.task.key op.walk.layer
     own_suffix (helds.Stable p) pair e ThisKey leads k = ap (λ (x : Pair). x.suffix) (sym (same_Some p pair e)) ∙ k
     own_suffix (helds.Unstable p tree) pair e ThisKey leads k = ap (λ (x : Pair). x.suffix) (sym (same_Some p pair e)) ∙ k
@@ -176,19 +184,22 @@ module _ (c : Core) (now : StateView) (o : ℕ) (is : shown c ≡ now) (h : Stat
     own_suffix (helds.Unstable p tree) pair e ToTree leads k = absurd k.1
     own_suffix (helds.Link tree) pair e ToTree leads k = absurd (cc)
 
-    own_key : (pair : Pair) → op.walk.slot < length node.slots → pair_of (slot_at node op.walk.slot).held ≡ Some pair → op.last ≡ c.steps → HasKey (tree_of c.arena op.walk.place.node).prefix op.walk.layer (slot_at node op.walk.slot) op.task.key
+    own_key : (pair : Pair) → op.walk.slot < length node.slots → pair_of (slot_at node op.walk.slot).held ≡ Some pair → op.last ≡ c.steps
+        → HasKey (tree_of c.arena op.walk.place.node).prefix op.walk.layer (slot_at node op.walk.slot) op.task.key
     own_key pair in_range held last =
         let f = loading.found last in
         let through = walks_load.at_border.through in
         record {
-          of_tree = subst (λ t. IsOfTree (tree_at c.arena.trees t).prefix op.walk.layer op.task.key) (sym walks_load.at_border.covers.remembered.tree_is) through.of_tree;
+          of_tree =
+              subst (λ t. IsOfTree (tree_at c.arena.trees t).prefix op.walk.layer op.task.key) (sym walks_load.at_border.covers.remembered.tree_is) through.of_tree;
           slice = f.in_slot.slice_is;
           mark = f.in_slot.mark_is;
           suffix = λ p e. own_suffix (slot_at node op.walk.slot).held p e f.kind f.leads f.in_slot.kind_is;
         }
 
     -- what is noted of a row
-    shows_row : (pair : Pair) → op.walk.slot < length node.slots → (slot_at node op.walk.slot).held ≡ helds.Stable pair → row ≡ Some pair.row → w.right_at ≡ max op.walk.first pair.stamp → ShowsRow (shown c) (view_of op) told
+    shows_row : (pair : Pair) → op.walk.slot < length node.slots → (slot_at node op.walk.slot).held ≡ helds.Stable pair → row ≡ Some pair.row
+        → w.right_at ≡ max op.walk.first pair.stamp → ShowsRow (shown c) (view_of op) told
     shows_row pair in_range is_held is_row is_right =
         let held : pair_of (slot_at node op.walk.slot).held ≡ Some pair = ap pair_of is_held in
         let s = stands pair in_range held in
@@ -219,7 +230,9 @@ module _ (c : Core) (now : StateView) (o : ℕ) (is : shown c ≡ now) (h : Stat
         }
 
     -- and of none: a link for the key, or somebody made a step since
-    link_kind : (held : Held) (tree : ℕ) → held ≡ helds.Link tree → (kind : FoundKind) → kind ≢ OtherLong → IsKind (record { slice = (slot_at node op.walk.slot).slice; mark = (slot_at node op.walk.slot).mark; held = held }) (suffix_of op.task.key op.walk.layer) kind → kind ≡ ToTree
+    link_kind : (held : Held) (tree : ℕ) → held ≡ helds.Link tree → (kind : FoundKind) → kind ≢ OtherLong
+        → IsKind (record { slice = (slot_at node op.walk.slot).slice; mark = (slot_at node op.walk.slot).mark; held = held }) (suffix_of op.task.key op.walk.layer) kind
+        → kind ≡ ToTree
     link_kind held tree e ToTree leads k = refl
     link_kind held tree e OtherLong leads k = absurd (leads refl)
     link_kind held tree e ThisKey leads k = absurd (subst (λ (x : Held). IsSomeAnd (pair_of x) (λ p. p.suffix ≡ suffix_of op.task.key op.walk.layer)) e k)
@@ -248,7 +261,8 @@ module _ (c : Core) (now : StateView) (o : ℕ) (is : shown c ≡ now) (h : Stat
     noted (takens.Link tree) t = inr (shows_link tree t.1 (shows.none t.2))
     noted takens.Nothing t = inr (shows_nothing t.0 (shows.none t.1))
 
-    tells : (taken : Taken) (after : Operation) → after.task ≡ op.task → after.outcome ≡ told → after.walk ≡ w → TakesOut node op.walk row taken w.right_at → TellsTaken after row taken
+    tells : (taken : Taken) (after : Operation) → after.task ≡ op.task → after.outcome ≡ told → after.walk ≡ w
+        → TakesOut node op.walk row taken w.right_at → TellsTaken after row taken
     tells takens.Missing after task outcome walk t = absurd t
     tells takens.Row after task outcome walk t =
         let asked = get_asks (ask op.task) gets in (
@@ -274,7 +288,8 @@ module _ (c : Core) (now : StateView) (o : ℕ) (is : shown c ≡ now) (h : Stat
         let is_walk = walk_same c op always w begun same.first in
         let own : IsAtConfirm new after = record {
           row = row;
-          kept = subst (λ (x : Walk). IsKept c.arena (past_of new) op.task.key row x) (sym is_walk) (kept (past_of new) (stamped c h arena (past_of new) (omega arith) (λ n. refl)) (omega (arith, always.order, always.made)));
+          kept =
+              subst (λ (x : Walk). IsKept c.arena (past_of new) op.task.key row x) (sym is_walk) (kept (past_of new) (stamped c h arena (past_of new) (omega arith) (λ n. refl)) (omega (arith, always.order, always.made)));
           tells = subst (λ (x : Walk). TellsTaken after row x.taken) (sym is_walk) (tells w.taken after refl refl is_walk loads.takes);
           unprepared = loading.way.unprepared;
         } in

@@ -65,8 +65,10 @@ counted_there (x ∷ table) zero op e = let is = ap one_if_prepared e in omega (
 counted_there (x ∷ table) (suc o) op e = let rest = counted_there table o op e in omega (arith, rest)
 
 -- so the tape has room for the write of one that has all ready
-pub room_for : (c : Core) → StateInvariant c → (o : ℕ) (op : Operation) (p : Phase) → operation_at c.table o ≡ Some op → op.walk.phase ≡ p → is_prepared p ≡ true → 0 < c.tape.reserved
-room_for c h o op p there is ready = let counted = counted_there c.table o op there in let one = ready_one op p is ready in let all = h.reserved in omega (arith, counted, one, all)
+pub room_for : (c : Core) → StateInvariant c → (o : ℕ) (op : Operation) (p : Phase) → operation_at c.table o ≡ Some op → op.walk.phase ≡ p
+    → is_prepared p ≡ true → 0 < c.tape.reserved
+room_for c h o op p there is ready =
+    let counted = counted_there c.table o op there in let one = ready_one op p is ready in let all = h.reserved in omega (arith, counted, one, all)
 
 -- the lock is given back by a version with as many counts as steps at most
 pub may_unlock : (c : Core) → StateInvariant c → (k : ℕ) → k < length c.arena.nodes → CanUnlock (at c.arena k).version
@@ -90,7 +92,8 @@ module _ (c : Core) (now : StateView) (o : ℕ) (is : shown c ≡ now) (h : Stat
   given_back = with_node c.arena k (unlocked n)
 
   back_leaves : k < length c.arena.nodes → Guarantee o c.arena given_back → content_of given_back ≡ content_of c.arena → LeavesPairs c o given_back
-  back_leaves within guarantee contents = replaced_leaves c o h k within (unlocked n) refl refl refl (counted_unlocked n c.steps (counted_here within) (unlocked n) refl) guarantee contents
+  back_leaves within guarantee contents =
+      replaced_leaves c o h k within (unlocked n) refl refl refl (counted_unlocked n c.steps (counted_here within) (unlocked n) refl) guarantee contents
 
   -- nothing is held then, where it held no other node
   back_free : (within : k < length c.arena.nodes) → HoldsOnly c.arena o k → (j : ℕ) → j < length given_back.nodes → (at given_back j).holder ≡ Some o → ⊥
@@ -130,7 +133,8 @@ module _ (c : Core) (now : StateView) (o : ℕ) (is : shown c ≡ now) (h : Stat
           let new = still c now o is h room op there lock_free w op.outcome in
           let after = went op (c.steps + 1) w op.outcome op.prepared in
           let on : IsOnItsWay new after = record {
-            kept = first_aside w.phase leads.0 c.arena (past_of new) op.task.key None w after.walk.first (subst (λ (v : ArenaView). IsKept v (past_of new) op.task.key None w) stays (t.kept (past_of new) None));
+            kept =
+                first_aside w.phase leads.0 c.arena (past_of new) op.task.key None w after.walk.first (subst (λ (v : ArenaView). IsKept v (past_of new) op.task.key None w) stays (t.kept (past_of new) None));
             untold = locking.untold;
             unprepared = locking.unprepared;
           } in
@@ -156,7 +160,8 @@ module _ (c : Core) (now : StateView) (o : ℕ) (is : shown c ≡ now) (h : Stat
           let leaves : LeavesPairs c o (with_node c.arena k (locked n o)) = replaced_leaves c o h k within (locked n o) refl refl refl counted
           (subst (Guarantee o c.arena) takes t.keeps.guarantee) (subst (λ (v : ArenaView). content_of v ≡ content_of c.arena) takes t.keeps.contents) in
           let own : IsJudging (locked_core arena) o after = record {
-            judges = subst (HoldsBorder arena o op.task.key) (sym whole) (held_here o c.arena arena op.task.key op.walk w t.locks judges (t.judged judges) (t.settled judges));
+            judges =
+                subst (HoldsBorder arena o op.task.key) (sym whole) (held_here o c.arena arena op.task.key op.walk w t.locks judges (t.judged judges) (t.settled judges));
             untold = locking.untold;
             unprepared = locking.unprepared;
           } in
@@ -194,13 +199,15 @@ module _ (c : Core) (now : StateView) (o : ℕ) (is : shown c ≡ now) (h : Stat
     unlocks = subst (λ (halves : List Halves). MayUnlock halves c.arena o op) none unlocking.unlocks
 
     holds_only : HoldsOnly c.arena o k
-    holds_only j inside holds = subst (λ (halves : List Halves). HoldsLast halves op.walk op.splits j) none (holds_here c now o is h room op there Unlock at_unlock j inside holds)
+    holds_only j inside holds =
+        subst (λ (halves : List Halves). HoldsLast halves op.walk op.splits j) none (holds_here c now o is h room op there Unlock at_unlock j inside holds)
 
     begun_unlock : 0 < op.walk.first
     begun_unlock = always.begun (λ enters. absurd (let no : Unlock ≡ Enter = sym at_unlock ∙ enters in cc))
 
     -- an operation that has its outcome gives its lock back, and is done with it
-    pub unlock_done : (arena : ArenaView) (w : Walk) → IsUnlock o c.arena arena op.walk w → Gives now (stepped c arena c.tape c.accounts o (went op (c.steps + 1) w op.outcome op.prepared)) o true
+    pub unlock_done : (arena : ArenaView) (w : Walk) → IsUnlock o c.arena arena op.walk w
+        → Gives now (stepped c arena c.tape c.accounts o (went op (c.steps + 1) w op.outcome op.prepared)) o true
     unlock_done arena w t =
         let after = went op (c.steps + 1) w op.outcome op.prepared in
         let new = stepped c arena c.tape c.accounts o after in
@@ -390,7 +397,8 @@ module _ (c : Core) (now : StateView) (o : ℕ) (is : shown c ≡ now) (h : Stat
     publishes_on = subst (λ (p : Phase). IsOfKind p op.walk.writes) at_publish always.kind
 
     -- a put of a new key that finds its quota full
-    pub publish_full : (arena : ArenaView) (tape : Kept) (accounts : Accounts) (w : Walk) → IsPublishFull o op.task c.arena arena c.tape tape c.accounts accounts op.walk w
+    pub publish_full : (arena : ArenaView) (tape : Kept) (accounts : Accounts) (w : Walk)
+        → IsPublishFull o op.task c.arena arena c.tape tape c.accounts accounts op.walk w
         → Gives now (stepped c arena tape accounts o (went op (c.steps + 1) w (Some (record { reply = Full; at = c.steps + 1 })) None)) o false
     publish_full arena tape accounts w t =
         let told : Option Outcome = Some (record { reply = Full; at = c.steps + 1 }) in
@@ -405,7 +413,8 @@ module _ (c : Core) (now : StateView) (o : ℕ) (is : shown c ≡ now) (h : Stat
         get-tenant_map op.task.tenant (content_of c.arena) (key_of (ask op.task)) ∙ ap (get (content_of c.arena)) (sym put.owner) ∙ t.missing in
         let is_full = put_full (quota_of (shown c) op.task.tenant) op.task.request (tenant_map op.task.tenant (content_of c.arena)) put.put_is none full in
         let own : IsUnlocking new o after = record {
-          unlocks = subst (λ (halves : List Halves). MayUnlock halves c.arena o after) (sym unsplit.halves) (subst (IsAtUnlock c.arena o) (sym whole) (subst (λ (v : ArenaView). IsAtUnlock v o w) t.stays t.kept), unsplit);
+          unlocks =
+              subst (λ (halves : List Halves). MayUnlock halves c.arena o after) (sym unsplit.halves) (subst (IsAtUnlock c.arena o) (sym whole) (subst (λ (v : ArenaView). IsAtUnlock v o w) t.stays t.kept), unsplit);
           answer = record {
             outcome = record { reply = Full; at = c.steps + 1 };
             told = refl;
@@ -415,7 +424,8 @@ module _ (c : Core) (now : StateView) (o : ℕ) (is : shown c ≡ now) (h : Stat
               upto = omega arith;
               placed = λ real. record {
                 changes = λ e. absurd (cc);
-                looks = λ e. is_full ∙ ap (reply_of (quota_of (shown c) op.task.tenant) (ask op.task)) (sym (map_now c h.tape op.task.tenant (c.steps + 1) (omega arith)));
+                looks =
+                    λ e. is_full ∙ ap (reply_of (quota_of (shown c) op.task.tenant) (ask op.task)) (sym (map_now c h.tape op.task.tenant (c.steps + 1) (omega arith)));
               };
             };
             unprepared = refl;

@@ -49,7 +49,8 @@ module _ (c : Core) (op : Operation) (k : IsOpenOperation c op) (w : Walk) where
   ]
 
   -- what is kept of every operation
-  pub open_moved_with : (new : Core) (told : Option Outcome) (prepared : Option Prepared) (s : Splits) → new.steps ≡ c.steps + 1 → new.tape.floor ≡ c.tape.floor → ((t : ℕ) → IsSome (account_of c.accounts t) → IsSome (account_of new.accounts t)) → c.tape.floor ≤ c.steps
+  pub open_moved_with : (new : Core) (told : Option Outcome) (prepared : Option Prepared) (s : Splits) → new.steps ≡ c.steps + 1
+      → new.tape.floor ≡ c.tape.floor → ((t : ℕ) → IsSome (account_of c.accounts t) → IsSome (account_of new.accounts t)) → c.tape.floor ≤ c.steps
       → w.writes ≡ op.walk.writes → IsOfKind w.phase w.writes → IsOpenOperation new (went_with op (c.steps + 1) w told prepared s)
   open_moved_with new told prepared s steps floor accounts upto writes kind = record {
     stored = k.stored;
@@ -68,12 +69,14 @@ module _ (c : Core) (op : Operation) (k : IsOpenOperation c op) (w : Walk) where
     short = k.short;
   }
 
-  pub open_moved : (new : Core) (told : Option Outcome) (prepared : Option Prepared) → new.steps ≡ c.steps + 1 → new.tape.floor ≡ c.tape.floor → ((t : ℕ) → IsSome (account_of c.accounts t) → IsSome (account_of new.accounts t)) → c.tape.floor ≤ c.steps
+  pub open_moved : (new : Core) (told : Option Outcome) (prepared : Option Prepared) → new.steps ≡ c.steps + 1 → new.tape.floor ≡ c.tape.floor
+      → ((t : ℕ) → IsSome (account_of c.accounts t) → IsSome (account_of new.accounts t)) → c.tape.floor ≤ c.steps
       → w.writes ≡ op.walk.writes → IsOfKind w.phase w.writes → IsOpenOperation new (went op (c.steps + 1) w told prepared)
   open_moved new told prepared = open_moved_with new told prepared op.splits
 
   -- what is shown of it
-  pub has_moved_with : (told : Option Outcome) (prepared : Option Prepared) (s : Splits) → MayFollow op.walk.phase w.phase → HasMoved (view_of op) (view_of (went_with op (c.steps + 1) w told prepared s)) (c.steps + 1)
+  pub has_moved_with : (told : Option Outcome) (prepared : Option Prepared) (s : Splits) → MayFollow op.walk.phase w.phase
+      → HasMoved (view_of op) (view_of (went_with op (c.steps + 1) w told prepared s)) (c.steps + 1)
   has_moved_with told prepared s follows = record {
     asked = record { worker = refl; tenant = refl; command = refl };
     first = refl;
@@ -81,5 +84,6 @@ module _ (c : Core) (op : Operation) (k : IsOpenOperation c op) (w : Walk) where
     follows = follows;
   }
 
-  pub has_moved : (told : Option Outcome) (prepared : Option Prepared) → MayFollow op.walk.phase w.phase → HasMoved (view_of op) (view_of (went op (c.steps + 1) w told prepared)) (c.steps + 1)
+  pub has_moved : (told : Option Outcome) (prepared : Option Prepared) → MayFollow op.walk.phase w.phase
+      → HasMoved (view_of op) (view_of (went op (c.steps + 1) w told prepared)) (c.steps + 1)
   has_moved told prepared = has_moved_with told prepared op.splits

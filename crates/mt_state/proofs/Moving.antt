@@ -15,7 +15,8 @@ use Rattle.mt_state.proofs.Answered.{made_set}
 use Rattle.mt_state.proofs.Writing.{quotas_stay, written_stays}
 
 -- an operation with a place in the table counts once
-counted_set : (table : Table) (o : ℕ) (before after : Operation) → operation_at table o ≡ Some before → prepared_count (set table o (Some after)) + one_if_prepared (Some before) ≡ prepared_count table + one_if_prepared (Some after)
+counted_set : (table : Table) (o : ℕ) (before after : Operation) → operation_at table o ≡ Some before
+    → prepared_count (set table o (Some after)) + one_if_prepared (Some before) ≡ prepared_count table + one_if_prepared (Some after)
 counted_set [] o before after e = absurd (cc)
 counted_set (x ∷ table) zero before after e = let is = ap one_if_prepared e in omega (arith, is)
 counted_set (x ∷ table) (suc o) before after e = let rest = counted_set table o before after e in omega (arith, rest)
@@ -55,7 +56,8 @@ module _ (old new : Core) (o : ℕ) (before after : Operation) (h : StateInvaria
   ]
 
   reserved_stays : new.tape.reserved ≡ prepared_count new.table
-  reserved_stays = let counted = counted_set old.table o before after m.there in let is = ap prepared_count m.table in omega (arith, counted, is, m.reserved, h.reserved)
+  reserved_stays =
+      let counted = counted_set old.table o before after m.there in let is = ap prepared_count m.table in omega (arith, counted, is, m.reserved, h.reserved)
 
   answered_stays : new.answers + made_count (shown new).table ≤ new.steps
   answered_stays =

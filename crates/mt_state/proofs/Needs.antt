@@ -83,7 +83,8 @@ module _ (c : Core) (o : ℕ) (h : StateInvariant c) (op : Operation) (there : o
   -- the operation is a put
   pub put_at : (p : Phase) → op.walk.phase ≡ p → IsOfWrites p → IsPut op.task
   put_at p at_p of_writes = record {
-    put_is = no_get (is_get (ask op.task)) op.walk.writes always.writes (writes_of p op.walk.writes of_writes (subst (λ (q : Phase). IsOfKind q op.walk.writes) at_p always.kind));
+    put_is =
+        no_get (is_get (ask op.task)) op.walk.writes always.writes (writes_of p op.walk.writes of_writes (subst (λ (q : Phase). IsOfKind q op.walk.writes) at_p always.kind));
     owner = always.owner;
   }
 
@@ -148,7 +149,8 @@ module _ (c : Core) (o : ℕ) (h : StateInvariant c) (op : Operation) (there : o
 
   -- where it was told something it may give its lock back, where it has split nothing
   pub unlock_kept : op.walk.phase ≡ Unlock → op.outcome ≢ None → op.splits.halves.items ≡ [] → IsAtUnlock c.arena o op.walk
-  unlock_kept at_unlock told none = (subst (λ (halves : List Halves). MayUnlock halves c.arena o op) none (unlocking op.outcome told c o op (returning at_unlock)).unlocks).0
+  unlock_kept at_unlock told none =
+      (subst (λ (halves : List Halves). MayUnlock halves c.arena o op) none (unlocking op.outcome told c o op (returning at_unlock)).unlocks).0
 
   pub unlock_room : op.walk.phase ≡ Unlock → op.outcome ≢ None → op.splits.halves.items ≡ [] → CanUnlock (at c.arena op.walk.place.node).version
   unlock_room at_unlock told none = may_unlock c h op.walk.place.node (unlock_kept at_unlock told none).held.there
@@ -159,7 +161,8 @@ module _ (c : Core) (o : ℕ) (h : StateInvariant c) (op : Operation) (there : o
 
   -- where it was told nothing it has made one, and may give its lock back
   pub leave_kept : op.walk.phase ≡ Unlock → op.outcome ≡ None → IsAtLeave c.arena o op.task.key op.walk
-  leave_kept at_unlock untold = let k : IsLeaving c o op = subst (λ (told : Option Outcome). IsReturning told c o op) untold (returning at_unlock) in k.layering.makes
+  leave_kept at_unlock untold =
+      let k : IsLeaving c o op = subst (λ (told : Option Outcome). IsReturning told c o op) untold (returning at_unlock) in k.layering.makes
 
   pub leave_room : op.walk.phase ≡ Unlock → op.outcome ≡ None → CanUnlock (at c.arena op.walk.place.node).version
   leave_room at_unlock untold = may_unlock c h op.walk.place.node (leave_kept at_unlock untold).unlock.held.there

@@ -90,7 +90,8 @@ pub same_alive : (v w : ArenaView) → w.trees ≡ v.trees → IsUnremoved v →
 same_alive v w same one = subst (λ (trees : List Tree). (t : ℕ) → t < length trees → (tree_at trees t).standing ≢ Dead) (sym same) one.alive
 
 -- what is kept of an operation that was placed is kept of it by its outcome, which is there
-pub returning_by : (told : Option Outcome) (outcome : Outcome) → told ≡ Some outcome → (c : Core) (o : ℕ) (op : Operation) → IsUnlocking c o op → IsReturning told c o op
+pub returning_by : (told : Option Outcome) (outcome : Outcome) → told ≡ Some outcome → (c : Core) (o : ℕ) (op : Operation) → IsUnlocking c o op
+    → IsReturning told c o op
 returning_by None outcome is c o op unlocks = absurd (cc)
 returning_by (Some other) outcome is c o op unlocks = unlocks
 
@@ -102,7 +103,8 @@ returning_told (Some outcome) some c o op returns = returns
 -- one node of many is another
 module _ (v : ArenaView) (k : ℕ) (within : k < length v.nodes) (n : NodeView) where
   -- each node is the one that was put in, or the one that it was
-  pub replaced_at : (j : ℕ) → j < length (with_node v k n).nodes → (j < length v.nodes) × (((j ≡ k) × (at (with_node v k n) j ≡ n)) ⊎ ((j ≢ k) × (at (with_node v k n) j ≡ at v j)))
+  pub replaced_at : (j : ℕ) → j < length (with_node v k n).nodes
+      → (j < length v.nodes) × (((j ≡ k) × (at (with_node v k n) j ≡ n)) ⊎ ((j ≢ k) × (at (with_node v k n) j ≡ at v j)))
   replaced_at j inside =
       let is : j < length v.nodes = omega (arith, inside, length-set v.nodes k n) in (
         is,
@@ -113,14 +115,16 @@ module _ (v : ArenaView) (k : ℕ) (within : k < length v.nodes) (n : NodeView) 
       )
 
   -- so what is said of that one and of each that was there holds of each
-  pub replaced_all : (P : NodeView → Type 0) → P n → ((j : ℕ) → j < length v.nodes → P (at v j)) → (j : ℕ) → j < length (with_node v k n).nodes → P (at (with_node v k n) j)
+  pub replaced_all : (P : NodeView → Type 0) → P n → ((j : ℕ) → j < length v.nodes → P (at v j)) → (j : ℕ) → j < length (with_node v k n).nodes
+      → P (at (with_node v k n) j)
   replaced_all P new old j inside = let r = replaced_at j inside in elim r.1 [
     | inl same ↦ subst P (sym same.1) new
     | inr other ↦ subst P (sym other.1) (old j r.0)
   ]
 
   -- a node that an operation holds is that one, or it held it
-  pub replaced_holds : (o : ℕ) (j : ℕ) → j < length (with_node v k n).nodes → (at (with_node v k n) j).holder ≡ Some o → ((j ≡ k) × (n.holder ≡ Some o)) ⊎ ((j < length v.nodes) × ((at v j).holder ≡ Some o))
+  pub replaced_holds : (o : ℕ) (j : ℕ) → j < length (with_node v k n).nodes → (at (with_node v k n) j).holder ≡ Some o
+      → ((j ≡ k) × (n.holder ≡ Some o)) ⊎ ((j < length v.nodes) × ((at v j).holder ≡ Some o))
   replaced_holds o j inside holds = let r = replaced_at j inside in elim r.1 [
     | inl same ↦ inl (same.0, ap (λ (m : NodeView). m.holder) (sym same.1) ∙ holds)
     | inr other ↦ inr (r.0, ap (λ (m : NodeView). m.holder) (sym other.1) ∙ holds)
@@ -152,10 +156,13 @@ counted_later steps n was = record { inserts = omega (arith, was.inserts); split
 -- another node of the same slots and tree, in the place of one
 module _ (c : Core) (o : ℕ) (h : StateInvariant c) (k : ℕ) (within : k < length c.arena.nodes) (n : NodeView) where
   -- the versions count up to the next step
-  pub replaced_versions : IsCountedUpTo (c.steps + 1) n → (j : ℕ) → j < length (with_node c.arena k n).nodes → IsCountedUpTo (c.steps + 1) (at (with_node c.arena k n) j)
-  replaced_versions counted = replaced_all c.arena k within n (IsCountedUpTo (c.steps + 1)) counted (λ j inside. counted_later c.steps (at c.arena j) (h.versions j inside))
+  pub replaced_versions : IsCountedUpTo (c.steps + 1) n → (j : ℕ) → j < length (with_node c.arena k n).nodes
+      → IsCountedUpTo (c.steps + 1) (at (with_node c.arena k n) j)
+  replaced_versions counted =
+      replaced_all c.arena k within n (IsCountedUpTo (c.steps + 1)) counted (λ j inside. counted_later c.steps (at c.arena j) (h.versions j inside))
 
-  pub replaced_leaves : n.slots ≡ (at c.arena k).slots → n.tree ≡ (at c.arena k).tree → n.version.deleted ≡ (at c.arena k).version.deleted → IsCountedUpTo (c.steps + 1) n
+  pub replaced_leaves : n.slots ≡ (at c.arena k).slots → n.tree ≡ (at c.arena k).tree → n.version.deleted ≡ (at c.arena k).version.deleted
+      → IsCountedUpTo (c.steps + 1) n
       → Guarantee o c.arena (with_node c.arena k n) → content_of (with_node c.arena k n) ≡ content_of c.arena → LeavesPairs c o (with_node c.arena k n)
   replaced_leaves slots tree deleted counted guarantee contents = record {
     guarantee = guarantee;
@@ -166,7 +173,8 @@ module _ (c : Core) (o : ℕ) (h : StateInvariant c) (k : ℕ) (within : k < len
     makes = makes_set c.arena k n;
   }
     where
-      stood : (j : ℕ) → j < length (with_node c.arena k n).nodes → counts c.arena.trees (at (with_node c.arena k n) j) ≡ true → HasPairsOf c.arena (with_node c.arena k n) j
+      stood : (j : ℕ) → j < length (with_node c.arena k n).nodes → counts c.arena.trees (at (with_node c.arena k n) j) ≡ true
+          → HasPairsOf c.arena (with_node c.arena k n) j
       stood j inside is_counted =
           let r = replaced_at c.arena k within n j inside in
           elim r.1 [
@@ -174,9 +182,11 @@ module _ (c : Core) (o : ℕ) (h : StateInvariant c) (k : ℕ) (within : k < len
                 let same = ap (λ i. at c.arena i) (sym is.0) in
                 record {
                   there = r.0;
-                  counted = sym (same_counts c.arena.trees n (at c.arena j) (deleted ∙ ap (λ (m : NodeView). m.version.deleted) same) (tree ∙ ap (λ (m : NodeView). m.tree) same))
+                  counted =
+                      sym (same_counts c.arena.trees n (at c.arena j) (deleted ∙ ap (λ (m : NodeView). m.version.deleted) same) (tree ∙ ap (λ (m : NodeView). m.tree) same))
                       ∙ ap (counts c.arena.trees) (sym is.1) ∙ is_counted;
-                  prefix = ap (λ (m : NodeView). (tree_at c.arena.trees m.tree).prefix) is.1 ∙ ap (λ t. (tree_at c.arena.trees t).prefix) (tree ∙ ap (λ (m : NodeView). m.tree) same);
+                  prefix =
+                      ap (λ (m : NodeView). (tree_at c.arena.trees m.tree).prefix) is.1 ∙ ap (λ t. (tree_at c.arena.trees t).prefix) (tree ∙ ap (λ (m : NodeView). m.tree) same);
                   slots = ap (λ (m : NodeView). m.slots) is.1 ∙ slots ∙ ap (λ (m : NodeView). m.slots) same;
                 }
             | inr other ↦ record {
@@ -210,14 +220,16 @@ module _ (c : Core) (now : StateView) (o : ℕ) (is : shown c ≡ now) (h : Stat
       subst (λ (q : Phase). HoldsAt q op.walk op.splits j) at_p (subst (λ (x : Operation). HoldsAt x.walk.phase x.walk x.splits j) it f.2)
 
   -- a step that changes no pair, by what it leaves and what is kept of its operation, which has these splits then
-  pub quiet_gives_with : (arena : ArenaView) (reserved : ℕ) (w : Walk) (told : Option Outcome) (prepared : Option Prepared) (s : Splits) → LeavesPairs c o arena → is_done op.walk.phase ≡ false → MayFollow op.walk.phase w.phase
+  pub quiet_gives_with : (arena : ArenaView) (reserved : ℕ) (w : Walk) (told : Option Outcome) (prepared : Option Prepared) (s : Splits)
+      → LeavesPairs c o arena → is_done op.walk.phase ≡ false → MayFollow op.walk.phase w.phase
       → w.writes ≡ op.walk.writes → IsOfKind w.phase w.writes → change_in (view_of (went_with op (c.steps + 1) w told prepared s)) ≡ change_in (view_of op)
       → Notes (shown c) (view_of op) op.walk.phase w.phase told
       → ((k : ℕ) → k < length arena.nodes → (at arena k).holder ≡ Some o → HoldsAt w.phase (went_with op (c.steps + 1) w told prepared s).walk s k)
       → IsKeptAt w.phase (quiet c arena reserved o (went_with op (c.steps + 1) w told prepared s)) o (went_with op (c.steps + 1) w told prepared s)
       → (has_splits w.phase ≡ false → IsUnsplit s)
       → reserved + one_if_prepared (Some op) ≡ c.tape.reserved + one_if_prepared (Some (went_with op (c.steps + 1) w told prepared s))
-      → Touches o c.arena arena → (done : Bool) → done ≡ is_done w.phase → Gives now (quiet c arena reserved o (went_with op (c.steps + 1) w told prepared s)) o done
+      → Touches o c.arena arena → (done : Bool) → done ≡ is_done w.phase
+      → Gives now (quiet c arena reserved o (went_with op (c.steps + 1) w told prepared s)) o done
   quiet_gives_with arena reserved w told prepared s leaves unfinished follows writes kind same notes held kept unsplit reserves touches done ends =
       let after = went_with op (c.steps + 1) w told prepared s in
       let new = quiet c arena reserved o after in
@@ -256,7 +268,8 @@ module _ (c : Core) (now : StateView) (o : ℕ) (is : shown c ≡ now) (h : Stat
       done ends
 
   -- one that leaves the splits, of an operation that has none
-  pub quiet_gives : (arena : ArenaView) (reserved : ℕ) (w : Walk) (told : Option Outcome) (prepared : Option Prepared) → LeavesPairs c o arena → is_done op.walk.phase ≡ false → MayFollow op.walk.phase w.phase
+  pub quiet_gives : (arena : ArenaView) (reserved : ℕ) (w : Walk) (told : Option Outcome) (prepared : Option Prepared) → LeavesPairs c o arena
+      → is_done op.walk.phase ≡ false → MayFollow op.walk.phase w.phase
       → w.writes ≡ op.walk.writes → IsOfKind w.phase w.writes → change_in (view_of (went op (c.steps + 1) w told prepared)) ≡ change_in (view_of op)
       → Notes (shown c) (view_of op) op.walk.phase w.phase told
       → ((k : ℕ) → k < length arena.nodes → (at arena k).holder ≡ Some o → HoldsAt w.phase (went op (c.steps + 1) w told prepared).walk op.splits k)

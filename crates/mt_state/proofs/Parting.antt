@@ -73,7 +73,8 @@ parting_follows : (next : Option ℕ) → MayFollow SplitMove (after_parting nex
 parting_follows None = tt
 parting_follows (Some behind) = tt
 
-parting_notes : (next : Option ℕ) (c : Core) (op : Operation) (told : Option Outcome) → IsJudged (shown c) told → Notes (shown c) (view_of op) SplitMove (after_parting next) told
+parting_notes : (next : Option ℕ) (c : Core) (op : Operation) (told : Option Outcome) → IsJudged (shown c) told
+    → Notes (shown c) (view_of op) SplitMove (after_parting next) told
 parting_notes None c op told judged = judged
 parting_notes (Some behind) c op told judged = judged
 
@@ -122,7 +123,8 @@ module _ (c : Core) (o : ℕ) (h : StateInvariant c) (few : c.steps < 2 ^ 59) (o
   at_l = ap (λ (xs : List NodeView). node_at xs l) is.is ∙ there (set c.arena.nodes l y) q l z half.differ ∙ here c.arena.nodes l y half.held.there
 
   at_q : at arena q ≡ z
-  at_q = ap (λ (xs : List NodeView). node_at xs q) is.is ∙ here (set c.arena.nodes l y) q z (let same = length-set c.arena.nodes l y in let inside = half.right_held.there in omega (arith, same, inside))
+  at_q =
+      ap (λ (xs : List NodeView). node_at xs q) is.is ∙ here (set c.arena.nodes l y) q z (let same = length-set c.arena.nodes l y in let inside = half.right_held.there in omega (arith, same, inside))
 
   at_other : (k : ℕ) → k ≢ l → k ≢ q → at arena k ≡ at c.arena k
   at_other k nl nq = ap (λ (xs : List NodeView). node_at xs k) is.is ∙ there (set c.arena.nodes l y) q k z nq ∙ there c.arena.nodes l k y nl
@@ -163,7 +165,8 @@ module _ (c : Core) (o : ℕ) (h : StateInvariant c) (few : c.steps < 2 ^ 59) (o
 
   -- what counts now counted before
   was_counted : (k : ℕ) → counts arena.trees (at arena k) ≡ true → counts c.arena.trees (at c.arena k) ≡ true
-  was_counted k counted = ap (λ (t : List Tree). counts t (at c.arena k)) (sym trees) ∙ sym (same_counts arena.trees (at arena k) (at c.arena k) (ap (λ v. v.deleted) (like k).version) (like k).tree) ∙ counted
+  was_counted k counted =
+      ap (λ (t : List Tree). counts t (at c.arena k)) (sym trees) ∙ sym (same_counts arena.trees (at arena k) (at c.arena k) (ap (λ v. v.deleted) (like k).version) (like k).tree) ∙ counted
 
   same_prefix : (k : ℕ) → (tree_of arena k).prefix ≡ (tree_of c.arena k).prefix
   same_prefix k = ap (λ t. (tree_at arena.trees t).prefix) (like k).tree ∙ ap (λ (t : List Tree). (tree_at t (at c.arena k).tree).prefix) trees
@@ -206,7 +209,8 @@ module _ (c : Core) (o : ℕ) (h : StateInvariant c) (few : c.steps < 2 ^ 59) (o
   follows = subst (λ (p : Phase). MayFollow p w.phase) (sym at_move) (subst (MayFollow SplitMove) (sym phase) (parting_follows x.next))
 
   notes : (told : Option Outcome) → IsJudged (shown c) told → Notes (shown c) (view_of op) op.walk.phase w.phase told
-  notes told judged = subst (λ (p : Phase). Notes (shown c) (view_of op) p w.phase told) (sym at_move) (subst (λ (p : Phase). Notes (shown c) (view_of op) SplitMove p told) (sym phase) (parting_notes x.next c op told judged))
+  notes told judged =
+      subst (λ (p : Phase). Notes (shown c) (view_of op) p w.phase told) (sym at_move) (subst (λ (p : Phase). Notes (shown c) (view_of op) SplitMove p told) (sym phase) (parting_notes x.next c op told judged))
 
   some : op.splits.halves.items ≢ []
   some none = let no = ap (λ hs. length hs) none in let one = moving.moves.one in absurd (omega (arith, no, one))
@@ -229,8 +233,10 @@ module _ (c : Core) (o : ℕ) (h : StateInvariant c) (few : c.steps < 2 ^ 59) (o
     abbrev new_full : Core
     new_full = splitting c arena (released c.tape) c.accounts o op w told_full None op.splits
 
-    later : (prefix : Bytes) (entries : List Entry) → AllStamped (IsStampOf c.steps c.tape) prefix entries → AllStamped (IsStampOf (c.steps + 1) (released c.tape)) prefix entries
-    later prefix entries = stamped_weaker (IsStampOf c.steps c.tape) (IsStampOf (c.steps + 1) (released c.tape)) prefix entries (λ q s w. (omega (arith, w.0), w.1, w.2))
+    later : (prefix : Bytes) (entries : List Entry) → AllStamped (IsStampOf c.steps c.tape) prefix entries
+        → AllStamped (IsStampOf (c.steps + 1) (released c.tape)) prefix entries
+    later prefix entries =
+        stamped_weaker (IsStampOf c.steps c.tape) (IsStampOf (c.steps + 1) (released c.tape)) prefix entries (λ q s w. (omega (arith, w.0), w.1, w.2))
 
     answer_full : HasAnswer new_full after_full
     answer_full =
@@ -291,7 +297,8 @@ module _ (c : Core) (o : ℕ) (h : StateInvariant c) (few : c.steps < 2 ^ 59) (o
       held = λ k inside holds. halves_held w.phase leads after_full.walk op.splits k some (p.holds held_alone k inside holds);
       counts = λ t a e. subst (λ (every : Contents). (a.count ≡ len (tenant_map t every)) × (a.count ≤ a.quota)) (sym without) (h.counts t a e);
       kept = kept_full;
-      reserved = let one = ready_one op SplitMove at_move refl in let no = unready_none after_full w.phase refl (halves_unready w.phase leads) in let room = room_for c h o op SplitMove at_op at_move refl in omega (arith, one, no, room);
+      reserved =
+          let one = ready_one op SplitMove at_move refl in let no = unready_none after_full w.phase refl (halves_unready w.phase leads) in let room = room_for c h o op SplitMove at_op at_move refl in omega (arith, one, no, room);
       unremoved = parted_tree;
     }
 
@@ -331,8 +338,10 @@ module _ (c : Core) (o : ℕ) (h : StateInvariant c) (few : c.steps < 2 ^ 59) (o
     keys_here : AreKeys (tree_of c.arena (last_of op.splits).left).prefix (layer_of (tree_of c.arena (last_of op.splits).left).prefix) (at c.arena (last_of op.splits).left).slots
     keys_here = (keys_of c.arena.nodes c.arena.trees (last_of op.splits).left moving.moves.may.half.held.there arena_is.forest).keys
 
-    whole_left : AllStamped P (tree_of c.arena (last_of op.splits).left).prefix (at c.arena (last_of op.splits).left).slots → AllStamped Q (tree_of c.arena (last_of op.splits).left).prefix (with_entry (at c.arena (last_of op.splits).left).slots added)
-    whole_left = stamped_publish P Q (tree_of c.arena (last_of op.splits).left).prefix (layer_of (tree_of c.arena (last_of op.splits).left).prefix) (at c.arena (last_of op.splits).left).slots added op.task.key
+    whole_left : AllStamped P (tree_of c.arena (last_of op.splits).left).prefix (at c.arena (last_of op.splits).left).slots
+        → AllStamped Q (tree_of c.arena (last_of op.splits).left).prefix (with_entry (at c.arena (last_of op.splits).left).slots added)
+    whole_left =
+        stamped_publish P Q (tree_of c.arena (last_of op.splits).left).prefix (layer_of (tree_of c.arena (last_of op.splits).left).prefix) (at c.arena (last_of op.splits).left).slots added op.task.key
         (record { suffix = suffix_of op.task.key op.walk.layer; row = row; stamp = c.steps + 1 })
         keys_here (may_place c.arena o op.task moving.prepared op.walk op.splits arena_is moving.moves row (c.steps + 1)).has moving.moves.may.missing refl (untouched_beside c op h put) (untouched_now c op h put)
 
@@ -361,14 +370,16 @@ module _ (c : Core) (o : ℕ) (h : StateInvariant c) (few : c.steps < 2 ^ 59) (o
         let answer : HasAnswer new_core after_new = record {
           outcome = record { reply = New; at = c.steps + 1 };
           told = refl;
-          right = placed_right c o op after_new arena accounts h put pair New refl replies.0 makes (first_begun c op always w) (first_upto c op always w) refl refl;
+          right =
+              placed_right c o op after_new arena accounts h put pair New refl replies.0 makes (first_begun c op always w) (first_upto c op always w) refl refl;
           unprepared = refl;
         } in
         let own : IsKeptOf new_core o after_new = record {
           always = open_moved_with c op always w new_core told_new None op.splits refl refl counted.there (floor_made c h.tape) p.same.writes kind;
           kept = halves_kept w.phase leads new_core o after_new some p.kept answer;
           unsplit = λ none. absurd (both_ways _ none (halves_split w.phase leads));
-          placed = λ m placed_at. subst (IsPlacedOnce new_core after_new) (same_Some (c.steps + 1) m placed_at) (placed_once c o op after_new arena accounts h put pair refl);
+          placed =
+              λ m placed_at. subst (IsPlacedOnce new_core after_new) (same_Some (c.steps + 1) m placed_at) (placed_once c o op after_new arena accounts h put pair refl);
         } in
         gives (shown c) c new_core o op after_new refl h few
         (placed_move c o op after_new arena accounts h put pair (record {
@@ -377,7 +388,8 @@ module _ (c : Core) (o : ℕ) (h : StateInvariant c) (few : c.steps < 2 ^ 59) (o
           task = refl;
           held = λ k inside holds. halves_held w.phase leads after_new.walk op.splits k some (p.holds held_alone k inside holds);
           kept = own;
-          reserved = let one = ready_one op SplitMove at_move refl in let no = unready_none after_new w.phase refl (halves_unready w.phase leads) in let room = room_for c h o op SplitMove at_op at_move refl in omega (arith, one, no, room);
+          reserved =
+              let one = ready_one op SplitMove at_move refl in let no = unready_none after_new w.phase refl (halves_unready w.phase leads) in let room = room_for c h o op SplitMove at_op at_move refl in omega (arith, one, no, room);
         }))
         (record {
           logs = refl;
@@ -391,7 +403,8 @@ module _ (c : Core) (o : ℕ) (h : StateInvariant c) (few : c.steps < 2 ^ 59) (o
 
 module _ (c : Core) (o : ℕ) (h : StateInvariant c) (few : c.steps < 2 ^ 59) (op : Operation) (at_op : operation_at c.table o ≡ Some op) (put : IsPut op.task) (at_move : op.walk.phase ≡ SplitMove) where
   -- the keys are parted without the new pair, for which the quota has no room
-  pub fill_done : (arena : ArenaView) (tape : Kept) (accounts : Accounts) (w : Walk) → IsSplitMoveFull o op.task c.arena arena c.tape tape c.accounts accounts op.walk w op.splits
+  pub fill_done : (arena : ArenaView) (tape : Kept) (accounts : Accounts) (w : Walk)
+      → IsSplitMoveFull o op.task c.arena arena c.tape tape c.accounts accounts op.walk w op.splits
       → Gives (shown c) (splitting c arena tape accounts o op w (Some (record { reply = Full; at = c.steps + 1 })) None op.splits) o false
   fill_done arena tape accounts w t =
       subst (λ (a : Accounts). Gives (shown c) (splitting c arena tape a o op w (Some (record { reply = Full; at = c.steps + 1 })) None op.splits) o false) (sym t.uncounted)
@@ -399,7 +412,8 @@ module _ (c : Core) (o : ℕ) (h : StateInvariant c) (few : c.steps < 2 ^ 59) (o
       (parted_full c o h few op at_op at_move arena w t.parts (at c.arena op.walk.place.node).slots t.is put t.contents t.full refl))
 
   -- they are parted with it
-  pub part_done : (arena : ArenaView) (tape : Kept) (accounts : Accounts) (w : Walk) (row : Columns) → IsArena c.arena.nodes c.arena.trees → IsSplitMove o (c.steps + 1) op.task row c.arena arena c.tape tape c.accounts accounts op.walk w op.splits
+  pub part_done : (arena : ArenaView) (tape : Kept) (accounts : Accounts) (w : Walk) (row : Columns) → IsArena c.arena.nodes c.arena.trees
+      → IsSplitMove o (c.steps + 1) op.task row c.arena arena c.tape tape c.accounts accounts op.walk w op.splits
       → Gives (shown c) (splitting c arena tape accounts o op w (Some (record { reply = New; at = c.steps + 1 })) None op.splits) o false
   part_done arena tape accounts w row arena_is t =
       subst (λ (tape : Kept). Gives (shown c) (splitting c arena tape accounts o op w (Some (record { reply = New; at = c.steps + 1 })) None op.splits) o false) (sym t.places.tape)

@@ -147,7 +147,8 @@ module _ (c : Core) (o : ℕ) (before after : Operation) (arena : ArenaView) (ac
   placed_tape there = record {
     rises = rises-push c.tape.floor c.tape.entries wrote h.tape.rises (is_next c before h put).later;
     made = omega (arith, last_step_over-push c.tape.floor c.tape.entries wrote);
-    legal = subst (λ (all : Contents). IsLegalTape (c.tape.entries ++ wrote ∷ []) all) (sym p.contents) (legal-push c.tape.floor c.tape.entries (content_of c.arena) wrote h.tape.rises (is_next c before h put) h.tape.legal);
+    legal =
+        subst (λ (all : Contents). IsLegalTape (c.tape.entries ++ wrote ∷ []) all) (sym p.contents) (legal-push c.tape.floor c.tape.entries (content_of c.arena) wrote h.tape.rises (is_next c before h put) h.tape.legal);
     keys = All-push (λ e. IsKey e.key) c.tape.entries wrote h.tape.keys (wrote_key there);
     logs = logs_later c.logs c.tape.floor c.steps h.tape.logs;
   }
@@ -173,7 +174,8 @@ module _ (c : Core) (o : ℕ) (before after : Operation) (arena : ArenaView) (ac
 
   -- the tenant's map just before the step
   map_before : map_of (shown new) before.task.tenant (c.steps + 1 - 1) ≡ tenant_map before.task.tenant (content_of c.arena)
-  map_before = ap (map_of (shown new) before.task.tenant) (omega arith) ∙ placed_grows.maps before.task.tenant c.steps (omega arith) ∙ map_now c h.tape before.task.tenant c.steps (omega arith)
+  map_before =
+      ap (map_of (shown new) before.task.tenant) (omega arith) ∙ placed_grows.maps before.task.tenant c.steps (omega arith) ∙ map_now c h.tape before.task.tenant c.steps (omega arith)
 
   -- the contents are those with the row that the put makes at its key
   abbrev pub row : Columns
@@ -186,7 +188,8 @@ module _ (c : Core) (o : ℕ) (before after : Operation) (arena : ArenaView) (ac
       (told : reply ≡ reply_of (quota_of (shown c) before.task.tenant) (ask before.task) (tenant_map before.task.tenant (content_of c.arena)))
       (makes : map_after (quota_of (shown c) before.task.tenant) (ask before.task) (tenant_map before.task.tenant (content_of c.arena)) ≡ insert (tenant_map before.task.tenant (content_of c.arena)) (key_of (ask before.task)) row) where
     -- the reply is right at the step
-    pub placed_right : 0 < after.walk.first → after.walk.first ≤ c.steps + 1 → after.last ≡ c.steps + 1 → after.task ≡ before.task → IsAnswer (shown new) (view_of after) (record { reply = reply; at = c.steps + 1 })
+    pub placed_right : 0 < after.walk.first → after.walk.first ≤ c.steps + 1 → after.last ≡ c.steps + 1 → after.task ≡ before.task
+        → IsAnswer (shown new) (view_of after) (record { reply = reply; at = c.steps + 1 })
     placed_right begun since last task = record {
       begun = begun;
       since = since;

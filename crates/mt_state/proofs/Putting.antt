@@ -91,7 +91,8 @@ room_left None count room is = absurd room
 room_left (Some a) count room is = omega (arith, room, is a refl)
 
 -- what holds of all owned keys and stamps, in a node that has no pair of the one key for which it may not
-pub stamped_apart : (P Q : ℕ × Bytes → ℕ → Type 0) (prefix : Bytes) (q : ℕ × Bytes) (entries : List Entry) → ((r : ℕ × Bytes) (s : ℕ) → r ≢ q → P r s → Q r s) → All (IsApart prefix q) entries → AllStamped P prefix entries → AllStamped Q prefix entries
+pub stamped_apart : (P Q : ℕ × Bytes → ℕ → Type 0) (prefix : Bytes) (q : ℕ × Bytes) (entries : List Entry)
+    → ((r : ℕ × Bytes) (s : ℕ) → r ≢ q → P r s → Q r s) → All (IsApart prefix q) entries → AllStamped P prefix entries → AllStamped Q prefix entries
 stamped_apart P Q prefix q entries weaker apart stamped k d inside pair is = weaker _ _ (apart k d inside pair is) (stamped k d inside pair is)
 
 -- the slots of a border node with another row in one of them
@@ -109,7 +110,8 @@ module _ (n : NodeView) (slot : ℕ) (pair : Pair) (row : Columns) (stamp : ℕ)
   rewrites = record {
     entries = refl;
     here = ap (λ (l : List Entry). get_or l slot any_entry) set_is ∙ get_or-set_same n.slots slot e any_entry live;
-    live = λ other. let same = ap (λ (l : List Entry). length l) set_is ∙ length-set n.slots slot e in (λ lt. omega (arith, same, lt), λ lt. omega (arith, same, lt));
+    live =
+        λ other. let same = ap (λ (l : List Entry). length l) set_is ∙ length-set n.slots slot e in (λ lt. omega (arith, same, lt), λ lt. omega (arith, same, lt));
     others = λ other differ. ap (λ (l : List Entry). get_or l other any_entry) set_is ∙ get_or-set_other n.slots slot other e any_entry differ;
     rest = refl;
   }
@@ -129,7 +131,9 @@ module _ (c : Core) (now : StateView) (o : ℕ) (is : shown c ≡ now) (h : Stat
 
   module _ (arena_is : IsArena c.arena.nodes c.arena.trees) where
     -- where no pair of a node that counts stands for the put's key, its entries are apart from it
-    pub apart_in : (l : ℕ) → l < length c.arena.nodes → counts c.arena.trees (at c.arena l) ≡ true → ((q : Bytes) (layer i : ℕ) (pair : Pair) → StandsFor c.arena.nodes c.arena.trees q layer l i pair → owned q ≢ key) → All (IsApart (tree_of c.arena l).prefix key) (at c.arena l).slots
+    pub apart_in : (l : ℕ) → l < length c.arena.nodes → counts c.arena.trees (at c.arena l) ≡ true
+        → ((q : Bytes) (layer i : ℕ) (pair : Pair) → StandsFor c.arena.nodes c.arena.trees q layer l i pair → owned q ≢ key)
+        → All (IsApart (tree_of c.arena l).prefix key) (at c.arena l).slots
     apart_in l inside counted never = All-from_get_or (IsApart (tree_of c.arena l).prefix key) (at c.arena l).slots any_entry (λ i within pair held same.
         let own = (keys_of c.arena.nodes c.arena.trees l inside arena_is.forest).keys i any_entry within in
         let stands : StandsFor c.arena.nodes c.arena.trees own.0 (layer_of (tree_of c.arena l).prefix) l i pair =
@@ -137,22 +141,28 @@ module _ (c : Core) (now : StateView) (o : ℕ) (is : shown c ≡ now) (h : Stat
         never own.0 (layer_of (tree_of c.arena l).prefix) i pair stands (sym (owned_at (tree_of c.arena l).prefix (layer_of (tree_of c.arena l).prefix) (slot_at (at c.arena l) i) own.0 pair own.1 held) ∙ same))
 
     -- no other node has the pair of a key that stands in a slot
-    pub beside_stored : (slot : ℕ) (pair : Pair) → StandsFor c.arena.nodes c.arena.trees op.task.key (layer_of (tree_of c.arena k).prefix) k slot pair → (l : ℕ) → l < length c.arena.nodes → l ≢ k → counts c.arena.trees (at c.arena l) ≡ true → All (IsApart (tree_of c.arena l).prefix key) (at c.arena l).slots
+    pub beside_stored : (slot : ℕ) (pair : Pair) → StandsFor c.arena.nodes c.arena.trees op.task.key (layer_of (tree_of c.arena k).prefix) k slot pair
+        → (l : ℕ) → l < length c.arena.nodes → l ≢ k → counts c.arena.trees (at c.arena l) ≡ true
+        → All (IsApart (tree_of c.arena l).prefix key) (at c.arena l).slots
     beside_stored slot pair here l inside differ counted = apart_in l inside counted (λ q layer i other also same.
         let one : q ≡ op.task.key = key_of_owner q op.task.tenant (key_of (ask op.task)) also.has.of_tree.stored (same ∙ put.owner) ∙ sym (key_of_owner op.task.key op.task.tenant (key_of (ask op.task)) always.stored put.owner) in
         differ (sym (stands_once c.arena.nodes c.arena.trees arena_is (homes.begun c.arena.nodes c.arena.trees arena_is.forest) op.task.key (layer_of (tree_of c.arena k).prefix) k slot pair layer l i other here
         (subst (λ x. StandsFor c.arena.nodes c.arena.trees x layer l i other) one also)).0))
 
     -- nor of one that the contents miss
-    pub beside_missing : get (content_of c.arena) key ≡ None → (l : ℕ) → l < length c.arena.nodes → counts c.arena.trees (at c.arena l) ≡ true → All (IsApart (tree_of c.arena l).prefix key) (at c.arena l).slots
-    beside_missing missing l inside counted = apart_in l inside counted (λ q layer i other also same. none-some other.row (sym missing ∙ ap (get (content_of c.arena)) (sym same) ∙ row_of c h arena_is q layer l i other also))
+    pub beside_missing : get (content_of c.arena) key ≡ None → (l : ℕ) → l < length c.arena.nodes → counts c.arena.trees (at c.arena l) ≡ true
+        → All (IsApart (tree_of c.arena l).prefix key) (at c.arena l).slots
+    beside_missing missing l inside counted =
+        apart_in l inside counted (λ q layer i other also same. none-some other.row (sym missing ∙ ap (get (content_of c.arena)) (sym same) ∙ row_of c h arena_is q layer l i other also))
 
   -- how many pairs each tenant has once the put's row is inserted at its key
-  more_at : (all : Contents) (row : Columns) → all ≡ insert (content_of c.arena) (op.task.tenant, key_of (ask op.task)) row → (t : ℕ) → len (tenant_map t all) ≡ len (tenant_map t (insert (content_of c.arena) (op.task.tenant, key_of (ask op.task)) row))
+  more_at : (all : Contents) (row : Columns) → all ≡ insert (content_of c.arena) (op.task.tenant, key_of (ask op.task)) row → (t : ℕ)
+      → len (tenant_map t all) ≡ len (tenant_map t (insert (content_of c.arena) (op.task.tenant, key_of (ask op.task)) row))
   more_at all row e t = ap (λ x. len (tenant_map t x)) e
 
   -- the counts after a put over a row
-  pub counted_there : (all : Contents) (row before : Columns) → all ≡ insert (content_of c.arena) (op.task.tenant, key_of (ask op.task)) row → get (content_of c.arena) key ≡ Some before → Counts c c.accounts all
+  pub counted_there : (all : Contents) (row before : Columns) → all ≡ insert (content_of c.arena) (op.task.tenant, key_of (ask op.task)) row
+      → get (content_of c.arena) key ≡ Some before → Counts c c.accounts all
   counted_there all row before e was_there = record {
     quotas = λ t. refl;
     there = λ t some. some;
@@ -169,8 +179,11 @@ module _ (c : Core) (now : StateView) (o : ℕ) (is : shown c ≡ now) (h : Stat
   }
 
   -- and after a put of a new key
-  pub counted_new : (accounts : Accounts) (all : Contents) (row : Columns) → all ≡ insert (content_of c.arena) (op.task.tenant, key_of (ask op.task)) row → get (content_of c.arena) key ≡ None
-      → HasRoom (account_of c.accounts op.task.tenant) → account_of accounts op.task.tenant ≡ option_map one_more (account_of c.accounts op.task.tenant) → OthersStay c.accounts accounts op.task.tenant → Counts c accounts all
+  pub counted_new : (accounts : Accounts) (all : Contents) (row : Columns)
+      → all ≡ insert (content_of c.arena) (op.task.tenant, key_of (ask op.task)) row → get (content_of c.arena) key ≡ None
+      → HasRoom (account_of c.accounts op.task.tenant)
+      → account_of accounts op.task.tenant ≡ option_map one_more (account_of c.accounts op.task.tenant)
+      → OthersStay c.accounts accounts op.task.tenant → Counts c accounts all
   counted_new accounts all row e none has_room more others = record {
     quotas = λ t. elim (cases_eq t op.task.tenant) [
       | inl same ↦ ap (λ u. granted_in (account_of accounts u)) same ∙ ap granted_in more ∙ quota_more (account_of c.accounts op.task.tenant) ∙ ap (λ u. granted_in (account_of c.accounts u)) (sym same)
@@ -231,7 +244,8 @@ module _ (c : Core) (now : StateView) (o : ℕ) (is : shown c ≡ now) (h : Stat
                   (stamped_apart (IsStampOf c.steps c.tape) (IsStampOf (c.steps + 1) (pushed c.tape (next_write c op))) (tree_of c.arena j).prefix key (at c.arena j).slots
                   (untouched_beside c op h put) (beside j r.0 other.0 counted_there) (h.stamps j r.0 counted_there))
             ];
-        versions = replaced_versions c o h k within y (let was = h.versions k within in record { inserts = omega (arith, was.inserts); splits = omega (arith, was.splits) });
+        versions =
+            replaced_versions c o h k within y (let was = h.versions k within in record { inserts = omega (arith, was.inserts); splits = omega (arith, was.splits) });
         unremoved = replaced_tree c.arena k within y h.unremoved (h.unremoved.live k within);
         counts = counted;
       }
@@ -240,7 +254,8 @@ module _ (c : Core) (now : StateView) (o : ℕ) (is : shown c ≡ now) (h : Stat
       placed_gives : (changes : is_change reply ≡ true)
           → (told : reply ≡ reply_of (quota_of (shown c) op.task.tenant) (ask op.task) (tenant_map op.task.tenant (content_of c.arena)))
           → (makes : map_after (quota_of (shown c) op.task.tenant) (ask op.task) (tenant_map op.task.tenant (content_of c.arena)) ≡ insert (tenant_map op.task.tenant (content_of c.arena)) (key_of (ask op.task)) the_row)
-          → (p : Phase) → op.walk.phase ≡ p → is_prepared p ≡ true → is_done p ≡ false → has_splits p ≡ false → ((j : ℕ) → HoldsAt p op.walk op.splits j → j ≡ k) → p ≢ Enter → MayFollow p Unlock → op.walk.writes ≡ true
+          → (p : Phase) → op.walk.phase ≡ p → is_prepared p ≡ true → is_done p ≡ false → has_splits p ≡ false
+          → ((j : ℕ) → HoldsAt p op.walk op.splits j → j ≡ k) → p ≢ Enter → MayFollow p Unlock → op.walk.writes ≡ true
           → Notes (shown c) (view_of op) p Unlock (Some (record { reply = reply; at = c.steps + 1 }))
           → w ≡ walk_placed op.walk → Continues op.walk w → n.holder ≡ Some o → IsAtUnlock the_arena o w → Gives now the_new o false
       placed_gives changes told makes p at_p ready left none holds_one later follows writes notes goes same holder unlocks =
@@ -251,20 +266,24 @@ module _ (c : Core) (now : StateView) (o : ℕ) (is : shown c ≡ now) (h : Stat
           let pair = places_pair in
           let unsplit = (h.ops o op there).unsplit (ap has_splits at_p ∙ none) in
           let own : IsUnlocking the_new o the_after = record {
-            unlocks = subst (λ (halves : List Halves). MayUnlock halves the_arena o the_after) (sym unsplit.halves) (subst (IsAtUnlock the_arena o) (sym whole) unlocks, unsplit);
+            unlocks =
+                subst (λ (halves : List Halves). MayUnlock halves the_arena o the_after) (sym unsplit.halves) (subst (IsAtUnlock the_arena o) (sym whole) unlocks, unsplit);
             answer = record {
               outcome = record { reply = reply; at = c.steps + 1 };
               told = refl;
-              right = placed_right c o op the_after the_arena accounts h put pair reply changes told makes (first_begun c op always w) (first_upto c op always w) refl refl;
+              right =
+                  placed_right c o op the_after the_arena accounts h put pair reply changes told makes (first_begun c op always w) (first_upto c op always w) refl refl;
               unprepared = refl;
             };
           } in
           let kept : IsKeptOf the_new o the_after = record {
-            always = open_moved c op always w the_new (Some (record { reply = reply; at = c.steps + 1 })) None refl refl counted.there (floor_made c h.tape) same.writes
+            always =
+                open_moved c op always w the_new (Some (record { reply = reply; at = c.steps + 1 })) None refl refl counted.there (floor_made c h.tape) same.writes
                 (subst (λ (q : Phase). IsOfKind q w.writes) (sym ends) (same.writes ∙ writes));
             kept = subst (λ (q : Phase). IsKeptAt q the_new o the_after) (sym ends) own;
             unsplit = λ over. unsplit;
-            placed = λ m placed_at. subst (IsPlacedOnce the_new the_after) (same_Some (c.steps + 1) m (ap (λ b. cond b (Some (c.steps + 1)) None) (sym changes) ∙ placed_at)) (placed_once c o op the_after the_arena accounts h put pair refl);
+            placed =
+                λ m placed_at. subst (IsPlacedOnce the_new the_after) (same_Some (c.steps + 1) m (ap (λ b. cond b (Some (c.steps + 1)) None) (sym changes) ∙ placed_at)) (placed_once c o op the_after the_arena accounts h put pair refl);
           } in
           gives now c the_new o op the_after is h (few_steps c now o is h room op there)
           (placed_move c o op the_after the_arena accounts h put pair (record {
@@ -277,11 +296,13 @@ module _ (c : Core) (now : StateView) (o : ℕ) (is : shown c ≡ now) (h : Stat
                   | inr was ↦ holds_one j (holds_here c now o is h room op there p at_p j was.0 was.1) ∙ sym place
                 ]));
             kept = kept;
-            reserved = let one = ready_one op p at_p ready in let no = unready_none the_after Unlock ends tt in let some = room_for c h o op p there at_p ready in omega (arith, one, no, some);
+            reserved =
+                let one = ready_one op p at_p ready in let no = unready_none the_after Unlock ends tt in let some = room_for c h o op p there at_p ready in omega (arith, one, no, some);
           }))
           (record {
             logs = refl;
-            moves = has_moved c op always w (Some (record { reply = reply; at = c.steps + 1 })) None (subst (λ (q : Phase). MayFollow q w.phase) (sym at_p) (subst (MayFollow p) (sym ends) follows));
+            moves =
+                has_moved c op always w (Some (record { reply = reply; at = c.steps + 1 })) None (subst (λ (q : Phase). MayFollow q w.phase) (sym at_p) (subst (MayFollow p) (sym ends) follows));
             notes = subst (λ (q : Phase). Notes (shown c) (view_of op) q w.phase (Some (record { reply = reply; at = c.steps + 1 }))) (sym at_p)
                 (subst (λ (q : Phase). Notes (shown c) (view_of op) p q (Some (record { reply = reply; at = c.steps + 1 }))) (sym ends) notes);
             touches = replaced_touches c.arena k within y o (inl holder);
@@ -309,7 +330,8 @@ module _ (c : Core) (now : StateView) (o : ℕ) (is : shown c ≡ now) (h : Stat
     stores_on = subst (λ (p : Phase). IsOfKind p op.walk.writes) at_store always.kind
 
     -- a put that writes its row over the one of its key
-    pub store_done : (arena : ArenaView) (tape : Kept) (w : Walk) (row before : Columns) → IsArena c.arena.nodes c.arena.trees → IsStore o (c.steps + 1) op.task row c.arena arena c.tape tape op.walk w before
+    pub store_done : (arena : ArenaView) (tape : Kept) (w : Walk) (row before : Columns) → IsArena c.arena.nodes c.arena.trees
+        → IsStore o (c.steps + 1) op.task row c.arena arena c.tape tape op.walk w before
         → Gives now (stepped c arena tape c.accounts o (went op (c.steps + 1) w (Some (record { reply = Replaced; at = c.steps + 1 })) None)) o false
     store_done arena tape w row before arena_is t =
         let s = storing.stores in
@@ -344,7 +366,8 @@ module _ (c : Core) (now : StateView) (o : ℕ) (is : shown c ≡ now) (h : Stat
     publishes_on = subst (λ (p : Phase). IsOfKind p op.walk.writes) at_publish always.kind
 
     -- a put of a new key that finds room
-    pub publish_done : (arena : ArenaView) (tape : Kept) (accounts : Accounts) (w : Walk) (row : Columns) → IsArena c.arena.nodes c.arena.trees → IsPublish o (c.steps + 1) op.task row c.arena arena c.tape tape c.accounts accounts op.walk w
+    pub publish_done : (arena : ArenaView) (tape : Kept) (accounts : Accounts) (w : Walk) (row : Columns) → IsArena c.arena.nodes c.arena.trees
+        → IsPublish o (c.steps + 1) op.task row c.arena arena c.tape tape c.accounts accounts op.walk w
         → Gives now (stepped c arena tape accounts o (went op (c.steps + 1) w (Some (record { reply = New; at = c.steps + 1 })) None)) o false
     publish_done arena tape accounts w row arena_is t =
         let s = publishing.publishes in

@@ -117,5 +117,6 @@ module _ (c : Core) (o : ℕ) (before after : Operation) (arena : ArenaView) (re
     unremoved = leaves.unremoved;
   }
 
-  pub is_quiet : change_in (view_of after) ≡ change_in (view_of before) → IsQuiet (shown c) (shown (quiet c arena reserved o after)) (view_of before) (view_of after)
+  pub is_quiet : change_in (view_of after) ≡ change_in (view_of before)
+      → IsQuiet (shown c) (shown (quiet c arena reserved o after)) (view_of before) (view_of after)
   is_quiet same = record { contents = leaves.contents; entries = refl; change = same }

@@ -97,7 +97,8 @@ on_way_open Forward d = refl
 on_way_open Lock d = refl
 on_way_open _ d = absurd d
 
-descent_notes : (p : Phase) → IsDescent p → (old : StateView) (op : OperationView) (next : Phase) (told : Option Outcome) → told ≡ None → Notes old op p next told
+descent_notes : (p : Phase) → IsDescent p → (old : StateView) (op : OperationView) (next : Phase) (told : Option Outcome) → told ≡ None
+    → Notes old op p next told
 descent_notes Enter d old op next told e = e
 descent_notes Pick d old op next told e = e
 descent_notes Child d old op next told e = e
@@ -121,7 +122,8 @@ module _ (c : Core) (now : StateView) (o : ℕ) (is : shown c ≡ now) (h : Stat
       let way = way_of op.walk.phase descends c o op k.kept in
       let after = went op (c.steps + 1) w op.outcome op.prepared in
       let on : IsOnItsWay (still c now o is h room op there (descent_free op.walk.phase descends) w op.outcome) after = record {
-        kept = first_aside w.phase goes.on_way c.arena (past_of (still c now o is h room op there (descent_free op.walk.phase descends) w op.outcome)) op.task.key None w after.walk.first (kept (past_of (still c now o is h room op there (descent_free op.walk.phase descends) w op.outcome)));
+        kept =
+            first_aside w.phase goes.on_way c.arena (past_of (still c now o is h room op there (descent_free op.walk.phase descends) w op.outcome)) op.task.key None w after.walk.first (kept (past_of (still c now o is h room op there (descent_free op.walk.phase descends) w op.outcome)));
         untold = way.untold;
         unprepared = way.unprepared;
       } in
@@ -134,14 +136,17 @@ pub key_of_owner : (key : Bytes) (tenant : ℕ) (user : Bytes) → IsStoredKey k
 key_of_owner key tenant user stored owner = sym (stored_key-again key stored.has_tenant stored.are_bytes) ∙ ap (λ (q : ℕ × Bytes). stored_key q.0 q.1) owner
 
 -- an operation that has begun: its walk is the one that the step leads to
-pub walk_same : (c : Core) (op : Operation) → IsOpenOperation c op → (w : Walk) → 0 < op.walk.first → w.first ≡ op.walk.first → (moved op (c.steps + 1) w).walk ≡ w
+pub walk_same : (c : Core) (op : Operation) → IsOpenOperation c op → (w : Walk) → 0 < op.walk.first → w.first ≡ op.walk.first
+    → (moved op (c.steps + 1) w).walk ≡ w
 walk_same c op k w begun same = let first = first_same c op k w begun ∙ sym same in (λ a. record w { first = first a })
 
 -- the contents after the step are those of the arena
-pub now_is : (c : Core) → StateInvariant c → (new : Core) → new.steps ≡ c.steps + 1 → new.arena ≡ c.arena → new.tape.entries ≡ c.tape.entries → IsNow (past_of new) (c.steps + 1) c.arena
+pub now_is : (c : Core) → StateInvariant c → (new : Core) → new.steps ≡ c.steps + 1 → new.arena ≡ c.arena → new.tape.entries ≡ c.tape.entries
+    → IsNow (past_of new) (c.steps + 1) c.arena
 now_is c h new steps arena entries = record {
   made = omega (arith, steps);
-  contents = (λ a. contents_at (entries a) (content_of (arena a)) (c.steps + 1)) ∙ contents_at-now c.tape.floor (c.steps + 1) c.tape.entries (content_of c.arena) h.tape.rises (omega (arith, h.tape.made));
+  contents =
+      (λ a. contents_at (entries a) (content_of (arena a)) (c.steps + 1)) ∙ contents_at-now c.tape.floor (c.steps + 1) c.tape.entries (content_of c.arena) h.tape.rises (omega (arith, h.tape.made));
 }
 
 -- what a search that leads on to confirm has not found
@@ -149,7 +154,9 @@ module _ (c : Core) (h : StateInvariant c) (arena : IsArena c.arena.nodes c.aren
   abbrev searched_node : NodeView
   searched_node = at c.arena w.place.node
 
-  not_another : (held : Held) (mark : Mark) (suffix : List ℕ) (kind : FoundKind) → kind ≢ OtherLong → IsKind (record { slice = 0; mark = mark; held = held }) suffix OtherLong → IsKind (record { slice = 0; mark = mark; held = held }) suffix kind → ⊥
+  not_another : (held : Held) (mark : Mark) (suffix : List ℕ) (kind : FoundKind) → kind ≢ OtherLong
+      → IsKind (record { slice = 0; mark = mark; held = held }) suffix OtherLong → IsKind (record { slice = 0; mark = mark; held = held }) suffix kind
+      → ⊥
   not_another (helds.Stable pair) mark suffix ThisKey leads other this = other.1 this
   not_another (helds.Unstable pair tree) mark suffix ThisKey leads other this = other.1 this
   not_another (helds.Link tree) mark suffix ThisKey leads other this = absurd this
@@ -172,7 +179,8 @@ module _ (c : Core) (h : StateInvariant c) (arena : IsArena c.arena.nodes c.aren
       let here = subst (λ j. IsInSlot searched_node j key w.layer has.kind) same has.in_slot in
       not_another (slot_at searched_node slot).held (slot_at searched_node slot).mark (suffix_of key w.layer) has.kind has.leads f.kind_is here.kind_is
 
-  pub lacks : (slot : ℕ) (found : Find) → FindsIn searched_node key w.layer found → (after_search found w 0).phase ≡ Confirm → (i : ℕ) → HasSlot searched_node i key w.layer → ⊥
+  pub lacks : (slot : ℕ) (found : Find) → FindsIn searched_node key w.layer found → (after_search found w 0).phase ≡ Confirm → (i : ℕ)
+      → HasSlot searched_node i key w.layer → ⊥
   lacks slot finds.Missing f e i has = lacks_missing f i has
   lacks slot (finds.Slot at_slot OtherLong) f e i has = lacks_other at_slot f i has
   lacks slot (finds.Slot at_slot ThisKey) f e i has = absurd (cc)
@@ -223,13 +231,15 @@ module _ (c : Core) (now : StateView) (o : ℕ) (is : shown c ≡ now) (h : Stat
     looks_on = subst (λ (p : Phase). IsOfKind p op.walk.writes) at_search (h.ops o op there).always.kind
 
     -- a search that found nothing: the key is missing, as of this step
-    taken_missing : (f : Find) → (after_search f op.walk (c.steps + 1)).phase ≡ Confirm → ((after_search f op.walk (c.steps + 1)).taken ≡ takens.Missing) × ((after_search f op.walk (c.steps + 1)).right_at ≡ c.steps + 1) × ((after_search f op.walk 0).phase ≡ Confirm)
+    taken_missing : (f : Find) → (after_search f op.walk (c.steps + 1)).phase ≡ Confirm
+        → ((after_search f op.walk (c.steps + 1)).taken ≡ takens.Missing) × ((after_search f op.walk (c.steps + 1)).right_at ≡ c.steps + 1) × ((after_search f op.walk 0).phase ≡ Confirm)
     taken_missing finds.Missing e = (refl, refl, refl)
     taken_missing (finds.Slot slot OtherLong) e = (refl, refl, refl)
     taken_missing (finds.Slot slot ThisKey) e = absurd (cc)
     taken_missing (finds.Slot slot ToTree) e = absurd (cc)
 
-    pub search_missing : w.phase ≡ Confirm → Gives now (still c now o is h room op there search_free w (Some (record { reply = Absent; at = c.steps + 1 }))) o false
+    pub search_missing : w.phase ≡ Confirm
+        → Gives now (still c now o is h room op there search_free w (Some (record { reply = Absent; at = c.steps + 1 }))) o false
     search_missing confirms =
         let told : Option Outcome = Some (record { reply = Absent; at = c.steps + 1 }) in
         let new = still c now o is h room op there search_free w told in
@@ -239,8 +249,10 @@ module _ (c : Core) (now : StateView) (o : ℕ) (is : shown c ≡ now) (h : Stat
         let t = taken_missing found (ap (λ (x : Walk). x.phase) (sym is_after) ∙ confirms) in
         let own : IsAtConfirm new after = record {
           row = None;
-          kept = subst (λ (x : Walk). IsKept c.arena (past_of new) op.task.key None x) (sym same) (kept (past_of new) None (now_is c h new refl refl refl) first_upto_now);
-          tells = subst (λ (t : Taken). TellsTaken after None t) (sym (ap (λ (x : Walk). x.taken) (same ∙ is_after) ∙ t.0)) (ap (λ n. Some (record { reply = Absent; at = n })) (sym (ap (λ (x : Walk). x.right_at) (same ∙ is_after) ∙ t.1)));
+          kept =
+              subst (λ (x : Walk). IsKept c.arena (past_of new) op.task.key None x) (sym same) (kept (past_of new) None (now_is c h new refl refl refl) first_upto_now);
+          tells =
+              subst (λ (t : Taken). TellsTaken after None t) (sym (ap (λ (x : Walk). x.taken) (same ∙ is_after) ∙ t.0)) (ap (λ n. Some (record { reply = Absent; at = n })) (sym (ap (λ (x : Walk). x.right_at) (same ∙ is_after) ∙ t.1)));
           unprepared = searching.unprepared;
         } in
         still_gives c now o is h room op there search_free w told
@@ -263,7 +275,9 @@ module _ (c : Core) (now : StateView) (o : ℕ) (is : shown c ≡ now) (h : Stat
         (subst (λ (p : Phase). IsKeptAt p new o after) (sym confirms) own) false (sym (ap is_done confirms))
 
     -- a search that found a slot of the key, or of its link
-    slot_found : (f : Find) → FindsIn (at c.arena op.walk.place.node) op.task.key op.walk.layer f → (after_search f op.walk (c.steps + 1)).phase ≡ Load → HasSlot (at c.arena op.walk.place.node) (after_search f op.walk (c.steps + 1)).slot op.task.key op.walk.layer
+    slot_found : (f : Find) → FindsIn (at c.arena op.walk.place.node) op.task.key op.walk.layer f
+        → (after_search f op.walk (c.steps + 1)).phase ≡ Load
+        → HasSlot (at c.arena op.walk.place.node) (after_search f op.walk (c.steps + 1)).slot op.task.key op.walk.layer
     slot_found finds.Missing g e = absurd (cc)
     slot_found (finds.Slot slot OtherLong) g e = absurd (cc)
     slot_found (finds.Slot slot ThisKey) g e = record { kind = ThisKey; in_slot = g; leads = λ no. cc }
@@ -277,7 +291,8 @@ module _ (c : Core) (now : StateView) (o : ℕ) (is : shown c ≡ now) (h : Stat
         let same = walk_same c op k w begun first_stays_same in
         let own : IsAtLoad new after = record {
           way = record {
-            kept = subst (λ (x : Walk). IsKept c.arena (past_of new) op.task.key None x) (sym same) (kept (past_of new) None (now_is c h new refl refl refl) first_upto_now);
+            kept =
+                subst (λ (x : Walk). IsKept c.arena (past_of new) op.task.key None x) (sym same) (kept (past_of new) None (now_is c h new refl refl refl) first_upto_now);
             untold = searching.untold;
             unprepared = searching.unprepared;
           };

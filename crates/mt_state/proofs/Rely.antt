@@ -33,7 +33,8 @@ use Rattle.mt_state.specs.Invariant.{IsUnremoved, StateGuarantee}
 use Rattle.mt_state.proofs.Granted.{quota_stays}
 
 -- what is placed stays so
-pub placed_stays : (old new : StateView) → KeepsPast old new → (t : ℕ) (c : Command) (at : ℕ) (reply : Reply) → at ≤ old.steps → IsPlaced old t c at reply → IsPlaced new t c at reply
+pub placed_stays : (old new : StateView) → KeepsPast old new → (t : ℕ) (c : Command) (at : ℕ) (reply : Reply) → at ≤ old.steps
+    → IsPlaced old t c at reply → IsPlaced new t c at reply
 placed_stays old new g t c at reply le h = record {
   changes = λ e. let w = h.changes e in (
     g.changes at le ∙ w.0,
@@ -43,7 +44,8 @@ placed_stays old new g t c at reply le h = record {
 }
 
 -- so is an answer
-pub answer_stays : (old new : StateView) → KeepsPast old new → (op : OperationView) (told : Outcome) → op.last ≤ old.steps → IsAnswer old op told → IsAnswer new op told
+pub answer_stays : (old new : StateView) → KeepsPast old new → (op : OperationView) (told : Outcome) → op.last ≤ old.steps → IsAnswer old op told
+    → IsAnswer new op told
 answer_stays old new g op told made h = record {
   begun = h.begun;
   since = h.since;
@@ -52,7 +54,8 @@ answer_stays old new g op told made h = record {
 }
 
 -- who holds a node after a step of another one held it before
-pub holder_was : (op q k : ℕ) (old new : ArenaView) → Guarantee op old new → k < length new.nodes → (at new k).holder ≡ Some q → q ≢ op → (k < length old.nodes) × ((at old k).holder ≡ Some q)
+pub holder_was : (op q k : ℕ) (old new : ArenaView) → Guarantee op old new → k < length new.nodes → (at new k).holder ≡ Some q → q ≢ op
+    → (k < length old.nodes) × ((at old k).holder ≡ Some q)
 holder_was op q k old new g within holds other = elim (cases_lt k (length old.nodes)) [
   | inl was ↦ (was, (g.nodes.nodes k was).taken q other holds)
   | inr new_one ↦ absurd (g.nodes.taken_new k q new_one within other holds)
@@ -93,11 +96,13 @@ module _ (old new : Core) (o q : ℕ) (unremoved : IsUnremoved new.arena) (g : S
       unremoved.alive (at new.arena k).tree (omega (arith, same, there, g.arena.nodes.tree_count))
 
   slot_alive : (what : Held) → IsHeldSlot old.arena op.walk.place.node op.walk.slot q what → (tree_of new.arena op.walk.place.node).standing ≢ Dead
-  slot_alive what slot = node_alive op.walk.place.node (at old.arena op.walk.place.node).tree slot.held.there refl (live_there old.arena.trees (at old.arena op.walk.place.node).tree slot.tree_live)
+  slot_alive what slot =
+      node_alive op.walk.place.node (at old.arena op.walk.place.node).tree slot.held.there refl (live_there old.arena.trees (at old.arena op.walk.place.node).tree slot.tree_live)
 
   -- nor is that of the node at which an operation makes a layer
   layer_alive : (p : Phase) → KeptLayer p old.arena q op.task.key op.walk → p ≢ Enter → (tree_of new.arena op.walk.place.node).standing ≢ Dead
-  layer_alive MakeLayer h later = let b = h.holds.judged.at_border in node_alive op.walk.place.node op.walk.place.tree b.covers.remembered.there b.covers.remembered.tree_is b.through.there
+  layer_alive MakeLayer h later =
+      let b = h.holds.judged.at_border in node_alive op.walk.place.node op.walk.place.tree b.covers.remembered.there b.covers.remembered.tree_is b.through.there
   layer_alive MarkUnstable h later = slot_alive (Stable h.pair) h.makes.layer.slot
   layer_alive phases.Link h later = slot_alive (Unstable h.pair None) h.makes.layer.slot
   layer_alive MarkLayer h later = slot_alive (Unstable h.pair (Some h.tree)) h.makes.layer.slot

@@ -37,7 +37,8 @@ get_absent quota (Remove key) m e none = absurd (cc)
 get_absent quota (Scan from after count columns) m e none = absurd (cc)
 
 -- a get of a row
-pub get_found : (quota : ℕ) (c : Command) (m : Map) (columns : List ℕ) (row : Columns) → columns_asked c ≡ Some columns → get m (key_of c) ≡ Some row → Found (shown columns row) ≡ reply_of quota c m
+pub get_found : (quota : ℕ) (c : Command) (m : Map) (columns : List ℕ) (row : Columns) → columns_asked c ≡ Some columns → get m (key_of c) ≡ Some row
+    → Found (shown columns row) ≡ reply_of quota c m
 unfolding reply_of
 get_found quota (Get key asked) m columns row e is =
     ap (λ w. told_of_row w (Some row)) (sym (same_Some asked columns e)) ∙ ap (told_of_row asked) (sym is)
@@ -70,7 +71,8 @@ put_new quota (PutOf key change) m e none lt = (
 put_new quota (GetOf key columns) m e none lt = absurd (cc)
 
 -- and without
-pub put_full : (quota : ℕ) (r : Request) (m : Map) → is_get (command_of r) ≡ false → get m (key_of (command_of r)) ≡ None → quota ≤ len m → Full ≡ reply_of quota (command_of r) m
+pub put_full : (quota : ℕ) (r : Request) (m : Map) → is_get (command_of r) ≡ false → get m (key_of (command_of r)) ≡ None → quota ≤ len m
+    → Full ≡ reply_of quota (command_of r) m
 unfolding reply_of
 put_full quota (PutOf key change) m e none le = sym (ap (told_of_put quota (len m)) none ∙ ap (λ b. cond b New Full) (le-ltb (len m) quota le))
 put_full quota (GetOf key columns) m e none le = absurd (cc)

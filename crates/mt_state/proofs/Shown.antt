@@ -29,7 +29,8 @@ shown_set (x ∷ table) zero op = refl
 shown_set (x ∷ table) (suc o) op = ap (λ t. option_map view_of x ∷ t) (shown_set table o op)
 
 -- what is shown is shown of an operation that is inside
-pub inside_of : (table : Table) (o : ℕ) (view : OperationView) → op_at (shown_table table) o ≡ Some view → (op : Operation) × (operation_at table o ≡ Some op) × (view_of op ≡ view)
+pub inside_of : (table : Table) (o : ℕ) (view : OperationView) → op_at (shown_table table) o ≡ Some view
+    → (op : Operation) × (operation_at table o ≡ Some op) × (view_of op ≡ view)
 inside_of table o view is = known (operation_at table o) refl
   where
     known : (x : Option Operation) → operation_at table o ≡ x → (op : Operation) × (operation_at table o ≡ Some op) × (view_of op ≡ view)

@@ -168,7 +168,8 @@ may_unlock_all : (l : List Halves) (v : ArenaView) (o : ℕ) (op : Operation) �
 may_unlock_all [] v o op some may = absurd (some refl)
 may_unlock_all (x ∷ l) v o op some may = may
 
-pub halves_kept : (p : Phase) → HasHalves p → (c : Core) (o : ℕ) (op : Operation) → op.splits.halves.items ≢ [] → KeptSplit p c.arena o op.splits → HasAnswer c op → IsKeptAt p c o op
+pub halves_kept : (p : Phase) → HasHalves p → (c : Core) (o : ℕ) (op : Operation) → op.splits.halves.items ≢ [] → KeptSplit p c.arena o op.splits
+    → HasAnswer c op → IsKeptAt p c o op
 halves_kept SplitPrev i c o op some kept answer = record { climbs = kept; answer = answer }
 halves_kept LockParent i c o op some kept answer = record { climbs = kept; answer = answer }
 halves_kept InsertChild i c o op some kept answer = record { climbs = kept; answer = answer }
@@ -241,7 +242,8 @@ module _ (c : Core) (o : ℕ) (h : StateInvariant c) (arena : ArenaView) where
   -- the locks of some nodes of the operation were given back
   module _ (count : length arena.nodes ≡ length c.arena.nodes) (trees : arena.trees ≡ c.arena.trees)
       (each : (k : ℕ) → k < length c.arena.nodes → (((at c.arena k).holder ≡ Some o) × (at arena k ≡ unlocked (at c.arena k))) ⊎ (at arena k ≡ at c.arena k)) where
-    same : (k : ℕ) → k < length c.arena.nodes → ((at arena k).slots ≡ (at c.arena k).slots) × ((at arena k).tree ≡ (at c.arena k).tree) × ((at arena k).version.deleted ≡ (at c.arena k).version.deleted)
+    same : (k : ℕ) → k < length c.arena.nodes
+        → ((at arena k).slots ≡ (at c.arena k).slots) × ((at arena k).tree ≡ (at c.arena k).tree) × ((at arena k).version.deleted ≡ (at c.arena k).version.deleted)
     same k inside = elim (each k inside) [
       | inl (held, is) ↦ (ap (λ (n : NodeView). n.slots) is, ap (λ (n : NodeView). n.tree) is, ap (λ (n : NodeView). n.version.deleted) is)
       | inr is ↦ (ap (λ (n : NodeView). n.slots) is, ap (λ (n : NodeView). n.tree) is, ap (λ (n : NodeView). n.version.deleted) is)
@@ -323,7 +325,8 @@ module _ (c : Core) (o : ℕ) (h : StateInvariant c) (few : c.steps < 2 ^ 59) (o
       }
 
   -- a right half comes nearer to its place
-  climbed_done : (arena : ArenaView) (w : Walk) (s : Splits) → IsClimb op.walk.phase → Climbs c o op arena w s → Gives (shown c) (splitting c arena c.tape c.accounts o op w op.outcome op.prepared s) o false
+  climbed_done : (arena : ArenaView) (w : Walk) (s : Splits) → IsClimb op.walk.phase → Climbs c o op arena w s
+      → Gives (shown c) (splitting c arena c.tape c.accounts o op w op.outcome op.prepared s) o false
   climbed_done arena w s climb t =
       let was = halves_of op.walk.phase climb in
       let leads = climb_leads op.walk.phase w.phase climb t.follows in
@@ -345,7 +348,8 @@ module _ (c : Core) (o : ℕ) (h : StateInvariant c) (few : c.steps < 2 ^ 59) (o
   climbing climb = climbing_of op.walk.phase climb c o op (h.ops o op there).kept
 
   pub holds_among : IsClimb op.walk.phase → HoldsSplits c.arena o op.splits
-  holds_among climb k within held = climb_among op.walk.phase climb op.walk op.splits k (holds_here c (shown c) o refl h few op there op.walk.phase refl k within held)
+  holds_among climb k within held =
+      climb_among op.walk.phase climb op.walk op.splits k (holds_here c (shown c) o refl h few op there op.walk.phase refl k within held)
 
   pub climb_done : (arena : ArenaView) (w : Walk) (s : Splits) → IsClimb op.walk.phase → IsClimbFrom op.walk.phase o c.arena arena op.walk w op.splits s
       → Gives (shown c) (splitting c arena c.tape c.accounts o op w op.outcome op.prepared s) o false
@@ -372,7 +376,8 @@ module _ (c : Core) (o : ℕ) (h : StateInvariant c) (few : c.steps < 2 ^ 59) (o
     starts_on = subst (λ (p : Phase). IsOfKind p op.walk.writes) at_start always.kind
 
     -- the right half of the full node is made
-    started_done : (arena : ArenaView) (w : Walk) (s : Splits) → StartsSplit c o op arena w s → Gives (shown c) (splitting c arena c.tape c.accounts o op w op.outcome op.prepared s) o false
+    started_done : (arena : ArenaView) (w : Walk) (s : Splits) → StartsSplit c o op arena w s
+        → Gives (shown c) (splitting c arena c.tape c.accounts o op w op.outcome op.prepared s) o false
     started_done arena w s t =
         let after = went_with op (c.steps + 1) w op.outcome op.prepared s in
         let new = splitting c arena c.tape c.accounts o op w op.outcome op.prepared s in
@@ -410,7 +415,8 @@ module _ (c : Core) (o : ℕ) (h : StateInvariant c) (few : c.steps < 2 ^ 59) (o
           moves = moves_by c o arena h (subst (LeavesNodes o c.arena) (sym t.is.is) (half_leaves t.is.low)) t.keeps.guarantee t.keeps.contents;
           walk = t.walk;
           same = t.keeps.same;
-          kept = λ prepared has. t.kept op.task prepared refl (subst (λ (x : Prepared). IsAtSplitStart c.arena o op.task x op.walk) (same_Some starting.prepared prepared (sym starting.has ∙ has)) starting.starts);
+          kept =
+              λ prepared has. t.kept op.task prepared refl (subst (λ (x : Prepared). IsAtSplitStart c.arena o op.task x op.walk) (same_Some starting.prepared prepared (sym starting.has ∙ has)) starting.starts);
           holds = t.holds start_only;
         }))
 
@@ -452,7 +458,8 @@ module _ (c : Core) (o : ℕ) (h : StateInvariant c) (few : c.steps < 2 ^ 59) (o
         (subst (Touches o c.arena) (sym g.is) (replaced_touches c.arena k within (unlocked n) o (inl starting.starts.holds.judged.held.holder)))
         true (sym (ap is_done ends)))
       where
-        free : (within : op.walk.place.node < length c.arena.nodes) (j : ℕ) → j < length (with_node c.arena op.walk.place.node (unlocked (at c.arena op.walk.place.node))).nodes
+        free : (within : op.walk.place.node < length c.arena.nodes) (j : ℕ)
+            → j < length (with_node c.arena op.walk.place.node (unlocked (at c.arena op.walk.place.node))).nodes
             → (at (with_node c.arena op.walk.place.node (unlocked (at c.arena op.walk.place.node))) j).holder ≡ Some o → ⊥
         free within j inside holds = let r = replaced_at c.arena op.walk.place.node within (unlocked (at c.arena op.walk.place.node)) j inside in elim r.1 [
           | inl same ↦ let no = ap (λ (m : NodeView). m.holder) (sym same.1) ∙ holds in cc
@@ -482,7 +489,8 @@ module _ (c : Core) (o : ℕ) (h : StateInvariant c) (few : c.steps < 2 ^ 59) (o
     ]
 
     -- the locks of all nodes of the splits are given back
-    pub return_done : (arena : ArenaView) (w : Walk) (s : Splits) → IsUnlockAll o c.arena arena op.walk w op.splits s → Gives (shown c) (splitting c arena c.tape c.accounts o op w op.outcome op.prepared s) o true
+    pub return_done : (arena : ArenaView) (w : Walk) (s : Splits) → IsUnlockAll o c.arena arena op.walk w op.splits s
+        → Gives (shown c) (splitting c arena c.tape c.accounts o op w op.outcome op.prepared s) o true
     return_done arena w s t =
         let after = went_with op (c.steps + 1) w op.outcome op.prepared s in
         let new = splitting c arena c.tape c.accounts o op w op.outcome op.prepared s in

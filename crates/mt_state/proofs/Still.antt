@@ -137,8 +137,10 @@ module _ (c : Core) (now : StateView) (o : ℕ) (is : shown c ≡ now) (h : Stat
   still w told = quiet c c.arena c.tape.reserved o (went op (c.steps + 1) w told op.prepared)
 
   -- a step that leads it on so
-  pub still_gives : (w : Walk) (told : Option Outcome) → MayFollow op.walk.phase w.phase → IsUnready w.phase → w.writes ≡ op.walk.writes → IsOfKind w.phase w.writes → change_in (view_of (went op (c.steps + 1) w told op.prepared)) ≡ change_in (view_of op)
-      → Notes (shown c) (view_of op) op.walk.phase w.phase told → change_in (view_of op) ≡ None → IsKeptAt w.phase (still w told) o (went op (c.steps + 1) w told op.prepared)
+  pub still_gives : (w : Walk) (told : Option Outcome) → MayFollow op.walk.phase w.phase → IsUnready w.phase → w.writes ≡ op.walk.writes
+      → IsOfKind w.phase w.writes → change_in (view_of (went op (c.steps + 1) w told op.prepared)) ≡ change_in (view_of op)
+      → Notes (shown c) (view_of op) op.walk.phase w.phase told → change_in (view_of op) ≡ None
+      → IsKeptAt w.phase (still w told) o (went op (c.steps + 1) w told op.prepared)
       → (done : Bool) → done ≡ is_done w.phase → Gives now (still w told) o done
   still_gives w told follows unready writes kind same notes unchanged kept done ends =
       let after = went op (c.steps + 1) w told op.prepared in
@@ -157,7 +159,8 @@ module _ (c : Core) (now : StateView) (o : ℕ) (is : shown c ≡ now) (h : Stat
         task = refl;
         held = λ k within held. absurd (holds_nothing k within held);
         kept = own;
-        reserved = let none = unready_none op op.walk.phase refl (free_unready op.walk.phase free) in let no = unready_none after w.phase refl unready in omega (arith, none, no);
+        reserved =
+            let none = unready_none op op.walk.phase refl (free_unready op.walk.phase free) in let no = unready_none after w.phase refl unready in omega (arith, none, no);
       }))
       (record {
         logs = refl;

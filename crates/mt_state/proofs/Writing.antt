@@ -79,7 +79,8 @@ module _ (old new : Core) (o : ℕ) (before after : Operation) (h : StateInvaria
 
     put_before : (b : Bool) → is_get (ask before.task) ≡ b → is_get (ask before.task) ≡ false
     put_before false is = is
-    put_before true is = absurd (both_ways _ (ap is_change p.told ∙ get_looks (quota_of (shown old) before.task.tenant) (ask before.task) (tenant_map before.task.tenant (content_of old.arena)) is) p.changes)
+    put_before true is =
+        absurd (both_ways _ (ap is_change p.told ∙ get_looks (quota_of (shown old) before.task.tenant) (ask before.task) (tenant_map before.task.tenant (content_of old.arena)) is) p.changes)
 
     put_after : is_get (ask after.task) ≡ false
     put_after = ap (λ (t : Task). is_get (ask t)) m.task ∙ put_before (is_get (ask before.task)) refl

@@ -47,11 +47,13 @@ pub record IsTape (c : Core) : Type 0 where
 
 -- a step is the one that placed a key's row: it was made, the key was not written after it, and the tape has its write where it goes back so far
 abbrev pub IsStampOf : ℕ → Kept → ℕ × Bytes → ℕ → Type 0
-IsStampOf steps tape q s = (s ≤ steps) × IsUnwrittenSince tape.entries q s × (tape.floor < s → (e : TapeEntry) × Contains tape.entries e × (e.step ≡ s) × (written_key e ≡ q))
+IsStampOf steps tape q s =
+    (s ≤ steps) × IsUnwrittenSince tape.entries q s × (tape.floor < s → (e : TapeEntry) × Contains tape.entries e × (e.step ≡ s) × (written_key e ≡ q))
 
 -- each pair that counts has the stamp of the step that placed it
 abbrev pub AreStamps : Core → Type 0
-AreStamps c = (k : ℕ) → k < length c.arena.nodes → counts c.arena.trees (at c.arena k) ≡ true → AllStamped (IsStampOf c.steps c.tape) (tree_of c.arena k).prefix (at c.arena k).slots
+AreStamps c =
+    (k : ℕ) → k < length c.arena.nodes → counts c.arena.trees (at c.arena k) ≡ true → AllStamped (IsStampOf c.steps c.tape) (tree_of c.arena k).prefix (at c.arena k).slots
 
 -- no node's version counts more changes than steps were made
 pub record IsCountedUpTo (steps : ℕ) (n : NodeView) : Type 0 where

@@ -52,7 +52,8 @@ pub record IsOpenOperation (c : Core) (op : Operation) : Type 0 where
 -- the outcome of a get, by what it took: that the key is missing, or the columns that it asks of the row
 abbrev pub TellsTaken : Operation → Option Columns → Taken → Type 0
 TellsTaken op row Missing = Says op.outcome replies.Absent op.walk.right_at
-TellsTaken op row Row = (columns : Columns) × (asked : List ℕ) × (row ≡ Some columns) × (columns_asked (ask op.task) ≡ Some asked) × Says op.outcome (replies.Found (columns_shown asked columns)) op.walk.right_at
+TellsTaken op row Row =
+    (columns : Columns) × (asked : List ℕ) × (row ≡ Some columns) × (columns_asked (ask op.task) ≡ Some asked) × Says op.outcome (replies.Found (columns_shown asked columns)) op.walk.right_at
 TellsTaken op row (Link tree) = op.outcome ≡ None
 TellsTaken op row Nothing = op.outcome ≡ None
 

@@ -71,7 +71,8 @@ pub record ShowsRow (old : StateView) (op : OperationView) (told : Option Outcom
   pub since : op.first ≤ number
   pub made : number ≤ old.steps
   pub stood : (m : ℕ) → number ≤ m → pairs.get (map_of old key.0 m) key.1 ≡ Some row
-  pub wrote : op.first < number → (entry : TapeEntry) × Contains old.tape.entries entry × (entry.step ≡ number) × (written_key entry ≡ key) × (entry.after ≡ Some row)
+  pub wrote : op.first < number
+      → (entry : TapeEntry) × Contains old.tape.entries entry × (entry.step ≡ number) × (written_key entry ≡ key) × (entry.after ≡ Some row)
   pub own : op.last ≡ old.steps → key ≡ key_asked op
 
 -- or it shows none, since it took a link, or somebody made a step since its search

@@ -88,7 +88,8 @@ LeadsTo Load old new o step key told s w x = GoesFromLoad (at old w.place.node) 
 LeadsTo Confirm old new o step key told s w x = IsStable (at old w.place.node).version × Confirms (at old w.place.node) w x
 LeadsTo Forward old new o step key told s w x = GoesForward w.next old key w x
 LeadsTo Lock old new o step key told s w x = ((at old w.place.node).holder ≡ None) × Locks o old new w x
-LeadsTo Judge old new o step key told s w x = JudgesKey (at old w.place.node) key w x ⊎ JudgesOther (at old w.place.node) key w x ⊎ JudgesLink (at old w.place.node) key w x ⊎ (x ≡ walk_done w)
+LeadsTo Judge old new o step key told s w x =
+    JudgesKey (at old w.place.node) key w x ⊎ JudgesOther (at old w.place.node) key w x ⊎ JudgesLink (at old w.place.node) key w x ⊎ (x ≡ walk_done w)
 LeadsTo Store old new o step key told s w x = x ≡ walk_placed w
 LeadsTo Publish old new o step key told s w x = x ≡ walk_placed w
 LeadsTo SplitStart old new o step key told s w x = (x ≡ walk_at SplitMove w) ⊎ (x ≡ walk_done w)
@@ -115,7 +116,8 @@ pub record GoesBy (old new : ArenaView) (o step : ℕ) (before after : Operation
 
 -- the step that operation o has made leads where the table says
 abbrev pub Leads : StateView → StateView → ℕ → Type 0
-Leads old new o = (before after : OperationView) → op_at old.table o ≡ Some before → op_at new.table o ≡ Some after → GoesBy old.arena new.arena o (old.steps + 1) before after
+Leads old new o =
+    (before after : OperationView) → op_at old.table o ≡ Some before → op_at new.table o ≡ Some after → GoesBy old.arena new.arena o (old.steps + 1) before after
 
 -- so does a step that moves it, and its last one
 abbrev pub LeadsOn : StateView → StateView → ℕ → Move → Type 0

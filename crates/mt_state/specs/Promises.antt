@@ -42,7 +42,8 @@ pub record IsPlacing (old new : StateView) (before after : OperationView) : Type
   pub told : reply ≡ reply_of (quota_of old before.tenant) before.command (tenant_map before.tenant (contents_of old))
   pub changes : is_change reply ≡ true
   pub outcome : after.outcome ≡ Some (record { reply = reply; at = old.steps + 1 })
-  pub makes : (t : ℕ) → tenant_map t (contents_of new) ≡ maps_after_one (quota_of old) (Some (record { tenant = before.tenant; command = before.command })) (λ u. tenant_map u (contents_of old)) t
+  pub makes : (t : ℕ)
+      → tenant_map t (contents_of new) ≡ maps_after_one (quota_of old) (Some (record { tenant = before.tenant; command = before.command })) (λ u. tenant_map u (contents_of old)) t
   pub writes : pairs.get (contents_of new) (key_asked before) ≡ Some (changed (change_of before.command) (columns_of (pairs.get (contents_of old) (key_asked before))))
   pub entry : TapeEntry
   pub pushes : new.tape.entries ≡ old.tape.entries ++ entry ∷ []

@@ -34,4 +34,5 @@ walked c o op w told = record c { steps = c.steps + 1; table = slice_set c.table
 -- the outcome of a get that took this row, or none
 pub record ShowsTaken (op : Operation) (row : Option Columns) (after : Walk) (told : Option Outcome) : Type 0 where
   pub none : row ≡ None → told ≡ None
-  pub some : (columns : Columns) (asked : List ℕ) → row ≡ Some columns → columns_asked (ask op.task) ≡ Some asked → Says told (Found (shown asked columns)) after.right_at
+  pub some : (columns : Columns) (asked : List ℕ) → row ≡ Some columns → columns_asked (ask op.task) ≡ Some asked
+      → Says told (Found (shown asked columns)) after.right_at

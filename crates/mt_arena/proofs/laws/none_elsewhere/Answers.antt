@@ -13,4 +13,5 @@ pub returns-clause-found : goal.returns-clause-found
 returns-clause-found c = λ nodes trees key layer k i pair arena at. found nodes trees arena (begun nodes trees arena.forest) key layer k i pair at
 
 pub returns-clause-once : goal.returns-clause-once
-returns-clause-once c = λ nodes trees key layer k i pair low l j other arena. stands_once nodes trees arena (begun nodes trees arena.forest) key layer k i pair low l j other
+returns-clause-once c =
+    λ nodes trees key layer k i pair low l j other arena. stands_once nodes trees arena (begun nodes trees arena.forest) key layer k i pair low l j other

@@ -10,7 +10,8 @@ use Rattle.mt_insert.specs.Climbs.{IsClimbFrom}
 use Rattle.mt_core.proofs.climbs.climb_on.Goals as goal
 
 -- the step from the phase at which the walk is
-from_here : (p : Phase) (op : ℕ) (old new : ArenaView) (before after : Walk) (s t : Splits) → before.phase ≡ p → IsClimbFrom p op old new before after s t → IsClimbFrom before.phase op old new before after s t
+from_here : (p : Phase) (op : ℕ) (old new : ArenaView) (before after : Walk) (s t : Splits) → before.phase ≡ p
+    → IsClimbFrom p op old new before after s t → IsClimbFrom before.phase op old new before after s t
 from_here p op old new before after s t at_p = subst (λ (q : Phase). IsClimbFrom q op old new before after s t) (sym at_p)
 
 pub returns-in-SplitPrev : goal.returns-in-SplitPrev

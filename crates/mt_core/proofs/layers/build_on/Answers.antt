@@ -12,11 +12,13 @@ use Rattle.mt_core.specs.Layers.{TellsBuilt}
 use Rattle.mt_core.proofs.layers.build_on.Goals as goal
 
 -- the step from the phase at which the walk is
-from_here : (p : Phase) (o : ℕ) (key : Bytes) (old new : ArenaView) (before after : Walk) → before.phase ≡ p → IsLayerFrom p o key old new before after → IsLayerFrom before.phase o key old new before after
+from_here : (p : Phase) (o : ℕ) (key : Bytes) (old new : ArenaView) (before after : Walk) → before.phase ≡ p
+    → IsLayerFrom p o key old new before after → IsLayerFrom before.phase o key old new before after
 from_here p o key old new before after at_p = subst (λ (q : Phase). IsLayerFrom q o key old new before after) (sym at_p)
 
 -- the tree was made, or there was no memory for it
-made_or_not : (r : Result (Unit {0}) AllocError) (o : ℕ) (key : Bytes) (old new : ArenaView) (before after : Walk) → before.phase ≡ MakeLayer → OnOk r (IsMakeLayer o key old new before after) → OnErr r (IsUnlock o old new before after)
+made_or_not : (r : Result (Unit {0}) AllocError) (o : ℕ) (key : Bytes) (old new : ArenaView) (before after : Walk) → before.phase ≡ MakeLayer
+    → OnOk r (IsMakeLayer o key old new before after) → OnErr r (IsUnlock o old new before after)
     → TellsBuilt o old new key before after r
 made_or_not (Ok done) o key old new before after at_make makes unlocks = from_here MakeLayer o key old new before after at_make makes
 made_or_not (Err error) o key old new before after at_make makes unlocks = (at_make, unlocks)

@@ -19,10 +19,13 @@ returns-clause-store c = λ v op task prepared w arena kept. row_here v op task.
 pub returns-clause-publish : goal.returns-clause-publish
 returns-clause-publish c = λ v op task prepared w arena kept. none_here v op task.key w arena kept.holds kept.missing
 
-by_phase : (v : ArenaView) (op : ℕ) (task : Task) (prepared : Prepared) (w : Walk) (phase : Phase) → IsArena v.nodes v.trees → KeptReady phase v op task prepared w → get (content_of v) (owned task.key) ≡ prepared.write.before
-by_phase v op task prepared w Store arena kept = row_here v op task.key w arena kept.holds w.slot kept.pair kept.in_slot kept.stable ∙ sym (ap (λ (e : Write). e.before) kept.ready.write)
+by_phase : (v : ArenaView) (op : ℕ) (task : Task) (prepared : Prepared) (w : Walk) (phase : Phase) → IsArena v.nodes v.trees
+    → KeptReady phase v op task prepared w → get (content_of v) (owned task.key) ≡ prepared.write.before
+by_phase v op task prepared w Store arena kept =
+    row_here v op task.key w arena kept.holds w.slot kept.pair kept.in_slot kept.stable ∙ sym (ap (λ (e : Write). e.before) kept.ready.write)
 by_phase v op task prepared w Publish arena kept = none_here v op task.key w arena kept.holds kept.missing ∙ sym (ap (λ (e : Write). e.before) kept.ready.write)
-by_phase v op task prepared w SplitStart arena kept = none_here v op task.key w arena kept.holds kept.missing ∙ sym (ap (λ (e : Write). e.before) kept.ready.write)
+by_phase v op task prepared w SplitStart arena kept =
+    none_here v op task.key w arena kept.holds kept.missing ∙ sym (ap (λ (e : Write). e.before) kept.ready.write)
 by_phase v op task prepared w _ arena kept = absurd kept
 
 pub returns-clause-write : goal.returns-clause-write

@@ -3,10 +3,12 @@ use Rattle.mt_arena.proofs.Inserting.{apart_j, is_new, sound_right, step_right, 
 use Rattle.mt_arena.proofs.arena.Arena.insert_child.Goals as goal
 
 pub put_child-requires-clause-differ : goal.put_child-requires-clause-differ
-put_child-requires-clause-differ c = apart_j c.self.inside.nodes.items c.args.parent c.args.left c.args.right c.self.invariant.arena.nodes (rw (← c.self.view_is) at c.requires).inserts
+put_child-requires-clause-differ c =
+    apart_j c.self.inside.nodes.items c.args.parent c.args.left c.args.right c.self.invariant.arena.nodes (rw (← c.self.view_is) at c.requires).inserts
 
 pub put_child-requires-clause-missing : goal.put_child-requires-clause-missing
-put_child-requires-clause-missing c = is_new c.self.inside.nodes.items c.args.parent c.args.left c.args.right c.self.invariant.arena.nodes (rw (← c.self.view_is) at c.requires).inserts
+put_child-requires-clause-missing c =
+    is_new c.self.inside.nodes.items c.args.parent c.args.left c.args.right c.self.invariant.arena.nodes (rw (← c.self.view_is) at c.requires).inserts
 
 pub invariant_of-self : goal.invariant_of-self
 invariant_of-self c =

@@ -11,7 +11,8 @@ invariant_of-self c =
     (record { arena = c.self.invariant.arena; retired = c.self.invariant.retired; enough = omega (arith, c.self.invariant.enough, room.no_less) })
 
 pub part_parent-requires-clause-differ : goal.part_parent-requires-clause-differ
-part_parent-requires-clause-differ c = apart_j c.self.inside.nodes.items c.args.parent c.args.left c.args.right c.self.invariant.arena.nodes (rw (← c.self.view_is) at c.requires).inserts
+part_parent-requires-clause-differ c =
+    apart_j c.self.inside.nodes.items c.args.parent c.args.left c.args.right c.self.invariant.arena.nodes (rw (← c.self.view_is) at c.requires).inserts
 
 pub part_parent-requires-clause-missing : goal.part_parent-requires-clause-missing
 part_parent-requires-clause-missing c =

@@ -35,8 +35,10 @@ invariant_of-self c = (gives_ok c).0
 pub returns-in-Ok : goal.returns-in-Ok
 returns-in-Ok c = (gives_ok c).1
 
-gives_err : (c : goal.After-go_on_with) → Gives (shown c.args.self.now) (made (core_of c.self.inside) c.build_on-built.new.arena c.self.inside.tape c.self.inside.tenants c.go_on_with.new.self) c.args.id true
-gives_err c = stop_made (core_of c.self.inside) _ c.args.id c.self.view_is c.self.invariant _ c.open-operation.ensures c.requires.few _ _ _ _ c.in-Err.ensures.0 c.in-Err.ensures.1 c.no_memory.ensures c.go_on_with.ensures.moves
+gives_err : (c : goal.After-go_on_with)
+    → Gives (shown c.args.self.now) (made (core_of c.self.inside) c.build_on-built.new.arena c.self.inside.tape c.self.inside.tenants c.go_on_with.new.self) c.args.id true
+gives_err c =
+    stop_made (core_of c.self.inside) _ c.args.id c.self.view_is c.self.invariant _ c.open-operation.ensures c.requires.few _ _ _ _ c.in-Err.ensures.0 c.in-Err.ensures.1 c.no_memory.ensures c.go_on_with.ensures.moves
 
 pub invariant_of-self-in-Err : goal.invariant_of-self-in-Err
 invariant_of-self-in-Err c = (gives_err c).0
@@ -45,5 +47,6 @@ pub returns-in-Err : goal.returns-in-Err
 returns-in-Err c = record {
   tells = (gives_err c).1;
   nears = tt;
-  leads = stop_leads (core_of c.self.inside) _ c.args.id c.self.view_is c.self.invariant _ c.open-operation.ensures _ _ _ _ c.in-Err.ensures.0 c.in-Err.ensures.1 c.go_on_with.ensures.moves;
+  leads =
+      stop_leads (core_of c.self.inside) _ c.args.id c.self.view_is c.self.invariant _ c.open-operation.ensures _ _ _ _ c.in-Err.ensures.0 c.in-Err.ensures.1 c.go_on_with.ensures.moves;
 }

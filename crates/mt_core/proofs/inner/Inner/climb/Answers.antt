@@ -3,7 +3,8 @@ use Rattle.mt_core.proofs.ClimbSteps.{open_mid, climb_phase, climb_kept, may_cli
 use Rattle.mt_core.proofs.inner.Inner.climb.Goals as goal
 
 pub open-requires : goal.open-requires
-open-requires c = open_mid (core_of c.self.inside) _ c.args.id c.self.view_is c.self.invariant c.requires.next _ _ _ c.swap_splits.ensures.gives c.swap_splits.ensures.takes
+open-requires c =
+    open_mid (core_of c.self.inside) _ c.args.id c.self.view_is c.self.invariant c.requires.next _ _ _ c.swap_splits.ensures.gives c.swap_splits.ensures.takes
 
 pub climb_on-climbed-requires-clause-phase : goal.climb_on-climbed-requires-clause-phase
 climb_on-climbed-requires-clause-phase c =

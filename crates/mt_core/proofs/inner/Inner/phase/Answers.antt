@@ -7,4 +7,5 @@ use Rattle.mt_core.specs.States.{core_of}
 use Rattle.mt_core.proofs.inner.Inner.phase.Goals as goal
 
 pub returns : goal.returns
-returns c = c.next_phase.ensures ∙ sym (ap phase_in (shown_at (core_of c.self.inside).table c.args.id)) ∙ ap (λ (k : Core). phase_in (op_at (shown k).table c.args.id)) c.self.view_is
+returns c =
+    c.next_phase.ensures ∙ sym (ap phase_in (shown_at (core_of c.self.inside).table c.args.id)) ∙ ap (λ (k : Core). phase_in (op_at (shown k).table c.args.id)) c.self.view_is

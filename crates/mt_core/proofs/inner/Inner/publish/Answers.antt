@@ -14,19 +14,23 @@ pub taken_out-prepared-requires : goal.taken_out-prepared-requires
 taken_out-prepared-requires c = publish_has (core_of c.self.inside) _ c.args.id c.self.view_is c.self.invariant c.requires.next
 
 pub open-operation-requires : goal.open-operation-requires
-open-operation-requires c = open_after (core_of c.self.inside) _ c.args.id c.self.view_is c.self.invariant Publish c.requires.next _ _ c.taken_out-prepared.ensures
+open-operation-requires c =
+    open_after (core_of c.self.inside) _ c.args.id c.self.view_is c.self.invariant Publish c.requires.next _ _ c.taken_out-prepared.ensures
 
 pub publish-is_new-requires-clause-put : goal.publish-is_new-requires-clause-put
-publish-is_new-requires-clause-put c = put_is (core_of c.self.inside) _ c.args.id c.self.view_is c.self.invariant Publish c.requires.next _ _ c.taken_out-prepared.ensures _ c.open-operation.ensures tt
+publish-is_new-requires-clause-put c =
+    put_is (core_of c.self.inside) _ c.args.id c.self.view_is c.self.invariant Publish c.requires.next _ _ c.taken_out-prepared.ensures _ c.open-operation.ensures tt
 
 pub publish-is_new-requires-clause-kept : goal.publish-is_new-requires-clause-kept
-publish-is_new-requires-clause-kept c = publish_at (core_of c.self.inside) _ c.args.id c.self.view_is c.self.invariant c.requires.next _ _ c.taken_out-prepared.ensures _ c.open-operation.ensures
+publish-is_new-requires-clause-kept c =
+    publish_at (core_of c.self.inside) _ c.args.id c.self.view_is c.self.invariant c.requires.next _ _ c.taken_out-prepared.ensures _ c.open-operation.ensures
 
 pub publish-is_new-requires-clause-reserved : goal.publish-is_new-requires-clause-reserved
 publish-is_new-requires-clause-reserved c = room_is (core_of c.self.inside) _ c.args.id c.self.view_is c.self.invariant Publish c.requires.next refl
 
 pub go_on_with-requires : goal.go_on_with-requires
-go_on_with-requires c = may_go_on (core_of c.self.inside) _ c.args.id c.self.view_is c.self.invariant Publish c.requires.next _ _ c.taken_out-prepared.ensures refl
+go_on_with-requires c =
+    may_go_on (core_of c.self.inside) _ c.args.id c.self.view_is c.self.invariant Publish c.requires.next _ _ c.taken_out-prepared.ensures refl
 
 abbrev after : goal.After-go_on_with → Core
 after c = made (core_of c.self.inside) c.publish-is_new.new.arena c.publish-is_new.new.tape c.publish-is_new.new.tenants c.go_on_with.new.self

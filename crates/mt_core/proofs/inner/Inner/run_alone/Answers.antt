@@ -26,12 +26,15 @@ loop-preserved c =
 
 pub returns-in_default : goal.returns-in_default
 returns-in_default c = record {
-  runs = run_stops (shown c.args.self.now) (shown c.loop.self) (shown c.step.new.self) c.args.id c.loop.counter c.step.result c.loop.invariant.chain c.in_default.not-Moved c.step.ensures.tells;
+  runs =
+      run_stops (shown c.args.self.now) (shown c.loop.self) (shown c.step.new.self) c.args.id c.loop.counter c.step.result c.loop.invariant.chain c.in_default.not-Moved c.step.ensures.tells;
   alone = λ op alone. alone_stops c.args.self.now c.loop.self c.step.new.self c.args.id op c.loop.counter c.step.result c.loop.invariant.kept alone
       (c.loop.invariant.alone op alone) c.in_default.not-Moved c.step.ensures;
-  ends = λ op undisturbed. undisturbed_stops c.args.self.now c.loop.self c.step.new.self c.args.id op c.loop.counter c.step.result c.loop.invariant.kept undisturbed
+  ends =
+      λ op undisturbed. undisturbed_stops c.args.self.now c.loop.self c.step.new.self c.args.id op c.loop.counter c.step.result c.loop.invariant.kept undisturbed
       (chain_number c.loop.counter (shown c.args.self.now) (shown c.loop.self) c.args.id c.loop.invariant.chain) (c.loop.invariant.undisturbed op undisturbed) c.in_default.not-Moved c.step.ensures;
 }
 
 pub unreachable-requires : goal.unreachable-requires
-unreachable-requires c = omega (arith, c.loop-test.false, chain_ends c.loop.counter (shown c.args.self.now) c.loop.self c.args.id c.loop.invariant.chain c.loop.invariant.kept)
+unreachable-requires c =
+    omega (arith, c.loop-test.false, chain_ends c.loop.counter (shown c.args.self.now) c.loop.self c.args.id c.loop.invariant.chain c.loop.invariant.kept)

@@ -13,5 +13,6 @@ invariant-loop l = record {
   kept : StateInvariant l.self;
   chain : IsChain l.counter (shown l.initial.self) (shown l.self) l.id;
   alone : (op : OperationView) → IsAlone (shown l.initial.self) l.id op → GoesAlone l.initial.self l.self l.id op l.counter;
-  undisturbed : (op : OperationView) → IsUndisturbed (shown l.initial.self) l.id op → IsUnhindered l.self l.id (live_count l.initial.self.arena.nodes) l.counter;
+  undisturbed : (op : OperationView) → IsUndisturbed (shown l.initial.self) l.id op
+      → IsUnhindered l.self l.id (live_count l.initial.self.arena.nodes) l.counter;
 }

@@ -11,7 +11,8 @@ pub taken_out-prepared-requires : goal.taken_out-prepared-requires
 taken_out-prepared-requires c = move_has (core_of c.self.inside) _ c.args.id c.self.view_is c.self.invariant c.requires.few c.requires.next
 
 pub open-operation-requires : goal.open-operation-requires
-open-operation-requires c = move_open (core_of c.self.inside) _ c.args.id c.self.view_is c.self.invariant c.requires.few c.requires.next _ _ c.taken_out-prepared.ensures
+open-operation-requires c =
+    move_open (core_of c.self.inside) _ c.args.id c.self.view_is c.self.invariant c.requires.few c.requires.next _ _ c.taken_out-prepared.ensures
 
 pub split_move-is_new-requires-clause-put : goal.split_move-is_new-requires-clause-put
 split_move-is_new-requires-clause-put c =
@@ -25,7 +26,8 @@ pub split_move-is_new-requires-clause-reserved : goal.split_move-is_new-requires
 split_move-is_new-requires-clause-reserved c = move_reserved (core_of c.self.inside) _ c.args.id c.self.view_is c.self.invariant c.requires.few c.requires.next
 
 pub go_on_with-requires : goal.go_on_with-requires
-go_on_with-requires c = may_part (core_of c.self.inside) _ c.args.id c.self.view_is c.self.invariant c.requires.few c.requires.next _ _ c.taken_out-prepared.ensures
+go_on_with-requires c =
+    may_part (core_of c.self.inside) _ c.args.id c.self.view_is c.self.invariant c.requires.few c.requires.next _ _ c.taken_out-prepared.ensures
 
 steps_on : (c : goal.After-go_on_with)
     → StateInvariant (made (core_of c.self.inside) c.split_move-is_new.new.arena c.split_move-is_new.new.tape c.split_move-is_new.new.tenants c.go_on_with.new.self)

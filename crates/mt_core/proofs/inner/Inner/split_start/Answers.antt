@@ -10,7 +10,8 @@ use Rattle.mt_core.proofs.inner.Inner.split_start.Goals.{After-go_on_with}
 use Rattle.mt_core.proofs.inner.Inner.split_start.Goals as goal
 
 pub open-operation-requires : goal.open-operation-requires
-open-operation-requires c = open_after (core_of c.self.inside) _ c.args.id c.self.view_is c.self.invariant c.requires.few SplitStart c.requires.next _ _ c.swap_splits.ensures.takes
+open-operation-requires c =
+    open_after (core_of c.self.inside) _ c.args.id c.self.view_is c.self.invariant c.requires.few SplitStart c.requires.next _ _ c.swap_splits.ensures.takes
 
 pub split_start-begun-requires-clause-kept : goal.split_start-begun-requires-clause-kept
 split_start-begun-requires-clause-kept c =
@@ -28,7 +29,8 @@ pub go_on-requires : goal.go_on-requires
 go_on-requires c =
     may_go_on (core_of c.self.inside) _ c.args.id c.self.view_is c.self.invariant c.requires.few SplitStart c.requires.next _ _ c.swap_splits.ensures.takes _ _ c.swap_splits-2.ensures.takes refl
 
-steps_on : (c : goal.After-drop-splits) → StateInvariant (made (core_of c.self.inside) c.split_start-begun.new.arena c.split_start-begun.new.tape c.self.inside.tenants c.go_on.new.self)
+steps_on : (c : goal.After-drop-splits)
+    → StateInvariant (made (core_of c.self.inside) c.split_start-begun.new.arena c.split_start-begun.new.tape c.self.inside.tenants c.go_on.new.self)
     × StepsOn c.args.self.now (made (core_of c.self.inside) c.split_start-begun.new.arena c.split_start-begun.new.tape c.self.inside.tenants c.go_on.new.self) c.args.id Moved
 steps_on c =
     start_steps (core_of c.self.inside) _ c.args.id c.self.view_is c.self.invariant c.requires.few c.requires.next _ _ c.swap_splits.ensures.takes _ c.open-operation.ensures _ _ c.swap_splits-2.ensures.takes _ _ _ _ c.swap_splits.ensures.gives c.in-Ok.ensures.starts _ c.go_on.ensures.moves
@@ -44,7 +46,8 @@ go_on_with-requires c =
     may_stop (core_of c.self.inside) _ c.args.id c.self.view_is c.self.invariant c.requires.few c.requires.next _ _ c.swap_splits.ensures.takes _ c.open-operation.ensures _ _ c.swap_splits-2.ensures.takes
     c.split_start-begun.new.arena c.split_start-begun.new.tape c.split_start-begun.new.walk _ c.take_prepared.ensures.takes
 
-stops : (c : After-go_on_with) → StateInvariant (made (core_of c.self.inside) c.split_start-begun.new.arena c.split_start-begun.new.tape c.self.inside.tenants c.go_on_with.new.self)
+stops : (c : After-go_on_with)
+    → StateInvariant (made (core_of c.self.inside) c.split_start-begun.new.arena c.split_start-begun.new.tape c.self.inside.tenants c.go_on_with.new.self)
     × StepsOn c.args.self.now (made (core_of c.self.inside) c.split_start-begun.new.arena c.split_start-begun.new.tape c.self.inside.tenants c.go_on_with.new.self) c.args.id Done
 stops c =
     start_stops (core_of c.self.inside) _ c.args.id c.self.view_is c.self.invariant c.requires.few c.requires.next _ _ c.swap_splits.ensures.takes _ c.open-operation.ensures _ _ c.swap_splits-2.ensures.takes _ _ _ _ c.take_prepared.ensures.takes c.in-Err.ensures.stops _ c.no_memory.ensures _ c.go_on_with.ensures.moves

@@ -31,5 +31,6 @@ returns-else-is_outdated-clause-locks c =
       keeps = search rules;
       kept = search rules;
       judged = search rules;
-      settled = λ judging. rw c.lock.ensures.is (settled_locked c.args.arena.now.nodes k c.args.operation c.requires.kept.covers.remembered.there c.facts.ensures.arena.nodes free);
+      settled =
+          λ judging. rw c.lock.ensures.is (settled_locked c.args.arena.now.nodes k c.args.operation c.requires.kept.covers.remembered.there c.facts.ensures.arena.nodes free);
     }

@@ -28,4 +28,5 @@ returns-in-Slot-default-Link c =
     )
 
 pub returns-in-Slot-default-OtherLong : goal.returns-in-Slot-default-OtherLong
-returns-in-Slot-default-OtherLong c = (refl, inl (record { stays = refl; slot = c.in-Slot-default-OtherLong.slot; walk = refl; keeps = search rules; kept = search rules }))
+returns-in-Slot-default-OtherLong c =
+    (refl, inl (record { stays = refl; slot = c.in-Slot-default-OtherLong.slot; walk = refl; keeps = search rules; kept = search rules }))

@@ -12,8 +12,10 @@ use Rattle.mt_insert.proofs.LockingParents.{parent_made, another_holds, parent_o
 use Rattle.mt_insert.proofs.phases.lock_parent.lock_parent.Goals as goal
 
 -- what the left half tells of its parent
-parent_is : (v : ArenaView) (last halves : Halves) (n : NodeView) (told parent : Option ℕ) → halves ≡ last → n ≡ at v halves.left → told ≡ n.parent → told ≡ parent → (at v last.left).parent ≡ parent
-parent_is v last halves n told parent same node tells is = ap (λ (h : Halves). (at v h.left).parent) (sym same) ∙ ap (λ (x : NodeView). x.parent) (sym node) ∙ sym tells ∙ is
+parent_is : (v : ArenaView) (last halves : Halves) (n : NodeView) (told parent : Option ℕ) → halves ≡ last → n ≡ at v halves.left → told ≡ n.parent
+    → told ≡ parent → (at v last.left).parent ≡ parent
+parent_is v last halves n told parent same node tells is =
+    ap (λ (h : Halves). (at v h.left).parent) (sym same) ∙ ap (λ (x : NodeView). x.parent) (sym node) ∙ sym tells ∙ is
 
 -- and the parent of its holder
 holder_is : (v : ArenaView) (p : ℕ) (n : NodeView) (told holder : Option ℕ) → n ≡ at v p → told ≡ n.holder → told ≡ holder → (at v p).holder ≡ holder

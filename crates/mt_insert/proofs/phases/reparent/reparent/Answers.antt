@@ -12,7 +12,8 @@ use Rattle.mt_insert.proofs.Reparenting.{child_no_root, child_range, child_knows
 use Rattle.mt_insert.proofs.phases.reparent.reparent.Goals as goal
 
 -- the list that was read is that of the right half's children
-listed : (v : ArenaView) (last halves : Halves) (n : NodeView) (list : List ℕ) → halves ≡ last → at v halves.right ≡ n → list ≡ n.children → list ≡ (at v last.right).children
+listed : (v : ArenaView) (last halves : Halves) (n : NodeView) (list : List ℕ) → halves ≡ last → at v halves.right ≡ n → list ≡ n.children
+    → list ≡ (at v last.right).children
 listed v last halves n list same node is = is ∙ ap (λ (x : NodeView). x.children) (sym node) ∙ ap (λ (h : Halves). (at v h.right).children) same
 
 -- and what the child's edit makes
@@ -71,7 +72,8 @@ returns-else-splits-count c =
       splits = grind (arith, common_steps, of, c.if-splits-count.false);
       on = record {
         keeps = search rules;
-        kept = rw is (more_kept v c.args.operation s c.facts.ensures.arena c.requires.kept (λ same. c.if-splits-count.false (same ∙ ap (λ (cs : List ℕ). length cs) (sym of))));
+        kept =
+            rw is (more_kept v c.args.operation s c.facts.ensures.arena c.requires.kept (λ same. c.if-splits-count.false (same ∙ ap (λ (cs : List ℕ). length cs) (sym of))));
         holds = rw is (child_holds v c.args.operation s c.facts.ensures.arena c.requires.kept (s.moved + 1));
       };
     }

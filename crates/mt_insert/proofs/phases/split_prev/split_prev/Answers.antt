@@ -12,8 +12,10 @@ use Rattle.mt_insert.proofs.phases.split_prev.split_prev.Goals as goal
 use Rattle.mt_insert.proofs.phases.split_prev.split_prev.Goals.{in-Some, in_default}
 
 -- what the right half tells of its next node
-next_is : (v : ArenaView) (last halves : Halves) (n : NodeView) (told next : Option ℕ) → halves ≡ last → n ≡ at v halves.right → told ≡ n.next → told ≡ next → (at v last.right).next ≡ next
-next_is v last halves n told next same node tells is = ap (λ (h : Halves). (at v h.right).next) (sym same) ∙ ap (λ (x : NodeView). x.next) (sym node) ∙ sym tells ∙ is
+next_is : (v : ArenaView) (last halves : Halves) (n : NodeView) (told next : Option ℕ) → halves ≡ last → n ≡ at v halves.right → told ≡ n.next
+    → told ≡ next → (at v last.right).next ≡ next
+next_is v last halves n told next same node tells is =
+    ap (λ (h : Halves). (at v h.right).next) (sym same) ∙ ap (λ (x : NodeView). x.next) (sym node) ∙ sym tells ∙ is
 
 pub set_previous-requires-clause-border : goal.set_previous-requires-clause-border
 set_previous-requires-clause-border c =

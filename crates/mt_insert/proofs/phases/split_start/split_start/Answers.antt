@@ -10,6 +10,8 @@ returns-in-Ok-clause-starts c = record {
   walk = search rules;
   tape_stays = search rules;
   keeps = search rules;
-  kept = λ task prepared same h. kept_start c.args.arena.now c.halve.new.arena c.args.operation c.args.key.now task prepared c.args.walk.now c.args.splits.now c.halve.new.splits c.facts.ensures.arena c.requires.none c.in-Ok.ensures.is c.in-Ok.ensures.splits same h;
-  holds = holds_start c.args.arena.now c.halve.new.arena c.args.operation c.args.key.now c.args.walk.now c.args.splits.now c.halve.new.splits c.requires.none c.in-Ok.ensures.is c.in-Ok.ensures.splits;
+  kept =
+      λ task prepared same h. kept_start c.args.arena.now c.halve.new.arena c.args.operation c.args.key.now task prepared c.args.walk.now c.args.splits.now c.halve.new.splits c.facts.ensures.arena c.requires.none c.in-Ok.ensures.is c.in-Ok.ensures.splits same h;
+  holds =
+      holds_start c.args.arena.now c.halve.new.arena c.args.operation c.args.key.now c.args.walk.now c.args.splits.now c.halve.new.splits c.requires.none c.in-Ok.ensures.is c.in-Ok.ensures.splits;
 }

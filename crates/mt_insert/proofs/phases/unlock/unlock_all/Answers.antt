@@ -4,7 +4,8 @@ use Rattle.mt_insert.proofs.Unlocking.{rest_returns, rest_room, all_returned, ho
 use Rattle.mt_insert.proofs.phases.unlock.unlock_all.Goals as goal
 
 pub unlock_halves-requires-clause-kept : goal.unlock_halves-requires-clause-kept
-unlock_halves-requires-clause-kept c = rw c.unlock_above.ensures.splits (rest_returns c.args.arena.now c.args.operation c.args.splits.now c.requires.kept c.unlock_above.new.arena c.unlock_above.ensures.is c.unlock_above.ensures.none)
+unlock_halves-requires-clause-kept c =
+    rw c.unlock_above.ensures.splits (rest_returns c.args.arena.now c.args.operation c.args.splits.now c.requires.kept c.unlock_above.new.arena c.unlock_above.ensures.is c.unlock_above.ensures.none)
 
 pub unlock_halves-requires-clause-room : goal.unlock_halves-requires-clause-room
 unlock_halves-requires-clause-room c =
@@ -13,14 +14,17 @@ unlock_halves-requires-clause-room c =
 
 pub returns : goal.returns
 returns c = record {
-  is = all_returned c.args.arena.now c.args.operation c.args.splits.now c.requires.kept c.unlock_above.new.arena c.unlock_above.ensures.is c.unlock_above.ensures.none c.unlock_halves.new.arena (rw c.unlock_above.ensures.splits at c.unlock_halves.ensures.is);
+  is =
+      all_returned c.args.arena.now c.args.operation c.args.splits.now c.requires.kept c.unlock_above.new.arena c.unlock_above.ensures.is c.unlock_above.ensures.none c.unlock_halves.new.arena (rw c.unlock_above.ensures.splits at c.unlock_halves.ensures.is);
   walk = search rules;
   keeps = record {
     same = search rules;
-    guarantee = all_step c.args.arena.now c.args.operation c.args.splits.now c.requires.kept c.unlock_above.new.arena c.unlock_above.ensures.is c.unlock_above.ensures.none c.unlock_halves.new.arena (rw c.unlock_above.ensures.splits at c.unlock_halves.ensures.is)
+    guarantee =
+        all_step c.args.arena.now c.args.operation c.args.splits.now c.requires.kept c.unlock_above.new.arena c.unlock_above.ensures.is c.unlock_above.ensures.none c.unlock_halves.new.arena (rw c.unlock_above.ensures.splits at c.unlock_halves.ensures.is)
         c.facts.ensures.arena c.unlock_above.ensures.step c.unlock_halves.ensures.step;
     contents = search rules;
   };
   unsplit = search rules;
-  nothing = holds_nothing c.args.arena.now c.args.operation c.args.splits.now c.requires.kept c.unlock_above.new.arena c.unlock_above.ensures.is c.unlock_above.ensures.none c.unlock_halves.new.arena (rw c.unlock_above.ensures.splits at c.unlock_halves.ensures.is);
+  nothing =
+      holds_nothing c.args.arena.now c.args.operation c.args.splits.now c.requires.kept c.unlock_above.new.arena c.unlock_above.ensures.is c.unlock_above.ensures.none c.unlock_halves.new.arena (rw c.unlock_above.ensures.splits at c.unlock_halves.ensures.is);
 }

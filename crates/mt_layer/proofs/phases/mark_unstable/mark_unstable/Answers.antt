@@ -13,7 +13,8 @@ pub returns : goal.returns
 returns c = record {
   is = search rules;
   walk = search rules;
-  kept = λ key h. rw (c.mark_unstable.ensures.is h.pair h.makes.layer.slot.is) (unstable c.args.arena.now c.args.operation key c.args.walk.now c.facts.ensures.arena h);
+  kept =
+      λ key h. rw (c.mark_unstable.ensures.is h.pair h.makes.layer.slot.is) (unstable c.args.arena.now c.args.operation key c.args.walk.now c.facts.ensures.arena h);
   on = record {
     keeps = search rules;
     stamps = let h = c.requires.kept.1 in
