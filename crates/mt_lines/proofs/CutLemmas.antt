@@ -83,13 +83,15 @@ tells_cut : (bytes line : Bytes) → is_silent bytes ≡ is_silent line → 6553
 tells_cut bytes line same long = record { silent = same; asked = sym (ap (λ b. cond b None (line_of line)) (less 65536 (length line) long)) }
 
 front_short : (l : Bytes) → length l ≤ 65537 → front_of l ≡ record { bytes = l; cut = false }
-front_short l short = ap (λ k. record { bytes = k; cut = nat_lt 65537 (length l) }) (take_all 65537 l short) ∙ ap (λ b. record { bytes = l; cut = b }) (not_less 65537 (length l) short)
+front_short l short =
+    ap (λ k. record { bytes = k; cut = nat_lt 65537 (length l) }) (take_all 65537 l short) ∙ ap (λ b. record { bytes = l; cut = b }) (not_less 65537 (length l) short)
 
 front_long : (l : Bytes) → 65537 < length l → front_of l ≡ record { bytes = take 65537 l; cut = true }
 front_long l long = ap (λ b. record { bytes = take 65537 l; cut = b }) (less 65537 (length l) long)
 
 last_case : (l : Bytes) → ((65537 < length l) ⊎ (length l ≤ 65537)) → FrontTells (front_of l) l
-last_case l (inl long) = subst (λ (f : Front). FrontTells f l) (sym (front_long l long)) (tells_cut (take 65537 l) l (silent_take 65537 l (omega arith)) (omega arith))
+last_case l (inl long) =
+    subst (λ (f : Front). FrontTells f l) (sym (front_long l long)) (tells_cut (take 65537 l) l (silent_take 65537 l (omega arith)) (omega arith))
 last_case l (inr short) = subst (λ (f : Front). FrontTells f l) (sym (front_short l short)) (tells_whole l)
 
 -- of the last line, which has no end
@@ -97,7 +99,8 @@ pub last_tells : (l : Bytes) → FrontTells (front_of l) l
 last_tells l = last_case l (less_or_not 65537 (length l))
 
 ended_case : (l : Bytes) → ((65537 < length l) ⊎ (length l ≤ 65537)) → FrontTells (without_return (front_of l)) (strip_last 13 l)
-ended_case l (inl long) = subst (λ (f : Front). FrontTells (without_return f) (strip_last 13 l)) (sym (front_long l long)) (tells_cut (take 65537 l) (strip_last 13 l) (silent_take 65537 l (omega arith) ∙ sym (strip_case l (ends_with_byte 13 l) (omega arith))) (omega (arith, strip_length l (ends_with_byte 13 l))))
+ended_case l (inl long) =
+    subst (λ (f : Front). FrontTells (without_return f) (strip_last 13 l)) (sym (front_long l long)) (tells_cut (take 65537 l) (strip_last 13 l) (silent_take 65537 l (omega arith) ∙ sym (strip_case l (ends_with_byte 13 l) (omega arith))) (omega (arith, strip_length l (ends_with_byte 13 l))))
 ended_case l (inr short) = subst (λ (f : Front). FrontTells (without_return f) (strip_last 13 l)) (sym (front_short l short)) (tells_whole (strip_last 13 l))
 
 -- of a line that ended

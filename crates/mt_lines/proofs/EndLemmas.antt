@@ -14,7 +14,8 @@ use Rattle.mt_lines.proofs.ScriptLemmas.{Progress, AreLinesAnswered-more, front_
 use Rattle.mt_streams.proofs.StreamLemmas.{Appends-nil, Appends-trans, Consumes-nil, Consumes-trans, Consumes-kept}
 
 -- the reader failed, or gave as many bytes as can be counted
-pub read_fails : (before a b held h : Option Bytes) (session : SessionView) (front : Front) (count : ℕ) (reader_failed writer_failed : Type 0) (error : _) → Progress before a held h session front count → Keeps a b
+pub read_fails : (before a b held h : Option Bytes) (session : SessionView) (front : Front) (count : ℕ) (reader_failed writer_failed : Type 0) (error : _)
+    → Progress before a held h session front count → Keeps a b
     → (reader_failed ⊎ (2 ^ 64 - 1 ≤ count)) → RunsScript before b held h reader_failed writer_failed (Err (Read error))
 read_fails before a b held h session front count reader_failed writer_failed error p kept cause = record {
   read = p.read;
@@ -49,7 +50,8 @@ record IsAt (before left held holds : Option Bytes) (session : SessionView) (lin
   lines : lines_of read ≡ lines_before ++ line ∷ behind
 
 -- it stops there with nothing of that line written, where a growth was refused
-memory_fails : (before left held holds now : Option Bytes) (session : SessionView) (line : Bytes) (behind : List Bytes) (reader_failed writer_failed : Type 0) → IsUnread Memory behind → IsAt before left held holds session line behind
+memory_fails : (before left held holds now : Option Bytes) (session : SessionView) (line : Bytes) (behind : List Bytes) (reader_failed writer_failed : Type 0)
+    → IsUnread Memory behind → IsAt before left held holds session line behind
     → Appends holds now [] → RunsScript before left held now reader_failed writer_failed (Err Memory)
 memory_fails before left held holds now session line behind reader_failed writer_failed unread p none = record {
   read = p.read;
@@ -62,8 +64,10 @@ memory_fails before left held holds now session line behind reader_failed writer
 }
 
 -- it stops there with a front of the answer written, where the writer failed
-write_fails : (before left held holds now : Option Bytes) (session new : SessionView) (line : Bytes) (behind : List Bytes) (front lost : Bytes) (reader_failed writer_failed : Type 0) (error : _) → IsUnread (Write error) behind
-    → IsAt before left held holds session line behind → IsLineAnswered session line new (front ++ lost) → Appends holds now front → writer_failed → RunsScript before left held now reader_failed writer_failed (Err (Write error))
+write_fails : (before left held holds now : Option Bytes) (session new : SessionView) (line : Bytes) (behind : List Bytes) (front lost : Bytes) (reader_failed writer_failed : Type 0) (error : _)
+    → IsUnread (Write error) behind
+    → IsAt before left held holds session line behind → IsLineAnswered session line new (front ++ lost) → Appends holds now front → writer_failed
+    → RunsScript before left held now reader_failed writer_failed (Err (Write error))
 write_fails before left held holds now session new line behind front lost reader_failed writer_failed error unread p a more failed = record {
   read = p.read;
   written = p.text ++ front;
@@ -75,16 +79,20 @@ write_fails before left held holds now session new line behind front lost reader
 }
 
 -- what was to be written of the line was not
-line_fails : (before left held holds now : Option Bytes) (session new : SessionView) (line : Bytes) (behind : List Bytes) (kept : Front) (reader_failed writer_failed failing : Type 0) (fault : ScriptFault) → (failing → writer_failed)
-    → ((behind ≡ []) ⊎ (behind ≡ [] ∷ [])) → IsAt before left held holds session line behind → ((text : Bytes) → AnswersFront session kept new text → IsLineAnswered session line new text)
+line_fails : (before left held holds now : Option Bytes) (session new : SessionView) (line : Bytes) (behind : List Bytes) (kept : Front) (reader_failed writer_failed failing : Type 0) (fault : ScriptFault)
+    → (failing → writer_failed)
+    → ((behind ≡ []) ⊎ (behind ≡ [] ∷ [])) → IsAt before left held holds session line behind
+    → ((text : Bytes) → AnswersFront session kept new text → IsLineAnswered session line new text)
     → Writes (AnswersFront session kept new) holds now failing (Err fault) → RunsScript before left held now reader_failed writer_failed (Err fault)
 line_fails before left held holds now session new line behind kept reader_failed writer_failed failing (Read e) since unread p says w = absurd w
 line_fails before left held holds now session new line behind kept reader_failed writer_failed failing (Write e) since unread p says (front, lost, a, more, failed) =
     write_fails before left held holds now session new line behind front lost reader_failed writer_failed e unread p (says (front ++ lost) a) more (since failed)
-line_fails before left held holds now session new line behind kept reader_failed writer_failed failing Memory since unread p says w = memory_fails before left held holds now session line behind reader_failed writer_failed unread p w
+line_fails before left held holds now session new line behind kept reader_failed writer_failed failing Memory since unread p says w =
+    memory_fails before left held holds now session line behind reader_failed writer_failed unread p w
 
 -- at a line that ended
-at_feed : (before a b held h : Option Bytes) (session : SessionView) (front : Front) (byte count : ℕ) (p : Progress before a held h session front count) → (byte == 10) ≡ true → Consumes a b (byte ∷ []) → IsAt before b held h session (strip_last 13 (cut_of p.read).last) ([] ∷ [])
+at_feed : (before a b held h : Option Bytes) (session : SessionView) (front : Front) (byte count : ℕ) (p : Progress before a held h session front count)
+    → (byte == 10) ≡ true → Consumes a b (byte ∷ []) → IsAt before b held h session (strip_last 13 (cut_of p.read).last) ([] ∷ [])
 at_feed before a b held h session front byte count p feed read = record {
   read = p.read ++ byte ∷ [];
   text = p.text;
@@ -92,11 +100,13 @@ at_feed before a b held h session front byte count p feed read = record {
   consumed = Consumes-trans before a b p.read (byte ∷ []) p.consumed read;
   appended = p.appended;
   answered = p.answered;
-  lines = ap (λ (c : Cut). c.ended ++ c.last ∷ []) (feed_cut p.read byte feed) ∙ append_assoc (cut_of p.read).ended (strip_last 13 (cut_of p.read).last ∷ []) ([] ∷ []);
+  lines =
+      ap (λ (c : Cut). c.ended ++ c.last ∷ []) (feed_cut p.read byte feed) ∙ append_assoc (cut_of p.read).ended (strip_last 13 (cut_of p.read).last ∷ []) ([] ∷ []);
 }
 
 -- at a line that has one byte more
-at_other : (before a b held h : Option Bytes) (session : SessionView) (front : Front) (byte count : ℕ) (p : Progress before a held h session front count) → (byte == 10) ≡ false → Consumes a b (byte ∷ []) → IsAt before b held h session ((cut_of p.read).last ++ byte ∷ []) []
+at_other : (before a b held h : Option Bytes) (session : SessionView) (front : Front) (byte count : ℕ) (p : Progress before a held h session front count)
+    → (byte == 10) ≡ false → Consumes a b (byte ∷ []) → IsAt before b held h session ((cut_of p.read).last ++ byte ∷ []) []
 at_other before a b held h session front byte count p other read = record {
   read = p.read ++ byte ∷ [];
   text = p.text;
@@ -108,7 +118,8 @@ at_other before a b held h session front byte count p other read = record {
 }
 
 -- a byte could not be taken
-pub take_fails : (before a b held h k : Option Bytes) (old new : SessionView) (front left : Front) (byte count : ℕ) (reader_failed writer_failed failing : Type 0) (fault : ScriptFault) (feeds : Bool) → (failing → writer_failed) → (byte == 10) ≡ feeds → Progress before a held h old front count → Consumes a b (byte ∷ [])
+pub take_fails : (before a b held h k : Option Bytes) (old new : SessionView) (front left : Front) (byte count : ℕ) (reader_failed writer_failed failing : Type 0) (fault : ScriptFault) (feeds : Bool)
+    → (failing → writer_failed) → (byte == 10) ≡ feeds → Progress before a held h old front count → Consumes a b (byte ∷ [])
     → TakesByte feeds byte old new front left h k failing (Err fault) → RunsScript before b held k reader_failed writer_failed (Err fault)
 take_fails before a b held h k old new front left byte count reader_failed writer_failed failing fault true since e p read t =
     line_fails before b held h k old new (strip_last 13 (cut_of p.read).last) ([] ∷ []) (without_return front) reader_failed writer_failed failing fault since (inr refl) (at_feed before a b held h old front byte count p e read)
@@ -117,7 +128,8 @@ take_fails before a b held h k old new front left byte count reader_failed write
     rw t.3 (memory_fails before b held h k old ((cut_of p.read).last ++ byte ∷ []) [] reader_failed writer_failed (inl refl) (at_other before a b held h old front byte count p e read) t.1)
 
 -- at the last line
-at_end : (before a b held h : Option Bytes) (session : SessionView) (front : Front) (count : ℕ) (p : Progress before a held h session front count) → Keeps a b → IsAt before b held h session (cut_of p.read).last []
+at_end : (before a b held h : Option Bytes) (session : SessionView) (front : Front) (count : ℕ) (p : Progress before a held h session front count)
+    → Keeps a b → IsAt before b held h session (cut_of p.read).last []
 at_end before a b held h session front count p kept = record {
   read = p.read;
   text = p.text;
@@ -129,18 +141,22 @@ at_end before a b held h session front count p kept = record {
 }
 
 -- the answer to the last line
-last_answered : (read : Bytes) (front : Front) (old new : SessionView) (text : Bytes) → front ≡ front_of (cut_of read).last → AnswersFront old front new text → IsLineAnswered old (cut_of read).last new text
-last_answered read front old new text e a = front_answered (front_of (cut_of read).last) (cut_of read).last old new text (last_tells (cut_of read).last) (subst (λ (f : Front). AnswersFront old f new text) e a)
+last_answered : (read : Bytes) (front : Front) (old new : SessionView) (text : Bytes) → front ≡ front_of (cut_of read).last
+    → AnswersFront old front new text → IsLineAnswered old (cut_of read).last new text
+last_answered read front old new text e a =
+    front_answered (front_of (cut_of read).last) (cut_of read).last old new text (last_tells (cut_of read).last) (subst (λ (f : Front). AnswersFront old f new text) e a)
 
 -- all was read
-pub ends : (before a b held h k : Option Bytes) (old new : SessionView) (front : Front) (count : ℕ) (reader_failed writer_failed failing : Type 0) (result : Result (Unit {0}) ScriptFault) → (failing → writer_failed) → Progress before a held h old front count → Keeps a b → IsAtEnd b
+pub ends : (before a b held h k : Option Bytes) (old new : SessionView) (front : Front) (count : ℕ) (reader_failed writer_failed failing : Type 0) (result : Result (Unit {0}) ScriptFault)
+    → (failing → writer_failed) → Progress before a held h old front count → Keeps a b → IsAtEnd b
     → Writes (AnswersFront old front new) h k failing result → RunsScript before b held k reader_failed writer_failed result
 ends before a b held h k old new front count reader_failed writer_failed failing (Ok u) since p kept done (answer, says, more) = record {
   read = p.read;
   written = p.text ++ answer;
   consumed = Consumes-kept before a b p.read p.consumed kept;
   appended = Appends-trans held h k p.text answer p.appended more;
-  whole = (done, (new, AreLinesAnswered-more fresh old new (cut_of p.read).ended (cut_of p.read).last p.text answer p.answered (last_answered p.read front old new answer p.front_is says)));
+  whole =
+      (done, (new, AreLinesAnswered-more fresh old new (cut_of p.read).ended (cut_of p.read).last p.text answer p.answered (last_answered p.read front old new answer p.front_is says)));
   beginning = tt;
   cause = tt;
 }
@@ -148,7 +164,8 @@ ends before a b held h k old new front count reader_failed writer_failed failing
     line_fails before b held h k old new (cut_of p.read).last [] front reader_failed writer_failed failing fault since (inl refl) (at_end before a b held h old front count p kept) (λ text says. last_answered p.read front old new text p.front_is says) w
 
 -- nothing was read or written, since a growth was refused before
-pub none_begun : (before held : Option Bytes) (reader_failed writer_failed : Type 0) → RunsScript before before held held reader_failed writer_failed (Err Memory)
+pub none_begun : (before held : Option Bytes) (reader_failed writer_failed : Type 0)
+    → RunsScript before before held held reader_failed writer_failed (Err Memory)
 none_begun before held reader_failed writer_failed =
     memory_fails before before held held held fresh [] [] reader_failed writer_failed (inl refl)
     (record { read = []; text = []; lines_before = []; consumed = Consumes-nil before; appended = Appends-nil held; answered = (refl, refl); lines = refl }) (Appends-nil held)

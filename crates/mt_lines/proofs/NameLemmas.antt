@@ -16,7 +16,8 @@ use Rattle.mt_lines.specs.Names.{Tickets, operation_of, TakesName, FreesName, Is
 two_names : (old : Tickets) (n name o : ℕ) → operation_of old n ≡ Some o → operation_of old name ≡ None → n ≢ name
 two_names old n name o e free same = none-some o (sym free ∙ ap (operation_of old) (sym same) ∙ e)
 
-takes_by_name : (old new : Tickets) (row : List (Option ℕ)) (name o n q : ℕ) → TakesName old new name o → ((other : ℕ) → operation_of old other ≢ Some o) → o < length row → IsNameRow old row
+takes_by_name : (old new : Tickets) (row : List (Option ℕ)) (name o n q : ℕ) → TakesName old new name o
+    → ((other : ℕ) → operation_of old other ≢ Some o) → o < length row → IsNameRow old row
     → operation_of new n ≡ Some q → ((n ≡ name) ⊎ (n ≢ name)) → slice_index_or (set row o (Some name)) q None ≡ Some n
 takes_by_name old new row name o n q t unnamed inside r e (inl same) =
     let here : q ≡ o = same_Some q o (sym e ∙ ap (operation_of new) same ∙ t.taken) in
@@ -36,14 +37,16 @@ takes_by_id old new row name o n q t inside r e (inr apart) =
     t.others n (two_names old n name q before t.free) ∙ before
 
 -- a name is taken: the row has it at its operation's id
-pub row_takes : (old new : Tickets) (row : List (Option ℕ)) (name o : ℕ) → TakesName old new name o → ((other : ℕ) → operation_of old other ≢ Some o) → o < length row → IsNameRow old row
+pub row_takes : (old new : Tickets) (row : List (Option ℕ)) (name o : ℕ) → TakesName old new name o → ((other : ℕ) → operation_of old other ≢ Some o)
+    → o < length row → IsNameRow old row
     → IsNameRow new (set row o (Some name))
 row_takes old new row name o t unnamed inside r = record {
   by_name = λ n q e. takes_by_name old new row name o n q t unnamed inside r e (cases_eq n name);
   by_id = λ n q e. takes_by_id old new row name o n q t inside r e (cases_eq q o);
 }
 
-frees_by_name : (old new : Tickets) (row : List (Option ℕ)) (name o n q : ℕ) → FreesName old new name → operation_of old name ≡ Some o → IsNameRow old row → operation_of new n ≡ Some q
+frees_by_name : (old new : Tickets) (row : List (Option ℕ)) (name o n q : ℕ) → FreesName old new name → operation_of old name ≡ Some o
+    → IsNameRow old row → operation_of new n ≡ Some q
     → slice_index_or (set row o None) q None ≡ Some n
 frees_by_name old new row name o n q f held r e =
     let other : n ≢ name = λ same. none-some q (sym f.freed ∙ ap (operation_of new) (sym same) ∙ e) in
@@ -52,7 +55,8 @@ frees_by_name old new row name o n q f held r e =
     let apart : q ≢ o = λ same. other (same_Some n name (sym here ∙ ap (λ k. slice_index_or row k None) same ∙ r.by_name name o held)) in
     get_or-set_other row o q None None apart ∙ here
 
-frees_by_id : (old new : Tickets) (row : List (Option ℕ)) (name o n q : ℕ) → FreesName old new name → operation_of old name ≡ Some o → o < length row → IsNameRow old row
+frees_by_id : (old new : Tickets) (row : List (Option ℕ)) (name o n q : ℕ) → FreesName old new name → operation_of old name ≡ Some o → o < length row
+    → IsNameRow old row
     → slice_index_or (set row o None) q None ≡ Some n → ((q ≡ o) ⊎ (q ≢ o)) → operation_of new n ≡ Some q
 frees_by_id old new row name o n q f held inside r e (inl here) = absurd (none-some n (sym (get_or-set_at row o q None None here inside) ∙ e))
 frees_by_id old new row name o n q f held inside r e (inr apart) =
@@ -61,14 +65,16 @@ frees_by_id old new row name o n q f held inside r e (inr apart) =
     f.others n other ∙ before
 
 -- a name is freed: the row has none at its operation's id
-pub row_frees : (old new : Tickets) (row : List (Option ℕ)) (name o : ℕ) → FreesName old new name → operation_of old name ≡ Some o → o < length row → IsNameRow old row → IsNameRow new (set row o None)
+pub row_frees : (old new : Tickets) (row : List (Option ℕ)) (name o : ℕ) → FreesName old new name → operation_of old name ≡ Some o → o < length row
+    → IsNameRow old row → IsNameRow new (set row o None)
 row_frees old new row name o f held inside r = record {
   by_name = λ n q e. frees_by_name old new row name o n q f held r e;
   by_id = λ n q e. frees_by_id old new row name o n q f held inside r e (cases_eq q o);
 }
 
 -- a row that reads the same is as good
-pub row_same : (named : Tickets) (old new : List (Option ℕ)) → ((o : ℕ) → slice_index_or new o None ≡ slice_index_or old o None) → IsNameRow named old → IsNameRow named new
+pub row_same : (named : Tickets) (old new : List (Option ℕ)) → ((o : ℕ) → slice_index_or new o None ≡ slice_index_or old o None) → IsNameRow named old
+    → IsNameRow named new
 row_same named old new same r = record {
   by_name = λ n o e. same o ∙ r.by_name n o e;
   by_id = λ n o e. r.by_id n o (sym (same o) ∙ e);
@@ -78,7 +84,8 @@ other_key : (k q : ℕ) → q ≢ k → is_eq (nat_cmp k q) ≡ false
 other_key k q ne = grind (arith, nat_tests)
 
 -- a map of tickets that has one more
-pub takes_from : (old new : BTreeMap ℕ Ticket) (name : ℕ) (ticket : Ticket) → Updates nat_cmp old new name (Some ticket) → operation_of old.entries name ≡ None → TakesName old.entries new.entries name ticket.id
+pub takes_from : (old new : BTreeMap ℕ Ticket) (name : ℕ) (ticket : Ticket) → Updates nat_cmp old new name (Some ticket)
+    → operation_of old.entries name ≡ None → TakesName old.entries new.entries name ticket.id
 takes_from old new name ticket u free = record {
   free = free;
   taken = ap (option_map (λ (t : Ticket). t.id)) u.1;

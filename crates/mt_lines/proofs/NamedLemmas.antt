@@ -42,8 +42,10 @@ named_same old new named same a = record {
   open_ones = λ name o e. same o ∙ a.open_ones name o e;
 }
 
-step_case : (table : Shown) (o q : ℕ) (before after : OperationView) → op_at table o ≡ Some before → ((q ≡ o) ⊎ (q ≢ o)) → is_some (op_at (set table o (Some after)) q) ≡ is_some (op_at table q)
-step_case table o q before after there (inl here) = ap (λ k. is_some (op_at (set table o (Some after)) k)) here ∙ ap is_some (written_is table o before after there) ∙ sym (ap (λ k. is_some (op_at table k)) here ∙ ap is_some there)
+step_case : (table : Shown) (o q : ℕ) (before after : OperationView) → op_at table o ≡ Some before → ((q ≡ o) ⊎ (q ≢ o))
+    → is_some (op_at (set table o (Some after)) q) ≡ is_some (op_at table q)
+step_case table o q before after there (inl here) =
+    ap (λ k. is_some (op_at (set table o (Some after)) k)) here ∙ ap is_some (written_is table o before after there) ∙ sym (ap (λ k. is_some (op_at table k)) here ∙ ap is_some there)
 step_case table o q before after there (inr apart) = ap is_some (get_or-set_other table o q (Some after) None apart)
 
 step_same : (old new : StateView) (o : ℕ) (done : Bool) → IsStep old new o done → SameOpen old.table new.table
@@ -85,11 +87,13 @@ pub unnamed : (table : Shown) (named : Tickets) (o : ℕ) → HaveOneName table 
 unnamed table named o a free other e = no_both (sym (ap is_some free) ∙ a.open_ones other o e)
 
 -- an operation is taken, and its name freed
-pub taken_named : (old mid new : StateView) (before after : Tickets) (name o : ℕ) (answer : Answer) → Takes old mid o answer → Tidies mid new → FreesName before after name → operation_of before name ≡ Some o → HaveOneName old.table before → HaveOneName new.table after
+pub taken_named : (old mid new : StateView) (before after : Tickets) (name o : ℕ) (answer : Answer) → Takes old mid o answer → Tidies mid new
+    → FreesName before after name → operation_of before name ≡ Some o → HaveOneName old.table before → HaveOneName new.table after
 taken_named old mid new before after name o answer t d f held a = record {
   each = λ q there. each_case q there (cases_eq q o);
   one = λ m n q e g. a.one m n q (before_is m q e) (before_is n q g);
-  open_ones = λ n q e. ap (λ k. is_some (op_at k q)) table ∙ ap is_some (get_or-set_other old.table o q None None (not_it n q e)) ∙ a.open_ones n q (before_is n q e);
+  open_ones =
+      λ n q e. ap (λ k. is_some (op_at k q)) table ∙ ap is_some (get_or-set_other old.table o q None None (not_it n q e)) ∙ a.open_ones n q (before_is n q e);
 }
   where
     table : new.table ≡ set old.table o None
@@ -114,7 +118,8 @@ taken_named old mid new before after name o answer t d f held a = record {
         (n, f.others n (λ same. apart (same_Some q o (sym e ∙ ap (operation_of before) same ∙ held))) ∙ e)
 
 -- an operation that was begun and cancelled leaves each id as it was
-pub cancelled_same : (old mid new : StateView) (o worker tenant : ℕ) (command : Command) → Begins old mid o worker tenant command → Cancels mid new o → (q : ℕ) → op_at new.table q ≡ op_at old.table q
+pub cancelled_same : (old mid new : StateView) (o worker tenant : ℕ) (command : Command) → Begins old mid o worker tenant command → Cancels mid new o
+    → (q : ℕ) → op_at new.table q ≡ op_at old.table q
 cancelled_same old mid new o worker tenant command b c q = ap (λ (v : StateView). op_at v.table q) c.gone ∙ by (cases_eq q o)
   where
     by : ((q ≡ o) ⊎ (q ≢ o)) → op_at (set mid.table o None) q ≡ op_at old.table q
@@ -122,7 +127,8 @@ cancelled_same old mid new o worker tenant command b c q = ap (λ (v : StateView
     by (inr apart) = get_or-set_other mid.table o q None None apart ∙ b.others q apart
 
 -- and nothing else has changed
-pub cancelled_stands : (old mid new : StateView) (o worker tenant : ℕ) (command : Command) → Begins old mid o worker tenant command → Cancels mid new o → new ≡ record old { table = new.table }
+pub cancelled_stands : (old mid new : StateView) (o worker tenant : ℕ) (command : Command) → Begins old mid o worker tenant command
+    → Cancels mid new o → new ≡ record old { table = new.table }
 cancelled_stands old mid new o worker tenant command b c =
     let table : new.table ≡ set mid.table o None = ap (λ (v : StateView). v.table) c.gone in
     c.gone ∙ ap (λ (v : StateView). record v { table = set mid.table o None }) b.stands ∙ ap (λ t. record old { table = t }) (sym table)

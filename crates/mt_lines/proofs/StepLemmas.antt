@@ -36,7 +36,8 @@ can_say old new o Spent t = tt
 can_say old new o NoSuch t = tt
 
 -- what a step told, and then was said of it
-pub tells_step : (old mid new : StoreView) (name o : ℕ) (move : Move) (response : Response) → mid.named ≡ old.named → TellsMove old.state mid.state o move → SaysMove mid new name o move response → TellsStep old new name o response
+pub tells_step : (old mid new : StoreView) (name o : ℕ) (move : Move) (response : Response) → mid.named ≡ old.named
+    → TellsMove old.state mid.state o move → SaysMove mid new name o move response → TellsStep old new name o response
 tells_step old mid new name o Moved response same t s = rw (s.0, s.1) (t, same)
 tells_step old mid new name o (Again holder) response same t s =
     let (other, said, named, stands) = s in
@@ -76,7 +77,8 @@ told_at_end stop mid new o Spent ne t = t
 told_at_end stop mid new o NoSuch ne t = t
 
 -- what is said of an answer that did not move the operation on is said of the walk's end
-says_end : (stop : Option Phase) (mid after new : StoreView) (name o : ℕ) (move : Move) (response : Response) → move ≢ Moved → SaysMove after new name o move response → TellsStep mid new name o response → SaysEnd stop mid new name o response
+says_end : (stop : Option Phase) (mid after new : StoreView) (name o : ℕ) (move : Move) (response : Response) → move ≢ Moved
+    → SaysMove after new name o move response → TellsStep mid new name o response → SaysEnd stop mid new name o response
 says_end stop mid after new name o Moved response ne s t = absurd (ne refl)
 says_end stop mid after new name o (Again holder) response ne s t = rw (s.1) (subst (TellsStep mid new name o) (s.1) t)
 says_end stop mid after new name o NoMemory response ne s t = rw (s.0) (subst (TellsStep mid new name o) (s.0) t)
@@ -85,7 +87,8 @@ says_end stop mid after new name o Spent response ne s t = rw (s.0) (subst (Tell
 says_end stop mid after new name o NoSuch response ne s t = rw (s.0) (subst (TellsStep mid new name o) (s.0) t)
 
 -- a walk whose last step is answered
-pub tells_walk : (stop : Option Phase) (old after new : StoreView) (name o : ℕ) (move : Move) (response : Response) → after.named ≡ old.named → IsWalk stop old.state after.state o move → move ≢ Moved
+pub tells_walk : (stop : Option Phase) (old after new : StoreView) (name o : ℕ) (move : Move) (response : Response) → after.named ≡ old.named
+    → IsWalk stop old.state after.state o move → move ≢ Moved
     → SaysMove after new name o move response → TellsWalk stop old new name o response
 tells_walk stop old after new name o move response same walk goes says =
     let mid : StoreView = record { state = walk.mid; named = old.named } in
@@ -93,24 +96,29 @@ tells_walk stop old after new name o move response same walk goes says =
       steps = walk.steps;
       mid = walk.mid;
       walks = walk.walks;
-      says = says_end stop mid after new name o move response goes says (tells_step mid after new name o move response same (told_at_end stop walk.mid after.state o move goes walk.ends) says);
+      says =
+          says_end stop mid after new name o move response goes says (tells_step mid after new name o move response same (told_at_end stop walk.mid after.state o move goes walk.ends) says);
     }
 
 -- a walk that stopped
-pub stands_there : (phase : Phase) (old new : StoreView) (name o : ℕ) → new.named ≡ old.named → IsWalk (Some phase) old.state new.state o Moved → TellsWalk (Some phase) old new name o (responses.At phase)
+pub stands_there : (phase : Phase) (old new : StoreView) (name o : ℕ) → new.named ≡ old.named → IsWalk (Some phase) old.state new.state o Moved
+    → TellsWalk (Some phase) old new name o (responses.At phase)
 stands_there phase old new name o same walk = record {
   steps = walk.steps;
   mid = walk.mid;
   walks = walk.walks;
-  says = (refl, ap (λ (n : Tickets). record { state = new.state; named = n }) same ∙ ap (λ (v : StateView). record { state = v; named = old.named }) walk.ends.0, walk.ends.1);
+  says =
+      (refl, ap (λ (n : Tickets). record { state = new.state; named = n }) same ∙ ap (λ (v : StateView). record { state = v; named = old.named }) walk.ends.0, walk.ends.1);
 }
 
 -- what is told of the operation that a name stands for
-pub of_named : (named : Tickets) (name o : ℕ) (old new : StoreView) (response : Response) (told : ℕ → Type 0) → operation_of named name ≡ Some o → told o → TellsNamed (operation_of named name) old new response told
+pub of_named : (named : Tickets) (name o : ℕ) (old new : StoreView) (response : Response) (told : ℕ → Type 0) → operation_of named name ≡ Some o
+    → told o → TellsNamed (operation_of named name) old new response told
 of_named named name o old new response told e t = subst (λ (q : Option ℕ). TellsNamed q old new response told) (sym e) t
 
 -- what is told of a name that is not in use
-pub of_none : (named : Tickets) (name : ℕ) (old new : StoreView) (response : Response) (told : ℕ → Type 0) → operation_of named name ≡ None → response ≡ responses.NoSuch → new ≡ old → TellsNamed (operation_of named name) old new response told
+pub of_none : (named : Tickets) (name : ℕ) (old new : StoreView) (response : Response) (told : ℕ → Type 0) → operation_of named name ≡ None
+    → response ≡ responses.NoSuch → new ≡ old → TellsNamed (operation_of named name) old new response told
 of_none named name old new response told e said same = subst (λ (q : Option ℕ). TellsNamed q old new response told) (sym e) (said, same)
 
 end_can_say : (stop : Option Phase) (mid new : StateView) (o : ℕ) (move : Move) → EndsWalk stop mid new o move → CanSay new o move

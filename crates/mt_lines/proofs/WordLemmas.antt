@@ -43,7 +43,8 @@ words-inside x xs e = rw e refl
 words-first : (x : ℕ) (xs : List ℕ) → is_space x ≡ false → words_behind false (x ∷ xs) ≡ take_while is_of_word (x ∷ xs) ∷ words_behind true xs
 words-first x xs e = rw e refl
 
-behind_case : (x : ℕ) (xs : List ℕ) (s : Bool) → is_space x ≡ s → words_behind true xs ≡ words_behind false (rest_of xs) → words_behind true (x ∷ xs) ≡ words_behind false (rest_of (x ∷ xs))
+behind_case : (x : ℕ) (xs : List ℕ) (s : Bool) → is_space x ≡ s → words_behind true xs ≡ words_behind false (rest_of xs)
+    → words_behind true (x ∷ xs) ≡ words_behind false (rest_of (x ∷ xs))
 behind_case x xs true e ih = words-space true x xs e ∙ sym (ap (words_behind false) (rest-space x xs e) ∙ words-space false x xs e)
 behind_case x xs false e ih = words-inside x xs e ∙ ih ∙ sym (ap (words_behind false) (rest-plain x xs e))
 
@@ -52,7 +53,8 @@ pub words_behind_word : (xs : List ℕ) → words_behind true xs ≡ words_behin
 words_behind_word [] = refl
 words_behind_word (x ∷ xs) = behind_case x xs (is_space x) refl (words_behind_word xs)
 
-no_case : (x : ℕ) (xs : List ℕ) (s : Bool) → is_space x ≡ s → (prefix_len is_space xs ≡ length xs → words_behind false xs ≡ []) → prefix_len is_space (x ∷ xs) ≡ length (x ∷ xs) → words_behind false (x ∷ xs) ≡ []
+no_case : (x : ℕ) (xs : List ℕ) (s : Bool) → is_space x ≡ s → (prefix_len is_space xs ≡ length xs → words_behind false xs ≡ [])
+    → prefix_len is_space (x ∷ xs) ≡ length (x ∷ xs) → words_behind false (x ∷ xs) ≡ []
 no_case x xs true e ih h = words-space false x xs e ∙ ih (omega (arith, spaces-space x xs e))
 no_case x xs false e ih h = absurd (omega (arith, spaces-plain x xs e))
 
@@ -71,9 +73,12 @@ begins_at_word x xs e =
     ap next (words-first x xs e)
     ∙ ap (λ w. Some (take_while is_of_word (x ∷ xs), w)) (words_behind_word xs ∙ sym (ap (words_behind false) (rest-plain x xs e)))
 
-first_case : (x : ℕ) (xs : List ℕ) (s : Bool) → is_space x ≡ s → (prefix_len is_space xs < length xs → Begins xs (trimmed xs)) → prefix_len is_space (x ∷ xs) < length (x ∷ xs) → Begins (x ∷ xs) (trimmed (x ∷ xs))
-first_case x xs true e ih h = ap next (words-space false x xs e) ∙ ih (omega (arith, spaces-space x xs e)) ∙ ap (λ from. Some (take (prefix_len is_of_word from) from, words_behind false (rest_of from))) (sym (trimmed-space x xs e))
-first_case x xs false e ih h = begins_at_word x xs e ∙ ap (λ from. Some (take (prefix_len is_of_word from) from, words_behind false (rest_of from))) (sym (trimmed-plain x xs e))
+first_case : (x : ℕ) (xs : List ℕ) (s : Bool) → is_space x ≡ s → (prefix_len is_space xs < length xs → Begins xs (trimmed xs))
+    → prefix_len is_space (x ∷ xs) < length (x ∷ xs) → Begins (x ∷ xs) (trimmed (x ∷ xs))
+first_case x xs true e ih h =
+    ap next (words-space false x xs e) ∙ ih (omega (arith, spaces-space x xs e)) ∙ ap (λ from. Some (take (prefix_len is_of_word from) from, words_behind false (rest_of from))) (sym (trimmed-space x xs e))
+first_case x xs false e ih h =
+    begins_at_word x xs e ∙ ap (λ from. Some (take (prefix_len is_of_word from) from, words_behind false (rest_of from))) (sym (trimmed-plain x xs e))
 
 -- the first word of a line that has one, and the words behind it
 pub first_of_words : (xs : List ℕ) → prefix_len is_space xs < length xs → Begins xs (trimmed xs)
@@ -86,7 +91,8 @@ digits_grow n [] = omega arith
 digits_grow n (d ∷ ds) = omega (arith, digits_grow (n * 10 + (d - 48)) ds)
 
 -- a word of digits that write too much is no number up to the most
-pub too_great : (most n d : ℕ) (word digits : List ℕ) → digits_behind 0 word ≡ digits_behind n (d ∷ digits) → most < n * 10 + (d - 48) → number_up_to most word ≡ None
+pub too_great : (most n d : ℕ) (word digits : List ℕ) → digits_behind 0 word ≡ digits_behind n (d ∷ digits) → most < n * 10 + (d - 48)
+    → number_up_to most word ≡ None
 unfolding number_up_to
 too_great most n d word digits e h =
     let great : most < digits_behind 0 word = omega (arith, e, digits_grow (n * 10 + (d - 48)) digits) in
@@ -101,7 +107,8 @@ too_great most n d word digits e h =
 word_at_front : (y : ℕ) (ys : List ℕ) → is_space y ≡ false → 0 < prefix_len is_of_word (y ∷ ys)
 word_at_front y ys e = rw e (omega arith)
 
-some_case : (x : ℕ) (xs : List ℕ) (s : Bool) → is_space x ≡ s → (prefix_len is_space xs < length xs → 0 < prefix_len is_of_word (trimmed xs)) → prefix_len is_space (x ∷ xs) < length (x ∷ xs) → 0 < prefix_len is_of_word (trimmed (x ∷ xs))
+some_case : (x : ℕ) (xs : List ℕ) (s : Bool) → is_space x ≡ s → (prefix_len is_space xs < length xs → 0 < prefix_len is_of_word (trimmed xs))
+    → prefix_len is_space (x ∷ xs) < length (x ∷ xs) → 0 < prefix_len is_of_word (trimmed (x ∷ xs))
 some_case x xs true e ih h = rw (trimmed-space x xs e) (ih (omega (arith, spaces-space x xs e)))
 some_case x xs false e ih h = rw (trimmed-plain x xs e) (word_at_front x xs e)
 

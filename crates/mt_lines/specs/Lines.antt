@@ -21,4 +21,5 @@ whole_line front = cond (front.cut || nat_lt 65536 (length front.bytes)) None (S
 
 -- the front with one byte more
 abbrev pub with_byte : Front → ℕ → Front
-with_byte front byte = cond (nat_lt (length front.bytes) 65537) (record { bytes = front.bytes ++ byte ∷ []; cut = front.cut }) (record { bytes = front.bytes; cut = true })
+with_byte front byte =
+    cond (nat_lt (length front.bytes) 65537) (record { bytes = front.bytes ++ byte ∷ []; cut = front.cut }) (record { bytes = front.bytes; cut = true })

@@ -47,7 +47,8 @@ ending_of (Err fault) = GivenUp fault
 -- how it ends that was to print its use: that was printed, or a front of it where the writer failed
 abbrev pub Helps : Option Bytes → Option Bytes → Type 0 → Ending → Type 0
 Helps held holds writer_failed Helped = Appends held holds (codes "usage: mt_script < SCRIPT\n")
-Helps held holds writer_failed (GivenUp (Write e)) = ((front : Bytes) × (lost : Bytes) × (front ++ lost ≡ codes "usage: mt_script < SCRIPT\n") × Appends held holds front) × writer_failed
+Helps held holds writer_failed (GivenUp (Write e)) =
+    ((front : Bytes) × (lost : Bytes) × (front ++ lost ≡ codes "usage: mt_script < SCRIPT\n") × Appends held holds front) × writer_failed
 Helps held holds writer_failed _ = ⊥
 
 -- a run of the program, by what its arguments ask for; a script alone is read

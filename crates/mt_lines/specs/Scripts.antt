@@ -18,7 +18,8 @@ pub record Cut : Type 0 where
 
 -- a line feed ends a line, and a carriage return before it is dropped; any other byte is one more of the line
 abbrev pub cut_at : Cut → ℕ → Cut
-cut_at cut byte = if byte == 10 then record { ended = cut.ended ++ strip_last 13 cut.last ∷ []; last = [] } else record { ended = cut.ended; last = cut.last ++ byte ∷ [] }
+cut_at cut byte =
+    if byte == 10 then record { ended = cut.ended ++ strip_last 13 cut.last ∷ []; last = [] } else record { ended = cut.ended; last = cut.last ++ byte ∷ [] }
 
 -- more bytes behind those that were cut
 abbrev pub cut_behind : Cut → Bytes → Cut
@@ -54,7 +55,8 @@ IsLineAnswered old line new text = Answers (is_silent line) (meaning_of line) ol
 -- lines are answered one after the other, and this is the text of their answers
 abbrev pub AreLinesAnswered : SessionView → List Bytes → SessionView → Bytes → Type 0
 AreLinesAnswered old [] new text = (new ≡ old) × (text ≡ [])
-AreLinesAnswered old (line ∷ lines) new text = (mid : SessionView) × (first : Bytes) × (rest : Bytes) × IsLineAnswered old line mid first × AreLinesAnswered mid lines new rest × (text ≡ first ++ rest)
+AreLinesAnswered old (line ∷ lines) new text =
+    (mid : SessionView) × (first : Bytes) × (rest : Bytes) × IsLineAnswered old line mid first × AreLinesAnswered mid lines new rest × (text ≡ first ++ rest)
 
 -- this was written for a script that was read: the answers of its lines, in a session that begins with the first of them
 abbrev pub IsScript : Bytes → Bytes → Type 0

@@ -57,13 +57,15 @@ store_at_begin store None = store
 abbrev pub TellsBegun : StoreView → StoreView → ℕ → ℕ → Command → Response → Type 0
 TellsBegun old new name tenant command (Begun other) =
     (other ≡ name) × ((ticket : Ticket) × TellsBegin old.state new.state 0 tenant command (Ok ticket) × TellsRefusal old.state tenant command (Ok ticket) × TakesName old.named new.named name ticket.id)
-TellsBegun old new name tenant command (Refused refusal) = TellsBegin old.state new.state 0 tenant command (Err refusal) × TellsRefusal old.state tenant command (Err refusal) × (new.named ≡ old.named)
+TellsBegun old new name tenant command (Refused refusal) =
+    TellsBegin old.state new.state 0 tenant command (Err refusal) × TellsRefusal old.state tenant command (Err refusal) × (new.named ≡ old.named)
 TellsBegun old new name tenant command _ = ⊥
 
 -- what is said of a begin: one that may not stand is a bad line, and nothing changes; after any other no tenants are gathered
 abbrev pub TellsBeginLine : SessionView → SessionView → ℕ → ℕ → Command → Response → Type 0
 TellsBeginLine old new name tenant command BadLine = (new ≡ old) × ¬ MayBeginAs old.store name command
-TellsBeginLine old new name tenant command response = MayBeginAs old.store name command × (new.gathered ≡ None) × TellsBegun (store_at_begin old.store old.gathered) new.store name tenant command response
+TellsBeginLine old new name tenant command response =
+    MayBeginAs old.store name command × (new.gathered ≡ None) × TellsBegun (store_at_begin old.store old.gathered) new.store name tenant command response
 
 -- what is said of the trees
 abbrev pub TellsShape : SessionView → Response → Type 0

@@ -56,7 +56,8 @@ TellsMove old new o move = Tells old new o move
 -- what is said of a step of the operation of a name: what it tells; `again` says the holder's own name; `done` frees the name
 abbrev pub TellsStep : StoreView → StoreView → ℕ → ℕ → Response → Type 0
 TellsStep old new name o Moved = TellsMove old.state new.state o moves.Moved × (new.named ≡ old.named)
-TellsStep old new name o (Again other) = (holder : ℕ) × TellsMove old.state new.state o (moves.Again holder) × (operation_of old.named other ≡ Some holder) × (new.named ≡ old.named)
+TellsStep old new name o (Again other) =
+    (holder : ℕ) × TellsMove old.state new.state o (moves.Again holder) × (operation_of old.named other ≡ Some holder) × (new.named ≡ old.named)
 TellsStep old new name o NoMemory = TellsMove old.state new.state o moves.NoMemory × (new.named ≡ old.named)
 TellsStep old new name o Spent = TellsMove old.state new.state o moves.Spent × (new.named ≡ old.named)
 TellsStep old new name o NoSuch = TellsMove old.state new.state o moves.NoSuch × (new.named ≡ old.named)

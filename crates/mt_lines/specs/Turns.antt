@@ -28,5 +28,7 @@ Writes P held holds writer_failed (Err Memory) = Appends held holds []
 
 -- a byte that ends the line, and one that is one more of it
 abbrev pub TakesByte : Bool → ℕ → SessionView → SessionView → Front → Front → Option Bytes → Option Bytes → Type 0 → Result (Unit {0}) ScriptFault → Type 0
-TakesByte true byte old new line left held holds writer_failed result = Writes (AnswersFront old (without_return line) new) held holds writer_failed result × OnOk result (left ≡ front_of [])
-TakesByte false byte old new line left held holds writer_failed result = (new ≡ old) × Appends held holds [] × OnOk result (left ≡ with_byte line byte) × IfErr result (λ e. e ≡ Memory)
+TakesByte true byte old new line left held holds writer_failed result =
+    Writes (AnswersFront old (without_return line) new) held holds writer_failed result × OnOk result (left ≡ front_of [])
+TakesByte false byte old new line left held holds writer_failed result =
+    (new ≡ old) × Appends held holds [] × OnOk result (left ≡ with_byte line byte) × IfErr result (λ e. e ≡ Memory)

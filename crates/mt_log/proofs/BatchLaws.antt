@@ -192,7 +192,8 @@ body_takes bytes b fits e =
     subst (λ (y : LogBatch). (bytes ≡ body y) × (length (body y) < 2 ^ 32 → IsLogBatch y)) g.1 (whole, second.1)
 
 -- a batch, whole behind its length
-pub batch_takes : (bytes : Bytes) (b : LogBatch) (rest : Bytes) → IsBytes bytes → batch_at bytes ≡ Some (b, rest) → (bytes ≡ told_body (body b) ++ rest) × IsLogBatch b
+pub batch_takes : (bytes : Bytes) (b : LogBatch) (rest : Bytes) → IsBytes bytes → batch_at bytes ≡ Some (b, rest)
+    → (bytes ≡ told_body (body b) ++ rest) × IsLogBatch b
 unfolding batch_at
 batch_takes bytes b rest fits e =
     let n = bind_some (number_at w32 bytes) (λ n. taken_at n.0 n.1 >>= λ text. batch_in text.0 >>= λ x. Some (x, text.1)) (b, rest) e in

@@ -72,7 +72,8 @@ abbrev first : Bytes → ℕ
 first bytes = get_or bytes 0 0
 
 -- batches before a gate that isn't open are these alone
-once : (bs cs : List LogBatch) (g k : ℕ) (t u : Bytes) → AllByRecursion IsLogBatch bs → AllByRecursion IsLogBatch cs → g ≢ 1 → k ≢ 1 → flat_map batch_bytes bs ++ (g ∷ t) ≡ flat_map batch_bytes cs ++ (k ∷ u) → (bs ≡ cs) × (g ≡ k)
+once : (bs cs : List LogBatch) (g k : ℕ) (t u : Bytes) → AllByRecursion IsLogBatch bs → AllByRecursion IsLogBatch cs → g ≢ 1 → k ≢ 1
+    → flat_map batch_bytes bs ++ (g ∷ t) ≡ flat_map batch_bytes cs ++ (k ∷ u) → (bs ≡ cs) × (g ≡ k)
 once [] [] g k t u join_b join_c shut_g shut_k same = (refl, ap first same)
 once [] (c ∷ cs) g k t u join_b join_c shut_g shut_k same = absurd (shut_g (ap first same))
 once (b ∷ bs) [] g k t u join_b join_c shut_g shut_k same = absurd (shut_k (sym (ap first same)))
@@ -84,7 +85,8 @@ once (b ∷ bs) (c ∷ cs) g k t u join_b join_c shut_g shut_k same =
     ((λ i. parts.0 i ∷ rest.0 i), rest.1)
 
 -- and no gate is bad behind them
-clash : (bs cs : List LogBatch) (g : ℕ) (t rest : Bytes) → AllByRecursion IsLogBatch bs → AllByRecursion IsLogBatch cs → g ≢ 1 → IsBadGate rest → flat_map batch_bytes bs ++ (g ∷ t) ≡ flat_map batch_bytes cs ++ rest → ⊥
+clash : (bs cs : List LogBatch) (g : ℕ) (t rest : Bytes) → AllByRecursion IsLogBatch bs → AllByRecursion IsLogBatch cs → g ≢ 1 → IsBadGate rest
+    → flat_map batch_bytes bs ++ (g ∷ t) ≡ flat_map batch_bytes cs ++ rest → ⊥
 clash [] [] g t rest join_b join_c shut (inl none) same = omega (arith, ap length same, ap length none)
 clash [] [] g t rest join_b join_c shut (inr bad) same = shut (ap first (same ∙ bad.1))
 clash [] (c ∷ cs) g t rest join_b join_c shut bad same = shut (ap first same)
@@ -104,7 +106,8 @@ same_header v w m n x y e = (ap (λ (l : Bytes). get_or l 6 0) e, ap (λ (l : By
 same_contents : (c d : Contents) → c.worker ≡ d.worker → c.logs ≡ d.logs → c.batches ≡ d.batches → c ≡ d
 same_contents c d p q r i = record { worker = p i; logs = q i; batches = r i }
 
-one_whole : (c d : Contents) (g k : ℕ) (t u : Bytes) → IsContents c → IsContents d → g ≢ 1 → k ≢ 1 → log_bytes c ++ (g ∷ t) ≡ log_bytes d ++ (k ∷ u) → (c ≡ d) × (g ≡ k)
+one_whole : (c d : Contents) (g k : ℕ) (t u : Bytes) → IsContents c → IsContents d → g ≢ 1 → k ≢ 1 → log_bytes c ++ (g ∷ t) ≡ log_bytes d ++ (k ∷ u)
+    → (c ≡ d) × (g ≡ k)
 one_whole c d g k t u is_c is_d shut_g shut_k e =
     let heads = same_header c.worker d.worker c.logs d.logs (flat_map batch_bytes c.batches ++ (g ∷ t)) (flat_map batch_bytes d.batches ++ (k ∷ u)) e in
     let tails = once c.batches d.batches g k t u is_c.batches is_d.batches shut_g shut_k heads.2 in
@@ -112,7 +115,8 @@ one_whole c d g k t u is_c is_d shut_g shut_k e =
 
 -- an image has one front
 pub one_front : (c d : Contents) (image : Bytes) → HasFront c image → HasFront d image → c ≡ d
-one_front c d image one other = (one_whole c d one.gate other.gate one.behind other.behind one.contents other.contents one.is_shut other.is_shut (sym one.whole ∙ other.whole)).0
+one_front c d image one other =
+    (one_whole c d one.gate other.gate one.behind other.behind one.contents other.contents one.is_shut other.is_shut (sym one.whole ∙ other.whole)).0
 
 -- and an image that has one is a log
 pub front_not_bad : (c : Contents) (image : Bytes) (number offset : ℕ) → HasFront c image → IsBadLog image number offset → ⊥
@@ -131,16 +135,21 @@ front_not_bad c image number offset front (inr bad) =
 
 -- ---- what may be left
 
-shut_whole : (c : Contents) (b : LogBatch) (image : Bytes) → (shut : IsShut (log_bytes c ++ open_batch (body b)) image) → image ≡ log_bytes (with_batch b c) ++ (0 ∷ shut.behind)
+shut_whole : (c : Contents) (b : LogBatch) (image : Bytes) → (shut : IsShut (log_bytes c ++ open_batch (body b)) image)
+    → image ≡ log_bytes (with_batch b c) ++ (0 ∷ shut.behind)
 shut_whole c b image shut = shut.whole ∙ ap (λ (l : Bytes). l ++ (0 ∷ shut.behind)) (sym (more_bytes c b))
 
 -- what may be left of an append has the old front or the new one
-pub left_front : (c : Contents) (b : LogBatch) (image : Bytes) → IsContents (with_batch b c) → IsLeft c b image → HasFront c image ⊎ HasFront (with_batch b c) image
-left_front c b image is (inl torn) = inl (record { contents = contents_front c b is; gate = torn.gate; behind = torn.behind; is_shut = torn.is_shut; whole = torn.whole })
-left_front c b image is (inr shut) = inr (record { contents = is; gate = 0; behind = shut.behind; is_shut = λ e. omega (arith, e); whole = shut_whole c b image shut })
+pub left_front : (c : Contents) (b : LogBatch) (image : Bytes) → IsContents (with_batch b c) → IsLeft c b image
+    → HasFront c image ⊎ HasFront (with_batch b c) image
+left_front c b image is (inl torn) =
+    inl (record { contents = contents_front c b is; gate = torn.gate; behind = torn.behind; is_shut = torn.is_shut; whole = torn.whole })
+left_front c b image is (inr shut) =
+    inr (record { contents = is; gate = 0; behind = shut.behind; is_shut = λ e. omega (arith, e); whole = shut_whole c b image shut })
 
 -- and so its front joins and rises where the new one does
-pub left_joins : (c front : Contents) (b : LogBatch) (image : Bytes) → IsContents (with_batch b c) → JoinsAndRises (with_batch b c) → IsLeft c b image → HasFront front image → JoinsAndRises front
+pub left_joins : (c front : Contents) (b : LogBatch) (image : Bytes) → IsContents (with_batch b c) → JoinsAndRises (with_batch b c) → IsLeft c b image
+    → HasFront front image → JoinsAndRises front
 left_joins c front b image is joins left has =
     ⊎_elim
     (λ old. subst JoinsAndRises (one_front c front image old has) (join_front 0 c.batches b joins))
@@ -151,7 +160,8 @@ left_joins c front b image is joins left has =
 abbrev IsWhich : Contents → LogBatch → Contents → ℕ → Bytes → Type 0
 IsWhich c b f gate image = ((f ≡ c) × IsTorn (log_bytes c) (body b) image) ⊎ ((f ≡ with_batch b c) × (gate ≡ 0))
 
-which : (c : Contents) (b : LogBatch) (f : Contents) (gate : ℕ) (behind image : Bytes) → IsContents (with_batch b c) → IsContents f → gate ≢ 1 → image ≡ log_bytes f ++ (gate ∷ behind) → IsLeft c b image → IsWhich c b f gate image
+which : (c : Contents) (b : LogBatch) (f : Contents) (gate : ℕ) (behind image : Bytes) → IsContents (with_batch b c) → IsContents f → gate ≢ 1
+    → image ≡ log_bytes f ++ (gate ∷ behind) → IsLeft c b image → IsWhich c b f gate image
 which c b f gate behind image is is_f shut whole (inl torn) =
     inl ((one_whole f c gate torn.gate behind torn.behind is_f (contents_front c b is) shut torn.is_shut (sym whole ∙ torn.whole)).0, torn)
 which c b f gate behind image is is_f shut whole (inr after) =
@@ -159,7 +169,8 @@ which c b f gate behind image is is_f shut whole (inr after) =
 
 -- An opening that synced what may be left, and read this front, leaves what may be left, and the front is
 -- the old one or the new one.
-pub opening : (c : Contents) (b : LogBatch) (f : Contents) (gate place : ℕ) (first old mid new : DiskState) → IsContents (with_batch b c) → IsContents f → gate ≢ 1 → IsFound (log_bytes f) gate place mid
+pub opening : (c : Contents) (b : LogBatch) (f : Contents) (gate place : ℕ) (first old mid new : DiskState) → IsContents (with_batch b c)
+    → IsContents f → gate ≢ 1 → IsFound (log_bytes f) gate place mid
     → LeavesOnly (IsLeft c b) first old → mid ≡ synced old
     → (gate ≡ 0 → LeavesOnly (IsShut (log_bytes f)) mid new)
     → ((bytes : Bytes) → IsTorn (log_bytes f) bytes mid.image → LeavesOnly (IsBeforeOrAfter (log_bytes f) bytes) mid new)
@@ -173,6 +184,7 @@ opening c b f gate place first old mid new is is_f shut found before done when_s
     (which c b f gate found.behind mid.image is is_f shut found.image (kept.now mid.image kept.reads))
 
 -- and one that ended before it read, or could not
-pub only_synced : (c : Contents) (b : LogBatch) (first old new : DiskState) → LeavesOnly (IsLeft c b) first old → (new ≡ old) ⊎ (new ≡ synced old) → LeavesOnly (IsLeft c b) first new
+pub only_synced : (c : Contents) (b : LogBatch) (first old new : DiskState) → LeavesOnly (IsLeft c b) first old → (new ≡ old) ⊎ (new ≡ synced old)
+    → LeavesOnly (IsLeft c b) first new
 only_synced c b first old new before (inl same) = subst (LeavesOnly (IsLeft c b) first) (sym same) before
 only_synced c b first old new before (inr done) = after_sync (IsLeft c b) first old new before done

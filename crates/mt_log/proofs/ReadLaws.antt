@@ -35,7 +35,8 @@ on_err (Ok x) has = tt
 on_err (Err e) has = has
 
 -- one item more of a list, spelled behind the others
-pub spelled_more : {A : Type 0} (f : A → Bytes) (xs : List A) (i : ℕ) (x : A) → i < length xs → x ≡ get_or xs i x → flat_map f (take (i + 1) xs) ≡ flat_map f (take i xs) ++ f x
+pub spelled_more : {A : Type 0} (f : A → Bytes) (xs : List A) (i : ℕ) (x : A) → i < length xs → x ≡ get_or xs i x
+    → flat_map f (take (i + 1) xs) ≡ flat_map f (take i xs) ++ f x
 spelled_more f [] i x lt is = absurd (omega arith)
 spelled_more f (y ∷ ys) zero x lt is = append-nil (f y) ∙ ap f (sym is)
 spelled_more f (y ∷ ys) (suc i) x lt is =
@@ -46,7 +47,8 @@ regroup : (o a b d t : Bytes) → ((((o ++ 0 ∷ []) ++ a) ++ b) ++ d) ++ t ≡ 
 regroup o a b d t = simp append_assoc
 
 -- a body that was written part by part
-pub parts_joined : (o p q r s new a b d t : Bytes) → p ≡ o ++ 0 ∷ [] → q ≡ p ++ a → r ≡ q ++ b → s ≡ r ++ d → new ≡ s ++ t → new ≡ o ++ (0 ∷ (a ++ (b ++ (d ++ t))))
+pub parts_joined : (o p q r s new a b d t : Bytes) → p ≡ o ++ 0 ∷ [] → q ≡ p ++ a → r ≡ q ++ b → s ≡ r ++ d → new ≡ s ++ t
+    → new ≡ o ++ (0 ∷ (a ++ (b ++ (d ++ t))))
 parts_joined o p q r s new a b d t e f g h i =
     i ∙ ap (λ (l : Bytes). l ++ t) (h ∙ ap (λ (l : Bytes). l ++ d) (g ∙ ap (λ (l : Bytes). l ++ b) (f ∙ ap (λ (l : Bytes). l ++ a) e))) ∙ regroup o a b d t
 
@@ -65,7 +67,8 @@ pub body_len : (b : Batch) (len : ℕ) → len ≡ length (flat_map record_bytes
 body_len b len is = omega (arith, is)
 
 -- a batch that passes the tests has a place in a log
-pub batch_fits : (b : Batch) (len : ℕ) → are_steps b.from b.to ≡ true → rise_within b.from b.to b.records ≡ true → length b.records < 2 ^ 32 → All IsRecord b.records → len ≡ length (flat_map record_bytes b.records) → IsTrue (nat_lt (21 + len) (2 ^ 32)) ↔ IsBatch b
+pub batch_fits : (b : Batch) (len : ℕ) → are_steps b.from b.to ≡ true → rise_within b.from b.to b.records ≡ true → length b.records < 2 ^ 32
+    → All IsRecord b.records → len ≡ length (flat_map record_bytes b.records) → IsTrue (nat_lt (21 + len) (2 ^ 32)) ↔ IsBatch b
 batch_fits b len steps rise few each is =
     let total = body_len b len is in
     let order = steps_from_test b.from b.to steps in
@@ -81,7 +84,8 @@ batch_rises b is = test_of_batch b.from b.to b.records is.records.limits is.reco
 -- ---- gates
 
 -- a batch that was read behind an open gate
-pub open_batch_is : (gate : ℕ) (behind rest : Bytes) (b : LogBatch) (len : ℕ) → gate ≡ 1 → behind ≡ told_body (body b) ++ rest → IsLogBatch b → len ≡ 1 + (length behind - length rest) → IsOpenBatch (gate ∷ behind) b len
+pub open_batch_is : (gate : ℕ) (behind rest : Bytes) (b : LogBatch) (len : ℕ) → gate ≡ 1 → behind ≡ told_body (body b) ++ rest → IsLogBatch b
+    → len ≡ 1 + (length behind - length rest) → IsOpenBatch (gate ∷ behind) b len
 open_batch_is gate behind rest b len is_open parts is len_is =
     let whole : gate ∷ behind ≡ batch_bytes b ++ rest = ap (λ (g : ℕ). g ∷ behind) is_open ∙ ap (λ (l : Bytes). 1 ∷ l) parts in
     let sum : length behind ≡ length (told_body (body b)) + length rest = ap length parts ∙ length-append (told_body (body b)) rest in
@@ -103,7 +107,8 @@ pub stand_none : (bytes : Bytes) → StandBefore 0 0 bytes []
 stand_none bytes = record { each = tt; last = refl; parts = refl; len = refl; within = omega arith }
 
 -- one batch more
-pub stand_more : (place mark : ℕ) (bytes : Bytes) (bs : List LogBatch) (b : LogBatch) (len : ℕ) → StandBefore place mark bytes bs → IsOpenBatch (drop place bytes) b len → StandBefore (place + len) (to_of b) bytes (bs ++ b ∷ [])
+pub stand_more : (place mark : ℕ) (bytes : Bytes) (bs : List LogBatch) (b : LogBatch) (len : ℕ) → StandBefore place mark bytes bs
+    → IsOpenBatch (drop place bytes) b len → StandBefore (place + len) (to_of b) bytes (bs ++ b ∷ [])
 stand_more place mark bytes bs b len stand is =
     let front = flat_map batch_bytes bs in
     let here = stand.within in
@@ -117,13 +122,15 @@ stand_more place mark bytes bs b len stand is =
     record {
       each = each_more bs b stand.each is.batch;
       last = sym (end_more 0 bs b);
-      parts = stand.parts ∙ ap (λ (l : Bytes). front ++ l) (is.parts ∙ ap (λ (l : Bytes). batch_bytes b ++ l) (drop-drop len place bytes)) ∙ sym (append_assoc front (batch_bytes b) (drop (place + len) bytes)) ∙ ap (λ (l : Bytes). l ++ drop (place + len) bytes) more;
+      parts =
+          stand.parts ∙ ap (λ (l : Bytes). front ++ l) (is.parts ∙ ap (λ (l : Bytes). batch_bytes b ++ l) (drop-drop len place bytes)) ∙ sym (append_assoc front (batch_bytes b) (drop (place + len) bytes)) ∙ ap (λ (l : Bytes). l ++ drop (place + len) bytes) more;
       len = omega arith;
       within = omega arith;
     }
 
 -- the batches of a log stop at what isn't in the format
-pub stopped_bad : (image rest : Bytes) (worker logs place mark : ℕ) (bs : List LogBatch) → worker < logs → logs ≤ 64 → image ≡ header worker logs ++ rest → StandBefore place mark rest bs → IsBadGate (drop place rest) → IsBadLog image worker (8 + place)
+pub stopped_bad : (image rest : Bytes) (worker logs place mark : ℕ) (bs : List LogBatch) → worker < logs → logs ≤ 64
+    → image ≡ header worker logs ++ rest → StandBefore place mark rest bs → IsBadGate (drop place rest) → IsBadLog image worker (8 + place)
 stopped_bad image rest worker logs place mark bs below most head stand bad =
     let c : Contents = record { worker = worker; logs = logs; batches = bs } in
     let at = stand.len in
@@ -156,7 +163,8 @@ module _ {D : Type 0} (is_honest : D → Bool) (state : D → DiskState) (failur
     not_log (reads.Bad number offset) bad = record { bad = λ honest. subst (λ (l : Bytes). IsBadLog l number offset) (r.image honest) bad; moves = r.moves; count = r.count; honest = r.honest }
 
     -- the log that was read, on its disk
-    pub found_at : (found : Found) → (i : IsRead bytes.items found) → IsTrue (is_honest old) → IsFound (log_bytes (contents_of found.front)) found.gate found.end (state mid)
+    pub found_at : (found : Found) → (i : IsRead bytes.items found) → IsTrue (is_honest old)
+        → IsFound (log_bytes (contents_of found.front)) found.gate found.end (state mid)
     found_at found i honest =
         let done = r.moves honest in
         record {
@@ -170,7 +178,8 @@ module _ {D : Type 0} (is_honest : D → Bool) (state : D → DiskState) (failur
         (shut : IsTrue (is_honest mid) → (front : Bytes) → IsFound front found.gate found.end (state mid) → found.gate ≡ 0 → LeavesOnly (IsShut front) (state mid) (state new))
         (torn : IsTrue (is_honest mid) → (front text : Bytes) → IsFound front found.gate found.end (state mid) → IsTorn front text (state mid).image → LeavesOnly (IsBeforeOrAfter front text) (state mid) (state new)) where
       -- what its opening leaves, and which front it is
-      leaves : IsTrue (is_honest old) → (c : Contents) (b : LogBatch) (first : DiskState) → IsContents (with_batch b c) → LeavesOnly (IsLeft c b) first (state old)
+      leaves : IsTrue (is_honest old) → (c : Contents) (b : LogBatch) (first : DiskState) → IsContents (with_batch b c)
+          → LeavesOnly (IsLeft c b) first (state old)
           → LeavesOnly (IsLeft c b) first (state new) × IsOldOrNew c b (contents_of found.front)
       leaves honest c b first is before =
           let f = contents_of found.front in
@@ -179,17 +188,20 @@ module _ {D : Type 0} (is_honest : D → Bool) (state : D → DiskState) (failur
           opening c b f found.gate found.end first (state old) (state mid) (state new) is i.contents i.is_shut at before (r.moves honest) (shut still (log_bytes f) at) (λ text. torn still (log_bytes f) text at)
 
       -- its end was set right, but for a failure
-      pub failed_right : GoesUp (failures mid) (failures new) → is_honest new ≡ is_honest mid → GivesDiskBack is_honest state failures old (fault_with new reads.Device)
+      pub failed_right : GoesUp (failures mid) (failures new) → is_honest new ≡ is_honest mid
+          → GivesDiskBack is_honest state failures old (fault_with new reads.Device)
       failed_right up honest = (λ h c b first is before. (leaves h c b first is before).0, subst (λ n. GoesUp n (failures new)) r.count up, honest ∙ r.honest)
 
       -- its end was set right
-      pub opened_right : (IsTrue (is_honest mid) → (front : Bytes) → IsFound front found.gate found.end (state mid) → IsAtRest front found.end (state new)) → failures new ≡ failures mid → is_honest new ≡ is_honest mid
+      pub opened_right : (IsTrue (is_honest mid) → (front : Bytes) → IsFound front found.gate found.end (state mid) → IsAtRest front found.end (state new))
+          → failures new ≡ failures mid → is_honest new ≡ is_honest mid
           → Opened is_honest state failures old (record { disk = new; end = found.end; mark = found.mark }) found.front
       opened_right rest count honest = record {
         contents = i.contents;
         mark = i.mark;
         read = λ h. record { contents = i.contents; gate = found.gate; behind = i.behind; is_shut = i.is_shut; whole = sym (r.image h) ∙ i.whole };
-        has = λ h. record { contents = i.contents; rest = rest (subst IsTrue (sym r.honest) h) (log_bytes (contents_of found.front)) (found_at found i h); mark = i.mark };
+        has =
+            λ h. record { contents = i.contents; rest = rest (subst IsTrue (sym r.honest) h) (log_bytes (contents_of found.front)) (found_at found i h); mark = i.mark };
         reads = λ h c b first is before. (leaves h c b first is before).1;
         leaves = λ h c b first is before. (leaves h c b first is before).0;
         count = count ∙ r.count;

@@ -17,10 +17,12 @@ pub below : (a b : ℕ) → a < b → nat_lt a b ≡ true
 below a b h = grind (arith, nat_tests)
 
 shorter : {X : Type 0} (size : X → ℕ) (n : ℕ) (xs : List X) → list_all (λ x. nat_lt (size x) n) xs ≡ true → All (λ x. size x < n) xs
-shorter size n xs e = All-weaker (λ x. nat_lt (size x) n ≡ true) (λ x. size x < n) (λ x h. ltb-true (size x) n h) xs (AllPass-from_list_all (λ x. nat_lt (size x) n) xs e)
+shorter size n xs e =
+    All-weaker (λ x. nat_lt (size x) n ≡ true) (λ x. size x < n) (λ x h. ltb-true (size x) n h) xs (AllPass-from_list_all (λ x. nat_lt (size x) n) xs e)
 
 shorter_test : {X : Type 0} (size : X → ℕ) (n : ℕ) (xs : List X) → All (λ x. size x < n) xs → list_all (λ x. nat_lt (size x) n) xs ≡ true
-shorter_test size n xs h = list_all-from_AllPass (λ x. nat_lt (size x) n) xs (All-weaker (λ x. size x < n) (λ x. nat_lt (size x) n ≡ true) (λ x lt. below (size x) n lt) xs h)
+shorter_test size n xs h =
+    list_all-from_AllPass (λ x. nat_lt (size x) n) xs (All-weaker (λ x. size x < n) (λ x. nat_lt (size x) n ≡ true) (λ x lt. below (size x) n lt) xs h)
 
 -- columns that pass the test are a row
 pub row_from_test : (columns : Columns) → is_row columns ≡ true → IsRow columns
@@ -113,7 +115,8 @@ records_from_test last to (r ∷ records) e =
     )
 
 -- and those pass it
-pub test_from_records : (last to : ℕ) (records : List Record) → AreRecords records → (0 < length (stamps records) → last < get_or (stamps records) 0 0) → All (λ r. r.stamp ≤ to) records → rise_within last to records ≡ true
+pub test_from_records : (last to : ℕ) (records : List Record) → AreRecords records
+    → (0 < length (stamps records) → last < get_or (stamps records) 0 0) → All (λ r. r.stamp ≤ to) records → rise_within last to records ≡ true
 test_from_records last to [] are from up_to = refl
 test_from_records last to (r ∷ records) are from up_to =
     let over : last < r.stamp = from (omega arith) in
@@ -121,7 +124,8 @@ test_from_records last to (r ∷ records) are from up_to =
     let small : r.stamp ≤ to = All-head (λ (x : Record). x.stamp ≤ to) r records up_to in
     let rest : AreRecords records = record {
       keys = All-tail (λ (x : Record). IsKey x.key) r records are.keys;
-      stamps = λ k lt. subst (λ j. get_or (stamps (r ∷ records)) (suc k) 0 < get_or (stamps (r ∷ records)) j 0) (sym (suc_more k)) (are.stamps (suc k) (omega arith));
+      stamps =
+          λ k lt. subst (λ j. get_or (stamps (r ∷ records)) (suc k) 0 < get_or (stamps (r ∷ records)) j 0) (sym (suc_more k)) (are.stamps (suc k) (omega arith));
     } in
     let after : 0 < length (stamps records) → r.stamp < get_or (stamps records) 0 0 = λ lt. are.stamps 0 (omega arith) in
     and_from (nat_lt last r.stamp && not (nat_lt to r.stamp) && not (nat_lt 251 (length r.key))) (rise_within r.stamp to records)

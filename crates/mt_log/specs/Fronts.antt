@@ -44,7 +44,8 @@ pub record IsBadAfter (c : Contents) (image : Bytes) : Type 0 where
 -- An image that is no log: at 0 it has no header, and the number is 0; or one of no 1 to 64 logs; or at
 -- the gate behind a worker's last good batch it isn't in the format. Then the number is the header's worker.
 abbrev pub IsBadLog : Bytes → ℕ → ℕ → Type 0
-IsBadLog image number offset = ((HasNoHeader image × (number ≡ 0)) ⊎ IsOfNoLogs image number) × (offset ≡ 0) ⊎ ((c : Contents) × IsBadAfter c image × (number ≡ c.worker) × (offset ≡ length (log_bytes c)))
+IsBadLog image number offset =
+    ((HasNoHeader image × (number ≡ 0)) ⊎ IsOfNoLogs image number) × (offset ≡ 0) ⊎ ((c : Contents) × IsBadAfter c image × (number ≡ c.worker) × (offset ≡ length (log_bytes c)))
 
 -- these bytes, and then a closed gate
 pub record IsShut (front image : Bytes) : Type 0 where

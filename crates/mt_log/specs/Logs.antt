@@ -34,7 +34,8 @@ pub record Created {D : Type 0} (is_honest : D → Bool) (state : D → DiskStat
 -- over an honest disk: at each moment of a call that appends a batch, a crash leaves the old front or
 -- the one with the batch, and so does a read
 abbrev pub LeavesBeforeOrAfter : {D : Type 0} → (D → Bool) → (D → DiskState) → LogFile D → LogBatch → D → Type 0
-LeavesBeforeOrAfter is_honest state old b disk = IsTrue (is_honest old.disk) → (c : Contents) → IsLogOf state c old → LeavesOnly (IsLeft c b) (state old.disk) (state disk)
+LeavesBeforeOrAfter is_honest state old b disk =
+    IsTrue (is_honest old.disk) → (c : Contents) → IsLogOf state c old → LeavesOnly (IsLeft c b) (state old.disk) (state disk)
 
 -- the log has the batch behind what it had, and is at rest again
 pub record Appended {D : Type 0} (is_honest : D → Bool) (state : D → DiskState) (failures : D → ℕ) (old : LogFile D) (b : LogBatch) (new : LogFile D) : Type 0 where
@@ -68,11 +69,13 @@ GivesLogBack is_honest state failures old b (resumes.Device disk) = FailedIn is_
 -- Over an honest disk: whatever may be left of a log to which a batch was being appended, an opening
 -- leaves that at each of its moments, as does a crash in it.
 abbrev pub StillLeaves : {D : Type 0} → (D → Bool) → (D → DiskState) → D → D → Type 0
-StillLeaves is_honest state old disk = IsTrue (is_honest old) → (c : Contents) (b : LogBatch) (first : DiskState) → IsContents (with_batch b c) → LeavesOnly (IsLeft c b) first (state old) → LeavesOnly (IsLeft c b) first (state disk)
+StillLeaves is_honest state old disk =
+    IsTrue (is_honest old) → (c : Contents) (b : LogBatch) (first : DiskState) → IsContents (with_batch b c) → LeavesOnly (IsLeft c b) first (state old) → LeavesOnly (IsLeft c b) first (state disk)
 
 -- and reads a front that is the old one or the one with the batch
 abbrev pub ReadsOldOrNew : {D : Type 0} → (D → Bool) → (D → DiskState) → D → Contents → Type 0
-ReadsOldOrNew is_honest state old front = IsTrue (is_honest old) → (c : Contents) (b : LogBatch) (first : DiskState) → IsContents (with_batch b c) → LeavesOnly (IsLeft c b) first (state old) → IsOldOrNew c b front
+ReadsOldOrNew is_honest state old front =
+    IsTrue (is_honest old) → (c : Contents) (b : LogBatch) (first : DiskState) → IsContents (with_batch b c) → LeavesOnly (IsLeft c b) first (state old) → IsOldOrNew c b front
 
 -- a log was opened: its front is that of the image, and it is at rest
 pub record Opened {D : Type 0} (is_honest : D → Bool) (state : D → DiskState) (failures : D → ℕ) (old : D) (log : LogFile D) (front : Front) : Type 0 where
@@ -94,8 +97,10 @@ pub record IsRefused {D : Type 0} (is_honest : D → Bool) (state : D → DiskSt
 
 -- what a refused opening gives back
 abbrev pub GivesDiskBack : {D : Type 0} → (D → Bool) → (D → DiskState) → (D → ℕ) → D → OpenFault D → Type 0
-GivesDiskBack is_honest state failures old (opens.Device disk) = StillLeaves is_honest state old disk × GoesUp (failures old) (failures disk) × (is_honest disk ≡ is_honest old)
-GivesDiskBack is_honest state failures old (opens.Memory disk) = StillLeaves is_honest state old disk × (failures disk ≡ failures old) × (is_honest disk ≡ is_honest old)
+GivesDiskBack is_honest state failures old (opens.Device disk) =
+    StillLeaves is_honest state old disk × GoesUp (failures old) (failures disk) × (is_honest disk ≡ is_honest old)
+GivesDiskBack is_honest state failures old (opens.Memory disk) =
+    StillLeaves is_honest state old disk × (failures disk ≡ failures old) × (is_honest disk ≡ is_honest old)
 GivesDiskBack is_honest state failures old (opens.BadLog disk number offset) = IsRefused is_honest state failures old disk number offset
 
 -- a disk was synced, and read whole

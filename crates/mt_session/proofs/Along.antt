@@ -22,7 +22,8 @@ module _ {S T : Type 0} (exchanges : CallerRelation S) (other : CallerRelation T
   same_back s t same h = subst well same h
 
   -- a reply by one is a reply by the other
-  reply_along : (opened o : Bool) (s t : S) (request : Request) (reply : WireReply) → IsReply exchanges opened s request reply o t → well t → IsReply other opened (view s) request reply o (view t) × well s
+  reply_along : (opened o : Bool) (s t : S) (request : Request) (reply : WireReply) → IsReply exchanges opened s request reply o t → well t
+      → IsReply other opened (view s) request reply o (view t) × well s
   reply_along false o s t (Open tenant) reply p h = ((p.0, along s _ t p.1 h, p.2, p.3), back s _ t p.1 h)
   reply_along true o s t (Open tenant) reply p h = ((p.0, p.1, ap view p.2), same_back s t p.2 h)
   reply_along false o s t (Call command) reply p h = ((p.0, p.1, ap view p.2), same_back s t p.2 h)
@@ -31,7 +32,8 @@ module _ {S T : Type 0} (exchanges : CallerRelation S) (other : CallerRelation T
   reply_along true o s t Settle reply p h = ((p.0, along s _ t p.1 h, p.2, p.3), back s _ t p.1 h)
 
   -- and so are replies one after the other
-  replies_along : (opened o : Bool) (s t : S) (requests : List Request) (replies : List WireReply) → AreReplies exchanges opened s requests replies o t → well t → AreReplies other opened (view s) requests replies o (view t) × well s
+  replies_along : (opened o : Bool) (s t : S) (requests : List Request) (replies : List WireReply)
+      → AreReplies exchanges opened s requests replies o t → well t → AreReplies other opened (view s) requests replies o (view t) × well s
   replies_along opened o s t [] [] p h = ((p.0, ap view p.1), same_back s t p.1 h)
   replies_along opened o s t (request ∷ requests) (reply ∷ replies) (mid, m, step, run) h =
       let rest = replies_along mid o m t requests replies run h in
@@ -41,7 +43,8 @@ module _ {S T : Type 0} (exchanges : CallerRelation S) (other : CallerRelation T
   replies_along opened o s t (request ∷ requests) [] p h = absurd p
 
   -- a transcript over one is a transcript over the other
-  transcript_along : (bytes rest text : Bytes) (opened o : Bool) (s t : S) → Transcript exchanges bytes opened s rest o t text → well t → Transcript other bytes opened (view s) rest o (view t) text
+  transcript_along : (bytes rest text : Bytes) (opened o : Bool) (s t : S) → Transcript exchanges bytes opened s rest o t text → well t
+      → Transcript other bytes opened (view s) rest o (view t) text
   transcript_along bytes rest text opened o s t transcript h = record {
     requests = transcript.requests;
     replies = transcript.replies;
@@ -52,14 +55,16 @@ module _ {S T : Type 0} (exchanges : CallerRelation S) (other : CallerRelation T
   }
 
   -- a command that is stuck for one is stuck for the other
-  stuck_along : (opened : Bool) (s t : S) (request : Request) → IsStuck exchanges opened s request t → well t → IsStuck other opened (view s) request (view t) × well s
+  stuck_along : (opened : Bool) (s t : S) (request : Request) → IsStuck exchanges opened s request t → well t
+      → IsStuck other opened (view s) request (view t) × well s
   stuck_along true s t (Call command) p h = (along s _ t p h, back s _ t p h)
   stuck_along true s t (Open tenant) p h = absurd p
   stuck_along true s t Settle p h = absurd p
   stuck_along false s t request p h = absurd p
 
   -- and the one request without a written reply
-  one_along : (opened : Bool) (rest : Bytes) (s t : S) → AsksAtMostOne exchanges opened s rest t → well t → AsksAtMostOne other opened (view s) rest (view t) × well s
+  one_along : (opened : Bool) (rest : Bytes) (s t : S) → AsksAtMostOne exchanges opened s rest t → well t
+      → AsksAtMostOne other opened (view s) rest (view t) × well s
   one_along opened rest s t (inl same) h = (inl (ap view same), same_back s t same h)
   one_along opened rest s t (inr p) h = elim p.run [
     | inl a ↦ let one = reply_along opened a.1 s t p.request a.0 a.2 h in
@@ -69,7 +74,9 @@ module _ {S T : Type 0} (exchanges : CallerRelation S) (other : CallerRelation T
   ]
 
   -- a session ends over one as over the other
-  ending_along : (result : Result Ended ServeFault) (left : Option Bytes) (rest text written : Bytes) (opened : Bool) (t new : S) → EndsAs exchanges result left rest text written opened t new → well new → EndsAs other result left rest text written opened (view t) (view new) × well t
+  ending_along : (result : Result Ended ServeFault) (left : Option Bytes) (rest text written : Bytes) (opened : Bool) (t new : S)
+      → EndsAs exchanges result left rest text written opened t new → well new
+      → EndsAs other result left rest text written opened (view t) (view new) × well t
   ending_along (Ok ends.Closed) left rest text written opened t new p h = ((p.0, p.1, p.2, ap view p.3), same_back t new p.3 h)
   ending_along (Ok ends.Cut) left rest text written opened t new p h = ((p.0, p.1, p.2, p.3, ap view p.4), same_back t new p.4 h)
   ending_along (Ok ends.Refused) left rest text written opened t new p h = ((p.0, p.1, ap view p.2), same_back t new p.2 h)
@@ -79,7 +86,9 @@ module _ {S T : Type 0} (exchanges : CallerRelation S) (other : CallerRelation T
 
   -- A session over a caller that is well at its end, and whose every exchange is then one of `other`, seen by `view`, is a session over `other`. It is
   -- all that a caller over a store has to cite: two lemmas about its own calls are `along` and `back`, and bytes don't come in.
-  pub serves_along : (before left held holds : Option Bytes) (reader_failed writer_failed : Type 0) (old new : S) (result : Result Ended ServeFault) → Serves exchanges before left held holds reader_failed writer_failed old new result → well new → Serves other before left held holds reader_failed writer_failed (view old) (view new) result
+  pub serves_along : (before left held holds : Option Bytes) (reader_failed writer_failed : Type 0) (old new : S) (result : Result Ended ServeFault)
+      → Serves exchanges before left held holds reader_failed writer_failed old new result → well new
+      → Serves other before left held holds reader_failed writer_failed (view old) (view new) result
   serves_along before left held holds reader_failed writer_failed old new result p h =
       let ending = ending_along result left p.rest p.text p.written p.is_open p.mid new p.ends h in
       record {

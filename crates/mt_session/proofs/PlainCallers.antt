@@ -58,18 +58,22 @@ fault_same command ScanCount _ p q = absurd q
 fault_same command _ g p q = absurd p
 
 -- what opens a tenant is one answer
-open_same : (place : Option ℕ) (d : PlainTenants) (a b : Option Refusal) (e f : PlainTenants) → PlainOpens place d a e → PlainOpens place d b f → (a ≡ b) × (e ≡ f)
+open_same : (place : Option ℕ) (d : PlainTenants) (a b : Option Refusal) (e f : PlainTenants) → PlainOpens place d a e → PlainOpens place d b f
+    → (a ≡ b) × (e ≡ f)
 open_same None d a b e f p q = (p.0 ∙ sym q.0, p.1 ∙ sym q.1)
 open_same (Some place) d a b e f p q = (p.0 ∙ sym q.0, p.1 ∙ sym q.1)
 
 -- a reply that was given by the map, where memory sufficed
-by_map : (x : PlainTenant) (command : Command) (reply : Reply) (e : PlainTenant) (w : WireReply) → ((reply ≡ reply_of x.quota command x.map) × (e ≡ record x { map = map_after x.quota command x.map })) ⊎ ((reply ≡ NoMemory) × (e ≡ x)) → call_told (Ok reply) ≡ Some w → IsAmple w
+by_map : (x : PlainTenant) (command : Command) (reply : Reply) (e : PlainTenant) (w : WireReply)
+    → ((reply ≡ reply_of x.quota command x.map) × (e ≡ record x { map = map_after x.quota command x.map })) ⊎ ((reply ≡ NoMemory) × (e ≡ x))
+    → call_told (Ok reply) ≡ Some w → IsAmple w
     → (w ≡ Told (reply_of x.quota command x.map)) × (e ≡ record x { map = map_after x.quota command x.map })
 by_map x command reply e w (inl h) told ample = let given = h.0 in (cc, h.1)
 by_map x command reply e w (inr h) told ample = let given = h.0 in absurd (ample cc)
 
 -- a tenant's command has one answer
-tenant_same : (x : PlainTenant) (command : Command) (a b : Result Reply CallerFault) (e f : PlainTenant) (w v : WireReply) → TenantCalls x command a e → TenantCalls x command b f → call_told a ≡ Some w → call_told b ≡ Some v → IsAmple w → IsAmple v → (w ≡ v) × (e ≡ f)
+tenant_same : (x : PlainTenant) (command : Command) (a b : Result Reply CallerFault) (e f : PlainTenant) (w v : WireReply) → TenantCalls x command a e
+    → TenantCalls x command b f → call_told a ≡ Some w → call_told b ≡ Some v → IsAmple w → IsAmple v → (w ≡ v) × (e ≡ f)
 tenant_same x command (Ok r) (Ok y) e f w v p q s t ample enough =
     let one = by_map x command r e w p.1 s ample in
     let two = by_map x command y f v q.1 t enough in
@@ -82,7 +86,9 @@ tenant_same x command (Ok r) (Err Stuck) e f w v p q s t ample enough = absurd q
 tenant_same x command (Err (Refused g)) (Err Stuck) e f w v p q s t ample enough = absurd q
 
 -- and so has a command of the opened tenant
-call_same : (opened : Option ℕ) (command : Command) (d : PlainTenants) (a b : Result Reply CallerFault) (e f : PlainTenants) (w v : WireReply) → PlainCalls opened d command a e → PlainCalls opened d command b f → call_told a ≡ Some w → call_told b ≡ Some v → IsAmple w → IsAmple v → (w ≡ v) × (e ≡ f)
+call_same : (opened : Option ℕ) (command : Command) (d : PlainTenants) (a b : Result Reply CallerFault) (e f : PlainTenants) (w v : WireReply)
+    → PlainCalls opened d command a e → PlainCalls opened d command b f → call_told a ≡ Some w → call_told b ≡ Some v → IsAmple w → IsAmple v
+    → (w ≡ v) × (e ≡ f)
 call_same None command d a b e f w v p q s t ample enough = let same : a ≡ b = p.0 ∙ sym q.0 in (same_Some w v (sym s ∙ ap call_told same ∙ t), p.1 ∙ sym q.1)
 call_same (Some place) command d a b e f w v (x, u, at, p, is) (y, z, here, q, becomes) s t ample enough =
     let same : y ≡ x = same_Some y x (sym here ∙ at) in
@@ -90,12 +96,15 @@ call_same (Some place) command d a b e f w v (x, u, at, p, is) (y, z, here, q, b
     (one.0, is ∙ ap (λ k. record d { list = slice_set d.list place k }) one.1 ∙ sym becomes)
 
 -- a request has one reply
-reply_same : (r : Request) (o : Bool) (d : PlainTenants) (w v : WireReply) (p q : Bool) (e f : PlainTenants) → IsReply PlainExchanges o d r w p e → IsReply PlainExchanges o d r v q f → IsAmple w → IsAmple v → (w ≡ v) × (p ≡ q) × (e ≡ f)
+reply_same : (r : Request) (o : Bool) (d : PlainTenants) (w v : WireReply) (p q : Bool) (e f : PlainTenants) → IsReply PlainExchanges o d r w p e
+    → IsReply PlainExchanges o d r v q f → IsAmple w → IsAmple v → (w ≡ v) × (p ≡ q) × (e ≡ f)
 reply_same (Open tenant) false d w v p q e f (a, given, told, stands) (b, gave, said, opened) ample enough =
     let same = open_same (place_of d.list tenant) d a b e f given gave in
     (told ∙ ap open_told same.0 ∙ sym said, stands ∙ ap open_after same.0 ∙ sym opened, same.1)
-reply_same (Open tenant) true d w v p q e f (told, stands, stays) (said, opened, stayed) ample enough = (told ∙ sym said, stands ∙ sym opened, stays ∙ sym stayed)
-reply_same (Call command) false d w v p q e f (told, stands, stays) (said, opened, stayed) ample enough = (told ∙ sym said, stands ∙ sym opened, stays ∙ sym stayed)
+reply_same (Open tenant) true d w v p q e f (told, stands, stays) (said, opened, stayed) ample enough =
+    (told ∙ sym said, stands ∙ sym opened, stays ∙ sym stayed)
+reply_same (Call command) false d w v p q e f (told, stands, stays) (said, opened, stayed) ample enough =
+    (told ∙ sym said, stands ∙ sym opened, stays ∙ sym stayed)
 reply_same (Call command) true d w v p q e f (a, given, told, stands) (b, gave, said, opened) ample enough =
     let same = call_same d.opened command d a b e f w v given gave told said ample enough in
     (same.0, stands ∙ sym opened, same.1)
@@ -104,7 +113,9 @@ reply_same Settle true d w v p q e f (a, given, told, stands) (b, gave, said, op
     (told ∙ ap settle_told (given.0 ∙ sym gave.0) ∙ sym said, stands ∙ sym opened, given.1 ∙ sym gave.1)
 
 -- and so have requests one after the other
-replies_same : (rs : List Request) (ws vs : List WireReply) (o : Bool) (d : PlainTenants) (p q : Bool) (e f : PlainTenants) → AreReplies PlainExchanges o d rs ws p e → AreReplies PlainExchanges o d rs vs q f → AllByRecursion IsAmple ws → AllByRecursion IsAmple vs → (ws ≡ vs) × (e ≡ f)
+replies_same : (rs : List Request) (ws vs : List WireReply) (o : Bool) (d : PlainTenants) (p q : Bool) (e f : PlainTenants)
+    → AreReplies PlainExchanges o d rs ws p e → AreReplies PlainExchanges o d rs vs q f → AllByRecursion IsAmple ws → AllByRecursion IsAmple vs
+    → (ws ≡ vs) × (e ≡ f)
 replies_same [] [] [] o d p q e f a b ample enough = (refl, a.1 ∙ sym b.1)
 replies_same (r ∷ rs) (w ∷ ws) (v ∷ vs) o d p q e f (n, m, step, run) (k, l, move, walk) ample enough =
     let one = reply_same r o d w v n k m l step move ample.0 enough.0 in
@@ -119,7 +130,9 @@ replies_same [] [] (v ∷ vs) o d p q e f a b ample enough = absurd b
 replies_same (r ∷ rs) (w ∷ ws) [] o d p q e f a b ample enough = absurd b
 
 -- where memory suffices, the bytes have one text
-pub one_text : (bytes rest left text words : Bytes) (d e f : PlainTenants) (o p : Bool) (a : Transcript PlainExchanges bytes false d rest o e text) (b : Transcript PlainExchanges bytes false d left p f words) → IsReadingEnd rest → IsReadingEnd left → AllByRecursion IsAmple a.replies → AllByRecursion IsAmple b.replies → (text ≡ words) × (rest ≡ left) × (e ≡ f)
+pub one_text : (bytes rest left text words : Bytes) (d e f : PlainTenants) (o p : Bool) (a : Transcript PlainExchanges bytes false d rest o e text) (b : Transcript PlainExchanges bytes false d left p f words)
+    → IsReadingEnd rest → IsReadingEnd left → AllByRecursion IsAmple a.replies → AllByRecursion IsAmple b.replies
+    → (text ≡ words) × (rest ≡ left) × (e ≡ f)
 one_text bytes rest left text words d e f o p a b stops ends ample enough =
     let read = one_reading requests a.requests b.requests rest left a.each b.each stops ends (sym a.spelled ∙ b.spelled) in
     let walk = subst (λ (rs : List Request). AreReplies PlainExchanges false d rs b.replies p f) (sym read.0) b.run in

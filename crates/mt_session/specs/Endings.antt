@@ -47,7 +47,8 @@ EndsAs exchanges (Ok ends.Closed) left rest text written is_open mid new = IsAtE
 EndsAs exchanges (Ok ends.Cut) left rest text written is_open mid new = IsAtEnd left × (rest ≢ []) × IsPartial rest × (written ≡ text) × (new ≡ mid)
 EndsAs exchanges (Ok ends.Refused) left rest text written is_open mid new = IsBad rest × (written ≡ text ++ bad_frame_reply) × (new ≡ mid)
 EndsAs exchanges (Err faults.Read) left rest text written is_open mid new = IsPartial rest × (written ≡ text) × (new ≡ mid)
-EndsAs exchanges (Err faults.Write) left rest text written is_open mid new = (IsBeginning written text ⊎ (IsBad rest × IsBeginning written (text ++ bad_frame_reply))) × AsksAtMostOne exchanges is_open mid rest new
+EndsAs exchanges (Err faults.Write) left rest text written is_open mid new =
+    (IsBeginning written text ⊎ (IsBad rest × IsBeginning written (text ++ bad_frame_reply))) × AsksAtMostOne exchanges is_open mid rest new
 EndsAs exchanges (Err faults.Memory) left rest text written is_open mid new = (written ≡ text) × AsksAtMostOne exchanges is_open mid rest new
 
 -- Why it ended so. Read: the reader failed, or gave 2^64 - 1 bytes. Write: the writer failed. Of the others nothing

@@ -39,13 +39,15 @@ PlainOpens None old refusal new = (refusal ≡ Some NoTenant) × (new ≡ old)
 -- A tenant's command is refused for its first fault, or it is answered by the tenant's map, or, where a
 -- growth was refused, with NoMemory, and nothing changes. No command is stuck.
 abbrev pub TenantCalls : PlainTenant → Command → Result Reply CallerFault → PlainTenant → Type 0
-TenantCalls old command (Ok reply) new = IsTaken command × (((reply ≡ reply_of old.quota command old.map) × (new ≡ record old { map = map_after old.quota command old.map })) ⊎ ((reply ≡ NoMemory) × (new ≡ old)))
+TenantCalls old command (Ok reply) new =
+    IsTaken command × (((reply ≡ reply_of old.quota command old.map) × (new ≡ record old { map = map_after old.quota command old.map })) ⊎ ((reply ≡ NoMemory) × (new ≡ old)))
 TenantCalls old command (Err (Refused refusal)) new = IsFirstFault command refusal × (new ≡ old)
 TenantCalls old command (Err Stuck) new = ⊥
 
 -- A command is one of the opened tenant, and leaves the others; where none is opened, it is refused.
 abbrev pub PlainCalls : Option ℕ → PlainTenants → Command → Result Reply CallerFault → PlainTenants → Type 0
-PlainCalls (Some place) old command answer new = (t u : PlainTenant) × (slice_get old.list place ≡ Some t) × TenantCalls t command answer u × (new ≡ record old { list = slice_set old.list place u })
+PlainCalls (Some place) old command answer new =
+    (t u : PlainTenant) × (slice_get old.list place ≡ Some t) × TenantCalls t command answer u × (new ≡ record old { list = slice_set old.list place u })
 PlainCalls None old command answer new = (answer ≡ Err (Refused NotOpen)) × (new ≡ old)
 
 -- what the caller answers: a Settle is refused, since it keeps nothing

@@ -49,12 +49,15 @@ settle_told (Err refusal) = refused refusal
 -- not, and the caller is new. A session that is not open asks its caller to open the tenant of an Open, and
 -- refuses all else with NotOpen; an open one refuses an Open with OpenTwice, and asks its caller for all else.
 abbrev pub IsReply : {S : Type 0} → CallerRelation S → Bool → S → Request → WireReply → Bool → S → Type 0
-IsReply exchanges false old (Open tenant) reply now_open new = (refusal : Option Refusal) × exchanges old (Opens tenant refusal) new × (reply ≡ open_told refusal) × (now_open ≡ open_after refusal)
+IsReply exchanges false old (Open tenant) reply now_open new =
+    (refusal : Option Refusal) × exchanges old (Opens tenant refusal) new × (reply ≡ open_told refusal) × (now_open ≡ open_after refusal)
 IsReply exchanges false old (Call command) reply now_open new = (reply ≡ refused NotOpen) × (now_open ≡ false) × (new ≡ old)
 IsReply exchanges false old Settle reply now_open new = (reply ≡ refused NotOpen) × (now_open ≡ false) × (new ≡ old)
 IsReply exchanges true old (Open tenant) reply now_open new = (reply ≡ refused OpenTwice) × (now_open ≡ true) × (new ≡ old)
-IsReply exchanges true old (Call command) reply now_open new = (answer : Result Reply CallerFault) × exchanges old (Calls command answer) new × (call_told answer ≡ Some reply) × (now_open ≡ true)
-IsReply exchanges true old Settle reply now_open new = (answer : Result ℕ Refusal) × exchanges old (Settles answer) new × (reply ≡ settle_told answer) × (now_open ≡ true)
+IsReply exchanges true old (Call command) reply now_open new =
+    (answer : Result Reply CallerFault) × exchanges old (Calls command answer) new × (call_told answer ≡ Some reply) × (now_open ≡ true)
+IsReply exchanges true old Settle reply now_open new =
+    (answer : Result ℕ Refusal) × exchanges old (Settles answer) new × (reply ≡ settle_told answer) × (now_open ≡ true)
 
 -- a command of an open session that the caller could not finish: it has no reply
 abbrev pub IsStuck : {S : Type 0} → CallerRelation S → Bool → S → Request → S → Type 0

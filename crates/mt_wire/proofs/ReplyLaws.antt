@@ -62,12 +62,14 @@ pair_takes bytes x fits e =
 
 pair_again : (p : Bytes × Columns) (rest : Bytes) → FitsPair p → pair_at (shown_pair p ++ rest) ≡ Some (p, rest)
 unfolding pair_at
-pair_again p rest fits = ap pair_at (append_assoc (string p.0) (shown_row p.1) rest) ∙ rw (string_again p.0 (shown_row p.1 ++ rest) fits.0, row_again p.1 rest fits.1) refl
+pair_again p rest fits =
+    ap pair_at (append_assoc (string p.0) (shown_row p.1) rest) ∙ rw (string_again p.0 (shown_row p.1 ++ rest) fits.0, row_again p.1 rest fits.1) refl
 
 abbrev HaveRows : List (Bytes × Columns) → Type 0
 HaveRows pairs = All (λ (p : Bytes × Columns). IsRow p.1) pairs
 
-pairs_takes : (bytes : Bytes) (x : List (Bytes × Columns) × Bytes) → IsBytes bytes → pairs_at bytes ≡ Some x → Takes bytes (length x.0 ∷ flat_map shown_pair x.0) x.1 × ArePairs x.0 × HaveRows x.0
+pairs_takes : (bytes : Bytes) (x : List (Bytes × Columns) × Bytes) → IsBytes bytes → pairs_at bytes ≡ Some x
+    → Takes bytes (length x.0 ∷ flat_map shown_pair x.0) x.1 × ArePairs x.0 × HaveRows x.0
 unfolding pairs_at
 pairs_takes bytes x fits e =
     let a = bind_some (byte_at bytes) (λ n. each_at pair_at n.0 n.1 >>= λ ps. cond (are_pairs ps.0) (Some ps) None) x e in
@@ -83,7 +85,8 @@ pairs_takes bytes x fits e =
 fit_pairs : (pairs : List (Bytes × Columns)) → ArePairs pairs → HaveRows pairs → AllByRecursion FitsPair pairs
 fit_pairs pairs h rows = recursion_from_All FitsPair pairs (λ k d lt. (let short = h.keys k d lt in omega arith, rows k d lt))
 
-pairs_again : (pairs : List (Bytes × Columns)) (rest : Bytes) → ArePairs pairs → HaveRows pairs → pairs_at ((length pairs ∷ flat_map shown_pair pairs) ++ rest) ≡ Some (pairs, rest)
+pairs_again : (pairs : List (Bytes × Columns)) (rest : Bytes) → ArePairs pairs → HaveRows pairs
+    → pairs_at ((length pairs ∷ flat_map shown_pair pairs) ++ rest) ≡ Some (pairs, rest)
 unfolding pairs_at
 pairs_again pairs rest h rows = rw (each_again pair_at shown_pair FitsPair pair_again pairs rest (fit_pairs pairs h rows), test_from_pairs pairs h) refl
 
@@ -118,11 +121,13 @@ settled_takes bytes x fits e =
     subst (Reads 7 bytes) (same_Some made x a.2) (Takes-more 7 bytes (to_be_bytes w64 a.0.0) a.0.1 t.0, t.1)
 
 -- a reply of one byte
-plain_takes : (kind : ℕ) (bytes : Bytes) (r : WireReply) (x : WireReply × Bytes) → IsBytes bytes → reply_body r ≡ kind ∷ [] → IsSpellableReply r → Some (r, bytes) ≡ Some x → Reads kind bytes x
+plain_takes : (kind : ℕ) (bytes : Bytes) (r : WireReply) (x : WireReply × Bytes) → IsBytes bytes → reply_body r ≡ kind ∷ [] → IsSpellableReply r
+    → Some (r, bytes) ≡ Some x → Reads kind bytes x
 plain_takes kind bytes r x fits body one e =
     subst (Reads kind bytes) (same_Some (r, bytes) x e) (record { parts = ap (λ (b : Bytes). b ++ bytes) (sym body); rest_fits = fits }, one)
 
-refused_takes : (kind : ℕ) (bytes : Bytes) (x : WireReply × Bytes) → kind < 256 → 128 < kind → IsBytes bytes → Some (Refused (kind - 128), bytes) ≡ Some x → Reads kind bytes x
+refused_takes : (kind : ℕ) (bytes : Bytes) (x : WireReply × Bytes) → kind < 256 → 128 < kind → IsBytes bytes
+    → Some (Refused (kind - 128), bytes) ≡ Some x → Reads kind bytes x
 refused_takes kind bytes x small large fits e =
     let again : 128 + (kind - 128) ≡ kind = omega arith in
     plain_takes kind bytes (Refused (kind - 128)) x fits (ap (λ (k : ℕ). k ∷ []) again) (omega arith, omega arith) e
@@ -179,7 +184,8 @@ reply_again (Told New) fits = refl
 reply_again (Told Replaced) fits = refl
 reply_again (Told Full) fits = refl
 reply_again (Told Removed) fits = refl
-reply_again (Told (Pairs pairs)) fits = ap (λ (t : Bytes). reply_in (6 ∷ t)) (sym (append-nil (length pairs ∷ flat_map shown_pair pairs))) ∙ rw (pairs_again pairs [] fits.0 fits.1) refl
+reply_again (Told (Pairs pairs)) fits =
+    ap (λ (t : Bytes). reply_in (6 ∷ t)) (sym (append-nil (length pairs ∷ flat_map shown_pair pairs))) ∙ rw (pairs_again pairs [] fits.0 fits.1) refl
 reply_again (Told NoMemory) fits = refl
 reply_again (Settled number) fits = ap (λ (n : ℕ). Some (Settled n)) (wide64.again number fits)
 reply_again (Refused number) fits = ap (λ r. r >>= λ x. cond (eqb (length x.1) 0) (Some x.0) None) (refused_again number fits.0)

@@ -105,10 +105,13 @@ request_takes bytes r fits e =
 pub request_again : (r : Request) → RequestFits r → request_in (request_body r) ≡ Some r
 unfolding request_in kind_at open_at get_at put_at remove_at scan_at
 request_again (Open tenant) fits = ap (λ (n : ℕ). Some (Open n)) (wide32.again tenant fits)
-request_again (Call (Get key columns)) fits = ap (λ (t : Bytes). request_in (2 ∷ (string key ++ t))) (sym (append-nil (asked_columns columns))) ∙ rw (string_again key (asked_columns columns ++ []) fits.0, asked_again columns []) refl
-request_again (Call (Put key cs)) fits = ap (λ (t : Bytes). request_in (3 ∷ (string key ++ t))) (sym (append-nil (named_columns cs))) ∙ rw (string_again key (named_columns cs ++ []) fits.0, named_columns_again cs [] fits.2) refl
+request_again (Call (Get key columns)) fits =
+    ap (λ (t : Bytes). request_in (2 ∷ (string key ++ t))) (sym (append-nil (asked_columns columns))) ∙ rw (string_again key (asked_columns columns ++ []) fits.0, asked_again columns []) refl
+request_again (Call (Put key cs)) fits =
+    ap (λ (t : Bytes). request_in (3 ∷ (string key ++ t))) (sym (append-nil (named_columns cs))) ∙ rw (string_again key (named_columns cs ++ []) fits.0, named_columns_again cs [] fits.2) refl
 request_again (Call (Remove key)) fits = ap (λ (t : Bytes). request_in (4 ∷ t)) (sym (append-nil (string key))) ∙ rw (string_again key [] fits) refl
-request_again (Call (Scan from after count columns)) fits = ap (λ (t : Bytes). request_in (5 ∷ start_flag after ∷ (string from ++ (count ∷ t)))) (sym (append-nil (asked_columns columns))) ∙ rw (start_again after (string from ++ (count ∷ (asked_columns columns ++ []))), string_again from (count ∷ (asked_columns columns ++ [])) fits.0, asked_again columns []) refl
+request_again (Call (Scan from after count columns)) fits =
+    ap (λ (t : Bytes). request_in (5 ∷ start_flag after ∷ (string from ++ (count ∷ t)))) (sym (append-nil (asked_columns columns))) ∙ rw (start_again after (string from ++ (count ∷ (asked_columns columns ++ []))), string_again from (count ∷ (asked_columns columns ++ [])) fits.0, asked_again columns []) refl
 request_again Settle fits = refl
 
 some_body : (r : Request) → 1 ≤ length (request_body r)
@@ -125,6 +128,7 @@ requests = record {
   small = omega arith;
   some = some_body;
   short = λ r fits. fits.short;
-  takes = λ bytes r fits short e. (let t = request_takes bytes r fits e in (t.0, record { fields = t.1; short = subst (λ (b : Bytes). length b ≤ 32768) t.0 short }));
+  takes =
+      λ bytes r fits short e. (let t = request_takes bytes r fits e in (t.0, record { fields = t.1; short = subst (λ (b : Bytes). length b ≤ 32768) t.0 short }));
   again = λ r fits. request_again r fits.fields;
 }

@@ -13,13 +13,15 @@ loop-init g c =
     let before = g.R.Source.remaining c.args.reader.now in
     let held = g.W.Sink.contents c.args.writer.now in
     record {
-      way = subst (λ (f : Front). Progress before before held held c.args.session.now f 0) (sym c.requires.empty) (subst (λ (s : SessionView). Progress before before held held s (front_of []) 0) (sym c.requires.fresh) (starts before held));
+      way =
+          subst (λ (f : Front). Progress before before held held c.args.session.now f 0) (sym c.requires.empty) (subst (λ (s : SessionView). Progress before before held held s (front_of []) 0) (sym c.requires.fresh) (starts before held));
       reader = NoFewer-refl _;
       writer = NoFewer-refl _;
     }
 
 pub returns-in-Err : goal.returns-in-Err
-returns-in-Err g c = read_fails _ _ _ _ _ _ _ c.loop.counter _ _ c.in-Err.error c.loop.invariant.way c.in-Err.ensures.err (inl (then-Failed _ _ _ c.loop.invariant.reader c.in-Err.ensures.cause))
+returns-in-Err g c =
+    read_fails _ _ _ _ _ _ _ c.loop.counter _ _ c.in-Err.error c.loop.invariant.way c.in-Err.ensures.err (inl (then-Failed _ _ _ c.loop.invariant.reader c.in-Err.ensures.cause))
 
 pub returns : goal.returns
 returns g c = read_fails _ _ _ _ _ _ _ c.loop.counter _ _ c.from.result c.loop.invariant.way (Keeps-refl _) (inr (omega arith))
@@ -39,7 +41,8 @@ pub loop-preserved : goal.loop-preserved
 loop-preserved g c =
     let read = rw c.in-Ok-Some.field-0-is at c.in-Ok-Some.ensures.byte in
     record {
-      way = takes _ _ _ _ _ _ _ _ _ _ c.in-Ok-Some.byte c.loop.counter _ (c.in-Ok-Some.byte == 10) refl c.loop.invariant.way read c.in_ok-take_byte-in-Ok-Some.ensures.taken;
+      way =
+          takes _ _ _ _ _ _ _ _ _ _ c.in-Ok-Some.byte c.loop.counter _ (c.in-Ok-Some.byte == 10) refl c.loop.invariant.way read c.in_ok-take_byte-in-Ok-Some.ensures.taken;
       reader = NoFewer-trans _ _ _ c.loop.invariant.reader c.next_byte.ensures.failures;
       writer = NoFewer-trans _ _ _ c.loop.invariant.writer c.take_byte.ensures.failures;
     }

@@ -19,7 +19,8 @@ returns-then-ne c = record {
   steps = c.loop-stop.invariant.0;
   mid = c.loop-stop.state;
   walks = c.loop-stop.invariant.1;
-  ends = ends_walk c.args.stop c.loop-stop.state c.step-answer.new.self c.args.ticket.now.id c.step-answer.result (search (rules, c.if-ne.true, c.if-ne.ensures)) c.step-answer.ensures.tells;
+  ends =
+      ends_walk c.args.stop c.loop-stop.state c.step-answer.new.self c.args.ticket.now.id c.step-answer.result (search (rules, c.if-ne.true, c.if-ne.ensures)) c.step-answer.ensures.tells;
 }
 
 pub loop-stop-preserved : goal.loop-stop-preserved

@@ -15,4 +15,5 @@ loop-preserved c =
     rw c.in_ok-push.ensures.items (goes_on record_at c.loop.records.items c.args.count c.loop.counter c.loop.rest.now c.in_ok-record.record c.in_ok-record.after.now (each_at record_at c.args.count c.args.bytes.now) c.loop-test.true c.in_ok-record.ensures c.loop.invariant)
 
 pub returns : goal.returns
-returns c = is_done record_at c.loop.records.items c.args.count c.loop.counter c.loop.rest.now (each_at record_at c.args.count c.args.bytes.now) c.loop-test.false c.loop.invariant
+returns c =
+    is_done record_at c.loop.records.items c.args.count c.loop.counter c.loop.rest.now (each_at record_at c.args.count c.args.bytes.now) c.loop-test.false c.loop.invariant

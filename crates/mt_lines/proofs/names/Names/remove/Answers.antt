@@ -18,4 +18,5 @@ invariant_of-self-2 c =
     (within_row c.self.inside.row.items c.id-id.result c.args.name (c.self.invariant.by_name c.args.name c.id-id.result held)) c.self.invariant
 
 pub returns-clause-freed : goal.returns-clause-freed
-returns-clause-freed c = subst (λ (old : Tickets). FreesName old c.remove.new.self.entries c.args.name) c.self.view_is (frees_from c.self.inside.tickets c.remove.new.self c.args.name c.remove.ensures.updates)
+returns-clause-freed c =
+    subst (λ (old : Tickets). FreesName old c.remove.new.self.entries c.args.name) c.self.view_is (frees_from c.self.inside.tickets c.remove.new.self c.args.name c.remove.ensures.updates)
