@@ -3,4 +3,4 @@ use Rattle.std.proofs.Common.{refl}
 use Rattle.mt_phases_tests.proofs.phases.start.Goals as goal
 
 pub returns : goal.returns
-returns g c = c.in-Ok.ensures.kept c.args.task.now c.args.prepared.now refl c.requires
+returns g c = c.in-Ok.ensures.starts.kept c.args.task.now c.args.prepared.now refl c.requires
