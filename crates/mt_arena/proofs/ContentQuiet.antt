@@ -105,7 +105,6 @@ module _ (h : Entry → Option ((ℕ × Bytes) × Columns)) where
 
 -- a node whose new slots have the same pairs
 pub stands_same_pairs : (trees : List Tree) (nodes : List NodeView) (k : ℕ) (y : NodeView) (entries : List Entry) → HasSlots (node_at nodes k) y entries
-   
     → filter_map (pair_in (tree_at trees (node_at nodes k).tree).prefix) entries ≡ filter_map (pair_in (tree_at trees (node_at nodes k).tree).prefix) (node_at nodes k).slots
     → content trees (set nodes k y) ≡ content trees nodes
 stands_same_pairs trees nodes k y entries has same = content-set trees nodes k y

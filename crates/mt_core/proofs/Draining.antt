@@ -118,14 +118,14 @@ pub least_more : (numbers : List ℕ) (i bound least : ℕ) → i < length numbe
     → IsLeastOf (take (i + 1) numbers) bound (min least (get_or numbers i 0))
 least_more numbers i bound least within h =
     subst (λ (ns : List ℕ). IsLeastOf ns bound (min least (get_or numbers i 0))) (sym (take_more numbers i 0 within)) (record {
-  within = omega (arith, h.within);
-  each = All-push (λ m. min least (get_or numbers i 0) ≤ m) (take i numbers) (get_or numbers i 0)
-      (λ k d lt. let was = h.each k d lt in omega (arith, was)) (omega arith);
-  greatest = λ n low all.
-      let before = h.greatest n low (λ k d lt. subst (λ x. n ≤ x) (before_push k d lt) (all k d (omega (arith, lt, longer)))) in
-      let here = all (length (take i numbers)) 0 (omega (arith, longer)) in
-      omega (arith, before, subst (λ x. n ≤ x) last_push here);
-})
+      within = omega (arith, h.within);
+      each = All-push (λ m. min least (get_or numbers i 0) ≤ m) (take i numbers) (get_or numbers i 0)
+          (λ k d lt. let was = h.each k d lt in omega (arith, was)) (omega arith);
+      greatest = λ n low all.
+          let before = h.greatest n low (λ k d lt. subst (λ x. n ≤ x) (before_push k d lt) (all k d (omega (arith, lt, longer)))) in
+          let here = all (length (take i numbers)) 0 (omega (arith, longer)) in
+          omega (arith, before, subst (λ x. n ≤ x) last_push here);
+    })
   where
     longer : length (take i numbers ++ get_or numbers i 0 ∷ []) ≡ length (take i numbers) + 1
     longer = length-append (take i numbers) (get_or numbers i 0 ∷ [])

@@ -68,11 +68,11 @@ module _ (c : Core) (o : ℕ) (h : StateInvariant c) (op : Operation) (there : o
   may_over left table x over same = record {
     later =
         λ q y there_y. let found : operation_at (set c.table o (Some x)) q ≡ Some y = ap (λ (t : Table). operation_at t q) (sym over.is) ∙ there_y in elim (cases_eq q o) [
-      | inl own ↦
-          let it : x ≡ y = set_here c.table o x y (subst (λ k. operation_at (set c.table o (Some x)) k ≡ Some y) own found) in
-          subst (λ (z : Operation). z.walk.first < c.steps + 1) it (subst (λ (w : Walk). w.first < c.steps + 1) (sym same) (first o op there))
-      | inr other ↦ first q y (sym (set_there c.table o q (Some x) other) ∙ found)
-    ];
+          | inl own ↦
+              let it : x ≡ y = set_here c.table o x y (subst (λ k. operation_at (set c.table o (Some x)) k ≡ Some y) own found) in
+              subst (λ (z : Operation). z.walk.first < c.steps + 1) it (subst (λ (w : Walk). w.first < c.steps + 1) (sym same) (first o op there))
+          | inr other ↦ first q y (sym (set_there c.table o q (Some x) other) ∙ found)
+        ];
     unfinished =
         λ y there_y. ap (λ (w : Walk). not (is_done w.phase)) (ap (λ (z : Operation). z.walk) (sym (opened c.table table o x y over there_y)) ∙ same) ∙ ap not left;
   }

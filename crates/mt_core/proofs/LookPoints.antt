@@ -278,17 +278,17 @@ pub confirm_nears : (v : ArenaView) (past : Past) (key : Bytes) (row : Option Co
     → IsAtPoint height (made + 1) v after s
 confirm_nears v past key row w after stored confirming h live confirms goes_on height made s point =
     elim (same_or_not (at v w.place.node).version w.place.seen) [
-  | inl same ↦
-      let is = confirms.same same in
-      subst (λ (x : Walk). IsAtPoint height (made + 1) v x s) (sym is)
-      (onward (same_stands (at v w.place.node) w.place.seen h.at_border.covers.remembered.undeleted same) w.taken h.taken (λ done. goes_on (ap (λ (x : Walk). x.phase) is ∙ done)))
-  | inr other ↦ elim few [
-    | inl now ↦ absurd (other (same_now v w now.0))
-    | inr strays ↦
-        subst (λ (x : Walk). IsAtPoint height (made + 1) v x s) (sym (confirms.changed other ∙ after_live w (at v w.place.node).version (at v w.place.node).next live))
-        (record { below = λ grown. below; few = inl (refl, omega (arith, strays)) })
-  ]
-]
+      | inl same ↦
+          let is = confirms.same same in
+          subst (λ (x : Walk). IsAtPoint height (made + 1) v x s) (sym is)
+          (onward (same_stands (at v w.place.node) w.place.seen h.at_border.covers.remembered.undeleted same) w.taken h.taken (λ done. goes_on (ap (λ (x : Walk). x.phase) is ∙ done)))
+      | inr other ↦ elim few [
+        | inl now ↦ absurd (other (same_now v w now.0))
+        | inr strays ↦
+            subst (λ (x : Walk). IsAtPoint height (made + 1) v x s) (sym (confirms.changed other ∙ after_live w (at v w.place.node).version (at v w.place.node).next live))
+            (record { below = λ grown. below; few = inl (refl, omega (arith, strays)) })
+      ]
+    ]
   where
     below : AreBelow v height
     below = below_at height made v w s Confirm confirming (λ grown. grown) point

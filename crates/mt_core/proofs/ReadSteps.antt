@@ -219,7 +219,6 @@ module _ (c now : Core) (o : ℕ) (is : c ≡ now) (h : StateInvariant c) (room 
   -- a search that found nothing
   pub search_gives_missing : IsArena c.arena.nodes c.arena.trees → (at_search : op.walk.phase ≡ Search) → (w : Walk)
       → (found : (f : Find) × FindsIn (at c.arena op.walk.place.node) op.task.key op.walk.layer f × (w ≡ after_search f op.walk (c.steps + 1)))
-     
       → ((past : Past) (row : Option Columns) → IsNow past (c.steps + 1) c.arena → op.walk.first ≤ c.steps + 1 → IsKept c.arena past op.task.key row w)
       → w.phase ≡ Confirm
       → (told : Outcome) → told ≡ record { reply = Absent; at = c.steps + 1 } → (table : Table) → table ≡ led w (Some told) → StepGives table Moved
@@ -232,7 +231,6 @@ module _ (c now : Core) (o : ℕ) (is : c ≡ now) (h : StateInvariant c) (room 
   -- a search that found a slot
   pub search_gives_found : IsArena c.arena.nodes c.arena.trees → (at_search : op.walk.phase ≡ Search) → (w : Walk)
       → (found : (f : Find) × FindsIn (at c.arena op.walk.place.node) op.task.key op.walk.layer f × (w ≡ after_search f op.walk (c.steps + 1)))
-     
       → ((past : Past) (row : Option Columns) → IsNow past (c.steps + 1) c.arena → op.walk.first ≤ c.steps + 1 → IsKept c.arena past op.task.key row w)
       → w.phase ≢ Confirm
       → (table : Table) → table ≡ set c.table o (Some (moved op (c.steps + 1) w)) → StepGives table Moved

@@ -159,6 +159,6 @@ module _ (v : ArenaView) (op : ℕ) (s : Splits) (arena : IsArena v.nodes v.tree
   pub child_holds : (moved : ℕ) → HoldsSplits v op s → HoldsSplits u op (record s { moved = moved })
   child_holds moved holds k within holder =
       elim (holds k (omega (arith, within, length-set v.nodes b y)) (sym (ap (λ (n : NodeView). n.holder) (keeps k).is) ∙ holder)) [
-    | inl half ↦ inl half
-    | inr above ↦ inr above
-  ]
+        | inl half ↦ inl half
+        | inr above ↦ inr above
+      ]
