@@ -6,7 +6,7 @@ use Rattle.std.proofs.lemmas.Option.{same_Some}
 use Rattle.mt_arena.specs.Arena.{ArenaView, IsArena}
 use Rattle.mt_arena.specs.Accesses.{at}
 use Rattle.mt_operation.specs.declared.phase.Phase.{Phase}
-use Rattle.mt_operation.specs.declared.phase.Phase.TheVariants.{Done, InsertChild, InteriorSplit, LockParent, Reparent, RootGrow, SplitPrev}
+use Rattle.mt_operation.specs.declared.phase.Phase.TheVariants.{Done, InteriorSplit, RootGrow}
 use Rattle.mt_operation.specs.declared.walk.Walk.{Walk}
 use Rattle.mt_operation.specs.declared.splits.Halves.{Halves}
 use Rattle.mt_operation.specs.declared.splits.Splits.{Splits}
@@ -21,11 +21,11 @@ use Rattle.mt_state.specs.declared.moves.Move.{Move}
 use Rattle.mt_state.specs.declared.moves.Move.TheVariants.{Again, Moved, NoMemory}
 use Rattle.mt_state.specs.Views.{Core, Shown, shown}
 use Rattle.mt_state.specs.Promises.{IsAnswer, IsHeldByOther, IsInTheWay}
-use Rattle.mt_state.specs.KeptOperations.{IsClimbing, IsKeptAt, IsKeptOf}
+use Rattle.mt_state.specs.KeptOperations.{IsClimbing, IsKeptOf}
 use Rattle.mt_state.specs.Invariant.{HoldsAt, StateInvariant, made_count, one_if_prepared, prepared_count}
 use Rattle.mt_state.proofs.Shown.{shown_set, shown_table, shown_there}
 use Rattle.mt_state.proofs.Telling.{Gives}
-use Rattle.mt_state.proofs.SplitSteps.{climb_among, climb_done, climbing_of}
+use Rattle.mt_state.proofs.SplitSteps.{climb_among, climb_done, climbing_of, among_climb, kept_climbing}
 use Rattle.mt_state.proofs.ClimbingNodes.{climb_keeps, climb_leads}
 use Rattle.mt_core.specs.Nexts.{IsNext}
 use Rattle.mt_core.specs.Points.{StepsOn, above}
@@ -43,26 +43,6 @@ count_back : (table : Table) (o : ℕ) (x y : Operation) → operation_at table 
 count_back [] o x y is same = refl
 count_back (z ∷ table) zero x y is same = let was = ap one_if_prepared is in omega (arith, was, same)
 count_back (z ∷ table) (suc o) x y is same = let rest = count_back table o x y is same in omega (arith, rest)
-
--- what is kept of an operation that climbs is what is kept at its phase
-climbs_at : (p : Phase) → IsClimb p → (c : Core) (o : ℕ) (op : Operation) → IsClimbing c o op p → IsKeptAt p c o op
-climbs_at SplitPrev i c o op kept = kept
-climbs_at LockParent i c o op kept = kept
-climbs_at InsertChild i c o op kept = kept
-climbs_at InteriorSplit i c o op kept = kept
-climbs_at Reparent i c o op kept = kept
-climbs_at RootGrow i c o op kept = kept
-climbs_at _ i c o op kept = absurd i
-
--- it holds the nodes of its splits
-climb_holds : (p : Phase) → IsClimb p → (w : Walk) (s : Splits) (k : ℕ) → IsAmong s k → HoldsAt p w s k
-climb_holds SplitPrev i w s k among = among
-climb_holds LockParent i w s k among = among
-climb_holds InsertChild i w s k among = among
-climb_holds InteriorSplit i w s k among = among
-climb_holds Reparent i w s k among = among
-climb_holds RootGrow i w s k among = among
-climb_holds _ i w s k among = absurd i
 
 -- a step of it is left
 climb_open : (p : Phase) → IsClimb p → is_done p ≡ false
@@ -178,7 +158,7 @@ module _ (c : Core) (o : ℕ) (op : Operation) (h : StateInvariant c) (there : o
             begun = a.begun;
             short = a.short;
           };
-          kept = climbs_at op.walk.phase climbs new o y (record {
+          kept = kept_climbing op.walk.phase climbs new o y (record {
             climbs = grow_same op.splits t same op.walk.phase grows c.arena o climbing.climbs;
             answer = record { outcome = climbing.answer.outcome; told = climbing.answer.told; right = subst (λ (x : OperationView). IsAnswer (shown new) x climbing.answer.outcome) (sym (same_view same)) right; unprepared = climbing.answer.unprepared };
           });
@@ -203,7 +183,7 @@ module _ (c : Core) (o : ℕ) (op : Operation) (h : StateInvariant c) (there : o
         | inl is ↦
             let it : f.0 ≡ op = same_Some f.0 op (sym f.1 ∙ ap (operation_at c.table) is ∙ there) in
             let holds : HoldsAt op.walk.phase op.walk op.splits k = subst (λ (x : Operation). HoldsAt x.walk.phase x.walk x.splits k) it f.2 in
-            (y, ap (operation_at new.table) is ∙ here, climb_holds op.walk.phase climbs op.walk t k (among_same op.splits t same k (climb_among op.walk.phase climbs op.walk op.splits k holds)))
+            (y, ap (operation_at new.table) is ∙ here, among_climb op.walk.phase climbs op.walk t k (among_same op.splits t same k (climb_among op.walk.phase climbs op.walk op.splits k holds)))
         | inr other ↦ (f.0, set_there c.table o q (Some y) other ∙ f.1, f.2)
       ];
       counts = h.counts;

@@ -16,7 +16,7 @@ use Rattle.mt_operation.specs.declared.outcome.Outcome.{Outcome}
 use Rattle.mt_operation.specs.declared.operation.Operation.{Operation}
 use Rattle.mt_operation.specs.declared.phase.Phase.{Phase}
 use Rattle.mt_operation.specs.declared.phase.Phase.TheVariants as phases
-use Rattle.mt_operation.specs.declared.phase.Phase.TheVariants.{Enter, Pick, Child, Verify, Search, Load, Confirm, Forward, Lock, Judge, Store, Publish, SplitStart, SplitMove, SplitPrev, LockParent, InsertChild, InteriorSplit, Reparent, RootGrow, MakeLayer, MarkUnstable, MarkLayer, Unlock, Done}
+use Rattle.mt_operation.specs.declared.phase.Phase.TheVariants.{Enter, Load, Confirm, Store, Unlock, Done}
 use Rattle.mt_operation.specs.declared.walk.Walk.{Walk}
 use Rattle.mt_operation.specs.declared.walk.Taken.{Taken}
 use Rattle.mt_operation.specs.declared.walk.Taken.TheVariants.{Missing, Row, Link, Nothing}
@@ -27,8 +27,10 @@ use Rattle.mt_descent.specs.KeptWalks.{IsKept, KeptAt}
 use Rattle.mt_descent.proofs.Rely as descent
 use Rattle.mt_state.specs.Views.{Core, shown, past_of, map_of, quota_of, IsPlaced}
 use Rattle.mt_state.specs.Steps.{change_in, told_change}
-use Rattle.mt_state.specs.KeptOperations.{IsOpenOperation, IsOnItsWay, HasAnswer, TellsTaken, IsLayering, IsReturning, IsKeptAt, IsKeptOf}
+use Rattle.mt_state.specs.KeptOperations.{IsOpenOperation, IsOnItsWay, HasAnswer, TellsTaken, IsLayering, IsReturning, IsKeptOf, IsKeptFor, IsReadingAt, IsWritingAt}
 use Rattle.mt_state.proofs.Still.{nothing_changes}
+use Rattle.mt_operation.specs.Phases.{Kind, row}
+use Rattle.mt_operation.specs.Phases as kinds
 
 -- the same state with another count of answers, other logs, another tape and another table
 abbrev retaped : Core → ℕ → List ℕ → Kept → Table → Core
@@ -80,34 +82,29 @@ module _ (c : Core) (o : ℕ) (op : Operation) where
   returned None h m is = absurd (no_change h.layering.untold m is)
   returned (Some told) h m is = answered h.answer m is
 
+  -- one that reads has none, or what it took tells none
+  reading : (p : Phase) → IsReadingAt p c op → (m : ℕ) → change_in (view_of op) ≡ Some m → ⊥
+  reading Load h m is = no_change h.way.untold m is
+  reading Confirm h m is = taken_none h.row op.walk.taken h.tells m is
+  reading _ h m is = no_change h.untold m is
+
+  writing : (p : Phase) → IsWritingAt p c o op → (m : ℕ) → change_in (view_of op) ≡ Some m → ⊥
+  writing Store h m is = no_change h.untold m is
+  writing _ h m is = no_change h.untold m is
+
   -- a change was made by the first step or a later one
-  change_since : (p : Phase) → IsKeptAt p c o op → (m : ℕ) → change_in (view_of op) ≡ Some m → (0 < op.walk.first) × (op.walk.first ≤ m)
-  change_since Enter h m is = absurd (no_change h.untold m is)
-  change_since Pick h m is = absurd (no_change h.untold m is)
-  change_since Child h m is = absurd (no_change h.untold m is)
-  change_since Verify h m is = absurd (no_change h.untold m is)
-  change_since Search h m is = absurd (no_change h.untold m is)
-  change_since Load h m is = absurd (no_change h.way.untold m is)
-  change_since Confirm h m is = absurd (taken_none h.row op.walk.taken h.tells m is)
-  change_since Forward h m is = absurd (no_change h.untold m is)
-  change_since Lock h m is = absurd (no_change h.untold m is)
-  change_since Judge h m is = absurd (no_change h.untold m is)
-  change_since Store h m is = absurd (no_change h.untold m is)
-  change_since Publish h m is = absurd (no_change h.untold m is)
-  change_since SplitStart h m is = absurd (no_change h.untold m is)
-  change_since SplitMove h m is = absurd (no_change h.untold m is)
-  change_since SplitPrev h m is = answered h.answer m is
-  change_since LockParent h m is = answered h.answer m is
-  change_since InsertChild h m is = answered h.answer m is
-  change_since InteriorSplit h m is = answered h.answer m is
-  change_since Reparent h m is = answered h.answer m is
-  change_since RootGrow h m is = answered h.answer m is
-  change_since MakeLayer h m is = absurd (no_change h.untold m is)
-  change_since MarkUnstable h m is = absurd (no_change h.untold m is)
-  change_since phases.Link h m is = absurd (no_change h.untold m is)
-  change_since MarkLayer h m is = absurd (no_change h.untold m is)
-  change_since Unlock h m is = returned op.outcome h m is
-  change_since Done h m is = answered h m is
+  change_since : (of : Kind) (p : Phase) → IsKeptFor of p c o op → (m : ℕ) → change_in (view_of op) ≡ Some m → (0 < op.walk.first) × (op.walk.first ≤ m)
+  change_since kinds.Descends p h m is = absurd (no_change h.untold m is)
+  change_since kinds.Locks p h m is = absurd (no_change h.untold m is)
+  change_since kinds.Reads p h m is = absurd (reading p h m is)
+  change_since kinds.Judges p h m is = absurd (no_change h.untold m is)
+  change_since kinds.Writes p h m is = absurd (writing p h m is)
+  change_since kinds.Begins p h m is = absurd (no_change h.untold m is)
+  change_since kinds.Splits p h m is = absurd (no_change h.untold m is)
+  change_since kinds.Climbs p h m is = answered h.answer m is
+  change_since kinds.Layers p h m is = absurd (no_change h.untold m is)
+  change_since kinds.Returns p h m is = returned op.outcome h m is
+  change_since kinds.Ends p h m is = answered h m is
 
 module _ (c : Core) (answers : ℕ) (logs : List ℕ) (tape : Kept) (table : Table) (q : ℕ) (op : Operation) (t : TellsOf c tape op) (k : IsOpenOperation c op) where
   abbrev new : Core
@@ -153,33 +150,27 @@ module _ (c : Core) (answers : ℕ) (logs : List ℕ) (tape : Kept) (table : Tab
   returning_stays None h = record { layering = layering_stays Unlock h.layering; unsplit = h.unsplit }
   returning_stays (Some told) h = record { unlocks = h.unlocks; answer = told_stays h.answer }
 
-  kept_stays : (p : Phase) → IsKeptAt p c q op → IsKeptAt p new q op
-  kept_stays Enter h = way_stays h
-  kept_stays Pick h = way_stays h
-  kept_stays Child h = way_stays h
-  kept_stays Verify h = way_stays h
-  kept_stays Search h = way_stays h
-  kept_stays Load h = record { way = way_stays h.way; found = h.found }
-  kept_stays Confirm h = record { row = h.row; kept = walk_stays h.row h.kept; tells = h.tells; unprepared = h.unprepared }
-  kept_stays Forward h = way_stays h
-  kept_stays Lock h = way_stays h
-  kept_stays Judge h = record { judges = h.judges; untold = h.untold; unprepared = h.unprepared }
-  kept_stays Store h = record { prepared = h.prepared; has = h.has; stores = h.stores; untold = h.untold }
-  kept_stays Publish h = record { prepared = h.prepared; has = h.has; publishes = h.publishes; untold = h.untold }
-  kept_stays SplitStart h = record { prepared = h.prepared; has = h.has; starts = h.starts; untold = h.untold }
-  kept_stays SplitMove h = record { prepared = h.prepared; has = h.has; moves = h.moves; untold = h.untold }
-  kept_stays SplitPrev h = record { climbs = h.climbs; answer = told_stays h.answer }
-  kept_stays LockParent h = record { climbs = h.climbs; answer = told_stays h.answer }
-  kept_stays InsertChild h = record { climbs = h.climbs; answer = told_stays h.answer }
-  kept_stays InteriorSplit h = record { climbs = h.climbs; answer = told_stays h.answer }
-  kept_stays Reparent h = record { climbs = h.climbs; answer = told_stays h.answer }
-  kept_stays RootGrow h = record { climbs = h.climbs; answer = told_stays h.answer }
-  kept_stays MakeLayer h = layering_stays MakeLayer h
-  kept_stays MarkUnstable h = layering_stays MarkUnstable h
-  kept_stays phases.Link h = layering_stays phases.Link h
-  kept_stays MarkLayer h = layering_stays MarkLayer h
-  kept_stays Unlock h = returning_stays op.outcome h
-  kept_stays Done h = told_stays h
+  reading_stays : (p : Phase) → IsReadingAt p c op → IsReadingAt p new op
+  reading_stays Load h = record { way = way_stays h.way; found = h.found }
+  reading_stays Confirm h = record { row = h.row; kept = walk_stays h.row h.kept; tells = h.tells; unprepared = h.unprepared }
+  reading_stays _ h = way_stays h
+
+  writing_stays : (p : Phase) → IsWritingAt p c q op → IsWritingAt p new q op
+  writing_stays Store h = record { prepared = h.prepared; has = h.has; stores = h.stores; untold = h.untold }
+  writing_stays _ h = record { prepared = h.prepared; has = h.has; publishes = h.publishes; untold = h.untold }
+
+  kept_stays : (of : Kind) (p : Phase) → IsKeptFor of p c q op → IsKeptFor of p new q op
+  kept_stays kinds.Descends p h = way_stays h
+  kept_stays kinds.Locks p h = way_stays h
+  kept_stays kinds.Reads p h = reading_stays p h
+  kept_stays kinds.Judges p h = record { judges = h.judges; untold = h.untold; unprepared = h.unprepared }
+  kept_stays kinds.Writes p h = writing_stays p h
+  kept_stays kinds.Begins p h = record { prepared = h.prepared; has = h.has; starts = h.starts; untold = h.untold }
+  kept_stays kinds.Splits p h = record { prepared = h.prepared; has = h.has; moves = h.moves; untold = h.untold }
+  kept_stays kinds.Climbs p h = record { climbs = h.climbs; answer = told_stays h.answer }
+  kept_stays kinds.Layers p h = layering_stays p h
+  kept_stays kinds.Returns p h = returning_stays op.outcome h
+  kept_stays kinds.Ends p h = told_stays h
 
   open_retained : IsOpenOperation new op
   open_retained = record {
@@ -200,11 +191,11 @@ module _ (c : Core) (answers : ℕ) (logs : List ℕ) (tape : Kept) (table : Tab
   pub retained : IsKeptOf c q op → IsKeptOf new q op
   retained h = record {
     always = open_retained;
-    kept = kept_stays op.walk.phase h.kept;
+    kept = kept_stays (row op.walk.phase).kind op.walk.phase h.kept;
     unsplit = h.unsplit;
     placed = λ m is.
         let once = h.placed m is in
-        let since = change_since c q op op.walk.phase h.kept m is in
+        let since = change_since c q op (row op.walk.phase).kind op.walk.phase h.kept m is in
         record {
           entry = once.entry;
           there = t.writes since.0 once.entry (omega (arith, since.1, once.step_is)) once.there;

@@ -4,14 +4,16 @@ use Rattle.std.specs.Prelude.{◌≡◌, ℕ, ◌==◌, Bool, true, false, List,
 use Rattle.mt_operation.specs.declared.phase.Phase.{Phase}
 use Rattle.mt_operation.specs.declared.phase.Phase.TheVariants.{Enter, Pick, Child, Verify, Search, Load, Confirm, Forward, Lock, Judge, Store, Publish, SplitStart, SplitMove, SplitPrev, LockParent, InsertChild, InteriorSplit, Reparent, RootGrow, MakeLayer, MarkUnstable, Link, MarkLayer, Unlock, Done}
 
--- What the step does: it goes down to the node of the key, reads there for a get, locks the node for a write, judges what the write finds, writes, splits the
--- node, brings right halves up to their parents, makes a layer, or gives the locks back. There is none where the operation has ended.
+-- What the step does: it goes down to the node of the key, reads there for a get, locks the node for a write, judges what the write finds, writes, begins to
+-- split the node, splits it, brings right halves up to their parents, makes a layer, or gives the locks back. There is none where the operation has ended.
+-- By it hangs what the operation holds, and how far its change is.
 pub data Kind : Type 0 where
   Descends : Kind
   Reads : Kind
   Locks : Kind
   Judges : Kind
   Writes : Kind
+  Begins : Kind
   Splits : Kind
   Climbs : Kind
   Layers : Kind
@@ -25,11 +27,30 @@ pub data Holding : Type 0 where
   Parts : Holding
   Last : Holding
 
+abbrev pub holds_of : Kind → Holding
+holds_of Judges = Border
+holds_of Writes = Border
+holds_of Begins = Border
+holds_of Layers = Border
+holds_of Splits = Parts
+holds_of Climbs = Parts
+holds_of Returns = Last
+holds_of _ = Free
+
 -- whether its change is still to come, has all made ready for it, or was placed or found to be none
 pub data Change : Type 0 where
   ToCome : Change
   Ready : Change
   Settled : Change
+
+abbrev pub change_at : Kind → Change
+change_at Writes = Ready
+change_at Begins = Ready
+change_at Splits = Ready
+change_at Climbs = Settled
+change_at Returns = Settled
+change_at Ends = Settled
+change_at _ = ToCome
 
 -- for what the step may have to wait: for nothing; for the mark of the tree's root, of the child, of the walk's own node, or of the next one; for an unstable
 -- slot; or for the lock of its own node or of the parent of its splits
@@ -53,43 +74,40 @@ pub record PhaseRow : Type 0 where
   pub number : ℕ
   pub name : List ℕ
   pub kind : Kind
-  pub holds : Holding
-  pub change : Change
   pub waits : Waiting
   pub grows : Growth
   pub next : List Phase
 
-abbrev line : ℕ → List ℕ → Kind → Holding → Change → Waiting → Growth → List Phase → PhaseRow
-line number name kind holds change waits grows next =
-    record { number = number; name = name; kind = kind; holds = holds; change = change; waits = waits; grows = grows; next = next }
+abbrev line : ℕ → List ℕ → Kind → Waiting → Growth → List Phase → PhaseRow
+line number name kind waits grows next = record { number = number; name = name; kind = kind; waits = waits; grows = grows; next = next }
 
 abbrev pub row : Phase → PhaseRow
-row Enter = line 0 (codes "enter") Descends Free ToCome RootMark TakesNone (Enter ∷ Pick ∷ Search ∷ Lock ∷ [])
-row Pick = line 1 (codes "pick") Descends Free ToCome Never TakesNone (Child ∷ [])
-row Child = line 2 (codes "child") Descends Free ToCome ChildMark TakesNone (Verify ∷ [])
-row Verify = line 3 (codes "verify") Descends Free ToCome OwnMark TakesNone (Enter ∷ Pick ∷ Search ∷ Lock ∷ [])
-row Search = line 4 (codes "search") Reads Free ToCome Never TakesNone (Load ∷ Confirm ∷ [])
-row Load = line 5 (codes "load") Reads Free ToCome OwnSlot EndsForWant (Confirm ∷ Done ∷ [])
-row Confirm = line 6 (codes "confirm") Reads Free ToCome OwnMark TakesNone (Done ∷ Enter ∷ Forward ∷ [])
-row Forward = line 7 (codes "forward") Descends Free ToCome NextMark TakesNone (Enter ∷ Forward ∷ Search ∷ Lock ∷ [])
-row Lock = line 8 (codes "lock") Locks Free ToCome OwnLock TakesNone (Enter ∷ Forward ∷ Judge ∷ [])
-row Judge = line 9 (codes "judge") Judges Border ToCome Never EndsForWant (Store ∷ Publish ∷ SplitStart ∷ MakeLayer ∷ Enter ∷ Done ∷ [])
-row Store = line 10 (codes "store") Writes Border Ready Never TakesNone (Unlock ∷ [])
-row Publish = line 11 (codes "publish") Writes Border Ready Never TakesNone (Unlock ∷ [])
-row SplitStart = line 12 (codes "splitstart") Splits Border Ready Never EndsForWant (SplitMove ∷ Done ∷ [])
-row SplitMove = line 13 (codes "splitmove") Splits Parts Ready Never TakesNone (SplitPrev ∷ LockParent ∷ [])
-row SplitPrev = line 14 (codes "splitprev") Climbs Parts Settled Never TakesNone (LockParent ∷ [])
-row LockParent = line 15 (codes "lockparent") Climbs Parts Settled ParentLock TakesNone (InsertChild ∷ InteriorSplit ∷ RootGrow ∷ [])
-row InsertChild = line 16 (codes "insertchild") Climbs Parts Settled Never TakesNone (Unlock ∷ [])
-row InteriorSplit = line 17 (codes "interiorsplit") Climbs Parts Settled Never StandsForWant (Reparent ∷ [])
-row Reparent = line 18 (codes "reparent") Climbs Parts Settled Never TakesNone (Reparent ∷ LockParent ∷ [])
-row RootGrow = line 19 (codes "rootgrow") Climbs Parts Settled Never StandsForWant (Unlock ∷ [])
-row MakeLayer = line 20 (codes "makelayer") Layers Border ToCome Never EndsForWant (MarkUnstable ∷ Done ∷ [])
-row MarkUnstable = line 21 (codes "markunstable") Layers Border ToCome Never TakesNone (Link ∷ [])
-row Link = line 22 (codes "link") Layers Border ToCome Never TakesNone (MarkLayer ∷ [])
-row MarkLayer = line 23 (codes "marklayer") Layers Border ToCome Never TakesNone (Unlock ∷ [])
-row Unlock = line 24 (codes "unlock") Returns Last Settled Never TakesNone (Enter ∷ Done ∷ [])
-row Done = line 25 (codes "done") Ends Free Settled Never TakesNone []
+row Enter = line 0 (codes "enter") Descends RootMark TakesNone (Enter ∷ Pick ∷ Search ∷ Lock ∷ [])
+row Pick = line 1 (codes "pick") Descends Never TakesNone (Child ∷ [])
+row Child = line 2 (codes "child") Descends ChildMark TakesNone (Verify ∷ [])
+row Verify = line 3 (codes "verify") Descends OwnMark TakesNone (Enter ∷ Pick ∷ Search ∷ Lock ∷ [])
+row Search = line 4 (codes "search") Reads Never TakesNone (Load ∷ Confirm ∷ [])
+row Load = line 5 (codes "load") Reads OwnSlot EndsForWant (Confirm ∷ Done ∷ [])
+row Confirm = line 6 (codes "confirm") Reads OwnMark TakesNone (Done ∷ Enter ∷ Forward ∷ [])
+row Forward = line 7 (codes "forward") Descends NextMark TakesNone (Enter ∷ Forward ∷ Search ∷ Lock ∷ [])
+row Lock = line 8 (codes "lock") Locks OwnLock TakesNone (Enter ∷ Forward ∷ Judge ∷ [])
+row Judge = line 9 (codes "judge") Judges Never EndsForWant (Store ∷ Publish ∷ SplitStart ∷ MakeLayer ∷ Enter ∷ Done ∷ [])
+row Store = line 10 (codes "store") Writes Never TakesNone (Unlock ∷ [])
+row Publish = line 11 (codes "publish") Writes Never TakesNone (Unlock ∷ [])
+row SplitStart = line 12 (codes "splitstart") Begins Never EndsForWant (SplitMove ∷ Done ∷ [])
+row SplitMove = line 13 (codes "splitmove") Splits Never TakesNone (SplitPrev ∷ LockParent ∷ [])
+row SplitPrev = line 14 (codes "splitprev") Climbs Never TakesNone (LockParent ∷ [])
+row LockParent = line 15 (codes "lockparent") Climbs ParentLock TakesNone (InsertChild ∷ InteriorSplit ∷ RootGrow ∷ [])
+row InsertChild = line 16 (codes "insertchild") Climbs Never TakesNone (Unlock ∷ [])
+row InteriorSplit = line 17 (codes "interiorsplit") Climbs Never StandsForWant (Reparent ∷ [])
+row Reparent = line 18 (codes "reparent") Climbs Never TakesNone (Reparent ∷ LockParent ∷ [])
+row RootGrow = line 19 (codes "rootgrow") Climbs Never StandsForWant (Unlock ∷ [])
+row MakeLayer = line 20 (codes "makelayer") Layers Never EndsForWant (MarkUnstable ∷ Done ∷ [])
+row MarkUnstable = line 21 (codes "markunstable") Layers Never TakesNone (Link ∷ [])
+row Link = line 22 (codes "link") Layers Never TakesNone (MarkLayer ∷ [])
+row MarkLayer = line 23 (codes "marklayer") Layers Never TakesNone (Unlock ∷ [])
+row Unlock = line 24 (codes "unlock") Returns Never TakesNone (Enter ∷ Done ∷ [])
+row Done = line 25 (codes "done") Ends Never TakesNone []
 
 -- those that have a step
 abbrev pub steps : List Phase
@@ -115,7 +133,7 @@ abbrev pub MayFollow : Phase → Phase → Type 0
 MayFollow p q = IsOneOf q (row p).next
 
 -- no step is left
-abbrev ends : Kind → Bool
+abbrev pub ends : Kind → Bool
 ends Ends = true
 ends _ = false
 
@@ -123,28 +141,28 @@ abbrev pub is_done : Phase → Bool
 is_done p = ends (row p).kind
 
 -- the step is one of a climb; it makes a layer; it is no look of an operation that holds nothing
-abbrev IsClimbKind : Kind → Type 0
+abbrev pub IsClimbKind : Kind → Type 0
 IsClimbKind Climbs = Unit {0}
 IsClimbKind _ = ⊥
 
 abbrev pub IsClimb : Phase → Type 0
 IsClimb p = IsClimbKind (row p).kind
 
-abbrev IsLayerKind : Kind → Type 0
+abbrev pub IsLayerKind : Kind → Type 0
 IsLayerKind Layers = Unit {0}
 IsLayerKind _ = ⊥
 
 abbrev pub IsLayerPhase : Phase → Type 0
 IsLayerPhase p = IsLayerKind (row p).kind
 
-abbrev IsDescentKind : Kind → Type 0
+abbrev pub IsDescentKind : Kind → Type 0
 IsDescentKind Descends = Unit {0}
 IsDescentKind _ = ⊥
 
 abbrev pub IsDescent : Phase → Type 0
 IsDescent p = IsDescentKind (row p).kind
 
-abbrev IsNoLookKind : Kind → Type 0
+abbrev pub IsNoLookKind : Kind → Type 0
 IsNoLookKind Descends = ⊥
 IsNoLookKind Reads = ⊥
 IsNoLookKind _ = Unit {0}
@@ -153,7 +171,7 @@ abbrev pub IsNoLook : Phase → Type 0
 IsNoLook p = IsNoLookKind (row p).kind
 
 -- a phase of gets alone, of writes alone, or of both
-abbrev FitsWrites : Kind → Bool → Type 0
+abbrev pub FitsWrites : Kind → Bool → Type 0
 FitsWrites Descends writes = Unit {0}
 FitsWrites Ends writes = Unit {0}
 FitsWrites Reads writes = writes ≡ false
@@ -163,29 +181,29 @@ abbrev pub IsOfKind : Phase → Bool → Type 0
 IsOfKind p writes = FitsWrites (row p).kind writes
 
 -- all is made ready for its write
-abbrev is_ready : Change → Bool
+abbrev pub is_ready : Change → Bool
 is_ready Ready = true
 is_ready _ = false
 
 abbrev pub is_prepared : Phase → Bool
-is_prepared p = is_ready (row p).change
+is_prepared p = is_ready (change_at (row p).kind)
 
 -- its change may still be placed
-abbrev is_to_come : Change → Bool
+abbrev pub is_to_come : Change → Bool
 is_to_come Settled = false
 is_to_come _ = true
 
 abbrev pub is_unplaced : Phase → Bool
-is_unplaced p = is_to_come (row p).change
+is_unplaced p = is_to_come (change_at (row p).kind)
 
 -- it may have splits
-abbrev may_be_parts : Holding → Bool
+abbrev pub may_be_parts : Holding → Bool
 may_be_parts Parts = true
 may_be_parts Last = true
 may_be_parts _ = false
 
 abbrev pub has_splits : Phase → Bool
-has_splits p = may_be_parts (row p).holds
+has_splits p = may_be_parts (holds_of (row p).kind)
 
 -- it stands where memory is refused
 abbrev IsStandingGrowth : Growth → Type 0

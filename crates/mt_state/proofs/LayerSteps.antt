@@ -21,7 +21,7 @@ use Rattle.mt_operation.specs.declared.splits.Halves.{Halves}
 use Rattle.mt_operation.specs.declared.splits.Splits.{Splits}
 use Rattle.mt_operation.specs.declared.operation.Operation.{Operation}
 use Rattle.mt_operation.specs.Operations.{OperationView, view_of, IsUnsplit}
-use Rattle.mt_operation.specs.Phases.{is_done, MayFollow, IsOfKind, has_splits, IsLayerPhase}
+use Rattle.mt_operation.specs.Phases.{is_done, MayFollow, IsOfKind, has_splits, IsLayerPhase, FitsWrites, IsLayerKind, Kind, change_at, holds_of, may_be_parts, row}
 use Rattle.mt_operation.specs.Tables.{op_at as operation_at}
 use Rattle.mt_descent.specs.KeptWalks.{IsAtEnter, KeptAt}
 use Rattle.mt_insert.specs.KeptPuts.{IsAtMakeLayer, HoldsOnly}
@@ -31,12 +31,12 @@ use Rattle.mt_state.specs.Views.{StateView, Core, shown, past_of}
 use Rattle.mt_state.specs.Steps.{told_change}
 use Rattle.mt_state.specs.Notes.{Notes}
 use Rattle.mt_state.specs.Promises.{Touches}
-use Rattle.mt_state.specs.KeptOperations.{IsOpenOperation, IsJudging, IsLayering, IsLeaving, IsReturning, HasAnswer, IsKeptAt, IsKeptOf}
-use Rattle.mt_state.specs.Invariant.{IsTape, IsStampOf, AreStamps, HoldsLast, HoldsAt, StateInvariant, StateGuarantee}
+use Rattle.mt_state.specs.KeptOperations.{IsOpenOperation, IsJudging, IsLayering, IsLeaving, IsReturning, HasAnswer, IsKeptAt, IsKeptOf, IsKeptFor}
+use Rattle.mt_state.specs.Invariant.{IsTape, IsStampOf, AreStamps, HoldsLast, HoldsAt, StateInvariant, StateGuarantee, HoldsBy}
 use Rattle.mt_state.proofs.Telling.{Gives, gives, logs_later}
 use Rattle.mt_state.proofs.Quiet.{quiet, LeavesPairs}
 use Rattle.mt_state.proofs.Moved.{went, open_moved, has_moved, first_begun, first_upto}
-use Rattle.mt_state.proofs.Still.{IsUnready, floor_made, leaves_all, unready_none}
+use Rattle.mt_state.proofs.Still.{IsUnready, floor_made, leaves_all, unready_none, IsUnreadyBy}
 use Rattle.mt_state.proofs.Reading.{walk_same}
 use Rattle.mt_state.proofs.OneNode.{counted_unlocked, counted_later, replaced_at, replaced_touches, replaced_leaves, quiet_grows, holds_here, quiet_gives}
 use Rattle.mt_descent.specs.WalkMoves.{KeepsPairs}
@@ -44,11 +44,16 @@ use Rattle.mt_insert.specs.Judge.{MeetsOther, MeetsLink}
 use Rattle.mt_insert.specs.Unlock.{IsUnlock}
 use Rattle.mt_layer.specs.Builds.{IsLayerFrom, IsLeave}
 use Rattle.mt_state.proofs.LayerNodes.{BuildsLayer, builds_by}
+use Rattle.mt_operation.specs.Phases as kinds
 
 -- a phase at which an operation makes a layer, or has made it
+abbrev HasLayerBy : Kind → Type 0
+HasLayerBy kinds.Layers = Unit {0}
+HasLayerBy kinds.Returns = Unit {0}
+HasLayerBy _ = ⊥
+
 abbrev HasLayer : Phase → Type 0
-HasLayer Unlock = Unit {0}
-HasLayer phase = IsLayerPhase phase
+HasLayer p = HasLayerBy (row p).kind
 
 -- where a layer comes one step nearer, it goes on so, or the lock may be given back
 layer_leads : (p q : Phase) → IsLayerPhase p → MayFollow p q → q ≢ Done → HasLayer q
@@ -69,82 +74,85 @@ layer_begun Enter i e = i
 layer_begun _ i e = absurd (cc)
 
 layer_writes : (p : Phase) → IsLayerPhase p → (writes : Bool) → IsOfKind p writes → writes ≡ true
-layer_writes MakeLayer i writes kind = kind
-layer_writes MarkUnstable i writes kind = kind
-layer_writes Link i writes kind = kind
-layer_writes MarkLayer i writes kind = kind
-layer_writes _ i writes kind = absurd i
+layer_writes p i writes kind = by (row p).kind i kind
+  where
+    by : (k : Kind) → IsLayerKind k → FitsWrites k writes → writes ≡ true
+    by kinds.Layers i kind = kind
+    by _ i kind = absurd i
 
 layer_open : (p : Phase) → IsLayerPhase p → is_done p ≡ false
 layer_open Done i = absurd i
 layer_open _ i = refl
 
 layer_unready : (p : Phase) → IsLayerPhase p → IsUnready p
-layer_unready MakeLayer i = tt
-layer_unready MarkUnstable i = tt
-layer_unready Link i = tt
-layer_unready MarkLayer i = tt
-layer_unready _ i = absurd i
+layer_unready p i = by (row p).kind i
+  where
+    by : (k : Kind) → IsLayerKind k → IsUnreadyBy (change_at k)
+    by kinds.Layers i = tt
+    by _ i = absurd i
 
 layer_unsplit : (p : Phase) → IsLayerPhase p → has_splits p ≡ false
-layer_unsplit MakeLayer i = refl
-layer_unsplit MarkUnstable i = refl
-layer_unsplit Link i = refl
-layer_unsplit MarkLayer i = refl
-layer_unsplit _ i = absurd i
+layer_unsplit p i = by (row p).kind i
+  where
+    by : (k : Kind) → IsLayerKind k → may_be_parts (holds_of k) ≡ false
+    by kinds.Layers i = refl
+    by _ i = absurd i
 
 -- it holds its border node alone
 layer_held : (p : Phase) → IsLayerPhase p → (w : Walk) (s : Splits) (k : ℕ) → HoldsAt p w s k → k ≡ w.place.node
-layer_held MakeLayer i w s k holds = holds
-layer_held MarkUnstable i w s k holds = holds
-layer_held Link i w s k holds = holds
-layer_held MarkLayer i w s k holds = holds
-layer_held _ i w s k holds = absurd i
+layer_held p i w s k holds = by (row p).kind i holds
+  where
+    by : (of : Kind) → IsLayerKind of → HoldsBy (holds_of of) w s k → k ≡ w.place.node
+    by kinds.Layers i holds = holds
+    by _ i holds = absurd i
 
 layer_kept : (p : Phase) → IsLayerPhase p → (c : Core) (o : ℕ) (op : Operation) → IsKeptAt p c o op → IsLayering c o op p
-layer_kept MakeLayer i c o op kept = kept
-layer_kept MarkUnstable i c o op kept = kept
-layer_kept Link i c o op kept = kept
-layer_kept MarkLayer i c o op kept = kept
-layer_kept _ i c o op kept = absurd i
+layer_kept p i c o op kept = by (row p).kind i kept
+  where
+    by : (k : Kind) → IsLayerKind k → IsKeptFor k p c o op → IsLayering c o op p
+    by kinds.Layers i kept = kept
+    by _ i kept = absurd i
+
+kept_layering : (p : Phase) → IsLayerPhase p → (c : Core) (o : ℕ) (op : Operation) → IsLayering c o op p → IsKeptAt p c o op
+kept_layering p i c o op layering = by (row p).kind i
+  where
+    by : (k : Kind) → IsLayerKind k → IsKeptFor k p c o op
+    by kinds.Layers i = layering
+    by _ i = absurd i
 
 -- so does one that has made it
 made_kind : (p : Phase) → HasLayer p → (writes : Bool) → writes ≡ true → IsOfKind p writes
-made_kind MakeLayer i writes is = is
-made_kind MarkUnstable i writes is = is
-made_kind Link i writes is = is
-made_kind MarkLayer i writes is = is
-made_kind Unlock i writes is = is
-made_kind _ i writes is = absurd i
+made_kind p i writes is = by (row p).kind i
+  where
+    by : (k : Kind) → HasLayerBy k → FitsWrites k writes
+    by kinds.Layers i = is
+    by kinds.Returns i = is
+    by _ i = absurd i
 
 made_open : (p : Phase) → HasLayer p → is_done p ≡ false
 made_open Done i = absurd i
 made_open _ i = refl
 
 made_unready : (p : Phase) → HasLayer p → IsUnready p
-made_unready Unlock i = tt
-made_unready MakeLayer i = tt
-made_unready MarkUnstable i = tt
-made_unready Link i = tt
-made_unready MarkLayer i = tt
-made_unready _ i = absurd i
+made_unready p i = by (row p).kind i
+  where
+    by : (k : Kind) → HasLayerBy k → IsUnreadyBy (change_at k)
+    by kinds.Layers i = tt
+    by kinds.Returns i = tt
+    by _ i = absurd i
 
 made_held : (p : Phase) → HasLayer p → (w : Walk) (s : Splits) (k : ℕ) → s.halves.items ≡ [] → k ≡ w.place.node → HoldsAt p w s k
-made_held MakeLayer i w s k none is = is
-made_held MarkUnstable i w s k none is = is
-made_held Link i w s k none is = is
-made_held MarkLayer i w s k none is = is
-made_held Unlock i w s k none is = subst (λ (halves : List Halves). HoldsLast halves w s k) (sym none) is
-made_held _ i w s k none is = absurd i
+made_held p i w s k none is = by (row p).kind i
+  where
+    by : (of : Kind) → HasLayerBy of → HoldsBy (holds_of of) w s k
+    by kinds.Layers i = is
+    by kinds.Returns i = subst (λ (halves : List Halves). HoldsLast halves w s k) (sym none) is
+    by _ i = absurd i
 
 made_kept : (p : Phase) → HasLayer p → (c : Core) (o : ℕ) (op : Operation) → IsUnsplit op.splits → IsLayering c o op p → IsKeptAt p c o op
-made_kept MakeLayer i c o op unsplit kept = kept
-made_kept MarkUnstable i c o op unsplit kept = kept
-made_kept Link i c o op unsplit kept = kept
-made_kept MarkLayer i c o op unsplit kept = kept
 made_kept Unlock i c o op unsplit kept =
     subst (λ (told : Option Outcome). IsReturning told c o op) (sym kept.untold) (record { layering = kept; unsplit = unsplit })
-made_kept _ i c o op unsplit kept = absurd i
+made_kept p i c o op unsplit kept = kept_layering p i c o op kept
 
 -- a step of it leaves it without an outcome
 layer_notes : (p q : Phase) → IsLayerPhase p → HasLayer q → (old : StateView) (op : OperationView) (told : Option Outcome) → told ≡ None → Notes old op p q told

@@ -7,7 +7,7 @@ use Rattle.mt_rows.specs.Maps.{is_get}
 use Rattle.mt_tape.specs.Tapes.{last_write}
 use Rattle.mt_arena.specs.Accesses.{at}
 use Rattle.mt_operation.specs.declared.phase.Phase.{Phase}
-use Rattle.mt_operation.specs.declared.phase.Phase.TheVariants.{Enter, Pick, Child, Verify, Search, Load, Confirm, Forward, Lock, Judge, Store, Publish, MakeLayer, MarkUnstable, Link, MarkLayer, Unlock, Done}
+use Rattle.mt_operation.specs.declared.phase.Phase.TheVariants.{Enter, Pick, Child, Verify, Search, Load, Confirm, Forward, Lock, Judge, Store, Publish, Unlock, Done}
 use Rattle.mt_operation.specs.declared.walk.Walk.{Walk}
 use Rattle.mt_operation.specs.declared.outcome.Outcome.{Outcome}
 use Rattle.mt_operation.specs.declared.prepared.Prepared.{Prepared}
@@ -16,7 +16,7 @@ use Rattle.mt_operation.specs.declared.splits.Splits.{Splits}
 use Rattle.mt_operation.specs.declared.operation.Operation.{Operation}
 use Rattle.mt_operation.specs.Tasks.{ask}
 use Rattle.mt_operation.specs.Operations.{view_of, splits_of}
-use Rattle.mt_operation.specs.Phases.{is_done, IsOfKind, IsLayerPhase, is_prepared}
+use Rattle.mt_operation.specs.Phases.{is_done, IsOfKind, IsLayerPhase, is_prepared, IsLayerKind, Kind, row}
 use Rattle.mt_operation.specs.Tables.{op_at as operation_at}
 use Rattle.mt_descent.specs.KeptWalks.{IsAtBorder, KeptAt, HoldsNothing}
 use Rattle.mt_insert.specs.Puts.{IsPut}
@@ -24,10 +24,11 @@ use Rattle.mt_insert.specs.KeptPuts.{HoldsBorder, IsAtStore, IsAtPublish, IsAtUn
 use Rattle.mt_layer.specs.KeptLayers.{IsAtLeave, KeptLayer}
 use Rattle.mt_state.specs.Views.{Core, shown, past_of}
 use Rattle.mt_state.specs.Promises.{IsInTheWay, IsHeldByOther}
-use Rattle.mt_state.specs.KeptOperations.{IsOpenOperation, IsOnItsWay, IsJudging, IsStoring, IsPublishing, MayUnlock, IsUnlocking, IsLayering, IsLeaving, IsReturning, IsKeptAt}
+use Rattle.mt_state.specs.KeptOperations.{IsOpenOperation, IsOnItsWay, IsJudging, IsStoring, IsPublishing, MayUnlock, IsUnlocking, IsLayering, IsLeaving, IsReturning, IsKeptAt, IsKeptFor}
 use Rattle.mt_state.specs.Invariant.{HoldsAt, StateInvariant}
 use Rattle.mt_state.proofs.Shown.{shown_there}
 use Rattle.mt_state.proofs.Locking.{may_unlock, room_for}
+use Rattle.mt_operation.specs.Phases as kinds
 
 -- a phase of writes alone
 abbrev pub IsOfWrites : Phase → Type 0
@@ -70,11 +71,11 @@ unlocking None some c o op k = absurd (some refl)
 unlocking (Some told) some c o op k = k
 
 layering : (p : Phase) → IsLayerPhase p → (c : Core) (o : ℕ) (op : Operation) → IsKeptAt p c o op → IsLayering c o op p
-layering MakeLayer makes c o op k = k
-layering MarkUnstable makes c o op k = k
-layering Link makes c o op k = k
-layering MarkLayer makes c o op k = k
-layering _ makes c o op k = absurd makes
+layering p makes c o op kept = by (row p).kind makes kept
+  where
+    by : (k : Kind) → IsLayerKind k → IsKeptFor k p c o op → IsLayering c o op p
+    by kinds.Layers makes kept = kept
+    by _ makes kept = absurd makes
 
 module _ (c : Core) (o : ℕ) (h : StateInvariant c) (op : Operation) (there : operation_at c.table o ≡ Some op) where
   always : IsOpenOperation c op

@@ -16,7 +16,7 @@ use Rattle.mt_operation.specs.declared.outcome.Outcome.{Outcome}
 use Rattle.mt_operation.specs.declared.operation.Operation.{Operation}
 use Rattle.mt_operation.specs.declared.phase.Phase.{Phase}
 use Rattle.mt_operation.specs.declared.phase.Phase.TheVariants as phases
-use Rattle.mt_operation.specs.declared.phase.Phase.TheVariants.{Enter, Pick, Child, Verify, Search, Load, Confirm, Forward, Lock, Judge, Store, Publish, SplitStart, SplitMove, SplitPrev, LockParent, InsertChild, InteriorSplit, Reparent, RootGrow, MakeLayer, MarkUnstable, MarkLayer, Unlock, Done}
+use Rattle.mt_operation.specs.declared.phase.Phase.TheVariants.{Enter, Load, Confirm, Store, MakeLayer, MarkUnstable, MarkLayer, Unlock}
 use Rattle.mt_operation.specs.declared.splits.Halves.{Halves}
 use Rattle.mt_operation.specs.Operations.{OperationView, view_of}
 use Rattle.mt_descent.specs.Pasts.{ExtendsPast}
@@ -28,9 +28,11 @@ use Rattle.mt_layer.specs.KeptLayers.{KeptLayer}
 use Rattle.mt_layer.proofs.Rely as layers
 use Rattle.mt_state.specs.Views.{StateView, Core, shown, past_of, map_of, quota_of, KeepsPast, IsPlaced}
 use Rattle.mt_state.specs.Promises.{IsAnswer}
-use Rattle.mt_state.specs.KeptOperations.{IsOpenOperation, IsOnItsWay, HasAnswer, MayUnlock, IsClimbing, IsLayering, IsReturning, IsKeptAt, IsPlacedOnce, IsKeptOf}
+use Rattle.mt_state.specs.KeptOperations.{IsOpenOperation, IsOnItsWay, HasAnswer, MayUnlock, IsClimbing, IsLayering, IsReturning, IsKeptAt, IsPlacedOnce, IsKeptOf, IsKeptFor, IsReadingAt, IsWritingAt}
 use Rattle.mt_state.specs.Invariant.{IsUnremoved, StateGuarantee}
 use Rattle.mt_state.proofs.Granted.{quota_stays}
+use Rattle.mt_operation.specs.Phases.{IsLayerKind, IsLayerPhase, Kind, row}
+use Rattle.mt_operation.specs.Phases as kinds
 
 -- what is placed stays so
 pub placed_stays : (old new : StateView) → KeepsPast old new → (t : ℕ) (c : Command) (at : ℕ) (reply : Reply) → at ≤ old.steps
@@ -123,54 +125,56 @@ module _ (old new : Core) (o q : ℕ) (unremoved : IsUnremoved new.arena) (g : S
   returning_stays None k h = record { layering = layering_stays Unlock (λ e. cc) h.layering; unsplit = h.unsplit }
   returning_stays (Some told) k h = record { unlocks = unlocks_stay op.splits.halves.items h.unlocks; answer = told_stays k h.answer }
 
-  -- by its phase
-  pub kept_stays : (p : Phase) → IsOpenOperation old op → IsKeptAt p old q op → IsKeptAt p new q op
-  kept_stays Enter k h = way_stays h
-  kept_stays Pick k h = way_stays h
-  kept_stays Child k h = way_stays h
-  kept_stays Verify k h = way_stays h
-  kept_stays Search k h = way_stays h
-  kept_stays Load k h = record { way = way_stays h.way; found = λ now. absurd (omega (arith, k.made, later, now)) }
-  kept_stays Confirm k h = record { row = h.row; kept = walk_stays h.row h.kept; tells = h.tells; unprepared = h.unprepared }
-  kept_stays Forward k h = way_stays h
-  kept_stays Lock k h = way_stays h
-  kept_stays Judge k h = record { judges = insert.held o q old.arena new.arena g.arena other op.task.key op.walk h.judges; untold = h.untold; unprepared = h.unprepared }
-  kept_stays Store k h = record {
+  -- what it reads, and what it is to write
+  reading_stays : (p : Phase) → IsOpenOperation old op → IsReadingAt p old op → IsReadingAt p new op
+  reading_stays Load k h = record { way = way_stays h.way; found = λ now. absurd (omega (arith, k.made, later, now)) }
+  reading_stays Confirm k h = record { row = h.row; kept = walk_stays h.row h.kept; tells = h.tells; unprepared = h.unprepared }
+  reading_stays _ k h = way_stays h
+
+  writing_stays : (p : Phase) → IsWritingAt p old q op → IsWritingAt p new q op
+  writing_stays Store h = record {
     prepared = h.prepared;
     has = h.has;
     stores = insert.store o q old.arena new.arena g.arena other op.task h.prepared op.walk h.stores;
     untold = h.untold;
   }
-  kept_stays Publish k h = record {
+  writing_stays _ h = record {
     prepared = h.prepared;
     has = h.has;
     publishes = insert.publish o q old.arena new.arena g.arena other op.task h.prepared op.walk h.publishes;
     untold = h.untold;
   }
-  kept_stays SplitStart k h = record {
+
+  -- by what its next step does
+  kept_for_stays : (of : Kind) (p : Phase) → IsOpenOperation old op → (IsLayerKind of → p ≢ Enter) → IsKeptFor of p old q op → IsKeptFor of p new q op
+  kept_for_stays kinds.Descends p k on h = way_stays h
+  kept_for_stays kinds.Locks p k on h = way_stays h
+  kept_for_stays kinds.Reads p k on h = reading_stays p k h
+  kept_for_stays kinds.Judges p k on h = record { judges = insert.held o q old.arena new.arena g.arena other op.task.key op.walk h.judges; untold = h.untold; unprepared = h.unprepared }
+  kept_for_stays kinds.Writes p k on h = writing_stays p h
+  kept_for_stays kinds.Begins p k on h = record {
     prepared = h.prepared;
     has = h.has;
     starts = insert.split_start o q old.arena new.arena g.arena other op.task h.prepared op.walk h.starts;
     untold = h.untold;
   }
-  kept_stays SplitMove k h = record {
+  kept_for_stays kinds.Splits p k on h = record {
     prepared = h.prepared;
     has = h.has;
     moves = splits.move o q old.arena new.arena g.arena other op.task h.prepared op.walk op.splits h.moves;
     untold = h.untold;
   }
-  kept_stays SplitPrev k h = climbing_stays SplitPrev k h
-  kept_stays LockParent k h = climbing_stays LockParent k h
-  kept_stays InsertChild k h = climbing_stays InsertChild k h
-  kept_stays InteriorSplit k h = climbing_stays InteriorSplit k h
-  kept_stays Reparent k h = climbing_stays Reparent k h
-  kept_stays RootGrow k h = climbing_stays RootGrow k h
-  kept_stays MakeLayer k h = layering_stays MakeLayer (λ e. cc) h
-  kept_stays MarkUnstable k h = layering_stays MarkUnstable (λ e. cc) h
-  kept_stays phases.Link k h = layering_stays phases.Link (λ e. cc) h
-  kept_stays MarkLayer k h = layering_stays MarkLayer (λ e. cc) h
-  kept_stays Unlock k h = returning_stays op.outcome k h
-  kept_stays Done k h = told_stays k h
+  kept_for_stays kinds.Climbs p k on h = climbing_stays p k h
+  kept_for_stays kinds.Layers p k on h = layering_stays p (on tt) h
+  kept_for_stays kinds.Returns p k on h = returning_stays op.outcome k h
+  kept_for_stays kinds.Ends p k on h = told_stays k h
+
+  layer_later : (p : Phase) → IsLayerPhase p → p ≢ Enter
+  layer_later Enter i e = i
+  layer_later _ i e = absurd (cc)
+
+  pub kept_stays : (p : Phase) → IsOpenOperation old op → IsKeptAt p old q op → IsKeptAt p new q op
+  kept_stays p k h = kept_for_stays (row p).kind p k (layer_later p) h
 
   -- what is kept of every operation
   pub open_stays : IsOpenOperation old op → IsOpenOperation new op

@@ -20,7 +20,7 @@ use Rattle.mt_operation.specs.declared.splits.Halves.{Halves}
 use Rattle.mt_operation.specs.declared.splits.Splits.{Splits}
 use Rattle.mt_operation.specs.declared.operation.Operation.{Operation}
 use Rattle.mt_operation.specs.Operations.{OperationView, view_of}
-use Rattle.mt_operation.specs.Phases.{is_done, MayFollow, IsOfKind, has_splits, IsClimb}
+use Rattle.mt_operation.specs.Phases.{is_done, MayFollow, IsOfKind, has_splits, IsClimb, FitsWrites, IsClimbKind, Kind, change_at, holds_of, may_be_parts, row}
 use Rattle.mt_operation.specs.Tables.{op_at as operation_at}
 use Rattle.mt_insert.specs.Placing.{released}
 use Rattle.mt_insert.specs.KeptSplits.{IsAmong, IsAtSplitMove, IsAtUnlockAll, KeptSplit, HoldsSplits}
@@ -29,14 +29,14 @@ use Rattle.mt_state.specs.Views.{StateView, Core, shown}
 use Rattle.mt_state.specs.Steps.{told_change}
 use Rattle.mt_state.specs.Notes.{Notes}
 use Rattle.mt_state.specs.Promises.{IsAnswer, Touches}
-use Rattle.mt_state.specs.KeptOperations.{IsOpenOperation, IsSplitStarting, IsSplitMoving, HasAnswer, MayUnlock, IsUnlocking, IsKeptAt, IsClimbing}
-use Rattle.mt_state.specs.Invariant.{IsCountedUpTo, IsUnremoved, HoldsLast, HoldsAt, StateInvariant}
+use Rattle.mt_state.specs.KeptOperations.{IsOpenOperation, IsSplitStarting, IsSplitMoving, HasAnswer, MayUnlock, IsUnlocking, IsKeptAt, IsClimbing, IsKeptFor}
+use Rattle.mt_state.specs.Invariant.{IsCountedUpTo, IsUnremoved, HoldsLast, HoldsAt, StateInvariant, HoldsBy}
 use Rattle.mt_state.specs.Writes.{splitting}
 use Rattle.mt_state.proofs.Rely.{answer_stays}
 use Rattle.mt_state.proofs.Telling.{Gives}
 use Rattle.mt_state.proofs.Quiet.{LeavesPairs, HasPairsOf}
 use Rattle.mt_state.proofs.Moved.{went_with, first_same, first_begun, first_upto}
-use Rattle.mt_state.proofs.Still.{IsUnready, unready_none}
+use Rattle.mt_state.proofs.Still.{IsUnready, unready_none, IsUnreadyBy}
 use Rattle.mt_state.proofs.Reading.{walk_same}
 use Rattle.mt_state.proofs.OneNode.{same_counts, same_alive, returning_by, returning_told, counted_unlocked, replaced_at, replaced_touches, replaced_leaves, quiet_grows, holds_here, quiet_gives_with}
 use Rattle.mt_state.proofs.Locking.{ready_one, room_for}
@@ -49,6 +49,7 @@ use Rattle.mt_descent.specs.WalkMoves.{Continues}
 use Rattle.mt_state.proofs.Climbing.{LeavesNodes, MovesNoPair, moves_by}
 use Rattle.mt_state.proofs.ClimbingNodes.{climb_leaves, climb_keeps, climb_follows, climb_some, begun_leaves}
 use Rattle.mt_operation.specs.declared.prepared.Prepared.{Prepared}
+use Rattle.mt_operation.specs.Phases as kinds
 
 -- the right half of the full border node was made
 pub record StartsSplit (c : Core) (o : ℕ) (op : Operation) (arena : ArenaView) (w : Walk) (s : Splits) : Type 0 where
@@ -68,9 +69,13 @@ pub record Climbs (c : Core) (o : ℕ) (op : Operation) (arena : ArenaView) (w :
   pub holds : HoldsSplits arena o s
 
 -- a phase at which an operation holds halves whose keys are parted
+abbrev pub HasHalvesBy : Kind → Type 0
+HasHalvesBy kinds.Climbs = Unit {0}
+HasHalvesBy kinds.Returns = Unit {0}
+HasHalvesBy _ = ⊥
+
 abbrev pub HasHalves : Phase → Type 0
-HasHalves Unlock = Unit {0}
-HasHalves phase = IsClimb phase
+HasHalves p = HasHalvesBy (row p).kind
 
 -- where a right half comes nearer to its place, it goes on so, or all may be given back
 climb_leads : (p q : Phase) → IsClimb p → MayFollow p q → HasHalves q
@@ -92,8 +97,11 @@ climb_leads RootGrow _ i f = absurd f
 climb_leads _ q i f = absurd i
 
 halves_of : (p : Phase) → IsClimb p → HasHalves p
-halves_of Unlock i = tt
-halves_of _ i = i
+halves_of p i = by (row p).kind i
+  where
+    by : (k : Kind) → IsClimbKind k → HasHalvesBy k
+    by kinds.Climbs i = tt
+    by _ i = absurd i
 
 -- an operation at such a phase writes, has a step left and nothing made ready, and may have splits
 halves_begun : (p : Phase) → HasHalves p → p ≢ Enter
@@ -101,48 +109,40 @@ halves_begun Enter i e = i
 halves_begun _ i e = absurd (cc)
 
 halves_write : (p : Phase) → HasHalves p → (writes : Bool) → IsOfKind p writes → writes ≡ true
-halves_write SplitPrev i writes kind = kind
-halves_write LockParent i writes kind = kind
-halves_write InsertChild i writes kind = kind
-halves_write InteriorSplit i writes kind = kind
-halves_write Reparent i writes kind = kind
-halves_write RootGrow i writes kind = kind
-halves_write Unlock i writes kind = kind
-halves_write _ i writes kind = absurd i
+halves_write p i writes kind = by (row p).kind i kind
+  where
+    by : (k : Kind) → HasHalvesBy k → FitsWrites k writes → writes ≡ true
+    by kinds.Climbs i kind = kind
+    by kinds.Returns i kind = kind
+    by _ i kind = absurd i
 
 pub halves_kind : (p : Phase) → HasHalves p → (writes : Bool) → writes ≡ true → IsOfKind p writes
-halves_kind SplitPrev i writes is = is
-halves_kind LockParent i writes is = is
-halves_kind InsertChild i writes is = is
-halves_kind InteriorSplit i writes is = is
-halves_kind Reparent i writes is = is
-halves_kind RootGrow i writes is = is
-halves_kind Unlock i writes is = is
-halves_kind _ i writes is = absurd i
+halves_kind p i writes is = by (row p).kind i
+  where
+    by : (k : Kind) → HasHalvesBy k → FitsWrites k writes
+    by kinds.Climbs i = is
+    by kinds.Returns i = is
+    by _ i = absurd i
 
 pub halves_open : (p : Phase) → HasHalves p → is_done p ≡ false
 halves_open Done i = absurd i
 halves_open _ i = refl
 
 pub halves_unready : (p : Phase) → HasHalves p → IsUnready p
-halves_unready SplitPrev i = tt
-halves_unready LockParent i = tt
-halves_unready InsertChild i = tt
-halves_unready InteriorSplit i = tt
-halves_unready Reparent i = tt
-halves_unready RootGrow i = tt
-halves_unready Unlock i = tt
-halves_unready _ i = absurd i
+halves_unready p i = by (row p).kind i
+  where
+    by : (k : Kind) → HasHalvesBy k → IsUnreadyBy (change_at k)
+    by kinds.Climbs i = tt
+    by kinds.Returns i = tt
+    by _ i = absurd i
 
 pub halves_split : (p : Phase) → HasHalves p → has_splits p ≡ true
-halves_split SplitPrev i = refl
-halves_split LockParent i = refl
-halves_split InsertChild i = refl
-halves_split InteriorSplit i = refl
-halves_split Reparent i = refl
-halves_split RootGrow i = refl
-halves_split Unlock i = refl
-halves_split _ i = absurd i
+halves_split p i = by (row p).kind i
+  where
+    by : (k : Kind) → HasHalvesBy k → may_be_parts (holds_of k) ≡ true
+    by kinds.Climbs i = refl
+    by kinds.Returns i = refl
+    by _ i = absurd i
 
 -- it holds nodes of its splits alone
 holds_last : (l : List Halves) (w : Walk) (s : Splits) (k : ℕ) → l ≢ [] → IsAmong s k → HoldsLast l w s k
@@ -150,14 +150,27 @@ holds_last [] w s k some among = absurd (some refl)
 holds_last (x ∷ l) w s k some among = among
 
 pub halves_held : (p : Phase) → HasHalves p → (w : Walk) (s : Splits) (k : ℕ) → s.halves.items ≢ [] → IsAmong s k → HoldsAt p w s k
-halves_held SplitPrev i w s k some among = among
-halves_held LockParent i w s k some among = among
-halves_held InsertChild i w s k some among = among
-halves_held InteriorSplit i w s k some among = among
-halves_held Reparent i w s k some among = among
-halves_held RootGrow i w s k some among = among
-halves_held Unlock i w s k some among = holds_last s.halves.items w s k some among
-halves_held _ i w s k some among = absurd i
+halves_held p i w s k some among = by (row p).kind i
+  where
+    by : (of : Kind) → HasHalvesBy of → HoldsBy (holds_of of) w s k
+    by kinds.Climbs i = among
+    by kinds.Returns i = holds_last s.halves.items w s k some among
+    by _ i = absurd i
+
+-- what is kept of an operation that climbs, by its phase
+pub climbing_of : (p : Phase) → IsClimb p → (c : Core) (o : ℕ) (op : Operation) → IsKeptAt p c o op → IsClimbing c o op p
+climbing_of p i c o op kept = by (row p).kind i kept
+  where
+    by : (k : Kind) → IsClimbKind k → IsKeptFor k p c o op → IsClimbing c o op p
+    by kinds.Climbs i kept = kept
+    by _ i kept = absurd i
+
+pub kept_climbing : (p : Phase) → IsClimb p → (c : Core) (o : ℕ) (op : Operation) → IsClimbing c o op p → IsKeptAt p c o op
+kept_climbing p i c o op climbing = by (row p).kind i
+  where
+    by : (k : Kind) → IsClimbKind k → IsKeptFor k p c o op
+    by kinds.Climbs i = climbing
+    by _ i = absurd i
 
 -- and what is kept of it is what is kept of the splits, and its answer
 may_unlock : (l : List Halves) (v : ArenaView) (o : ℕ) (op : Operation) → l ≢ [] → IsAtUnlockAll v o op.splits → MayUnlock l v o op
@@ -170,44 +183,27 @@ may_unlock_all (x ∷ l) v o op some may = may
 
 pub halves_kept : (p : Phase) → HasHalves p → (c : Core) (o : ℕ) (op : Operation) → op.splits.halves.items ≢ [] → KeptSplit p c.arena o op.splits
     → HasAnswer c op → IsKeptAt p c o op
-halves_kept SplitPrev i c o op some kept answer = record { climbs = kept; answer = answer }
-halves_kept LockParent i c o op some kept answer = record { climbs = kept; answer = answer }
-halves_kept InsertChild i c o op some kept answer = record { climbs = kept; answer = answer }
-halves_kept InteriorSplit i c o op some kept answer = record { climbs = kept; answer = answer }
-halves_kept Reparent i c o op some kept answer = record { climbs = kept; answer = answer }
-halves_kept RootGrow i c o op some kept answer = record { climbs = kept; answer = answer }
 halves_kept Unlock i c o op some kept answer =
     returning_by op.outcome answer.outcome answer.told c o op (record { unlocks = may_unlock op.splits.halves.items c.arena o op some kept; answer = answer })
-halves_kept _ i c o op some kept answer = absurd i
+halves_kept p i c o op some kept answer = kept_climbing p i c o op (record { climbs = kept; answer = answer })
 
 climb_answer : (p : Phase) → IsClimb p → (c : Core) (o : ℕ) (op : Operation) → IsKeptAt p c o op → HasAnswer c op
-climb_answer SplitPrev i c o op kept = kept.answer
-climb_answer LockParent i c o op kept = kept.answer
-climb_answer InsertChild i c o op kept = kept.answer
-climb_answer InteriorSplit i c o op kept = kept.answer
-climb_answer Reparent i c o op kept = kept.answer
-climb_answer RootGrow i c o op kept = kept.answer
-climb_answer _ i c o op kept = absurd i
-
--- what is kept of an operation that climbs, by its phase
-pub climbing_of : (p : Phase) → IsClimb p → (c : Core) (o : ℕ) (op : Operation) → IsKeptAt p c o op → IsClimbing c o op p
-climbing_of SplitPrev i c o op kept = kept
-climbing_of LockParent i c o op kept = kept
-climbing_of InsertChild i c o op kept = kept
-climbing_of InteriorSplit i c o op kept = kept
-climbing_of Reparent i c o op kept = kept
-climbing_of RootGrow i c o op kept = kept
-climbing_of _ i c o op kept = absurd i
+climb_answer p i c o op kept = (climbing_of p i c o op kept).answer
 
 -- what it holds are nodes of its splits
 pub climb_among : (p : Phase) → IsClimb p → (w : Walk) (s : Splits) (k : ℕ) → HoldsAt p w s k → IsAmong s k
-climb_among SplitPrev i w s k holds = holds
-climb_among LockParent i w s k holds = holds
-climb_among InsertChild i w s k holds = holds
-climb_among InteriorSplit i w s k holds = holds
-climb_among Reparent i w s k holds = holds
-climb_among RootGrow i w s k holds = holds
-climb_among _ i w s k holds = absurd i
+climb_among p i w s k holds = by (row p).kind i holds
+  where
+    by : (of : Kind) → IsClimbKind of → HoldsBy (holds_of of) w s k → IsAmong s k
+    by kinds.Climbs i holds = holds
+    by _ i holds = absurd i
+
+pub among_climb : (p : Phase) → IsClimb p → (w : Walk) (s : Splits) (k : ℕ) → IsAmong s k → HoldsAt p w s k
+among_climb p i w s k among = by (row p).kind i
+  where
+    by : (of : Kind) → IsClimbKind of → HoldsBy (holds_of of) w s k
+    by kinds.Climbs i = among
+    by _ i = absurd i
 
 -- a step of it leaves the outcome
 climb_notes : (p q : Phase) → IsClimb p → (old : StateView) (op : OperationView) → Notes old op p q op.outcome

@@ -1,29 +1,30 @@
 -- A step of an operation that holds nothing, which leaves all nodes as they were: for `State::descend`, `search`, `load` and `confirm`.
 use Rattle.std.proofs.Common.{◌≡◌, ℕ, ◌+◌, ◌<◌, ◌≤◌, inl, Bool, false, length, Option, Some, None, refl, sym, ap, subst, ◌∙◌, arith}
-use Rattle.std.specs.Prelude.{◌^◌}
+use Rattle.std.specs.Prelude.{◌^◌, if◌then◌else◌}
 use Rattle.std.proofs.lemmas.Option.{same_Some}
 use Rattle.mt_tape.proofs.EntryLaws.{floor_upto_last}
 use Rattle.mt_arena.specs.Arena.{ArenaView, Guarantee}
 use Rattle.mt_arena.specs.Accesses.{at}
 use Rattle.mt_arena.proofs.Guarantees.{guarantee_none}
 use Rattle.mt_operation.specs.declared.phase.Phase.{Phase}
-use Rattle.mt_operation.specs.declared.phase.Phase.TheVariants.{Enter, Pick, Child, Verify, Search, Load, Confirm, Forward, Lock, Judge, Store, Publish, SplitStart, SplitMove, SplitPrev, LockParent, InsertChild, InteriorSplit, Reparent, RootGrow, MakeLayer, MarkUnstable, Link, MarkLayer, Unlock, Done}
+use Rattle.mt_operation.specs.declared.phase.Phase.TheVariants.{Done}
 use Rattle.mt_operation.specs.declared.walk.Walk.{Walk}
 use Rattle.mt_operation.specs.declared.outcome.Outcome.{Outcome}
 use Rattle.mt_operation.specs.declared.splits.Splits.{Splits}
 use Rattle.mt_operation.specs.declared.operation.Operation.{Operation}
 use Rattle.mt_operation.specs.Operations.{view_of}
-use Rattle.mt_operation.specs.Phases.{is_done, MayFollow, IsOfKind, has_splits}
+use Rattle.mt_operation.specs.Phases.{is_done, MayFollow, IsOfKind, has_splits, Change, Kind, Ready, change_at, holds_of, is_ready, may_be_parts, row}
 use Rattle.mt_operation.specs.Tables.{op_at as operation_at}
 use Rattle.mt_state.specs.Views.{StateView, Core, shown}
 use Rattle.mt_state.specs.Steps.{change_in}
 use Rattle.mt_state.specs.Notes.{Notes}
 use Rattle.mt_state.specs.KeptOperations.{IsKeptAt, IsKeptOf}
-use Rattle.mt_state.specs.Invariant.{IsTape, HoldsAt, StateInvariant, one_if_prepared}
+use Rattle.mt_state.specs.Invariant.{IsTape, HoldsAt, StateInvariant, one_if_prepared, HoldsBy}
 use Rattle.mt_state.proofs.Quiet.{quiet, LeavesPairs, quiet_move, is_quiet}
 use Rattle.mt_state.proofs.Telling.{Gives, gives}
 use Rattle.mt_state.proofs.Moved.{went, open_moved, has_moved}
 use Rattle.mt_state.proofs.Growing.{makes_same}
+use Rattle.mt_operation.specs.Phases as kinds
 
 -- the tape's floor is a step that was made
 pub floor_made : (c : Core) → IsTape c → c.tape.floor ≤ c.steps
@@ -52,74 +53,63 @@ leaves_all c o h = record {
 }
 
 -- an operation at this phase holds nothing, has nothing made ready, and has a step left
+abbrev pub IsFreeBy : Kind → Type 0
+IsFreeBy kinds.Descends = Unit {0}
+IsFreeBy kinds.Reads = Unit {0}
+IsFreeBy kinds.Locks = Unit {0}
+IsFreeBy _ = ⊥
+
 abbrev pub IsFree : Phase → Type 0
-IsFree Enter = Unit {0}
-IsFree Pick = Unit {0}
-IsFree Child = Unit {0}
-IsFree Verify = Unit {0}
-IsFree Search = Unit {0}
-IsFree Load = Unit {0}
-IsFree Confirm = Unit {0}
-IsFree Forward = Unit {0}
-IsFree Lock = Unit {0}
-IsFree _ = ⊥
+IsFree p = IsFreeBy (row p).kind
 
 free_open : (p : Phase) → IsFree p → is_done p ≡ false
 free_open Done f = absurd f
 free_open _ f = refl
 
 free_holds : (p : Phase) (w : Walk) (s : Splits) (k : ℕ) → IsFree p → HoldsAt p w s k → ⊥
-free_holds Judge w s k f holds = absurd f
-free_holds Store w s k f holds = absurd f
-free_holds Publish w s k f holds = absurd f
-free_holds SplitStart w s k f holds = absurd f
-free_holds SplitMove w s k f holds = absurd f
-free_holds SplitPrev w s k f holds = absurd f
-free_holds LockParent w s k f holds = absurd f
-free_holds InsertChild w s k f holds = absurd f
-free_holds InteriorSplit w s k f holds = absurd f
-free_holds Reparent w s k f holds = absurd f
-free_holds RootGrow w s k f holds = absurd f
-free_holds MakeLayer w s k f holds = absurd f
-free_holds MarkUnstable w s k f holds = absurd f
-free_holds Link w s k f holds = absurd f
-free_holds MarkLayer w s k f holds = absurd f
-free_holds Unlock w s k f holds = absurd f
-free_holds _ w s k f holds = holds
+free_holds p w s k f holds = by (row p).kind f holds
+  where
+    by : (of : Kind) → IsFreeBy of → HoldsBy (holds_of of) w s k → ⊥
+    by kinds.Descends f holds = holds
+    by kinds.Reads f holds = holds
+    by kinds.Locks f holds = holds
+    by _ f holds = absurd f
 
 free_unsplit : (p : Phase) → IsFree p → has_splits p ≡ false
-free_unsplit Enter f = refl
-free_unsplit Pick f = refl
-free_unsplit Child f = refl
-free_unsplit Verify f = refl
-free_unsplit Search f = refl
-free_unsplit Load f = refl
-free_unsplit Confirm f = refl
-free_unsplit Forward f = refl
-free_unsplit Lock f = refl
-free_unsplit _ f = absurd f
+free_unsplit p f = by (row p).kind f
+  where
+    by : (of : Kind) → IsFreeBy of → may_be_parts (holds_of of) ≡ false
+    by kinds.Descends f = refl
+    by kinds.Reads f = refl
+    by kinds.Locks f = refl
+    by _ f = absurd f
 
 -- who is free, or done, or is to judge, or has placed its change, has nothing made ready
+abbrev pub IsUnreadyBy : Change → Type 0
+IsUnreadyBy Ready = ⊥
+IsUnreadyBy _ = Unit {0}
+
 abbrev pub IsUnready : Phase → Type 0
-IsUnready Store = ⊥
-IsUnready Publish = ⊥
-IsUnready SplitStart = ⊥
-IsUnready SplitMove = ⊥
-IsUnready _ = Unit {0}
+IsUnready p = IsUnreadyBy (change_at (row p).kind)
+
+abbrev readied : Change → ℕ
+readied of = if is_ready of then 1 else 0
+
+unready_by : (of : Change) → IsUnreadyBy of → readied of ≡ 0
+unready_by Ready u = absurd u
+unready_by _ u = refl
 
 pub unready_none : (op : Operation) (p : Phase) → op.walk.phase ≡ p → IsUnready p → one_if_prepared (Some op) ≡ 0
-unready_none op Store is u = absurd u
-unready_none op Publish is u = absurd u
-unready_none op SplitStart is u = absurd u
-unready_none op SplitMove is u = absurd u
-unready_none op _ is u = ap (λ p. one_if_prepared (Some (record op { walk = record op.walk { phase = p } }))) is
+unready_none op p is u = ap (λ (q : Phase). readied (change_at (row q).kind)) is ∙ unready_by (change_at (row p).kind) u
 
 pub free_unready : (p : Phase) → IsFree p → IsUnready p
-free_unready Store f = absurd f
-free_unready Publish f = absurd f
-free_unready SplitStart f = absurd f
-free_unready SplitMove f = absurd f
-free_unready _ f = tt
+free_unready p f = by (row p).kind f
+  where
+    by : (of : Kind) → IsFreeBy of → IsUnreadyBy (change_at of)
+    by kinds.Descends f = tt
+    by kinds.Reads f = tt
+    by kinds.Locks f = tt
+    by _ f = absurd f
 
 module _ (c : Core) (now : StateView) (o : ℕ) (is : shown c ≡ now) (h : StateInvariant c) (room : now.steps < 2 ^ 59) (op : Operation) (there : operation_at c.table o ≡ Some op) (free : IsFree op.walk.phase) where
   few : c.steps < 2 ^ 59

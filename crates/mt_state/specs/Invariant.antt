@@ -18,7 +18,7 @@ use Rattle.mt_arena.specs.declared.tree.Standing.TheVariants.{Dead}
 use Rattle.mt_arena.specs.Forests.{tree_at}
 use Rattle.mt_arena.specs.Accesses.{at, tree_of}
 use Rattle.mt_operation.specs.declared.phase.Phase.{Phase}
-use Rattle.mt_operation.specs.Phases.{Holding, Free, Border, Parts, Last, row, is_prepared}
+use Rattle.mt_operation.specs.Phases.{Holding, Free, Border, Parts, Last, row, is_prepared, holds_of}
 use Rattle.mt_operation.specs.declared.walk.Walk.{Walk}
 use Rattle.mt_operation.specs.declared.splits.Halves.{Halves}
 use Rattle.mt_operation.specs.declared.splits.Splits.{Splits}
@@ -76,7 +76,7 @@ HoldsBy Parts w s k = IsAmong s k
 HoldsBy Last w s k = HoldsLast s.halves.items w s k
 
 abbrev pub HoldsAt : Phase → Walk → Splits → ℕ → Type 0
-HoldsAt p w s k = HoldsBy (row p).holds w s k
+HoldsAt p w s k = HoldsBy (holds_of (row p).kind) w s k
 
 -- who holds a node is an operation that is there, at a phase in which it holds that node
 abbrev pub AreHolders : Core → Type 0

@@ -14,13 +14,13 @@ use Rattle.mt_arena.specs.Arena.{ArenaView}
 use Rattle.mt_arena.specs.Accesses.{at}
 use Rattle.mt_operation.specs.declared.phase.Phase.{Phase}
 use Rattle.mt_operation.specs.declared.phase.Phase.TheVariants as phases
-use Rattle.mt_operation.specs.declared.phase.Phase.TheVariants.{Enter, Pick, Child, Verify, Search, Load, Confirm, Forward, Lock, Judge, Store, Publish, SplitStart, SplitMove, SplitPrev, LockParent, InsertChild, InteriorSplit, Reparent, RootGrow, MakeLayer, MarkUnstable, MarkLayer, Unlock, Done}
+use Rattle.mt_operation.specs.declared.phase.Phase.TheVariants.{Enter, Load, Confirm, Store, Unlock}
 use Rattle.mt_operation.specs.declared.walk.Taken.{Taken}
 use Rattle.mt_operation.specs.declared.walk.Taken.TheVariants.{Missing, Row, Link, Nothing}
 use Rattle.mt_operation.specs.declared.outcome.Outcome.{Outcome}
 use Rattle.mt_operation.specs.declared.prepared.Prepared.{Prepared}
 use Rattle.mt_operation.specs.declared.operation.Operation.{Operation}
-use Rattle.mt_operation.specs.Phases.{IsOfKind, has_splits}
+use Rattle.mt_operation.specs.Phases.{IsOfKind, has_splits, Kind, row}
 use Rattle.mt_operation.specs.Tasks.{ask}
 use Rattle.mt_operation.specs.declared.splits.Halves.{Halves}
 use Rattle.mt_operation.specs.Operations.{view_of, IsUnsplit}
@@ -33,6 +33,7 @@ use Rattle.mt_state.specs.Views.{Core, shown, past_of}
 use Rattle.mt_state.specs.Notes.{Says, columns_asked}
 use Rattle.mt_state.specs.Steps.{change_in}
 use Rattle.mt_state.specs.Promises.{IsAnswer}
+use Rattle.mt_operation.specs.Phases as kinds
 
 -- what is kept of every operation: its key is its command's, of a tenant that is there; its numbers are those of steps made; and it has made one
 -- where it isn't at its beginning
@@ -145,34 +146,32 @@ abbrev pub IsReturning : Option Outcome → Core → ℕ → Operation → Type 
 IsReturning None c o op = IsLeaving c o op
 IsReturning (Some told) c o op = IsUnlocking c o op
 
--- what is kept of an operation by its phase
+-- an operation that reads for a get, and one that has all ready to write, by the phase
+abbrev pub IsReadingAt : Phase → Core → Operation → Type 0
+IsReadingAt Load c op = IsAtLoad c op
+IsReadingAt Confirm c op = IsAtConfirm c op
+IsReadingAt _ c op = IsOnItsWay c op
+
+abbrev pub IsWritingAt : Phase → Core → ℕ → Operation → Type 0
+IsWritingAt Store c o op = IsStoring c o op
+IsWritingAt _ c o op = IsPublishing c o op
+
+-- what is kept of an operation by what its next step does
+abbrev pub IsKeptFor : Kind → Phase → Core → ℕ → Operation → Type 0
+IsKeptFor kinds.Descends p c o op = IsOnItsWay c op
+IsKeptFor kinds.Locks p c o op = IsOnItsWay c op
+IsKeptFor kinds.Reads p c o op = IsReadingAt p c op
+IsKeptFor kinds.Judges p c o op = IsJudging c o op
+IsKeptFor kinds.Writes p c o op = IsWritingAt p c o op
+IsKeptFor kinds.Begins p c o op = IsSplitStarting c o op
+IsKeptFor kinds.Splits p c o op = IsSplitMoving c o op
+IsKeptFor kinds.Climbs p c o op = IsClimbing c o op p
+IsKeptFor kinds.Layers p c o op = IsLayering c o op p
+IsKeptFor kinds.Returns p c o op = IsReturning op.outcome c o op
+IsKeptFor kinds.Ends p c o op = HasAnswer c op
+
 abbrev pub IsKeptAt : Phase → Core → ℕ → Operation → Type 0
-IsKeptAt Enter c o op = IsOnItsWay c op
-IsKeptAt Pick c o op = IsOnItsWay c op
-IsKeptAt Child c o op = IsOnItsWay c op
-IsKeptAt Verify c o op = IsOnItsWay c op
-IsKeptAt Search c o op = IsOnItsWay c op
-IsKeptAt Load c o op = IsAtLoad c op
-IsKeptAt Confirm c o op = IsAtConfirm c op
-IsKeptAt Forward c o op = IsOnItsWay c op
-IsKeptAt Lock c o op = IsOnItsWay c op
-IsKeptAt Judge c o op = IsJudging c o op
-IsKeptAt Store c o op = IsStoring c o op
-IsKeptAt Publish c o op = IsPublishing c o op
-IsKeptAt SplitStart c o op = IsSplitStarting c o op
-IsKeptAt SplitMove c o op = IsSplitMoving c o op
-IsKeptAt SplitPrev c o op = IsClimbing c o op SplitPrev
-IsKeptAt LockParent c o op = IsClimbing c o op LockParent
-IsKeptAt InsertChild c o op = IsClimbing c o op InsertChild
-IsKeptAt InteriorSplit c o op = IsClimbing c o op InteriorSplit
-IsKeptAt Reparent c o op = IsClimbing c o op Reparent
-IsKeptAt RootGrow c o op = IsClimbing c o op RootGrow
-IsKeptAt MakeLayer c o op = IsLayering c o op MakeLayer
-IsKeptAt MarkUnstable c o op = IsLayering c o op MarkUnstable
-IsKeptAt phases.Link c o op = IsLayering c o op phases.Link
-IsKeptAt MarkLayer c o op = IsLayering c o op MarkLayer
-IsKeptAt Unlock c o op = IsReturning op.outcome c o op
-IsKeptAt Done c o op = HasAnswer c op
+IsKeptAt p c o op = IsKeptFor (row p).kind p c o op
 
 -- a change that an operation has made has its entry in the tape, of its step, worker, tenant and key, with the row that the command makes of the one
 -- before
