@@ -11,7 +11,7 @@ use mt_test_streams::{ALL, ROWS, TestServer, Way, bytes_of, many, name_of, strea
 use std::alloc::Global;
 use std::process::Abort;
 
-// A remove can't be begun yet.
+// A remove is not run alone yet.
 const MORE_ROWS: [&str; 1] = [
     "00000005 01 00000007 00000004 04 0001 6b 00000001 06 > 00000001 00 > memory",
 ];

@@ -220,7 +220,7 @@ fn ran<L: Ledger, R: Wait, D: Desk<L>, G: Gate>(
     Ok(answer)
 }
 
-/// Runs a get or a put to its answer: a begin, its steps and a take, each in a lock period of its own,
+/// Runs a get, a put or a remove to its answer: a begin, its steps and a take, each in a lock period of its own,
 /// with the gate called before each step while the lock is free, with the phase that the period before
 /// showed. All that the begin needs of the command is made before the first period, and what the last
 /// one displaces is freed behind it.

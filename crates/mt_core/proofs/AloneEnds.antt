@@ -1,5 +1,5 @@
 -- How far an operation comes that is alone, or that nobody disturbs any more, and how its run ends: for `Inner::run_alone`.
-use Rattle.std.proofs.Common.{◌≡◌, ◌≢◌, ℕ, zero, suc, ◌+◌, ◌*◌, ◌<◌, ◌≤◌, inl, inr, List, [], ◌∷◌, true, false, Some, refl, sym, ap, subst, ◌∙◌, arith}
+use Rattle.std.proofs.Common.{◌≡◌, ◌≢◌, ℕ, zero, suc, ◌+◌, ◌*◌, ◌<◌, ◌≤◌, inl, inr, List, [], ◌∷◌, true, false, Option, None, Some, refl, sym, ap, subst, ◌∙◌, arith}
 use Rattle.std.specs.Prelude.{◌^◌, min}
 use Rattle.std.proofs.Math.Nat.{mul-le-mul_right, min-le_right}
 use Rattle.std.proofs.lemmas.Option.{same_Some}
@@ -8,17 +8,21 @@ use Rattle.mt_arena.specs.Accesses.{at}
 use Rattle.mt_arena.proofs.Heights.{any_below_live}
 use Rattle.mt_operation.specs.declared.phase.Phase.{Phase}
 use Rattle.mt_operation.specs.declared.phase.Phase.TheVariants as phases
-use Rattle.mt_operation.specs.declared.phase.Phase.TheVariants.{Enter, Pick, Child, Verify, Search, Load, Confirm, Forward, Lock, Judge, Store, Publish, SplitStart, SplitMove, SplitPrev, LockParent, InsertChild, InteriorSplit, Reparent, RootGrow, MakeLayer, MarkUnstable, MarkLayer, Unlock, Done}
+use Rattle.mt_operation.specs.declared.phase.Phase.TheVariants.{Enter, Pick, Child, Verify, Search, Load, Confirm, Forward, Lock, Judge, Store, Publish, SplitStart, SplitMove, SplitPrev, LockParent, InsertChild, InteriorSplit, Reparent, RootGrow, MakeLayer, MarkUnstable, MarkLayer, DropKey, LockPrev, LockAbove, Unlink, FixNext, Collapse, CleanLayer, Unlock, Done}
 use Rattle.mt_operation.specs.declared.walk.Walk.{Walk}
 use Rattle.mt_operation.specs.declared.splits.Halves.{Halves}
 use Rattle.mt_operation.specs.declared.operation.Operation.{Operation}
 use Rattle.mt_operation.specs.Operations.{OperationView, view_of}
 use Rattle.mt_operation.specs.Phases.{is_done, IsToGrow}
+use Rattle.mt_operation.specs.Tasks.{ask}
+use Rattle.mt_operation.specs.Tables.{op_at as operation_at}
 use Rattle.mt_insert.specs.KeptSplits.{HasSplits, last_of}
+use Rattle.mt_remove.specs.Writes.{is_remove}
 use Rattle.mt_state.specs.declared.moves.Move.{Move}
 use Rattle.mt_state.specs.declared.moves.Move.TheVariants.{Moved, Again, NoMemory as NoMemoryMove, Done as DoneMove, Spent, NoSuch}
 use Rattle.mt_state.specs.Views.{StateView, Core, shown, op_at}
-use Rattle.mt_state.specs.KeptOperations.{IsKeptAt, HasAnswer}
+use Rattle.mt_operation.specs.declared.outcome.Outcome.{Outcome}
+use Rattle.mt_state.specs.KeptOperations.{IsKeptAt, IsOnItsWay, IsBound, HasAnswer}
 use Rattle.mt_state.specs.Invariant.{StateInvariant}
 use Rattle.mt_state.specs.Promises.{HasStep, IsHeldByOther, IsAnswer, IsStep, Tells}
 use Rattle.mt_state.proofs.Shown.{shown_there, inside_of}
@@ -45,40 +49,51 @@ chain_ends made old new o chain h = omega (arith, chain_number made old (shown n
 pub run_stops : (old v w : StateView) (o made : ℕ) (answer : Move) → IsChain made old v o → answer ≢ Moved → Tells v w o answer → Runs old w o answer
 run_stops old v w o made answer chain other s = record { made = made; mid = v; chain = chain; tells = s; ends = other }
 
--- all nodes are live, so they stand on levels below their number
+-- live nodes stand on levels below their number
 nodes_below : (c : Core) → StateInvariant c → IsArena c.arena.nodes c.arena.trees → AreBelow c.arena (live_count c.arena.nodes)
-nodes_below c h arena k within = any_below_live c.arena.nodes arena.nodes arena.ranged k within (h.unremoved.live k within)
+nodes_below c h arena k within live = any_below_live c.arena.nodes arena.nodes arena.ranged k within live
+
+-- an operation that removes nothing is no removal
+no_removing : (op : Operation) → is_remove (ask op.task) ≡ false → is_remove (ask op.task) ≡ true → ⊥
+no_removing op stays removes = let no = sym stays ∙ removes in cc
 
 -- at whatever phase an operation stands, it may find its way again, and has made no step so far
 starts_at : (p : Phase) (c : Core) (o : ℕ) (op : Operation) → StateInvariant c → IsArena c.arena.nodes c.arena.trees → is_done p ≡ false
-    → IsKeptAt p c o op → HasMade p (live_count c.arena.nodes) 0 c.arena op.walk op.splits
-starts_at Enter c o op h arena left kept = omega arith
-starts_at Pick c o op h arena left kept = inr (omega arith)
-starts_at Child c o op h arena left kept = inr (omega arith)
-starts_at Verify c o op h arena left kept = inr (inr (omega (arith, behind_most c.arena.nodes (at c.arena op.walk.child).low h.unremoved.live)))
-starts_at Search c o op h arena left kept = inr (omega (arith, behind_most c.arena.nodes (at c.arena op.walk.place.node).low h.unremoved.live))
-starts_at Load c o op h arena left kept = inr (omega (arith, behind_most c.arena.nodes (at c.arena op.walk.place.node).low h.unremoved.live))
-starts_at Confirm c o op h arena left kept = inr (omega (arith, behind_most c.arena.nodes (at c.arena op.walk.place.node).low h.unremoved.live))
-starts_at Forward c o op h arena left kept = inr (omega (arith, behind_most c.arena.nodes (at c.arena op.walk.place.node).low h.unremoved.live))
-starts_at Lock c o op h arena left kept = inr (omega (arith, behind_most c.arena.nodes (at c.arena op.walk.place.node).low h.unremoved.live))
-starts_at Judge c o op h arena left kept = omega arith
-starts_at Store c o op h arena left kept = omega arith
-starts_at Publish c o op h arena left kept = omega arith
-starts_at SplitStart c o op h arena left kept = omega arith
-starts_at SplitMove c o op h arena left kept = omega arith
-starts_at SplitPrev c o op h arena left kept = omega arith
-starts_at LockParent c o op h arena left kept = omega arith
-starts_at InsertChild c o op h arena left kept = omega arith
-starts_at InteriorSplit c o op h arena left kept = omega arith
-starts_at Reparent c o op h arena left kept =
+    → is_remove (ask op.task) ≡ false → IsKeptAt p c o op → HasMade p (live_count c.arena.nodes) 0 c.arena op.walk op.splits
+starts_at Enter c o op h arena left stays kept = inr (omega arith)
+starts_at Pick c o op h arena left stays kept = inr (omega arith)
+starts_at Child c o op h arena left stays kept = inr (omega arith)
+starts_at Verify c o op h arena left stays kept = inr (inr (omega (arith, behind_most c.arena.nodes (at c.arena op.walk.child).low)))
+starts_at Search c o op h arena left stays kept = inr (omega (arith, behind_most c.arena.nodes (at c.arena op.walk.place.node).low))
+starts_at Load c o op h arena left stays kept = inr (omega (arith, behind_most c.arena.nodes (at c.arena op.walk.place.node).low))
+starts_at Confirm c o op h arena left stays kept = inr (omega (arith, behind_most c.arena.nodes (at c.arena op.walk.place.node).low))
+starts_at Forward c o op h arena left stays kept = inr (omega (arith, behind_most c.arena.nodes (at c.arena op.walk.place.node).low))
+starts_at Lock c o op h arena left stays kept = inr (omega (arith, behind_most c.arena.nodes (at c.arena op.walk.place.node).low))
+starts_at Judge c o op h arena left stays kept = omega arith
+starts_at Store c o op h arena left stays kept = omega arith
+starts_at Publish c o op h arena left stays kept = omega arith
+starts_at SplitStart c o op h arena left stays kept = omega arith
+starts_at SplitMove c o op h arena left stays kept = omega arith
+starts_at SplitPrev c o op h arena left stays kept = omega arith
+starts_at LockParent c o op h arena left stays kept = omega arith
+starts_at InsertChild c o op h arena left stays kept = omega arith
+starts_at InteriorSplit c o op h arena left stays kept = omega arith
+starts_at Reparent c o op h arena left stays kept =
     omega (arith, (arena.nodes.each (last_of op.splits).right kept.climbs.splits.parted.right.held.there).children.interior.room)
-starts_at RootGrow c o op h arena left kept = omega arith
-starts_at MakeLayer c o op h arena left kept = omega arith
-starts_at MarkUnstable c o op h arena left kept = omega arith
-starts_at phases.Link c o op h arena left kept = omega arith
-starts_at MarkLayer c o op h arena left kept = omega arith
-starts_at Unlock c o op h arena left kept = omega arith
-starts_at Done c o op h arena left kept = absurd (let no = sym left in cc)
+starts_at RootGrow c o op h arena left stays kept = omega arith
+starts_at MakeLayer c o op h arena left stays kept = omega arith
+starts_at MarkUnstable c o op h arena left stays kept = omega arith
+starts_at phases.Link c o op h arena left stays kept = omega arith
+starts_at MarkLayer c o op h arena left stays kept = omega arith
+starts_at DropKey c o op h arena left stays kept = absurd (no_removing op stays kept.removes)
+starts_at LockPrev c o op h arena left stays kept = absurd (no_removing op stays kept.removes)
+starts_at LockAbove c o op h arena left stays kept = absurd (no_removing op stays kept.removes)
+starts_at Unlink c o op h arena left stays kept = absurd (no_removing op stays kept.removes)
+starts_at FixNext c o op h arena left stays kept = absurd (no_removing op stays kept.removes)
+starts_at Collapse c o op h arena left stays kept = absurd (no_removing op stays kept.removes)
+starts_at CleanLayer c o op h arena left stays kept = absurd (no_removing op stays kept.removes)
+starts_at Unlock c o op h arena left stays kept = omega arith
+starts_at Done c o op h arena left stays kept = absurd (let no = sym left in cc)
 
 -- nobody is in the way of an operation while nobody else holds a node
 pub unhindered_first : (c : Core) (o : ℕ) (op : OperationView) → StateInvariant c → IsArena c.arena.nodes c.arena.trees → IsUndisturbed (shown c) o op
@@ -87,17 +102,20 @@ unhindered_first c o op h arena u =
     let inside = inside_of c.table o op u.there in
     let inner : Operation = inside.0 in
     let left : is_done inner.walk.phase ≡ false = ap (λ (x : OperationView). is_done x.phase) inside.2 ∙ u.unfinished in
+    let stays : is_remove (ask inner.task) ≡ false = ap (λ (x : OperationView). is_remove x.command) inside.2 ∙ u.stays in
     record {
       op = inner;
       there = inside.1;
+      stays = stays;
       free = u.free;
-      point = record { below = λ _. nodes_below c h arena; few = starts_at inner.walk.phase c o inner h arena left (h.ops o inner inside.1).kept };
+      point = record { below = λ _. nodes_below c h arena; few = starts_at inner.walk.phase c o inner h arena left stays (h.ops o inner inside.1).kept };
     }
 
 -- so it is with one that is alone
 undisturbed_alone : (v : StateView) (o : ℕ) (op : OperationView) → IsAlone v o op → IsUndisturbed v o op
 undisturbed_alone v o op alone = record {
   there = alone.there;
+  stays = alone.stays;
   unfinished = ap is_done alone.enters;
   free = λ k q within holds. absurd (no_value (sym (alone.free k within) ∙ holds));
   numbers = alone.numbers;
@@ -105,7 +123,7 @@ undisturbed_alone v o op alone = record {
 
 -- the left half of a split is there, so its level is below the height
 split_below : (v : ArenaView) (height o : ℕ) (op : Operation) → AreBelow v height → HasSplits v o op.splits → split_level v op.splits < height
-split_below v height o op below s = below (last_of op.splits).left s.parted.left.held.there
+split_below v height o op below s = below (last_of op.splits).left s.parted.left.held.there s.parted.left.live
 
 -- before it gives its locks back
 most_unlock : (halves : List Halves) (height : ℕ) → before_unlock halves height ≤ 23 * height + 7
@@ -121,7 +139,7 @@ most_above height w =
 few_made : (p : Phase) (c : Core) (o : ℕ) (op : Operation) (height made : ℕ) → IsKeptAt p c o op
     → above height op.walk ≤ astray height + 31 * (3 * height + 12) → (¬ MayHaveGrown p op.splits.halves.items → AreBelow c.arena height)
     → HasMade p height made c.arena op.walk op.splits → made < 256 * (height + 64)
-few_made Enter c o op height made kept most below few = omega (arith, few, most)
+few_made Enter c o op height made kept most below few = elim few [ inl now ↦ omega (arith, now.1, most) | inr strays ↦ omega (arith, strays) ]
 few_made Pick c o op height made kept most below few = elim few [ inl now ↦ omega (arith, now.1, most) | inr strays ↦ omega (arith, strays) ]
 few_made Child c o op height made kept most below few = elim few [ inl now ↦ omega (arith, now.1, most) | inr strays ↦ omega (arith, strays) ]
 few_made Verify c o op height made kept most below few = elim few [
@@ -130,7 +148,7 @@ few_made Verify c o op height made kept most below few = elim few [
 ]
 few_made Search c o op height made kept most below few = elim few [ inl now ↦ omega (arith, now.1, most) | inr strays ↦ omega (arith, strays) ]
 few_made Load c o op height made kept most below few = elim few [ inl now ↦ omega (arith, now.1, most) | inr strays ↦ omega (arith, strays) ]
-few_made Confirm c o op height made kept most below few = elim few [ inl now ↦ omega (arith, now.1, most) | inr strays ↦ omega (arith, strays) ]
+few_made Confirm c o op height made kept most below few = elim few [ inl now ↦ omega (arith, now.2, most) | inr strays ↦ omega (arith, strays) ]
 few_made Forward c o op height made kept most below few = elim few [ inl now ↦ omega (arith, now.1) | inr strays ↦ omega (arith, strays) ]
 few_made Lock c o op height made kept most below few = elim few [ inl now ↦ omega (arith, now.1, most) | inr strays ↦ omega (arith, strays) ]
 few_made Judge c o op height made kept most below few = omega (arith, few, most)
@@ -164,27 +182,34 @@ done_is : (p : Phase) → is_done p ≡ true → p ≡ Done
 done_is Done e = refl
 done_is _ e = absurd (cc)
 
--- one that is to make a node has its answer, and is not at its beginning
+-- one that is to make a node has its answer
 answer_to_grow : (p : Phase) (c : Core) (o : ℕ) (op : Operation) → IsKeptAt p c o op → IsToGrow p → HasAnswer c op
 answer_to_grow InteriorSplit c o op kept grows = kept.answer
 answer_to_grow RootGrow c o op kept grows = kept.answer
 answer_to_grow _ c o op kept grows = absurd grows
-
-grows_later : (p : Phase) → IsToGrow p → p ≢ Enter
-grows_later Enter grows e = grows
-grows_later _ grows e = cc
-
-done_later : (p : Phase) → p ≡ Done → p ≢ Enter
-done_later p is other = let no : Done ≡ Enter = sym is ∙ other in cc
 
 -- the run so far of an operation that is alone: nobody is in its way
 pub record GoesAlone (old v : Core) (o : ℕ) (op : OperationView) (made : ℕ) : Type 0 where
   pub run : IsRunning (shown old) (shown v) o op made
   pub free : IsUnhindered v o (live_count old.arena.nodes) made
 
+-- one that has made no step was told nothing
+untold_first : (c : Core) (o : ℕ) (op : OperationView) → StateInvariant c → IsAlone (shown c) o op → op.outcome ≡ None
+untold_first c o op h alone = ap (λ (x : OperationView). x.outcome) (sym inside.2) ∙ by inside.0.outcome way.bound
+  where
+    inside : (x : Operation) × (operation_at c.table o ≡ Some x) × (view_of x ≡ op)
+    inside = inside_of c.table o op alone.there
+
+    way : IsOnItsWay c inside.0
+    way = subst (λ (p : Phase). IsKeptAt p c o inside.0) (ap (λ (x : OperationView). x.phase) inside.2 ∙ alone.enters) (h.ops o inside.0 inside.1).kept
+
+    by : (told : Option Outcome) → IsBound told c inside.0 → told ≡ None
+    by None bound = refl
+    by (Some told) bound = absurd (let first = ap (λ (x : OperationView). x.first) inside.2 in omega (arith, first, alone.first, bound.answer.right.begun))
+
 pub alone_first : (old : Core) (o : ℕ) (op : OperationView) → StateInvariant old → IsArena old.arena.nodes old.arena.trees → IsAlone (shown old) o op
     → GoesAlone old old o op 0
-alone_first old o op h arena alone = record { run = running_first (shown old) o op alone; free = unhindered_first old o op h arena (undisturbed_alone (shown old) o op alone) }
+alone_first old o op h arena alone = record { run = running_first (shown old) o op alone (untold_first old o op h alone); free = unhindered_first old o op h arena (undisturbed_alone (shown old) o op alone) }
 
 -- an operation that moved goes on
 pub alone_goes_on : (old v w : Core) (o : ℕ) (op : OperationView) (made : ℕ) → GoesAlone old v o op made → StepsOn v w o Moved → GoesAlone old w o op (made + 1)
@@ -225,7 +250,7 @@ module _ (old v : Core) (o : ℕ) (op : OperationView) (made : ℕ) (h : StateIn
         ends = ends;
         told = answer.0;
         has = has;
-        outcome = run_outcome (shown old) w o op (made + 1) run answer.0 has right (done_later run.after.phase ends)
+        outcome = run_outcome (shown old) w o op (made + 1) run answer.0 has right
             (omega (arith, ap (λ (x : OperationView). x.last) is, s.moves.last, s.number));
       }
 
@@ -245,14 +270,14 @@ module _ (old v : Core) (o : ℕ) (op : OperationView) (made : ℕ) (h : StateIn
         ends = grows_here;
         told = answer.outcome;
         has = has;
-        outcome = run_outcome (shown old) (shown v) o op made g.run answer.outcome has right (grows_later g.run.after.phase grows_here)
+        outcome = run_outcome (shown old) (shown v) o op made g.run answer.outcome has right
             (omega (arith, ap (λ (x : OperationView). x.last) same, kept.always.made));
       }
 
 -- who alone holds nodes is told of nobody
 never_again : (v : Core) (o holder : ℕ) → IsFreeOfOthers v.arena o → IsHeldByOther (shown v) o holder → ⊥
 never_again v o holder free held =
-    let way = in_the_way v.arena held.op.phase held.op.walk held.op.splits holder held.holds in
+    let way = in_the_way v.arena held.op.phase held.op.walk held.op.splits held.op.removal holder held.holds in
     held.other (free way.0 holder way.1 way.2)
 
 -- each answer but Moved is Done, or that there is no memory

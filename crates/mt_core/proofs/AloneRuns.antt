@@ -1,27 +1,26 @@
 -- What the steps of one operation have made of a state, where all of them were its own: for `Inner::run_alone`.
-use Rattle.std.proofs.Common.{◌≡◌, ◌≢◌, ℕ, ◌+◌, ◌<◌, ◌≤◌, ◌⊎◌, inl, inr, Bool, true, false, cond, eqb, Option, Some, None, refl, sym, ap, subst, ◌∙◌, arith}
+use Rattle.std.proofs.Common.{◌≡◌, ℕ, ◌+◌, ◌<◌, ◌≤◌, ◌⊎◌, inl, inr, Bool, true, false, cond, eqb, Option, Some, None, refl, sym, ap, subst, ◌∙◌, arith}
 use Rattle.std.proofs.lemmas.Bool.{cases_lt, eqb-true}
 use Rattle.std.proofs.lemmas.Option.{same_Some}
 use Rattle.mt_rows.specs.declared.command.Command.{Command}
 use Rattle.mt_rows.specs.declared.reply.Reply.{Reply}
-use Rattle.mt_rows.specs.declared.reply.Reply.TheVariants.{Absent, Found, NoMemory}
+use Rattle.mt_rows.specs.declared.reply.Reply.TheVariants.{NoMemory}
 use Rattle.mt_rows.specs.Maps.{reply_of, map_after, is_change, is_no_memory}
 use Rattle.mt_rows.specs.Tenants.{Contents, tenant_map}
-use Rattle.mt_rows.specs.Rows.{shown}
 use Rattle.mt_rows.proofs.CommandLaws.{same_map_after}
 use Rattle.mt_runs.specs.Placings.{maps_after_one}
 use Rattle.mt_operation.specs.declared.outcome.Outcome.{Outcome}
 use Rattle.mt_operation.specs.declared.phase.Phase.{Phase}
-use Rattle.mt_operation.specs.declared.phase.Phase.TheVariants as phases
-use Rattle.mt_operation.specs.declared.phase.Phase.TheVariants.{Enter, Pick, Child, Verify, Search, Load, Confirm, Forward, Lock, Judge, Store, Publish, SplitStart, SplitMove, SplitPrev, LockParent, InsertChild, InteriorSplit, Reparent, RootGrow, MakeLayer, MarkUnstable, MarkLayer, Unlock, Done}
 use Rattle.mt_operation.specs.Operations.{OperationView}
 use Rattle.mt_operation.proofs.Tables.{set_is}
 use Rattle.mt_state.specs.Views.{StateView, Shown, contents_of, op_at, map_of, quota_of, KeepsPast}
 use Rattle.mt_state.specs.Steps.{IsSameAsked, change_in, told_change}
 use Rattle.mt_operation.specs.Phases.{MayFollow, is_unplaced}
-use Rattle.mt_state.specs.Notes.{Notes}
+use Rattle.mt_operation.specs.declared.phase.Phase.TheVariants.{Search, Load, Confirm, Judge, Store, Publish, SplitStart, SplitMove, MakeLayer, DropKey, Done}
+use Rattle.mt_state.specs.Notes.{EndsJudging, Keeps, Notes}
 use Rattle.mt_state.proofs.Granted.{quota_stays}
 use Rattle.mt_state.proofs.Moved.{first_is}
+use Rattle.mt_state.proofs.HistoryChanges.{placed_after}
 use Rattle.mt_state.specs.Promises.{IsQuiet, IsPlacing, IsAnswer, IsStep}
 use Rattle.mt_core.specs.Alone.{IsAlone, IsRun}
 
@@ -60,7 +59,7 @@ maps_stay old op look t = by (eqb t op.tenant) refl
 -- the operation has changed nothing so far, nor has any other
 pub record HasLeft (old v : StateView) (after : OperationView) : Type 0 where
   pub contents : contents_of v ≡ contents_of old
-  pub change : after.phase ≢ Enter → change_in after ≡ None
+  pub change : change_in after ≡ None
   pub maps : (t m : ℕ) → old.steps < m → m ≤ v.steps → map_of v t m ≡ tenant_map t (contents_of old)
 
 -- or it has made its change, and has the outcome that it had then
@@ -87,144 +86,54 @@ pub no_value : {A : Type 0} {a : A} → ◌≡◌ {A = Option A} None (Some a) �
 no_value e = cc
 
 -- before its first step an operation that is alone has changed nothing
-pub running_first : (old : StateView) (o : ℕ) (op : OperationView) → IsAlone old o op → IsRunning old old o op 0
-running_first old o op alone = record {
+pub running_first : (old : StateView) (o : ℕ) (op : OperationView) → IsAlone old o op → op.outcome ≡ None → IsRunning old old o op 0
+running_first old o op alone untold = record {
   number = omega arith;
   grows = record { steps = omega arith; quotas = λ t. refl; maps = λ t m le. refl; changes = λ m le. refl };
   after = op;
   there = alone.there;
   asked = record { worker = refl; tenant = refl; command = refl };
   first = inl (refl, alone.first);
-  so_far = inl (record { contents = refl; change = λ other. absurd (other alone.enters); maps = λ t m gt le. absurd (omega (arith, gt, le)) });
+  so_far = inl (record { contents = refl; change = ap told_change untold; maps = λ t m gt le. absurd (omega (arith, gt, le)) });
 }
 
 no_told : (b : Bool) (m : ℕ) → cond b (Some m) None ≡ None → b ≡ false
 no_told false m e = refl
 no_told true m e = absurd (cc)
 
-told_some : (b : Bool) (m : ℕ) → b ≡ true → cond b (Some m) None ≡ None → ⊥
-told_some true m is e = cc
-told_some false m is e = cc
-
 memory_is : (reply : Reply) → is_no_memory reply ≡ true → reply ≡ NoMemory
 memory_is NoMemory e = refl
 memory_is _ e = absurd (cc)
 
--- an operation is at Enter, or not
-enters_or : (p : Phase) → (p ≡ Enter) ⊎ (p ≢ Enter)
-enters_or Enter = inl refl
-enters_or _ = inr (λ e. cc)
+-- an outcome that tells of a change names the number of its step
+told_is : (b : Bool) (m : ℕ) → b ≡ true → cond b (Some m) None ≡ Some m
+told_is true m is = refl
+told_is false m is = absurd (cc)
 
--- the first step leaves no outcome
-from_enter : (old : StateView) (op : OperationView) (p q : Phase) (told : Option Outcome) → p ≡ Enter → Notes old op p q told → told ≡ None
-from_enter old op p q told is notes = subst (λ x. Notes old op x q told) is notes
+-- an outcome that is there is kept by a phase whose change is not to come
+keeps_told : (b : Bool) (had told : Option Outcome) (outcome : Outcome) → had ≡ Some outcome → Keeps b had told → (b ≡ false) × (told ≡ had)
+keeps_told true had told outcome is kept = absurd (no_value (sym kept.1 ∙ is))
+keeps_told false had told outcome is kept = (refl, kept)
 
--- an outcome of another reply tells of no change
-other_reply : (told : Option Outcome) (o : Outcome) (reply : Reply) (m : ℕ) → told ≡ Some o → told ≡ Some (record { reply = reply; at = m })
-    → is_change o.reply ≡ true → is_change reply ≡ true
-other_reply told o reply m is says changes =
-    let same : o ≡ record { reply = reply; at = m } = same_Some o (record { reply = reply; at = m }) (sym is ∙ says) in
-    sym (ap (λ (x : Outcome). is_change x.reply) same) ∙ changes
+ends_told : (old : StateView) (op : OperationView) (had told : Option Outcome) (outcome : Outcome) → had ≡ Some outcome → EndsJudging had old op told → told ≡ op.outcome
+ends_told old op None told outcome is ends = absurd (no_value is)
+ends_told old op (Some had) told outcome is ends = ends
 
-no_reply : (told : Option Outcome) (o : Outcome) → told ≡ Some o → told ≡ None → ⊥
-no_reply told o is none = no_value (sym none ∙ is)
-
-no_change : false ≡ true → ⊥
-no_change e = cc
-
--- an outcome that tells of a change was set by a step to a phase in which nothing is placed any more, or before
-sets : (old : StateView) (op : OperationView) (p q : Phase) (told : Option Outcome) (o : Outcome) → MayFollow p q → Notes old op p q told
-    → told ≡ Some o → is_change o.reply ≡ true
-    → (is_unplaced q ≡ false) ⊎ (told ≡ op.outcome)
-sets old op Enter q told o follows notes is changes = absurd (no_reply told o is notes)
-sets old op Pick q told o follows notes is changes = absurd (no_reply told o is notes)
-sets old op Child q told o follows notes is changes = absurd (no_reply told o is notes)
-sets old op Verify q told o follows notes is changes = absurd (no_reply told o is notes)
-sets old op Forward q told o follows notes is changes = absurd (no_reply told o is notes)
-sets old op Lock q told o follows notes is changes = absurd (no_reply told o is notes)
-sets old op Search Confirm told o follows notes is changes = absurd (no_change (other_reply told o Absent (old.steps + 1) is notes.says changes))
-sets old op Search Load told o follows notes is changes = absurd (no_reply told o is notes)
-sets old op Search _ told o follows notes is changes = absurd follows
-sets old op Load Confirm told o follows notes is changes = elim notes [
-  | inl row ↦ absurd (no_change (other_reply told o (Found (shown row.columns row.row)) row.number is row.says changes))
-  | inr none ↦ absurd (no_reply told o is none.none)
-]
-sets old op Load Done told o follows notes is changes = absurd (no_change (other_reply told o NoMemory (old.steps + 1) is notes changes))
-sets old op Load _ told o follows notes is changes = absurd follows
-sets old op Confirm Done told o follows notes is changes = inr notes
-sets old op Confirm Enter told o follows notes is changes = absurd (no_reply told o is notes)
-sets old op Confirm Forward told o follows notes is changes = absurd (no_reply told o is notes)
-sets old op Confirm _ told o follows notes is changes = absurd follows
-sets old op Judge Store told o follows notes is changes = absurd (no_reply told o is notes)
-sets old op Judge Publish told o follows notes is changes = absurd (no_reply told o is notes)
-sets old op Judge SplitStart told o follows notes is changes = absurd (no_reply told o is notes)
-sets old op Judge MakeLayer told o follows notes is changes = absurd (no_reply told o is notes)
-sets old op Judge Enter told o follows notes is changes = absurd (no_reply told o is notes)
-sets old op Judge Done told o follows notes is changes = absurd (no_change (other_reply told o NoMemory (old.steps + 1) is notes changes))
-sets old op Judge _ told o follows notes is changes = absurd follows
-sets old op Store Unlock told o follows notes is changes = inl refl
-sets old op Store _ told o follows notes is changes = absurd follows
-sets old op Publish Unlock told o follows notes is changes = inl refl
-sets old op Publish _ told o follows notes is changes = absurd follows
-sets old op SplitStart SplitMove told o follows notes is changes = absurd (no_reply told o is notes)
-sets old op SplitStart Done told o follows notes is changes = absurd (no_change (other_reply told o NoMemory (old.steps + 1) is notes changes))
-sets old op SplitStart _ told o follows notes is changes = absurd follows
-sets old op SplitMove SplitPrev told o follows notes is changes = inl refl
-sets old op SplitMove LockParent told o follows notes is changes = inl refl
-sets old op SplitMove _ told o follows notes is changes = absurd follows
-sets old op SplitPrev LockParent told o follows notes is changes = inl refl
-sets old op SplitPrev _ told o follows notes is changes = absurd follows
-sets old op LockParent InsertChild told o follows notes is changes = inl refl
-sets old op LockParent InteriorSplit told o follows notes is changes = inl refl
-sets old op LockParent RootGrow told o follows notes is changes = inl refl
-sets old op LockParent _ told o follows notes is changes = absurd follows
-sets old op InsertChild Unlock told o follows notes is changes = inl refl
-sets old op InsertChild _ told o follows notes is changes = absurd follows
-sets old op InteriorSplit Reparent told o follows notes is changes = inl refl
-sets old op InteriorSplit _ told o follows notes is changes = absurd follows
-sets old op Reparent Reparent told o follows notes is changes = inl refl
-sets old op Reparent LockParent told o follows notes is changes = inl refl
-sets old op Reparent _ told o follows notes is changes = absurd follows
-sets old op RootGrow Unlock told o follows notes is changes = inl refl
-sets old op RootGrow _ told o follows notes is changes = absurd follows
-sets old op MakeLayer MarkUnstable told o follows notes is changes = absurd (no_reply told o is notes)
-sets old op MakeLayer Done told o follows notes is changes = absurd (no_change (other_reply told o NoMemory (old.steps + 1) is notes changes))
-sets old op MakeLayer _ told o follows notes is changes = absurd follows
-sets old op MarkUnstable phases.Link told o follows notes is changes = absurd (no_reply told o is notes)
-sets old op MarkUnstable _ told o follows notes is changes = absurd follows
-sets old op phases.Link MarkLayer told o follows notes is changes = absurd (no_reply told o is notes)
-sets old op phases.Link _ told o follows notes is changes = absurd follows
-sets old op MarkLayer Unlock told o follows notes is changes = inl refl
-sets old op MarkLayer _ told o follows notes is changes = absurd follows
-sets old op Unlock Enter told o follows notes is changes = absurd (no_reply told o is notes.0)
-sets old op Unlock Done told o follows notes is changes = inl refl
-sets old op Unlock _ told o follows notes is changes = absurd follows
-sets old op Done q told o follows notes is changes = absurd follows
-
--- from such a phase on nothing is placed, and the outcome stays
+-- from a phase on in which nothing is placed any more nothing is placed, and the outcome stays
 pub stays : (old : StateView) (op : OperationView) (p q : Phase) (told : Option Outcome) (outcome : Outcome) → op.outcome ≡ Some outcome
     → is_unplaced p ≡ false → MayFollow p q → Notes old op p q told
     → (is_unplaced q ≡ false) × (told ≡ op.outcome)
-stays old op SplitPrev LockParent told outcome is placed follows notes = (refl, notes)
-stays old op SplitPrev _ told outcome is placed follows notes = absurd follows
-stays old op LockParent InsertChild told outcome is placed follows notes = (refl, notes)
-stays old op LockParent InteriorSplit told outcome is placed follows notes = (refl, notes)
-stays old op LockParent RootGrow told outcome is placed follows notes = (refl, notes)
-stays old op LockParent _ told outcome is placed follows notes = absurd follows
-stays old op InsertChild Unlock told outcome is placed follows notes = (refl, notes)
-stays old op InsertChild _ told outcome is placed follows notes = absurd follows
-stays old op InteriorSplit Reparent told outcome is placed follows notes = (refl, notes)
-stays old op InteriorSplit _ told outcome is placed follows notes = absurd follows
-stays old op Reparent Reparent told outcome is placed follows notes = (refl, notes)
-stays old op Reparent LockParent told outcome is placed follows notes = (refl, notes)
-stays old op Reparent _ told outcome is placed follows notes = absurd follows
-stays old op RootGrow Unlock told outcome is placed follows notes = (refl, notes)
-stays old op RootGrow _ told outcome is placed follows notes = absurd follows
-stays old op Unlock Enter told outcome is placed follows notes = absurd (no_value (sym notes.1 ∙ is))
-stays old op Unlock Done told outcome is placed follows notes = (refl, notes)
-stays old op Unlock _ told outcome is placed follows notes = absurd follows
-stays old op Done q told outcome is placed follows notes = absurd follows
-stays old op _ q told outcome is placed follows notes = absurd (cc)
+stays old op Search q told outcome is placed follows notes = absurd (cc)
+stays old op Load q told outcome is placed follows notes = absurd (cc)
+stays old op Confirm q told outcome is placed follows notes = absurd (cc)
+stays old op Store q told outcome is placed follows notes = absurd (cc)
+stays old op Publish q told outcome is placed follows notes = absurd (cc)
+stays old op SplitStart q told outcome is placed follows notes = absurd (cc)
+stays old op SplitMove q told outcome is placed follows notes = absurd (cc)
+stays old op MakeLayer q told outcome is placed follows notes = absurd (cc)
+stays old op DropKey q told outcome is placed follows notes = absurd (cc)
+stays old op Judge Done told outcome is placed follows notes = (refl, ends_told old op op.outcome told outcome is notes)
+stays old op p q told outcome is placed follows notes = keeps_told (is_unplaced q) op.outcome told outcome is notes
 
 module _ (old v w : StateView) (o : ℕ) (op : OperationView) (made : ℕ) (done : Bool) (r : IsRunning old v o op made) (s : IsStep v w o done) where
   same : r.after ≡ s.before
@@ -268,10 +177,7 @@ module _ (old v w : StateView) (o : ℕ) (op : OperationView) (made : ℕ) (done
 
   -- an operation that has changed nothing tells of no change after a step that changes nothing
   change_after : HasLeft old v s.before → IsQuiet v w s.before s.after → change_in s.after ≡ None
-  change_after u q = elim (enters_or s.before.phase) [
-    | inl enters ↦ ap told_change (from_enter v s.before s.before.phase s.after.phase s.after.outcome enters s.notes)
-    | inr other ↦ q.change ∙ u.change other
-  ]
+  change_after u q = q.change ∙ u.change
 
   -- a step that places the operation's change makes it of the maps of before
   placed_run : HasLeft old v s.before → (p : IsPlacing v w s.before s.after) → IsRun old w op p.reply
@@ -286,13 +192,8 @@ module _ (old v w : StateView) (o : ℕ) (op : OperationView) (made : ℕ) (done
 
   -- and nothing is placed behind it
   placed_now : HasLeft old v s.before → (p : IsPlacing v w s.before s.after) → is_unplaced s.after.phase ≡ false
-  placed_now u p = elim (enters_or s.before.phase) [
-    | inl enters ↦ absurd (no_value (sym (from_enter v s.before s.before.phase s.after.phase s.after.outcome enters s.notes) ∙ p.outcome))
-    | inr other ↦ elim (sets v s.before s.before.phase s.after.phase s.after.outcome (record { reply = p.reply; at = v.steps + 1 }) s.moves.follows s.notes p.outcome p.changes) [
-      | inl is ↦ is
-      | inr stood ↦ absurd (told_some (is_change p.reply) (v.steps + 1) p.changes (sym (ap told_change p.outcome) ∙ ap told_change stood ∙ u.change other))
-    ]
-  ]
+  placed_now u p = placed_after v s.before s.before.phase s.after.phase s.after.outcome (v.steps + 1) s.moves.follows s.notes
+      (ap told_change p.outcome ∙ told_is (is_change p.reply) (v.steps + 1) p.changes)
 
   module _ (p : HasPlaced old v op s.before) where
     stood : (is_unplaced s.after.phase ≡ false) × (s.after.outcome ≡ s.before.outcome)
@@ -307,8 +208,8 @@ module _ (old v w : StateView) (o : ℕ) (op : OperationView) (made : ℕ) (done
           absurd (omega (arith, ap (λ (x : Outcome). x.at) is, p.made))
     ]
 
-    placed_after : HasPlaced old w op s.after
-    placed_after = record {
+    still_placed : HasPlaced old w op s.after
+    still_placed = record {
       reply = p.reply;
       number = p.number;
       placed = stood.0;
@@ -332,10 +233,10 @@ module _ (old v w : StateView) (o : ℕ) (op : OperationView) (made : ℕ) (done
     first = inr first_after;
     so_far = elim before [
       | inl u ↦ elim s.effect [
-        | inl q ↦ inl (record { contents = q.contents ∙ u.contents; change = λ _. change_after u q; maps = maps_after u q.contents })
+        | inl q ↦ inl (record { contents = q.contents ∙ u.contents; change = change_after u q; maps = maps_after u q.contents })
         | inr p ↦ inr (record { reply = p.reply; number = v.steps + 1; placed = placed_now u p; outcome = p.outcome; made = omega (arith, s.number); run = placed_run u p })
       ]
-      | inr p ↦ inr (placed_after p)
+      | inr p ↦ inr (still_placed p)
     ];
   }
 
@@ -348,9 +249,9 @@ module _ (old v : StateView) (o : ℕ) (op : OperationView) (made : ℕ) (r : Is
   ]
 
   -- an operation that changed nothing was told what the maps say
-  looked : HasLeft old v r.after → r.after.phase ≢ Enter → r.after.last ≤ v.steps → is_no_memory told.reply ≡ false → IsRun old v op told.reply
-  looked u other upto real =
-      let look : is_change told.reply ≡ false = no_told (is_change told.reply) told.at (sym (ap told_change has) ∙ u.change other) in
+  looked : HasLeft old v r.after → r.after.last ≤ v.steps → is_no_memory told.reply ≡ false → IsRun old v op told.reply
+  looked u upto real =
+      let look : is_change told.reply ≡ false = no_told (is_change told.reply) told.at (sym (ap told_change has) ∙ u.change) in
       let is : told.reply ≡ reply_of (quota_of old op.tenant) op.command (tenant_map op.tenant (contents_of old)) =
       (answer.placed real).looks look
       ∙ ap (reply_of (quota_of v r.after.tenant) r.after.command) (u.maps r.after.tenant told.at (omega (arith, answer.since, first_begun)) (omega (arith, answer.upto, upto)))
@@ -361,8 +262,8 @@ module _ (old v : StateView) (o : ℕ) (op : OperationView) (made : ℕ) (r : Is
       }
 
   -- with the reply of its command, or for want of memory with nothing changed
-  pub run_outcome : r.after.phase ≢ Enter → r.after.last ≤ v.steps → ((told.reply ≡ NoMemory) × (contents_of v ≡ contents_of old)) ⊎ IsRun old v op told.reply
-  run_outcome other upto = elim r.so_far [
+  pub run_outcome : r.after.last ≤ v.steps → ((told.reply ≡ NoMemory) × (contents_of v ≡ contents_of old)) ⊎ IsRun old v op told.reply
+  run_outcome upto = elim r.so_far [
     | inl u ↦ by u (is_no_memory told.reply) refl
     | inr p ↦
         let said : told ≡ record { reply = p.reply; at = p.number } = same_Some told (record { reply = p.reply; at = p.number }) (sym has ∙ p.outcome) in
@@ -372,4 +273,4 @@ module _ (old v : StateView) (o : ℕ) (op : OperationView) (made : ℕ) (r : Is
       by : HasLeft old v r.after → (b : Bool) → is_no_memory told.reply ≡ b
           → ((told.reply ≡ NoMemory) × (contents_of v ≡ contents_of old)) ⊎ IsRun old v op told.reply
       by u true e = inl (memory_is told.reply e, u.contents)
-      by u false e = inr (looked u other upto e)
+      by u false e = inr (looked u upto e)

@@ -18,7 +18,8 @@ use Rattle.mt_operation.specs.Tables.{Table, op_at as operation_at}
 use Rattle.mt_operation.specs.Tables as tables
 use Rattle.mt_descent.specs.KeptWalks.{GoesThrough, KeptAt}
 use Rattle.mt_state.specs.Views.{Core, StateView, shown, past_of}
-use Rattle.mt_state.specs.KeptOperations.{IsKeptAt, IsKeptOf}
+use Rattle.mt_operation.specs.declared.outcome.Outcome.{Outcome}
+use Rattle.mt_state.specs.KeptOperations.{IsBound, IsKeptAt, IsKeptOf}
 use Rattle.mt_operation.specs.Phases.{IsOfKind}
 use Rattle.mt_state.specs.Steps.{change_in}
 use Rattle.mt_state.specs.Invariant.{StateInvariant, one_if_prepared}
@@ -66,10 +67,12 @@ module _ (c : Core) (now : StateView) (opening : OpeningView) (op : Operation) (
         floor = λ begun. let first = ap (λ (w : Walk). w.first) a.walk in absurd (omega (arith, first, begun));
         begun = λ other. absurd (other (ap (λ (w : Walk). w.phase) a.walk));
         short = a.short;
+        light = λ none. ap (λ (v : OperationView). v.removal) a.is_begun;
       };
       kept = subst (λ p. IsKeptAt p (with_table c c.answers table) o op) (sym (ap (λ (w : Walk). w.phase) a.walk)) (record {
         kept = subst (λ (w : Walk). KeptAt w.phase c.arena (past_of c) op.task.key None w) (sym a.walk) (through_top c.arena op.task.key arena a.stored);
-        untold = ap (λ (v : OperationView). v.outcome) a.is_begun;
+        bound =
+            subst (λ (told : Option Outcome). IsBound told (with_table c c.answers table) op) (sym (ap (λ (v : OperationView). v.outcome) a.is_begun)) (ap (λ (v : OperationView). v.removal) a.is_begun);
         unprepared = a.unprepared;
       });
       unsplit = λ none. a.unsplit;

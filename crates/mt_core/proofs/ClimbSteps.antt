@@ -157,6 +157,7 @@ module _ (c : Core) (o : ℕ) (op : Operation) (h : StateInvariant c) (there : o
             floor = a.floor;
             begun = a.begun;
             short = a.short;
+            light = a.light;
           };
           kept = kept_climbing op.walk.phase climbs new o y (record {
             climbs = grow_same op.splits t same op.walk.phase grows c.arena o climbing.climbs;
@@ -171,6 +172,7 @@ module _ (c : Core) (o : ℕ) (op : Operation) (h : StateInvariant c) (there : o
             tenant = once.tenant;
             key_is = once.key_is;
             makes = once.makes;
+            was = once.was;
           };
         }
 
@@ -182,8 +184,8 @@ module _ (c : Core) (o : ℕ) (op : Operation) (h : StateInvariant c) (there : o
       holders = λ k q within held. let f = h.holders k q within held in elim (cases_eq q o) [
         | inl is ↦
             let it : f.0 ≡ op = same_Some f.0 op (sym f.1 ∙ ap (operation_at c.table) is ∙ there) in
-            let holds : HoldsAt op.walk.phase op.walk op.splits k = subst (λ (x : Operation). HoldsAt x.walk.phase x.walk x.splits k) it f.2 in
-            (y, ap (operation_at new.table) is ∙ here, among_climb op.walk.phase climbs op.walk t k (among_same op.splits t same k (climb_among op.walk.phase climbs op.walk op.splits k holds)))
+            let holds : HoldsAt op.walk.phase op k = subst (λ (x : Operation). HoldsAt x.walk.phase x k) it f.2 in
+            (y, ap (operation_at new.table) is ∙ here, among_climb op.walk.phase climbs y k (among_same op.splits t same k (climb_among op.walk.phase climbs op k holds)))
         | inr other ↦ (f.0, set_there c.table o q (Some y) other ∙ f.1, f.2)
       ];
       counts = h.counts;
@@ -193,7 +195,7 @@ module _ (c : Core) (o : ℕ) (op : Operation) (h : StateInvariant c) (there : o
       ];
       reserved = h.reserved ∙ sym (count_back c.table o op y there refl);
       answered = subst (λ (all : Shown). c.answers + made_count all ≤ c.steps) (sym (ap (λ v. v.table) (same_shown same))) h.answered;
-      unremoved = h.unremoved;
+      deleted = h.deleted;
       few = h.few;
       quotas = h.quotas;
       written = h.written;
@@ -216,7 +218,7 @@ module _ (c now : Core) (o : ℕ) (is : c ≡ now) (h : StateInvariant c) (next 
   holds : HoldsSplits c.arena o op.splits
   holds k within held =
       let f = h.holders k o within held in
-      climb_among op.walk.phase at_climb op.walk op.splits k (subst (λ (x : Operation). HoldsAt x.walk.phase x.walk x.splits k) (same_Some f.0 op (sym f.1 ∙ there)) f.2)
+      climb_among op.walk.phase at_climb op k (subst (λ (x : Operation). HoldsAt x.walk.phase x k) (same_Some f.0 op (sym f.1 ∙ there)) f.2)
 
   -- its splits are taken out, and others are there
   module _ (none : Splits) (mid : Table) (s : Splits) (gives : (x : Operation) → operation_at c.table o ≡ Some x → s ≡ x.splits) (takes : Writes c.table mid o (λ x. with_splits x none)) where
@@ -268,11 +270,11 @@ module _ (c now : Core) (o : ℕ) (is : c ≡ now) (h : StateInvariant c) (next 
           climb_steps = subst (λ (v : Core). StepsOn v (made c arena c.tape c.accounts all) o Moved) is (record {
             tells = climb_gives.1;
             nears =
-                nears_by c (made c arena c.tape c.accounts all) o op after there over_all.there (climb_keeps op.walk.phase at_climb o c.arena arena op.walk w op.splits t told).keeps.guarantee
+                nears_by c (made c arena c.tape c.accounts all) o op after there over_all.there (climb_keeps op.walk.phase at_climb o c.arena arena op.walk w op.splits t told).keeps.guarantee refl
                 (λ height n p. point_first height (n + 1) arena w t after.walk.first
                 (climb_nears op.walk.phase at_climb o c.arena arena op.walk w op.splits t refl arena_is.nodes kept.climbs told height n p));
             leads =
-                leads_over c o h op there op.walk.phase refl c refl arena c.tape c.accounts all after over_all w (climb_leads op.walk.phase at_climb o c.arena arena op.walk w op.splits t told (c.steps + 1) op.task.key op.outcome) refl;
+                leads_over c o h op there op.walk.phase refl c refl arena c.tape c.accounts all after over_all w (climb_leads op.walk.phase at_climb o c.arena arena op.walk w op.splits t told (c.steps + 1) op.task.key op.outcome op.removal) refl;
           })
 
         -- it was not made: all is as it was, but for the splits
@@ -300,11 +302,11 @@ module _ (c now : Core) (o : ℕ) (is : c ≡ now) (h : StateInvariant c) (next 
               let f = h.holders parent holder held_back.6 held_back.7 in
               record {
                 other = held_back.8 holds;
-                unfinished = (view_of f.0, shown_there c.table holder f.0 f.1, holder_open f.0.walk.phase f.0.walk f.0.splits parent f.2);
+                unfinished = (view_of f.0, shown_there c.table holder f.0 f.1, holder_open f.0.walk.phase f.0 parent f.2);
                 op = view_of op;
                 there = shown_there c.table o op there;
                 holds =
-                    subst (λ (p : Phase). IsInTheWay c.arena p op.walk (splits_of op.splits) holder) (sym held_back.3) (parent, held_back.5, held_back.6, held_back.7);
+                    subst (λ (p : Phase). IsInTheWay c.arena p op.walk (splits_of op.splits) op.removal holder) (sym held_back.3) (parent, held_back.5, held_back.6, held_back.7);
               }
 
           pub blocked_steps : (answer : Move) → answer ≡ Again holder → StepsOn now stopped o answer

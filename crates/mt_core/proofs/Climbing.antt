@@ -1,5 +1,5 @@
 -- How near a step of a climb brings its operation, and that no level is new: for `Inner::climb`.
-use Rattle.std.proofs.Common.{List, [], ap, arith, inl, inr, length, refl, subst, sym, ℕ, ◌*◌, ◌+◌, ◌<◌, ◌∷◌, ◌≡◌, ◌≢◌, ◌≤◌}
+use Rattle.std.proofs.Common.{List, [], ap, arith, inl, inr, length, refl, subst, sym, false, ℕ, ◌*◌, ◌+◌, ◌<◌, ◌∷◌, ◌∙◌, ◌≡◌, ◌≢◌, ◌≤◌}
 use Rattle.std.proofs.lemmas.Bool.{cases_lt}
 use Rattle.mt_arena.specs.Arena.{ArenaView}
 use Rattle.mt_arena.specs.Accesses.{at}
@@ -14,16 +14,16 @@ use Rattle.mt_core.specs.Points.{AreBelow, HasMade, IsAtPoint, MayHaveGrown, bef
 use Rattle.mt_core.proofs.Points.{below_at, few_at, point_at}
 use Rattle.mt_state.proofs.Climbing.{LeavesNodes}
 
--- each node that was added stands on the level of one that was there
+-- each node that was added stands on the level of a live one that was there
 abbrev pub AreOnLevels : ArenaView → ArenaView → Type 0
-AreOnLevels old new = (k : ℕ) → length old.nodes ≤ k → k < length new.nodes → (j : ℕ) × (j < length old.nodes) × ((at new k).level ≡ (at old j).level)
+AreOnLevels old new = (k : ℕ) → length old.nodes ≤ k → k < length new.nodes → (j : ℕ) × (j < length old.nodes) × ((at old j).version.deleted ≡ false) × ((at new k).level ≡ (at old j).level)
 
 module _ (o : ℕ) (old new : ArenaView) (l : LeavesNodes o old new) where
   -- all nodes stand below a level, where each new one stands on the level of another
   pub stays_below : AreOnLevels old new → (height : ℕ) → AreBelow old height → AreBelow new height
-  stays_below levels height below k within = elim (cases_lt k (length old.nodes)) [
-    | inl was ↦ omega (arith, (l.each k was).level, below k was)
-    | inr late ↦ let level = levels k late within in omega (arith, level.2, below level.0 level.1)
+  stays_below levels height below k within live = elim (cases_lt k (length old.nodes)) [
+    | inl was ↦ let n = l.each k was in omega (arith, n.level, below k was (sym n.deleted ∙ live))
+    | inr late ↦ let level = levels k late within in omega (arith, level.3, below level.0 level.1 level.2)
   ]
 
 -- a phase to which such a step leads

@@ -36,7 +36,7 @@ level_stays op old new s t h leaves same =
 
 -- and it is below the height
 level_below : (op height : ℕ) (old : ArenaView) (s : Splits) → HasSplits old op s → AreBelow old height → split_level old s < height
-level_below op height old s h below = below (last_of s).left h.parted.left.held.there
+level_below op height old s h below = below (last_of s).left h.parted.left.held.there h.parted.left.live
 
 -- no node is added
 no_new : (old new : ArenaView) → length new.nodes ≡ length old.nodes → AreOnLevels old new
@@ -134,6 +134,7 @@ module _ (op : ℕ) (old new : ArenaView) (before after : Walk) (s t : Splits) w
         (λ more k from lt. (
           p,
           kept.at_parent.parent.held.there,
+          kept.at_parent.parent.live,
           ap (λ (v : ArenaView). (at v k).level) is
               ∙ ap (λ (n : NodeView). n.level) (pushed_at (zs op old new before after s t kept) (half op old new before after s t kept) (length old.nodes) k (size_z op old new before after s t kept) from (subst (λ (v : ArenaView). k < length v.nodes) is lt)),
         ))

@@ -107,7 +107,7 @@ drained c worker h = record {
   ops = λ o op there. let k = h.ops o op there in retained c c.answers (set c.logs worker c.steps) c.tape c.table o op (own_tape c op k.always) k.always k;
   reserved = h.reserved;
   answered = h.answered;
-  unremoved = h.unremoved;
+  deleted = h.deleted;
   few = h.few;
   quotas = h.quotas;
   written = h.written;

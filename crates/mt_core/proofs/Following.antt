@@ -7,12 +7,11 @@ use Rattle.mt_rows.specs.declared.reply.Reply.{Reply}
 use Rattle.mt_rows.specs.Accounts.{Accounts}
 use Rattle.mt_tape.specs.Tapes.{Kept}
 use Rattle.mt_arena.specs.NodeView.{NodeView}
-use Rattle.mt_arena.specs.Arena.{ArenaView}
+use Rattle.mt_arena.specs.Arena.{ArenaView, IsArena}
 use Rattle.mt_arena.specs.Accesses.{at}
 use Rattle.mt_operation.specs.declared.phase.Phase.{Phase}
-use Rattle.mt_operation.specs.declared.phase.Phase.TheVariants.{Load, Lock, LockParent, Done}
+use Rattle.mt_operation.specs.declared.phase.Phase.TheVariants.{Load, Lock, LockParent, LockPrev, LockAbove, CleanLayer, Done}
 use Rattle.mt_operation.specs.declared.walk.Walk.{Walk}
-use Rattle.mt_operation.specs.declared.splits.Splits.{Splits}
 use Rattle.mt_operation.specs.declared.outcome.Outcome.{Outcome}
 use Rattle.mt_operation.specs.declared.operation.Operation.{Operation}
 use Rattle.mt_operation.specs.Operations.{SplitsView}
@@ -23,6 +22,7 @@ use Rattle.mt_state.specs.Views.{Core}
 use Rattle.mt_state.specs.Promises.{Blocks, IsInTheWay}
 use Rattle.mt_state.specs.Invariant.{HoldsAt, StateInvariant}
 use Rattle.mt_core.specs.Nexts.{IsNext}
+use Rattle.mt_operation.specs.declared.removal.Removal.{Removal}
 
 -- what was written last is what stays
 set_again : (table : Table) (o : ℕ) (a b : Option Operation) → set (set table o a) o b ≡ set table o b
@@ -94,19 +94,27 @@ phase_is c now o P is op there next =
     let n = next_here c now o P is next in
     subst (λ (x : Operation). P x.walk.phase) (same_Some n.0 op (sym n.1 ∙ there)) n.2
 
+-- what holds of it is so also where it is found inside
+pub holds_inside : (P : Operation → Type 0) (c now : Core) (o : ℕ) → c ≡ now → ((op : Operation) → operation_at now.table o ≡ Some op → P op) → (x : Operation)
+    → operation_at c.table o ≡ Some x → P x
+holds_inside P c now o is holds x there = holds x (ap (λ (v : Core). operation_at v.table o) (sym is) ∙ there)
+
 -- who holds a node has a step left
-pub holder_open : (p : Phase) (w : Walk) (s : Splits) (k : ℕ) → HoldsAt p w s k → is_done p ≡ false
-holder_open Done w s k holds = absurd holds
-holder_open _ w s k holds = refl
+pub holder_open : (p : Phase) (op : Operation) (k : ℕ) → HoldsAt p op k → is_done p ≡ false
+holder_open Done op k holds = absurd holds
+holder_open _ op k holds = refl
 
 -- and who is in the way of a step holds one
-pub in_the_way : (v : ArenaView) (p : Phase) (w : Walk) (s : SplitsView) (holder : ℕ) → IsInTheWay v p w s holder
+pub in_the_way : (v : ArenaView) (p : Phase) (w : Walk) (s : SplitsView) (rem : Removal) (holder : ℕ) → IsInTheWay v p w s rem holder
     → (k : ℕ) × (k < length v.nodes) × ((at v k).holder ≡ Some holder)
-in_the_way v p w s holder way = (way.0, way.2, held_by p (at v way.0) way.3)
+in_the_way v p w s rem holder way = (way.0, way.2, held_by p (at v way.0) way.3)
   where
     held_by : (q : Phase) (n : NodeView) → Blocks q n w.slot holder → n.holder ≡ Some holder
     held_by Lock n blocks = blocks
     held_by LockParent n blocks = blocks
+    held_by LockPrev n blocks = blocks
+    held_by LockAbove n blocks = blocks
+    held_by CleanLayer n blocks = blocks
     held_by Load n blocks = blocks.by
     held_by _ n blocks = blocks.by
 
@@ -114,6 +122,10 @@ in_the_way v p w s holder way = (way.0, way.2, held_by p (at v way.0) way.3)
 pub outcome_is : (told : Outcome) (reply of : Reply) (step : ℕ) → told ≡ record { reply = reply; at = step } → reply ≡ of
     → told ≡ record { reply = of; at = step }
 outcome_is told reply of step says same = says ∙ ap (λ (r : Reply). record { reply = r; at = step }) same
+
+-- the state keeps its invariant, as its arena keeps its own
+abbrev pub IsSound : Core → Type 0
+IsSound new = IsArena new.arena.nodes new.arena.trees → StateInvariant new
 
 -- the state after the step, by what is left of it
 abbrev pub made : Core → ArenaView → Kept → Accounts → Table → Core

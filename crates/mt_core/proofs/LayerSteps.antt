@@ -7,7 +7,8 @@ use Rattle.mt_rows.specs.declared.reply.Reply.TheVariants.{NoMemory}
 use Rattle.mt_rows.specs.Rows.{Bytes}
 use Rattle.mt_arena.specs.NodeView.{NodeView}
 use Rattle.mt_arena.specs.Edits.{unlocked}
-use Rattle.mt_arena.specs.Arena.{ArenaView, Guarantee}
+use Rattle.mt_arena.specs.Arena.{ArenaView, Guarantee, IsArena}
+use Rattle.mt_arena.proofs.OneLink as OneLink
 use Rattle.mt_arena.specs.Accesses.{at}
 use Rattle.mt_operation.specs.declared.phase.Phase.{Phase}
 use Rattle.mt_operation.specs.declared.phase.Phase.TheVariants.{Done, Enter, Link, MakeLayer, MarkLayer, MarkUnstable, Unlock}
@@ -33,8 +34,8 @@ use Rattle.mt_state.proofs.Telling.{Gives}
 use Rattle.mt_state.proofs.LayerSteps.{build_done, leave_done, make_stopped}
 use Rattle.mt_state.proofs.LayerNodes.{LeavesNodes, layer_keeps, layer_goes, layer_leads, layer_leaves, layer_next}
 use Rattle.mt_core.specs.Nexts.{IsNext}
-use Rattle.mt_core.specs.Points.{AreBelow, HasMade, IsAtPoint, MayHaveGrown, Nears, StepsOn, above, astray, before_unlock}
-use Rattle.mt_core.proofs.Following.{Writes, made, may_move, over_first, phase_is}
+use Rattle.mt_core.specs.Points.{AreBelow, HasMade, IsAtPoint, IsLiveTree, MayHaveGrown, Nears, StepsOn, above, astray, before_unlock}
+use Rattle.mt_core.proofs.Following.{IsSound, Writes, made, may_move, over_first, phase_is}
 use Rattle.mt_core.proofs.Leading.{leads_over}
 use Rattle.mt_core.proofs.LookPoints.{next_layer, shallow_below}
 use Rattle.mt_core.proofs.Points.{below_at, few_at, nears_by, point_at, point_first}
@@ -42,8 +43,8 @@ use Rattle.mt_core.proofs.Points.{below_at, few_at, nears_by, point_at, point_fi
 module _ (o : ℕ) (old new : ArenaView) (l : LeavesNodes o old new) where
   -- all nodes stand below a level where one did
   stays_below : (height : ℕ) → 0 < height → AreBelow old height → AreBelow new height
-  stays_below height some below k within = elim (cases_lt k (length old.nodes)) [
-    | inl was ↦ omega (arith, (l.each k was).level, below k was)
+  stays_below height some below k within live = elim (cases_lt k (length old.nodes)) [
+    | inl was ↦ let n = l.each k was in omega (arith, n.level, below k was (sym n.deleted ∙ live))
     | inr late ↦ omega (arith, (l.fresh k late within).level, some)
   ]
 
@@ -67,12 +68,12 @@ layer_made _ i old new before after s height n alike few = absurd i
 
 -- so it comes nearer
 layer_nears : (p : Phase) → IsLayerPhase p → (o : ℕ) (key : Bytes) (old new : ArenaView) (before after : Walk) (s : Splits) → before.phase ≡ p
-    → before.place.node < length old.nodes → KeptLayer p old o key before → IsLayerFrom p o key old new before after
+    → before.place.node < length old.nodes → (at old before.place.node).version.deleted ≡ false → KeptLayer p old o key before → IsLayerFrom p o key old new before after
     → (height n : ℕ) → IsAtPoint height n old before s → IsAtPoint height (n + 1) new after s
-layer_nears p i o key old new before after s at_p within kept b height n point =
+layer_nears p i o key old new before after s at_p within live kept b height n point =
     let goes = layer_goes p i o key old new before after b in
     let below : AreBelow old height = below_at height n old before s p at_p (layer_ungrown p i s.halves.items) point in
-    let some : 0 < height = omega (arith, below before.place.node within) in
+    let some : 0 < height = omega (arith, below before.place.node within live) in
     point_at height (n + 1) new after s (layer_next p) goes.at (λ other. stays_below o old new (layer_leaves p i o key old new before after kept b) height some below)
     (layer_made p i old new before after s height n (ap (λ l. astray height + min l 31 * (3 * height + 12)) goes.layer) (few_at height n old before s p at_p point))
 
@@ -83,6 +84,14 @@ layer_there MarkUnstable i v o key w kept = kept.makes.layer.slot.held.there
 layer_there Link i v o key w kept = kept.makes.layer.slot.held.there
 layer_there MarkLayer i v o key w kept = kept.makes.layer.slot.held.there
 layer_there _ i v o key w kept = absurd i
+
+-- and live
+layer_live : (p : Phase) → IsLayerPhase p → (v : ArenaView) (o : ℕ) (key : Bytes) (w : Walk) → KeptLayer p v o key w → (at v w.place.node).version.deleted ≡ false
+layer_live MakeLayer i v o key w kept = kept.holds.judged.stands.live
+layer_live MarkUnstable i v o key w kept = kept.makes.layer.slot.live
+layer_live Link i v o key w kept = kept.makes.layer.slot.live
+layer_live MarkLayer i v o key w kept = kept.makes.layer.slot.live
+layer_live _ i v o key w kept = absurd i
 
 -- a step of a layer is left
 layer_open : (p : Phase) → IsLayerPhase p → is_done p ≡ false
@@ -110,9 +119,9 @@ module _ (c now : Core) (o : ℕ) (is : c ≡ now) (h : StateInvariant c) (x : O
 
   steps_on : (arena : ArenaView) (w : Walk) (table : Table) → Writes c.table table o (λ y. moved y (c.steps + 1) w) → Guarantee o c.arena arena
       → ((height n : ℕ) → IsAtPoint height n c.arena x.walk x.splits → IsAtPoint height (n + 1) arena w x.splits)
-      → LeadsTo x.walk.phase c.arena arena o (c.steps + 1) x.task.key x.outcome (splits_of x.splits) x.walk w
+      → LeadsTo x.walk.phase c.arena arena o (c.steps + 1) x.task.key x.outcome (splits_of x.splits) x.removal x.walk w
       → Gives (shown c) (made c arena c.tape c.accounts (set c.table o (Some (moved x (c.steps + 1) w)))) o false
-      → StateInvariant (made c arena c.tape c.accounts table) × StepsOn now (made c arena c.tape c.accounts table) o Moved
+      → IsSound (made c arena c.tape c.accounts table) × StepsOn now (made c arena c.tape c.accounts table) o Moved
   steps_on arena w table writes guarantee brings leads g =
       let after = moved x (c.steps + 1) w in
       let new = made c arena c.tape c.accounts table in
@@ -122,7 +131,7 @@ module _ (c now : Core) (o : ℕ) (is : c ≡ now) (h : StateInvariant c) (x : O
         record {
           tells = told.1;
           nears = subst (λ (v : Core). Nears v new o Moved) is
-              (nears_by c new o x after there over.there guarantee (λ height n point. point_first height (n + 1) arena w x.splits after.walk.first (brings height n point)));
+              (nears_by c new o x after there over.there guarantee refl (λ height n point. point_first height (n + 1) arena w x.splits after.walk.first (brings height n point)));
           leads = leads_over c o h x there x.walk.phase refl now is arena c.tape c.accounts table after over w leads refl;
         },
       )
@@ -131,13 +140,13 @@ module _ (c now : Core) (o : ℕ) (is : c ≡ now) (h : StateInvariant c) (x : O
   pub build_made : now.steps < 2 ^ 59 → IsNext now o IsLayerPhase → (arena : ArenaView) (w : Walk) (table : Table)
       → KeptLayer x.walk.phase c.arena o x.task.key x.walk → IsLayerFrom x.walk.phase o x.task.key c.arena arena x.walk w
       → Writes c.table table o (λ y. moved y (c.steps + 1) w)
-      → StateInvariant (made c arena c.tape c.accounts table) × StepsOn now (made c arena c.tape c.accounts table) o Moved
+      → IsSound (made c arena c.tape c.accounts table) × StepsOn now (made c arena c.tape c.accounts table) o Moved
   build_made few next arena w table kept b writes =
       let p = x.walk.phase in
       let layer = phase_is c now o IsLayerPhase is x there next in
       steps_on arena w table writes (layer_keeps p layer o x.task.key c.arena arena x.walk w b).keeps.guarantee
-      (λ height n. layer_nears p layer o x.task.key c.arena arena x.walk w x.splits refl (layer_there p layer c.arena o x.task.key x.walk kept) kept b height n)
-      (layer_leads p layer o x.task.key c.arena arena x.walk w b (c.steps + 1) x.outcome (splits_of x.splits))
+      (λ height n. layer_nears p layer o x.task.key c.arena arena x.walk w x.splits refl (layer_there p layer c.arena o x.task.key x.walk kept) (layer_live p layer c.arena o x.task.key x.walk kept) kept b height n)
+      (layer_leads p layer o x.task.key c.arena arena x.walk w b (c.steps + 1) x.outcome (splits_of x.splits) x.removal)
       (build_done c o h (steps_few few) x there arena w layer b)
 
   -- no memory for it
@@ -162,11 +171,11 @@ module _ (c now : Core) (o : ℕ) (is : c ≡ now) (h : StateInvariant c) (x : O
       leaving.unsplit.halves
 
   -- its lock was given back, and it goes on in the tree of the next layer
-  pub leave_made : now.steps < 2 ^ 59 → IsNext now o (λ q. q ≡ Unlock) → x.outcome ≡ None
+  pub leave_made : now.steps < 2 ^ 59 → IsArena c.arena.nodes c.arena.trees → IsNext now o (λ q. q ≡ Unlock) → x.outcome ≡ None
       → (arena : ArenaView) (w : Walk) (table : Table) (leaves : IsAtLeave c.arena o x.task.key x.walk) → IsLeave o c.arena arena x.walk w
       → Writes c.table table o (λ y. moved y (c.steps + 1) w)
-      → StateInvariant (made c arena c.tape c.accounts table) × StepsOn now (made c arena c.tape c.accounts table) o Moved
-  leave_made few next untold arena w table leaves t writes = steps_on arena w table writes g.keeps.guarantee brings leads
+      → IsSound (made c arena c.tape c.accounts table) × StepsOn now (made c arena c.tape c.accounts table) o Moved
+  leave_made few is_arena next untold arena w table leaves t writes = steps_on arena w table writes g.keeps.guarantee brings leads
       (leave_done c o h (steps_few few) x there at_unlock untold arena w t)
     where
       g : GoesInto o leaves.tree c.arena arena x.walk w
@@ -175,12 +184,16 @@ module _ (c now : Core) (o : ℕ) (is : c ≡ now) (h : StateInvariant c) (x : O
       at_unlock : x.walk.phase ≡ Unlock
       at_unlock = phase_is c now o (λ q. q ≡ Unlock) is x there next
 
-      leads : LeadsTo x.walk.phase c.arena arena o (c.steps + 1) x.task.key x.outcome (splits_of x.splits) x.walk w
-      leads = subst (λ (p : Phase). LeadsTo p c.arena arena o (c.steps + 1) x.task.key x.outcome (splits_of x.splits) x.walk w) (sym at_unlock)
-          (subst (λ (told : Option Outcome). GoesFromUnlock told x.walk w) (sym untold) (leaves.tree, leaves.taken, g.walk))
+      leads : LeadsTo x.walk.phase c.arena arena o (c.steps + 1) x.task.key x.outcome (splits_of x.splits) x.removal x.walk w
+      leads = subst (λ (p : Phase). LeadsTo p c.arena arena o (c.steps + 1) x.task.key x.outcome (splits_of x.splits) x.removal x.walk w) (sym at_unlock)
+          (subst (λ (told : Option Outcome). GoesFromUnlock told c.arena (splits_of x.splits) x.removal x.walk w) (sym untold) (leaves.tree, leaves.taken, g.walk))
 
       k : ℕ
       k = x.walk.place.node
+
+      live : IsLiveTree arena leaves.tree
+      live = subst (λ (v : ArenaView). IsLiveTree v leaves.tree) (sym g.is)
+          (OneLink.leads c.arena.nodes c.arena.trees is_arena k x.walk.slot leaves.tree (record { there = leaves.unlock.held.there; live = leaves.live; in_range = leaves.in_range; is = leaves.link })).live
 
       none : x.splits.halves.items ≡ []
       none = unsplit at_unlock untold
@@ -195,9 +208,9 @@ module _ (c now : Core) (o : ℕ) (is : c ≡ now) (h : StateInvariant c) (x : O
           let few : n ≤ above height x.walk + (3 * height + 7) = unsplit_few x.splits.halves.items n height (above height x.walk) none (few_at height n c.arena x.walk x.splits Unlock at_unlock point) in
           let deeper : n + 1 ≤ astray height + min (x.walk.layer + 1) 31 * (3 * height + 12) = next_layer height x.walk.layer n (shallow_below x.walk.layer x.task.key stored leaves.through.begun) (omega (arith, few)) in
           let stays : AreBelow arena height = subst (λ (v : ArenaView). AreBelow v height) (sym g.is)
-          (replaced_all c.arena k within (unlocked (at c.arena k)) (λ (m : NodeView). m.level < height) (below k within) below) in
+          (replaced_all c.arena k within (unlocked (at c.arena k)) (λ (m : NodeView). m.version.deleted ≡ false → m.level < height) (below k within) below) in
           subst (λ (y : Walk). IsAtPoint height (n + 1) arena y x.splits) (sym g.walk)
-          (point_at height (n + 1) arena (walk_into x.walk leaves.tree (x.walk.layer + 1)) x.splits Enter refl (λ other. stays) deeper)
+          (point_at height (n + 1) arena (walk_into x.walk leaves.tree (x.walk.layer + 1)) x.splits Enter refl (λ other. stays) (inl (live, deeper)))
 
 -- an operation that has no outcome has none where it is found inside
 pub untold_inside : (c now : Core) (o : ℕ) → c ≡ now → ((op : Operation) → operation_at now.table o ≡ Some op → op.outcome ≡ None) → (x : Operation)

@@ -23,31 +23,34 @@ use Rattle.mt_operation.specs.declared.walk.Taken.{Taken}
 use Rattle.mt_operation.specs.declared.walk.Taken.TheVariants.{Missing, Row, Link, Nothing}
 use Rattle.mt_operation.specs.declared.walk.Walk.{Walk}
 use Rattle.mt_operation.specs.declared.splits.Splits.{Splits}
-use Rattle.mt_descent.specs.Seen.{Stands, HasNext}
+use Rattle.mt_descent.specs.Seen.{Stands, HasNext, IsRemembered}
 use Rattle.mt_descent.specs.Pasts.{Past}
-use Rattle.mt_descent.specs.KeptWalks.{GoesThrough, slice_in, IsAtVerify, IsAtConfirm, IsAtForward, TakenHolds, KeptAt, IsKept}
-use Rattle.mt_descent.specs.WalkMoves.{arrival, arrival_at, walk_onto, walk_anew, walk_here, walk_to_next, after_enter, after_pick, after_child, after_search, after_load, after_confirm, after_change, after_forward, Verifies, Confirms}
+use Rattle.mt_descent.specs.KeptWalks.{GoesThrough, slice_in, IsAtVerify, IsAtConfirm, IsAtForward, TakenHolds, KeptAt, IsKept, IsAtBorder}
+use Rattle.mt_descent.specs.WalkMoves.{arrival, arrival_at, walk_onto, walk_anew, walk_here, walk_to_next, after_enter, after_pick, after_child, after_search, after_confirm, after_change, after_forward, Verifies, Confirms, Loads, TakesOut}
 use Rattle.mt_descent.proofs.Ways.{same_stands}
-use Rattle.mt_state.specs.Invariant.{IsUnremoved}
 use Rattle.mt_state.proofs.Decides.{same_or_not, outdated_or_not}
 use Rattle.mt_core.proofs.Points.{below_at, few_at}
 use Rattle.mt_core.proofs.Astray.{behind_fewer}
-use Rattle.mt_core.specs.Points.{AreBelow, SeesNow, SeesChild, behind, astray, level_of, above, HasMade, IsAtPoint}
+use Rattle.mt_core.specs.Points.{AreBelow, SeesNow, SeesChild, behind, astray, level_of, above, HasMade, IsAtPoint, IsLiveTree, TookLiveTree}
+use Rattle.mt_arena.proofs.OneLink.{leads}
+use Rattle.mt_operation.specs.declared.walk.Taken.TheVariants as takens
 
 -- a version that the node has now is the same but for the lock
 same_now : (v : ArenaView) (w : Walk) → SeesNow v w → SameButLock (at v w.place.node).version w.place.seen
 same_now v w now = ap (λ (p : Parts). record p { locked = true }) (sym now)
 
--- the child of a live interior node for a slice is a level below it
-child_level : (v : ArenaView) (key : Bytes) (w : Walk) → IsArena v.nodes v.trees → IsAtVerify v key w → Stands (at v w.place.node) w.place.seen
-    → (at v w.child).level + 1 ≡ (at v w.place.node).level
-child_level v key w arena h stands =
+-- links to one tree
+same_link : (u t : ℕ) → takens.Link u ≡ takens.Link t → u ≡ t
+same_link u t e = cc
+
+-- the child for a slice of an interior node that is as it was seen is its child, so it is live and a level below it
+is_child : (v : ArenaView) (key : Bytes) (w : Walk) → IsArena v.nodes v.trees → IsAtVerify v key w → Stands (at v w.place.node) w.place.seen
+    → IsChild (at v w.place.node) (place_of (at v w.place.node).separators (slice_in key w)) (at v w.child)
+is_child v key w arena h stands =
     let k = w.place.node in
     let remembered = h.above.covers.remembered in
     let inside = has_place (at v k).children refl (remembered.peopled h.above.interior) in
-    let c : IsChild (at v k) (place_of (at v k).separators (slice_in key w)) (at v w.child) =
-    (arena.nodes.pairs k w.child remembered.there h.picked.there).child (place_of (at v k).separators (slice_in key w)) inside (sym (h.picked.is stands)) stands.in_range.live in
-    c.level
+    (arena.nodes.pairs k w.child remembered.there h.picked.there).child (place_of (at v k).separators (slice_in key w)) inside (sym (h.picked.is stands)) stands.in_range.live
   where
     has_place : (xs : List ℕ) → (at v w.place.node).children ≡ xs → (at v w.place.node).children ≢ []
         → place_of (at v w.place.node).separators (slice_in key w) < length (at v w.place.node).children
@@ -55,6 +58,15 @@ child_level v key w arena h stands =
     has_place (x ∷ xs) e some =
         let between = (arena.nodes.each w.place.node h.above.covers.remembered.there).children.interior.between in
         omega (arith, place_of-le-length (at v w.place.node).separators (slice_in key w), between, ap length e)
+
+child_level : (v : ArenaView) (key : Bytes) (w : Walk) → IsArena v.nodes v.trees → IsAtVerify v key w → Stands (at v w.place.node) w.place.seen
+    → (at v w.child).level + 1 ≡ (at v w.place.node).level
+child_level v key w arena h stands = (is_child v key w arena h stands).level
+
+-- what is not deleted
+not_deleted : (deleted : Bool) → ¬ (deleted ≡ true) → deleted ≡ false
+not_deleted false never = refl
+not_deleted true never = absurd (never refl)
 
 module _ (v : ArenaView) (height made : ℕ) (s : Splits) where
   -- a walk that comes to a node with its version of now
@@ -69,29 +81,23 @@ module _ (v : ArenaView) (height made : ℕ) (s : Splits) where
   comes_onto w k seen below now few = record { below = λ other. below; few = few_by seen.border w.writes (walk_onto w k seen) now few }
 
   -- and one that comes with an older one
-  strays_by : (border writes : Bool) (w : Walk) → made + (4 + behind v w.place.node) ≤ astray height → HasMade (arrival_at border writes) height made v w s
+  strays_by : (border writes : Bool) (w : Walk) → made + (5 + behind v w.place.node) ≤ astray height → HasMade (arrival_at border writes) height made v w s
   strays_by true true w few = inr (omega (arith, few))
   strays_by true false w few = inr (omega (arith, few))
   strays_by false writes w few = inr (omega (arith, few))
 
-  strays_onto : (w : Walk) (k : ℕ) (seen : Parts) → AreBelow v height → made + (4 + behind v k) ≤ astray height → IsAtPoint height made v (walk_onto w k seen) s
+  strays_onto : (w : Walk) (k : ℕ) (seen : Parts) → AreBelow v height → made + (5 + behind v k) ≤ astray height → IsAtPoint height made v (walk_onto w k seen) s
   strays_onto w k seen below few = record { below = λ other. below; few = strays_by seen.border w.writes (walk_onto w k seen) few }
 
   -- one that stays at its border node, to search or to lock
-  stays_by : (writes : Bool) (w : Walk) → (SeesNow v w × (made ≤ astray height)) ⊎ (made + (4 + behind v w.place.node) ≤ astray height)
+  stays_by : (writes : Bool) (w : Walk) → (SeesNow v w × (made ≤ astray height)) ⊎ (made + (5 + behind v w.place.node) ≤ astray height)
       → HasMade (arrival writes) height made v w s
   stays_by true w few = elim few [ inl now ↦ inl (now.0, omega (arith, now.1)) | inr strays ↦ inr (omega (arith, strays)) ]
   stays_by false w few = elim few [ inl now ↦ inl (now.0, omega (arith, now.1)) | inr strays ↦ inr strays ]
 
-  stays_here : (w : Walk) → AreBelow v height → (SeesNow v w × (made ≤ astray height)) ⊎ (made + (4 + behind v w.place.node) ≤ astray height)
+  stays_here : (w : Walk) → AreBelow v height → (SeesNow v w × (made ≤ astray height)) ⊎ (made + (5 + behind v w.place.node) ≤ astray height)
       → IsAtPoint height made v (walk_here w) s
   stays_here w below few = record { below = λ other. below; few = stays_by w.writes (walk_here w) few }
-
--- a tree that nobody is making is live, where none is dead
-still_live : (standing : Standing) → ((q : ℕ) → standing ≢ Made q) → standing ≢ Dead → standing ≡ Live
-still_live (Made q) unmade alive = absurd (unmade q refl)
-still_live Live unmade alive = refl
-still_live Dead unmade alive = absurd (alive refl)
 
 -- a border node that stands leads on
 pub after_live : (w : Walk) (now : Parts) (next : Option ℕ) → now.deleted ≡ false → after_change w now next ≡ record w { place = record w.place { seen = now }; next = next; phase = Forward }
@@ -104,7 +110,7 @@ module _ (v : ArenaView) (w after : Walk) where
       → IsAtPoint height (made + 1) v after s
   pick_nears c picks is height made s point =
       let below = below_at height made v w s Pick picks (λ grown. grown) point in
-      let few : (SeesNow v w × (made + 3 * level_of v w ≤ above height w + 3 * height)) ⊎ (made + 3 ≤ astray height) = few_at height made v w s Pick picks point in
+      let few : (SeesNow v w × (made + 3 * level_of v w ≤ above height w + 3 * height)) ⊎ (made + 4 ≤ astray height) = few_at height made v w s Pick picks point in
       subst (λ (x : Walk). IsAtPoint height (made + 1) v x s) (sym is) (record {
         below = λ other. below;
         few = elim few [
@@ -118,7 +124,7 @@ module _ (v : ArenaView) (w after : Walk) where
   child_nears (Some holder) looks is height made s = tt
   child_nears None looks is height made s = λ point.
       let below = below_at height made v w s Child looks (λ grown. grown) point in
-      let few : (SeesNow v w × (made + 3 * level_of v w ≤ above height w + 3 * height + 1)) ⊎ (made + 2 ≤ astray height) = few_at height made v w s Child looks point in
+      let few : (SeesNow v w × (made + 3 * level_of v w ≤ above height w + 3 * height + 1)) ⊎ (made + 3 ≤ astray height) = few_at height made v w s Child looks point in
       subst (λ (x : Walk). IsAtPoint height (made + 1) v x s) (sym is) (record {
         below = λ other. below;
         few = elim few [
@@ -127,30 +133,56 @@ module _ (v : ArenaView) (w after : Walk) where
         ];
       })
 
-module _ (v : ArenaView) (arena : IsArena v.nodes v.trees) (one : IsUnremoved v) (key : Bytes) (past : Past) (w after : Walk) (kept : IsKept v past key None w) where
-  -- from its beginning a walk comes to the root
+module _ (v : ArenaView) (arena : IsArena v.nodes v.trees) (key : Bytes) (past : Past) (w after : Walk) (kept : IsKept v past key None w) where
+  -- from its beginning a walk comes to the root, or back to the top where its tree is dead
   pub enter_nears : (r : Option ℕ) → w.phase ≡ Enter
       → IfNone r (after ≡ after_enter (tree_at v.trees w.place.tree).standing w (tree_at v.trees w.place.tree).root (at v (tree_at v.trees w.place.tree).root).version)
       → (height made : ℕ) (s : Splits) → IfNone r (IsAtPoint height made v w s → IsAtPoint height (made + 1) v after s)
   enter_nears (Some holder) enters is height made s = tt
   enter_nears None enters is height made s = λ point.
-      let through : GoesThrough v w.place.tree w.layer key = subst (λ (p : Phase). KeptAt p v past key None w) enters kept in
-      let k = (tree_at v.trees w.place.tree).root in
-      let live : (tree_at v.trees w.place.tree).standing ≡ Live = still_live (tree_at v.trees w.place.tree).standing through.unmade (one.alive w.place.tree through.there) in
       let below = below_at height made v w s Enter enters (λ grown. grown) point in
-      let few : made ≤ above height w = few_at height made v w s Enter enters point in
-      let under = below k (arena.forest.each w.place.tree through.there).root_there in
-      subst (λ (x : Walk). IsAtPoint height (made + 1) v x s) (sym (is ∙ ap (λ (standing : Standing). after_enter standing w k (at v k).version) live))
-      (comes_onto v height (made + 1) s w k (at v k).version below refl (omega (arith, few, under)))
+      let few : (IsLiveTree v w.place.tree × (made ≤ above height w)) ⊎ (made + 1 ≤ astray height) = few_at height made v w s Enter enters point in
+      subst (λ (x : Walk). IsAtPoint height (made + 1) v x s) (sym is) (by height made s below few (tree_at v.trees w.place.tree).standing refl)
+    where
+      through : GoesThrough v w.place.tree w.layer key
+      through = subst (λ (p : Phase). KeptAt p v past key None w) enters kept
+
+      k : ℕ
+      k = (tree_at v.trees w.place.tree).root
+
+      there : k < length v.nodes
+      there = (arena.forest.each w.place.tree through.there).root_there
+
+      live_root : (tree_at v.trees w.place.tree).standing ≡ Live → (at v k).version.deleted ≡ false
+      live_root live = ((arena.forest.homes k w.place.tree there through.there).root_is refl (λ dead. absurd (let no = sym live ∙ dead in cc))).live
+
+      by : (height made : ℕ) (s : Splits) → AreBelow v height → (IsLiveTree v w.place.tree × (made ≤ above height w)) ⊎ (made + 1 ≤ astray height)
+          → (standing : Standing) → (tree_at v.trees w.place.tree).standing ≡ standing → IsAtPoint height (made + 1) v (after_enter standing w k (at v k).version) s
+      by height made s below few (Made q) e = absurd (through.unmade q e)
+      by height made s below few Live e =
+          let under = below k there (live_root e) in
+          let upto : made ≤ above height w = elim few [ inl now ↦ now.1 | inr strays ↦ omega (arith, strays) ] in
+          comes_onto v height (made + 1) s w k (at v k).version below refl (omega (arith, upto, under))
+      by height made s below few Dead e = elim few [
+        | inl now ↦ absurd (let no = sym now.0 ∙ e in cc)
+        | inr strays ↦ record { below = λ grown. below; few = inl (arena.forest.top.live, omega (arith, strays)) }
+      ]
+
+  -- the child of a node that was as it is seen is live
+  child_live : IsAtVerify v key w → Stands (at v w.place.node) w.place.seen → (at v w.child).version.deleted ≡ false
+  child_live verifying stands = (is_child v key w arena verifying stands).live
 
   -- one that is astray comes to the child where its node is as it was; else it picks again with the version of now, or begins anew
-  strays_on : (height made : ℕ) (s : Splits) → IsAtVerify v key w → Verifies (at v w.place.node) w after → AreBelow v height → made + 1 ≤ astray height
-      → IsAtPoint height (made + 1) v (walk_onto w w.child w.child_seen) s → IsAtPoint height (made + 1) v after s
+  strays_on : (height made : ℕ) (s : Splits) → IsAtVerify v key w → Verifies (at v w.place.node) w after → AreBelow v height → made + 2 ≤ astray height
+      → (Stands (at v w.place.node) w.place.seen → IsAtPoint height (made + 1) v (walk_onto w w.child w.child_seen) s) → IsAtPoint height (made + 1) v after s
   strays_on height made s verifying is below upto onto = elim (same_or_not (at v w.place.node).version w.place.seen) [
-    | inl same ↦ subst (λ (x : Walk). IsAtPoint height (made + 1) v x s) (sym (is.same same)) onto
+    | inl same ↦ subst (λ (x : Walk). IsAtPoint height (made + 1) v x s) (sym (is.same same))
+        (onto (same_stands (at v w.place.node) w.place.seen verifying.above.covers.remembered.undeleted same))
     | inr other ↦ elim (outdated_or_not (at v w.place.node) w.place.seen) [
-      | inl outdated ↦ subst (λ (x : Walk). IsAtPoint height (made + 1) v x s) (sym (is.outdated other outdated)) (record { below = λ grown. below; few = omega (arith, upto) })
-      | inr whole ↦ subst (λ (x : Walk). IsAtPoint height (made + 1) v x s) (sym (is.changed other whole)) (record { below = λ grown. below; few = inl (refl, omega (arith, upto, below w.place.node verifying.above.covers.remembered.there)) })
+      | inl outdated ↦ subst (λ (x : Walk). IsAtPoint height (made + 1) v x s) (sym (is.outdated other outdated)) (record { below = λ grown. below; few = inr (omega (arith, upto)) })
+      | inr whole ↦
+          let under = below w.place.node verifying.above.covers.remembered.there (not_deleted (at v w.place.node).version.deleted (λ gone. whole (inl gone))) in
+          subst (λ (x : Walk). IsAtPoint height (made + 1) v x s) (sym (is.changed other whole)) (record { below = λ grown. below; few = inl (refl, omega (arith, upto, under)) })
     ]
   ]
 
@@ -161,9 +193,8 @@ module _ (v : ArenaView) (arena : IsArena v.nodes v.trees) (one : IsUnremoved v)
   verify_nears None verifies is height made s = λ point.
       let verifying : IsAtVerify v key w = subst (λ (p : Phase). KeptAt p v past key None w) verifies kept in
       let below : AreBelow v height = below_at height made v w s Verify verifies (λ grown. grown) point in
-      let few : (SeesNow v w × SeesChild v w × (made + 3 * level_of v w ≤ above height w + 3 * height + 2)) ⊎ (SeesChild v w × (made + 1 ≤ astray height)) ⊎ (made + (5 + behind v w.child) ≤ astray height) =
+      let few : (SeesNow v w × SeesChild v w × (made + 3 * level_of v w ≤ above height w + 3 * height + 2)) ⊎ (SeesChild v w × (made + 2 ≤ astray height)) ⊎ (made + (6 + behind v w.child) ≤ astray height) =
       few_at height made v w s Verify verifies point in
-      let under = below w.child verifying.picked.there in
       elim few [
         | inl now ↦
             let same = same_now v w now.0 in
@@ -171,12 +202,14 @@ module _ (v : ArenaView) (arena : IsArena v.nodes v.trees) (one : IsUnremoved v)
             subst (λ (x : Walk). IsAtPoint height (made + 1) v x s) (sym (is.same same))
             (comes_onto v height (made + 1) s w w.child w.child_seen below now.1 (omega (arith, now.2, level)))
         | inr strays ↦ elim strays [
-          | inl sees ↦ strays_on height made s verifying is below sees.1 (comes_onto v height (made + 1) s w w.child w.child_seen below sees.0 (omega (arith, sees.1, under)))
-          | inr far ↦ strays_on height made s verifying is below (omega (arith, far)) (strays_onto v height (made + 1) s w w.child w.child_seen below (omega (arith, far)))
+          | inl sees ↦ strays_on height made s verifying is below sees.1 (λ stands.
+              let under = below w.child verifying.picked.there (child_live verifying stands) in
+              comes_onto v height (made + 1) s w w.child w.child_seen below sees.0 (omega (arith, sees.1, under)))
+          | inr far ↦ strays_on height made s verifying is below (omega (arith, far)) (λ stands. strays_onto v height (made + 1) s w w.child w.child_seen below (omega (arith, far)))
         ]
       ]
 
-  -- it goes on to the next border node, which begins behind its own, or stays
+  -- it goes on to the next border node, which begins behind its own, or stays; or begins anew where that one was deleted
   pub forward_nears : (r : Option ℕ) (slice : ℕ) → w.phase ≡ Forward → (w.next ≡ None → IsNone r × (after ≡ walk_here w))
       → ((j : ℕ) → w.next ≡ Some j → IfNone r (after ≡ after_forward w slice j (at v j)))
       → (height made : ℕ) (s : Splits) → IfNone r (IsAtPoint height made v w s → IsAtPoint height (made + 1) v after s)
@@ -184,26 +217,26 @@ module _ (v : ArenaView) (arena : IsArena v.nodes v.trees) (one : IsUnremoved v)
   forward_nears None slice forwards last is height made s = λ point.
       let forward : IsAtForward v key w = subst (λ (p : Phase). KeptAt p v past key None w) forwards kept in
       let below : AreBelow v height = below_at height made v w s Forward forwards (λ grown. grown) point in
-      let few : (SeesNow v w × (made + (1 + behind v w.place.node) ≤ astray height)) ⊎ (made + (5 + behind v w.place.node) ≤ astray height) = few_at height made v w s Forward forwards point in
+      let few : (SeesNow v w × (made + (2 + behind v w.place.node) ≤ astray height)) ⊎ (made + (6 + behind v w.place.node) ≤ astray height) = few_at height made v w s Forward forwards point in
       let here : IsAtPoint height (made + 1) v (walk_here w) s = stays_here v height (made + 1) s w below (elim few [
         | inl now ↦ inl (now.0, omega (arith, now.1))
         | inr strays ↦ inr (omega (arith, strays))
       ]) in
-      let upto : made + (1 + behind v w.place.node) ≤ astray height = elim few [
+      let upto : made + (2 + behind v w.place.node) ≤ astray height = elim few [
         | inl now ↦ now.1
         | inr strays ↦ omega (arith, strays)
       ] in
-      let to : (j : ℕ) → w.next ≡ Some j → after_forward w slice j (at v j) ≡ cond (nat_le (at v j).low slice) (walk_to_next w j (at v j)) (walk_here w) = λ j e.
-      ap (λ (deleted : Bool). cond deleted (walk_anew w) (cond (nat_le (at v j).low slice) (walk_to_next w j (at v j)) (walk_here w))) (one.live j (forward.next.there j e)) in
-      by_next height made s here (λ j e. subst (λ (x : Walk). IsAtPoint height (made + 1) v x s) (sym (is j e ∙ to j e))
-      (onward height made s forward.next below upto here j e (nat_le (at v j).low slice))) w.next refl
+      by_next height made s here (λ j e. subst (λ (x : Walk). IsAtPoint height (made + 1) v x s) (sym (is j e))
+      (onward height made s forward.next below upto here j e (at v j).version.deleted (nat_le (at v j).low slice) refl)) w.next refl
     where
       onward : (height made : ℕ) (s : Splits) → HasNext v w.place.tree w.place.node w.place.seen w.next → AreBelow v height
-          → made + (1 + behind v w.place.node) ≤ astray height → IsAtPoint height (made + 1) v (walk_here w) s
-          → (j : ℕ) → w.next ≡ Some j → (b : Bool) → IsAtPoint height (made + 1) v (cond b (walk_to_next w j (at v j)) (walk_here w)) s
-      onward height made s next below upto here j e false = here
-      onward height made s next below upto here j e true =
-          let fewer = behind_fewer v.nodes (at v w.place.node).low (at v j).low j (next.after j e) (next.there j e) refl in
+          → made + (2 + behind v w.place.node) ≤ astray height → IsAtPoint height (made + 1) v (walk_here w) s
+          → (j : ℕ) → w.next ≡ Some j → (deleted b : Bool) → (at v j).version.deleted ≡ deleted
+          → IsAtPoint height (made + 1) v (cond deleted (walk_anew w) (cond b (walk_to_next w j (at v j)) (walk_here w))) s
+      onward height made s next below upto here j e true b gone = record { below = λ grown. below; few = inr (omega (arith, upto)) }
+      onward height made s next below upto here j e false false live = here
+      onward height made s next below upto here j e false true live =
+          let fewer = behind_fewer v.nodes (at v w.place.node).low (at v j).low j (next.after j e) (next.there j e) live refl in
           record { below = λ grown. below; few = inl (refl, omega (arith, upto, fewer)) }
 
       by_next : (height made : ℕ) (s : Splits) → IsAtPoint height (made + 1) v (walk_here w) s
@@ -220,18 +253,18 @@ search_nears v w after f step looks is height made s point = subst (λ (x : Walk
     below : AreBelow v height
     below = below_at height made v w s Search looks (λ grown. grown) point
 
-    few : (SeesNow v w × (made ≤ above height w + 3 * height)) ⊎ (made + (4 + behind v w.place.node) ≤ astray height)
+    few : (SeesNow v w × (made ≤ above height w + 3 * height)) ⊎ (made + (5 + behind v w.place.node) ≤ astray height)
     few = few_at height made v w s Search looks point
 
-    load : (SeesNow v w × (made + 1 ≤ above height w + 3 * height + 1)) ⊎ (made + 1 + (3 + behind v w.place.node) ≤ astray height)
+    load : (SeesNow v w × (made + 1 ≤ above height w + 3 * height + 1)) ⊎ (made + 1 + (4 + behind v w.place.node) ≤ astray height)
     load = elim few [
       | inl now ↦ inl (now.0, omega (arith, now.1))
       | inr strays ↦ inr (omega (arith, strays))
     ]
 
-    confirm : (SeesNow v w × (made + 1 ≤ above height w + 3 * height + 2)) ⊎ (made + 1 + (2 + behind v w.place.node) ≤ astray height)
+    confirm : (SeesNow v w × TookLiveTree v (record w { taken = takens.Missing }) × (made + 1 ≤ above height w + 3 * height + 2)) ⊎ (made + 1 + (3 + behind v w.place.node) ≤ astray height)
     confirm = elim few [
-      | inl now ↦ inl (now.0, omega (arith, now.1))
+      | inl now ↦ inl (now.0, λ t took. absurd (cc), omega (arith, now.1))
       | inr strays ↦ inr (omega (arith, strays))
     ]
 
@@ -242,18 +275,31 @@ search_nears v w after f step looks is height made s point = subst (λ (x : Walk
     by (finds.Slot slot ToTree) = record { below = λ other. below; few = load }
 
 -- so does a load that took something
-pub load_nears : (v : ArenaView) (w after : Walk) (taken : Taken) (right : ℕ) → w.phase ≡ Load → after ≡ after_load w taken right
+pub load_nears : (v : ArenaView) (key : Bytes) (w after : Walk) (row : Option Columns) → IsArena v.nodes v.trees → IsAtBorder v key w → w.phase ≡ Load
+    → Loads (at v w.place.node) w after row
     → (height made : ℕ) (s : Splits) → IsAtPoint height made v w s → IsAtPoint height (made + 1) v after s
-load_nears v w after taken right loads is height made s point =
+load_nears v key w after row arena border loads t height made s point =
     let below = below_at height made v w s Load loads (λ grown. grown) point in
-    let few : (SeesNow v w × (made ≤ above height w + 3 * height + 1)) ⊎ (made + (3 + behind v w.place.node) ≤ astray height) = few_at height made v w s Load loads point in
-    subst (λ (x : Walk). IsAtPoint height (made + 1) v x s) (sym is) (record {
+    let few : (SeesNow v w × (made ≤ above height w + 3 * height + 1)) ⊎ (made + (4 + behind v w.place.node) ≤ astray height) = few_at height made v w s Load loads point in
+    subst (λ (x : Walk). IsAtPoint height (made + 1) v x s) (sym t.is) (record {
       below = λ other. below;
       few = elim few [
-        | inl now ↦ inl (now.0, omega (arith, now.1))
+        | inl now ↦ inl (now.0, took now.0 after.taken t.takes, omega (arith, now.1))
         | inr strays ↦ inr (omega (arith, strays))
       ];
     })
+  where
+    remembered : IsRemembered v w.place.tree w.place.node w.place.seen (slice_in key w)
+    remembered = border.covers.remembered
+
+    -- a link that stands in a live node leads to a live tree
+    took : SeesNow v w → (taken : Taken) → TakesOut (at v w.place.node) w row taken after.right_at → (tree : ℕ) → taken ≡ takens.Link tree → IsLiveTree v tree
+    took now (takens.Link u) takes tree same =
+        let live : (at v w.place.node).version.deleted ≡ false = ap (λ (p : Parts). p.deleted) (sym now) ∙ remembered.undeleted in
+        subst (IsLiveTree v) (same_link u tree same) (leads v.nodes v.trees arena w.place.node w.slot u (record { there = remembered.there; live = live; in_range = takes.0; is = takes.1 })).live
+    took now takens.Missing takes tree same = absurd (cc)
+    took now takens.Row takes tree same = absurd (cc)
+    took now takens.Nothing takes tree same = absurd (cc)
 
 -- a step into the next layer is within what the layers above it may take
 layer_more : (height layer made : ℕ) → made ≤ astray height + layer * (3 * height + 12) + 3 * height + 10
@@ -271,43 +317,44 @@ next_layer height layer made shallow few =
 pub shallow_below : (layer : ℕ) (key : Bytes) → IsStoredKey key → 8 * (layer + 1) < length key → layer + 1 < 32
 shallow_below layer key stored begun = omega (arith, stored.within, begun)
 
--- a get that goes on from a node that is as it was goes into the tree of a link; from another it goes to the next node
+-- a get that goes on from a node that is as it was goes into the tree of a link; from another it goes to the next node, or begins anew
 pub confirm_nears : (v : ArenaView) (past : Past) (key : Bytes) (row : Option Columns) (w after : Walk) → IsStoredKey key → w.phase ≡ Confirm
-    → IsAtConfirm v past key row w → (at v w.place.node).version.deleted ≡ false
+    → IsAtConfirm v past key row w
     → Confirms (at v w.place.node) w after → after.phase ≢ Done → (height made : ℕ) (s : Splits) → IsAtPoint height made v w s
     → IsAtPoint height (made + 1) v after s
-confirm_nears v past key row w after stored confirming h live confirms goes_on height made s point =
+confirm_nears v past key row w after stored confirming h confirms goes_on height made s point =
     elim (same_or_not (at v w.place.node).version w.place.seen) [
       | inl same ↦
           let is = confirms.same same in
           subst (λ (x : Walk). IsAtPoint height (made + 1) v x s) (sym is)
-          (onward (same_stands (at v w.place.node) w.place.seen h.at_border.covers.remembered.undeleted same) w.taken h.taken (λ done. goes_on (ap (λ (x : Walk). x.phase) is ∙ done)))
+          (onward (same_stands (at v w.place.node) w.place.seen h.at_border.covers.remembered.undeleted same) w.taken refl h.taken (λ done. goes_on (ap (λ (x : Walk). x.phase) is ∙ done)))
       | inr other ↦ elim few [
         | inl now ↦ absurd (other (same_now v w now.0))
         | inr strays ↦
-            subst (λ (x : Walk). IsAtPoint height (made + 1) v x s) (sym (confirms.changed other ∙ after_live w (at v w.place.node).version (at v w.place.node).next live))
-            (record { below = λ grown. below; few = inl (refl, omega (arith, strays)) })
+            subst (λ (x : Walk). IsAtPoint height (made + 1) v x s) (sym (confirms.changed other)) (changes_by strays (at v w.place.node).version.deleted)
       ]
     ]
   where
     below : AreBelow v height
     below = below_at height made v w s Confirm confirming (λ grown. grown) point
 
-    few : (SeesNow v w × (made ≤ above height w + 3 * height + 2)) ⊎ (made + (2 + behind v w.place.node) ≤ astray height)
+    few : (SeesNow v w × TookLiveTree v w × (made ≤ above height w + 3 * height + 2)) ⊎ (made + (3 + behind v w.place.node) ≤ astray height)
     few = few_at height made v w s Confirm confirming point
 
-    upto : made ≤ above height w + 3 * height + 2
-    upto = elim few [
-      | inl now ↦ now.1
-      | inr strays ↦ omega (arith, strays)
-    ]
+    changes_by : made + (3 + behind v w.place.node) ≤ astray height → (deleted : Bool)
+        → IsAtPoint height (made + 1) v (cond deleted (walk_anew w) (record w { place = record w.place { seen = (at v w.place.node).version }; next = (at v w.place.node).next; phase = Forward })) s
+    changes_by strays true = record { below = λ grown. below; few = inr (omega (arith, strays)) }
+    changes_by strays false = record { below = λ grown. below; few = inl (refl, omega (arith, strays)) }
 
-    onward : Stands (at v w.place.node) w.place.seen → (taken : Taken) → TakenHolds v past key row w taken → (after_confirm taken w).phase ≢ Done
+    onward : Stands (at v w.place.node) w.place.seen → (taken : Taken) → w.taken ≡ taken → TakenHolds v past key row w taken → (after_confirm taken w).phase ≢ Done
         → IsAtPoint height (made + 1) v (after_confirm taken w) s
-    onward stands (Link u) holds on = record {
+    onward stands (Link u) e holds on = record {
       below = λ other. below;
-      few = next_layer height w.layer made (shallow_below w.layer key stored (holds stands).begun) (omega (arith, upto));
+      few = elim few [
+        | inl now ↦ inl (now.1 u e, next_layer height w.layer made (shallow_below w.layer key stored (holds stands).begun) (omega (arith, now.2)))
+        | inr strays ↦ inr (omega (arith, strays))
+      ];
     }
-    onward stands Missing holds on = absurd (on refl)
-    onward stands Row holds on = absurd (on refl)
-    onward stands Nothing holds on = absurd (on refl)
+    onward stands Missing e holds on = absurd (on refl)
+    onward stands Row e holds on = absurd (on refl)
+    onward stands Nothing e holds on = absurd (on refl)

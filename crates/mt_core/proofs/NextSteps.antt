@@ -3,10 +3,10 @@ use Rattle.std.proofs.Common.{◌≡◌, ℕ, ◌⊎◌, inl, inr, false, Option
 use Rattle.std.specs.Option.{option_map}
 use Rattle.std.proofs.lemmas.Option.{same_Some}
 use Rattle.mt_operation.specs.declared.phase.Phase.{Phase}
-use Rattle.mt_operation.specs.declared.phase.Phase.TheVariants.{SplitPrev, LockParent, InsertChild, InteriorSplit, Reparent, RootGrow, MakeLayer, MarkUnstable, Link, MarkLayer, Done}
+use Rattle.mt_operation.specs.declared.phase.Phase.TheVariants.{SplitPrev, LockParent, InsertChild, InteriorSplit, Reparent, RootGrow, MakeLayer, MarkUnstable, Link, MarkLayer, Done, LockPrev, LockAbove, Unlink, FixNext, Collapse, CleanLayer}
 use Rattle.mt_operation.specs.declared.operation.Operation.{Operation}
 use Rattle.mt_operation.specs.Operations.{view_of}
-use Rattle.mt_operation.specs.Phases.{is_done, IsClimb, IsLayerPhase}
+use Rattle.mt_operation.specs.Phases.{is_done, IsClimb, IsLayerPhase, IsRemovalPhase}
 use Rattle.mt_operation.specs.Tables.{op_at as operation_at}
 use Rattle.mt_state.specs.Views.{Core, shown}
 use Rattle.mt_state.specs.Promises.{HasStep}
@@ -57,6 +57,17 @@ layers p h = elim h [
       | inr e ↦ subst IsLayerPhase (sym e) tt
     ]
   ]
+]
+
+-- and those in which it takes a node or a layer out
+pub removals : (p : Phase) → (p ≡ LockPrev) ⊎ (p ≡ LockAbove) ⊎ (p ≡ Unlink) ⊎ (p ≡ FixNext) ⊎ (p ≡ Collapse) ⊎ (p ≡ CleanLayer) → IsRemovalPhase p
+removals p h = elim h [
+  | inl e ↦ subst IsRemovalPhase (sym e) tt
+  | inr (inl e) ↦ subst IsRemovalPhase (sym e) tt
+  | inr (inr (inl e)) ↦ subst IsRemovalPhase (sym e) tt
+  | inr (inr (inr (inl e))) ↦ subst IsRemovalPhase (sym e) tt
+  | inr (inr (inr (inr (inl e)))) ↦ subst IsRemovalPhase (sym e) tt
+  | inr (inr (inr (inr (inr e)))) ↦ subst IsRemovalPhase (sym e) tt
 ]
 
 module _ (c now : Core) (o : ℕ) (is : c ≡ now) (found : Option Phase) (phase : Phase)

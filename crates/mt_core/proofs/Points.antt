@@ -1,5 +1,5 @@
 -- How a step brings an operation on that nobody is in the way of: by the point to which its walk came. For each phase of `Inner`.
-use Rattle.std.proofs.Common.{◌≡◌, ℕ, ◌+◌, inl, inr, length, Some, sym, subst, ◌∙◌}
+use Rattle.std.proofs.Common.{◌≡◌, ℕ, ◌+◌, inl, inr, length, Some, sym, ap, subst, ◌∙◌}
 use Rattle.std.proofs.lemmas.Bool.{cases_lt, cases_eq}
 use Rattle.std.proofs.lemmas.Option.{same_Some}
 use Rattle.mt_arena.specs.Arena.{ArenaView, Guarantee}
@@ -7,6 +7,9 @@ use Rattle.mt_operation.specs.declared.phase.Phase.{Phase}
 use Rattle.mt_operation.specs.declared.phase.Phase.TheVariants.{Enter}
 use Rattle.mt_operation.specs.declared.walk.Walk.{Walk}
 use Rattle.mt_operation.specs.declared.splits.Splits.{Splits}
+use Rattle.mt_operation.specs.declared.task.Task.{Task}
+use Rattle.mt_operation.specs.Tasks.{ask}
+use Rattle.mt_remove.specs.Writes.{is_remove}
 use Rattle.mt_operation.specs.declared.operation.Operation.{Operation}
 use Rattle.mt_operation.specs.Tables.{op_at as operation_at}
 use Rattle.mt_state.specs.declared.moves.Move.TheVariants.{Moved}
@@ -42,7 +45,7 @@ module _ (height made : ℕ) (v : ArenaView) (w : Walk) (s : Splits) (p : Phase)
   pub few_at : IsAtPoint height made v w s → HasMade p height made v w s
   few_at point = subst (λ (q : Phase). HasMade q height made v w s) is point.few
 
-module _ (c new : Core) (o : ℕ) (op after : Operation) (there : operation_at c.table o ≡ Some op) (came : operation_at new.table o ≡ Some after) (g : Guarantee o c.arena new.arena) where
+module _ (c new : Core) (o : ℕ) (op after : Operation) (there : operation_at c.table o ≡ Some op) (came : operation_at new.table o ≡ Some after) (g : Guarantee o c.arena new.arena) (asked : after.task ≡ op.task) where
   -- nobody else comes to hold a node
   free_after : IsFreeOfOthers c.arena o → IsFreeOfOthers new.arena o
   free_after free k q within holds = elim (cases_eq q o) [
@@ -59,6 +62,7 @@ module _ (c new : Core) (o : ℕ) (op after : Operation) (there : operation_at c
   nears_by brings height made u = record {
     op = after;
     there = came;
+    stays = ap (λ (task : Task). is_remove (ask task)) (asked ∙ ap (λ (x : Operation). x.task) (same_Some op u.op (sym there ∙ u.there))) ∙ u.stays;
     free = free_after u.free;
     point = brings height made (subst (λ (x : Operation). IsAtPoint height made c.arena x.walk x.splits) (same_Some u.op op (sym u.there ∙ there)) u.point);
   }

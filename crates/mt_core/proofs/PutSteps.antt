@@ -1,5 +1,5 @@
 -- The phases of a put by the ensures of the calls that they make: for `Inner::lock`, `judge`, `store`, `publish` and `unlock_one`.
-use Rattle.std.proofs.Common.{Bool, IsSome, None, Option, Some, [], ap, arith, cond, eqb, false, inl, inr, is_some, length, refl, set, subst, sym, true, ℕ, ◌+◌, ◌<◌, ◌∙◌, ◌≡◌, ◌≢◌}
+use Rattle.std.proofs.Common.{Bool, IsSome, None, Option, Some, [], ap, arith, cond, eqb, false, inl, inr, is_some, length, not, refl, set, subst, sym, true, ℕ, ◌+◌, ◌<◌, ◌∙◌, ◌≡◌, ◌≢◌}
 use Rattle.std.specs.Prelude.{List, ◌*◌, ◌^◌, ◌≤◌, ◌⊎◌}
 use Rattle.mt_rows.specs.declared.reply.Reply.{Reply}
 use Rattle.mt_rows.specs.declared.reply.Reply.TheVariants.{Full, New, NoMemory, Replaced}
@@ -13,20 +13,28 @@ use Rattle.mt_arena.specs.Edits.{locked, unlocked}
 use Rattle.mt_arena.specs.Arena.{ArenaView, Guarantee, IsArena}
 use Rattle.mt_arena.specs.Accesses.{at, with_node}
 use Rattle.mt_operation.specs.declared.phase.Phase.{Phase}
-use Rattle.mt_operation.specs.declared.phase.Phase.TheVariants.{Enter, Judge, Lock, MakeLayer, Publish, SplitStart, Store, Unlock}
+use Rattle.mt_operation.specs.declared.phase.Phase.TheVariants.{Enter, Forward, Judge, Lock, MakeLayer, Publish, SplitStart, Store, Unlock}
 use Rattle.mt_operation.specs.declared.walk.Walk.{Walk}
 use Rattle.mt_operation.specs.declared.splits.Halves.{Halves}
 use Rattle.mt_operation.specs.declared.splits.Splits.{Splits}
 use Rattle.mt_operation.specs.declared.outcome.Outcome.{Outcome}
 use Rattle.mt_operation.specs.declared.prepared.Prepared.{Prepared}
 use Rattle.mt_operation.specs.declared.operation.Operation.{Operation}
-use Rattle.mt_operation.specs.Operations.{made_ready, moved, noted, with_nothing_ready}
-use Rattle.mt_operation.specs.Phases.{has_splits, is_done, is_prepared}
+use Rattle.mt_operation.specs.Operations.{made_ready, moved, noted, splits_of, with_nothing_ready}
+use Rattle.mt_operation.specs.Phases.{IsOfKind, has_splits, is_done, is_prepared}
 use Rattle.mt_operation.specs.Tables.{MayMove, Table, op_at as operation_at}
 use Rattle.mt_descent.specs.Seen.{IsOutdated}
 use Rattle.mt_descent.specs.KeptWalks.{IsInSlot}
-use Rattle.mt_descent.specs.WalkMoves.{IsLock, Locks, walk_into}
-use Rattle.mt_insert.specs.Puts.{IsPut}
+use Rattle.mt_descent.specs.WalkMoves.{IsLock, Locks, walk_anew, walk_into}
+use Rattle.mt_insert.specs.Puts.{IsPut, is_put}
+use Rattle.mt_remove.specs.Writes.{is_remove}
+use Rattle.mt_operation.specs.declared.task.Request.{Request}
+use Rattle.mt_operation.specs.declared.task.Request.TheVariants.{Get as GetOf, Put as PutOf, Remove as RemoveOf}
+use Rattle.mt_operation.specs.Tasks.{ask, command_of}
+use Rattle.mt_rows.specs.Maps.{is_get}
+use Rattle.mt_version.specs.Parts.{Parts}
+use Rattle.mt_arena.proofs.OneLink.{leads}
+use Rattle.std.proofs.lemmas.Bool.{both_ways}
 use Rattle.mt_insert.specs.Placing.{walk_placed}
 use Rattle.mt_insert.specs.Judge.{IsMadeReady, MeetsLink, MeetsOther, after_judge}
 use Rattle.mt_insert.specs.KeptPuts.{IsAtPublish, IsAtStore}
@@ -37,7 +45,7 @@ use Rattle.mt_state.specs.declared.moves.Move.{Move}
 use Rattle.mt_state.specs.declared.moves.Move.TheVariants.{Again, Moved}
 use Rattle.mt_state.specs.Views.{Core, StateView, shown}
 use Rattle.mt_state.specs.Promises.{IsHeldByOther}
-use Rattle.mt_state.specs.Phases.{Leads}
+use Rattle.mt_state.specs.Phases.{JudgesBy, JudgesLink, Leads, LocksBy}
 use Rattle.mt_state.specs.Invariant.{StateInvariant}
 use Rattle.mt_state.proofs.Shown.{shown_there}
 use Rattle.mt_state.proofs.Telling.{Gives}
@@ -46,25 +54,25 @@ use Rattle.mt_state.proofs.OneNode.{replaced_all}
 use Rattle.mt_state.proofs.Locking.{judge_ready, judge_refused, lock_done, publish_full, unlock_done}
 use Rattle.mt_state.proofs.LayerSteps.{below_done, meet_done}
 use Rattle.mt_state.proofs.Putting.{publish_done, store_done}
-use Rattle.mt_state.proofs.Needs.{IsOfWrites, judge_kept, lock_blocked, lock_kept, publish_kept, publish_ready, put_at, store_kept, store_ready, write_room}
+use Rattle.mt_state.proofs.Needs.{IsOfPut, judge_kept, lock_blocked, lock_kept, publish_kept, publish_ready, put_at, store_kept, store_ready, write_room}
 use Rattle.mt_core.specs.Nexts.{IsNext}
-use Rattle.mt_core.specs.Points.{AreBelow, HasMade, IsAtPoint, MayHaveGrown, Nears, SeesNow, StepsOn, above, astray, before_unlock, behind}
+use Rattle.mt_core.specs.Points.{AreBelow, HasMade, IsAtPoint, IsLiveTree, MayHaveGrown, Nears, SeesNow, StepsOn, above, astray, before_unlock, behind}
 use Rattle.mt_core.proofs.Points.{below_at, few_at, nears_by, point_at, point_first}
-use Rattle.mt_core.proofs.LookPoints.{after_live, next_layer, shallow_below}
-use Rattle.mt_core.proofs.Following.{IsOver, Writes, made, may_move, may_over, next_here, opened, over_first, over_next, phase_is}
+use Rattle.mt_core.proofs.LookPoints.{next_layer, shallow_below}
+use Rattle.mt_core.proofs.Following.{IsSound, IsOver, Writes, made, may_move, may_over, next_here, opened, over_first, over_next, phase_is}
 use Rattle.mt_core.proofs.Leading.{done_from, leads_over}
 
--- the walk of a put that takes its lock, or that goes on to the next node, in a live tree
+-- the walk of a put that takes its lock, that goes on to the next node, or that begins anew where its own was deleted
 lock_brings : (o : ℕ) (v arena : ArenaView) (w x : Walk) (s : Splits) → Locks o v arena x w → x.phase ≡ Lock → x.place.node < length v.nodes
-    → (at v x.place.node).version.deleted ≡ false
+    → x.place.seen.deleted ≡ false
     → (height n : ℕ) → IsAtPoint height n v x s → IsAtPoint height (n + 1) arena w s
-lock_brings o v arena w x s locks at_lock within live height n point = elim (outdated_or_not (at v x.place.node) x.place.seen) [
+lock_brings o v arena w x s locks at_lock within undeleted height n point = elim (outdated_or_not (at v x.place.node) x.place.seen) [
   | inl outdated ↦ elim few [
     | inl now ↦ absurd (elim outdated [
-      | inl deleted ↦ let no = sym live ∙ deleted in cc
+      | inl deleted ↦ both_ways _ undeleted (ap (λ (p : Parts). p.deleted) now.0 ∙ deleted)
       | inr split ↦ split (ap (λ p. p.splits) (sym now.0))
     ])
-    | inr strays ↦ leads outdated (omega (arith, strays))
+    | inr strays ↦ onward outdated (omega (arith, strays))
   ]
   | inr stands ↦ takes stands
 ]
@@ -75,7 +83,7 @@ lock_brings o v arena w x s locks at_lock within live height n point = elim (out
     below : AreBelow v height
     below = below_at height n v x s Lock at_lock (λ grown. grown) point
 
-    few : (SeesNow v x × (n ≤ above height x + 3 * height)) ⊎ (n + (2 + behind v x.place.node) ≤ astray height)
+    few : (SeesNow v x × (n ≤ above height x + 3 * height)) ⊎ (n + (3 + behind v x.place.node) ≤ astray height)
     few = few_at height n v x s Lock at_lock point
 
     upto : n ≤ above height x + 3 * height
@@ -87,12 +95,16 @@ lock_brings o v arena w x s locks at_lock within live height n point = elim (out
     takes : ¬ IsOutdated (at v x.place.node) x.place.seen → IsAtPoint height (n + 1) arena w s
     takes stands = subst (λ (a : ArenaView). IsAtPoint height (n + 1) a w s) (sym (locks.takes stands))
         (subst (λ (y : Walk). IsAtPoint height (n + 1) (with_node v k (locked (at v k) o)) y s) (sym (locks.judges stands)) (point_at height (n + 1) _ (record x { phase = Judge }) s Judge refl
-        (λ other. replaced_all v k within (locked (at v k) o) (λ (m : NodeView). m.level < height) (below k within) below) (omega (arith, upto))))
+        (λ other. replaced_all v k within (locked (at v k) o) (λ (m : NodeView). m.version.deleted ≡ false → m.level < height) (below k within) below) (omega (arith, upto))))
 
-    leads : IsOutdated (at v x.place.node) x.place.seen → n + 1 + (1 + behind v x.place.node) ≤ astray height → IsAtPoint height (n + 1) arena w s
-    leads outdated strays = subst (λ (a : ArenaView). IsAtPoint height (n + 1) a w s) (sym (locks.leaves outdated))
-        (subst (λ (y : Walk). IsAtPoint height (n + 1) v y s) (sym (locks.goes_on outdated ∙ after_live x (at v k).version (at v k).next live))
-        (record { below = λ other. below; few = inl (refl, strays) }))
+    onward : IsOutdated (at v x.place.node) x.place.seen → n + 1 + (2 + behind v x.place.node) ≤ astray height → IsAtPoint height (n + 1) arena w s
+    onward outdated strays = subst (λ (a : ArenaView). IsAtPoint height (n + 1) a w s) (sym (locks.leaves outdated))
+        (subst (λ (y : Walk). IsAtPoint height (n + 1) v y s) (sym (locks.goes_on outdated)) (by (at v k).version.deleted))
+      where
+        by : (deleted : Bool)
+            → IsAtPoint height (n + 1) v (cond deleted (walk_anew x) (record x { place = record x.place { seen = (at v k).version }; next = (at v k).next; phase = Forward })) s
+        by true = record { below = λ other. below; few = inr (omega (arith, strays)) }
+        by false = record { below = λ other. below; few = inl (refl, omega (arith, strays)) }
 
 -- of one that has made all ready
 judge_brings : (v : ArenaView) (m : NodeView) (slot : Option ℕ) (w x : Walk) (s : Splits) → w ≡ after_judge m slot x → x.phase ≡ Judge
@@ -123,22 +135,24 @@ meet_brings v slot w x s goes at_judge height n point =
 
 -- of one that gives its lock back, and goes on in the tree of a link
 link_brings : (v : ArenaView) (key : Bytes) (tree : ℕ) (w x : Walk) (s : Splits) → w ≡ walk_into x tree (x.layer + 1) → x.phase ≡ Judge
-    → x.place.node < length v.nodes → IsStoredKey key → 8 * w.layer < length key
+    → x.place.node < length v.nodes → IsStoredKey key → 8 * w.layer < length key → IsLiveTree v tree
     → (height n : ℕ) → IsAtPoint height n v x s → IsAtPoint height (n + 1) (with_node v x.place.node (unlocked (at v x.place.node))) w s
-link_brings v key tree w x s goes at_judge within stored begun height n point =
+link_brings v key tree w x s goes at_judge within stored begun live height n point =
     let k = x.place.node in
     let few : HasMade Judge height n v x s = few_at height n v x s Judge at_judge point in
     let below = below_at height n v x s Judge at_judge (λ grown. grown) point in
     let reaches : 8 * (x.layer + 1) < length key = subst (λ (y : Walk). 8 * y.layer < length key) goes begun in
     subst (λ (y : Walk). IsAtPoint height (n + 1) (with_node v k (unlocked (at v k))) y s) (sym goes) (point_at height (n + 1) _ (walk_into x tree (x.layer + 1)) s Enter refl
-    (λ other. replaced_all v k within (unlocked (at v k)) (λ (m : NodeView). m.level < height) (below k within) below)
-    (next_layer height x.layer n (shallow_below x.layer key stored reaches) (omega (arith, few))))
+    (λ other. replaced_all v k within (unlocked (at v k)) (λ (m : NodeView). m.version.deleted ≡ false → m.level < height) (below k within) below)
+    (inl (live, next_layer height x.layer n (shallow_below x.layer key stored reaches) (omega (arith, few)))))
 
 -- a node that keeps its level keeps all below
-levels_stay : (v arena : ArenaView) (k : ℕ) (m : NodeView) → k < length v.nodes → arena ≡ with_node v k m → m.level ≡ (at v k).level → (height : ℕ)
+levels_stay : (v arena : ArenaView) (k : ℕ) (m : NodeView) → k < length v.nodes → arena ≡ with_node v k m → m.level ≡ (at v k).level
+    → m.version.deleted ≡ (at v k).version.deleted → (height : ℕ)
     → AreBelow v height → AreBelow arena height
-levels_stay v arena k m within is same height below = subst (λ (a : ArenaView). AreBelow a height) (sym is)
-    (replaced_all v k within m (λ (x : NodeView). x.level < height) (subst (λ (l : ℕ). l < height) (sym same) (below k within)) below)
+levels_stay v arena k m within is same alike height below = subst (λ (a : ArenaView). AreBelow a height) (sym is)
+    (replaced_all v k within m (λ (x : NodeView). x.version.deleted ≡ false → x.level < height)
+    (λ live. subst (λ (l : ℕ). l < height) (sym same) (below k within (sym alike ∙ live))) below)
 
 -- of one that has placed its change, or found its quota full: nothing is split
 place_brings : (v arena : ArenaView) (w x : Walk) (s : Splits) (p : Phase) → x.phase ≡ p → w ≡ walk_placed x → s.halves.items ≡ []
@@ -162,6 +176,26 @@ pub told_some : (c now : Core) (o : ℕ) → c ≡ now → ((op : Operation) →
     → operation_at c.table o ≡ Some x → x.outcome ≢ None
 told_some c now o is told x there = told x (ap (λ (v : Core). operation_at v.table o) (sym is) ∙ there)
 
+-- where an operation goes that follows a link, whether it was told something or not
+judges_link : (told : Option Outcome) → {n : NodeView} → {key : Bytes} → {w x : Walk} → JudgesLink n key w x → JudgesBy told n key w x
+judges_link None goes = inr (inr (inl goes))
+judges_link (Some told) goes = inl goes
+
+-- and one that was told nothing
+pub judges_none : {told : Option Outcome} → told ≡ None → {n : NodeView} → {key : Bytes} → {w x : Walk} → JudgesBy None n key w x → JudgesBy told n key w x
+judges_none {told} untold {n} {key} {w} {x} goes = subst (λ (t : Option Outcome). JudgesBy t n key w x) (sym untold) goes
+
+-- an operation that judges, and removes nothing, puts
+put_of : (r : Request) → is_remove (command_of r) ≡ false → not (is_get (command_of r)) ≡ true → is_put (command_of r) ≡ true
+put_of (GetOf key columns) stays writes = absurd (cc)
+put_of (PutOf key change) stays writes = refl
+put_of (RemoveOf key) stays writes = absurd (cc)
+
+pub judged_put : (c : Core) (o : ℕ) → StateInvariant c → (x : Operation) → operation_at c.table o ≡ Some x → x.walk.phase ≡ Judge → is_remove (ask x.task) ≡ false
+    → is_put (ask x.task) ≡ true
+judged_put c o h x there at_judge stays =
+    let always = (h.ops o x there).always in put_of x.task.request stays (sym always.writes ∙ subst (λ (p : Phase). IsOfKind p x.walk.writes) at_judge always.kind)
+
 module _ (c now : Core) (o : ℕ) (is : c ≡ now) (h : StateInvariant c) where
   -- the operation that is to make its step, at its phase
   standing : (p : Phase) → IsNext now o (λ q. q ≡ p) → IsNext c o (λ q. q ≡ p)
@@ -172,16 +206,16 @@ module _ (c now : Core) (o : ℕ) (is : c ≡ now) (h : StateInvariant c) where
   may_step p left next = let s = standing p next in may_move c o h s.0 s.1 (ap is_done s.2 ∙ left)
 
   -- a step that moves the operation brings it on, by the point to which its walk came
-  nears_made : (x after : Operation) → operation_at c.table o ≡ Some x → (arena : ArenaView) (tape : Kept) (accounts : Accounts) (table : Table)
+  nears_made : (x after : Operation) → operation_at c.table o ≡ Some x → after.task ≡ x.task → (arena : ArenaView) (tape : Kept) (accounts : Accounts) (table : Table)
       → IsOver c.table table o after → Guarantee o c.arena arena
       → ((height n : ℕ) → IsAtPoint height n c.arena x.walk x.splits → IsAtPoint height (n + 1) arena after.walk after.splits)
       → Nears now (made c arena tape accounts table) o Moved
-  nears_made x after there arena tape accounts table over guarantee brings = subst (λ (v : Core). Nears v (made c arena tape accounts table) o Moved) is
-      (nears_by c (made c arena tape accounts table) o x after there over.there guarantee brings)
+  nears_made x after there asked arena tape accounts table over guarantee brings = subst (λ (v : Core). Nears v (made c arena tape accounts table) o Moved) is
+      (nears_by c (made c arena tape accounts table) o x after there over.there guarantee asked brings)
 
   -- what is told of it, and that
   steps_on : (new : Core) → Gives (shown now) new o false → Nears now new o Moved → Leads (shown now) (shown new) o
-      → StateInvariant new × StepsOn now new o Moved
+      → IsSound new × StepsOn now new o Moved
   steps_on new g nears leads = (g.0, record { tells = g.1; nears = nears; leads = leads })
 
   -- another operation holds the border node that is to be locked
@@ -215,116 +249,117 @@ module _ (c now : Core) (o : ℕ) (is : c ≡ now) (h : StateInvariant c) where
         (subst (λ (t : Kept). Gives (shown c) (made c from t c.accounts (set c.table o (Some after))) o false) (sym keeps) g)))
 
     -- a lock that was taken, or not because the node was deleted or split
-    pub lock_made : IsNext now o (λ q. q ≡ Lock) → (x : Operation) → operation_at c.table o ≡ Some x → (arena : ArenaView) (w : Walk) (table : Table)
+    pub lock_made : IsNext now o (λ q. q ≡ Lock) → (x : Operation) → operation_at c.table o ≡ Some x → x.outcome ≡ None → (arena : ArenaView) (w : Walk) (table : Table)
         → IsLock o x.task.key c.arena arena x.walk w → Writes c.table table o (λ y. moved y (c.steps + 1) w)
-        → StateInvariant (made c arena c.tape c.accounts table) × StepsOn now (made c arena c.tape c.accounts table) o Moved
-    lock_made next x there arena w table t writes =
+        → IsSound (made c arena c.tape c.accounts table) × StepsOn now (made c arena c.tape c.accounts table) o Moved
+    lock_made next x there untold arena w table t writes =
         let at_lock = phase_is c now o (λ q. q ≡ Lock) is x there next in
-        let within = (lock_kept c o h x there at_lock).covers.remembered.there in
+        let remembered = (lock_kept c o h x there at_lock).covers.remembered in
         let after = moved x (c.steps + 1) w in
         let over = over_first c.table table o (λ y. moved y (c.steps + 1) w) x there writes in
         steps_on (made c arena c.tape c.accounts table)
         (subst (λ (all : Table). Gives (shown now) (made c arena c.tape c.accounts all) o false) (sym over.is)
         (lock_done c (shown now) o (ap shown is) h few x there at_lock arena w t))
-        (nears_made x after there arena c.tape c.accounts table over t.keeps.guarantee
-        (λ height n point. point_first height (n + 1) arena w x.splits after.walk.first (lock_brings o c.arena arena w x.walk x.splits t.locks at_lock within (h.unremoved.live x.walk.place.node within) height n point)))
-        (leads_over c o h x there Lock at_lock now is arena c.tape c.accounts table after over w (t.free, t.locks) refl)
+        (nears_made x after there refl arena c.tape c.accounts table over t.keeps.guarantee
+        (λ height n point. point_first height (n + 1) arena w x.splits after.walk.first (lock_brings o c.arena arena w x.walk x.splits t.locks at_lock remembered.there remembered.undeleted height n point)))
+        (leads_over c o h x there Lock at_lock now is arena c.tape c.accounts table after over w (t.free, subst (λ (told : Option Outcome). LocksBy told o c.arena arena x.removal x.walk w) (sym untold) t.locks) refl)
 
     -- a lock that was given back
-    pub unlock_made : IsNext now o (λ q. q ≡ Unlock) → (x : Operation) → operation_at c.table o ≡ Some x → x.outcome ≢ None
+    pub unlock_made : IsNext now o (λ q. q ≡ Unlock) → (x : Operation) → operation_at c.table o ≡ Some x → is_remove (ask x.task) ≡ false → x.outcome ≢ None
         → x.splits.halves.items ≡ [] → (arena : ArenaView) (w : Walk) (table : Table) → IsUnlock o c.arena arena x.walk w
         → Writes c.table table o (λ y. moved y (c.steps + 1) w)
         → Gives (shown now) (made c arena c.tape c.accounts table) o true
-    unlock_made next x there told none arena w table t writes =
+    unlock_made next x there stays told none arena w table t writes =
         subst (λ (all : Table). Gives (shown now) (made c arena c.tape c.accounts all) o true) (sym (writes x there))
-        (unlock_done c (shown now) o (ap shown is) h few x there (phase_is c now o (λ q. q ≡ Unlock) is x there next) told none arena w t)
+        (unlock_done c (shown now) o (ap shown is) h few x there (phase_is c now o (λ q. q ≡ Unlock) is x there next) stays told none arena w t)
 
-    pub unlock_leads : IsNext now o (λ q. q ≡ Unlock) → (x : Operation) → operation_at c.table o ≡ Some x → x.outcome ≢ None
+    pub unlock_leads : IsNext now o (λ q. q ≡ Unlock) → (x : Operation) → operation_at c.table o ≡ Some x → is_remove (ask x.task) ≡ false → x.outcome ≢ None
         → (arena : ArenaView) (w : Walk) (table : Table) → IsUnlock o c.arena arena x.walk w → Writes c.table table o (λ y. moved y (c.steps + 1) w)
         → Leads (shown now) (shown (made c arena c.tape c.accounts table)) o
-    unlock_leads next x there told arena w table t writes =
+    unlock_leads next x there stays told arena w table t writes =
         leads_over c o h x there Unlock (phase_is c now o (λ q. q ≡ Unlock) is x there next) now is arena c.tape c.accounts table _ (over_first c.table table o (λ y. moved y (c.steps + 1) w) x there writes) w
-        (done_from x.outcome x.walk w told t.walk) refl
+        (done_from x.outcome c.arena (splits_of x.splits) x.removal x.walk w told (inr ((h.ops o x there).always.light stays)) t.walk) refl
 
     -- all that was made ready
-    pub ready_made : IsNext now o (λ q. q ≡ Judge) → (x : Operation) → operation_at c.table o ≡ Some x
+    pub ready_made : IsNext now o (λ q. q ≡ Judge) → (x : Operation) → operation_at c.table o ≡ Some x → x.outcome ≡ None → is_put (ask x.task) ≡ true
         → (arena : ArenaView) (tape : Kept) (w : Walk) (prepared : Prepared) (mid table : Table)
         → IsMadeReady o x.task c.arena arena c.tape tape x.walk w prepared
         → Writes c.table mid o (λ y. moved y (c.steps + 1) w) → Writes mid table o (λ y. made_ready y prepared)
-        → StateInvariant (made c arena tape c.accounts table) × StepsOn now (made c arena tape c.accounts table) o Moved
-    ready_made next x there arena tape w prepared mid table t moves readies =
+        → IsSound (made c arena tape c.accounts table) × StepsOn now (made c arena tape c.accounts table) o Moved
+    ready_made next x there untold put arena tape w prepared mid table t moves readies =
         let at_judge = phase_is c now o (λ q. q ≡ Judge) is x there next in
         let after = made_ready (moved x (c.steps + 1) w) prepared in
         let over = over_next c.table mid table o (λ y. made_ready y prepared) (moved x (c.steps + 1) w) (over_first c.table mid o (λ y. moved y (c.steps + 1) w) x there moves) readies in
         steps_on (made c arena tape c.accounts table)
         (subst (λ (all : Table). Gives (shown now) (made c arena tape c.accounts all) o false) (sym over.is)
-        (judge_ready c (shown now) o (ap shown is) h few x there at_judge arena tape w prepared t))
-        (nears_made x after there arena tape c.accounts table over t.keeps.guarantee
+        (judge_ready c (shown now) o (ap shown is) h few x there at_judge untold put arena tape w prepared t))
+        (nears_made x after there refl arena tape c.accounts table over t.keeps.guarantee
         (λ height n point. point_first height (n + 1) arena w x.splits after.walk.first
         (subst (λ (v : ArenaView). IsAtPoint height (n + 1) v w x.splits) (sym t.stays) (judge_brings c.arena (at c.arena x.walk.place.node) t.slot w x.walk x.splits t.walk at_judge height n point))))
-        (leads_over c o h x there Judge at_judge now is arena tape c.accounts table after over w (inl (record { slot = t.slot; stands = t.stands; goes = t.walk })) refl)
+        (leads_over c o h x there Judge at_judge now is arena tape c.accounts table after over w (judges_none untold (inl (record { slot = t.slot; stands = t.stands; goes = t.walk }))) refl)
 
     -- another long key in the key's place
-    meets_made : IsNext now o (λ q. q ≡ Judge) → (x : Operation) → operation_at c.table o ≡ Some x
+    meets_made : IsNext now o (λ q. q ≡ Judge) → (x : Operation) → operation_at c.table o ≡ Some x → x.outcome ≡ None
         → (arena : ArenaView) (tape : Kept) (w : Walk) (table : Table) → tape ≡ c.tape → MeetsOther o x.task.key c.arena arena x.walk w
         → Writes c.table table o (λ y. moved y (c.steps + 1) w)
-        → StateInvariant (made c arena tape c.accounts table) × StepsOn now (made c arena tape c.accounts table) o Moved
-    meets_made next x there arena tape w table keeps t writes =
+        → IsSound (made c arena tape c.accounts table) × StepsOn now (made c arena tape c.accounts table) o Moved
+    meets_made next x there untold arena tape w table keeps t writes =
         let at_judge = phase_is c now o (λ q. q ≡ Judge) is x there next in
         let after = moved x (c.steps + 1) w in
         let over = over_first c.table table o (λ y. moved y (c.steps + 1) w) x there writes in
         steps_on (made c arena tape c.accounts table)
-        (gives_on x arena tape w table over arena refl keeps (meet_done c o h few_inside x there at_judge arena w t))
-        (nears_made x after there arena tape c.accounts table over t.keeps.guarantee
+        (gives_on x arena tape w table over arena refl keeps (meet_done c o h few_inside x there at_judge untold arena w t))
+        (nears_made x after there refl arena tape c.accounts table over t.keeps.guarantee
         (λ height n point. point_first height (n + 1) arena w x.splits after.walk.first
         (subst (λ (v : ArenaView). IsAtPoint height (n + 1) v w x.splits) (sym t.stays) (meet_brings c.arena t.slot w x.walk x.splits t.walk at_judge height n point))))
-        (leads_over c o h x there Judge at_judge now is arena tape c.accounts table after over w (inr (inl (record { slot = t.slot; stands = stands; goes = t.walk }))) refl)
+        (leads_over c o h x there Judge at_judge now is arena tape c.accounts table after over w (judges_none untold (inr (inl (record { slot = t.slot; stands = stands; goes = t.walk })))) refl)
       where
         stands : IsInSlot (at c.arena x.walk.place.node) t.slot x.task.key x.walk.layer OtherLong
         stands = subst (λ (y : Walk). IsInSlot (at c.arena y.place.node) y.slot x.task.key y.layer OtherLong) t.walk t.kept.in_slot
 
     -- a link that leads on
-    link_made : IsNext now o (λ q. q ≡ Judge) → (x : Operation) → operation_at c.table o ≡ Some x
+    pub link_made : IsNext now o (λ q. q ≡ Judge) → IsArena c.arena.nodes c.arena.trees → (x : Operation) → operation_at c.table o ≡ Some x
         → (arena : ArenaView) (tape : Kept) (w : Walk) (table : Table) → tape ≡ c.tape
         → MeetsLink o x.task.key c.arena arena x.walk w → Writes c.table table o (λ y. moved y (c.steps + 1) w)
-        → StateInvariant (made c arena tape c.accounts table) × StepsOn now (made c arena tape c.accounts table) o Moved
-    link_made next x there arena tape w table keeps t writes =
+        → IsSound (made c arena tape c.accounts table) × StepsOn now (made c arena tape c.accounts table) o Moved
+    link_made next is_arena x there arena tape w table keeps t writes =
         let at_judge = phase_is c now o (λ q. q ≡ Judge) is x there next in
-        let within = (judge_kept c o h x there at_judge).judged.held.there in
+        let judged = (judge_kept c o h x there at_judge).judged in
+        let live = leads c.arena.nodes c.arena.trees is_arena x.walk.place.node t.slot t.tree (record { there = judged.held.there; live = judged.stands.live; in_range = t.in_slot.in_range; is = t.leads }) in
         let stored = (h.ops o x there).always.stored in
         let after = moved x (c.steps + 1) w in
         let over = over_first c.table table o (λ y. moved y (c.steps + 1) w) x there writes in
         steps_on (made c arena tape c.accounts table)
         (gives_on x arena tape w table over arena refl keeps (below_done c o h few_inside x there at_judge arena w t))
-        (nears_made x after there arena tape c.accounts table over t.goes.keeps.guarantee
+        (nears_made x after there refl arena tape c.accounts table over t.goes.keeps.guarantee
         (λ height n point. point_first height (n + 1) arena w x.splits after.walk.first
-        (subst (λ (v : ArenaView). IsAtPoint height (n + 1) v w x.splits) (sym t.goes.is) (link_brings c.arena x.task.key t.tree w x.walk x.splits t.goes.walk at_judge within stored t.kept.begun height n point))))
-        (leads_over c o h x there Judge at_judge now is arena tape c.accounts table after over w (inr (inr (inl (record { slot = t.slot; stands = t.in_slot; tree = t.tree; leads = t.leads; goes = t.goes.walk })))) refl)
+        (subst (λ (v : ArenaView). IsAtPoint height (n + 1) v w x.splits) (sym t.goes.is) (link_brings c.arena x.task.key t.tree w x.walk x.splits t.goes.walk at_judge judged.held.there stored t.kept.begun live.live height n point))))
+        (leads_over c o h x there Judge at_judge now is arena tape c.accounts table after over w (judges_link x.outcome (record { slot = t.slot; stands = t.in_slot; tree = t.tree; leads = t.leads; goes = t.goes.walk })) refl)
 
     -- either of them: it goes on
-    pub on_made : IsNext now o (λ q. q ≡ Judge) → (x : Operation) → operation_at c.table o ≡ Some x
+    pub on_made : IsNext now o (λ q. q ≡ Judge) → IsArena c.arena.nodes c.arena.trees → (x : Operation) → operation_at c.table o ≡ Some x → x.outcome ≡ None
         → (arena : ArenaView) (tape : Kept) (w : Walk) (table : Table) → tape ≡ c.tape
         → MeetsOther o x.task.key c.arena arena x.walk w ⊎ MeetsLink o x.task.key c.arena arena x.walk w → Writes c.table table o (λ y. moved y (c.steps + 1) w)
-        → StateInvariant (made c arena tape c.accounts table) × StepsOn now (made c arena tape c.accounts table) o Moved
-    on_made next x there arena tape w table keeps (inl t) writes = meets_made next x there arena tape w table keeps t writes
-    on_made next x there arena tape w table keeps (inr t) writes = link_made next x there arena tape w table keeps t writes
+        → IsSound (made c arena tape c.accounts table) × StepsOn now (made c arena tape c.accounts table) o Moved
+    on_made next is_arena x there untold arena tape w table keeps (inl t) writes = meets_made next x there untold arena tape w table keeps t writes
+    on_made next is_arena x there untold arena tape w table keeps (inr t) writes = link_made next is_arena x there arena tape w table keeps t writes
 
     -- no memory for it
-    pub refused_made : IsNext now o (λ q. q ≡ Judge) → (x : Operation) → operation_at c.table o ≡ Some x
+    pub refused_made : IsNext now o (λ q. q ≡ Judge) → (x : Operation) → operation_at c.table o ≡ Some x → x.outcome ≡ None
         → (arena : ArenaView) (tape : Kept) (w : Walk) (told : Outcome) (table : Table) → tape ≡ c.tape → IsUnlock o c.arena arena x.walk w
         → told ≡ record { reply = NoMemory; at = c.steps + 1 } → Writes c.table table o (λ y. noted (moved y (c.steps + 1) w) (Some told))
         → Gives (shown now) (made c arena tape c.accounts table) o true
-    refused_made next x there arena tape w told table keeps t says moves =
+    refused_made next x there untold arena tape w told table keeps t says moves =
         subst (λ (all : Table). Gives (shown now) (made c arena tape c.accounts all) o true) (sym (moves x there))
         (subst (λ (r : Outcome). Gives (shown now) (made c arena tape c.accounts (set c.table o (Some (noted (moved x (c.steps + 1) w) (Some r))))) o true) (sym says)
-        (judge_refused c (shown now) o (ap shown is) h few x there (phase_is c now o (λ q. q ≡ Judge) is x there next) arena tape w keeps t))
+        (judge_refused c (shown now) o (ap shown is) h few x there (phase_is c now o (λ q. q ≡ Judge) is x there next) untold arena tape w keeps t))
 
-    pub refused_leads : IsNext now o (λ q. q ≡ Judge) → (x : Operation) → operation_at c.table o ≡ Some x
+    pub refused_leads : IsNext now o (λ q. q ≡ Judge) → (x : Operation) → operation_at c.table o ≡ Some x → x.outcome ≡ None
         → (arena : ArenaView) (tape : Kept) (w : Walk) (told : Outcome) (table : Table) → IsUnlock o c.arena arena x.walk w
         → Writes c.table table o (λ y. noted (moved y (c.steps + 1) w) (Some told)) → Leads (shown now) (shown (made c arena tape c.accounts table)) o
-    refused_leads next x there arena tape w told table t writes =
+    refused_leads next x there untold arena tape w told table t writes =
         leads_over c o h x there Judge (phase_is c now o (λ q. q ≡ Judge) is x there next) now is arena tape c.accounts table _ (over_first c.table table o (λ y. noted (moved y (c.steps + 1) w) (Some told)) x there writes) w
-        (inr (inr (inr t.walk))) refl
+        (judges_none untold (inr (inr (inr (inr t.walk))))) refl
 
   -- what taking out what an operation has ready ensures
   abbrev TakesOut : Table → Prepared → Type 0
@@ -381,7 +416,7 @@ module _ (c now : Core) (o : ℕ) (is : c ≡ now) (h : StateInvariant c) where
         → Nears now (made c arena tape accounts last) o Moved
     nears_placed arena tape accounts w told last moves guarantee goes none other stays least =
         let after = noted (moved (with_nothing_ready op) (c.steps + 1) w) told in
-        nears_made op after there arena tape accounts last (over_last w told last moves) guarantee
+        nears_made op after there refl arena tape accounts last (over_last w told last moves) guarantee
         (λ height n point. point_first height (n + 1) arena w op.splits after.walk.first (place_brings c.arena arena w op.walk op.splits p (standing p next).2 goes (unsplit none) other stays least height n point))
 
     -- whichever operation is found at the id then
@@ -389,7 +424,7 @@ module _ (c now : Core) (o : ℕ) (is : c ≡ now) (h : StateInvariant c) where
       it_is : with_nothing_ready op ≡ x
       it_is = opened c.table table o (with_nothing_ready op) x over there_x
 
-      pub put_is : IsOfWrites p → IsPut x.task
+      pub put_is : IsOfPut p → IsPut x.task
       put_is writes = subst (λ (y : Operation). IsPut y.task) it_is (put_at c o h op there p (standing p next).2 writes)
 
   -- the room on the tape is there
@@ -406,7 +441,7 @@ module _ (c now : Core) (o : ℕ) (is : c ≡ now) (h : StateInvariant c) where
     pub store_made : (few : now.steps < 2 ^ 59) (arena : ArenaView) (tape : Kept) (w : Walk) (before : Columns) (told : Outcome) (last : Table)
         → IsArena c.arena.nodes c.arena.trees → IsStore o (c.steps + 1) x.task prepared.row c.arena arena c.tape tape x.walk w before
         → told ≡ record { reply = Replaced; at = c.steps + 1 } → Writes table last o (λ y. noted (moved y (c.steps + 1) w) (Some told))
-        → StateInvariant (made c arena tape c.accounts last) × StepsOn now (made c arena tape c.accounts last) o Moved
+        → IsSound (made c arena tape c.accounts last) × StepsOn now (made c arena tape c.accounts last) o Moved
     store_made few arena tape w before told last is_arena stores says moves =
         let s = standing Store next in
         let y = with_nothing_ready s.0 in
@@ -419,7 +454,7 @@ module _ (c now : Core) (o : ℕ) (is : c ≡ now) (h : StateInvariant c) where
         (subst (λ (r : Outcome). Gives (shown now) (made c arena tape c.accounts (set c.table o (Some (noted (f y) (Some r))))) o false) (sym says)
         (store_done c (shown now) o (ap shown is) h few s.0 s.1 (put_at c o h s.0 s.1 Store s.2 tt) s.2 arena tape w prepared.row before is_arena st)))
         (nears_placed Store next table prepared takes arena tape c.accounts w (Some told) last moves st.guarantee st.walk refl (λ grown. grown)
-        (levels_stay c.arena arena s.0.walk.place.node _ sk.holds.judged.held.there (st.is sk.pair sk.stable) refl) (λ height n point. let few = few_at height n c.arena s.0.walk s.0.splits Store s.2 point in omega (arith, few)))
+        (levels_stay c.arena arena s.0.walk.place.node _ sk.holds.judged.held.there (st.is sk.pair sk.stable) refl refl) (λ height n point. let few = few_at height n c.arena s.0.walk s.0.splits Store s.2 point in omega (arith, few)))
         (leads_over c o h s.0 s.1 Store s.2 now is arena tape c.accounts last _ (over_last Store next table prepared takes w (Some told) last moves) w st.walk refl)
 
   module _ (next : IsNext now o (λ q. q ≡ Publish)) (table : Table) (prepared : Prepared) (takes : TakesOut table prepared) (x : Operation) (there_x : operation_at table o ≡ Some x) where
@@ -432,7 +467,7 @@ module _ (c now : Core) (o : ℕ) (is : c ≡ now) (h : StateInvariant c) where
       by_outcome : (reply : Reply) → told ≡ record { reply = reply; at = c.steps + 1 } → Guarantee o c.arena arena
           → w ≡ walk_placed (standing Publish next).0.walk → ((height : ℕ) → AreBelow c.arena height → AreBelow arena height)
           → Gives (shown now) (made c arena tape accounts (set c.table o (Some (noted (moved (with_nothing_ready (standing Publish next).0) (c.steps + 1) w) (Some (record { reply = reply; at = c.steps + 1 })))))) o false
-          → StateInvariant (made c arena tape accounts last) × StepsOn now (made c arena tape accounts last) o Moved
+          → IsSound (made c arena tape accounts last) × StepsOn now (made c arena tape accounts last) o Moved
       by_outcome reply says guarantee goes stays gives =
           let s = standing Publish next in
           let f : Operation → Operation = λ z. moved z (c.steps + 1) w in
@@ -446,19 +481,19 @@ module _ (c now : Core) (o : ℕ) (is : c ≡ now) (h : StateInvariant c) where
       pub publish_made : IsArena c.arena.nodes c.arena.trees
           → IsPublish o (c.steps + 1) x.task prepared.row c.arena arena c.tape tape c.accounts accounts x.walk w
           → told ≡ record { reply = New; at = c.steps + 1 }
-          → StateInvariant (made c arena tape accounts last) × StepsOn now (made c arena tape accounts last) o Moved
+          → IsSound (made c arena tape accounts last) × StepsOn now (made c arena tape accounts last) o Moved
       publish_made is_arena publishes says =
           let s = standing Publish next in
           let back = sym (it_is Publish next table prepared takes x there_x) in
           let pb = subst (λ (z : Operation). IsPublish o (c.steps + 1) z.task prepared.row c.arena arena c.tape tape c.accounts accounts z.walk w) back publishes in
           let pk = publish_kept c o h s.0 s.1 s.2 prepared (has Publish next table prepared takes) in
           by_outcome New says pb.guarantee pb.walk
-          (levels_stay c.arena arena s.0.walk.place.node _ pk.holds.judged.held.there pb.is refl)
+          (levels_stay c.arena arena s.0.walk.place.node _ pk.holds.judged.held.there pb.is refl refl)
           (publish_done c (shown now) o (ap shown is) h few s.0 s.1 (put_at c o h s.0 s.1 Publish s.2 tt) s.2 arena tape accounts w prepared.row is_arena pb)
 
       -- a quota that had no room
       pub full_made : IsPublishFull o x.task c.arena arena c.tape tape c.accounts accounts x.walk w → told ≡ record { reply = Full; at = c.steps + 1 }
-          → StateInvariant (made c arena tape accounts last) × StepsOn now (made c arena tape accounts last) o Moved
+          → IsSound (made c arena tape accounts last) × StepsOn now (made c arena tape accounts last) o Moved
       full_made full says =
           let s = standing Publish next in
           let ff = subst (λ (z : Operation). IsPublishFull o z.task c.arena arena c.tape tape c.accounts accounts z.walk w) (sym (it_is Publish next table prepared takes x there_x)) full in

@@ -48,7 +48,7 @@ use Rattle.mt_core.specs.Nexts.{ending}
 use Rattle.mt_core.specs.Looks.{Looks, LooksAt, MayDescend, MayLook, led_to, TellsDescended, TellsSearched, TellsLoaded, TellsConfirmed}
 use Rattle.mt_core.specs.Points.{IsAtPoint, Nears, StepsOn}
 use Rattle.mt_core.proofs.Points.{point_first, nears_by}
-use Rattle.mt_core.proofs.Following.{IsOver, holder_open, in_the_way}
+use Rattle.mt_core.proofs.Following.{IsSound, IsOver, holder_open, in_the_way}
 use Rattle.mt_core.proofs.Leading.{leads_over}
 use Rattle.mt_core.proofs.LookPoints.{search_nears, load_nears, confirm_nears}
 
@@ -99,17 +99,17 @@ stepped c table = record c { steps = c.steps + 1; table = table }
 
 module _ (c now : Core) (o : ℕ) (is : c ≡ now) (h : StateInvariant c) (room : now.steps < 2 ^ 59) (op : Operation) (there : operation_at c.table o ≡ Some op) where
   -- where another operation is in the way, nothing happens
-  pub blocked : IsFree op.walk.phase → (holder : ℕ) → IsInTheWay c.arena op.walk.phase op.walk (splits_of op.splits) holder → (answer : Move)
+  pub blocked : IsFree op.walk.phase → (holder : ℕ) → IsInTheWay c.arena op.walk.phase op.walk (splits_of op.splits) op.removal holder → (answer : Move)
       → answer ≡ Again holder → StepsOn now now o answer
   blocked free holder way answer again =
-      let held = in_the_way c.arena op.walk.phase op.walk (splits_of op.splits) holder way in
+      let held = in_the_way c.arena op.walk.phase op.walk (splits_of op.splits) op.removal holder way in
       let by = h.holders held.0 holder held.1 held.2 in
       let tells : Tells (shown c) (shown c) o (Again holder) = (
         refl,
         (view_of op, shown_there c.table o op there, free_unfinished op.walk.phase free),
         record {
           other = λ same. holds_nothing c (shown now) o (ap shown is) h room op there free held.0 held.1 (held.2 ∙ ap Some same);
-          unfinished = (view_of by.0, shown_there c.table holder by.0 by.1, holder_open by.0.walk.phase by.0.walk by.0.splits held.0 by.2);
+          unfinished = (view_of by.0, shown_there c.table holder by.0 by.1, holder_open by.0.walk.phase by.0 held.0 by.2);
           op = view_of op;
           there = shown_there c.table o op there;
           holds = way;
@@ -123,7 +123,7 @@ module _ (c now : Core) (o : ℕ) (is : c ≡ now) (h : StateInvariant c) (room 
 
   -- what a step gives that leaves all nodes as they were: the invariant, and what it answers
   abbrev StepGives : Table → Move → Type 0
-  StepGives table answer = StateInvariant (stepped c table) × StepsOn now (stepped c table) o answer
+  StepGives table answer = IsSound (stepped c table) × StepsOn now (stepped c table) o answer
 
   -- the walk comes to the next point
   abbrev BringsOn : Walk → Type 0
@@ -131,7 +131,7 @@ module _ (c now : Core) (o : ℕ) (is : c ≡ now) (h : StateInvariant c) (room 
 
   -- where the table of phases leads it
   abbrev GoesOn : Phase → Walk → Type 0
-  GoesOn p w = LeadsTo p c.arena c.arena o (c.steps + 1) op.task.key op.outcome (splits_of op.splits) op.walk w
+  GoesOn p w = LeadsTo p c.arena c.arena o (c.steps + 1) op.task.key op.outcome (splits_of op.splits) op.removal op.walk w
 
   led_over : (w : Walk) (told : Option Outcome) → IsOver c.table (led w told) o (noted (moved op (c.steps + 1) w) told)
   led_over w told = record { is = refl; there = set_is c.table o (noted (moved op (c.steps + 1) w) told) op there }
@@ -150,7 +150,7 @@ module _ (c now : Core) (o : ℕ) (is : c ≡ now) (h : StateInvariant c) (room 
       nears : Nears c (stepped c (led w told)) o Moved
       nears =
           let after = noted (moved op (c.steps + 1) w) told in
-          nears_by c (stepped c (led w told)) o op after there (set_is c.table o after op there) (nothing_changes o c.arena)
+          nears_by c (stepped c (led w told)) o op after there (set_is c.table o after op there) (nothing_changes o c.arena) refl
           (λ height made point. point_first height (made + 1) c.arena w op.splits after.walk.first (brings height made point))
 
   done_gives : (w : Walk) (told : Option Outcome) → Gives (shown now) (stepped c (led w told)) o true → GoesOn op.walk.phase w → (table : Table)
@@ -207,14 +207,14 @@ module _ (c now : Core) (o : ℕ) (is : c ≡ now) (h : StateInvariant c) (room 
 
   -- who is in the way of a load, and of a confirmation
   pub load_way : op.walk.phase ≡ Load → (holder : ℕ) → IsBlockedAt (at c.arena op.walk.place.node) op.walk.slot holder
-      → IsInTheWay c.arena op.walk.phase op.walk (splits_of op.splits) holder
+      → IsInTheWay c.arena op.walk.phase op.walk (splits_of op.splits) op.removal holder
   load_way at_load holder way =
-      subst (λ (p : Phase). IsInTheWay c.arena p op.walk (splits_of op.splits) holder) (sym at_load) (op.walk.place.node, refl, (load_kept at_load).at_border.covers.remembered.there, way)
+      subst (λ (p : Phase). IsInTheWay c.arena p op.walk (splits_of op.splits) op.removal holder) (sym at_load) (op.walk.place.node, refl, (load_kept at_load).at_border.covers.remembered.there, way)
 
   pub confirm_way : op.walk.phase ≡ Confirm → (holder : ℕ) → IsBlocked (at c.arena op.walk.place.node) holder
-      → IsInTheWay c.arena op.walk.phase op.walk (splits_of op.splits) holder
+      → IsInTheWay c.arena op.walk.phase op.walk (splits_of op.splits) op.removal holder
   confirm_way at_confirm holder way =
-      subst (λ (p : Phase). IsInTheWay c.arena p op.walk (splits_of op.splits) holder) (sym at_confirm) (op.walk.place.node, refl, (confirm_kept at_confirm).covers.remembered.there, way)
+      subst (λ (p : Phase). IsInTheWay c.arena p op.walk (splits_of op.splits) op.removal holder) (sym at_confirm) (op.walk.place.node, refl, (confirm_kept at_confirm).covers.remembered.there, way)
 
   -- a search that found nothing
   pub search_gives_missing : IsArena c.arena.nodes c.arena.trees → (at_search : op.walk.phase ≡ Search) → (w : Walk)
@@ -260,7 +260,7 @@ module _ (c now : Core) (o : ℕ) (is : c ≡ now) (h : StateInvariant c) (room 
       → (table : Table) → table ≡ led w None → StepGives table Moved
   confirm_gives_back at_confirm stable w same confirms kept other =
       moved_gives w None (confirm_back c (shown now) o (ap shown is) h room op there at_confirm w same confirms kept other)
-      (λ height made point. let k = confirming at_confirm in confirm_nears c.arena (past_of c) op.task.key k.0 op.walk w (h.ops o op there).always.stored at_confirm k.1 (h.unremoved.live op.walk.place.node (confirm_kept at_confirm).covers.remembered.there) confirms other height made op.splits point)
+      (λ height made point. let k = confirming at_confirm in confirm_nears c.arena (past_of c) op.task.key k.0 op.walk w (h.ops o op there).always.stored at_confirm k.1 confirms other height made op.splits point)
       (goes_at Confirm at_confirm w (stable, confirms))
 
   -- a load
@@ -280,7 +280,7 @@ module _ (c now : Core) (o : ℕ) (is : c ≡ now) (h : StateInvariant c) (room 
           (moved_gives t.walk after.outcome
           (load_taken c (shown now) o (ap shown is) h room arena op there at_load t.walk t.row after.outcome t.loads shows same_now
           (λ past stamped since. kept_loads c.arena op.task.key op.walk t.walk past t.row arena (load_kept at_load) stamped since t.loads))
-          (λ height made point. load_nears c.arena op.walk t.walk t.walk.taken t.walk.right_at at_load t.loads.is height made op.splits point)
+          (λ height made point. load_nears c.arena op.task.key op.walk t.walk t.row arena (load_kept at_load).at_border at_load t.loads height made op.splits point)
           (goes_at Load at_load t.walk (record { row = t.row; taken = t.walk; loads = t.loads; goes = inl refl }))
           table (e ∙ ap (λ (x : Walk). led x after.outcome) same))
 
@@ -307,7 +307,7 @@ module _ (c now : Core) (o : ℕ) (is : c ≡ now) (h : StateInvariant c) (room 
   pub descent_comes : IsDescent op.walk.phase → Comes (TellsDescended c.arena)
   descent_comes descent after t table e answer ends =
       subst (StepGives table) (sym (ends ∙ way_moves after.walk.phase t.goes.on_way))
-      (descent_gives after.walk descent t.goes t.kept (λ height made point. t.nears height made op.splits point) (t.leads o (c.steps + 1) op.outcome (splits_of op.splits)) table (led_table after after.walk op.outcome t.others table e))
+      (descent_gives after.walk descent t.goes t.kept (λ height made point. t.nears height made op.splits point) (t.leads o (c.steps + 1) op.outcome (splits_of op.splits) op.removal) table (led_table after after.walk op.outcome t.others table e))
 
   -- one that searches
   pub search_comes : IsArena c.arena.nodes c.arena.trees → op.walk.phase ≡ Search → Comes (TellsSearched c.arena (c.steps + 1))
@@ -345,7 +345,7 @@ module _ (c now : Core) (o : ℕ) (is : c ≡ now) (h : StateInvariant c) (room 
 
   -- who is about to look may do so
   may_descend : IsDescent op.walk.phase → MayDescend c.arena op
-  may_descend phase = record { phase = phase; kept = (past_of c, descent_kept phase); unremoved = h.unremoved }
+  may_descend phase = record { phase = phase; kept = (past_of c, descent_kept phase) }
 
   pub may_look : (p : Phase) → op.walk.phase ≡ p → MayLook p c.arena op
   may_look Enter e = may_descend (subst IsDescent (sym e) tt)

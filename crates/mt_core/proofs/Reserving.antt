@@ -71,7 +71,7 @@ module _ (c : Core) (table : Table) where
           λ o op there. let was = h.ops o op (sym (adds.same o) ∙ there) in retained c c.answers c.logs c.tape table o op (own_tape c op was.always) was.always was;
       reserved = h.reserved ∙ sym (same_count table c.table (λ q. ap one_if_prepared (adds.same q)));
       answered = omega (arith, h.answered, same_made (shown_table table) (shown_table c.table) (λ q. ap one_if_made (shown_same q)));
-      unremoved = h.unremoved;
+      deleted = h.deleted;
       few = h.few;
       quotas = h.quotas;
       written = h.written;

@@ -15,7 +15,6 @@ use Rattle.mt_arena.specs.Arena.{ArenaView, content_of}
 use Rattle.mt_operation.specs.declared.outcome.Outcome.{Outcome}
 use Rattle.mt_operation.specs.declared.operation.Operation.{Operation}
 use Rattle.mt_operation.specs.declared.phase.Phase.{Phase}
-use Rattle.mt_operation.specs.declared.phase.Phase.TheVariants as phases
 use Rattle.mt_operation.specs.declared.phase.Phase.TheVariants.{Enter, Load, Confirm, Store, Unlock, Done}
 use Rattle.mt_operation.specs.declared.walk.Walk.{Walk}
 use Rattle.mt_operation.specs.declared.walk.Taken.{Taken}
@@ -27,7 +26,7 @@ use Rattle.mt_descent.specs.KeptWalks.{IsKept, KeptAt}
 use Rattle.mt_descent.proofs.Rely as descent
 use Rattle.mt_state.specs.Views.{Core, shown, past_of, map_of, quota_of, IsPlaced}
 use Rattle.mt_state.specs.Steps.{change_in, told_change}
-use Rattle.mt_state.specs.KeptOperations.{IsOpenOperation, IsOnItsWay, HasAnswer, TellsTaken, IsLayering, IsReturning, IsKeptOf, IsKeptFor, IsReadingAt, IsWritingAt}
+use Rattle.mt_state.specs.KeptOperations.{IsOpenOperation, IsOnItsWay, HasAnswer, TellsTaken, IsLayering, IsReturning, IsKeptOf, IsKeptFor, IsReadingAt, IsWritingAt, IsBound, IsUnlinking}
 use Rattle.mt_state.proofs.Still.{nothing_changes}
 use Rattle.mt_operation.specs.Phases.{Kind, row}
 use Rattle.mt_operation.specs.Phases as kinds
@@ -82,11 +81,16 @@ module _ (c : Core) (o : ℕ) (op : Operation) where
   returned None h m is = absurd (no_change h.layering.untold m is)
   returned (Some told) h m is = answered h.answer m is
 
-  -- one that reads has none, or what it took tells none
-  reading : (p : Phase) → IsReadingAt p c op → (m : ℕ) → change_in (view_of op) ≡ Some m → ⊥
-  reading Load h m is = no_change h.way.untold m is
-  reading Confirm h m is = taken_none h.row op.walk.taken h.tells m is
-  reading _ h m is = no_change h.untold m is
+  -- one that is on its way has made none, or has its answer and goes back
+  bound_since : (told : Option Outcome) → op.outcome ≡ told → IsBound told c op → (m : ℕ) → change_in (view_of op) ≡ Some m → (0 < op.walk.first) × (op.walk.first ≤ m)
+  bound_since None e h m is = absurd (no_change e m is)
+  bound_since (Some told) e h m is = answered h.answer m is
+
+  -- so has one that reads, or what it took tells none
+  reading : (p : Phase) → IsReadingAt p c op → (m : ℕ) → change_in (view_of op) ≡ Some m → (0 < op.walk.first) × (op.walk.first ≤ m)
+  reading Load h m is = bound_since op.outcome refl h.way.bound m is
+  reading Confirm h m is = absurd (taken_none h.row op.walk.taken h.tells m is)
+  reading _ h m is = bound_since op.outcome refl h.bound m is
 
   writing : (p : Phase) → IsWritingAt p c o op → (m : ℕ) → change_in (view_of op) ≡ Some m → ⊥
   writing Store h m is = no_change h.untold m is
@@ -94,15 +98,18 @@ module _ (c : Core) (o : ℕ) (op : Operation) where
 
   -- a change was made by the first step or a later one
   change_since : (of : Kind) (p : Phase) → IsKeptFor of p c o op → (m : ℕ) → change_in (view_of op) ≡ Some m → (0 < op.walk.first) × (op.walk.first ≤ m)
-  change_since kinds.Descends p h m is = absurd (no_change h.untold m is)
-  change_since kinds.Locks p h m is = absurd (no_change h.untold m is)
-  change_since kinds.Reads p h m is = absurd (reading p h m is)
-  change_since kinds.Judges p h m is = absurd (no_change h.untold m is)
+  change_since kinds.Descends p h m is = bound_since op.outcome refl h.bound m is
+  change_since kinds.Locks p h m is = bound_since op.outcome refl h.bound m is
+  change_since kinds.Reads p h m is = reading p h m is
+  change_since kinds.Judges p h m is = bound_since op.outcome refl h.bound m is
   change_since kinds.Writes p h m is = absurd (writing p h m is)
   change_since kinds.Begins p h m is = absurd (no_change h.untold m is)
   change_since kinds.Splits p h m is = absurd (no_change h.untold m is)
   change_since kinds.Climbs p h m is = answered h.answer m is
   change_since kinds.Layers p h m is = absurd (no_change h.untold m is)
+  change_since kinds.Drops p h m is = absurd (no_change h.untold m is)
+  change_since kinds.Unlinks p h m is = answered h.answer m is
+  change_since kinds.Cleans p h m is = answered h.answer m is
   change_since kinds.Returns p h m is = returned op.outcome h m is
   change_since kinds.Ends p h m is = answered h m is
 
@@ -140,11 +147,18 @@ module _ (c : Core) (answers : ℕ) (logs : List ℕ) (tape : Kept) (table : Tab
     unprepared = h.unprepared;
   }
 
+  bound_stays : (told : Option Outcome) → IsBound told c op → IsBound told new op
+  bound_stays None h = h
+  bound_stays (Some told) h = record { removes = h.removes; answer = told_stays h.answer; cleans = h.cleans }
+
+  unlinking_stays : (p : Phase) → IsUnlinking c q op p → IsUnlinking new q op p
+  unlinking_stays p h = record { removes = h.removes; kept = h.kept; answer = told_stays h.answer }
+
   way_stays : IsOnItsWay c op → IsOnItsWay new op
-  way_stays h = record { kept = walk_stays None h.kept; untold = h.untold; unprepared = h.unprepared }
+  way_stays h = record { kept = walk_stays None h.kept; bound = bound_stays op.outcome h.bound; unprepared = h.unprepared }
 
   layering_stays : (p : Phase) → IsLayering c q op p → IsLayering new q op p
-  layering_stays p h = record { makes = h.makes; untold = h.untold; unprepared = h.unprepared }
+  layering_stays p h = record { makes = h.makes; light = h.light; untold = h.untold; unprepared = h.unprepared }
 
   returning_stays : (told : Option Outcome) → IsReturning told c q op → IsReturning told new q op
   returning_stays None h = record { layering = layering_stays Unlock h.layering; unsplit = h.unsplit }
@@ -156,19 +170,22 @@ module _ (c : Core) (answers : ℕ) (logs : List ℕ) (tape : Kept) (table : Tab
   reading_stays _ h = way_stays h
 
   writing_stays : (p : Phase) → IsWritingAt p c q op → IsWritingAt p new q op
-  writing_stays Store h = record { prepared = h.prepared; has = h.has; stores = h.stores; untold = h.untold }
-  writing_stays _ h = record { prepared = h.prepared; has = h.has; publishes = h.publishes; untold = h.untold }
+  writing_stays Store h = record { prepared = h.prepared; has = h.has; stores = h.stores; put = h.put; untold = h.untold }
+  writing_stays _ h = record { prepared = h.prepared; has = h.has; publishes = h.publishes; put = h.put; untold = h.untold }
 
   kept_stays : (of : Kind) (p : Phase) → IsKeptFor of p c q op → IsKeptFor of p new q op
   kept_stays kinds.Descends p h = way_stays h
   kept_stays kinds.Locks p h = way_stays h
   kept_stays kinds.Reads p h = reading_stays p h
-  kept_stays kinds.Judges p h = record { judges = h.judges; untold = h.untold; unprepared = h.unprepared }
+  kept_stays kinds.Judges p h = record { judges = h.judges; bound = bound_stays op.outcome h.bound; unprepared = h.unprepared }
   kept_stays kinds.Writes p h = writing_stays p h
-  kept_stays kinds.Begins p h = record { prepared = h.prepared; has = h.has; starts = h.starts; untold = h.untold }
-  kept_stays kinds.Splits p h = record { prepared = h.prepared; has = h.has; moves = h.moves; untold = h.untold }
+  kept_stays kinds.Begins p h = record { prepared = h.prepared; has = h.has; starts = h.starts; put = h.put; untold = h.untold }
+  kept_stays kinds.Splits p h = record { prepared = h.prepared; has = h.has; moves = h.moves; put = h.put; untold = h.untold }
   kept_stays kinds.Climbs p h = record { climbs = h.climbs; answer = told_stays h.answer }
   kept_stays kinds.Layers p h = layering_stays p h
+  kept_stays kinds.Drops p h = record { prepared = h.prepared; has = h.has; drops = h.drops; removes = h.removes; light = h.light; untold = h.untold }
+  kept_stays kinds.Unlinks p h = unlinking_stays p h
+  kept_stays kinds.Cleans p h = unlinking_stays p h
   kept_stays kinds.Returns p h = returning_stays op.outcome h
   kept_stays kinds.Ends p h = told_stays h
 
@@ -185,6 +202,7 @@ module _ (c : Core) (answers : ℕ) (logs : List ℕ) (tape : Kept) (table : Tab
     floor = t.floor;
     begun = k.begun;
     short = k.short;
+    light = k.light;
   }
 
   -- all that is kept of the operation
@@ -204,6 +222,7 @@ module _ (c : Core) (answers : ℕ) (logs : List ℕ) (tape : Kept) (table : Tab
           tenant = once.tenant;
           key_is = once.key_is;
           makes = once.makes;
+          was = once.was;
         };
   }
 

@@ -33,6 +33,7 @@ module _ (c : Core) (h : StateInvariant c) where
       tenant = once.tenant;
       key_is = once.key_is;
       makes = once.makes;
+      was = once.was;
     };
   }
 
@@ -54,7 +55,7 @@ module _ (c : Core) (h : StateInvariant c) where
     accounts = λ t a there. let counted = h.counts t a there in record { count = counted.0; quota = counted.1 };
     holders = λ k o inside holds.
         let w = h.holders k o inside holds in
-        (view_of w.0, shown_there c.table o w.0 w.1, holder_open w.0.walk.phase w.0.walk w.0.splits k w.2);
+        (view_of w.0, shown_there c.table o w.0 w.1, holder_open w.0.walk.phase w.0 k w.2);
     quotas = h.quotas;
     written = written_inside;
   }

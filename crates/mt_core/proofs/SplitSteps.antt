@@ -16,6 +16,7 @@ use Rattle.mt_arena.specs.Several.{AreHalved}
 use Rattle.mt_arena.specs.Arena.{ArenaView, Guarantee, IsArena}
 use Rattle.mt_arena.specs.Accesses.{IsHeld, at, with_half}
 use Rattle.mt_arena.proofs.Pairs.{last}
+use Rattle.mt_version.specs.Parts.{Parts}
 use Rattle.mt_operation.specs.declared.phase.Phase.{Phase}
 use Rattle.mt_operation.specs.declared.phase.Phase.TheVariants.{SplitMove, SplitStart, Unlock}
 use Rattle.mt_operation.specs.declared.walk.Walk.{Walk}
@@ -25,7 +26,7 @@ use Rattle.mt_operation.specs.declared.task.Task.{Task}
 use Rattle.mt_operation.specs.declared.splits.Halves.{Halves}
 use Rattle.mt_operation.specs.declared.splits.Splits.{Splits}
 use Rattle.mt_operation.specs.declared.operation.Operation.{Operation}
-use Rattle.mt_operation.specs.Operations.{IsUnsplit, moved, noted, with_nothing_ready, with_splits}
+use Rattle.mt_operation.specs.Operations.{IsUnsplit, moved, noted, splits_of, with_nothing_ready, with_splits}
 use Rattle.mt_operation.specs.Phases.{has_splits, is_done}
 use Rattle.mt_operation.specs.Tables.{MayMove, Table, op_at as operation_at}
 use Rattle.mt_insert.specs.Puts.{IsPut}
@@ -52,13 +53,13 @@ use Rattle.mt_core.specs.Nexts.{IsNext}
 use Rattle.mt_core.specs.Points.{AreBelow, HasMade, Nears, StepsOn, above}
 use Rattle.mt_core.proofs.Points.{below_at, few_at, nears_by, point_at, point_first}
 use Rattle.mt_core.proofs.Climbing.{stays_below}
-use Rattle.mt_core.proofs.Following.{IsOver, Writes, made, may_over, next_here, opened, over_first, over_next}
+use Rattle.mt_core.proofs.Following.{IsSound, IsOver, Writes, made, may_over, next_here, opened, over_first, over_next}
 use Rattle.mt_core.proofs.Leading.{done_from, leads_over}
 
 -- no level is new where a right half is made of a node that the operation holds
-half_below : (o : ℕ) (v : ArenaView) (k low : ℕ) → IsHeld v k o → (height : ℕ) → AreBelow v height → AreBelow (with_half v k low o) height
-half_below o v k low held = stays_below o v (with_half v k low o) (begun_leaves o v k low held)
-    (λ j from lt. (k, held.there, ap (λ (n : NodeView). n.level) (pushed_at (set v.nodes k (splitting (at v k))) (fresh_half (at v k) k low o) (length v.nodes) j (length-set v.nodes k (splitting (at v k))) from lt)))
+half_below : (o : ℕ) (v : ArenaView) (k low : ℕ) → IsHeld v k o → (at v k).version.deleted ≡ false → (height : ℕ) → AreBelow v height → AreBelow (with_half v k low o) height
+half_below o v k low held live = stays_below o v (with_half v k low o) (begun_leaves o v k low held)
+    (λ j from lt. (k, held.there, live, ap (λ (n : NodeView). n.level) (pushed_at (set v.nodes k (splitting (at v k))) (fresh_half (at v k) k low o) (length v.nodes) j (length-set v.nodes k (splitting (at v k))) from lt)))
 
 -- where one node is another of its level, each level stays
 level_set : (xs : List NodeView) (i : ℕ) (y : NodeView) → y.level ≡ (node_at xs i).level → (k : ℕ) → (node_at (set xs i y) k).level ≡ (node_at xs k).level
@@ -68,10 +69,18 @@ level_set (x ∷ xs) zero y e (suc k) = refl
 level_set (x ∷ xs) (suc i) y e zero = refl
 level_set (x ∷ xs) (suc i) y e (suc k) = level_set xs i y e k
 
+-- and where it is one of its version, each version
+version_set : (xs : List NodeView) (i : ℕ) (y : NodeView) → y.version ≡ (node_at xs i).version → (k : ℕ) → (node_at (set xs i y) k).version ≡ (node_at xs k).version
+version_set [] i y e k = refl
+version_set (x ∷ xs) zero y e zero = e
+version_set (x ∷ xs) zero y e (suc k) = refl
+version_set (x ∷ xs) (suc i) y e zero = refl
+version_set (x ∷ xs) (suc i) y e (suc k) = version_set xs i y e k
+
 -- so it does where the keys of a node are parted
 halved_below : (all : List Entry) (old new : ArenaView) (left right : ℕ) → AreHalved all old.nodes new.nodes left right → (height : ℕ)
     → AreBelow old height → AreBelow new height
-halved_below all old new left right parted height below k within =
+halved_below all old new left right parted height below k within live =
     let x = node_at old.nodes left in
     let r = node_at old.nodes right in
     let y = left_half x parted.kept r.low right in
@@ -79,7 +88,8 @@ halved_below all old new left right parted height below k within =
     let mid = set old.nodes left y in
     let size : length new.nodes ≡ length old.nodes = ap (λ (xs : List NodeView). length xs) parted.is ∙ length-set mid right z ∙ length-set old.nodes left y in
     let same : (node_at new.nodes k).level ≡ (node_at old.nodes k).level = ap (λ (xs : List NodeView). (node_at xs k).level) parted.is ∙ level_set mid right z (sym (level_set old.nodes left y refl right)) k ∙ level_set old.nodes left y refl k in
-    subst (λ l. l < height) (sym same) (below k (omega (arith, within, size)))
+    let alike : (node_at new.nodes k).version ≡ (node_at old.nodes k).version = ap (λ (xs : List NodeView). (node_at xs k).version) parted.is ∙ version_set mid right z (sym (version_set old.nodes left y refl right)) k ∙ version_set old.nodes left y refl k in
+    subst (λ l. l < height) (sym same) (below k (omega (arith, within, size)) (ap (λ (p : Parts). p.deleted) (sym alike) ∙ live))
 
 -- the number of steps after the keys were parted
 made_parted : (next : Option ℕ) (height made : ℕ) (v : ArenaView) (w : Walk) (s : Splits) → made ≤ above height w + 3 * height + 3
@@ -92,9 +102,9 @@ all_of : (l : List Halves) (v : ArenaView) (o : ℕ) (op : Operation) → l ≢ 
 all_of [] v o op some may = absurd (some refl)
 all_of (x ∷ l) v o op some may = may
 
-last_among : (l : List Halves) (w : Walk) (s : Splits) (k : ℕ) → l ≢ [] → HoldsLast l w s k → IsAmong s k
-last_among [] w s k some holds = absurd (some refl)
-last_among (x ∷ l) w s k some holds = holds
+last_among : (l : List Halves) (op : Operation) (k : ℕ) → l ≢ [] → HoldsLast l op k → IsAmong op.splits k
+last_among [] op k some holds = absurd (some refl)
+last_among (x ∷ l) op k some holds = holds
 
 module _ (c : Core) (o : ℕ) (h : StateInvariant c) (few : c.steps < 2 ^ 59) (op : Operation) (there : operation_at c.table o ≡ Some op) where
   module _ (at_start : op.walk.phase ≡ SplitStart) where
@@ -125,11 +135,11 @@ module _ (c : Core) (o : ℕ) (h : StateInvariant c) (few : c.steps < 2 ^ 59) (o
           let b = begins in
           let after = moved (with_splits (with_splits op s) t) (c.steps + 1) w in
           let moves : w.phase ≡ SplitMove = ap (λ (x : Walk). x.phase) b.walk in
-          nears_by c (made c arena tape c.accounts table) o op after there over.there b.keeps.guarantee (λ height made point.
+          nears_by c (made c arena tape c.accounts table) o op after there over.there b.keeps.guarantee refl (λ height made point.
           let was = few_at height made c.arena op.walk op.splits SplitStart at_start point in
           point_first height (made + 1) arena w t after.walk.first (point_at height (made + 1) arena w t SplitMove moves
           (λ _. subst (λ (v : ArenaView). AreBelow v height) (sym b.is.is)
-          (half_below o c.arena op.walk.place.node b.is.low starting.starts.holds.judged.held height (below_at height made c.arena op.walk op.splits SplitStart at_start (λ grown. grown) point)))
+          (half_below o c.arena op.walk.place.node b.is.low starting.starts.holds.judged.held starting.starts.holds.judged.stands.live height (below_at height made c.arena op.walk op.splits SplitStart at_start (λ grown. grown) point)))
           (subst (λ (x : Walk). HasMade SplitMove height (made + 1) arena x t) (sym b.walk) (omega (arith, was)))))
 
     -- there is no memory for it
@@ -191,7 +201,7 @@ module _ (c : Core) (o : ℕ) (h : StateInvariant c) (few : c.steps < 2 ^ 59) (o
           let next = (at c.arena op.walk.place.node).next in
           let phase : w.phase ≡ after_parting next = ap (λ (x : Walk). x.phase) goes in
           let after = noted (moved (with_nothing_ready op) (c.steps + 1) w) (Some told) in
-          nears_by c (made c arena tape accounts table) o op after there over.there step (λ height made point.
+          nears_by c (made c arena tape accounts table) o op after there over.there step refl (λ height made point.
           point_first height (made + 1) arena w op.splits after.walk.first (point_at height (made + 1) arena w op.splits (after_parting next) phase
           (λ _. halved_below all c.arena arena op.walk.place.node (last_of op.splits).right halved height (below_at height made c.arena op.walk op.splits SplitMove at_move (λ grown. grown) point))
           (subst (λ (x : Walk). HasMade (after_parting next) height (made + 1) arena x op.splits) (sym goes)
@@ -224,10 +234,10 @@ module _ (c now : Core) (o : ℕ) (is : c ≡ now) (h : StateInvariant c) (few :
   standing p next = next_here c now o (λ q. q ≡ p) is next
 
   -- a step that moves the operation, and one that ends it
-  moves_on : (new : Core) → Gives (shown c) new o false → Nears c new o Moved → Leads (shown c) (shown new) o → StateInvariant new × StepsOn now new o Moved
+  moves_on : (new : Core) → Gives (shown c) new o false → Nears c new o Moved → Leads (shown c) (shown new) o → IsSound new × StepsOn now new o Moved
   moves_on new gives nears leads = (gives.0, subst (λ (v : Core). StepsOn v new o Moved) is (record { tells = gives.1; nears = nears; leads = leads }))
 
-  ends_it : (new : Core) → Gives (shown c) new o true → Leads (shown c) (shown new) o → StateInvariant new × StepsOn now new o DoneMove
+  ends_it : (new : Core) → Gives (shown c) new o true → Leads (shown c) (shown new) o → IsSound new × StepsOn now new o DoneMove
   ends_it new gives leads = (gives.0, subst (λ (v : Core). StepsOn v new o DoneMove) is (record { tells = gives.1; nears = tt; leads = leads }))
 
   -- where its splits were taken out, for others
@@ -274,7 +284,7 @@ module _ (c now : Core) (o : ℕ) (is : c ≡ now) (h : StateInvariant c) (few :
         -- the right half was made
         pub start_steps : (was : Splits) → ((x : Operation) → operation_at c.table o ≡ Some x → was ≡ x.splits)
             → IsSplitStart o y.task.key c.arena arena c.tape tape y.walk w was t → (last : Table) → Writes mid last o (λ x. moved x (c.steps + 1) w)
-            → StateInvariant (made c arena tape c.accounts last) × StepsOn now (made c arena tape c.accounts last) o Moved
+            → IsSound (made c arena tape c.accounts last) × StepsOn now (made c arena tape c.accounts last) o Moved
         start_steps was came starts last moves =
             let n = standing SplitStart next in
             let opens = opened_after SplitStart next table s takes y there_y in
@@ -296,7 +306,7 @@ module _ (c now : Core) (o : ℕ) (is : c ≡ now) (h : StateInvariant c) (few :
           pub start_stops : IsSplitStopped o c.arena arena c.tape tape y.walk w t → (told : Outcome)
               → told ≡ record { reply = NoMemory; at = c.steps + 1 } → (last : Table)
               → Writes bare last o (λ x. noted (moved x (c.steps + 1) w) (Some told))
-              → StateInvariant (made c arena tape c.accounts last) × StepsOn now (made c arena tape c.accounts last) o DoneMove
+              → IsSound (made c arena tape c.accounts last) × StepsOn now (made c arena tape c.accounts last) o DoneMove
           start_stops stops told says last moves =
               let n = standing SplitStart next in
               let opens = opened_after SplitStart next table s takes y there_y in
@@ -349,7 +359,7 @@ module _ (c now : Core) (o : ℕ) (is : c ≡ now) (h : StateInvariant c) (few :
           pub move_with : IsArena c.arena.nodes c.arena.trees
               → IsSplitMove o (c.steps + 1) y.task prepared.row c.arena arena c.tape tape c.accounts accounts y.walk w y.splits
               → told ≡ record { reply = New; at = c.steps + 1 }
-              → StateInvariant (made c arena tape accounts last) × StepsOn now (made c arena tape accounts last) o Moved
+              → IsSound (made c arena tape accounts last) × StepsOn now (made c arena tape accounts last) o Moved
           move_with is_arena parts says =
               let n = standing SplitMove next in
               moves_on (made c arena tape accounts last) (parts_with c o h few_here n.0 n.1 n.2 arena tape accounts w y opened_move told last over_parted is_arena prepared.row parts says)
@@ -359,7 +369,7 @@ module _ (c now : Core) (o : ℕ) (is : c ≡ now) (h : StateInvariant c) (few :
           -- and without it
           pub move_without : IsSplitMoveFull o y.task c.arena arena c.tape tape c.accounts accounts y.walk w y.splits
               → told ≡ record { reply = Full; at = c.steps + 1 }
-              → StateInvariant (made c arena tape accounts last) × StepsOn now (made c arena tape accounts last) o Moved
+              → IsSound (made c arena tape accounts last) × StepsOn now (made c arena tape accounts last) o Moved
           move_without parts says =
               let n = standing SplitMove next in
               moves_on (made c arena tape accounts last) (parts_without c o h few_here n.0 n.1 n.2 arena tape accounts w y opened_move told last over_parted parts says)
@@ -385,10 +395,10 @@ module _ (c now : Core) (o : ℕ) (is : c ≡ now) (h : StateInvariant c) (few :
           (mid : Table) (t : Splits) (gives : Writes table mid o (λ x. with_splits x t)) where
         pub return_steps : (arena : ArenaView) (w : Walk) → IsUnlockAll o c.arena arena y.walk w was t → (last : Table)
             → Writes mid last o (λ x. moved x (c.steps + 1) w)
-            → StateInvariant (made c arena c.tape c.accounts last) × StepsOn now (made c arena c.tape c.accounts last) o DoneMove
+            → IsSound (made c arena c.tape c.accounts last) × StepsOn now (made c arena c.tape c.accounts last) o DoneMove
         return_steps arena w returns last moves =
             let n = standing Unlock next in
             let opens = opened_after Unlock next table s takes y there_y in
             let over = over_moved Unlock next table s takes mid t gives last w moves in
             ends_it (made c arena c.tape c.accounts last) (returns_made c o h few_here n.0 n.1 n.2 told_here some_here arena w s t was y opens (came n.0 n.1) returns last over)
-            (leads_over c o h n.0 n.1 Unlock n.2 c refl arena c.tape c.accounts last _ over w (done_from n.0.outcome n.0.walk w told_here (subst (λ (z : Operation). w ≡ walk_done z.walk) (sym opens) returns.walk)) refl)
+            (leads_over c o h n.0 n.1 Unlock n.2 c refl arena c.tape c.accounts last _ over w (done_from n.0.outcome c.arena (splits_of n.0.splits) n.0.removal n.0.walk w told_here (inl some_here) (subst (λ (z : Operation). w ≡ walk_done z.walk) (sym opens) returns.walk)) refl)

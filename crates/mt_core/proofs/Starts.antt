@@ -1,5 +1,5 @@
 -- A state in which nothing has happened keeps the invariant: for `Inner::new`.
-use Rattle.std.proofs.Common.{◌≡◌, ◌≢◌, ℕ, zero, suc, ◌<◌, ◌≤◌, List, [], false, length, replicate, sym, refl, ap, subst, ◌∙◌, arith}
+use Rattle.std.proofs.Common.{◌≡◌, ℕ, zero, suc, ◌<◌, ◌≤◌, List, [], replicate, sym, refl, ap, subst, ◌∙◌, arith}
 use Rattle.std.proofs.lemmas.List.{length-replicate}
 use Rattle.std.proofs.lemmas.List.Elements.{All-replicate}
 use Rattle.std.specs.FinMap.{len, len-empty}
@@ -9,13 +9,11 @@ use Rattle.mt_rows.specs.Rows.{Columns}
 use Rattle.mt_rows.specs.Accounts.{Accounts}
 use Rattle.mt_rows.specs.Tenants.{tenant_map}
 use Rattle.mt_tape.specs.Tapes.{Kept}
-use Rattle.mt_arena.specs.declared.tree.Standing.TheVariants.{Dead}
-use Rattle.mt_arena.specs.Forests.{tree_at}
 use Rattle.mt_arena.specs.Arena.{ArenaView, content_of}
-use Rattle.mt_arena.specs.Accesses.{at, new_arena}
+use Rattle.mt_arena.specs.Accesses.{new_arena}
 use Rattle.mt_operation.specs.Tables.{Table}
 use Rattle.mt_state.specs.Views.{Core}
-use Rattle.mt_state.specs.Invariant.{StateInvariant, AreStamps, AreVersions, AreHolders}
+use Rattle.mt_state.specs.Invariant.{DeletedAreEmpty, StateInvariant, AreStamps, AreVersions, AreHolders}
 use Rattle.mt_state.specs.Begins.{HaveNoPairs}
 use Rattle.mt_state.proofs.HistoryStart.{content-new, tenant_map-empty}
 
@@ -55,7 +53,7 @@ start_sound logs accounts few none = record {
   ops = λ o op there. absurd (cc);
   reserved = refl;
   answered = omega arith;
-  unremoved = record { live = live; alive = alive };
+  deleted = deleted;
   few = omega arith;
   quotas = λ t m a there from upto. subst (λ n. n ≤ a.quota) (sym (no_len t)) (omega arith);
   written = λ k d lt. never k lt;
@@ -69,13 +67,9 @@ start_sound logs accounts few none = record {
     versions zero within = record { inserts = omega arith; splits = omega arith }
     versions (suc k) within = absurd (omega (arith, within))
 
-    live : (k : ℕ) → k < length new_arena.nodes → (at new_arena k).version.deleted ≡ false
-    live zero within = refl
-    live (suc k) within = absurd (omega (arith, within))
-
-    alive : (t : ℕ) → t < length new_arena.trees → (tree_at new_arena.trees t).standing ≢ Dead
-    alive zero within dead = absurd (cc)
-    alive (suc t) within dead = absurd (omega (arith, within))
+    deleted : DeletedAreEmpty (start logs accounts).arena
+    deleted zero within gone = refl
+    deleted (suc k) within gone = absurd (omega (arith, within))
 
     holders : AreHolders (start logs accounts)
     holders zero o within held = absurd (cc)

@@ -51,7 +51,7 @@ module _ (c : Core) (o answers : ℕ) (table : Table) (h : StateInvariant c) (ot
       | inr other ↦ ap one_if_prepared (others q other)
     ]));
     answered = bound;
-    unremoved = h.unremoved;
+    deleted = h.deleted;
     few = h.few;
     quotas = h.quotas;
     written = h.written;
@@ -68,14 +68,14 @@ made_inside table o = let is = ap made_count (shown_set table o None) in let les
 
 -- an operation less, which held nothing and had nothing ready
 pub removed_sound : (c : Core) (o answers : ℕ) (op : Operation) → StateInvariant c → operation_at c.table o ≡ Some op
-    → ((k : ℕ) → HoldsAt op.walk.phase op.walk op.splits k → ⊥) → is_prepared op.walk.phase ≡ false
+    → ((k : ℕ) → HoldsAt op.walk.phase op k → ⊥) → is_prepared op.walk.phase ≡ false
     → answers + made_count (shown_table (set c.table o None)) ≤ c.steps → StateInvariant (with_table c answers (set c.table o None))
 removed_sound c o answers op h there free unready bound =
     table_sound c o answers (set c.table o None) h (λ q ne. set_there c.table o q None ne)
     (λ k within held.
     let w = h.holders k o within held in
     let same = same_Some w.0 op (sym w.1 ∙ there) in
-    free k (subst (λ (x : Operation). HoldsAt x.walk.phase x.walk x.splits k) same w.2))
+    free k (subst (λ (x : Operation). HoldsAt x.walk.phase x k) same w.2))
     (λ x is. absurd (none-some x (sym (set_none c.table o) ∙ is)))
     (ap one_if_prepared (set_none c.table o) ∙ sym (ap one_if_prepared there ∙ ap (λ b. if b then 1 else 0) unready))
     bound

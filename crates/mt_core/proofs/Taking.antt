@@ -54,7 +54,7 @@ pub taken_state : (c : Core) (o : ℕ) (table : Table) (answer : Answer) → Sta
 taken_state c o table answer h took =
     let a = done_answer c o took.0 h took.1 took.2.finished in
     subst (λ t. StateInvariant (with_table c (c.answers + 1) t)) (sym took.3)
-    (removed_sound c o (c.answers + 1) took.0 h took.1 (λ k held. subst (λ p. HoldsAt p took.0.walk took.0.splits k) took.2.finished held) (ap is_prepared took.2.finished)
+    (removed_sound c o (c.answers + 1) took.0 h took.1 (λ k held. subst (λ p. HoldsAt p took.0 k) took.2.finished held) (ap is_prepared took.2.finished)
     (answered_out c.answers c.steps c.table o took.0 took.1 a.right.begun h.answered))
 
 -- what a take tells
@@ -120,7 +120,7 @@ pub cancelled_state : (c : Core) (o : ℕ) (table : Table) → StateInvariant c 
 cancelled_state c o table h gave =
     let at = still_enters c o gave.0 h gave.1 gave.2 in
     subst (λ t. StateInvariant (with_table c c.answers t)) (sym gave.3)
-    (removed_sound c o c.answers gave.0 h gave.1 (λ k held. subst (λ p. HoldsAt p gave.0.walk gave.0.splits k) at held) (ap is_prepared at)
+    (removed_sound c o c.answers gave.0 h gave.1 (λ k held. subst (λ p. HoldsAt p gave.0 k) at held) (ap is_prepared at)
     (let less = made_inside c.table o in let bound = h.answered in omega (arith, less, bound)))
 
 -- what it tells

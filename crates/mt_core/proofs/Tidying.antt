@@ -90,7 +90,7 @@ module _ (c : Core) (floor : ℕ) (h : StateInvariant c) (rises : c.tape.floor �
     ops = λ o op there. let k = h.ops o op there in retained c c.answers c.logs (trimmed c floor) c.table o op (tells o op there) k.always k;
     reserved = h.reserved;
     answered = h.answered;
-    unremoved = h.unremoved;
+    deleted = h.deleted;
     few = h.few;
     quotas =
         λ t m a there from upto. subst (λ all. len all ≤ a.quota) (sym (map_at-trim floor m c.tape.entries (content_of c.arena) t from)) (h.quotas t m a there (omega (arith, rises, from)) upto);

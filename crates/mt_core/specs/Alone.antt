@@ -17,6 +17,7 @@ use Rattle.mt_state.specs.declared.moves.Move.TheVariants.{Moved, NoMemory as No
 use Rattle.mt_state.specs.Views.{StateView, contents_of, op_at, quota_of}
 use Rattle.mt_state.specs.Steps.{IsSameAsked}
 use Rattle.mt_state.specs.Promises.{IsStep, Tells}
+use Rattle.mt_remove.specs.Writes.{is_remove}
 
 -- so many steps of operation o were made, one after the other, none of which was its last
 abbrev pub IsChain : ℕ → StateView → StateView → ℕ → Type 0
@@ -35,17 +36,19 @@ pub record Runs (old new : StateView) (o : ℕ) (answer : Move) : Type 0 where
 abbrev pub most_steps : StateView → ℕ
 most_steps v = 256 * (live_count v.arena.nodes + 64)
 
--- an operation that has not made a step, in a state in which nobody holds a node and numbers are left for a whole run
+-- a get or a put that has not made a step, in a state in which nobody holds a node and numbers are left for a whole run
 pub record IsAlone (v : StateView) (o : ℕ) (op : OperationView) : Type 0 where
   pub there : op_at v.table o ≡ Some op
+  pub stays : is_remove op.command ≡ false
   pub first : op.first ≡ 0
   pub enters : op.phase ≡ Enter
   pub free : (k : ℕ) → k < length v.arena.nodes → (at v.arena k).holder ≡ None
   pub numbers : v.steps + most_steps v ≤ 2 ^ 59
 
--- an unfinished operation, at whatever phase, also one that was disturbed before, while nobody else holds a node and numbers are left for a whole run
+-- an unfinished get or put, at whatever phase, also one that was disturbed before, while nobody else holds a node and numbers are left for a whole run
 pub record IsUndisturbed (v : StateView) (o : ℕ) (op : OperationView) : Type 0 where
   pub there : op_at v.table o ≡ Some op
+  pub stays : is_remove op.command ≡ false
   pub unfinished : is_done op.phase ≡ false
   pub free : (k q : ℕ) → k < length v.arena.nodes → (at v.arena k).holder ≡ Some q → q ≡ o
   pub numbers : v.steps + most_steps v ≤ 2 ^ 59

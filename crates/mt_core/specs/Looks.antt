@@ -16,6 +16,7 @@ use Rattle.mt_operation.specs.declared.walk.Walk.{Walk}
 use Rattle.mt_operation.specs.declared.outcome.Outcome.{Outcome}
 use Rattle.mt_operation.specs.declared.splits.Splits.{Splits}
 use Rattle.mt_operation.specs.declared.operation.Operation.{Operation}
+use Rattle.mt_operation.specs.declared.removal.Removal.{Removal}
 use Rattle.mt_descent.specs.Pasts.{Past, IsNow}
 use Rattle.mt_descent.specs.KeptWalks.{IsKept, IsAtBorder, IsAtLoad, IsAtConfirm}
 use Rattle.mt_descent.specs.WalkMoves.{Continues, FindsIn, Loads, Confirms, after_search}
@@ -26,24 +27,22 @@ use Rattle.mt_state.specs.Notes.{Says}
 use Rattle.mt_state.specs.Ways.{Descends, ShowsTaken}
 use Rattle.mt_operation.specs.Phases.{IsDescent}
 use Rattle.mt_state.specs.Phases.{LeadsTo}
-use Rattle.mt_state.specs.Invariant.{IsUnremoved}
 use Rattle.mt_core.specs.Points.{IsAtPoint}
 
 -- what a step makes of an operation that holds nothing, where nobody is in its way; else it is as it was
 abbrev pub Looks : ArenaView → (Operation → Operation → Type 0) → Operation → Made → Operation → Type 0
 Looks v Tells op Step after = Tells op after
-Looks v Tells op (Blocked holder) after = IsInTheWay v op.walk.phase op.walk (splits_of op.splits) holder × (after ≡ op)
+Looks v Tells op (Blocked holder) after = IsInTheWay v op.walk.phase op.walk (splits_of op.splits) op.removal holder × (after ≡ op)
 Looks v Tells op Nothing after = ⊥
 
 -- an operation has walked on, and has this outcome or none; all else of it is as it was
 abbrev pub led_to : Operation → Walk → Option Outcome → Operation
 led_to op walk told = record op { walk = walk; outcome = told }
 
--- an operation goes down, in a state from which nothing was removed
+-- an operation goes down
 pub record MayDescend (v : ArenaView) (op : Operation) : Type 0 where
   pub phase : IsDescent op.walk.phase
   pub kept : (past : Past) × IsKept v past op.task.key None op.walk
-  pub unremoved : IsUnremoved v
 
 -- it is about to search, to load for a get, or to confirm
 pub record MaySearch (v : ArenaView) (op : Operation) : Type 0 where
@@ -62,7 +61,7 @@ pub record MayConfirm (v : ArenaView) (op : Operation) : Type 0 where
 
 -- a step down: the walk goes on where the table of phases says, and comes nearer
 pub record TellsDescended (v : ArenaView) (op after : Operation) : Type 0 where
-  pub leads : (o step : ℕ) (told : Option Outcome) (s : SplitsView) → LeadsTo op.walk.phase v v o step op.task.key told s op.walk after.walk
+  pub leads : (o step : ℕ) (told : Option Outcome) (s : SplitsView) (rem : Removal) → LeadsTo op.walk.phase v v o step op.task.key told s rem op.walk after.walk
   pub goes : Descends op.walk after.walk
   pub nears : (height made : ℕ) (splits : Splits) → IsAtPoint height made v op.walk splits → IsAtPoint height (made + 1) v after.walk splits
   pub kept : (past : Past) → IsKept v past op.task.key None after.walk

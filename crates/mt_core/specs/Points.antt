@@ -1,7 +1,7 @@
 -- How far an operation has come that nobody is in the way of, also where it was disturbed before, and that each of its steps brings it on.
-use Rattle.std.specs.Prelude.{◌≡◌, ℕ, ◌+◌, ◌*◌, ◌<◌, ◌≤◌, ◌⊎◌, if◌then◌else◌, nat_lt, min, List, [], ◌∷◌, length, Some}
+use Rattle.std.specs.Prelude.{◌≡◌, ℕ, ◌+◌, ◌*◌, ◌<◌, ◌≤◌, ◌⊎◌, if◌then◌else◌, nat_lt, min, List, [], ◌∷◌, length, Some, false}
 use Rattle.mt_arena.specs.NodeView.{NodeView}
-use Rattle.mt_arena.specs.Arena.{ArenaView}
+use Rattle.mt_arena.specs.Arena.{ArenaView, one_if_live}
 use Rattle.mt_arena.specs.Accesses.{at}
 use Rattle.mt_operation.specs.declared.phase.Phase.{Phase}
 use Rattle.mt_operation.specs.declared.phase.Phase.TheVariants.{Enter, Pick, Child, Verify, Search, Load, Confirm, Forward, Lock, Judge, Store, Publish, SplitStart, SplitMove, SplitPrev, LockParent, InsertChild, InteriorSplit, Reparent, RootGrow, MakeLayer, MarkUnstable, Link, MarkLayer, Unlock}
@@ -16,10 +16,15 @@ use Rattle.mt_state.specs.declared.moves.Move.TheVariants.{Moved}
 use Rattle.mt_state.specs.Views.{Core, shown}
 use Rattle.mt_state.specs.Promises.{Tells}
 use Rattle.mt_state.specs.Phases.{LeadsOn}
+use Rattle.mt_arena.specs.Forests.{tree_at}
+use Rattle.mt_arena.specs.declared.tree.Standing.TheVariants.{Live}
+use Rattle.mt_operation.specs.declared.walk.Taken.TheVariants as takens
+use Rattle.mt_operation.specs.Tasks.{ask}
+use Rattle.mt_remove.specs.Writes.{is_remove}
 
--- every node stands on a level below this one
+-- every live node stands on a level below this one
 abbrev pub AreBelow : ArenaView → ℕ → Type 0
-AreBelow v height = (k : ℕ) → k < length v.nodes → (at v k).level < height
+AreBelow v height = (k : ℕ) → k < length v.nodes → (at v k).version.deleted ≡ false → (at v k).level < height
 
 -- the version that the walk remembers is the one that its node has now, and so for the child that it has picked
 abbrev pub SeesNow : ArenaView → Walk → Type 0
@@ -28,9 +33,9 @@ SeesNow v w = w.place.seen ≡ (at v w.place.node).version
 abbrev pub SeesChild : ArenaView → Walk → Type 0
 SeesChild v w = w.child_seen ≡ (at v w.child).version
 
--- how many nodes begin behind this fence
+-- how many live nodes begin behind this fence
 abbrev pub one_if_behind : ℕ → NodeView → ℕ
-one_if_behind low n = if nat_lt low n.low then 1 else 0
+one_if_behind low n = if nat_lt low n.low then one_if_live n else 0
 
 abbrev pub behind_count : List NodeView → ℕ → ℕ
 behind_count [] low = 0
@@ -61,20 +66,27 @@ abbrev pub before_unlock : List Halves → ℕ → ℕ
 before_unlock [] height = 3 * height + 7
 before_unlock (_ ∷ _) height = 23 * height + 7
 
--- How many steps an operation has made at most that comes to this phase. A walk that compares a version remembers that of now; or it is still finding its
--- way: down to the child that it picked, or from one border node to the next.
+-- the tree is live, and so is that of a link that the walk took
+abbrev pub IsLiveTree : ArenaView → ℕ → Type 0
+IsLiveTree v t = (tree_at v.trees t).standing ≡ Live
+
+abbrev pub TookLiveTree : ArenaView → Walk → Type 0
+TookLiveTree v w = (t : ℕ) → w.taken ≡ takens.Link t → IsLiveTree v t
+
+-- How many steps an operation has made at most that comes to this phase. A walk that compares a version remembers that of now, and one that begins anew is
+-- in a live tree; or it is still finding its way: back to the top, down to the child that it picked, or from one border node to the next.
 abbrev pub HasMade : Phase → ℕ → ℕ → ArenaView → Walk → Splits → Type 0
-HasMade Enter height made v w s = made ≤ above height w
-HasMade Pick height made v w s = (SeesNow v w × (made + 3 * level_of v w ≤ above height w + 3 * height)) ⊎ (made + 3 ≤ astray height)
-HasMade Child height made v w s = (SeesNow v w × (made + 3 * level_of v w ≤ above height w + 3 * height + 1)) ⊎ (made + 2 ≤ astray height)
+HasMade Enter height made v w s = (IsLiveTree v w.place.tree × (made ≤ above height w)) ⊎ (made + 1 ≤ astray height)
+HasMade Pick height made v w s = (SeesNow v w × (made + 3 * level_of v w ≤ above height w + 3 * height)) ⊎ (made + 4 ≤ astray height)
+HasMade Child height made v w s = (SeesNow v w × (made + 3 * level_of v w ≤ above height w + 3 * height + 1)) ⊎ (made + 3 ≤ astray height)
 HasMade Verify height made v w s =
-    (SeesNow v w × SeesChild v w × (made + 3 * level_of v w ≤ above height w + 3 * height + 2)) ⊎ (SeesChild v w × (made + 1 ≤ astray height))
-    ⊎ (made + (5 + behind v w.child) ≤ astray height)
-HasMade Search height made v w s = (SeesNow v w × (made ≤ above height w + 3 * height)) ⊎ (made + (4 + behind v w.place.node) ≤ astray height)
-HasMade Load height made v w s = (SeesNow v w × (made ≤ above height w + 3 * height + 1)) ⊎ (made + (3 + behind v w.place.node) ≤ astray height)
-HasMade Confirm height made v w s = (SeesNow v w × (made ≤ above height w + 3 * height + 2)) ⊎ (made + (2 + behind v w.place.node) ≤ astray height)
-HasMade Forward height made v w s = (SeesNow v w × (made + (1 + behind v w.place.node) ≤ astray height)) ⊎ (made + (5 + behind v w.place.node) ≤ astray height)
-HasMade Lock height made v w s = (SeesNow v w × (made ≤ above height w + 3 * height)) ⊎ (made + (2 + behind v w.place.node) ≤ astray height)
+    (SeesNow v w × SeesChild v w × (made + 3 * level_of v w ≤ above height w + 3 * height + 2)) ⊎ (SeesChild v w × (made + 2 ≤ astray height))
+    ⊎ (made + (6 + behind v w.child) ≤ astray height)
+HasMade Search height made v w s = (SeesNow v w × (made ≤ above height w + 3 * height)) ⊎ (made + (5 + behind v w.place.node) ≤ astray height)
+HasMade Load height made v w s = (SeesNow v w × (made ≤ above height w + 3 * height + 1)) ⊎ (made + (4 + behind v w.place.node) ≤ astray height)
+HasMade Confirm height made v w s = (SeesNow v w × TookLiveTree v w × (made ≤ above height w + 3 * height + 2)) ⊎ (made + (3 + behind v w.place.node) ≤ astray height)
+HasMade Forward height made v w s = (SeesNow v w × (made + (2 + behind v w.place.node) ≤ astray height)) ⊎ (made + (6 + behind v w.place.node) ≤ astray height)
+HasMade Lock height made v w s = (SeesNow v w × (made ≤ above height w + 3 * height)) ⊎ (made + (3 + behind v w.place.node) ≤ astray height)
 HasMade Judge height made v w s = made ≤ above height w + 3 * height + 1
 HasMade Store height made v w s = made ≤ above height w + 3 * height + 2
 HasMade Publish height made v w s = made ≤ above height w + 3 * height + 2
@@ -107,10 +119,11 @@ pub record IsAtPoint (height made : ℕ) (v : ArenaView) (w : Walk) (s : Splits)
 abbrev pub IsFreeOfOthers : ArenaView → ℕ → Type 0
 IsFreeOfOthers v o = (k q : ℕ) → k < length v.nodes → (at v k).holder ≡ Some q → q ≡ o
 
--- operation o has made so many steps, and nobody else holds a node
+-- operation o, which is no removal, has made so many steps, and nobody else holds a node
 pub record IsUnhindered (c : Core) (o height made : ℕ) : Type 0 where
   pub op : Operation
   pub there : operation_at c.table o ≡ Some op
+  pub stays : is_remove (ask op.task) ≡ false
   pub free : IsFreeOfOthers c.arena o
   pub point : IsAtPoint height made c.arena op.walk op.splits
 

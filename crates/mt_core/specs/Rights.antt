@@ -1,17 +1,15 @@
 -- What holds of every state, by what it shows.
-use Rattle.std.specs.Prelude.{◌≡◌, ℕ, ◌+◌, ◌<◌, ◌≤◌, true, Some, length}
+use Rattle.std.specs.Prelude.{◌≡◌, ℕ, ◌+◌, ◌<◌, ◌≤◌, true, Some, IsSome, length}
 use Rattle.std.specs.List.{All, Contains}
 use Rattle.std.specs.FinMap.{len}
 use Rattle.mt_rows.specs.declared.tenants.Account.{Account}
 use Rattle.mt_rows.specs.Accounts.{account_of}
-use Rattle.mt_rows.specs.Changes.{changed}
 use Rattle.mt_rows.specs.Commands.{key_of, IsKey}
-use Rattle.mt_rows.specs.Rows.{columns_of}
 use Rattle.mt_rows.specs.Tenants.{tenant_map}
 use Rattle.mt_tape.specs.declared.entry.Entry.{Entry as TapeEntry}
 use Rattle.mt_tape.specs.Tapes.{RisesOver, last_write}
 use Rattle.mt_tape.specs.Histories.{IsLegalTape}
-use Rattle.mt_insert.specs.Puts.{change_of}
+use Rattle.mt_remove.specs.Writes.{is_remove}
 use Rattle.mt_arena.specs.Accesses.{at}
 use Rattle.mt_operation.specs.declared.outcome.Outcome.{Outcome}
 use Rattle.mt_operation.specs.Operations.{OperationView}
@@ -20,7 +18,7 @@ use Rattle.mt_state.specs.Views.{StateView, contents_of, op_at}
 use Rattle.mt_state.specs.Steps.{change_in}
 use Rattle.mt_state.specs.Promises.{IsAnswer, HasStep}
 use Rattle.mt_state.specs.Invariant.{AreLogs, made_count}
-use Rattle.mt_state.specs.Written.{KeepsQuotas, IsWritten}
+use Rattle.mt_state.specs.Written.{KeepsQuotas, IsWritten, row_left}
 
 -- the steps of the tape rise over its floor and were made, each entry tells what its step did to a user's key, and it goes back as far as the logs need it
 pub record IsRightTape (v : StateView) : Type 0 where
@@ -30,7 +28,8 @@ pub record IsRightTape (v : StateView) : Type 0 where
   pub keys : All (λ e. IsKey e.key) v.tape.entries
   pub logs : AreLogs v.logs v.tape.floor v.steps
 
--- a change that an operation has placed has an entry of its step, worker, tenant and key, with the row that its command makes of the one before
+-- a change that an operation has placed has an entry of its step, worker, tenant and key, with the row that its command leaves over the one before, which was there where it
+-- removes
 pub record HasEntry (v : StateView) (op : OperationView) (step : ℕ) : Type 0 where
   pub entry : TapeEntry
   pub there : Contains v.tape.entries entry
@@ -38,7 +37,8 @@ pub record HasEntry (v : StateView) (op : OperationView) (step : ℕ) : Type 0 w
   pub worker : entry.worker ≡ op.worker
   pub tenant : entry.tenant ≡ op.tenant
   pub key_is : entry.key ≡ key_of op.command
-  pub makes : entry.after ≡ Some (changed (change_of op.command) (columns_of entry.before))
+  pub makes : entry.after ≡ row_left op.command entry.before
+  pub was : is_remove op.command ≡ true → IsSome entry.before
 
 -- what holds of an operation: the tape goes back before its first step, its reply is right once it is finished, and its change has its entry
 pub record IsRightOperation (v : StateView) (op : OperationView) : Type 0 where

@@ -60,8 +60,8 @@ struct Roster {
 /// Lets events happen to a new state, and gives it back with what each answered.
 ///
 /// A begin by a name by which one was begun before, and a step by a name whose operation is not open,
-/// answer `NoSuch`; so does a begin that the state can't take: a remove or a scan. A begin that is refused leaves its name free. The answer of an operation is taken
-/// with its last step.
+/// answer `NoSuch`; so does a begin that the state can't take: a scan. A begin that is refused leaves its
+/// name free. The answer of an operation is taken with its last step.
 pub fn run_events(
     alloc: Global,
     logs: u8,
@@ -159,7 +159,10 @@ fn begin_by(
 fn may_begin(command: &Command) -> bool
     ensures { IsTrue result ↔ MayBegin command.now }
 {
-    matches!(command, Command::Get { .. } | Command::Put { .. })
+    matches!(
+        command,
+        Command::Get { .. } | Command::Put { .. } | Command::Remove { .. }
+    )
 }
 
 // Makes one step of the operation of a name, and takes its answer with its last one.

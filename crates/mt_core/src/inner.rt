@@ -298,8 +298,8 @@ impl Inner {
         }
     }
 
-    // What is kept inside, for the proof of `run_alone`: nothing runs.
-    fn kept(&self)
+    // What is kept inside, for proofs: nothing runs.
+    pub(crate) fn kept(&self)
         ensures invariant { StateInvariant self.now }
         ensures arena { IsArena self.now.arena.nodes self.now.arena.trees }
     {
@@ -317,7 +317,7 @@ pub(crate) fn again(holder: usize) -> Move
 }
 
 // What a step answers that leads to this phase.
-fn ending(phase: Phase) -> Move
+pub(crate) fn ending(phase: Phase) -> Move
     ensures { result ≡ ending phase }
 {
     match phase {

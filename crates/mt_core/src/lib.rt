@@ -1,6 +1,6 @@
 //! The store as one state: all nodes and trees, the tape of their changes, and the operations that are open.
 //!
-//! A get or a put is an operation: it is begun, and then run by single steps, each one access to a
+//! A get, a put or a remove is an operation: it is begun, and then run by single steps, each one access to a
 //! node. Steps of different operations fall between each other in any order. `state.rt` has the
 //! state and its calls: it finds the operation, lets the call of its phase make the step, and writes
 //! down what came of it. What a step may do is said in `mt_state`, by `specs/Promises.antt`.
@@ -15,6 +15,7 @@ mod inner;
 mod layers;
 mod looks;
 pub mod openings;
+mod removals;
 pub mod shape;
 pub mod state;
 mod writes;

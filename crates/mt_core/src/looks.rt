@@ -12,7 +12,7 @@ ghost use Rattle.mt_state.specs.Promises.{IsInTheWay};
 ghost use Rattle.mt_state.specs.Notes.{columns_asked};
 ghost use Rattle.mt_state.specs.Ways.{Descends};
 ghost use Rattle.mt_operation.specs.Phases.{IsDescent};
-ghost use Rattle.mt_state.specs.Invariant.{IsUnremoved};
+ghost use Rattle.mt_operation.specs.declared.removal.Removal.{Removal as AnyRemoval};
 ghost use Rattle.mt_operation.specs.declared.splits.Splits.{Splits as AnySplits};
 ghost use Rattle.mt_operation.specs.declared.outcome.Outcome.{Outcome as AnyOutcome};
 ghost use Rattle.mt_operation.specs.Operations.{SplitsView};
@@ -67,9 +67,8 @@ fn go_down(arena: &Arena, key: &StoredKey, walk: &mut Walk, phase: Phase) -> Opt
     requires phase { phase ≡ walk.old.phase }
     requires descends { IsDescent phase }
     requires kept { (past : Past) × IsKept arena.now past key.now None walk.old }
-    requires unremoved { IsUnremoved arena.now }
-    ensures again { (s : SplitsView) → IfSome result (λ holder. IsInTheWay arena.now walk.old.phase walk.old s holder × (walk.new ≡ walk.old)) }
-    ensures leads { (o step : ℕ) (told : Option AnyOutcome) (s : SplitsView) → IfNone result (LeadsTo walk.old.phase arena.now arena.now o step key.now told s walk.old walk.new) }
+    ensures again { (s : SplitsView) (rem : AnyRemoval) → IfSome result (λ holder. IsInTheWay arena.now walk.old.phase walk.old s rem holder × (walk.new ≡ walk.old)) }
+    ensures leads { (o step : ℕ) (told : Option AnyOutcome) (s : SplitsView) (rem : AnyRemoval) → IfNone result (LeadsTo walk.old.phase arena.now arena.now o step key.now told s rem walk.old walk.new) }
     ensures goes { IfNone result (Descends walk.old walk.new) }
     ensures nears { (height made : ℕ) (splits : AnySplits) → IfNone result (IsAtPoint height made arena.now walk.old splits → IsAtPoint height (made + 1) arena.now walk.new splits) }
     ensures kept { (past : Past) → IfNone result (IsKept arena.now past key.now None walk.new) }

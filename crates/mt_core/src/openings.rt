@@ -30,7 +30,7 @@ fn request_of(command: Command) -> Result<Request, Refusal>
             let change = Change::new(change)?;
             Ok(Request::Put { key, change })
         }
-        Command::Remove { key: _key } => unreachable!(),
+        Command::Remove { key } => Ok(Request::Remove { key }),
         Command::Scan {
             from: _from,
             columns: _columns,
@@ -143,6 +143,7 @@ fn answer_of(operation: Operation, displaced: &mut Displaced) -> Answer
         outcome,
         prepared,
         splits,
+        removal: _,
     } = operation;
     let Task { request, key, .. } = task;
     displaced.rest = Some(Rest {

@@ -1,10 +1,12 @@
 //! The steps of an operation that locks, writes or gives back, each phase a method of its own. Those that
 //! only look stand in `looks.rt`.
 
-ghost use Rattle.std.specs.Prelude.{◌≡◌, ◌≢◌, ◌<◌, ◌^◌, slice_set, Some, None, []};
+ghost use Rattle.std.specs.Prelude.{◌≡◌, ◌≢◌, ◌<◌, ◌^◌, slice_set, true, false, Some, None, []};
 ghost use Rattle.mt_operation.specs.declared.operation.Operation.{Operation as AnyOperation};
 ghost use Rattle.mt_operation.specs.Phases.{IsClimb, IsLayerPhase, IsNoLook};
 ghost use Rattle.mt_operation.specs.Tables.{op_at as operation_at};
+ghost use Rattle.mt_operation.specs.Tasks.{ask};
+ghost use Rattle.mt_remove.specs.Writes.{is_remove};
 ghost use Rattle.mt_core.specs.Nexts.{IsNext};
 ghost use Rattle.mt_core.specs.Points.{StepsOn};
 
@@ -15,7 +17,7 @@ use crate::looks::no_memory;
 use mt_descent::lock;
 use mt_insert::{Judged, judge, publish, split_move, split_start, store, unlock, unlock_all};
 use mt_layer::leave;
-use mt_operation::{Operations, Outcome, Phase, Prepared, Splits};
+use mt_operation::{Operations, Outcome, Phase, Prepared, Request, Splits, Task};
 use mt_rows::Reply;
 use mt_state::Move;
 
@@ -45,17 +47,37 @@ impl Inner {
             Phase::MakeLayer | Phase::MarkUnstable | Phase::Link | Phase::MarkLayer => {
                 self.build(id)
             }
+            Phase::DropKey => self.drop_key(id),
+            Phase::LockPrev
+            | Phase::LockAbove
+            | Phase::Unlink
+            | Phase::FixNext
+            | Phase::Collapse
+            | Phase::CleanLayer => self.take_out(id),
             Phase::Unlock => self.unlock(id),
             Phase::Done => Move::NoSuch,
             _ => unreachable!(),
         }
     }
 
-    // Takes the lock of the border node.
+    // Takes the lock of the border node, on the way to its key or back to a link.
     #[inline(never)]
     fn lock(&mut self, id: usize) -> Move
         requires next { IsNext self.old id (λ phase. phase ≡ Phase.Lock) }
         requires few { self.old.steps < 2 ^ 59 }
+        ensures { StepsOn self.old self.new id result }
+    {
+        match open(&self.operations, id).outcome {
+            None => self.lock_onward(id),
+            Some(_) => self.lock_back(id),
+        }
+    }
+
+    // Takes the lock of the border node on the way to its key.
+    fn lock_onward(&mut self, id: usize) -> Move
+        requires next { IsNext self.old id (λ phase. phase ≡ Phase.Lock) }
+        requires few { self.old.steps < 2 ^ 59 }
+        requires untold { (op : AnyOperation) → operation_at self.old.table id ≡ Some op → op.outcome ≡ None }
         ensures { StepsOn self.old self.new id result }
     {
         self.arena.facts();
@@ -65,15 +87,33 @@ impl Inner {
             return again(holder);
         }
         self.steps += 1;
+        self.arena.facts();
         self.operations.go_on(id, self.steps, &walk);
         Move::Moved
     }
 
-    // Looks for the key under the lock, and makes all growths of the placing step.
+    // Looks under the lock for the key that is put or removed, or for a link on the way back.
     #[inline(never)]
     fn judge(&mut self, id: usize) -> Move
         requires next { IsNext self.old id (λ phase. phase ≡ Phase.Judge) }
         requires few { self.old.steps < 2 ^ 59 }
+        ensures { StepsOn self.old self.new id result }
+    {
+        let operation = open(&self.operations, id);
+        match operation.outcome {
+            None if removes(&operation.task) => self.judge_removal(id),
+            None => self.judge_put(id),
+            Some(_) => self.judge_back(id),
+        }
+    }
+
+    // Looks for the key under the lock, and makes all growths of the placing step.
+    #[inline(never)]
+    fn judge_put(&mut self, id: usize) -> Move
+        requires next { IsNext self.old id (λ phase. phase ≡ Phase.Judge) }
+        requires few { self.old.steps < 2 ^ 59 }
+        requires untold { (op : AnyOperation) → operation_at self.old.table id ≡ Some op → op.outcome ≡ None }
+        requires stays { (op : AnyOperation) → operation_at self.old.table id ≡ Some op → is_remove (ask op.task) ≡ false }
         ensures { StepsOn self.old self.new id result }
     {
         self.arena.facts();
@@ -88,6 +128,7 @@ impl Inner {
             &mut walk,
             id,
         );
+        self.arena.facts();
         match judged {
             Judged::Ready(prepared) => {
                 self.operations.go_on(id, self.steps, &walk);
@@ -127,6 +168,7 @@ impl Inner {
             self.steps,
             id,
         );
+        self.arena.facts();
         let told = placed(Reply::Replaced, self.steps);
         self.operations
             .go_on_with(id, self.steps, &walk, Some(told));
@@ -155,6 +197,7 @@ impl Inner {
             self.steps,
             id,
         );
+        self.arena.facts();
         let reply = if is_new { Reply::New } else { Reply::Full };
         let told = placed(reply, self.steps);
         self.operations
@@ -183,6 +226,7 @@ impl Inner {
             &mut splits,
             id,
         );
+        self.arena.facts();
         self.operations.swap_splits(id, &mut splits);
         match begun {
             Ok(()) => {
@@ -221,6 +265,7 @@ impl Inner {
             self.steps,
             id,
         );
+        self.arena.facts();
         let reply = if is_new { Reply::New } else { Reply::Full };
         let told = placed(reply, self.steps);
         self.operations
@@ -240,6 +285,7 @@ impl Inner {
         self.operations.swap_splits(id, &mut splits);
         let mut walk = open(&self.operations, id).walk;
         let climbed = climb_on(&mut self.arena, &mut walk, &mut splits, id);
+        self.arena.facts();
         self.operations.swap_splits(id, &mut splits);
         match climbed {
             Climbed::On => {
@@ -270,6 +316,7 @@ impl Inner {
             &mut walk,
             id,
         );
+        self.arena.facts();
         match built {
             Ok(()) => {
                 self.operations.go_on(id, self.steps, &walk);
@@ -293,8 +340,9 @@ impl Inner {
         let operation = open(&self.operations, id);
         match operation.outcome {
             None => self.leave(id),
-            Some(_) if operation.splits.halves.is_empty() => self.unlock_one(id),
-            Some(_) => self.unlock_all(id),
+            Some(_) if !operation.splits.halves.is_empty() => self.unlock_all(id),
+            Some(_) if removes(&operation.task) => self.unlock_removal(id),
+            Some(_) => self.unlock_one(id),
         }
     }
 
@@ -309,6 +357,7 @@ impl Inner {
         self.steps += 1;
         let mut walk = open(&self.operations, id).walk;
         leave(&mut self.arena, &mut walk, id);
+        self.arena.facts();
         self.operations.go_on(id, self.steps, &walk);
         Move::Moved
     }
@@ -319,11 +368,13 @@ impl Inner {
         requires few { self.old.steps < 2 ^ 59 }
         requires told { (op : AnyOperation) → operation_at self.old.table id ≡ Some op → op.outcome ≢ None }
         requires unsplit { (op : AnyOperation) → operation_at self.old.table id ≡ Some op → op.splits.halves.items ≡ [] }
+        requires stays { (op : AnyOperation) → operation_at self.old.table id ≡ Some op → is_remove (ask op.task) ≡ false }
         ensures { StepsOn self.old self.new id result }
     {
         self.steps += 1;
         let mut walk = open(&self.operations, id).walk;
         unlock(&mut self.arena, &mut walk, id);
+        self.arena.facts();
         self.operations.go_on(id, self.steps, &walk);
         Move::Done
     }
@@ -342,21 +393,32 @@ impl Inner {
         self.operations.swap_splits(id, &mut splits);
         let mut walk = open(&self.operations, id).walk;
         unlock_all(&mut self.arena, &mut walk, &mut splits, id);
+        self.arena.facts();
         self.operations.swap_splits(id, &mut splits);
         self.operations.go_on(id, self.steps, &walk);
         Move::Done
     }
 }
 
-// The outcome of a put that this step has judged.
-fn placed(reply: Reply, step: u64) -> Outcome
+// Whether what an operation was begun with removes a key.
+fn removes(task: &Task) -> bool
+    ensures { result ≡ is_remove (ask task.now) }
+{
+    match task.request {
+        Request::Remove { .. } => true,
+        Request::Get { .. } | Request::Put { .. } => false,
+    }
+}
+
+// The outcome of an operation that this step has judged or placed.
+pub(crate) fn placed(reply: Reply, step: u64) -> Outcome
     ensures { result ≡ record { reply = reply; at = step } }
 {
     Outcome { reply, at: step }
 }
 
 // Takes out what an operation has made ready.
-fn taken_out(operations: &mut Operations, id: usize) -> Prepared
+pub(crate) fn taken_out(operations: &mut Operations, id: usize) -> Prepared
     requires { (op : AnyOperation) × (operation_at operations.old id ≡ Some op) × (op.prepared ≢ None) }
     ensures { (op : AnyOperation) → operation_at operations.old id ≡ Some op →
         (op.prepared ≡ Some result) × (operations.new ≡ slice_set operations.old id (Some (record op { prepared = None }))) }

@@ -38,6 +38,14 @@ pub(crate) fn get(rt: &impl Abort, alloc: Global, key: &str, columns: &[u8]) -> 
     Command::Get { key, columns }
 }
 
+/// A remove.
+pub(crate) fn remove(rt: &impl Abort, alloc: Global, key: &str) -> Command
+    ensures { MayBegin result }
+{
+    let key = key_of(rt, alloc, key);
+    Command::Remove { key }
+}
+
 fn key_of(rt: &impl Abort, alloc: Global, key: &str) -> Key {
     Key::new(Vec::from_slice(alloc, key.as_bytes()).expect(rt, "memory"))
 }

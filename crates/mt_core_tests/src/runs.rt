@@ -3,7 +3,7 @@
 ghost use Rattle.std.specs.List.{All};
 ghost use Rattle.mt_state.specs.Histories.{IsServed};
 
-use crate::asked::{get, one_tenant, put};
+use crate::asked::{get, one_tenant, put, remove};
 use mt_core::run_events;
 use mt_rows::Reply;
 use mt_runs::{Event, Told};
@@ -11,7 +11,7 @@ use std::alloc::Global;
 use std::process::Abort;
 
 // An operation's name, what happens to it, and what it is told: a get of a key, a put of a key, `=` and
-// a value, or a step where nothing stands.
+// a value, a remove of a key and `-`, or a step where nothing stands.
 type Row = (u64, &'static str, &'static str);
 
 // A get finds no pair, and before it compares the version a put makes the pair. It meets the mark, looks
@@ -83,6 +83,38 @@ const IN_ANY_ORDER: [Row; 36] = [
     (2, "", "moved"),
 ];
 
+// A get has found a pair, and before it compares the version a remove takes the pair out. It meets the mark,
+// looks again, and finds none; nor does a second remove. A name is given once.
+const A_REMOVE_IS_MET: [Row; 27] = [
+    (1, "k=v", "begun"),
+    (1, "", "moved"),
+    (1, "", "moved"),
+    (1, "", "moved"),
+    (1, "", "moved"),
+    (1, "", "new"),
+    (3, "k", "begun"),
+    (3, "", "moved"),
+    (3, "", "moved"),
+    (2, "k-", "begun"),
+    (2, "", "moved"),
+    (2, "", "moved"),
+    (2, "", "moved"),
+    (3, "", "moved"),
+    (2, "", "moved"),
+    (3, "", "again 2"),
+    (2, "", "removed"),
+    (3, "", "moved"),
+    (3, "", "moved"),
+    (3, "", "moved"),
+    (3, "", "absent"),
+    (4, "k-", "begun"),
+    (4, "", "moved"),
+    (4, "", "moved"),
+    (4, "", "absent"),
+    (4, "", "no such"),
+    (2, "k", "no such"),
+];
+
 // The events of a run, by the only worker, for tenant 7.
 fn events_of(rt: &impl Abort, alloc: Global, rows: &[Row]) -> Vec<Event>
     ensures { All (IsServed 0) result.items }
@@ -102,9 +134,10 @@ fn event_of(rt: &impl Abort, alloc: Global, row: &Row) -> Event
     if row.1.is_empty() {
         return Event::Step { op };
     }
-    let command = match row.1.split_once('=') {
-        Some((key, value)) => put(rt, alloc, key, value),
-        None => get(rt, alloc, row.1, &[]),
+    let command = match (row.1.split_once('='), row.1.split_once('-')) {
+        (Some((key, value)), _) => put(rt, alloc, key, value),
+        (None, Some((key, _))) => remove(rt, alloc, key),
+        (None, None) => get(rt, alloc, row.1, &[]),
     };
     Event::Begin {
         op,
@@ -135,6 +168,7 @@ fn text_of(told: &Told) -> &'static str {
             Reply::Found(_) => "found",
             Reply::New => "new",
             Reply::Replaced => "replaced",
+            Reply::Removed => "removed",
             Reply::Full => "full",
             _ => "another reply",
         },
@@ -147,4 +181,5 @@ fn each_event_is_told_what_its_row_says(rt: HostRuntime) {
     let alloc = rt.alloc();
     expect_run(&rt, alloc, &A_GET_LOOKS_AGAIN);
     expect_run(&rt, alloc, &IN_ANY_ORDER);
+    expect_run(&rt, alloc, &A_REMOVE_IS_MET);
 }

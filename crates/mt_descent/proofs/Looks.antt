@@ -83,7 +83,7 @@ module _ (v : ArenaView) (key : Bytes) (w : Walk) (arena : IsArena v.nodes v.tre
       → Had past w.first step key row
   had_now past step row now since is = record { since = since; made = now.made; had = ap (λ m. get m (owned key)) now.contents ∙ is }
 
-  no_other : (slot : ℕ) (p : Option Pair) → RangeStands n w.place.seen → IsInSlot n slot key w.layer OtherLong → pair_of (slot_at n slot).held ≡ p
+  pub no_other : (slot : ℕ) (p : Option Pair) → RangeStands n w.place.seen → IsInSlot n slot key w.layer OtherLong → pair_of (slot_at n slot).held ≡ p
       → IsSomeAnd p (λ pair. pair.suffix ≢ suffix_of key w.layer) → get (content_of v) (owned key) ≡ None
   no_other slot None stands f is some = absurd some
   no_other slot (Some other) stands f is some =

@@ -1,31 +1,32 @@
 -- What a put's write is to the maps of the tenants: the command's change of its own one, with the command's reply. For the law of it.
-use Rattle.std.proofs.Common.{◌≡◌, ◌≢◌, ℕ, ◌<◌, ◌≤◌, false, cond, [], Option, Some, None, sym, ap, ◌∙◌}
+use Rattle.std.proofs.Common.{◌≡◌, ◌≢◌, ℕ, ◌<◌, ◌≤◌, true, cond, [], Option, Some, None, sym, ap, ◌∙◌}
 use Rattle.std.specs.FinMap.{get, len, insert}
 use Rattle.std.proofs.lemmas.Bool.{lt-ltb, le-ltb}
 use Rattle.mt_rows.specs.declared.reply.Reply.TheVariants.{New, Replaced, Full}
 use Rattle.mt_rows.specs.Rows.{Bytes, Columns}
 use Rattle.mt_rows.specs.Changes.{changed}
 use Rattle.mt_rows.specs.Commands.{key_of}
-use Rattle.mt_rows.specs.Maps.{Map, reply_of, map_after, is_get, told_of_put, map_after_put}
+use Rattle.mt_rows.specs.Maps.{Map, reply_of, map_after, told_of_put, map_after_put}
 use Rattle.mt_rows.specs.Tenants.{Contents, tenant_map}
 use Rattle.mt_rows.proofs.ContentLaws.{get-tenant_map, tenant_map-insert, tenant_map-insert_other}
 use Rattle.mt_border.specs.Contents.{owned}
 use Rattle.mt_tape.specs.Histories.{with_write}
 use Rattle.mt_operation.specs.declared.task.Request.{Request}
-use Rattle.mt_operation.specs.declared.task.Request.TheVariants.{Get, Put}
+use Rattle.mt_operation.specs.declared.task.Request.TheVariants.{Get, Put, Remove}
 use Rattle.mt_operation.specs.declared.task.Task.{Task}
 use Rattle.mt_operation.specs.Tasks.{command_of, ask}
-use Rattle.mt_insert.specs.Puts.{change_of, IsPut, row_over, write_of}
+use Rattle.mt_insert.specs.Puts.{change_of, is_put, IsPut, row_over, write_of}
 
 -- a put of a key that is there
-put_there : (quota : ℕ) (r : Request) (m : Map) (row : Columns) → is_get (command_of r) ≡ false → get m (key_of (command_of r)) ≡ Some row
+put_there : (quota : ℕ) (r : Request) (m : Map) (row : Columns) → is_put (command_of r) ≡ true → get m (key_of (command_of r)) ≡ Some row
     → (reply_of quota (command_of r) m ≡ Replaced) × (map_after quota (command_of r) m ≡ insert m (key_of (command_of r)) (changed (change_of (command_of r)) row))
 unfolding reply_of map_after
 put_there quota (Put key change) m row e is = (ap (told_of_put quota (len m)) is, ap (map_after_put quota key change m) is)
 put_there quota (Get key columns) m row e is = absurd (cc)
+put_there quota (Remove key) m row e is = absurd (cc)
 
 -- a put of a new key, with room for it
-put_new : (quota : ℕ) (r : Request) (m : Map) → is_get (command_of r) ≡ false → get m (key_of (command_of r)) ≡ None → len m < quota
+put_new : (quota : ℕ) (r : Request) (m : Map) → is_put (command_of r) ≡ true → get m (key_of (command_of r)) ≡ None → len m < quota
     → (reply_of quota (command_of r) m ≡ New) × (map_after quota (command_of r) m ≡ insert m (key_of (command_of r)) (changed (change_of (command_of r)) []))
 unfolding reply_of map_after
 put_new quota (Put key change) m e none lt = (
@@ -33,9 +34,10 @@ put_new quota (Put key change) m e none lt = (
   ap (map_after_put quota key change m) none ∙ ap (λ b. cond b (insert m key (changed change [])) m) (lt-ltb (len m) quota lt),
 )
 put_new quota (Get key columns) m e none lt = absurd (cc)
+put_new quota (Remove key) m e none lt = absurd (cc)
 
 -- and without
-put_full : (quota : ℕ) (r : Request) (m : Map) → is_get (command_of r) ≡ false → get m (key_of (command_of r)) ≡ None → quota ≤ len m
+put_full : (quota : ℕ) (r : Request) (m : Map) → is_put (command_of r) ≡ true → get m (key_of (command_of r)) ≡ None → quota ≤ len m
     → (reply_of quota (command_of r) m ≡ Full) × (map_after quota (command_of r) m ≡ m)
 unfolding reply_of map_after
 put_full quota (Put key change) m e none le = (
@@ -43,6 +45,7 @@ put_full quota (Put key change) m e none le = (
   ap (map_after_put quota key change m) none ∙ ap (λ b. cond b (insert m key (changed change [])) m) (le-ltb (len m) quota le),
 )
 put_full quota (Get key columns) m e none le = absurd (cc)
+put_full quota (Remove key) m e none le = absurd (cc)
 
 module _ (quota step : ℕ) (contents : Contents) (task : Task) (put : IsPut task) where
   abbrev m : Map

@@ -50,7 +50,7 @@ ready_over n b task layer slot prepared same h pair is =
     subst (λ (o : Option Pair). IsReady task (option_map (λ (p : Pair). p.row) o) prepared) (ap (λ (s : List Entry). pair_of (slot_at (record n { slots = s }) slot).held) (sym same) ∙ is) h
 
 -- a pair that is not unstable is stable
-stable_pair : (held : Held) (P : Pair → Type 0) → ¬ IsUnstable held → IsSomeAnd (pair_of held) P → (pair : Pair) × (held ≡ Stable pair)
+pub stable_pair : (held : Held) (P : Pair → Type 0) → ¬ IsUnstable held → IsSomeAnd (pair_of held) P → (pair : Pair) × (held ≡ Stable pair)
 stable_pair (Stable pair) P stable some = (pair, refl)
 stable_pair (Unstable pair tree) P stable some = absurd (stable tt)
 stable_pair (Link tree) P stable some = absurd some
@@ -76,7 +76,7 @@ pub border_within : (nodes : List NodeView) (trees : List Tree) → IsArena node
 border_within nodes trees arena k there = (arena.nodes.each k there).slots.border.within
 
 -- the walk's phase says nothing of the node that it holds
-holds_on : (v : ArenaView) (op : ℕ) (task : Task) (w : Walk) (phase : Phase) (slot : ℕ) → HoldsBorder v op task.key w
+pub holds_on : (v : ArenaView) (op : ℕ) (task : Task) (w : Walk) (phase : Phase) (slot : ℕ) → HoldsBorder v op task.key w
     → HoldsBorder v op task.key (record w { phase = phase; slot = slot })
 holds_on v op task w phase slot h =
     let j = h.judged in

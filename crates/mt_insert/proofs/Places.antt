@@ -144,7 +144,7 @@ module _ (v : ArenaView) (op : ℕ) (key : Bytes) (w : Walk) (arena : IsArena v.
   }
 
   -- and so with other slots, none of them unstable
-  unlock_with : (slots : List Entry) → All (λ (e : Entry). ¬ IsUnstable e.held) slots
+  pub unlock_with : (slots : List Entry) → All (λ (e : Entry). ¬ IsUnstable e.held) slots
       → IsAtUnlock (with_node v w.place.node (with_slots n slots)) op (walk_placed w)
   unlock_with slots stable =
       let y = with_slots n slots in

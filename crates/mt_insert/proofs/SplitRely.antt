@@ -69,7 +69,7 @@ unmade_stays op tree after c unmade Live is q e = c.live is q e
 unmade_stays op tree after c unmade Dead is q e = unmade q (ap (λ (t : Tree). t.standing) (sym (c.dead is)) ∙ e)
 
 module _ (op o : ℕ) (old new : ArenaView) (g : Guarantee op old new) (other : o ≢ op) where
-  through_stays : (t layer : ℕ) (key : Bytes) → GoesThrough old t layer key → GoesThrough new t layer key
+  pub through_stays : (t layer : ℕ) (key : Bytes) → GoesThrough old t layer key → GoesThrough new t layer key
   through_stays t layer key h =
       let c = g.nodes.trees t h.there in
       record {
@@ -80,10 +80,10 @@ module _ (op o : ℕ) (old new : ArenaView) (g : Guarantee op old new) (other : 
       }
 
   -- a node that the operation holds is untouched, and stays its own
-  untouched : (k : ℕ) → IsHeld old k o → IsUntouched (at old k) (at new k)
+  pub untouched : (k : ℕ) → IsHeld old k o → IsUntouched (at old k) (at new k)
   untouched k h = (g.nodes.nodes k h.there).held o other h.holder
 
-  held_stays : (k : ℕ) → IsHeld old k o → IsHeld new k o
+  pub held_stays : (k : ℕ) → IsHeld old k o → IsHeld new k o
   held_stays k h = record { there = omega (arith, h.there, g.nodes.count); holder = (untouched k h).holder ∙ h.holder }
 
   not_mine : (k : ℕ) → IsHeld old k o → (at new k).holder ≢ Some op
@@ -115,7 +115,7 @@ module _ (op o : ℕ) (old new : ArenaView) (g : Guarantee op old new) (other : 
   nothing_lags_stays i h lags = record { followers = followers_stay i h lags.followers; children = children_stay i h lags.children }
 
   -- what may be given back
-  return_stays : (level k : ℕ) → MayReturn old o level k → MayReturn new o level k
+  pub return_stays : (level k : ℕ) → MayReturn old o level k → MayReturn new o level k
   return_stays level k h = record {
     held = held_stays k h.held;
     level_is = (g.nodes.nodes k h.held.there).level ∙ h.level_is;

@@ -1,12 +1,11 @@
 -- What a put writes: the row that it makes of the one that is there, and the write of it for the tape.
-use Rattle.std.specs.Prelude.{◌≡◌, ℕ, false, [], Option, Some}
+use Rattle.std.specs.Prelude.{◌≡◌, ℕ, Bool, true, false, [], Option, Some}
 use Rattle.std.specs.FinMap.{get}
 use Rattle.mt_rows.specs.declared.command.Command.{Command}
 use Rattle.mt_rows.specs.declared.command.Command.TheVariants.{Put}
 use Rattle.mt_rows.specs.Rows.{Columns, columns_of}
 use Rattle.mt_rows.specs.Changes.{Named, changed}
 use Rattle.mt_rows.specs.Commands.{key_of}
-use Rattle.mt_rows.specs.Maps.{is_get}
 use Rattle.mt_rows.specs.Tenants.{Contents}
 use Rattle.mt_border.specs.Contents.{owned}
 use Rattle.mt_tape.specs.declared.entry.Entry.{Entry as Write}
@@ -19,9 +18,13 @@ abbrev pub change_of : Command → Named
 change_of (Put key change) = change
 change_of _ = []
 
+abbrev pub is_put : Command → Bool
+is_put (Put key change) = true
+is_put _ = false
+
 -- a put, whose stored key is that of its tenant and its user's key
 pub record IsPut (task : Task) : Type 0 where
-  pub put_is : is_get (ask task) ≡ false
+  pub put_is : is_put (ask task) ≡ true
   pub owner : owned task.key ≡ (task.tenant, key_of (ask task))
 
 -- the row that a put makes of this one, or of none

@@ -25,7 +25,7 @@ mod prepare;
 
 pub use phases::insert_child::insert_child;
 pub use phases::interior_split::interior_split;
-pub use phases::judge::{Judged, judge};
+pub use phases::judge::{Judged, judge, tree_at};
 pub use phases::lock_parent::lock_parent;
 pub use phases::publish::publish;
 pub use phases::reparent::reparent;
@@ -33,5 +33,6 @@ pub use phases::root_grow::root_grow;
 pub use phases::split_move::split_move;
 pub use phases::split_prev::split_prev;
 pub use phases::split_start::split_start;
-pub use phases::store::store;
+pub use phases::store::{push_write, store};
 pub use phases::unlock::{go_below, unlock, unlock_all};
+pub use prepare::find_here;

@@ -2,10 +2,9 @@
 //!
 //! Errors: `AllocError`, which changes nothing.
 
-ghost use Rattle.std.specs.Prelude.{◌≡◌, ◌<◌, ◌≤◌, ◌*◌, ◌+◌, ℕ, false, IfOk, IfSome, IfNone, OnOk, OnErr, length, Some, None};
+ghost use Rattle.std.specs.Prelude.{◌≡◌, ◌<◌, ◌≤◌, ◌*◌, ◌+◌, ℕ, true, IfOk, IfSome, IfNone, OnOk, OnErr, length, Some, None};
 ghost use Rattle.std.specs.Option.{option_map};
 ghost use Rattle.mt_slices.specs.Slices.{slice_of, mark_of, suffix_of, HasLayer};
-ghost use Rattle.mt_rows.specs.Maps.{is_get};
 ghost use Rattle.mt_rows.specs.Rows.{columns_of};
 ghost use Rattle.mt_border.specs.Entry.{pair_of};
 ghost use Rattle.mt_border.specs.Entries.{IsMissing};
@@ -14,7 +13,7 @@ ghost use Rattle.mt_arena.specs.Accesses.{at};
 ghost use Rattle.mt_operation.specs.Tasks.{command_of, ask};
 ghost use Rattle.mt_descent.specs.KeptWalks.{IsAtBorder};
 ghost use Rattle.mt_descent.specs.WalkMoves.{FindsIn};
-ghost use Rattle.mt_insert.specs.Puts.{change_of, row_over, IsReady};
+ghost use Rattle.mt_insert.specs.Puts.{change_of, is_put, row_over, IsReady};
 ghost use Rattle.mt_insert.specs.Placing.{reserving};
 ghost use Rattle.mt_insert.specs.Judge.{StandsIn, ReadyFor};
 
@@ -28,7 +27,7 @@ use mt_tape::{Entry, Tape};
 use std::alloc::{AllocError, Global};
 
 /// What the walk's border node has of the key.
-pub(crate) fn find_here(arena: &Arena, key: &StoredKey, walk: &Walk) -> Find
+pub fn find_here(arena: &Arena, key: &StoredKey, walk: &Walk) -> Find
     requires kept { IsAtBorder arena.now key.now walk.now }
     ensures { FindsIn (at arena.now walk.now.place.node) key.now walk.now.layer result }
 {
@@ -43,12 +42,12 @@ pub(crate) fn find_here(arena: &Arena, key: &StoredKey, walk: &Walk) -> Find
 
 // What a put writes.
 fn change_of(request: &Request) -> &Change
-    requires { is_get (command_of request.now) ≡ false }
+    requires { is_put (command_of request.now) ≡ true }
     ensures { result.now ≡ change_of (command_of request.now) }
 {
     match request {
         Request::Put { change, .. } => change,
-        Request::Get { .. } => unreachable!(),
+        Request::Get { .. } | Request::Remove { .. } => unreachable!(),
     }
 }
 
@@ -59,7 +58,7 @@ fn prepared(
     before: Option<Row>,
     suffix: Suffix,
 ) -> Result<Prepared, AllocError>
-    requires put { is_get (ask task.now) ≡ false }
+    requires put { is_put (ask task.now) ≡ true }
     ensures suffix { IfOk result (λ prepared. prepared.suffix ≡ suffix) }
     ensures ready { IfOk result (λ prepared. IsReady task.now before prepared) }
 {
@@ -93,7 +92,7 @@ fn prepared_over(
     task: &Task,
     slot: usize,
 ) -> Result<Prepared, AllocError>
-    requires put { is_get (ask task.now) ≡ false }
+    requires put { is_put (ask task.now) ≡ true }
     requires live { IsLive border.now slot }
     ensures { IfOk result (λ prepared. IsReady task.now (option_map (λ pair. pair.row) (pair_of (entry_at border.now slot).held)) prepared) }
 {
@@ -103,7 +102,7 @@ fn prepared_over(
 
 // What is made ready where the key is missing.
 fn prepared_new(alloc: Global, task: &Task, layer: usize) -> Result<Prepared, AllocError>
-    requires put { is_get (ask task.now) ≡ false }
+    requires put { is_put (ask task.now) ≡ true }
     requires reaches { HasLayer task.now.key layer }
     ensures suffix { IfOk result (λ prepared. prepared.suffix ≡ suffix_of task.now.key layer) }
     ensures ready { IfOk result (λ prepared. IsReady task.now None prepared) }
@@ -120,7 +119,7 @@ fn prepared_for(
     walk: &Walk,
     slot: Option<usize>,
 ) -> Result<Prepared, AllocError>
-    requires put { is_get (ask task.now) ≡ false }
+    requires put { is_put (ask task.now) ≡ true }
     requires kept { IsAtBorder arena.now task.now.key walk.now }
     requires slot { StandsIn (at arena.now walk.now.place.node) task.now.key walk.now.layer slot }
     ensures { IfOk result (λ prepared. ReadyFor (at arena.now walk.now.place.node) task.now walk.now.layer slot prepared) }
@@ -141,7 +140,7 @@ pub(crate) fn prepare(
     walk: &Walk,
     slot: Option<usize>,
 ) -> Result<Prepared, AllocError>
-    requires put { is_get (ask task.now) ≡ false }
+    requires put { is_put (ask task.now) ≡ true }
     requires kept { IsAtBorder arena.now task.now.key walk.now }
     requires slot { StandsIn (at arena.now walk.now.place.node) task.now.key walk.now.layer slot }
     ensures ready { IfOk result (λ prepared. ReadyFor (at arena.now walk.now.place.node) task.now walk.now.layer slot prepared) }

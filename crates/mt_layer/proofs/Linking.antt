@@ -1,5 +1,5 @@
 -- What is kept once the slot holds its pair otherwise, and once it is a link: for `mark_unstable`, `link` and `mark_layer`.
-use Rattle.std.proofs.Common.{◌≡◌, ◌≢◌, ℕ, ◌+◌, ◌<◌, length, Some, None, sym, ap, subst, ◌∙◌, inl, inr, arith}
+use Rattle.std.proofs.Common.{◌≡◌, ◌≢◌, ℕ, ◌+◌, ◌<◌, length, Some, None, sym, ap, subst, ◌∙◌, inl, inr, arith, List, set, refl}
 use Rattle.std.proofs.lemmas.Bool.{cases_eq}
 use Rattle.std.proofs.lemmas.List.{length-set, get_or-set_same, get_or-set_other}
 use Rattle.mt_rows.specs.Rows.{Bytes}
@@ -25,6 +25,9 @@ use Rattle.mt_operation.specs.declared.walk.Taken.TheVariants as takens
 use Rattle.mt_operation.specs.declared.walk.Walk.{Walk}
 use Rattle.mt_layer.specs.KeptLayers.{MakesLayer, IsAtMarkUnstable, IsAtLink, IsAtMarkLayer, IsAtLeave}
 use Rattle.mt_layer.specs.NewLayers.{walk_at}
+use Rattle.mt_border.specs.declared.entry.Entry.{Entry}
+use Rattle.mt_border.proofs.Edits.{any_entry, replaced_at as set_at}
+use Rattle.mt_arena.specs.Layers.{slot_at}
 
 -- the walk makes one tree
 pub same_tree : (t u : ℕ) (taken : Taken) → taken ≡ takens.Link t → taken ≡ takens.Link u → t ≡ u
@@ -102,6 +105,9 @@ module _ (v : ArenaView) (op : ℕ) (key : Bytes) (w : Walk) (arena : IsArena v.
   size : length after.trees ≡ length v.trees
   size = length-set v.trees t u
 
+  slots_are : y.slots ≡ set (at v k).slots w.slot (record (slot_at (at v k) w.slot) { held = Link t })
+  slots_are = set_at (at v k).slots w.slot (record (slot_at (at v k) w.slot) { held = Link t }) any_entry (arena.nodes.each k within).slots.border.rising h.makes.layer.slot.in_range refl
+
   above_live : (tree_at after.trees (at v k).tree).standing ≡ Live
   above_live = elim (cases_eq (at v k).tree t) [
     | inl same ↦ ap (λ s. (tree_at after.trees s).standing) same ∙ ap (λ (x : Tree). x.standing) tree_is
@@ -118,6 +124,13 @@ module _ (v : ArenaView) (op : ℕ) (key : Bytes) (w : Walk) (arena : IsArena v.
       mine = λ q making. absurd (let live = sym above_live ∙ ap (λ (x : NodeView). (tree_at after.trees x.tree).standing) (sym node_is) ∙ making in cc);
       settled = settled_again v k w.slot (Link t) arena.nodes within h.makes.layer.slot.in_range h.makes.settled (λ none. none);
     };
+    live = ap (λ (x : NodeView). x.version.deleted) node_is ∙ h.makes.layer.slot.live;
+    in_range = subst (λ (x : NodeView). w.slot < length x.slots) (sym node_is)
+        (let same = ap (λ (s : List Entry). length s) slots_are ∙ length-set (at v k).slots w.slot (record (slot_at (at v k) w.slot) { held = Link t }) in
+        let was = h.makes.layer.slot.in_range in
+        omega (arith, same, was));
+    link = ap (λ (x : NodeView). (slot_at x w.slot).held) node_is ∙ ap (λ (s : List Entry). (slot_at (record y { slots = s }) w.slot).held) slots_are
+        ∙ ap (λ (e : Entry). e.held) (get_or-set_same (at v k).slots w.slot (record (slot_at (at v k) w.slot) { held = Link t }) any_entry h.makes.layer.slot.in_range);
     through = record {
       there = omega (arith, size, h.makes.goes_on.there);
       unmade = λ q making. let live = sym (ap (λ (x : Tree). x.standing) tree_is) ∙ making in absurd (cc);

@@ -1,10 +1,11 @@
 -- What an operation keeps that makes a layer stays under each step of another one, by what that step leaves to others: for the law.
-use Rattle.std.proofs.Common.{◌≡◌, ◌≢◌, ℕ, ◌+◌, ◌<◌, List, length, Some, None, refl, sym, ap, subst, ◌∙◌, arith}
+use Rattle.std.proofs.Common.{◌≡◌, ◌≢◌, ℕ, ◌+◌, ◌<◌, List, length, Some, None, refl, sym, ap, subst, ◌∙◌, arith, false}
 use Rattle.mt_slices.specs.Slices.{slice_of, mark_of, suffix_of}
 use Rattle.mt_rows.specs.Rows.{Bytes}
 use Rattle.mt_border.specs.declared.entry.Entry.{Entry}
 use Rattle.mt_border.specs.declared.entry.Pair.{Pair}
 use Rattle.mt_border.specs.declared.entry.Held.{Held}
+use Rattle.mt_border.specs.declared.entry.Held.TheVariants as helds
 use Rattle.mt_border.specs.declared.entry.Held.TheVariants.{Stable, Unstable}
 use Rattle.mt_border.specs.declared.entry.FoundKind.TheVariants.{OtherLong}
 use Rattle.mt_border.specs.Entry.{IsKind}
@@ -14,8 +15,8 @@ use Rattle.mt_arena.specs.declared.tree.Standing.{Standing}
 use Rattle.mt_arena.specs.declared.tree.Standing.TheVariants.{Made, Live, Dead}
 use Rattle.mt_arena.specs.Forests.{tree_at}
 use Rattle.mt_arena.specs.Layers.{slot_at}
-use Rattle.mt_arena.specs.Arena.{ArenaView, Guarantee}
-use Rattle.mt_arena.specs.Accesses.{at, tree_of}
+use Rattle.mt_arena.specs.Arena.{ArenaView, Guarantee, IsArena}
+use Rattle.mt_arena.specs.Accesses.{at, tree_of, IsHeld}
 use Rattle.mt_arena.specs.Guarantee.{TreeChanges}
 use Rattle.mt_arena.proofs.LayerStays.{whole_stays, tree_same, root_same}
 use Rattle.mt_arena.specs.NodeView.{NodeView}
@@ -27,6 +28,7 @@ use Rattle.mt_descent.specs.KeptWalks.{GoesThrough}
 use Rattle.mt_insert.specs.KeptPuts.{IsAtMakeLayer}
 use Rattle.mt_insert.proofs.Rely.{held, unlock}
 use Rattle.mt_layer.specs.KeptLayers.{GoesBelow, MakesLayer, KeptLayer}
+use Rattle.mt_version.specs.Parts.{Parts}
 
 -- a tree that is not being made never is
 unmade_stays : (op : ℕ) (tree after : Tree) → TreeChanges op tree after → ((q : ℕ) → tree.standing ≢ Made q) → (s : Standing) → tree.standing ≡ s
@@ -35,7 +37,7 @@ unmade_stays op tree after c unmade (Made by) is q e = unmade by is
 unmade_stays op tree after c unmade Live is q e = c.live is q e
 unmade_stays op tree after c unmade Dead is q e = unmade q (ap (λ (t : Tree). t.standing) (sym (c.dead is)) ∙ e)
 
-module _ (op o : ℕ) (old new : ArenaView) (g : Guarantee op old new) (other : o ≢ op) where
+module _ (op o : ℕ) (old new : ArenaView) (g : Guarantee op old new) (other : o ≢ op) (arena : IsArena new.nodes new.trees) where
   -- a tree of the key
   through : (t layer : ℕ) (key : Bytes) → GoesThrough old t layer key → GoesThrough new t layer key
   through t layer key h =
@@ -55,14 +57,20 @@ module _ (op o : ℕ) (old new : ArenaView) (g : Guarantee op old new) (other : 
     begun = h.begun;
   }
 
-  makes : (key : Bytes) (w : Walk) (t : ℕ) (what : Held) (pair : Pair) → (tree_of new w.place.node).standing ≢ Dead
-      → MakesLayer old o key w t what pair → MakesLayer new o key w t what pair
-  makes key w t what pair alive m =
+  -- the tree of a live node that the operation holds is not dead
+  alive : (k : ℕ) → IsHeld old k o → (at old k).version.deleted ≡ false → (tree_of new k).standing ≢ Dead
+  alive k held live =
+      let there : k < length new.nodes = omega (arith, held.there, g.nodes.count) in
+      let same = ((g.nodes.nodes k held.there).held o other held.holder).version in
+      (arena.forest.homes k (at new k).tree there (arena.forest.tree_there k there)).standing refl (ap (λ (p : Parts). p.deleted) same ∙ live)
+
+  makes : (key : Bytes) (w : Walk) (t : ℕ) (what : Held) (pair : Pair) → MakesLayer old o key w t what pair → MakesLayer new o key w t what pair
+  makes key w t what pair m =
       let slot = m.layer.slot in
       record {
         taken = m.taken;
         other = m.other;
-        layer = whole_stays op o old new g other w.place.node w.slot t what m.other pair.row alive m.layer;
+        layer = whole_stays op o old new g other w.place.node w.slot t what m.other pair.row (alive w.place.node slot.held slot.live) m.layer;
         settled =
             settled_but_stays op o old.nodes new.nodes old.trees new.trees w.place.node w.slot g.nodes g.points other slot.held.there slot.held.holder m.settled;
         goes_on = below t w.layer key m.goes_on;
@@ -89,11 +97,21 @@ module _ (op o : ℕ) (old new : ArenaView) (g : Guarantee op old new) (other : 
       }
 
   -- at each phase
-  pub layer : (key : Bytes) (w : Walk) (phase : Phase) → (tree_of new w.place.node).standing ≢ Dead → KeptLayer phase old o key w → KeptLayer phase new o key w
-  layer key w phases.MakeLayer alive h = make_layer key w h
-  layer key w phases.MarkUnstable alive h = record { tree = h.tree; pair = h.pair; makes = makes key w h.tree (Stable h.pair) h.pair alive h.makes }
-  layer key w phases.Link alive h = record { tree = h.tree; pair = h.pair; makes = makes key w h.tree (Unstable h.pair None) h.pair alive h.makes }
-  layer key w phases.MarkLayer alive h = record { tree = h.tree; pair = h.pair; makes = makes key w h.tree (Unstable h.pair (Some h.tree)) h.pair alive h.makes }
-  layer key w phases.Unlock alive h = record { tree = h.tree; taken = h.taken; unlock = unlock op o old new g other w h.unlock; through = through h.tree (w.layer + 1) key h.through }
-  layer key w phases.Enter alive h = through w.place.tree w.layer key h
-  layer key w _ alive h = absurd h
+  pub layer : (key : Bytes) (w : Walk) (phase : Phase) → KeptLayer phase old o key w → KeptLayer phase new o key w
+  layer key w phases.MakeLayer h = make_layer key w h
+  layer key w phases.MarkUnstable h = record { tree = h.tree; pair = h.pair; makes = makes key w h.tree (Stable h.pair) h.pair h.makes }
+  layer key w phases.Link h = record { tree = h.tree; pair = h.pair; makes = makes key w h.tree (Unstable h.pair None) h.pair h.makes }
+  layer key w phases.MarkLayer h = record { tree = h.tree; pair = h.pair; makes = makes key w h.tree (Unstable h.pair (Some h.tree)) h.pair h.makes }
+  layer key w phases.Unlock h =
+      let same = (g.nodes.nodes w.place.node h.unlock.held.there).held o other h.unlock.held.holder in
+      record {
+        tree = h.tree;
+        taken = h.taken;
+        unlock = unlock op o old new g other w h.unlock;
+        live = ap (λ (p : Parts). p.deleted) same.version ∙ h.live;
+        in_range = subst (λ (s : List Entry). w.slot < length s) (sym same.slots) h.in_range;
+        link = subst (λ (s : List Entry). (slot_at (record (at old w.place.node) { slots = s }) w.slot).held ≡ helds.Link h.tree) (sym same.slots) h.link;
+        through = through h.tree (w.layer + 1) key h.through;
+      }
+  layer key w phases.Enter h = through w.place.tree w.layer key h
+  layer key w _ h = absurd h

@@ -1,11 +1,13 @@
 -- What is kept of an operation that makes a layer, by its next phase. Each fact speaks of the node and the slot that it holds, and of its tree.
-use Rattle.std.specs.Prelude.{◌≡◌, ℕ, ◌+◌, ◌*◌, ◌<◌, [], ◌∷◌, length, Some, None}
+use Rattle.std.specs.Prelude.{◌≡◌, ℕ, ◌+◌, ◌*◌, ◌<◌, false, [], ◌∷◌, length, Some, None}
 use Rattle.mt_rows.specs.Rows.{Bytes}
 use Rattle.mt_border.specs.declared.entry.Pair.{Pair}
 use Rattle.mt_border.specs.declared.entry.Held.{Held}
+use Rattle.mt_border.specs.declared.entry.Held.TheVariants as helds
 use Rattle.mt_border.specs.declared.entry.Held.TheVariants.{Stable, Unstable}
 use Rattle.mt_border.specs.Contents.{IsOfTree}
 use Rattle.mt_arena.specs.Forests.{tree_at}
+use Rattle.mt_arena.specs.Layers.{slot_at}
 use Rattle.mt_arena.specs.Layering.{IsLayerOf, IsSettledBut}
 use Rattle.mt_arena.specs.Arena.{ArenaView}
 use Rattle.mt_arena.specs.Accesses.{at}
@@ -51,11 +53,14 @@ pub record IsAtMarkLayer (v : ArenaView) (op : ℕ) (key : Bytes) (w : Walk) : T
   pub pair : Pair
   pub makes : MakesLayer v op key w tree (Unstable pair (Some tree)) pair
 
--- at Unlock: the lock may be given back, and the key goes through the new tree
+-- at Unlock: the lock may be given back, the walk's slot is a link to the new tree, and the key goes through that
 pub record IsAtLeave (v : ArenaView) (op : ℕ) (key : Bytes) (w : Walk) : Type 0 where
   pub tree : ℕ
   pub taken : w.taken ≡ Link tree
   pub unlock : IsAtUnlock v op w
+  pub live : (at v w.place.node).version.deleted ≡ false
+  pub in_range : w.slot < length (at v w.place.node).slots
+  pub link : (slot_at (at v w.place.node) w.slot).held ≡ helds.Link tree
   pub through : GoesThrough v tree (w.layer + 1) key
 
 -- what is kept of an operation that makes a layer by its next phase, until it begins anew in the tree of the layer

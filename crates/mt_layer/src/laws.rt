@@ -3,18 +3,16 @@
 
 ghost use Rattle.std.specs.Prelude.{◌≡◌, ◌≢◌, ℕ};
 ghost use Rattle.mt_rows.specs.Rows.{Bytes};
-ghost use Rattle.mt_arena.specs.declared.tree.Standing.TheVariants.{Dead};
-ghost use Rattle.mt_arena.specs.Arena.{ArenaView, Guarantee};
-ghost use Rattle.mt_arena.specs.Accesses.{tree_of};
+ghost use Rattle.mt_arena.specs.Arena.{ArenaView, IsArena, Guarantee};
 ghost use Rattle.mt_operation.specs.declared.phase.Phase.{Phase};
 ghost use Rattle.mt_operation.specs.declared.walk.Walk.{Walk};
 ghost use Rattle.mt_insert.specs.KeptPuts.{HoldsOnly};
 ghost use Rattle.mt_layer.specs.KeptLayers.{KeptLayer};
 
 /// What an operation keeps that makes a layer, each step of another one leaves, by its phase; and it
-/// comes to hold no other node. (A tree is not dead while a node of it is live.)
+/// comes to hold no other node.
 pub fn layer_stays()
-    ensures kept { (op o : ℕ) (old new : ArenaView) (key : Bytes) (w : Walk) (phase : Phase) → (tree_of new w.place.node).standing ≢ Dead → Guarantee op old new → o ≢ op →
+    ensures kept { (op o : ℕ) (old new : ArenaView) (key : Bytes) (w : Walk) (phase : Phase) → IsArena new.nodes new.trees → Guarantee op old new → o ≢ op →
         KeptLayer phase old o key w → KeptLayer phase new o key w }
     ensures holds { (op o k : ℕ) (old new : ArenaView) → Guarantee op old new → o ≢ op → HoldsOnly old o k → HoldsOnly new o k }
 {}

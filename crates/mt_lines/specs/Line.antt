@@ -1,7 +1,7 @@
 -- The lines of the language: which line, if any, some bytes are.
 use Rattle.std.specs.Prelude.{ℕ, if◌then◌else◌, List, [], ◌∷◌, codes, Option, Some, None}
 use Rattle.mt_rows.specs.declared.command.Command.{Command}
-use Rattle.mt_rows.specs.declared.command.Command.TheVariants.{Get, Put}
+use Rattle.mt_rows.specs.declared.command.Command.TheVariants.{Get, Put, Remove}
 use Rattle.mt_operation.specs.declared.phase.Phase.{Phase}
 use Rattle.mt_operation.specs.Phases.{name_of, steps}
 use Rattle.mt_lines.specs.declared.line.Line.{Line}
@@ -51,11 +51,20 @@ put_words words = do
   columns ← each column_word first.1
   Some (Put key columns)
 
+-- remove K, behind its first word
+unfoldable pub remove_words : List (List ℕ) → Option Command
+remove_words words = do
+  first ← next words
+  end ← no_more first.1
+  key ← key_word first.0
+  Some (Remove key)
+
 -- the command of a verb
 abbrev pub command_by : List ℕ → List (List ℕ) → Option Command
 command_by verb words =
     if is_text verb (codes "get") then get_words words
     else if is_text verb (codes "put") then put_words words
+    else if is_text verb (codes "remove") then remove_words words
     else None
 
 -- a command

@@ -4,7 +4,7 @@
 
 ghost use Rattle.std.specs.Prelude.{◌≡◌, IfOk, codes};
 ghost use Rattle.mt_lines.specs.Words.{Means, words_of, each, column_word};
-ghost use Rattle.mt_lines.specs.Line.{index_word, phase_word, phase_in, tenant_line, get_words, put_words, command_words, begin_line, name_alone, step_line, run_line, until_line, shape_line, line_of_words, line_of};
+ghost use Rattle.mt_lines.specs.Line.{index_word, phase_word, phase_in, tenant_line, get_words, put_words, remove_words, command_words, begin_line, name_alone, step_line, run_line, until_line, shape_line, line_of_words, line_of};
 
 use crate::fault::LineFault;
 use crate::words;
@@ -113,6 +113,8 @@ fn command(alloc: Global, rest: &[u8]) -> Result<Command, LineFault>
         get(alloc, rest)
     } else if words::is_text(verb, "put") {
         put(alloc, rest)
+    } else if words::is_text(verb, "remove") {
+        remove(alloc, rest)
     } else {
         Err(LineFault::BadLine)
     }
@@ -137,6 +139,16 @@ fn put(alloc: Global, rest: &[u8]) -> Result<Command, LineFault>
     let key = words::key(alloc, first)?;
     let change = NamedColumns::new(columns(alloc, rest)?);
     Ok(Command::Put { key, change })
+}
+
+#[tactic(auto, unfolding(crate::specs::Line::remove_words))]
+fn remove(alloc: Global, rest: &[u8]) -> Result<Command, LineFault>
+    ensures { Means (λ command. command) result (remove_words (words_of rest.now)) }
+{
+    let (first, rest) = words::next_word(rest)?;
+    words::end_of_words(rest)?;
+    let key = words::key(alloc, first)?;
+    Ok(Command::Remove { key })
 }
 
 // Columns' indexes, up to the end.

@@ -54,14 +54,17 @@ impl NamedStore {
         })
     }
 
-    /// Whether a begin may stand here: its name is free, and its command is a get or a put.
+    /// Whether a begin may stand here: its name is free, and its command is no scan.
     pub fn may_begin(&self, name: u32, command: &Command) -> bool
         ensures { IsTrue result ↔ MayBeginAs self.now name command.now }
     {
         if let Some(_) = self.names.ticket(name) {
             return false;
         }
-        matches!(command, Command::Get { .. } | Command::Put { .. })
+        matches!(
+            command,
+            Command::Get { .. } | Command::Put { .. } | Command::Remove { .. }
+        )
     }
 
     /// Begins an operation by a free name, for worker 0.

@@ -19,7 +19,7 @@ fn expect_bytes(rt: &impl Abort, what: &str, is_whole: bool, written: &[u8], wan
 }
 
 // A script, and its answers.
-const SINGLE_LINES: [(&str, &str); 49] = [
+const SINGLE_LINES: [(&str, &str); 50] = [
     ("", ""),
     ("\n\r\n# a comment\n", ""),
     (" ", "bad line\n"),
@@ -87,8 +87,12 @@ const SINGLE_LINES: [(&str, &str); 49] = [
         "ok\nbegun 1\ndone new\nbegun 1\ndone found 0=abcd\n",
     ),
     (
-        "tenant 7 5\nbegin 1 7 remove 61\nbegin 1 7 scan - 1\nbegin 1 7 gets 61\n",
-        "ok\nbad line\nbad line\nbad line\n",
+        "tenant 7 5\nbegin 1 7 remove\nbegin 1 7 remove 61 62\nbegin 1 7 scan - 1\nbegin 1 7 gets 61\n",
+        "ok\nbad line\nbad line\nbad line\nbad line\n",
+    ),
+    (
+        "tenant 7 5\nbegin 1 7 put 61 0=76\nrun 1\nbegin 1 7 remove 61\nrun 1\nbegin 1 7 remove 61\nrun 1\nbegin 1 7 get 61\nrun 1\n",
+        "ok\nbegun 1\ndone new\nbegun 1\ndone removed\nbegun 1\ndone absent\nbegun 1\ndone absent\n",
     ),
     (
         "tenant 7 5\nbegin 1 7 get 61\nbegin 1 7 get 61\nrun 1\nrun 1\n",
@@ -105,7 +109,7 @@ const SINGLE_LINES: [(&str, &str); 49] = [
     ("\u{0}\n\u{ff}\n", "bad line\nbad line\n"),
     ("step 1 # no comment\nrun 1", "bad line\nnone\n"),
     (
-        "begin 2 8 get 61\nbegin 2 8 remove 61\n",
+        "begin 2 8 get 61\nbegin 2 8 scan - 1\n",
         "refused E4\nbad line\n",
     ),
 ];

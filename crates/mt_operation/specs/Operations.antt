@@ -1,5 +1,5 @@
 -- An operation between its steps: what is shown of it, and what each change makes of it.
-use Rattle.std.specs.Prelude.{◌≡◌, ℕ, List, [], Bool, not, ◌==◌, if◌then◌else◌, Option, Some, None}
+use Rattle.std.specs.Prelude.{◌≡◌, ℕ, List, [], Bool, false, not, ◌==◌, if◌then◌else◌, Option, Some, None}
 use Rattle.mt_rows.specs.declared.command.Command.{Command}
 use Rattle.mt_rows.specs.Maps.{is_get}
 use Rattle.mt_operation.specs.declared.phase.Phase.{Phase}
@@ -9,6 +9,7 @@ use Rattle.mt_operation.specs.declared.outcome.Outcome.{Outcome}
 use Rattle.mt_operation.specs.declared.prepared.Prepared.{Prepared}
 use Rattle.mt_operation.specs.declared.splits.Halves.{Halves}
 use Rattle.mt_operation.specs.declared.splits.Splits.{Splits}
+use Rattle.mt_operation.specs.declared.removal.Removal.{Removal}
 use Rattle.mt_operation.specs.declared.operation.Operation.{Operation}
 use Rattle.mt_operation.specs.Phases.{is_done}
 use Rattle.mt_operation.specs.Tasks.{ask}
@@ -29,7 +30,7 @@ abbrev pub no_splits : SplitsView
 no_splits = record { halves = []; above = None; moved = 0 }
 
 -- what is shown of an operation: whose command it is, the numbers of its first and last step so far, 0 where it has made none, what its next step
--- does, what it answers, once that is known, what it remembers of its way, and what it has split
+-- does, what it answers, once that is known, what it remembers of its way, what it has split, and what it remembers of its removal
 pub record OperationView : Type 0 where
   pub worker : ℕ
   pub tenant : ℕ
@@ -40,6 +41,7 @@ pub record OperationView : Type 0 where
   pub outcome : Option Outcome
   pub walk : Walk
   pub splits : SplitsView
+  pub removal : Removal
 
 abbrev pub view_of : Operation → OperationView
 view_of op = record {
@@ -52,6 +54,7 @@ view_of op = record {
   outcome = op.outcome;
   walk = op.walk;
   splits = splits_of op.splits;
+  removal = op.removal;
 }
 
 -- an operation with a step left
@@ -64,9 +67,13 @@ pub record IsUnsplit (s : Splits) : Type 0 where
   pub above : s.above ≡ None
   pub moved : s.moved ≡ 0
 
+-- the operation has emptied no border node, holds none beside it, and goes to no link to take it out
+abbrev pub no_removal : Removal
+no_removal = record { emptied = false; left = None; parent = None; below = None; cleans = None }
+
 -- an operation before its first step, with the splits of one that has split nothing
 abbrev pub begun : Task → Splits → Operation
-begun task splits = record { task = task; walk = walk_from_top (not (is_get (ask task))) 0; last = 0; outcome = None; prepared = None; splits = splits }
+begun task splits = record { task = task; walk = walk_from_top (not (is_get (ask task))) 0; last = 0; outcome = None; prepared = None; splits = splits; removal = no_removal }
 
 -- an operation that has made the step of this number, which is its first where it had made none, and walks on so
 abbrev pub moved : Operation → ℕ → Walk → Operation
@@ -87,6 +94,10 @@ made_ready op prepared = record op { prepared = Some prepared }
 -- with these splits
 abbrev pub with_splits : Operation → Splits → Operation
 with_splits op splits = record op { splits = splits }
+
+-- with this of its removal
+abbrev pub with_removal : Operation → Removal → Operation
+with_removal op removal = record op { removal = removal }
 
 -- and with nothing ready
 abbrev pub with_nothing_ready : Operation → Operation

@@ -2,11 +2,11 @@
 -- its step leads where, is told by the crates that have its call.
 use Rattle.std.specs.Prelude.{◌≡◌, ℕ, ◌==◌, Bool, true, false, List, [], ◌∷◌, codes}
 use Rattle.mt_operation.specs.declared.phase.Phase.{Phase}
-use Rattle.mt_operation.specs.declared.phase.Phase.TheVariants.{Enter, Pick, Child, Verify, Search, Load, Confirm, Forward, Lock, Judge, Store, Publish, SplitStart, SplitMove, SplitPrev, LockParent, InsertChild, InteriorSplit, Reparent, RootGrow, MakeLayer, MarkUnstable, Link, MarkLayer, Unlock, Done}
+use Rattle.mt_operation.specs.declared.phase.Phase.TheVariants.{Enter, Pick, Child, Verify, Search, Load, Confirm, Forward, Lock, Judge, Store, Publish, SplitStart, SplitMove, SplitPrev, LockParent, InsertChild, InteriorSplit, Reparent, RootGrow, MakeLayer, MarkUnstable, Link, MarkLayer, DropKey, LockPrev, LockAbove, Unlink, FixNext, Collapse, CleanLayer, Unlock, Done}
 
 -- What the step does: it goes down to the node of the key, reads there for a get, locks the node for a write, judges what the write finds, writes, begins to
--- split the node, splits it, brings right halves up to their parents, makes a layer, or gives the locks back. There is none where the operation has ended.
--- By it hangs what the operation holds, and how far its change is.
+-- split the node, splits it, brings right halves up to their parents, makes a layer, takes the pair out, takes the empty node out, takes an empty layer
+-- out, or gives the locks back. There is none where the operation has ended. By it hangs what the operation holds, and how far its change is.
 pub data Kind : Type 0 where
   Descends : Kind
   Reads : Kind
@@ -17,14 +17,19 @@ pub data Kind : Type 0 where
   Splits : Kind
   Climbs : Kind
   Layers : Kind
+  Drops : Kind
+  Unlinks : Kind
+  Cleans : Kind
   Returns : Kind
   Ends : Kind
 
--- which nodes the operation holds: none, its border node, those of its splits, or these where it has split any and else its border node
+-- which nodes the operation holds: none; its border node; those of its splits; its border node and those of its removal; or those of its splits where it has
+-- split any, and else its border node and those of its removal
 pub data Holding : Type 0 where
   Free : Holding
   Border : Holding
   Parts : Holding
+  Emptied : Holding
   Last : Holding
 
 abbrev pub holds_of : Kind → Holding
@@ -32,15 +37,20 @@ holds_of Judges = Border
 holds_of Writes = Border
 holds_of Begins = Border
 holds_of Layers = Border
+holds_of Drops = Border
+holds_of Unlinks = Emptied
+holds_of Cleans = Border
 holds_of Splits = Parts
 holds_of Climbs = Parts
 holds_of Returns = Last
 holds_of _ = Free
 
--- whether its change is still to come, has all made ready for it, or was placed or found to be none
+-- whether its change is still to come, has all made ready for it, or was placed or found to be none; or whether it may be either, on its way to its key or
+-- back to a link
 pub data Change : Type 0 where
   ToCome : Change
   Ready : Change
+  Either : Change
   Settled : Change
 
 abbrev pub change_at : Kind → Change
@@ -48,12 +58,17 @@ change_at Writes = Ready
 change_at Begins = Ready
 change_at Splits = Ready
 change_at Climbs = Settled
+change_at Drops = Ready
+change_at Unlinks = Settled
+change_at Cleans = Settled
 change_at Returns = Settled
 change_at Ends = Settled
-change_at _ = ToCome
+change_at Reads = ToCome
+change_at Layers = ToCome
+change_at _ = Either
 
 -- for what the step may have to wait: for nothing; for the mark of the tree's root, of the child, of the walk's own node, or of the next one; for an unstable
--- slot; or for the lock of its own node or of the parent of its splits
+-- slot; or for the lock of its own node, of the parent of its splits, of the node before its own, of its own node's parent, or of the root of the layer below
 pub data Waiting : Type 0 where
   Never : Waiting
   RootMark : Waiting
@@ -63,6 +78,9 @@ pub data Waiting : Type 0 where
   OwnSlot : Waiting
   OwnLock : Waiting
   ParentLock : Waiting
+  BeforeLock : Waiting
+  AboveLock : Waiting
+  BelowLock : Waiting
 
 -- what comes of the operation where memory is refused to the step: it takes none; it ends; or it stands, and the step can be tried again
 pub data Growth : Type 0 where
@@ -90,8 +108,8 @@ row Search = line 4 (codes "search") Reads Never TakesNone (Load ∷ Confirm ∷
 row Load = line 5 (codes "load") Reads OwnSlot EndsForWant (Confirm ∷ Done ∷ [])
 row Confirm = line 6 (codes "confirm") Reads OwnMark TakesNone (Done ∷ Enter ∷ Forward ∷ [])
 row Forward = line 7 (codes "forward") Descends NextMark TakesNone (Enter ∷ Forward ∷ Search ∷ Lock ∷ [])
-row Lock = line 8 (codes "lock") Locks OwnLock TakesNone (Enter ∷ Forward ∷ Judge ∷ [])
-row Judge = line 9 (codes "judge") Judges Never EndsForWant (Store ∷ Publish ∷ SplitStart ∷ MakeLayer ∷ Enter ∷ Done ∷ [])
+row Lock = line 8 (codes "lock") Locks OwnLock TakesNone (Enter ∷ Forward ∷ Judge ∷ CleanLayer ∷ [])
+row Judge = line 9 (codes "judge") Judges Never EndsForWant (Store ∷ Publish ∷ SplitStart ∷ MakeLayer ∷ DropKey ∷ Enter ∷ Done ∷ [])
 row Store = line 10 (codes "store") Writes Never TakesNone (Unlock ∷ [])
 row Publish = line 11 (codes "publish") Writes Never TakesNone (Unlock ∷ [])
 row SplitStart = line 12 (codes "splitstart") Begins Never EndsForWant (SplitMove ∷ Done ∷ [])
@@ -106,14 +124,21 @@ row MakeLayer = line 20 (codes "makelayer") Layers Never EndsForWant (MarkUnstab
 row MarkUnstable = line 21 (codes "markunstable") Layers Never TakesNone (Link ∷ [])
 row Link = line 22 (codes "link") Layers Never TakesNone (MarkLayer ∷ [])
 row MarkLayer = line 23 (codes "marklayer") Layers Never TakesNone (Unlock ∷ [])
-row Unlock = line 24 (codes "unlock") Returns Never TakesNone (Enter ∷ Done ∷ [])
-row Done = line 25 (codes "done") Ends Never TakesNone []
+row DropKey = line 24 (codes "dropkey") Drops Never TakesNone (LockPrev ∷ Unlock ∷ [])
+row LockPrev = line 25 (codes "lockprev") Unlinks BeforeLock TakesNone (LockAbove ∷ [])
+row LockAbove = line 26 (codes "lockabove") Unlinks AboveLock TakesNone (Unlink ∷ Unlock ∷ [])
+row Unlink = line 27 (codes "unlink") Unlinks Never TakesNone (FixNext ∷ Collapse ∷ Unlock ∷ [])
+row FixNext = line 28 (codes "fixnext") Unlinks Never TakesNone (Collapse ∷ Unlock ∷ [])
+row Collapse = line 29 (codes "collapse") Unlinks Never TakesNone (Unlock ∷ [])
+row CleanLayer = line 30 (codes "cleanlayer") Cleans BelowLock TakesNone (LockPrev ∷ Unlock ∷ [])
+row Unlock = line 31 (codes "unlock") Returns Never TakesNone (Enter ∷ Done ∷ [])
+row Done = line 32 (codes "done") Ends Never TakesNone []
 
 -- those that have a step
 abbrev pub steps : List Phase
 steps = Enter ∷ Pick ∷ Child ∷ Verify ∷ Search ∷ Load ∷ Confirm ∷ Forward ∷ Lock ∷ Judge ∷ Store ∷ Publish
     ∷ SplitStart ∷ SplitMove ∷ SplitPrev ∷ LockParent ∷ InsertChild ∷ InteriorSplit ∷ Reparent ∷ RootGrow
-    ∷ MakeLayer ∷ MarkUnstable ∷ Link ∷ MarkLayer ∷ Unlock ∷ []
+    ∷ MakeLayer ∷ MarkUnstable ∷ Link ∷ MarkLayer ∷ DropKey ∷ LockPrev ∷ LockAbove ∷ Unlink ∷ FixNext ∷ Collapse ∷ CleanLayer ∷ Unlock ∷ []
 
 -- a phase's name, as it is written
 abbrev pub name_of : Phase → List ℕ
@@ -140,7 +165,7 @@ ends _ = false
 abbrev pub is_done : Phase → Bool
 is_done p = ends (row p).kind
 
--- the step is one of a climb; it makes a layer; it is no look of an operation that holds nothing
+-- the step is one of a climb; it makes a layer; it goes down; it is no look of an operation that holds nothing
 abbrev pub IsClimbKind : Kind → Type 0
 IsClimbKind Climbs = Unit {0}
 IsClimbKind _ = ⊥
@@ -154,6 +179,15 @@ IsLayerKind _ = ⊥
 
 abbrev pub IsLayerPhase : Phase → Type 0
 IsLayerPhase p = IsLayerKind (row p).kind
+
+-- it takes an empty node or an empty layer out
+abbrev pub IsRemovalKind : Kind → Type 0
+IsRemovalKind Unlinks = Unit {0}
+IsRemovalKind Cleans = Unit {0}
+IsRemovalKind _ = ⊥
+
+abbrev pub IsRemovalPhase : Phase → Type 0
+IsRemovalPhase p = IsRemovalKind (row p).kind
 
 abbrev pub IsDescentKind : Kind → Type 0
 IsDescentKind Descends = Unit {0}
@@ -188,10 +222,11 @@ is_ready _ = false
 abbrev pub is_prepared : Phase → Bool
 is_prepared p = is_ready (change_at (row p).kind)
 
--- its change may still be placed
+-- its change was not placed
 abbrev pub is_to_come : Change → Bool
-is_to_come Settled = false
-is_to_come _ = true
+is_to_come ToCome = true
+is_to_come Ready = true
+is_to_come _ = false
 
 abbrev pub is_unplaced : Phase → Bool
 is_unplaced p = is_to_come (change_at (row p).kind)

@@ -6,6 +6,7 @@ ghost use Rattle.mt_operation.specs.Operations.{begun, IsUnsplit, moved, counted
 use crate::outcome::Outcome;
 use crate::phase::Phase;
 use crate::prepared::Prepared;
+use crate::removal::Removal;
 use crate::splits::Splits;
 use crate::task::Task;
 use crate::walk::Walk;
@@ -22,6 +23,7 @@ pub struct Operation {
     pub outcome: Option<Outcome>,
     pub prepared: Option<Prepared>,
     pub splits: Splits,
+    pub removal: Removal,
 }
 
 impl Operation {
@@ -38,6 +40,7 @@ impl Operation {
             outcome: None,
             prepared: None,
             splits: Splits::new(alloc),
+            removal: Removal::new(),
         }
     }
 

@@ -58,6 +58,20 @@ pub enum Phase {
     Link,
     /// Makes the slot a link, and the new tree live.
     MarkLayer,
+    /// Takes the key's pair out.
+    DropKey,
+    /// Locks the left neighbour of the empty border node.
+    LockPrev,
+    /// Locks its parent, and looks again.
+    LockAbove,
+    /// Takes the empty border node out of its tree.
+    Unlink,
+    /// Names the left neighbour in the border node behind it.
+    FixNext,
+    /// Takes out a root that has one border node below it.
+    Collapse,
+    /// Takes out the link to an empty layer, with its tree.
+    CleanLayer,
     /// Gives all locks back.
     Unlock,
     /// The operation has its answer.
@@ -65,7 +79,7 @@ pub enum Phase {
 }
 
 /// The phases that have a step, in the order of the table.
-pub const PHASES: [Phase; 25] = [
+pub const PHASES: [Phase; 32] = [
     Phase::Enter,
     Phase::Pick,
     Phase::Child,
@@ -90,6 +104,13 @@ pub const PHASES: [Phase; 25] = [
     Phase::MarkUnstable,
     Phase::Link,
     Phase::MarkLayer,
+    Phase::DropKey,
+    Phase::LockPrev,
+    Phase::LockAbove,
+    Phase::Unlink,
+    Phase::FixNext,
+    Phase::Collapse,
+    Phase::CleanLayer,
     Phase::Unlock,
 ];
 
@@ -123,6 +144,13 @@ impl Phase {
             Phase::MarkUnstable => "markunstable",
             Phase::Link => "link",
             Phase::MarkLayer => "marklayer",
+            Phase::DropKey => "dropkey",
+            Phase::LockPrev => "lockprev",
+            Phase::LockAbove => "lockabove",
+            Phase::Unlink => "unlink",
+            Phase::FixNext => "fixnext",
+            Phase::Collapse => "collapse",
+            Phase::CleanLayer => "cleanlayer",
             Phase::Unlock => "unlock",
             Phase::Done => "done",
         }

@@ -8,7 +8,7 @@ ghost use Rattle.std.specs.Prelude.{◌≡◌, ◌≢◌, ◌<◌, false, Some, 
 ghost use Rattle.std.specs.Option.{ForSome};
 ghost use Rattle.std.specs.Fn.{FnOnceTakesAtMut, FnOnceReturnsAtMut};
 ghost use Rattle.mt_operation.specs.declared.queue.Seat.{Seat as AnySeat};
-ghost use Rattle.mt_operation.specs.Operations.{moved, noted, made_ready, with_splits, with_nothing_ready};
+ghost use Rattle.mt_operation.specs.Operations.{moved, noted, made_ready, with_splits, with_removal, with_nothing_ready};
 ghost use Rattle.mt_operation.specs.Tables.{prepared_in};
 ghost use Rattle.mt_operation.specs.Seats.{Seats, seat_at, operation_in, is_still, IsEndOrSeat, KeepsRoom};
 ghost use Rattle.mt_operation.specs.Bodies.{SeatKeepsFirst, SeatStepsBy};
@@ -17,6 +17,7 @@ ghost use Rattle.mt_operation.specs.Queues.{SetsAfter, SetsBefore, CutsOut, Link
 use crate::operation::Operation;
 use crate::outcome::Outcome;
 use crate::prepared::Prepared;
+use crate::removal::Removal;
 use crate::splits::Splits;
 use crate::steps::{Made, Stepped};
 use crate::walk::Walk;
@@ -121,6 +122,17 @@ pub(crate) fn step_at<F: FnOnce(&mut Operation) -> Made>(
     SeatStep {
         stepped,
         is_first: false,
+    }
+}
+
+/// An operation remembers this of its removal.
+pub(crate) fn remember_removal_at(seats: &mut Slab<Seat>, id: usize, removal: &Removal)
+    ensures becomes { Becomes seats.old.slots seats.new.slots id (λ op. with_removal op removal.now) }
+    ensures none { seat_at seats.old.slots id ≡ None → seats.new.slots ≡ seats.old.slots }
+    ensures room { KeepsRoom seats.old seats.new }
+{
+    if let Some(seat) = seats.get_mut(id) {
+        seat.operation.removal = *removal;
     }
 }
 

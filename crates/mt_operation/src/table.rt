@@ -16,9 +16,10 @@ use crate::operation::Operation;
 use crate::outcome::Outcome;
 use crate::prepared::Prepared;
 use crate::queue::{
-    Ends, Seat, cut, link_last, make_ready_at, move_at, move_with_at, step_at, swap_splits_at,
-    take_prepared_at,
+    Ends, Seat, cut, link_last, make_ready_at, move_at, move_with_at, remember_removal_at, step_at,
+    swap_splits_at, take_prepared_at,
 };
+use crate::removal::Removal;
 use crate::splits::Splits;
 use crate::steps::{Made, Stepped};
 use crate::walk::Walk;
@@ -48,7 +49,7 @@ impl Model for Operations {
 }
 
 impl Operations {
-    ghost use Rattle.mt_operation.specs.Operations.{moved, noted, made_ready, with_splits, with_nothing_ready};
+    ghost use Rattle.mt_operation.specs.Operations.{moved, noted, made_ready, with_splits, with_removal, with_nothing_ready};
     ghost use Rattle.mt_operation.specs.Bodies.{StepsBy, MovesUnfinished, KeepsFirst, LeavesElse};
     ghost use Rattle.mt_operation.specs.Tables.{op_at, prepared_in, open_count, HasPlaces, AddsPlaces, AreBefore, MayMove, IsFloorNeeded};
 
@@ -168,6 +169,14 @@ impl Operations {
             link_last(&mut self.seats, &mut self.ends, id);
         }
         step.stepped
+    }
+
+    /// An operation remembers this of its removal. Nothing happens where no operation has the id.
+    pub fn remember_removal(&mut self, id: usize, removal: &Removal)
+        ensures remembers { (op : AnyOperation) → op_at self.old id ≡ Some op → self.new ≡ slice_set self.old id (Some (with_removal op removal.now)) }
+        ensures absent { op_at self.old id ≡ None → self.new ≡ self.old }
+    {
+        remember_removal_at(&mut self.seats, id, removal);
     }
 
     /// An operation has made this ready. Nothing happens where no operation has the id.

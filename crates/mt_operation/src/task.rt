@@ -15,6 +15,8 @@ pub enum Request {
     Get { key: Key, columns: ColumnIndexes },
     /// Writes columns of the key's row.
     Put { key: Key, change: Change },
+    /// Takes the key's row away.
+    Remove { key: Key },
 }
 
 /// The request of a worker for a tenant, and the request's key as it is stored.
@@ -33,7 +35,7 @@ impl Request {
     {
         match self {
             Request::Get { .. } => true,
-            Request::Put { .. } => false,
+            Request::Put { .. } | Request::Remove { .. } => false,
         }
     }
 
@@ -42,7 +44,7 @@ impl Request {
         ensures { result.now ≡ key_of (command_of self.now) }
     {
         match self {
-            Request::Get { key, .. } | Request::Put { key, .. } => key,
+            Request::Get { key, .. } | Request::Put { key, .. } | Request::Remove { key } => key,
         }
     }
 
@@ -56,6 +58,7 @@ impl Request {
                 key,
                 change: change.into_list(),
             },
+            Request::Remove { key } => Command::Remove { key },
         }
     }
 }

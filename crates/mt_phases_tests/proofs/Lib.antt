@@ -1,2 +1,5 @@
 pub mod Rooms
 pub mod Steps
+pub mod Cases
+pub mod Staying
+pub mod Leading

@@ -1,1 +1,2 @@
 pub mod Ways
+pub mod KeptRemovers

@@ -25,8 +25,8 @@ use std::process::Abort;
 /// The stamp of a key's pair and the first byte of its row; or in how many steps it was missed.
 pub type Found = Result<(u64, u8), u32>;
 
-// One step, of a walk that has no row.
-fn step(rt: &impl Abort, arena: &Arena, key: &StoredKey, walk: &mut Walk)
+/// One step, of a walk that has no row.
+pub fn step(rt: &impl Abort, arena: &Arena, key: &StoredKey, walk: &mut Walk)
     requires { IsComing arena.now key.now walk.old }
     ensures { IsComing arena.now key.now walk.new }
 {
@@ -44,8 +44,8 @@ fn step(rt: &impl Abort, arena: &Arena, key: &StoredKey, walk: &mut Walk)
     assert!(rt; matches!(blocked, None));
 }
 
-// Walks on to this phase, and tells in how many steps.
-fn go_to(rt: &impl Abort, arena: &Arena, key: &StoredKey, walk: &mut Walk, phase: Phase) -> u32
+/// Walks on to this phase, and tells in how many steps.
+pub fn go_to(rt: &impl Abort, arena: &Arena, key: &StoredKey, walk: &mut Walk, phase: Phase) -> u32
     requires { IsComing arena.now key.now walk.old }
     ensures { IsComing arena.now key.now walk.new }
 {
@@ -152,8 +152,8 @@ pub fn put_of(rt: &impl Abort, alloc: Global, name: &[u8], value: &[u8]) -> Task
     }
 }
 
-// The step behind that of the last write, which may place a write.
-fn next_step(rt: &impl Abort, tape: &Tape) -> u64
+/// The step behind that of the last write, which may place a write.
+pub fn next_step(rt: &impl Abort, tape: &Tape) -> u64
     ensures reserved { 0 < tape.now.reserved }
     ensures later { last_write tape.now < result }
 {
@@ -161,8 +161,8 @@ fn next_step(rt: &impl Abort, tape: &Tape) -> u64
     tape.last_write().checked_add(1).expect(rt, "a step")
 }
 
-// The node's version may count one more change.
-fn assert_may_count(rt: &impl Abort, arena: &Arena, node: usize)
+/// The node's version may count one more change.
+pub fn assert_may_count(rt: &impl Abort, arena: &Arena, node: usize)
     requires { node < length arena.now.nodes }
     ensures { CanUnlock (at arena.now node).version }
 {
@@ -170,14 +170,14 @@ fn assert_may_count(rt: &impl Abort, arena: &Arena, node: usize)
     assert!(rt; version.inserts() < 1_000_000 && version.splits() < 1_000_000);
 }
 
-// Locks the border node of the key.
-fn lock_border(rt: &impl Abort, on: &mut Store, task: &Task)
+/// Locks the border node to which the walk has come.
+pub fn lock_here(rt: &impl Abort, on: &mut Store, task: &Task)
+    requires { IsAtBorder on.old.arena task.now.key on.old.walk }
     ensures kept { HoldsBorder on.new.arena 5 task.now.key on.new.walk }
     ensures others { AllStay on.old.arena on.new.arena }
 {
     holds_once_locked();
     kept_stays();
-    on.walk = walk_down(rt, &on.arena, &task.key, Phase::Lock);
     assert!(rt; matches!(lock(&mut on.arena, &task.key, &mut on.walk, 5), None));
     assert!(rt; matches!(on.walk.phase, Phase::Judge));
 }
@@ -188,7 +188,8 @@ pub fn begin(rt: &impl Abort, on: &mut Store, task: &Task) -> Prepared
     ensures kept { KeptReady on.new.walk.phase on.new.arena 5 task.now result on.new.walk }
     ensures others { AllStay on.old.arena on.new.arena }
 {
-    lock_border(rt, on, task);
+    on.walk = walk_down(rt, &on.arena, &task.key, Phase::Lock);
+    lock_here(rt, on, task);
     match judge(on.alloc, &mut on.arena, &mut on.tape, task, &mut on.walk, 5) {
         Judged::Ready(prepared) => prepared,
         _ => panic!(rt; "nothing is ready"),
@@ -309,8 +310,8 @@ fn split(rt: &impl Abort, on: &mut Store, task: &Task, prepared: Prepared) -> us
     steps
 }
 
-// What is left of a put that holds its node; how many steps its climb has.
-fn finish(rt: &impl Abort, on: &mut Store, task: &Task, prepared: Prepared) -> usize
+/// What is left of a put that holds its node; how many steps its climb has.
+pub fn finish(rt: &impl Abort, on: &mut Store, task: &Task, prepared: Prepared) -> usize
     requires put { IsPut task.now }
     requires kept { KeptReady on.old.walk.phase on.old.arena 5 task.now prepared on.old.walk }
 {

@@ -21,6 +21,14 @@ pub(crate) const ABSENT: &[u8] = b"\x00\x00\x00\x01\x01";
 
 pub(crate) const FOUND: &[u8] = b"\x00\x00\x00\x05\x02\x01\x00\x01v";
 
+/// `k` is removed.
+pub(crate) const REMOVE: &[u8] = b"\x00\x00\x00\x04\x04\x00\x01k";
+
+pub(crate) const REMOVED: &[u8] = b"\x00\x00\x00\x01\x05";
+
+/// Two pairs from the first key on are asked for.
+pub(crate) const SCAN: &[u8] = b"\x00\x00\x00\x06\x05\x00\x00\x00\x02\x00";
+
 /// No frame of a request.
 pub(crate) const BAD: &[u8] = b"\x00\x00\x80\x01";
 
@@ -32,9 +40,6 @@ pub(crate) fn connect<R: Net<Stream = TcpStream>>(rt: &R, port: u16) -> io::Resu
     stream.set_read_timeout(Some(Duration::from_secs(60)))?;
     Ok(stream)
 }
-
-/// `k` is removed.
-pub(crate) const REMOVE: &[u8] = b"\x00\x00\x00\x04\x04\x00\x01k";
 
 /// Whether the request is answered with this reply, of at most 16 bytes.
 pub(crate) fn is_told(stream: &TcpStream, request: &[u8], reply: &[u8]) -> io::Result<bool> {

@@ -3,8 +3,8 @@
 ghost use Rattle.std.specs.Prelude.{◌≡◌};
 
 use crate::clients::{
-    ABSENT, BAD, BAD_FRAME, FOUND, GET, NEW, OPEN, OPENED, PUT, REMOVE, connect, is_at_end,
-    is_told, is_told_behind,
+    ABSENT, BAD, BAD_FRAME, FOUND, GET, NEW, OPEN, OPENED, PUT, REMOVE, REMOVED, SCAN, connect,
+    is_at_end, is_told, is_told_behind,
 };
 use crate::words::options_of;
 use mt_options::Options;
@@ -54,8 +54,10 @@ enum Scene {
     BadFrame,
     /// One leaves inside a frame.
     MidFrame,
-    /// One asks for a removal, which can't be begun yet.
+    /// One puts and removes, and the other one finds nothing.
     Removal,
+    /// One asks for a scan, which can't be begun yet.
+    Scan,
 }
 
 // Plays a scene; whether each client was told what it should be.
@@ -80,7 +82,8 @@ fn play(scene: Scene, first: TcpStream, second: TcpStream) -> io::Result<bool> {
                 && is_at_end(&first)?
         }
         Scene::MidFrame => is_told_behind(&first, OPEN, &PUT[..7], OPENED)?,
-        Scene::Removal => { is_told_behind(&first, OPEN, REMOVE, OPENED)? && is_at_end(&first)? }
+        Scene::Removal => is_told(&first, OPEN, OPENED)? && puts_and_removes(&first)?,
+        Scene::Scan => is_told_behind(&first, OPEN, SCAN, OPENED)? && is_at_end(&first)?,
     };
     drop(first);
     Ok(is_right && is_told(&second, OPEN, OPENED)? && is_told(&second, GET, wanted)?)
@@ -90,13 +93,22 @@ fn puts_and_gets(client: &TcpStream) -> io::Result<bool> {
     Ok(is_told(client, PUT, NEW)? && is_told(client, GET, FOUND)?)
 }
 
+fn puts_and_removes(client: &TcpStream) -> io::Result<bool> {
+    Ok(
+        is_told(client, PUT, NEW)?
+            && is_told(client, REMOVE, REMOVED)?
+            && is_told(client, REMOVE, ABSENT)?,
+    )
+}
+
 impl Scene {
     // The words of its server, the last line of the output, and how many sessions end otherwise than
     // closed.
     fn ends(self) -> (&'static str, &'static str, u64) {
         match self {
             Scene::InTurn | Scene::AtOnce => (TWO_WORKERS, "sessions 2 answers 3", 0),
-            Scene::BadFrame | Scene::MidFrame | Scene::Removal => {
+            Scene::Removal => (TWO_WORKERS, "sessions 2 answers 4", 0),
+            Scene::BadFrame | Scene::MidFrame | Scene::Scan => {
                 (ONE_WORKER, "sessions 2 answers 1", 1)
             }
         }
@@ -150,4 +162,5 @@ fn servers_serve_their_clients(rt: HostRuntime) {
     serve_scene::<Brand, _>(&rt, alloc, Blank::new(65_536), Scene::BadFrame);
     serve_scene::<Brand, _>(&rt, alloc, Blank::new(65_536), Scene::MidFrame);
     serve_scene::<Brand, _>(&rt, alloc, Blank::new(65_536), Scene::Removal);
+    serve_scene::<Brand, _>(&rt, alloc, Blank::new(65_536), Scene::Scan);
 }

@@ -1,7 +1,7 @@
 -- What a caller over a desk may answer to a session.
 use Rattle.std.specs.Prelude.{◌≡◌, ℕ, ◌+◌, ◌<◌, List, Option, Some, None, Result, Err, IfOk}
 use Rattle.mt_rows.specs.declared.command.Command.{Command}
-use Rattle.mt_rows.specs.declared.command.Command.TheVariants.{Get, Put}
+use Rattle.mt_rows.specs.declared.command.Command.TheVariants.{Get, Put, Remove}
 use Rattle.mt_rows.specs.declared.reply.Reply.{Reply}
 use Rattle.mt_rows.specs.declared.refusal.Refusal.{Refusal}
 use Rattle.mt_rows.specs.declared.refusal.Refusal.TheVariants.{NoTenant, NotOpen, NoStore}
@@ -48,10 +48,11 @@ pub record AsksCall {S : Type 0} (does : S → Period → S → Type 0) (old new
   pub tenants : new.tenants ≡ old.tenants
   pub opened : new.opened ≡ old.opened
 
--- a removal or a scan can't be begun yet: it ends the session, and nothing changes
+-- a scan can't be begun yet: it ends the session, and nothing changes
 abbrev pub AsksFor : {S : Type 0} → (S → Period → S → Type 0) → Asker S → ℕ → Command → Result Reply CallerFault → Asker S → Type 0
 AsksFor does old tenant (Get key columns) told new = AsksCall does old new tenant (Get key columns) told
 AsksFor does old tenant (Put key change) told new = AsksCall does old new tenant (Put key change) told
+AsksFor does old tenant (Remove key) told new = AsksCall does old new tenant (Remove key) told
 AsksFor does old tenant command told new = (told ≡ Err Stuck) × (new ≡ old)
 
 -- a command is one of the opened tenant; where none is opened, it is refused

@@ -88,7 +88,10 @@ impl<L: Ledger, R: Wait, D: Desk<L> + Drop> Caller for DeskCaller<'_, L, R, D> {
 fn is_point(command: &Command) -> bool
     ensures { IsTrue result ↔ MayBegin command.now }
 {
-    matches!(command, Command::Get { .. } | Command::Put { .. })
+    matches!(
+        command,
+        Command::Get { .. } | Command::Put { .. } | Command::Remove { .. }
+    )
 }
 
 // What the session is told for a call's result.

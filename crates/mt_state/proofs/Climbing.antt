@@ -1,9 +1,8 @@
 -- What each step of a split leaves of all nodes, and what is told of it by that: no pair moves, and no version counts a change.
-use Rattle.std.proofs.Common.{List, [], ap, arith, cond, false, inl, inr, length, length-append, refl, set, subst, sym, true, ℕ, ◌++◌, ◌+◌, ◌<◌, ◌∙◌, ◌∷◌, ◌≡◌, ◌≢◌, ◌≤◌, ◌⊎◌}
-use Rattle.std.proofs.lemmas.Bool.{cases_eq, cases_lt}
+use Rattle.std.proofs.Common.{List, [], ap, arith, cond, false, inl, inr, length, length-append, refl, set, subst, sym, true, ℕ, ◌++◌, ◌+◌, ◌<◌, ◌∙◌, ◌∷◌, ◌≡◌, ◌≤◌, ◌⊎◌}
+use Rattle.std.proofs.lemmas.Bool.{cases_eq, cases_lt, both_ways}
 use Rattle.mt_arena.specs.declared.tree.Tree.{Tree}
 use Rattle.mt_arena.specs.declared.tree.Standing.{Standing}
-use Rattle.mt_arena.specs.declared.tree.Standing.TheVariants.{Dead}
 use Rattle.mt_arena.specs.NodeView.{NodeView, node_at}
 use Rattle.mt_arena.specs.Forests.{tree_at}
 use Rattle.mt_arena.specs.Edits.{pointed}
@@ -12,10 +11,10 @@ use Rattle.mt_arena.specs.Arena.{ArenaView, Guarantee, content_of}
 use Rattle.mt_arena.specs.Accesses.{at}
 use Rattle.mt_arena.proofs.Pairs.{before as as_before, here, last as as_pushed, there}
 use Rattle.mt_state.specs.Promises.{HoldsEither, Touches}
-use Rattle.mt_state.specs.Invariant.{IsCountedUpTo, IsUnremoved, StateInvariant}
+use Rattle.mt_state.specs.Invariant.{IsCountedUpTo, StateInvariant, DeletedAreEmpty}
 use Rattle.mt_state.specs.Growth.{MakesFew}
 use Rattle.mt_state.specs.Views.{Core}
-use Rattle.mt_state.proofs.Quiet.{HasPairsOf}
+use Rattle.mt_state.proofs.Quiet.{HasPairsOf, same_slots}
 
 -- the same pairs, tree, level and version's counts; the operation held the node or holds it then, or others name another one in it
 pub record Stays (o : ℕ) (x y : NodeView) : Type 0 where
@@ -99,7 +98,7 @@ module _ (o : ℕ) (old new : ArenaView) (l : LeavesNodes o old new) where
       there = was;
       counted = sym (same_counts old.trees new.trees (at old k) (at new k) n.deleted n.tree (l.standing (at old k).tree)) ∙ counted;
       prefix = ap (λ t. (tree_at new.trees t).prefix) n.tree ∙ l.prefix (at old k).tree;
-      slots = n.slots;
+      slots = same_slots (at old k) (at new k) n.slots;
     })
     | inr late ↦ inr (l.fresh k late within).slots
   ]
@@ -111,14 +110,11 @@ module _ (o : ℕ) (old new : ArenaView) (l : LeavesNodes o old new) where
     | inr late ↦ let n = l.fresh k late within in record { inserts = omega (arith, n.inserts); splits = omega (arith, n.splits) }
   ]
 
-  pub unremoved : IsUnremoved old → IsUnremoved new
-  unremoved one = record {
-    live = λ k within. elim (cases_lt k (length old.nodes)) [
-      | inl was ↦ (l.each k was).deleted ∙ one.live k was
-      | inr late ↦ (l.fresh k late within).live
-    ];
-    alive = λ t within. subst (λ (st : Standing). st ≢ Dead) (sym (l.standing t)) (one.alive t (omega (arith, within, l.trees)));
-  }
+  pub deleted : DeletedAreEmpty old → DeletedAreEmpty new
+  deleted all k within gone = elim (cases_lt k (length old.nodes)) [
+    | inl was ↦ let n = l.each k was in n.slots ∙ all k was (sym n.deleted ∙ gone)
+    | inr late ↦ absurd (both_ways _ (l.fresh k late within).live gone)
+  ]
 
 -- what a step of a split makes of all nodes: no pair moves, and no version counts a change
 pub record MovesNoPair (c : Core) (o : ℕ) (arena : ArenaView) : Type 0 where
@@ -127,7 +123,7 @@ pub record MovesNoPair (c : Core) (o : ℕ) (arena : ArenaView) : Type 0 where
   pub touches : Touches o c.arena arena
   pub stood : (k : ℕ) → k < length arena.nodes → counts arena.trees (at arena k) ≡ true → HasPairsOf c.arena arena k ⊎ ((at arena k).slots ≡ [])
   pub versions : (k : ℕ) → k < length arena.nodes → IsCountedUpTo c.steps (at arena k)
-  pub unremoved : IsUnremoved arena
+  pub deleted : DeletedAreEmpty arena
   pub makes : MakesFew c.arena arena
 
 -- so by what is left of the nodes
@@ -139,6 +135,6 @@ moves_by c o arena h leaves guarantee contents = record {
   touches = touches o c.arena arena leaves;
   stood = stood o c.arena arena leaves;
   versions = versions o c.arena arena leaves c.steps h.versions;
-  unremoved = unremoved o c.arena arena leaves h.unremoved;
+  deleted = deleted o c.arena arena leaves h.deleted;
   makes = makes o c.arena arena leaves;
 }

@@ -27,6 +27,7 @@ use Rattle.mt_operation.specs.declared.phase.Phase.{Phase}
 use Rattle.mt_operation.specs.Operations.{splits_of}
 use Rattle.mt_insert.proofs.SplittingParents.{count_more}
 use Rattle.mt_insert.specs.Climbs.{IsClimbFrom, IsInsertChild, IsLockParent, IsReparent, IsSplitPrev, KeepsSplits}
+use Rattle.mt_operation.specs.declared.removal.Removal.{Removal}
 
 -- another node before one and another parent of it
 leaves_pointed : (op : ℕ) (old : ArenaView) (k : ℕ) (previous parent : Option ℕ) → LeavesNodes op old (with_node old k (pointed (at old k) previous parent))
@@ -237,18 +238,18 @@ climb_some _ i op old new before after s t kept c = absurd i
 
 -- where each leads
 pub climb_leads : (p : Phase) → IsClimb p → (op : ℕ) (old new : ArenaView) (before after : Walk) (s t : Splits) → IsClimbFrom p op old new before after s t
-    → (step : ℕ) (key : Bytes) (told : Option Outcome) → LeadsTo p old new op step key told (splits_of s) before after
-climb_leads SplitPrev i op old new before after s t c step key told = c.walk
-climb_leads LockParent i op old new before after s t c step key told = by (at old (last_of s).left).parent refl
+    → (step : ℕ) (key : Bytes) (told : Option Outcome) (r : Removal) → LeadsTo p old new op step key told (splits_of s) r before after
+climb_leads SplitPrev i op old new before after s t c step key told r = c.walk
+climb_leads LockParent i op old new before after s t c step key told r = by (at old (last_of s).left).parent refl
   where
     by : (parent : Option ℕ) → (at old (last_of s).left).parent ≡ parent → GoesAbove parent old before after
     by None none = (c.root none).1
     by (Some p) named = ((c.is p named).0, (c.is p named).2)
-climb_leads InsertChild i op old new before after s t c step key told = c.walk
-climb_leads InteriorSplit i op old new before after s t c step key told = c.walk
-climb_leads Reparent i op old new before after s t c step key told = c.walk
-climb_leads RootGrow i op old new before after s t c step key told = c.walk
-climb_leads _ i op old new before after s t c step key told = absurd i
+climb_leads InsertChild i op old new before after s t c step key told r = c.walk
+climb_leads InteriorSplit i op old new before after s t c step key told r = c.walk
+climb_leads Reparent i op old new before after s t c step key told r = c.walk
+climb_leads RootGrow i op old new before after s t c step key told r = c.walk
+climb_leads _ i op old new before after s t c step key told r = absurd i
 
 -- a walk at this phase may follow one at that
 follows_to : (p q : Phase) (before after : Walk) → after ≡ walk_at q before → MayFollow p q → MayFollow p after.phase

@@ -38,6 +38,7 @@ use Rattle.mt_state.proofs.Telling.{Gives}
 use Rattle.mt_state.proofs.Moved.{went, first_same, first_begun}
 use Rattle.mt_state.proofs.Still.{IsFree, IsUnready, still, still_gives}
 use Rattle.mt_state.proofs.Reading.{kept_on_way, on_way_unready, on_way_open}
+use Rattle.mt_state.proofs.Bound.{get_no_remove}
 
 -- what is kept of a walk on its way does not speak of a row
 row_aside : (p : Phase) → IsOnWay p → (v : ArenaView) (past : Past) (key : Bytes) (row : Option Columns) (w : Walk) → KeptAt p v past key row w
@@ -155,7 +156,6 @@ module _ (c : Core) (now : StateView) (o : ℕ) (is : shown c ≡ now) (h : Stat
         (subst IsUnready (sym done) tt) same.writes (subst (λ (p : Phase). IsOfKind p w.writes) (sym done) tt)
         refl
         (subst (λ (p : Phase). Notes (shown c) (view_of op) p w.phase op.outcome) (sym at_confirm) (subst (λ (p : Phase). Notes (shown c) (view_of op) Confirm p op.outcome) (sym done) refl))
-        (no_change op.walk.taken confirming.tells)
         (subst (λ (p : Phase). IsKeptAt p new o after) (sym done) own) true (sym (ap is_done done))
       where
         first_is_same : the_after.walk.first ≡ op.walk.first
@@ -200,20 +200,21 @@ module _ (c : Core) (now : StateView) (o : ℕ) (is : shown c ≡ now) (h : Stat
             let on : IsOnItsWay new after = record {
               kept = first_aside w.phase leads.0 c.arena (past_of new) op.task.key None w after.walk.first
                   (row_aside w.phase leads.0 c.arena (past_of new) op.task.key confirming.row w (past_aside w.phase leads.0 c.arena (past_of c) (past_of new) op.task.key confirming.row w kept_now));
-              untold = refl;
+              bound = always.light (get_no_remove (ask op.task) gets);
               unprepared = confirming.unprepared;
             } in
             still_gives c now o is h room op there confirm_free w None
             (subst (λ (p : Phase). MayFollow p w.phase) (sym at_confirm) leads.1)
             (on_way_unready w.phase leads.0) same.writes leads.2
             (sym (no_change op.walk.taken confirming.tells))
-            (notes w.phase leads.0)
-            (no_change op.walk.taken confirming.tells)
+            (notes w.phase leads.1 leads.0)
             (kept_on_way w.phase leads.0 new o after on) false (sym (on_way_open w.phase leads.0))
           where
-            notes : (p : Phase) → IsOnWay p → Notes (shown c) (view_of op) op.walk.phase p None
-            notes p on = subst (λ (q : Phase). Notes (shown c) (view_of op) q p None) (sym at_confirm) (by_phase p on)
+            notes : (p : Phase) → MayFollow Confirm p → IsOnWay p → Notes (shown c) (view_of op) op.walk.phase p None
+            notes p follows on = subst (λ (q : Phase). Notes (shown c) (view_of op) q p None) (sym at_confirm) (by_phase p follows on)
               where
-                by_phase : (q : Phase) → IsOnWay q → Notes (shown c) (view_of op) Confirm q None
-                by_phase Done on = absurd on
-                by_phase _ on = refl
+                by_phase : (q : Phase) → MayFollow Confirm q → IsOnWay q → Notes (shown c) (view_of op) Confirm q None
+                by_phase Enter follows on = refl
+                by_phase Forward follows on = refl
+                by_phase Done follows on = absurd on
+                by_phase _ follows on = absurd follows

@@ -1,17 +1,17 @@
 -- The one change of an operation by the outcome that it remembers, phase by phase: for HistorySteps.
-use Rattle.std.proofs.Common.{◌≡◌, ℕ, inl, inr, Bool, true, false, cond, Option, Some, None, sym, refl, ap, ◌∙◌}
+use Rattle.std.proofs.Common.{◌≡◌, ℕ, inl, inr, Bool, true, false, cond, Option, Some, None, sym, refl, ap, ◌∙◌, ◌⊎◌}
 use Rattle.std.proofs.lemmas.Option.{same_Some}
 use Rattle.mt_rows.specs.declared.reply.Reply.{Reply}
 use Rattle.mt_rows.specs.declared.reply.Reply.TheVariants as replies
 use Rattle.mt_rows.specs.Maps.{is_change}
 use Rattle.mt_operation.specs.declared.phase.Phase.{Phase}
-use Rattle.mt_operation.specs.declared.phase.Phase.TheVariants.{Enter, Search, Load, Confirm, Judge, SplitStart, SplitPrev, LockParent, InsertChild, InteriorSplit, Reparent, RootGrow, MakeLayer, Unlock, Done}
+use Rattle.mt_operation.specs.declared.phase.Phase.TheVariants.{Enter, Search, Load, Confirm, Forward, Judge, Store, Publish, SplitStart, SplitMove, SplitPrev, LockParent, MakeLayer, DropKey, LockPrev, Unlock, Done}
 use Rattle.mt_operation.specs.declared.outcome.Outcome.{Outcome}
 use Rattle.mt_operation.specs.Operations.{OperationView}
-use Rattle.mt_operation.specs.Phases.{is_done, MayFollow, is_unplaced}
+use Rattle.mt_operation.specs.Phases.{MayFollow, is_unplaced}
 use Rattle.mt_state.specs.Views.{StateView}
 use Rattle.mt_state.specs.Steps.{told_change}
-use Rattle.mt_state.specs.Notes.{Says, Notes}
+use Rattle.mt_state.specs.Notes.{Says, Notes, Keeps, EndsJudging}
 
 -- the change of which an outcome tells, by its number
 pub told_change-of : (reply : Reply) (at : ℕ) → is_change reply ≡ true → told_change (Some (record { reply = reply; at = at })) ≡ Some at
@@ -31,56 +31,66 @@ untold told reply at m says none e = let both = told_change-is reply at m (sym (
 unnoted : (told : Option Outcome) (m : ℕ) → told ≡ None → told_change told ≡ Some m → ⊥
 unnoted told m none e = let no = sym (ap told_change none) ∙ e in cc
 
+keeps_placed : (b : Bool) (had told : Option Outcome) (m : ℕ) → Keeps b had told → told_change told ≡ Some m → b ≡ false
+keeps_placed true had told m n e = absurd (unnoted told m n.0 e)
+keeps_placed false had told m n e = refl
+
+keeps_same : (b : Bool) (had told : Option Outcome) → Keeps b had told → told ≡ had
+keeps_same true had told n = n.0 ∙ sym n.1
+keeps_same false had told n = n
+
 -- a step that remembers a change has placed it
 pub placed_after : (old : StateView) (op : OperationView) (p q : Phase) (told : Option Outcome) (m : ℕ) → MayFollow p q → Notes old op p q told
     → told_change told ≡ Some m → is_unplaced q ≡ false
-placed_after old op _ SplitPrev told m follows n e = refl
-placed_after old op _ LockParent told m follows n e = refl
-placed_after old op _ InsertChild told m follows n e = refl
-placed_after old op _ InteriorSplit told m follows n e = refl
-placed_after old op _ Reparent told m follows n e = refl
-placed_after old op _ RootGrow told m follows n e = refl
-placed_after old op _ Unlock told m follows n e = refl
-placed_after old op _ Done told m follows n e = refl
 placed_after old op Search Confirm told m follows n e = absurd (untold told replies.Absent _ m n.says refl e)
 placed_after old op Load Confirm told m follows (inl n) e = absurd (untold told _ n.number m n.says refl e)
 placed_after old op Load Confirm told m follows (inr n) e = absurd (unnoted told m n.none e)
-placed_after old op Unlock Enter told m follows n e = absurd (unnoted told m n.0 e)
-placed_after old op SplitPrev _ told m follows n e = absurd follows
-placed_after old op LockParent _ told m follows n e = absurd follows
-placed_after old op InsertChild _ told m follows n e = absurd follows
-placed_after old op InteriorSplit _ told m follows n e = absurd follows
-placed_after old op Reparent _ told m follows n e = absurd follows
-placed_after old op RootGrow _ told m follows n e = absurd follows
-placed_after old op _ _ told m follows n e = absurd (unnoted told m n e)
+placed_after old op Load Done told m follows n e = refl
+placed_after old op Confirm Enter told m follows n e = refl
+placed_after old op Confirm Forward told m follows n e = refl
+placed_after old op Judge Done told m follows n e = refl
+placed_after old op Store Unlock told m follows n e = refl
+placed_after old op Publish Unlock told m follows n e = refl
+placed_after old op SplitStart Done told m follows n e = refl
+placed_after old op SplitMove SplitPrev told m follows n e = refl
+placed_after old op SplitMove LockParent told m follows n e = refl
+placed_after old op SplitMove q told m follows n e = absurd follows
+placed_after old op MakeLayer Done told m follows n e = refl
+placed_after old op DropKey LockPrev told m follows n e = refl
+placed_after old op DropKey Unlock told m follows n e = refl
+placed_after old op DropKey q told m follows n e = absurd follows
+placed_after old op p q told m follows n e = keeps_placed (is_unplaced q) op.outcome told m n e
+
+-- a judgement that ends an operation which remembers a change, before it or behind it, keeps its outcome
+judged_same : (old : StateView) (op : OperationView) (had told : Option Outcome) (m : ℕ) → EndsJudging had old op told
+    → (told_change told ≡ Some m) ⊎ (told_change had ≡ Some m) → told ≡ op.outcome
+judged_same old op (Some had) told m n e = n
+judged_same old op None told m n (inr e) = absurd (cc)
+judged_same old op None told m (inl stopped) (inl e) = absurd (untold told replies.NoMemory _ m stopped refl e)
+judged_same old op None told m (inr absent) (inl e) = absurd (untold told replies.Absent _ m absent.1 refl e)
 
 -- a step that ends its operation with a change ends it with the one that it remembers
-pub same_at_end : (old : StateView) (op : OperationView) (p : Phase) (told : Option Outcome) (m : ℕ) → Notes old op p Done told
+pub same_at_end : (old : StateView) (op : OperationView) (p : Phase) (told : Option Outcome) (m : ℕ) → MayFollow p Done → Notes old op p Done told
     → told_change told ≡ Some m → told ≡ op.outcome
-same_at_end old op Load told m n e = absurd (untold told replies.NoMemory _ m n refl e)
-same_at_end old op Judge told m n e = absurd (untold told replies.NoMemory _ m n refl e)
-same_at_end old op SplitStart told m n e = absurd (untold told replies.NoMemory _ m n refl e)
-same_at_end old op MakeLayer told m n e = absurd (untold told replies.NoMemory _ m n refl e)
-same_at_end old op SplitPrev told m n e = n
-same_at_end old op LockParent told m n e = n
-same_at_end old op InsertChild told m n e = n
-same_at_end old op InteriorSplit told m n e = n
-same_at_end old op Reparent told m n e = n
-same_at_end old op RootGrow told m n e = n
-same_at_end old op Confirm told m n e = n
-same_at_end old op Unlock told m n e = n
-same_at_end old op _ told m n e = absurd (unnoted told m n e)
+same_at_end old op Load told m follows n e = absurd (untold told replies.NoMemory _ m n refl e)
+same_at_end old op SplitStart told m follows n e = absurd (untold told replies.NoMemory _ m n refl e)
+same_at_end old op MakeLayer told m follows n e = absurd (untold told replies.NoMemory _ m n refl e)
+same_at_end old op Judge told m follows n e = judged_same old op op.outcome told m n (inl e)
+same_at_end old op SplitMove told m follows n e = absurd follows
+same_at_end old op DropKey told m follows n e = absurd follows
+same_at_end old op _ told m follows n e = n
 
--- an operation that has placed its change and has a step left keeps its outcome
-pub same_when_placed : (old : StateView) (op : OperationView) (p q : Phase) (told : Option Outcome) → is_unplaced p ≡ false → is_done p ≡ false
-    → MayFollow p q → Notes old op p q told → told ≡ op.outcome
-same_when_placed old op SplitPrev q told placed left follows n = n
-same_when_placed old op LockParent q told placed left follows n = n
-same_when_placed old op InsertChild q told placed left follows n = n
-same_when_placed old op InteriorSplit q told placed left follows n = n
-same_when_placed old op Reparent q told placed left follows n = n
-same_when_placed old op RootGrow q told placed left follows n = n
-same_when_placed old op Unlock Done told placed left follows n = n
-same_when_placed old op Unlock Enter told placed left follows n = n.0 ∙ sym n.1
-same_when_placed old op Unlock q told placed left follows n = absurd (follows)
-same_when_placed old op _ q told placed left follows n = absurd (cc)
+-- an operation that remembers a change, and has a step left, keeps its outcome
+pub same_when_placed : (old : StateView) (op : OperationView) (p q : Phase) (told : Option Outcome) (m : ℕ) → is_unplaced p ≡ false → MayFollow p q
+    → Notes old op p q told → told_change op.outcome ≡ Some m → told ≡ op.outcome
+same_when_placed old op Search q told m placed follows n e = absurd (cc)
+same_when_placed old op Load q told m placed follows n e = absurd (cc)
+same_when_placed old op Confirm q told m placed follows n e = absurd (cc)
+same_when_placed old op Store q told m placed follows n e = absurd (cc)
+same_when_placed old op Publish q told m placed follows n e = absurd (cc)
+same_when_placed old op SplitStart q told m placed follows n e = absurd (cc)
+same_when_placed old op SplitMove q told m placed follows n e = absurd (cc)
+same_when_placed old op MakeLayer q told m placed follows n e = absurd (cc)
+same_when_placed old op DropKey q told m placed follows n e = absurd (cc)
+same_when_placed old op Judge Done told m placed follows n e = judged_same old op op.outcome told m n (inr e)
+same_when_placed old op p q told m placed follows n e = keeps_same (is_unplaced q) op.outcome told n

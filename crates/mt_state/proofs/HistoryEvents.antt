@@ -11,7 +11,7 @@ use Rattle.mt_runs.specs.declared.event.Told.TheVariants.{Begun, Refused, NoSuch
 use Rattle.mt_runs.specs.Runs.{Run, numbered, asked_by, story_of}
 use Rattle.mt_runs.specs.Placings.{Quotas, Maps}
 use Rattle.mt_runs.proofs.Events.{story_begin, story_moved, story_done, story_quiet}
-use Rattle.mt_rows.specs.declared.command.Command.TheVariants.{Get, Put}
+use Rattle.mt_rows.specs.declared.command.Command.TheVariants.{Get, Put, Remove}
 use Rattle.mt_rows.specs.Maps.{is_scan}
 use Rattle.mt_operation.specs.Operations.{OperationView}
 use Rattle.mt_operation.proofs.Tables.{set_here}
@@ -38,6 +38,7 @@ keeps_quiet names now old new e t no_step no_ask still same = λ quotas first ba
 begins_no_scan : (command : Command) → MayBegin command → is_scan command ≡ false
 begins_no_scan (Get key columns) may = refl
 begins_no_scan (Put key change) may = refl
+begins_no_scan (Remove key) may = refl
 begins_no_scan _ may = absurd (may)
 
 -- a begin

@@ -144,7 +144,7 @@ module _ (logs : ℕ) (accounts : Accounts) where
 
   step_1 : IsStep (reached 0 at_first) (reached 1 searching) 0 false
   step_1 =
-      step 0 at_first searching false refl (record { asked = record { worker = refl; tenant = refl; command = refl }; first = refl; last = refl; follows = tt }) refl refl refl (λ e. absurd (cc))
+      step 0 at_first searching false refl (record { asked = record { worker = refl; tenant = refl; command = refl }; first = refl; last = refl; follows = tt }) (refl, refl) refl refl (λ e. absurd (cc))
 
   step_2 : IsStep (reached 1 searching) (reached 2 confirming) 0 false
   step_2 =

@@ -18,7 +18,7 @@ use Rattle.mt_rows.specs.declared.command.Command.{Command}
 use Rattle.mt_rows.specs.declared.command.Command.TheVariants.{Scan}
 use Rattle.mt_operation.specs.declared.phase.Phase.{Phase}
 use Rattle.mt_operation.specs.Operations.{OperationView}
-use Rattle.mt_operation.specs.Phases.{is_done}
+use Rattle.mt_operation.specs.Phases.{is_done, MayFollow}
 use Rattle.mt_state.specs.Views.{StateView, contents_of, map_of, changed_at, quota_of, IsPlaced}
 use Rattle.mt_state.specs.Steps.{told_change, change_in}
 use Rattle.mt_state.specs.Notes.{Notes}
@@ -86,14 +86,16 @@ module _ (quotas : Quotas) (first : Maps) (story : Story) (old new : StateView) 
 
   placing_once : (m : ℕ) → change_in s.before ≡ Some m → IsPlacing old new s.before s.after → ⊥
   placing_once m e p =
-      let same = same_when_placed old s.before s.before.phase s.after.phase s.after.outcome (k.placed m e) s.unfinished s.moves.follows s.notes in
+      let same = same_when_placed old s.before s.before.phase s.after.phase s.after.outcome m (k.placed m e) s.moves.follows s.notes e in
       not_before (sym (ap told_change same) ∙ placed_now p)
 
   -- a placing step ends nothing
   placing_goes_on : (a : Answer) → answer ≡ Some a → IsPlacing old new s.before s.after → ⊥
   placing_goes_on a now p =
-      let notes = subst (λ (q : Phase). Notes old s.before s.before.phase q s.after.outcome) (ends a now).finished s.notes in
-      not_before (sym (ap told_change (same_at_end old s.before s.before.phase s.after.outcome (old.steps + 1) notes (placed_now p))) ∙ placed_now p)
+      let finished = (ends a now).finished in
+      let notes = subst (λ (q : Phase). Notes old s.before s.before.phase q s.after.outcome) finished s.notes in
+      let follows = subst (λ (q : Phase). MayFollow s.before.phase q) finished s.moves.follows in
+      not_before (sym (ap told_change (same_at_end old s.before s.before.phase s.after.outcome (old.steps + 1) follows notes (placed_now p))) ∙ placed_now p)
 
   -- the number of the operation's first step, which is this one where it has made none
   first_number : IsFirst (with_step story o answer) o s.after.first

@@ -1,21 +1,20 @@
 -- What the steps that make a layer leave of all nodes, by what their calls ensure, and where they lead: for `build_done`.
-use Rattle.std.proofs.Common.{None, Option, Some, [], ap, arith, false, inl, inr, length, length-append, refl, set, subst, sym, ℕ, ◌++◌, ◌<◌, ◌∙◌, ◌∷◌, ◌≡◌, ◌≢◌, ◌≤◌}
+use Rattle.std.proofs.Common.{None, Option, Some, [], ap, arith, false, inl, inr, length, length-append, refl, set, subst, sym, ℕ, ◌<◌, ◌∙◌, ◌∷◌, ◌≡◌, ◌≢◌, ◌≤◌, true}
 use Rattle.std.specs.Prelude.{◌⊎◌}
-use Rattle.std.proofs.lemmas.Bool.{cases_eq, cases_lt}
-use Rattle.std.proofs.lemmas.List.{get_or-set_other, get_or-set_same, length-set}
+use Rattle.std.proofs.lemmas.Bool.{cases_lt, both_ways}
+use Rattle.std.proofs.lemmas.List.{length-set}
 use Rattle.mt_rows.specs.Rows.{Bytes}
 use Rattle.mt_border.specs.declared.entry.Entry.{Entry}
 use Rattle.mt_border.specs.declared.entry.Held.{Held}
 use Rattle.mt_border.specs.declared.entry.Held.TheVariants.{Link as LinkTo, Unstable}
 use Rattle.mt_arena.specs.declared.tree.Tree.{Tree}
-use Rattle.mt_arena.specs.declared.tree.Standing.TheVariants.{Dead, Live, Made}
+use Rattle.mt_arena.specs.declared.tree.Standing.TheVariants.{Live, Made}
 use Rattle.mt_arena.specs.NodeView.{NodeView, node_at}
-use Rattle.mt_arena.specs.Forests.{no_tree, tree_at}
+use Rattle.mt_arena.specs.Forests.{tree_at}
 use Rattle.mt_arena.specs.Layering.{prefix_below, root_of, with_held, with_layer, with_link, with_slot}
 use Rattle.mt_arena.specs.Arena.{ArenaView, Guarantee, content_of}
 use Rattle.mt_arena.specs.Accesses.{IsHeld, at}
 use Rattle.mt_arena.proofs.Pairs.{before as as_before}
-use Rattle.mt_arena.proofs.Trees.{before_tree, last_tree}
 use Rattle.mt_operation.specs.declared.phase.Phase.{Phase}
 use Rattle.mt_operation.specs.declared.phase.Phase.TheVariants.{Done, Link, MakeLayer, MarkLayer, MarkUnstable, Unlock}
 use Rattle.mt_operation.specs.declared.walk.Walk.{Walk}
@@ -29,22 +28,24 @@ use Rattle.mt_layer.specs.KeptLayers.{KeptLayer}
 use Rattle.mt_layer.specs.NewLayers.{KeepsStamps, entry_below, walk_at}
 use Rattle.mt_layer.specs.Builds.{IsLayerFrom, KeepsLayer}
 use Rattle.mt_state.specs.Promises.{HoldsEither, Touches}
-use Rattle.mt_state.specs.Invariant.{IsCountedUpTo, IsUnremoved}
+use Rattle.mt_state.specs.Invariant.{IsCountedUpTo, DeletedAreEmpty}
 use Rattle.mt_state.specs.Phases.{LeadsTo}
 use Rattle.mt_state.specs.Growth.{MakesFew}
 use Rattle.mt_state.proofs.Growing.{makes_same, makes_set}
 use Rattle.mt_state.proofs.Climbing.{each_set, pushed_at}
+use Rattle.mt_operation.specs.declared.removal.Removal.{Removal}
 
 -- a node's level and its version's counts stay, it is not taken out, and only one that the operation holds is another
 pub record Stays (o : ℕ) (x y : NodeView) : Type 0 where
   pub level : y.level ≡ x.level
   pub deleted : y.version.deleted ≡ x.version.deleted
+  pub emptied : x.version.deleted ≡ true → y.slots ≡ x.slots
   pub inserts : y.version.inserts ≡ x.version.inserts
   pub splits : y.version.splits ≡ x.version.splits
   pub touched : (y ≡ x) ⊎ HoldsEither o x y
 
 stays_same : (o : ℕ) (x : NodeView) → Stays o x x
-stays_same o x = record { level = refl; deleted = refl; inserts = refl; splits = refl; touched = inl refl }
+stays_same o x = record { level = refl; deleted = refl; emptied = λ gone. refl; inserts = refl; splits = refl; touched = inl refl }
 
 -- the root of a new tree
 pub record IsRoot (n : NodeView) : Type 0 where
@@ -53,11 +54,10 @@ pub record IsRoot (n : NodeView) : Type 0 where
   pub inserts : n.version.inserts ≡ 0
   pub splits : n.version.splits ≡ 0
 
--- all nodes stay so, those that were added are roots of new trees, and no tree died
+-- all nodes stay so, and those that were added are roots of new trees
 pub record LeavesNodes (o : ℕ) (old new : ArenaView) : Type 0 where
   pub each : (k : ℕ) → k < length old.nodes → Stays o (at old k) (at new k)
   pub fresh : (k : ℕ) → length old.nodes ≤ k → k < length new.nodes → IsRoot (at new k)
-  pub alive : ((t : ℕ) → t < length old.trees → (tree_at old.trees t).standing ≢ Dead) → (t : ℕ) → t < length new.trees → (tree_at new.trees t).standing ≢ Dead
   pub makes : MakesFew old new
 
 -- so where a tree is made
@@ -66,12 +66,6 @@ made_leaves o v prefix e = record {
   each = λ k lt. subst (Stays o (at v k)) (sym (as_before v.nodes (root_of (length v.trees) e) k lt)) (stays_same o (at v k));
   fresh = λ k from within. subst IsRoot (sym (pushed_at v.nodes (root_of (length v.trees) e) (length v.nodes) k refl from within))
       (record { level = refl; live = refl; inserts = refl; splits = refl });
-  alive = λ alive t within. elim (cases_lt t (length v.trees)) [
-    | inl was ↦ subst (λ (u : Tree). u.standing ≢ Dead) (sym (before_tree v.trees tree t was)) (alive t was)
-    | inr late ↦
-        let last : t ≡ length v.trees = omega (arith, late, within, length-append v.trees (tree ∷ [])) in
-        subst (λ (u : Tree). u.standing ≢ Dead) (sym (ap (λ i. tree_at (v.trees ++ tree ∷ []) i) last ∙ last_tree v.trees tree)) (λ dead. absurd (cc))
-  ];
   makes =
       let nodes = length-append v.nodes (root_of (length v.trees) e ∷ []) in
       let trees = length-append v.trees (tree ∷ []) in
@@ -81,10 +75,10 @@ made_leaves o v prefix e = record {
     tree : Tree
     tree = record { prefix = prefix; root = length v.nodes; standing = Made o }
 
-module _ (o : ℕ) (v : ArenaView) (k i : ℕ) (mine : IsHeld v k o) where
+module _ (o : ℕ) (v : ArenaView) (k i : ℕ) (mine : IsHeld v k o) (live : (at v k).version.deleted ≡ false) where
   held_each : (held : Held) (j : ℕ) → j < length v.nodes → Stays o (at v j) (node_at (set v.nodes k (with_held (at v k) i held)) j)
   held_each held = each_set (λ j m. Stays o (at v j) m) v.nodes k (with_held (at v k) i held) (λ j lt. stays_same o (at v j))
-      (record { level = refl; deleted = refl; inserts = refl; splits = refl; touched = inr (inl mine.holder) })
+      (record { level = refl; deleted = refl; emptied = λ gone. absurd (both_ways _ live gone); inserts = refl; splits = refl; touched = inr (inl mine.holder) })
 
   held_fresh : (held : Held) (j : ℕ) → length v.nodes ≤ j → j < length (set v.nodes k (with_held (at v k) i held))
       → IsRoot (node_at (set v.nodes k (with_held (at v k) i held)) j)
@@ -92,26 +86,18 @@ module _ (o : ℕ) (v : ArenaView) (k i : ℕ) (mine : IsHeld v k o) where
 
   -- where a slot of the held node holds something else
   slot_leaves : (held : Held) → LeavesNodes o v (with_slot v k i held)
-  slot_leaves held = record { each = held_each held; fresh = held_fresh held; alive = λ alive. alive; makes = makes_set v k (with_held (at v k) i held) }
+  slot_leaves held = record { each = held_each held; fresh = held_fresh held; makes = makes_set v k (with_held (at v k) i held) }
 
   -- and where it is a link to a tree, which is live
   link_leaves : (t : ℕ) → LeavesNodes o v (with_link v k i t)
   link_leaves t = record {
     each = held_each (LinkTo t);
     fresh = held_fresh (LinkTo t);
-    alive = λ alive u within.
-        let was : u < length v.trees = omega (arith, within, length-set v.trees t live) in
-        elim (cases_eq u t) [
-          | inl is ↦
-              let there : t < length v.trees = subst (λ j. j < length v.trees) is was in
-              subst (λ (x : Tree). x.standing ≢ Dead) (sym (ap (λ j. tree_at (set v.trees t live) j) is ∙ get_or-set_same v.trees t live no_tree there)) (λ dead. absurd (cc))
-          | inr other ↦ subst (λ (x : Tree). x.standing ≢ Dead) (sym (get_or-set_other v.trees t u live no_tree other)) (alive u was)
-        ];
-    makes = makes_same v (with_link v k i t) (length-set v.nodes k (with_held (at v k) i (LinkTo t))) (length-set v.trees t live);
+    makes = makes_same v (with_link v k i t) (length-set v.nodes k (with_held (at v k) i (LinkTo t))) (length-set v.trees t tree);
   }
     where
-      live : Tree
-      live = record (tree_at v.trees t) { standing = Live }
+      tree : Tree
+      tree = record (tree_at v.trees t) { standing = Live }
 
 module _ (o : ℕ) (old new : ArenaView) (l : LeavesNodes o old new) where
   touches : Touches o old new
@@ -126,14 +112,11 @@ module _ (o : ℕ) (old new : ArenaView) (l : LeavesNodes o old new) where
     | inr late ↦ let n = l.fresh k late within in record { inserts = omega (arith, n.inserts); splits = omega (arith, n.splits) }
   ]
 
-  unremoved : IsUnremoved old → IsUnremoved new
-  unremoved one = record {
-    live = λ k within. elim (cases_lt k (length old.nodes)) [
-      | inl was ↦ (l.each k was).deleted ∙ one.live k was
-      | inr late ↦ (l.fresh k late within).live
-    ];
-    alive = l.alive one.alive;
-  }
+  deleted : DeletedAreEmpty old → DeletedAreEmpty new
+  deleted all k within gone = elim (cases_lt k (length old.nodes)) [
+    | inl was ↦ let n = l.each k was in let went = sym n.deleted ∙ gone in n.emptied went ∙ all k was went
+    | inr late ↦ absurd (both_ways _ (l.fresh k late within).live gone)
+  ]
 
 -- a layer came one step nearer: its tree was made, or its slot became unstable, was given the tree's number, or became a link to it
 pub record BuildsLayer (o : ℕ) (old new : ArenaView) (key : Bytes) (before after : Walk) : Type 0 where
@@ -143,7 +126,7 @@ pub record BuildsLayer (o : ℕ) (old new : ArenaView) (key : Bytes) (before aft
   pub stamps : KeepsStamps old new
   pub versions : (steps : ℕ) → ((k : ℕ) → k < length old.nodes → IsCountedUpTo steps (at old k)) → (k : ℕ) → k < length new.nodes
       → IsCountedUpTo steps (at new k)
-  pub unremoved : IsUnremoved old → IsUnremoved new
+  pub deleted : DeletedAreEmpty old → DeletedAreEmpty new
   pub follows : MayFollow before.phase after.phase
   pub on : after.phase ≢ Done
   pub same : Continues before after
@@ -158,11 +141,11 @@ pub layer_leaves : (p : Phase) → IsLayerPhase p → (o : ℕ) (key : Bytes) (o
 layer_leaves MakeLayer i o key old new before after kept b =
     subst (LeavesNodes o old) (sym (b.is kept.pair kept.stable)) (made_leaves o old (prefix_below old before.place.node before.slot) (entry_below kept.pair))
 layer_leaves MarkUnstable i o key old new before after kept b =
-    subst (LeavesNodes o old) (sym (b.is kept.pair kept.makes.layer.slot.is)) (slot_leaves o old before.place.node before.slot kept.makes.layer.slot.held (Unstable kept.pair None))
+    subst (LeavesNodes o old) (sym (b.is kept.pair kept.makes.layer.slot.is)) (slot_leaves o old before.place.node before.slot kept.makes.layer.slot.held kept.makes.layer.slot.live (Unstable kept.pair None))
 layer_leaves Link i o key old new before after kept b =
-    subst (LeavesNodes o old) (sym (b.is kept.pair kept.tree kept.makes.taken kept.makes.layer.slot.is)) (slot_leaves o old before.place.node before.slot kept.makes.layer.slot.held (Unstable kept.pair (Some kept.tree)))
+    subst (LeavesNodes o old) (sym (b.is kept.pair kept.tree kept.makes.taken kept.makes.layer.slot.is)) (slot_leaves o old before.place.node before.slot kept.makes.layer.slot.held kept.makes.layer.slot.live (Unstable kept.pair (Some kept.tree)))
 layer_leaves MarkLayer i o key old new before after kept b =
-    subst (LeavesNodes o old) (sym (b.is kept.tree kept.makes.taken)) (link_leaves o old before.place.node before.slot kept.makes.layer.slot.held kept.tree)
+    subst (LeavesNodes o old) (sym (b.is kept.tree kept.makes.taken)) (link_leaves o old before.place.node before.slot kept.makes.layer.slot.held kept.makes.layer.slot.live kept.tree)
 layer_leaves _ i o key old new before after kept b = absurd i
 
 -- what they do alike
@@ -199,12 +182,12 @@ layer_goes MarkLayer i o key old new before after b = at_phase before after Unlo
 layer_goes _ i o key old new before after b = absurd i
 
 pub layer_leads : (p : Phase) → IsLayerPhase p → (o : ℕ) (key : Bytes) (old new : ArenaView) (before after : Walk) → IsLayerFrom p o key old new before after
-    → (step : ℕ) (told : Option Outcome) (s : SplitsView) → LeadsTo p old new o step key told s before after
-layer_leads MakeLayer i o key old new before after b step told s = inl b.walk
-layer_leads MarkUnstable i o key old new before after b step told s = b.walk
-layer_leads Link i o key old new before after b step told s = b.walk
-layer_leads MarkLayer i o key old new before after b step told s = b.walk
-layer_leads _ i o key old new before after b step told s = absurd i
+    → (step : ℕ) (told : Option Outcome) (s : SplitsView) (rem : Removal) → LeadsTo p old new o step key told s rem before after
+layer_leads MakeLayer i o key old new before after b step told s rem = inl b.walk
+layer_leads MarkUnstable i o key old new before after b step told s rem = b.walk
+layer_leads Link i o key old new before after b step told s rem = b.walk
+layer_leads MarkLayer i o key old new before after b step told s rem = b.walk
+layer_leads _ i o key old new before after b step told s rem = absurd i
 
 -- what is kept then
 kept_next : (p : Phase) → IsLayerPhase p → (o : ℕ) (key : Bytes) (old new : ArenaView) (before after : Walk) → KeptLayer p old o key before
@@ -235,7 +218,7 @@ builds_by p i o key old new before after at_p kept b =
       touches = touches o old new leaves;
       stamps = on.stamps;
       versions = versions o old new leaves;
-      unremoved = unremoved o old new leaves;
+      deleted = deleted o old new leaves;
       follows = subst (λ (q : Phase). MayFollow q after.phase) (sym at_p) (subst (MayFollow p) (sym goes.at) next.0);
       on = λ done. next.1 (sym goes.at ∙ done);
       same = on.keeps.same;

@@ -18,10 +18,9 @@ use Rattle.mt_operation.specs.declared.phase.Phase.TheVariants.{Enter, Judge, Ma
 use Rattle.mt_operation.specs.declared.walk.Walk.{Walk}
 use Rattle.mt_operation.specs.declared.outcome.Outcome.{Outcome}
 use Rattle.mt_operation.specs.declared.splits.Halves.{Halves}
-use Rattle.mt_operation.specs.declared.splits.Splits.{Splits}
 use Rattle.mt_operation.specs.declared.operation.Operation.{Operation}
 use Rattle.mt_operation.specs.Operations.{OperationView, view_of, IsUnsplit}
-use Rattle.mt_operation.specs.Phases.{is_done, MayFollow, IsOfKind, has_splits, IsLayerPhase, FitsWrites, IsLayerKind, Kind, change_at, holds_of, may_be_parts, row}
+use Rattle.mt_operation.specs.Phases.{is_done, MayFollow, IsOfKind, has_splits, IsLayerPhase, FitsWrites, IsLayerKind, Kind, change_at, holds_of, may_be_parts, row, is_unplaced}
 use Rattle.mt_operation.specs.Tables.{op_at as operation_at}
 use Rattle.mt_descent.specs.KeptWalks.{IsAtEnter, KeptAt}
 use Rattle.mt_insert.specs.KeptPuts.{IsAtMakeLayer, HoldsOnly}
@@ -29,22 +28,23 @@ use Rattle.mt_layer.specs.KeptLayers.{KeptLayer}
 use Rattle.mt_layer.specs.NewLayers.{HasStamp}
 use Rattle.mt_state.specs.Views.{StateView, Core, shown, past_of}
 use Rattle.mt_state.specs.Steps.{told_change}
-use Rattle.mt_state.specs.Notes.{Notes}
+use Rattle.mt_state.specs.Notes.{Notes, Keeps}
 use Rattle.mt_state.specs.Promises.{Touches}
-use Rattle.mt_state.specs.KeptOperations.{IsOpenOperation, IsJudging, IsLayering, IsLeaving, IsReturning, HasAnswer, IsKeptAt, IsKeptOf, IsKeptFor}
+use Rattle.mt_state.specs.KeptOperations.{IsOpenOperation, IsJudging, IsLayering, IsLeaving, IsReturning, HasAnswer, IsKeptAt, IsKeptOf, IsKeptFor, IsBound}
 use Rattle.mt_state.specs.Invariant.{IsTape, IsStampOf, AreStamps, HoldsLast, HoldsAt, StateInvariant, StateGuarantee, HoldsBy}
 use Rattle.mt_state.proofs.Telling.{Gives, gives, logs_later}
 use Rattle.mt_state.proofs.Quiet.{quiet, LeavesPairs}
 use Rattle.mt_state.proofs.Moved.{went, open_moved, has_moved, first_begun, first_upto}
 use Rattle.mt_state.proofs.Still.{IsUnready, floor_made, leaves_all, unready_none, IsUnreadyBy}
 use Rattle.mt_state.proofs.Reading.{walk_same}
-use Rattle.mt_state.proofs.OneNode.{counted_unlocked, counted_later, replaced_at, replaced_touches, replaced_leaves, quiet_grows, holds_here, quiet_gives}
+use Rattle.mt_state.proofs.OneNode.{counted_unlocked, counted_later, replaced_at, replaced_touches, replaced_leaves, quiet_grows, holds_here, quiet_gives, border_alone}
 use Rattle.mt_descent.specs.WalkMoves.{KeepsPairs}
 use Rattle.mt_insert.specs.Judge.{MeetsOther, MeetsLink}
 use Rattle.mt_insert.specs.Unlock.{IsUnlock}
 use Rattle.mt_layer.specs.Builds.{IsLayerFrom, IsLeave}
 use Rattle.mt_state.proofs.LayerNodes.{BuildsLayer, builds_by}
 use Rattle.mt_operation.specs.Phases as kinds
+use Rattle.mt_state.proofs.Bound.{bound_on}
 
 -- a phase at which an operation makes a layer, or has made it
 abbrev HasLayerBy : Kind → Type 0
@@ -99,10 +99,10 @@ layer_unsplit p i = by (row p).kind i
     by _ i = absurd i
 
 -- it holds its border node alone
-layer_held : (p : Phase) → IsLayerPhase p → (w : Walk) (s : Splits) (k : ℕ) → HoldsAt p w s k → k ≡ w.place.node
-layer_held p i w s k holds = by (row p).kind i holds
+layer_held : (p : Phase) → IsLayerPhase p → (op : Operation) (k : ℕ) → HoldsAt p op k → k ≡ op.walk.place.node
+layer_held p i op k holds = by (row p).kind i holds
   where
-    by : (of : Kind) → IsLayerKind of → HoldsBy (holds_of of) w s k → k ≡ w.place.node
+    by : (of : Kind) → IsLayerKind of → HoldsBy (holds_of of) op k → k ≡ op.walk.place.node
     by kinds.Layers i holds = holds
     by _ i holds = absurd i
 
@@ -141,12 +141,12 @@ made_unready p i = by (row p).kind i
     by kinds.Returns i = tt
     by _ i = absurd i
 
-made_held : (p : Phase) → HasLayer p → (w : Walk) (s : Splits) (k : ℕ) → s.halves.items ≡ [] → k ≡ w.place.node → HoldsAt p w s k
-made_held p i w s k none is = by (row p).kind i
+made_held : (p : Phase) → HasLayer p → (op : Operation) (k : ℕ) → op.splits.halves.items ≡ [] → k ≡ op.walk.place.node → HoldsAt p op k
+made_held p i op k none is = by (row p).kind i
   where
-    by : (of : Kind) → HasLayerBy of → HoldsBy (holds_of of) w s k
+    by : (of : Kind) → HasLayerBy of → HoldsBy (holds_of of) op k
     by kinds.Layers i = is
-    by kinds.Returns i = subst (λ (halves : List Halves). HoldsLast halves w s k) (sym none) is
+    by kinds.Returns i = subst (λ (halves : List Halves). HoldsLast halves op k) (sym none) (inl is)
     by _ i = absurd i
 
 made_kept : (p : Phase) → HasLayer p → (c : Core) (o : ℕ) (op : Operation) → IsUnsplit op.splits → IsLayering c o op p → IsKeptAt p c o op
@@ -155,13 +155,17 @@ made_kept Unlock i c o op unsplit kept =
 made_kept p i c o op unsplit kept = kept_layering p i c o op kept
 
 -- a step of it leaves it without an outcome
-layer_notes : (p q : Phase) → IsLayerPhase p → HasLayer q → (old : StateView) (op : OperationView) (told : Option Outcome) → told ≡ None → Notes old op p q told
-layer_notes MakeLayer Done i j old op told none = absurd j
-layer_notes MakeLayer _ i j old op told none = none
-layer_notes MarkUnstable _ i j old op told none = none
-layer_notes Link _ i j old op told none = none
-layer_notes MarkLayer _ i j old op told none = none
-layer_notes _ q i j old op told none = absurd i
+keeps_none : (b : Bool) (told : Option Outcome) → told ≡ None → Keeps b told told
+keeps_none true told none = (none, none)
+keeps_none false told none = refl
+
+layer_notes : (p q : Phase) → IsLayerPhase p → HasLayer q → (old : StateView) (op : OperationView) → op.outcome ≡ None → Notes old op p q op.outcome
+layer_notes MakeLayer Done i j old op none = absurd j
+layer_notes MakeLayer q i j old op none = keeps_none (is_unplaced q) op.outcome none
+layer_notes MarkUnstable q i j old op none = keeps_none (is_unplaced q) op.outcome none
+layer_notes Link q i j old op none = keeps_none (is_unplaced q) op.outcome none
+layer_notes MarkLayer q i j old op none = keeps_none (is_unplaced q) op.outcome none
+layer_notes _ q i j old op none = absurd i
 
 module _ (c : Core) (o : ℕ) (h : StateInvariant c) (few : c.steps < 2 ^ 59) (op : Operation) (there : operation_at c.table o ≡ Some op) where
   always : IsOpenOperation c op
@@ -205,7 +209,7 @@ module _ (c : Core) (o : ℕ) (h : StateInvariant c) (few : c.steps < 2 ^ 59) (o
       | inr other ↦ other.0 (only j r.0 (ap (λ (m : NodeView). m.holder) (sym other.1) ∙ holds))
     ]
 
-    back_gives : (p q : Phase) → op.walk.phase ≡ p → w.phase ≡ q → is_done p ≡ false → IsUnready p → IsUnready q → MayFollow p q
+    pub back_gives : (p q : Phase) → op.walk.phase ≡ p → w.phase ≡ q → is_done p ≡ false → IsUnready p → IsUnready q → MayFollow p q
         → w.writes ≡ op.walk.writes → IsOfKind q w.writes
         → told_change told ≡ told_change op.outcome → Notes (shown c) (view_of op) p q told → IsKeptAt q new o after → IsUnsplit op.splits
         → Gives (shown c) new o (is_done q)
@@ -223,15 +227,16 @@ module _ (c : Core) (o : ℕ) (h : StateInvariant c) (few : c.steps < 2 ^ 59) (o
         (is_done q) (sym (ap is_done at_q))
 
   -- an operation that goes on below is on its way there
-  below_kept : (arena : ArenaView) (w : Walk) → w.phase ≡ Enter → IsAtEnter arena op.task.key w → op.outcome ≡ None → op.prepared ≡ None
+  below_kept : (arena : ArenaView) (w : Walk) → w.phase ≡ Enter → IsAtEnter arena op.task.key w → op.prepared ≡ None
+      → IsBound op.outcome (quiet c arena c.tape.reserved o (went op (c.steps + 1) w op.outcome op.prepared)) (went op (c.steps + 1) w op.outcome op.prepared)
       → IsKeptAt Enter (quiet c arena c.tape.reserved o (went op (c.steps + 1) w op.outcome op.prepared)) o (went op (c.steps + 1) w op.outcome op.prepared)
-  below_kept arena w at_enter enters_at untold unprepared =
+  below_kept arena w at_enter enters_at unprepared bound =
       let after = went op (c.steps + 1) w op.outcome op.prepared in
       let new = quiet c arena c.tape.reserved o after in
       let enters : IsAtEnter arena op.task.key after.walk = enters_at in
       record {
         kept = subst (λ (q : Phase). KeptAt q arena (past_of new) op.task.key None after.walk) (sym at_enter) enters;
-        untold = untold;
+        bound = bound;
         unprepared = unprepared;
       }
 
@@ -240,9 +245,9 @@ module _ (c : Core) (o : ℕ) (h : StateInvariant c) (few : c.steps < 2 ^ 59) (o
     judging = kept_at Judge at_judge
 
     -- another long key stands in the place of the operation's own
-    pub meet_done : (arena : ArenaView) (w : Walk) → MeetsOther o op.task.key c.arena arena op.walk w
+    pub meet_done : op.outcome ≡ None → (arena : ArenaView) (w : Walk) → MeetsOther o op.task.key c.arena arena op.walk w
         → Gives (shown c) (quiet c arena c.tape.reserved o (went op (c.steps + 1) w op.outcome op.prepared)) o false
-    meet_done arena w t =
+    meet_done untold arena w t =
         let after = went op (c.steps + 1) w op.outcome op.prepared in
         let new = quiet c c.arena c.tape.reserved o after in
         let makes : w.phase ≡ MakeLayer = ap (λ (x : Walk). x.phase) t.walk in
@@ -251,7 +256,8 @@ module _ (c : Core) (o : ℕ) (h : StateInvariant c) (few : c.steps < 2 ^ 59) (o
         let whole = walk_same c op always w (begun_at Judge at_judge (λ enters. absurd (cc))) (ap (λ (x : Walk). x.first) t.walk) in
         let own : IsLayering new o after MakeLayer = record {
           makes = subst (IsAtMakeLayer c.arena o op.task.key) (sym whole) t.kept;
-          untold = judging.untold;
+          light = subst (λ (told : Option Outcome). IsBound told c op) untold judging.bound;
+          untold = untold;
           unprepared = judging.unprepared;
         } in
         subst (λ (v : ArenaView). Gives (shown c) (quiet c v c.tape.reserved o after) o false) (sym t.stays)
@@ -259,8 +265,8 @@ module _ (c : Core) (o : ℕ) (h : StateInvariant c) (few : c.steps < 2 ^ 59) (o
         (leaves_all c o h) (ap is_done at_judge)
         (subst (λ (p : Phase). MayFollow p w.phase) (sym at_judge) (subst (MayFollow Judge) (sym makes) tt))
         writes (subst (λ (q : Phase). IsOfKind q w.writes) (sym makes) (writes ∙ kind_at Judge at_judge)) refl
-        (subst (λ (p : Phase). Notes (shown c) (view_of op) p w.phase op.outcome) (sym at_judge) (subst (λ (q : Phase). Notes (shown c) (view_of op) Judge q op.outcome) (sym makes) judging.untold))
-        (λ j inside holds. subst (λ (q : Phase). HoldsAt q after.walk op.splits j) (sym makes) (holds_here c (shown c) o refl h few op there Judge at_judge j inside holds ∙ sym place))
+        (subst (λ (p : Phase). Notes (shown c) (view_of op) p w.phase op.outcome) (sym at_judge) (subst (λ (q : Phase). Notes (shown c) (view_of op) Judge q op.outcome) (sym makes) (untold, untold)))
+        (λ j inside holds. subst (λ (q : Phase). HoldsAt q after j) (sym makes) (holds_here c (shown c) o refl h few op there Judge at_judge j inside holds ∙ sym place))
         (subst (λ (q : Phase). IsKeptAt q new o after) (sym makes) own)
         (unsplit_at Judge at_judge refl)
         (let none = unready_none op Judge at_judge tt in let no = unready_none after MakeLayer makes tt in omega (arith, none, no))
@@ -273,8 +279,9 @@ module _ (c : Core) (o : ℕ) (h : StateInvariant c) (few : c.steps < 2 ^ 59) (o
     below_done arena w t =
         let enters : w.phase ≡ Enter = ap (λ (x : Walk). x.phase) t.goes.walk in
         back_gives arena w op.outcome t.goes.is t.goes.keeps judging.judges.judged.held (holds_here c (shown c) o refl h few op there Judge at_judge)
-        Judge Enter at_judge enters refl tt tt tt t.goes.keeps.same.writes tt refl judging.untold
-        (below_kept arena w enters t.kept judging.untold judging.unprepared) (unsplit_at Judge at_judge refl)
+        Judge Enter at_judge enters refl tt tt tt t.goes.keeps.same.writes tt refl refl
+        (below_kept arena w enters t.kept judging.unprepared
+        (bound_on c (quiet c arena c.tape.reserved o (went op (c.steps + 1) w op.outcome op.prepared)) op always (quiet_grows c o arena c.tape.reserved (went op (c.steps + 1) w op.outcome op.prepared) t.goes.keeps.contents) w judging.unprepared (ap (λ (v : ArenaView). v.trees) t.goes.is) op.outcome judging.bound)) (unsplit_at Judge at_judge refl)
 
   module _ (at_unlock : op.walk.phase ≡ Unlock) (untold : op.outcome ≡ None) where
     leaving : IsLeaving c o op
@@ -288,10 +295,12 @@ module _ (c : Core) (o : ℕ) (h : StateInvariant c) (few : c.steps < 2 ^ 59) (o
         let g = t.goes k.tree k.taken in
         let enters : w.phase ≡ Enter = ap (λ (x : Walk). x.phase) g.walk in
         let only : HoldsOnly c.arena o op.walk.place.node =
-        λ j inside holds. subst (λ (halves : List Halves). HoldsLast halves op.walk op.splits j) leaving.unsplit.halves (holds_here c (shown c) o refl h few op there Unlock at_unlock j inside holds) in
+        λ j inside holds. border_alone op.walk op.removal j leaving.layering.light
+        (subst (λ (halves : List Halves). HoldsLast halves op j) leaving.unsplit.halves (holds_here c (shown c) o refl h few op there Unlock at_unlock j inside holds)) in
         back_gives arena w op.outcome g.is g.keeps leaving.layering.makes.unlock.held only
-        Unlock Enter at_unlock enters refl tt tt tt g.keeps.same.writes tt refl (untold, untold)
-        (below_kept arena w enters (t.kept op.task.key k) untold leaving.layering.unprepared) leaving.unsplit
+        Unlock Enter at_unlock enters refl tt tt tt g.keeps.same.writes tt refl refl
+        (below_kept arena w enters (t.kept op.task.key k) leaving.layering.unprepared
+        (subst (λ (told : Option Outcome). IsBound told (quiet c arena c.tape.reserved o (went op (c.steps + 1) w op.outcome op.prepared)) (went op (c.steps + 1) w op.outcome op.prepared)) (sym untold) leaving.layering.light)) leaving.unsplit
 
   module _ (at_make : op.walk.phase ≡ MakeLayer) where
     making : IsLayering c o op MakeLayer
@@ -377,6 +386,7 @@ module _ (c : Core) (o : ℕ) (h : StateInvariant c) (few : c.steps < 2 ^ 59) (o
               (made_kind w.phase leads w.writes (t.same.writes ∙ layer_writes op.walk.phase layer op.walk.writes always.kind));
           kept = made_kept w.phase leads building o built unsplit (record {
             makes = subst (KeptLayer w.phase arena o op.task.key) (sym whole) t.kept;
+            light = layering.light;
             untold = layering.untold;
             unprepared = layering.unprepared;
           });
@@ -389,13 +399,14 @@ module _ (c : Core) (o : ℕ) (h : StateInvariant c) (few : c.steps < 2 ^ 59) (o
             tenant = once.tenant;
             key_is = once.key_is;
             makes = once.makes;
+            was = once.was;
           };
         }
 
     -- the tree of the layer was made, or the slot came nearer to its link
     pub build_done : Gives (shown c) building o false
     build_done =
-        let only : HoldsOnly c.arena o op.walk.place.node = λ j inside holds. layer_held op.walk.phase layer op.walk op.splits j (holds_here c (shown c) o refl h few op there op.walk.phase refl j inside holds) in
+        let only : HoldsOnly c.arena o op.walk.place.node = λ j inside holds. layer_held op.walk.phase layer op j (holds_here c (shown c) o refl h few op there op.walk.phase refl j inside holds) in
         gives (shown c) c building o op built refl h few
         (record {
           there = there;
@@ -408,18 +419,18 @@ module _ (c : Core) (o : ℕ) (h : StateInvariant c) (few : c.steps < 2 ^ 59) (o
           tape = build_tape;
           stamps = build_stamps;
           versions = t.versions (c.steps + 1) (λ k inside. counted_later c.steps (at c.arena k) (h.versions k inside));
-          held = λ k inside holds. made_held w.phase leads built.walk op.splits k unsplit.halves (t.holds only k inside holds);
+          held = λ k inside holds. made_held w.phase leads built k unsplit.halves (t.holds only k inside holds);
           counts =
               λ tenant a is. subst (λ (all : Contents). (a.count ≡ len (tenant_map tenant all)) × (a.count ≤ a.quota)) (sym t.contents) (h.counts tenant a is);
           kept = build_kept;
           reserved =
               let none = unready_none op op.walk.phase refl (layer_unready op.walk.phase layer) in let no = unready_none built w.phase refl (made_unready w.phase leads) in omega (arith, none, no);
-          unremoved = t.unremoved h.unremoved;
+          deleted = t.deleted h.deleted;
         })
         (record {
           logs = refl;
           moves = has_moved c op always w op.outcome op.prepared t.follows;
-          notes = layer_notes op.walk.phase w.phase layer leads (shown c) (view_of op) op.outcome layering.untold;
+          notes = layer_notes op.walk.phase w.phase layer leads (shown c) (view_of op) layering.untold;
           touches = t.touches;
           effect = inl (record { contents = t.contents; entries = refl; change = refl });
           makes = t.makes;

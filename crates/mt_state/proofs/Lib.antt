@@ -9,6 +9,7 @@ pub mod Telling
 pub mod Quiet
 pub mod Placing
 pub mod Moved
+pub mod Bound
 pub mod Decides
 pub mod Replies
 pub mod Still
@@ -36,5 +37,10 @@ pub mod Parting
 pub mod Needs
 pub mod Apart
 pub mod Climbing
+pub mod RemovalNodes
+pub mod RemovalSteps
+pub mod RemovalDrop
+pub mod RemovalLooks
+pub mod RemovalBy
 pub mod ClimbingNodes
 pub mod LayerNodes

@@ -64,6 +64,7 @@ use Rattle.mt_state.proofs.Moved.{went, first_begun, first_upto}
 use Rattle.mt_state.proofs.Still.{IsFree, IsUnready, still, still_gives}
 use Rattle.mt_state.proofs.Reading.{key_of_owner, walk_same}
 use Rattle.mt_state.proofs.Confirming.{get_of}
+use Rattle.mt_state.proofs.Bound.{get_untold}
 
 -- the pairs of live nodes of live trees count
 counts_live : (deleted : Bool) (s : Standing) → deleted ≡ false → s ≡ Live → cond deleted false (is_live s) ≡ true
@@ -122,6 +123,9 @@ module _ (c : Core) (now : StateView) (o : ℕ) (is : shown c ≡ now) (h : Stat
   gets : is_get (ask op.task) ≡ true
   gets = get_of (is_get (ask op.task)) op.walk.writes always.writes looks_on
 
+  load_untold : op.outcome ≡ None
+  load_untold = get_untold op.outcome c op gets loading.way.bound
+
   key_asked_is : op.task.key ≡ stored_key op.task.tenant (key_of (ask op.task))
   key_asked_is = key_of_owner op.task.key op.task.tenant (key_of (ask op.task)) always.stored always.owner
 
@@ -144,9 +148,8 @@ module _ (c : Core) (now : StateView) (o : ℕ) (is : shown c ≡ now) (h : Stat
       still_gives c now o is h room op there load_free w told
       (subst (λ (p : Phase). MayFollow p w.phase) (sym at_load) (subst (MayFollow Load) (sym done) tt))
       (subst IsUnready (sym done) tt) same.writes (subst (λ (p : Phase). IsOfKind p w.writes) (sym done) tt)
-      (sym (ap told_change loading.way.untold))
+      (sym (ap told_change load_untold))
       (subst (λ (p : Phase). Notes (shown c) (view_of op) p w.phase told) (sym at_load) (subst (λ (p : Phase). Notes (shown c) (view_of op) Load p told) (sym done) refl))
-      (ap told_change loading.way.untold)
       (subst (λ (p : Phase). IsKeptAt p new o after) (sym done) own) true (sym (ap is_done done))
 
   module _ (w : Walk) (row : Option Columns) (told : Option Outcome) (loads : Loads (at c.arena op.walk.place.node) op.walk w row) (shows : ShowsTaken op row w told) (same : Continues op.walk w)
@@ -169,7 +172,7 @@ module _ (c : Core) (now : StateView) (o : ℕ) (is : shown c ≡ now) (h : Stat
     stands : (pair : Pair) → op.walk.slot < length node.slots → pair_of (slot_at node op.walk.slot).held ≡ Some pair
         → (key : Bytes) × (layer : ℕ) × StandsFor c.arena.nodes c.arena.trees key layer op.walk.place.node op.walk.slot pair
     stands pair in_range held =
-        let s = slot_key c.arena arena h.unremoved op.walk.place.node within unmade op.walk.slot pair in_range held in
+        let s = slot_key c.arena arena h.deleted op.walk.place.node within unmade op.walk.slot pair in_range held in
         (s.0, layer_of (tree_of c.arena op.walk.place.node).prefix, s.1)
 
     -- where nobody made a step since the search, a pair in the slot is that of the get's own key
@@ -296,7 +299,6 @@ module _ (c : Core) (now : StateView) (o : ℕ) (is : shown c ≡ now) (h : Stat
         still_gives c now o is h room op there load_free w told
         (subst (λ (p : Phase). MayFollow p w.phase) (sym at_load) (subst (MayFollow Load) (sym confirms) tt))
         (subst IsUnready (sym confirms) tt) same.writes (subst (λ (p : Phase). IsOfKind p w.writes) (sym confirms) (same.writes ∙ looks_on))
-        (no_change w.taken loads.takes ∙ sym (ap told_change loading.way.untold))
+        (no_change w.taken loads.takes ∙ sym (ap told_change load_untold))
         (subst (λ (p : Phase). Notes (shown c) (view_of op) p w.phase told) (sym at_load) (subst (λ (p : Phase). Notes (shown c) (view_of op) Load p told) (sym confirms) (noted w.taken loads.takes)))
-        (ap told_change loading.way.untold)
         (subst (λ (p : Phase). IsKeptAt p new o after) (sym confirms) own) false (sym (ap is_done confirms))

@@ -1,7 +1,7 @@
 -- The steps of a put that change no pair: it locks its border node, judges it, finds its quota full, and gives the lock back.
 use Rattle.std.proofs.Common.{◌≡◌, ◌≢◌, ℕ, zero, suc, ◌+◌, ◌-◌, ◌<◌, ◌≤◌, inl, inr, Bool, true, false, cond, eqb, List, [], ◌∷◌, length, Option, Some, None, refl, sym, ap, subst, ◌∙◌, arith}
 use Rattle.std.specs.Prelude.{◌^◌}
-use Rattle.std.proofs.lemmas.Bool.{cases_lt}
+use Rattle.std.proofs.lemmas.Bool.{cases_lt, both_ways}
 use Rattle.std.specs.FinMap.{get, len}
 use Rattle.mt_version.specs.Changes.{CanUnlock}
 use Rattle.mt_rows.specs.declared.reply.Reply.TheVariants.{NoMemory, Full}
@@ -29,7 +29,7 @@ use Rattle.mt_operation.specs.Phases.{is_done, MayFollow, IsOfKind, has_splits, 
 use Rattle.mt_operation.specs.Tables.{Table, op_at as operation_at}
 use Rattle.mt_descent.specs.KeptWalks.{IsAtBorder, KeptAt, IsKept}
 use Rattle.mt_descent.specs.WalkMoves.{after_change, IsLock}
-use Rattle.mt_insert.specs.Puts.{IsPut}
+use Rattle.mt_insert.specs.Puts.{IsPut, is_put}
 use Rattle.mt_insert.specs.KeptPuts.{HoldsBorder, KeptReady, IsAtUnlock, HoldsOnly}
 use Rattle.mt_insert.specs.Placing.{released, reserving}
 use Rattle.mt_insert.specs.Judge.{after_judge, IsMadeReady}
@@ -37,10 +37,9 @@ use Rattle.mt_insert.specs.Unlock.{IsUnlock}
 use Rattle.mt_insert.proofs.Looks.{held_here}
 use Rattle.mt_state.specs.Views.{StateView, Core, shown, past_of, quota_of, quota_in}
 use Rattle.mt_state.specs.Steps.{told_change}
-use Rattle.mt_state.specs.Notes.{Notes}
+use Rattle.mt_state.specs.Notes.{Notes, EndsJudging}
 use Rattle.mt_state.specs.Promises.{IsAnswer, Touches}
-use Rattle.mt_state.specs.Ways.{IsOnWay}
-use Rattle.mt_state.specs.KeptOperations.{IsOpenOperation, IsOnItsWay, IsJudging, IsPublishing, MayUnlock, IsUnlocking, HasAnswer, IsKeptAt}
+use Rattle.mt_state.specs.KeptOperations.{IsOpenOperation, IsOnItsWay, IsJudging, IsPublishing, MayUnlock, IsUnlocking, HasAnswer, IsKeptAt, MayUnlockUnsplit}
 use Rattle.mt_state.specs.Invariant.{IsCountedUpTo, HoldsLast, HoldsAt, StateInvariant, one_if_prepared, prepared_count}
 use Rattle.mt_state.proofs.Decides.{outdated_or_not}
 use Rattle.mt_state.proofs.Descents.{Leads, first_aside, changed_leads}
@@ -50,9 +49,11 @@ use Rattle.mt_state.proofs.Telling.{Gives, map_now}
 use Rattle.mt_state.proofs.Quiet.{LeavesPairs}
 use Rattle.mt_state.proofs.Moved.{went, first_same, first_begun, first_upto}
 use Rattle.mt_state.proofs.Still.{IsFree, still, still_gives, leaves_all, unready_none}
-use Rattle.mt_state.proofs.Reading.{kept_on_way, on_way_unready, on_way_open, walk_same}
-use Rattle.mt_state.proofs.OneNode.{stepped, returning_told, can_unlock, counted_unlocked, replaced_at, replaced_holds, replaced_touches, replaced_leaves, quiet_grows, holds_here, quiet_gives}
+use Rattle.mt_state.proofs.Reading.{kept_on_way, on_way_unready, on_way_open, walk_same, keeps_on}
+use Rattle.mt_state.proofs.OneNode.{stepped, returning_told, can_unlock, counted_unlocked, replaced_at, replaced_holds, replaced_touches, replaced_leaves, quiet_grows, holds_here, quiet_gives, border_alone}
 use Rattle.mt_insert.specs.Publish.{IsPublishFull}
+use Rattle.mt_state.proofs.Bound.{bound_on, put_no_remove}
+use Rattle.mt_remove.specs.Writes.{is_remove}
 
 -- an operation that has all ready for its write counts once
 pub ready_one : (op : Operation) (p : Phase) → op.walk.phase ≡ p → is_prepared p ≡ true → one_if_prepared (Some op) ≡ 1
@@ -135,18 +136,15 @@ module _ (c : Core) (now : StateView) (o : ℕ) (is : shown c ≡ now) (h : Stat
           let on : IsOnItsWay new after = record {
             kept =
                 first_aside w.phase leads.0 c.arena (past_of new) op.task.key None w after.walk.first (subst (λ (v : ArenaView). IsKept v (past_of new) op.task.key None w) stays (t.kept (past_of new) None));
-            untold = locking.untold;
+            bound = bound_on c new op always (quiet_grows c o c.arena c.tape.reserved after refl) w locking.unprepared refl op.outcome locking.bound;
             unprepared = locking.unprepared;
           } in
           subst (λ (v : ArenaView). Gives now (locked_core v) o false) (sym stays)
           (still_gives c now o is h room op there lock_free w op.outcome
           (subst (λ (p : Phase). MayFollow p w.phase) (sym at_lock) leads.1) (on_way_unready w.phase leads.0) t.keeps.same.writes leads.2 refl
-          (subst (λ (p : Phase). Notes (shown c) (view_of op) p w.phase op.outcome) (sym at_lock) (by_phase w.phase leads.0))
-          (ap told_change locking.untold)
+          (subst (λ (p : Phase). Notes (shown c) (view_of op) p w.phase op.outcome) (sym at_lock)
+          (keeps_on w.phase leads.0 w.writes leads.2 op.outcome (λ reads. absurd (both_ways _ reads (t.keeps.same.writes ∙ locks_on)))))
           (kept_on_way w.phase leads.0 new o after on) false (sym (on_way_open w.phase leads.0)))
-        where
-          by_phase : (q : Phase) → IsOnWay q → Notes (shown c) (view_of op) Lock q op.outcome
-          by_phase q on = locking.untold
 
       -- the operation holds its node
       lock_taken : arena ≡ with_node c.arena k (locked n o) → w ≡ record op.walk { phase = Judge } → Gives now (locked_core arena) o false
@@ -162,15 +160,15 @@ module _ (c : Core) (now : StateView) (o : ℕ) (is : shown c ≡ now) (h : Stat
           let own : IsJudging (locked_core arena) o after = record {
             judges =
                 subst (HoldsBorder arena o op.task.key) (sym whole) (held_here o c.arena arena op.task.key op.walk w t.locks judges (t.judged judges) (t.settled judges));
-            untold = locking.untold;
+            bound = bound_on c (locked_core arena) op always (quiet_grows c o arena c.tape.reserved after t.keeps.contents) w locking.unprepared (ap (λ (v : ArenaView). v.trees) takes) op.outcome locking.bound;
             unprepared = locking.unprepared;
           } in
           quiet_gives c now o is h room op there arena c.tape.reserved w op.outcome op.prepared
           (subst (LeavesPairs c o) (sym takes) leaves) (ap is_done at_lock)
           (subst (λ (p : Phase). MayFollow p w.phase) (sym at_lock) (subst (MayFollow Lock) (sym judges) tt))
           t.keeps.same.writes (subst (λ (p : Phase). IsOfKind p w.writes) (sym judges) (t.keeps.same.writes ∙ locks_on)) refl
-          (subst (λ (p : Phase). Notes (shown c) (view_of op) p w.phase op.outcome) (sym at_lock) (subst (λ (p : Phase). Notes (shown c) (view_of op) Lock p op.outcome) (sym judges) locking.untold))
-          (λ j inside holds. subst (λ (p : Phase). HoldsAt p after.walk op.splits j) (sym judges) (locked_here within j (subst (λ (v : ArenaView). j < length v.nodes) takes inside) (subst (λ (v : ArenaView). (at v j).holder ≡ Some o) takes holds) ∙ sym place))
+          (subst (λ (p : Phase). Notes (shown c) (view_of op) p w.phase op.outcome) (sym at_lock) (subst (λ (p : Phase). Notes (shown c) (view_of op) Lock p op.outcome) (sym judges) refl))
+          (λ j inside holds. subst (λ (p : Phase). HoldsAt p after j) (sym judges) (locked_here within j (subst (λ (v : ArenaView). j < length v.nodes) takes inside) (subst (λ (v : ArenaView). (at v j).holder ≡ Some o) takes holds) ∙ sym place))
           (subst (λ (p : Phase). IsKeptAt p (locked_core arena) o after) (sym judges) own)
           (unsplit_at Lock at_lock refl)
           (let none = unready_none op Lock at_lock tt in let no = unready_none after Judge judges tt in omega (arith, none, no))
@@ -191,16 +189,19 @@ module _ (c : Core) (now : StateView) (o : ℕ) (is : shown c ≡ now) (h : Stat
         | inr fresh ↦ lock_taken (t.locks.takes fresh) (t.locks.judges fresh)
       ]
 
-  module _ (at_unlock : op.walk.phase ≡ Unlock) (told : op.outcome ≢ None) (none : op.splits.halves.items ≡ []) where
+  module _ (at_unlock : op.walk.phase ≡ Unlock) (puts : is_remove (ask op.task) ≡ false) (told : op.outcome ≢ None) (none : op.splits.halves.items ≡ []) where
     unlocking : IsUnlocking c o op
     unlocking = returning_told op.outcome told c o op (subst (λ (p : Phase). IsKeptAt p c o op) at_unlock (h.ops o op there).kept)
 
     unlocks : IsAtUnlock c.arena o op.walk × IsUnsplit op.splits
-    unlocks = subst (λ (halves : List Halves). MayUnlock halves c.arena o op) none unlocking.unlocks
+    unlocks =
+        let both : MayUnlock [] c.arena o op = subst (λ (halves : List Halves). MayUnlock halves c.arena o op) none unlocking.unlocks in
+        (subst (λ (removes : Bool). MayUnlockUnsplit removes c.arena o op) puts both.0, both.1)
 
     holds_only : HoldsOnly c.arena o k
     holds_only j inside holds =
-        subst (λ (halves : List Halves). HoldsLast halves op.walk op.splits j) none (holds_here c now o is h room op there Unlock at_unlock j inside holds)
+        border_alone op.walk op.removal j (always.light puts)
+        (subst (λ (halves : List Halves). HoldsLast halves op j) none (holds_here c now o is h room op there Unlock at_unlock j inside holds))
 
     begun_unlock : 0 < op.walk.first
     begun_unlock = always.begun (λ enters. absurd (let no : Unlock ≡ Enter = sym at_unlock ∙ enters in cc))
@@ -270,9 +271,9 @@ module _ (c : Core) (now : StateView) (o : ℕ) (is : shown c ≡ now) (h : Stat
     judged_place None = refl
 
     -- a put that has made all ready for its write
-    pub judge_ready : (arena : ArenaView) (tape : Kept) (w : Walk) (prepared : Prepared) → IsMadeReady o op.task c.arena arena c.tape tape op.walk w prepared
+    pub judge_ready : op.outcome ≡ None → is_put (ask op.task) ≡ true → (arena : ArenaView) (tape : Kept) (w : Walk) (prepared : Prepared) → IsMadeReady o op.task c.arena arena c.tape tape op.walk w prepared
         → Gives now (stepped c arena tape c.accounts o (went op (c.steps + 1) w op.outcome (Some prepared))) o false
-    judge_ready arena tape w prepared t =
+    judge_ready untold put arena tape w prepared t =
         subst (λ (v : ArenaView). Gives now (stepped c v tape c.accounts o after) o false) (sym t.stays)
         (subst (λ (t : Kept). Gives now (stepped c c.arena t c.accounts o after) o false) (sym t.tape_is)
         (quiet_gives c now o is h room op there c.arena (c.tape.reserved + 1) w op.outcome (Some prepared)
@@ -315,12 +316,12 @@ module _ (c : Core) (now : StateView) (o : ℕ) (is : shown c ≡ now) (h : Stat
         kind _ t = absurd t
 
         notes : (p : Phase) → IsToPlace p → Notes (shown c) (view_of op) Judge p op.outcome
-        notes Store t = judging.untold
-        notes Publish t = judging.untold
-        notes SplitStart t = judging.untold
+        notes Store t = (untold, untold)
+        notes Publish t = (untold, untold)
+        notes SplitStart t = (untold, untold)
         notes _ t = absurd t
 
-        holds_on : (p : Phase) → IsToPlace p → (j : ℕ) → j ≡ w.place.node → HoldsAt p after.walk op.splits j
+        holds_on : (p : Phase) → IsToPlace p → (j : ℕ) → j ≡ w.place.node → HoldsAt p after j
         holds_on Store t j e = e
         holds_on Publish t j e = e
         holds_on SplitStart t j e = e
@@ -339,15 +340,15 @@ module _ (c : Core) (now : StateView) (o : ℕ) (is : shown c ≡ now) (h : Stat
         open_on _ t = absurd t
 
         own : (p : Phase) → IsToPlace p → KeptReady p c.arena o op.task prepared after.walk → IsKeptAt p new o after
-        own Store t stores = record { prepared = prepared; has = refl; stores = stores; untold = judging.untold }
-        own Publish t publishes = record { prepared = prepared; has = refl; publishes = publishes; untold = judging.untold }
-        own SplitStart t starts = record { prepared = prepared; has = refl; starts = starts; untold = judging.untold }
+        own Store t stores = record { prepared = prepared; has = refl; stores = stores; put = put; untold = untold }
+        own Publish t publishes = record { prepared = prepared; has = refl; publishes = publishes; put = put; untold = untold }
+        own SplitStart t starts = record { prepared = prepared; has = refl; starts = starts; put = put; untold = untold }
         own _ t kept = absurd t
 
     -- a put that memory stops: its lock is given back in the same step
-    pub judge_refused : (arena : ArenaView) (tape : Kept) (w : Walk) → tape ≡ c.tape → IsUnlock o c.arena arena op.walk w
+    pub judge_refused : op.outcome ≡ None → (arena : ArenaView) (tape : Kept) (w : Walk) → tape ≡ c.tape → IsUnlock o c.arena arena op.walk w
         → Gives now (stepped c arena tape c.accounts o (went op (c.steps + 1) w (Some (record { reply = NoMemory; at = c.steps + 1 })) op.prepared)) o true
-    judge_refused arena tape w keeps t =
+    judge_refused untold arena tape w keeps t =
         let told : Option Outcome = Some (record { reply = NoMemory; at = c.steps + 1 }) in
         let after = went op (c.steps + 1) w told op.prepared in
         let new = stepped c arena c.tape c.accounts o after in
@@ -369,8 +370,8 @@ module _ (c : Core) (now : StateView) (o : ℕ) (is : shown c ≡ now) (h : Stat
         (subst (LeavesPairs c o) (sym t.is) (back_leaves within (subst (Guarantee o c.arena) t.is t.keeps.guarantee) (subst (λ (v : ArenaView). content_of v ≡ content_of c.arena) t.is t.keeps.contents)))
         (ap is_done at_judge)
         (subst (λ (p : Phase). MayFollow p w.phase) (sym at_judge) (subst (MayFollow Judge) (sym ends) tt))
-        t.keeps.same.writes (subst (λ (p : Phase). IsOfKind p w.writes) (sym ends) tt) (sym (ap told_change judging.untold))
-        (subst (λ (p : Phase). Notes (shown c) (view_of op) p w.phase told) (sym at_judge) (subst (λ (p : Phase). Notes (shown c) (view_of op) Judge p told) (sym ends) refl))
+        t.keeps.same.writes (subst (λ (p : Phase). IsOfKind p w.writes) (sym ends) tt) (sym (ap told_change untold))
+        (subst (λ (p : Phase). Notes (shown c) (view_of op) p w.phase told) (sym at_judge) (subst (λ (p : Phase). Notes (shown c) (view_of op) Judge p told) (sym ends) (subst (λ had. EndsJudging had (shown c) (view_of op) told) (sym untold) (inl refl))))
         (λ j inside holds. absurd (back_free within (holds_here c now o is h room op there Judge at_judge) j (subst (λ (v : ArenaView). j < length v.nodes) t.is inside) (subst (λ (v : ArenaView). (at v j).holder ≡ Some o) t.is holds)))
         (subst (λ (p : Phase). IsKeptAt p new o after) (sym ends) own)
         (unsplit_at Judge at_judge refl)
@@ -414,7 +415,8 @@ module _ (c : Core) (now : StateView) (o : ℕ) (is : shown c ≡ now) (h : Stat
         let is_full = put_full (quota_of (shown c) op.task.tenant) op.task.request (tenant_map op.task.tenant (content_of c.arena)) put.put_is none full in
         let own : IsUnlocking new o after = record {
           unlocks =
-              subst (λ (halves : List Halves). MayUnlock halves c.arena o after) (sym unsplit.halves) (subst (IsAtUnlock c.arena o) (sym whole) (subst (λ (v : ArenaView). IsAtUnlock v o w) t.stays t.kept), unsplit);
+              subst (λ (halves : List Halves). MayUnlock halves c.arena o after) (sym unsplit.halves)
+              (subst (λ (removes : Bool). MayUnlockUnsplit removes c.arena o after) (sym (put_no_remove (ask op.task) put.put_is)) (subst (IsAtUnlock c.arena o) (sym whole) (subst (λ (v : ArenaView). IsAtUnlock v o w) t.stays t.kept)), unsplit);
           answer = record {
             outcome = record { reply = Full; at = c.steps + 1 };
             told = refl;
@@ -439,7 +441,7 @@ module _ (c : Core) (now : StateView) (o : ℕ) (is : shown c ≡ now) (h : Stat
         (subst (λ (p : Phase). MayFollow p w.phase) (sym at_publish) (subst (MayFollow Publish) (sym ends) tt))
         t.same.writes (subst (λ (p : Phase). IsOfKind p w.writes) (sym ends) (t.same.writes ∙ publishes_on)) (sym (ap told_change publishing.untold))
         (subst (λ (p : Phase). Notes (shown c) (view_of op) p w.phase told) (sym at_publish) (subst (λ (p : Phase). Notes (shown c) (view_of op) Publish p told) (sym ends) (inr refl)))
-        (λ j inside holds. subst (λ (p : Phase). HoldsAt p after.walk op.splits j) (sym ends) (subst (λ (halves : List Halves). HoldsLast halves after.walk op.splits j) (sym unsplit.halves) (holds_here c now o is h room op there Publish at_publish j inside holds ∙ sym place)))
+        (λ j inside holds. subst (λ (p : Phase). HoldsAt p after j) (sym ends) (subst (λ (halves : List Halves). HoldsLast halves after j) (sym unsplit.halves) (inl (holds_here c now o is h room op there Publish at_publish j inside holds ∙ sym place))))
         (subst (λ (p : Phase). IsKeptAt p new o after) (sym ends) own)
         unsplit
         (let one = ready_one op Publish at_publish refl in let no = unready_none after Unlock ends tt in let some = room_for c h o op Publish there at_publish refl in omega (arith, one, no, some))

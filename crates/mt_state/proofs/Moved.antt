@@ -1,5 +1,5 @@
 -- An operation that has made a step: its numbers, and what is kept of every operation: for all phases.
-use Rattle.std.proofs.Common.{◌≡◌, ℕ, zero, suc, ◌+◌, ◌<◌, ◌≤◌, ◌⊎◌, inl, inr, cond, eqb, Option, IsSome, refl, ap, ◌∙◌, arith}
+use Rattle.std.proofs.Common.{◌≡◌, ℕ, zero, suc, ◌+◌, ◌<◌, ◌≤◌, ◌⊎◌, inl, inr, cond, eqb, Option, IsSome, refl, ap, ◌∙◌, arith, false}
 use Rattle.std.proofs.lemmas.Bool.{ne_eqb}
 use Rattle.mt_rows.specs.Accounts.{account_of}
 use Rattle.mt_operation.specs.declared.walk.Walk.{Walk}
@@ -7,11 +7,14 @@ use Rattle.mt_operation.specs.declared.outcome.Outcome.{Outcome}
 use Rattle.mt_operation.specs.declared.prepared.Prepared.{Prepared}
 use Rattle.mt_operation.specs.declared.splits.Splits.{Splits}
 use Rattle.mt_operation.specs.declared.operation.Operation.{Operation}
-use Rattle.mt_operation.specs.Operations.{view_of, moved}
+use Rattle.mt_operation.specs.Operations.{view_of, moved, no_removal}
 use Rattle.mt_state.specs.Views.{Core}
 use Rattle.mt_state.specs.Steps.{HasMoved}
 use Rattle.mt_operation.specs.Phases.{MayFollow, IsOfKind}
 use Rattle.mt_state.specs.KeptOperations.{IsOpenOperation}
+use Rattle.mt_operation.specs.declared.removal.Removal.{Removal}
+use Rattle.mt_operation.specs.Tasks.{ask}
+use Rattle.mt_remove.specs.Writes.{is_remove}
 
 -- the number of an operation's first step, once it has made one
 pub first_is : (n step : ℕ) → ((n ≡ 0) × (cond (eqb n 0) step n ≡ step)) ⊎ ((0 < n) × (cond (eqb n 0) step n ≡ n))
@@ -25,6 +28,10 @@ went op step w told prepared = record (moved op step w) { outcome = told; prepar
 -- and with these splits
 abbrev pub went_with : Operation → ℕ → Walk → Option Outcome → Option Prepared → Splits → Operation
 went_with op step w told prepared s = record (moved op step w) { outcome = told; prepared = prepared; splits = s }
+
+-- and with this of its removal
+abbrev pub went_on : Operation → ℕ → Walk → Option Outcome → Option Prepared → Splits → Removal → Operation
+went_on op step w told prepared s r = record (moved op step w) { outcome = told; prepared = prepared; splits = s; removal = r }
 
 module _ (c : Core) (op : Operation) (k : IsOpenOperation c op) (w : Walk) where
   -- an operation that made this step has a first one
@@ -49,10 +56,11 @@ module _ (c : Core) (op : Operation) (k : IsOpenOperation c op) (w : Walk) where
   ]
 
   -- what is kept of every operation
-  pub open_moved_with : (new : Core) (told : Option Outcome) (prepared : Option Prepared) (s : Splits) → new.steps ≡ c.steps + 1
+  pub open_moved_on : (new : Core) (told : Option Outcome) (prepared : Option Prepared) (s : Splits) (r : Removal)
+      → (is_remove (ask op.task) ≡ false → r ≡ no_removal) → new.steps ≡ c.steps + 1
       → new.tape.floor ≡ c.tape.floor → ((t : ℕ) → IsSome (account_of c.accounts t) → IsSome (account_of new.accounts t)) → c.tape.floor ≤ c.steps
-      → w.writes ≡ op.walk.writes → IsOfKind w.phase w.writes → IsOpenOperation new (went_with op (c.steps + 1) w told prepared s)
-  open_moved_with new told prepared s steps floor accounts upto writes kind = record {
+      → w.writes ≡ op.walk.writes → IsOfKind w.phase w.writes → IsOpenOperation new (went_on op (c.steps + 1) w told prepared s r)
+  open_moved_on new told prepared s r light steps floor accounts upto writes kind = record {
     stored = k.stored;
     owner = k.owner;
     columns = k.columns;
@@ -67,7 +75,13 @@ module _ (c : Core) (op : Operation) (k : IsOpenOperation c op) (w : Walk) where
     ];
     begun = λ other. first_begun;
     short = k.short;
+    light = light;
   }
+
+  pub open_moved_with : (new : Core) (told : Option Outcome) (prepared : Option Prepared) (s : Splits) → new.steps ≡ c.steps + 1
+      → new.tape.floor ≡ c.tape.floor → ((t : ℕ) → IsSome (account_of c.accounts t) → IsSome (account_of new.accounts t)) → c.tape.floor ≤ c.steps
+      → w.writes ≡ op.walk.writes → IsOfKind w.phase w.writes → IsOpenOperation new (went_with op (c.steps + 1) w told prepared s)
+  open_moved_with new told prepared s = open_moved_on new told prepared s op.removal k.light
 
   pub open_moved : (new : Core) (told : Option Outcome) (prepared : Option Prepared) → new.steps ≡ c.steps + 1 → new.tape.floor ≡ c.tape.floor
       → ((t : ℕ) → IsSome (account_of c.accounts t) → IsSome (account_of new.accounts t)) → c.tape.floor ≤ c.steps
@@ -75,14 +89,18 @@ module _ (c : Core) (op : Operation) (k : IsOpenOperation c op) (w : Walk) where
   open_moved new told prepared = open_moved_with new told prepared op.splits
 
   -- what is shown of it
-  pub has_moved_with : (told : Option Outcome) (prepared : Option Prepared) (s : Splits) → MayFollow op.walk.phase w.phase
-      → HasMoved (view_of op) (view_of (went_with op (c.steps + 1) w told prepared s)) (c.steps + 1)
-  has_moved_with told prepared s follows = record {
+  pub has_moved_on : (told : Option Outcome) (prepared : Option Prepared) (s : Splits) (r : Removal) → MayFollow op.walk.phase w.phase
+      → HasMoved (view_of op) (view_of (went_on op (c.steps + 1) w told prepared s r)) (c.steps + 1)
+  has_moved_on told prepared s r follows = record {
     asked = record { worker = refl; tenant = refl; command = refl };
     first = refl;
     last = refl;
     follows = follows;
   }
+
+  pub has_moved_with : (told : Option Outcome) (prepared : Option Prepared) (s : Splits) → MayFollow op.walk.phase w.phase
+      → HasMoved (view_of op) (view_of (went_with op (c.steps + 1) w told prepared s)) (c.steps + 1)
+  has_moved_with told prepared s = has_moved_on told prepared s op.removal
 
   pub has_moved : (told : Option Outcome) (prepared : Option Prepared) → MayFollow op.walk.phase w.phase
       → HasMoved (view_of op) (view_of (went op (c.steps + 1) w told prepared)) (c.steps + 1)

@@ -13,6 +13,7 @@ use Rattle.mt_state.proofs.Rely as rely
 use Rattle.mt_state.proofs.Shown.{shown_table}
 use Rattle.mt_state.proofs.Answered.{made_set}
 use Rattle.mt_state.proofs.Writing.{quotas_stay, written_stays}
+use Rattle.mt_arena.specs.Arena.{IsArena}
 
 -- an operation with a place in the table counts once
 counted_set : (table : Table) (o : ℕ) (before after : Operation) → operation_at table o ≡ Some before
@@ -21,7 +22,7 @@ counted_set [] o before after e = absurd (cc)
 counted_set (x ∷ table) zero before after e = let is = ap one_if_prepared e in omega (arith, is)
 counted_set (x ∷ table) (suc o) before after e = let rest = counted_set table o before after e in omega (arith, rest)
 
-module _ (old new : Core) (o : ℕ) (before after : Operation) (h : StateInvariant old) (m : IsMove old new o before after) (t : IsTold old new o before after) (few : old.steps < 2 ^ 59) where
+module _ (old new : Core) (o : ℕ) (before after : Operation) (h : StateInvariant old) (m : IsMove old new o before after) (t : IsTold old new o before after) (few : old.steps < 2 ^ 59) (arena : IsArena new.arena.nodes new.arena.trees) where
   -- the operation of an id is that of the step, or was there before
   abbrev Was : ℕ → Operation → Type 0
   Was q op = ((q ≡ o) × (after ≡ op)) ⊎ ((q ≢ o) × (operation_at old.table q ≡ Some op))
@@ -43,7 +44,7 @@ module _ (old new : Core) (o : ℕ) (before after : Operation) (h : StateInvaria
   ops_stay : (q : ℕ) (op : Operation) → operation_at new.table q ≡ Some op → IsKeptOf new q op
   ops_stay q op is = elim (was q op is) [
     | inl (same, it) ↦ subst (λ (w : Operation). IsKeptOf new q w) it (subst (λ k. IsKeptOf new k after) (sym same) m.kept)
-    | inr (other, there) ↦ rely.stays old new o q m.unremoved m.leaves other (omega (arith, m.number)) op (h.ops q op there)
+    | inr (other, there) ↦ rely.stays old new o q arena m.leaves other (omega (arith, m.number)) op (h.ops q op there)
   ]
 
   holders_stay : AreHolders new
@@ -76,7 +77,7 @@ module _ (old new : Core) (o : ℕ) (before after : Operation) (h : StateInvaria
     ops = ops_stay;
     reserved = reserved_stays;
     answered = answered_stays;
-    unremoved = m.unremoved;
+    deleted = m.deleted;
     few = omega (arith, m.number);
     quotas = quotas_stay old new o before after h m;
     written = written_stays old new o before after h m t;

@@ -1,69 +1,78 @@
 -- What the calls of a put's phases ask, by the invariant: for `State::lock`, `judge`, `store`, `publish` and `unlock`, and
 -- for those that make a layer.
-use Rattle.std.proofs.Common.{◌≡◌, ◌≢◌, ℕ, ◌+◌, ◌<◌, Bool, true, false, not, List, [], Option, Some, None, IsSome, is_some, refl, sym, ap, subst, ◌∙◌, arith}
-use Rattle.std.proofs.lemmas.Option.{same_Some}
+use Rattle.std.proofs.Common.{◌≡◌, ◌≢◌, ℕ, ◌+◌, ◌<◌, Bool, true, false, List, [], Option, Some, None, IsSome, is_some, refl, sym, ap, subst, ◌∙◌, arith, inl, inr, nat_cmp, length}
+use Rattle.std.proofs.lemmas.Option.{same_Some, none-some}
 use Rattle.mt_version.specs.Changes.{CanUnlock}
-use Rattle.mt_rows.specs.Maps.{is_get}
+use Rattle.mt_rows.specs.Maps.{Map}
 use Rattle.mt_tape.specs.Tapes.{last_write}
-use Rattle.mt_arena.specs.Accesses.{at}
+use Rattle.mt_arena.specs.Accesses.{at, tree_of}
 use Rattle.mt_operation.specs.declared.phase.Phase.{Phase}
-use Rattle.mt_operation.specs.declared.phase.Phase.TheVariants.{Enter, Pick, Child, Verify, Search, Load, Confirm, Forward, Lock, Judge, Store, Publish, Unlock, Done}
-use Rattle.mt_operation.specs.declared.walk.Walk.{Walk}
+use Rattle.mt_operation.specs.declared.phase.Phase.TheVariants.{Lock, Judge, Store, Publish, Unlock, Done, DropKey}
 use Rattle.mt_operation.specs.declared.outcome.Outcome.{Outcome}
 use Rattle.mt_operation.specs.declared.prepared.Prepared.{Prepared}
 use Rattle.mt_operation.specs.declared.splits.Halves.{Halves}
-use Rattle.mt_operation.specs.declared.splits.Splits.{Splits}
 use Rattle.mt_operation.specs.declared.operation.Operation.{Operation}
-use Rattle.mt_operation.specs.Tasks.{ask}
+use Rattle.mt_operation.specs.Tasks.{ask, command_of}
 use Rattle.mt_operation.specs.Operations.{view_of, splits_of}
-use Rattle.mt_operation.specs.Phases.{is_done, IsOfKind, IsLayerPhase, is_prepared, IsLayerKind, Kind, row}
+use Rattle.mt_operation.specs.Phases.{is_done, IsOfKind, IsLayerPhase, is_prepared, IsLayerKind, Kind, row, IsRemovalPhase}
 use Rattle.mt_operation.specs.Tables.{op_at as operation_at}
 use Rattle.mt_descent.specs.KeptWalks.{IsAtBorder, KeptAt, HoldsNothing}
-use Rattle.mt_insert.specs.Puts.{IsPut}
+use Rattle.mt_insert.specs.Puts.{IsPut, is_put}
 use Rattle.mt_insert.specs.KeptPuts.{HoldsBorder, IsAtStore, IsAtPublish, IsAtUnlock}
 use Rattle.mt_layer.specs.KeptLayers.{IsAtLeave, KeptLayer}
 use Rattle.mt_state.specs.Views.{Core, shown, past_of}
-use Rattle.mt_state.specs.Promises.{IsInTheWay, IsHeldByOther}
-use Rattle.mt_state.specs.KeptOperations.{IsOpenOperation, IsOnItsWay, IsJudging, IsStoring, IsPublishing, MayUnlock, IsUnlocking, IsLayering, IsLeaving, IsReturning, IsKeptAt, IsKeptFor}
+use Rattle.mt_state.specs.Promises.{IsInTheWay, IsHeldByOther, HasStep}
+use Rattle.mt_state.specs.KeptOperations.{IsOpenOperation, IsOnItsWay, IsJudging, IsStoring, IsPublishing, MayUnlock, IsUnlocking, IsLayering, IsLeaving, IsReturning, IsKeptAt, IsKeptFor, IsWritingAt, MayUnlockUnsplit, IsDropping, IsBound}
 use Rattle.mt_state.specs.Invariant.{HoldsAt, StateInvariant}
 use Rattle.mt_state.proofs.Shown.{shown_there}
 use Rattle.mt_state.proofs.Locking.{may_unlock, room_for}
 use Rattle.mt_operation.specs.Phases as kinds
+use Rattle.mt_remove.specs.Writes.{is_remove, IsRemoval}
+use Rattle.std.specs.FinMap.{get, len, empty_of_len, get-empty}
+use Rattle.std.specs.Cmp.Lexicographic.{slice_cmp}
+use Rattle.std.proofs.lemmas.Bool.{cases_eq, both_ways}
+use Rattle.mt_rows.specs.Rows.{Bytes, Columns}
+use Rattle.mt_rows.specs.declared.command.Command.TheVariants.{Remove}
+use Rattle.mt_rows.specs.declared.tenants.Account.{Account}
+use Rattle.mt_rows.specs.Commands.{key_of}
+use Rattle.mt_rows.specs.Accounts.{account_of, HasPairs}
+use Rattle.mt_rows.specs.Tenants.{tenant_map}
+use Rattle.mt_rows.proofs.ContentLaws.{get-tenant_map}
+use Rattle.mt_arena.specs.Arena.{IsArena, content_of}
+use Rattle.mt_arena.specs.Forests.{layer_of}
+use Rattle.mt_operation.specs.declared.task.Request.{Request}
+use Rattle.mt_operation.specs.declared.task.Request.TheVariants.{Get as GetOf, Put as PutOf, Remove as RemoveOf}
+use Rattle.mt_operation.specs.declared.removal.Removal.{Removal}
+use Rattle.mt_insert.proofs.Places.{may_store}
+use Rattle.mt_remove.specs.KeptRemovals.{IsAtDropKey, IsUnburdened, KeptRemoval, HoldsRemoval, IsAtUnlockRemoval, IsCleaning, IsAmong as IsOfRemoval}
+use Rattle.mt_state.proofs.Loading.{row_of}
+use Rattle.mt_state.proofs.RemovalSteps.{unlinking_of, removal_holds}
+use Rattle.mt_state.proofs.RemovalLooks.{going_back}
 
--- a phase of writes alone
-abbrev pub IsOfWrites : Phase → Type 0
-IsOfWrites Enter = ⊥
-IsOfWrites Pick = ⊥
-IsOfWrites Child = ⊥
-IsOfWrites Verify = ⊥
-IsOfWrites Search = ⊥
-IsOfWrites Load = ⊥
-IsOfWrites Confirm = ⊥
-IsOfWrites Forward = ⊥
-IsOfWrites Done = ⊥
-IsOfWrites _ = Unit {0}
+-- a phase in which an operation has all ready for a put
+abbrev IsOfPutKind : Kind → Type 0
+IsOfPutKind kinds.Writes = Unit {0}
+IsOfPutKind kinds.Begins = Unit {0}
+IsOfPutKind kinds.Splits = Unit {0}
+IsOfPutKind _ = ⊥
 
-writes_of : (p : Phase) (writes : Bool) → IsOfWrites p → IsOfKind p writes → writes ≡ true
-writes_of Enter writes of_writes kind = absurd of_writes
-writes_of Pick writes of_writes kind = absurd of_writes
-writes_of Child writes of_writes kind = absurd of_writes
-writes_of Verify writes of_writes kind = absurd of_writes
-writes_of Search writes of_writes kind = absurd of_writes
-writes_of Load writes of_writes kind = absurd of_writes
-writes_of Confirm writes of_writes kind = absurd of_writes
-writes_of Forward writes of_writes kind = absurd of_writes
-writes_of Done writes of_writes kind = absurd of_writes
-writes_of _ writes of_writes kind = kind
+abbrev pub IsOfPut : Phase → Type 0
+IsOfPut p = IsOfPutKind (row p).kind
 
--- an operation that writes is no get
-no_get : (b writes : Bool) → writes ≡ not b → writes ≡ true → b ≡ false
-no_get true writes e f = absurd (let no = sym e ∙ f in cc)
-no_get false writes e f = refl
+writing_put : (p : Phase) (c : Core) (o : ℕ) (op : Operation) → IsWritingAt p c o op → is_put (ask op.task) ≡ true
+writing_put Store c o op k = k.put
+writing_put _ c o op k = k.put
+
+kept_put : (of : Kind) (p : Phase) → IsOfPutKind of → (c : Core) (o : ℕ) (op : Operation) → IsKeptFor of p c o op → is_put (ask op.task) ≡ true
+kept_put kinds.Writes p i c o op k = writing_put p c o op k
+kept_put kinds.Begins p i c o op k = k.put
+kept_put kinds.Splits p i c o op k = k.put
+kept_put _ p i c o op k = absurd i
 
 -- who holds a node has a step left
-holder_open : (p : Phase) (w : Walk) (s : Splits) (k : ℕ) → HoldsAt p w s k → is_done p ≡ false
-holder_open Done w s k holds = absurd holds
-holder_open _ w s k holds = refl
+holder_open : (p : Phase) (op : Operation) (k : ℕ) → HoldsAt p op k → is_done p ≡ false
+holder_open Done op k holds = absurd holds
+holder_open _ op k holds = refl
 
 -- one that was told something is not to leave a layer
 unlocking : (told : Option Outcome) → told ≢ None → (c : Core) (o : ℕ) (op : Operation) → IsReturning told c o op → IsUnlocking c o op
@@ -77,15 +86,27 @@ layering p makes c o op kept = by (row p).kind makes kept
     by kinds.Layers makes kept = kept
     by _ makes kept = absurd makes
 
+-- the command of a removal
+request_removes : (r : Request) → is_remove (command_of r) ≡ true → command_of r ≡ Remove (key_of (command_of r))
+request_removes (RemoveOf key) removes = refl
+request_removes (GetOf key columns) removes = absurd (cc)
+request_removes (PutOf key change) removes = absurd (cc)
+
+-- a map with a key has some
+len_some : (m : Map) (key : Bytes) (row : Columns) → get m key ≡ Some row → 0 < len m
+len_some m key row is = elim (cases_eq (len m) 0) [
+  | inl none ↦ absurd (none-some row (sym (ap (λ (x : Map). get x key) (empty_of_len m none) ∙ get-empty (slice_cmp nat_cmp) key) ∙ is))
+  | inr some ↦ omega (arith, some)
+]
+
 module _ (c : Core) (o : ℕ) (h : StateInvariant c) (op : Operation) (there : operation_at c.table o ≡ Some op) where
   always : IsOpenOperation c op
   always = (h.ops o op there).always
 
   -- the operation is a put
-  pub put_at : (p : Phase) → op.walk.phase ≡ p → IsOfWrites p → IsPut op.task
-  put_at p at_p of_writes = record {
-    put_is =
-        no_get (is_get (ask op.task)) op.walk.writes always.writes (writes_of p op.walk.writes of_writes (subst (λ (q : Phase). IsOfKind q op.walk.writes) at_p always.kind));
+  pub put_at : (p : Phase) → op.walk.phase ≡ p → IsOfPut p → IsPut op.task
+  put_at p at_p of_put = record {
+    put_is = kept_put (row p).kind p of_put c o op (subst (λ (q : Phase). IsKeptAt q c o op) at_p (h.ops o op there).kept);
     owner = always.owner;
   }
 
@@ -103,7 +124,7 @@ module _ (c : Core) (o : ℕ) (h : StateInvariant c) (op : Operation) (there : o
   lock_free_hands at_lock k within held =
       let f = h.holders k o within held in
       let same = same_Some f.0 op (sym f.1 ∙ there) in
-      subst (λ (p : Phase). HoldsAt p op.walk op.splits k) at_lock (subst (λ (x : Operation). HoldsAt x.walk.phase x.walk x.splits k) same f.2)
+      subst (λ (p : Phase). HoldsAt p op k) at_lock (subst (λ (x : Operation). HoldsAt x.walk.phase x k) same f.2)
 
   -- whoever holds the node is another operation, which has a step left
   pub lock_blocked : op.walk.phase ≡ Lock → (holder : ℕ) → (at c.arena op.walk.place.node).holder ≡ Some holder → IsHeldByOther (shown c) o holder
@@ -112,10 +133,10 @@ module _ (c : Core) (o : ℕ) (h : StateInvariant c) (op : Operation) (there : o
       let f = h.holders op.walk.place.node holder within held in
       record {
         other = λ same. lock_free_hands at_lock op.walk.place.node within (held ∙ ap Some same);
-        unfinished = (view_of f.0, shown_there c.table holder f.0 f.1, holder_open f.0.walk.phase f.0.walk f.0.splits op.walk.place.node f.2);
+        unfinished = (view_of f.0, shown_there c.table holder f.0 f.1, holder_open f.0.walk.phase f.0 op.walk.place.node f.2);
         op = view_of op;
         there = shown_there c.table o op there;
-        holds = subst (λ (p : Phase). IsInTheWay c.arena p op.walk (splits_of op.splits) holder) (sym at_lock) (op.walk.place.node, refl, within, held);
+        holds = subst (λ (p : Phase). IsInTheWay c.arena p op.walk (splits_of op.splits) op.removal holder) (sym at_lock) (op.walk.place.node, refl, within, held);
       }
 
   -- it holds its border node
@@ -149,12 +170,14 @@ module _ (c : Core) (o : ℕ) (h : StateInvariant c) (op : Operation) (there : o
   returning at_unlock = subst (λ (p : Phase). IsKeptAt p c o op) at_unlock (h.ops o op there).kept
 
   -- where it was told something it may give its lock back, where it has split nothing
-  pub unlock_kept : op.walk.phase ≡ Unlock → op.outcome ≢ None → op.splits.halves.items ≡ [] → IsAtUnlock c.arena o op.walk
-  unlock_kept at_unlock told none =
-      (subst (λ (halves : List Halves). MayUnlock halves c.arena o op) none (unlocking op.outcome told c o op (returning at_unlock)).unlocks).0
+  pub unlock_kept : op.walk.phase ≡ Unlock → is_remove (ask op.task) ≡ false → op.outcome ≢ None → op.splits.halves.items ≡ [] → IsAtUnlock c.arena o op.walk
+  unlock_kept at_unlock puts told none =
+      let both : MayUnlock [] c.arena o op = subst (λ (halves : List Halves). MayUnlock halves c.arena o op) none (unlocking op.outcome told c o op (returning at_unlock)).unlocks in
+      subst (λ (removes : Bool). MayUnlockUnsplit removes c.arena o op) puts both.0
 
-  pub unlock_room : op.walk.phase ≡ Unlock → op.outcome ≢ None → op.splits.halves.items ≡ [] → CanUnlock (at c.arena op.walk.place.node).version
-  unlock_room at_unlock told none = may_unlock c h op.walk.place.node (unlock_kept at_unlock told none).held.there
+  pub unlock_room : op.walk.phase ≡ Unlock → is_remove (ask op.task) ≡ false → op.outcome ≢ None → op.splits.halves.items ≡ []
+      → CanUnlock (at c.arena op.walk.place.node).version
+  unlock_room at_unlock puts told none = may_unlock c h op.walk.place.node (unlock_kept at_unlock puts told none).held.there
 
   -- what is kept of one that makes a layer
   pub layer_kept : (p : Phase) → op.walk.phase ≡ p → IsLayerPhase p → KeptLayer p c.arena o op.task.key op.walk
@@ -167,3 +190,89 @@ module _ (c : Core) (o : ℕ) (h : StateInvariant c) (op : Operation) (there : o
 
   pub leave_room : op.walk.phase ≡ Unlock → op.outcome ≡ None → CanUnlock (at c.arena op.walk.place.node).version
   leave_room at_unlock untold = may_unlock c h op.walk.place.node (leave_kept at_unlock untold).unlock.held.there
+
+  -- what an operation that removes asks
+  pub removal_of : is_remove (ask op.task) ≡ true → IsRemoval op.task
+  removal_of removes = record { is = request_removes op.task.request removes; owner = always.owner }
+
+  -- what it has made ready is the removal of its key's row
+  dropping : op.walk.phase ≡ DropKey → IsDropping c o op
+  dropping at_drop = subst (λ (p : Phase). IsKeptAt p c o op) at_drop (h.ops o op there).kept
+
+  pub drop_kept : op.walk.phase ≡ DropKey → (prepared : Prepared) → op.prepared ≡ Some prepared → IsAtDropKey c.arena o op.task prepared op.walk
+  drop_kept at_drop prepared has =
+      let k = dropping at_drop in subst (λ (x : Prepared). IsAtDropKey c.arena o op.task x op.walk) (same_Some k.prepared prepared (sym k.has ∙ has)) k.drops
+
+  pub drop_ready : op.walk.phase ≡ DropKey → IsSome op.prepared
+  drop_ready at_drop = ap is_some (dropping at_drop).has
+
+  pub drop_removes : op.walk.phase ≡ DropKey → IsRemoval op.task
+  drop_removes at_drop = removal_of (dropping at_drop).removes
+
+  pub drop_light : op.walk.phase ≡ DropKey → IsUnburdened op.removal
+  drop_light at_drop =
+      let light = (dropping at_drop).light in
+      record { left = ap (λ (r : Removal). r.left) light; parent = ap (λ (r : Removal). r.parent) light; below = ap (λ (r : Removal). r.below) light }
+
+  -- its tenant has the pair
+  pub drop_counted : IsArena c.arena.nodes c.arena.trees → op.walk.phase ≡ DropKey → HasPairs (account_of c.accounts op.task.tenant)
+  drop_counted arena at_drop = by (account_of c.accounts op.task.tenant) refl always.tenant
+    where
+      k : IsDropping c o op
+      k = dropping at_drop
+
+      row : get (tenant_map op.task.tenant (content_of c.arena)) (key_of (ask op.task)) ≡ Some k.drops.pair.row
+      row =
+          let may = may_store c.arena o op.task.key op.walk arena k.drops.holds op.walk.slot k.drops.pair k.drops.in_slot k.drops.stable in
+          get-tenant_map op.task.tenant (content_of c.arena) (key_of (ask op.task)) ∙ ap (get (content_of c.arena)) (sym always.owner)
+          ∙ row_of c h arena op.task.key (layer_of (tree_of c.arena op.walk.place.node).prefix) op.walk.place.node op.walk.slot k.drops.pair may.stands
+
+      by : (account : Option Account) → account_of c.accounts op.task.tenant ≡ account → IsSome account → HasPairs account
+      by None is some = absurd (cc)
+      by (Some account) is some = let counted = h.counts op.task.tenant account is in let more = len_some (tenant_map op.task.tenant (content_of c.arena)) (key_of (ask op.task)) k.drops.pair.row row in omega (arith, counted.0, more)
+
+  -- what is kept of one that takes a node or a layer out, and that it holds these nodes alone
+  pub removal_kept_at : (p : Phase) → op.walk.phase ≡ p → IsRemovalPhase p → KeptRemoval p c.arena o op.task.key op.walk op.removal
+  removal_kept_at p at_p takes = (unlinking_of p takes c o op (subst (λ (q : Phase). IsKeptAt q c o op) at_p (h.ops o op there).kept)).kept
+
+  pub removal_held_at : IsRemovalPhase op.walk.phase → HoldsRemoval c.arena o op.walk op.removal
+  removal_held_at takes k within held =
+      let f = h.holders k o within held in
+      removal_holds op.walk.phase takes op k (subst (λ (x : Operation). HoldsAt x.walk.phase x k) (same_Some f.0 op (sym f.1 ∙ there)) f.2)
+
+  -- an operation that holds a node has a step left
+  pub holder_left : (k holder : ℕ) → k < length c.arena.nodes → (at c.arena k).holder ≡ Some holder → HasStep (shown c) holder
+  holder_left k holder within held =
+      let f = h.holders k holder within held in (view_of f.0, shown_there c.table holder f.0 f.1, holder_open f.0.walk.phase f.0 k f.2)
+
+  -- where it was told something it may give the locks of its removal back
+  pub removal_unlock_kept : op.walk.phase ≡ Unlock → is_remove (ask op.task) ≡ true → op.outcome ≢ None → op.splits.halves.items ≡ []
+      → IsAtUnlockRemoval c.arena o op.task.key op.walk op.removal
+  removal_unlock_kept at_unlock removes told none =
+      let both : MayUnlock [] c.arena o op = subst (λ (halves : List Halves). MayUnlock halves c.arena o op) none (unlocking op.outcome told c o op (returning at_unlock)).unlocks in
+      subst (λ (b : Bool). MayUnlockUnsplit b c.arena o op) removes both.0
+
+  pub removal_unlock_room : op.walk.phase ≡ Unlock → is_remove (ask op.task) ≡ true → op.outcome ≢ None → op.splits.halves.items ≡ []
+      → (k : ℕ) → IsOfRemoval op.walk op.removal k → CanUnlock (at c.arena k).version
+  removal_unlock_room at_unlock removes told none k among =
+      let u = removal_unlock_kept at_unlock removes told none in
+      elim among [
+        | inl node ↦ may_unlock c h k (subst (λ i. i < length c.arena.nodes) (sym node) u.node.returns.held.there)
+        | inr (inl left) ↦ may_unlock c h k (u.left k left).0.returns.held.there
+        | inr (inr (inl parent)) ↦ may_unlock c h k (u.parent k parent).returns.held.there
+        | inr (inr (inr below)) ↦ may_unlock c h k (u.removes.below k below).returns.held.there
+      ]
+
+  -- on its way back it goes to take out a link
+  pub lock_cleans : op.walk.phase ≡ Lock → op.outcome ≢ None → IsCleaning c.arena op.task.key op.removal
+  lock_cleans at_lock told =
+      let way : IsOnItsWay c op = subst (λ (p : Phase). IsKeptAt p c o op) at_lock (h.ops o op there).kept in (going_back op.outcome told c op way.bound).cleans
+
+  -- and where it was told nothing it doesn't
+  pub lock_untold : op.walk.phase ≡ Lock → is_remove (ask op.task) ≡ false → op.outcome ≡ None
+  lock_untold at_lock puts =
+      let way : IsOnItsWay c op = subst (λ (p : Phase). IsKeptAt p c o op) at_lock (h.ops o op there).kept in by op.outcome way.bound
+    where
+      by : (told : Option Outcome) → IsBound told c op → told ≡ None
+      by None bound = refl
+      by (Some told) bound = absurd (both_ways _ puts bound.removes)

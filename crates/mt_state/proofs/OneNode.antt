@@ -1,5 +1,5 @@
 -- A node that is replaced in an arena, and a step of the operation that holds it which changes no pair: for the phases of a put.
-use Rattle.std.proofs.Common.{◌≡◌, ◌≢◌, ℕ, ◌+◌, ◌<◌, ◌≤◌, ◌⊎◌, inl, inr, Bool, true, false, cond, List, length, set, Option, Some, None, refl, sym, ap, subst, ◌∙◌, arith}
+use Rattle.std.proofs.Common.{◌≡◌, ◌≢◌, ℕ, ◌+◌, ◌<◌, ◌≤◌, ◌⊎◌, inl, inr, Bool, true, false, cond, List, length, set, Option, Some, None, refl, sym, ap, subst, ◌∙◌, arith, []}
 use Rattle.std.specs.Prelude.{◌^◌}
 use Rattle.std.proofs.lemmas.Bool.{cases_eq}
 use Rattle.std.proofs.lemmas.Option.{same_Some}
@@ -25,7 +25,7 @@ use Rattle.mt_operation.specs.declared.outcome.Outcome.{Outcome}
 use Rattle.mt_operation.specs.declared.prepared.Prepared.{Prepared}
 use Rattle.mt_operation.specs.declared.splits.Splits.{Splits}
 use Rattle.mt_operation.specs.declared.operation.Operation.{Operation}
-use Rattle.mt_operation.specs.Operations.{view_of, IsUnsplit}
+use Rattle.mt_operation.specs.Operations.{view_of, IsUnsplit, no_removal}
 use Rattle.mt_operation.specs.Phases.{is_done, MayFollow, IsOfKind, has_splits}
 use Rattle.mt_operation.specs.Tables.{op_at as operation_at}
 use Rattle.mt_state.specs.Views.{StateView, Core, shown, KeepsPast}
@@ -33,12 +33,16 @@ use Rattle.mt_state.specs.Steps.{change_in}
 use Rattle.mt_state.specs.Notes.{Notes}
 use Rattle.mt_state.specs.Promises.{Touches}
 use Rattle.mt_state.specs.KeptOperations.{IsUnlocking, IsReturning, IsKeptAt, IsKeptOf}
-use Rattle.mt_state.specs.Invariant.{IsCountedUpTo, IsUnremoved, HoldsAt, StateInvariant, one_if_prepared}
-use Rattle.mt_state.proofs.Quiet.{HasPairsOf, quiet, LeavesPairs, quiet_move, is_quiet}
+use Rattle.mt_state.specs.Invariant.{IsCountedUpTo, HoldsAt, StateInvariant, one_if_prepared, DeletedAreEmpty}
+use Rattle.mt_state.proofs.Quiet.{HasPairsOf, quiet, LeavesPairs, quiet_move, is_quiet, same_slots}
 use Rattle.mt_state.proofs.Telling.{Gives, gives}
-use Rattle.mt_state.proofs.Moved.{went, went_with, open_moved_with, has_moved_with}
+use Rattle.mt_state.proofs.Moved.{went, went_with, went_on, open_moved_on, has_moved_on}
 use Rattle.mt_state.proofs.Still.{floor_made}
 use Rattle.mt_state.proofs.Growing.{makes_set}
+use Rattle.mt_operation.specs.declared.removal.Removal.{Removal}
+use Rattle.mt_remove.specs.KeptRemovals.{IsAmong as IsOfRemoval}
+use Rattle.mt_operation.specs.Tasks.{ask}
+use Rattle.mt_remove.specs.Writes.{is_remove}
 
 -- what is left of a state by a step of operation o: another arena, tape, accounts, and the operation after it
 abbrev pub stepped : Core → ArenaView → Kept → Accounts → ℕ → Operation → Core
@@ -85,10 +89,6 @@ counted_live trees n = by_parts n.version.deleted (tree_at trees n.tree).standin
     by_parts false Live e = refl
     by_parts false Dead e = absurd (cc)
 
--- no tree is dead where the trees are those of an arena without dead ones
-pub same_alive : (v w : ArenaView) → w.trees ≡ v.trees → IsUnremoved v → (t : ℕ) → t < length w.trees → (tree_at w.trees t).standing ≢ Dead
-same_alive v w same one = subst (λ (trees : List Tree). (t : ℕ) → t < length trees → (tree_at trees t).standing ≢ Dead) (sym same) one.alive
-
 -- what is kept of an operation that was placed is kept of it by its outcome, which is there
 pub returning_by : (told : Option Outcome) (outcome : Outcome) → told ≡ Some outcome → (c : Core) (o : ℕ) (op : Operation) → IsUnlocking c o op
     → IsReturning told c o op
@@ -99,6 +99,15 @@ returning_by (Some other) outcome is c o op unlocks = unlocks
 pub returning_told : (told : Option Outcome) → told ≢ None → (c : Core) (o : ℕ) (op : Operation) → IsReturning told c o op → IsUnlocking c o op
 returning_told None some c o op returns = absurd (some refl)
 returning_told (Some outcome) some c o op returns = returns
+
+-- an operation that remembers no removal holds its border node alone
+pub border_alone : (w : Walk) (r : Removal) (k : ℕ) → r ≡ no_removal → IsOfRemoval w r k → k ≡ w.place.node
+border_alone w r k none holds = elim holds [
+  | inl is ↦ is
+  | inr (inl left) ↦ absurd (let no = ap (λ (x : Removal). x.left) (sym none) ∙ left in cc)
+  | inr (inr (inl parent)) ↦ absurd (let no = ap (λ (x : Removal). x.parent) (sym none) ∙ parent in cc)
+  | inr (inr (inr below)) ↦ absurd (let no = ap (λ (x : Removal). x.below) (sym none) ∙ below in cc)
+]
 
 -- one node of many is another
 module _ (v : ArenaView) (k : ℕ) (within : k < length v.nodes) (n : NodeView) where
@@ -130,12 +139,9 @@ module _ (v : ArenaView) (k : ℕ) (within : k < length v.nodes) (n : NodeView) 
     | inr other ↦ inr (r.0, ap (λ (m : NodeView). m.holder) (sym other.1) ∙ holds)
   ]
 
-  -- each node is live, and no tree is dead
-  pub replaced_tree : IsUnremoved v → n.version.deleted ≡ false → IsUnremoved (with_node v k n)
-  replaced_tree one live = record {
-    live = replaced_all (λ (m : NodeView). m.version.deleted ≡ false) live one.live;
-    alive = one.alive;
-  }
+  -- those that were taken out have no slots
+  pub replaced_deleted : DeletedAreEmpty v → (n.version.deleted ≡ true → n.slots ≡ []) → DeletedAreEmpty (with_node v k n)
+  replaced_deleted all empty = replaced_all (λ (m : NodeView). m.version.deleted ≡ true → m.slots ≡ []) empty all
 
   -- whoever held it touches nothing else
   pub replaced_touches : (o : ℕ) → ((at v k).holder ≡ Some o) ⊎ (n.holder ≡ Some o) → Touches o v (with_node v k n)
@@ -169,7 +175,7 @@ module _ (c : Core) (o : ℕ) (h : StateInvariant c) (k : ℕ) (within : k < len
     contents = contents;
     stood = λ j inside is_counted. inl (stood j inside is_counted);
     versions = replaced_versions counted;
-    unremoved = replaced_tree c.arena k within n h.unremoved (deleted ∙ h.unremoved.live k within);
+    deleted = replaced_deleted c.arena k within n h.deleted (λ gone. slots ∙ h.deleted k within (sym deleted ∙ gone));
     makes = makes_set c.arena k n;
   }
     where
@@ -187,13 +193,13 @@ module _ (c : Core) (o : ℕ) (h : StateInvariant c) (k : ℕ) (within : k < len
                       ∙ ap (counts c.arena.trees) (sym is.1) ∙ is_counted;
                   prefix =
                       ap (λ (m : NodeView). (tree_at c.arena.trees m.tree).prefix) is.1 ∙ ap (λ t. (tree_at c.arena.trees t).prefix) (tree ∙ ap (λ (m : NodeView). m.tree) same);
-                  slots = ap (λ (m : NodeView). m.slots) is.1 ∙ slots ∙ ap (λ (m : NodeView). m.slots) same;
+                  slots = same_slots (at c.arena j) (at (with_node c.arena k n) j) (ap (λ (m : NodeView). m.slots) is.1 ∙ slots ∙ ap (λ (m : NodeView). m.slots) same);
                 }
             | inr other ↦ record {
               there = r.0;
               counted = ap (counts c.arena.trees) (sym other.1) ∙ is_counted;
               prefix = ap (λ (m : NodeView). (tree_at c.arena.trees m.tree).prefix) other.1;
-              slots = ap (λ (m : NodeView). m.slots) other.1;
+              slots = same_slots (at c.arena j) (at (with_node c.arena k n) j) (ap (λ (m : NodeView). m.slots) other.1);
             }
           ]
 
@@ -213,29 +219,29 @@ module _ (c : Core) (now : StateView) (o : ℕ) (is : shown c ≡ now) (h : Stat
   few_steps = subst (λ (v : StateView). v.steps < 2 ^ 59) (sym is) room
 
   -- a node that it holds is one that it holds at its phase
-  pub holds_here : (p : Phase) → op.walk.phase ≡ p → (j : ℕ) → j < length c.arena.nodes → (at c.arena j).holder ≡ Some o → HoldsAt p op.walk op.splits j
+  pub holds_here : (p : Phase) → op.walk.phase ≡ p → (j : ℕ) → j < length c.arena.nodes → (at c.arena j).holder ≡ Some o → HoldsAt p op j
   holds_here p at_p j inside holds =
       let f = h.holders j o inside holds in
       let it = same_Some f.0 op (sym f.1 ∙ there) in
-      subst (λ (q : Phase). HoldsAt q op.walk op.splits j) at_p (subst (λ (x : Operation). HoldsAt x.walk.phase x.walk x.splits j) it f.2)
+      subst (λ (q : Phase). HoldsAt q op j) at_p (subst (λ (x : Operation). HoldsAt x.walk.phase x j) it f.2)
 
-  -- a step that changes no pair, by what it leaves and what is kept of its operation, which has these splits then
-  pub quiet_gives_with : (arena : ArenaView) (reserved : ℕ) (w : Walk) (told : Option Outcome) (prepared : Option Prepared) (s : Splits)
-      → LeavesPairs c o arena → is_done op.walk.phase ≡ false → MayFollow op.walk.phase w.phase
-      → w.writes ≡ op.walk.writes → IsOfKind w.phase w.writes → change_in (view_of (went_with op (c.steps + 1) w told prepared s)) ≡ change_in (view_of op)
+  -- a step that changes no pair, by what it leaves and what is kept of its operation, which has these splits and this of its removal then
+  pub quiet_gives_on : (arena : ArenaView) (reserved : ℕ) (w : Walk) (told : Option Outcome) (prepared : Option Prepared) (s : Splits) (r : Removal)
+      → LeavesPairs c o arena → (is_remove (ask op.task) ≡ false → r ≡ no_removal) → is_done op.walk.phase ≡ false → MayFollow op.walk.phase w.phase
+      → w.writes ≡ op.walk.writes → IsOfKind w.phase w.writes → change_in (view_of (went_on op (c.steps + 1) w told prepared s r)) ≡ change_in (view_of op)
       → Notes (shown c) (view_of op) op.walk.phase w.phase told
-      → ((k : ℕ) → k < length arena.nodes → (at arena k).holder ≡ Some o → HoldsAt w.phase (went_with op (c.steps + 1) w told prepared s).walk s k)
-      → IsKeptAt w.phase (quiet c arena reserved o (went_with op (c.steps + 1) w told prepared s)) o (went_with op (c.steps + 1) w told prepared s)
+      → ((k : ℕ) → k < length arena.nodes → (at arena k).holder ≡ Some o → HoldsAt w.phase (went_on op (c.steps + 1) w told prepared s r) k)
+      → IsKeptAt w.phase (quiet c arena reserved o (went_on op (c.steps + 1) w told prepared s r)) o (went_on op (c.steps + 1) w told prepared s r)
       → (has_splits w.phase ≡ false → IsUnsplit s)
-      → reserved + one_if_prepared (Some op) ≡ c.tape.reserved + one_if_prepared (Some (went_with op (c.steps + 1) w told prepared s))
+      → reserved + one_if_prepared (Some op) ≡ c.tape.reserved + one_if_prepared (Some (went_on op (c.steps + 1) w told prepared s r))
       → Touches o c.arena arena → (done : Bool) → done ≡ is_done w.phase
-      → Gives now (quiet c arena reserved o (went_with op (c.steps + 1) w told prepared s)) o done
-  quiet_gives_with arena reserved w told prepared s leaves unfinished follows writes kind same notes held kept unsplit reserves touches done ends =
-      let after = went_with op (c.steps + 1) w told prepared s in
+      → Gives now (quiet c arena reserved o (went_on op (c.steps + 1) w told prepared s r)) o done
+  quiet_gives_on arena reserved w told prepared s r leaves light unfinished follows writes kind same notes held kept unsplit reserves touches done ends =
+      let after = went_on op (c.steps + 1) w told prepared s r in
       let new = quiet c arena reserved o after in
       let k = h.ops o op there in
       let own : IsKeptOf new o after = record {
-        always = open_moved_with c op k.always w new told prepared s refl refl (λ t some. some) (floor_made c h.tape) writes kind;
+        always = open_moved_on c op k.always w new told prepared s r light refl refl (λ t some. some) (floor_made c h.tape) writes kind;
         kept = kept;
         unsplit = unsplit;
         placed = λ m placed. let once = k.placed m (sym same ∙ placed) in record {
@@ -246,6 +252,7 @@ module _ (c : Core) (now : StateView) (o : ℕ) (is : shown c ≡ now) (h : Stat
           tenant = once.tenant;
           key_is = once.key_is;
           makes = once.makes;
+          was = once.was;
         };
       } in
       gives now c new o op after is h few_steps
@@ -259,7 +266,7 @@ module _ (c : Core) (now : StateView) (o : ℕ) (is : shown c ≡ now) (h : Stat
       }))
       (record {
         logs = refl;
-        moves = has_moved_with c op k.always w told prepared s follows;
+        moves = has_moved_on c op k.always w told prepared s r follows;
         notes = notes;
         touches = touches;
         effect = inl (is_quiet c o op after arena reserved h leaves same);
@@ -267,12 +274,25 @@ module _ (c : Core) (now : StateView) (o : ℕ) (is : shown c ≡ now) (h : Stat
       })
       done ends
 
+  -- one that leaves what is remembered of a removal
+  pub quiet_gives_with : (arena : ArenaView) (reserved : ℕ) (w : Walk) (told : Option Outcome) (prepared : Option Prepared) (s : Splits)
+      → LeavesPairs c o arena → is_done op.walk.phase ≡ false → MayFollow op.walk.phase w.phase
+      → w.writes ≡ op.walk.writes → IsOfKind w.phase w.writes → change_in (view_of (went_with op (c.steps + 1) w told prepared s)) ≡ change_in (view_of op)
+      → Notes (shown c) (view_of op) op.walk.phase w.phase told
+      → ((k : ℕ) → k < length arena.nodes → (at arena k).holder ≡ Some o → HoldsAt w.phase (went_with op (c.steps + 1) w told prepared s) k)
+      → IsKeptAt w.phase (quiet c arena reserved o (went_with op (c.steps + 1) w told prepared s)) o (went_with op (c.steps + 1) w told prepared s)
+      → (has_splits w.phase ≡ false → IsUnsplit s)
+      → reserved + one_if_prepared (Some op) ≡ c.tape.reserved + one_if_prepared (Some (went_with op (c.steps + 1) w told prepared s))
+      → Touches o c.arena arena → (done : Bool) → done ≡ is_done w.phase
+      → Gives now (quiet c arena reserved o (went_with op (c.steps + 1) w told prepared s)) o done
+  quiet_gives_with arena reserved w told prepared s leaves = quiet_gives_on arena reserved w told prepared s op.removal leaves (h.ops o op there).always.light
+
   -- one that leaves the splits, of an operation that has none
   pub quiet_gives : (arena : ArenaView) (reserved : ℕ) (w : Walk) (told : Option Outcome) (prepared : Option Prepared) → LeavesPairs c o arena
       → is_done op.walk.phase ≡ false → MayFollow op.walk.phase w.phase
       → w.writes ≡ op.walk.writes → IsOfKind w.phase w.writes → change_in (view_of (went op (c.steps + 1) w told prepared)) ≡ change_in (view_of op)
       → Notes (shown c) (view_of op) op.walk.phase w.phase told
-      → ((k : ℕ) → k < length arena.nodes → (at arena k).holder ≡ Some o → HoldsAt w.phase (went op (c.steps + 1) w told prepared).walk op.splits k)
+      → ((k : ℕ) → k < length arena.nodes → (at arena k).holder ≡ Some o → HoldsAt w.phase (went op (c.steps + 1) w told prepared) k)
       → IsKeptAt w.phase (quiet c arena reserved o (went op (c.steps + 1) w told prepared)) o (went op (c.steps + 1) w told prepared)
       → IsUnsplit op.splits
       → reserved + one_if_prepared (Some op) ≡ c.tape.reserved + one_if_prepared (Some (went op (c.steps + 1) w told prepared))

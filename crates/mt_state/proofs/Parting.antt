@@ -49,7 +49,7 @@ use Rattle.mt_state.specs.Steps.{told_change}
 use Rattle.mt_state.specs.Notes.{IsJudged, Notes}
 use Rattle.mt_state.specs.Promises.{Touches}
 use Rattle.mt_state.specs.KeptOperations.{IsOpenOperation, IsSplitMoving, HasAnswer, IsKeptAt, IsPlacedOnce, IsKeptOf}
-use Rattle.mt_state.specs.Invariant.{IsStampOf, IsCountedUpTo, IsUnremoved, StateInvariant}
+use Rattle.mt_state.specs.Invariant.{IsStampOf, IsCountedUpTo, StateInvariant, DeletedAreEmpty}
 use Rattle.mt_state.specs.Moves.{IsMove}
 use Rattle.mt_state.specs.Writes.{splitting}
 use Rattle.mt_state.specs.Growth.{MakesFew}
@@ -58,7 +58,7 @@ use Rattle.mt_state.proofs.Growing.{makes_same}
 use Rattle.mt_state.proofs.Telling.{Gives, gives, logs_later, map_now}
 use Rattle.mt_state.proofs.Moved.{went_with, first_begun, first_upto, open_moved_with, has_moved}
 use Rattle.mt_state.proofs.Still.{floor_made, unready_none}
-use Rattle.mt_state.proofs.OneNode.{same_counts, same_alive, quiet_grows, holds_here}
+use Rattle.mt_state.proofs.OneNode.{same_counts, quiet_grows, holds_here}
 use Rattle.mt_state.proofs.Locking.{ready_one, room_for, no_room_left}
 use Rattle.mt_state.proofs.Placing.{Counts, next_write, placed, PlacesPair, untouched_beside, untouched_now, placed_move, placed_right, is_placing, placed_once}
 use Rattle.mt_state.proofs.Putting.{stamped_apart, room_left, beside_missing, counted_new}
@@ -144,11 +144,16 @@ module _ (c : Core) (o : ℕ) (h : StateInvariant c) (few : c.steps < 2 ^ 59) (o
       let same = (like k).version in
       record { inserts = omega (arith, was.inserts, ap (λ v. v.inserts) same); splits = omega (arith, was.splits, ap (λ v. v.splits) same) }
 
-  parted_tree : IsUnremoved arena
-  parted_tree = record {
-    live = λ k inside. ap (λ v. v.deleted) (like k).version ∙ h.unremoved.live k (omega (arith, inside, size));
-    alive = same_alive c.arena arena trees h.unremoved;
-  }
+  parted_deleted : DeletedAreEmpty arena
+  parted_deleted k inside gone =
+      let was = sym (ap (λ v. v.deleted) (like k).version) ∙ gone in
+      elim (cases_eq k l) [
+        | inl e ↦ absurd (both_ways _ half.live (ap (λ i. (at c.arena i).version.deleted) (sym e) ∙ was))
+        | inr nl ↦ elim (cases_eq k q) [
+          | inl e ↦ absurd (both_ways _ half.right_live (ap (λ i. (at c.arena i).version.deleted) (sym e) ∙ was))
+          | inr nq ↦ ap (λ (n : NodeView). n.slots) (at_other k nl nq) ∙ h.deleted k (omega (arith, inside, size)) was
+        ]
+      ]
 
   parted_touches : Touches o c.arena arena
   parted_touches k inside = elim (cases_eq k l) [
@@ -294,12 +299,12 @@ module _ (c : Core) (o : ℕ) (h : StateInvariant c) (few : c.steps < 2 ^ 59) (o
           (λ counted. later (tree_of c.arena l).prefix all (subst (AllStamped (IsStampOf c.steps c.tape) (tree_of c.arena l).prefix) (sym stays) (h.stamps l half.held.there counted)))
           (λ k inside counted. later (tree_of c.arena k).prefix (at c.arena k).slots (h.stamps k inside counted));
       versions = parted_versions;
-      held = λ k inside holds. halves_held w.phase leads after_full.walk op.splits k some (p.holds held_alone k inside holds);
+      held = λ k inside holds. halves_held w.phase leads after_full k some (p.holds held_alone k inside holds);
       counts = λ t a e. subst (λ (every : Contents). (a.count ≡ len (tenant_map t every)) × (a.count ≤ a.quota)) (sym without) (h.counts t a e);
       kept = kept_full;
       reserved =
           let one = ready_one op SplitMove at_move refl in let no = unready_none after_full w.phase refl (halves_unready w.phase leads) in let room = room_for c h o op SplitMove at_op at_move refl in omega (arith, one, no, room);
-      unremoved = parted_tree;
+      deleted = parted_deleted;
     }
 
     parted_full : Gives (shown c) new_full o false
@@ -357,7 +362,7 @@ module _ (c : Core) (o : ℕ) (h : StateInvariant c) (few : c.steps < 2 ^ 59) (o
           (λ k inside counts. stamped_apart P Q (tree_of c.arena k).prefix (owned op.task.key) (at c.arena k).slots (untouched_beside c op h put)
           (beside_missing c (shown c) o refl h few op at_op put arena_is p.missing k inside counts) (h.stamps k inside counts));
       versions = parted_versions;
-      unremoved = parted_tree;
+      deleted = parted_deleted;
       counts = counted;
     }
 
@@ -386,7 +391,7 @@ module _ (c : Core) (o : ℕ) (h : StateInvariant c) (few : c.steps < 2 ^ 59) (o
           there = at_op;
           unfinished = ap is_done at_move;
           task = refl;
-          held = λ k inside holds. halves_held w.phase leads after_new.walk op.splits k some (p.holds held_alone k inside holds);
+          held = λ k inside holds. halves_held w.phase leads after_new k some (p.holds held_alone k inside holds);
           kept = own;
           reserved =
               let one = ready_one op SplitMove at_move refl in let no = unready_none after_new w.phase refl (halves_unready w.phase leads) in let room = room_for c h o op SplitMove at_op at_move refl in omega (arith, one, no, room);

@@ -1,10 +1,10 @@
 -- The steps that place a put: it stores a row over the one of its key, or makes a new pair live.
-use Rattle.std.proofs.Common.{◌≡◌, ◌≢◌, ℕ, ◌+◌, ◌<◌, inl, inr, true, false, cond, List, length, get_or, set, get_or-set_same, get_or-set_other, Option, Some, None, is_some, refl, sym, ap, subst, ◌∙◌, arith}
+use Rattle.std.proofs.Common.{◌≡◌, ◌≢◌, ℕ, ◌+◌, ◌<◌, inl, inr, true, false, cond, List, length, get_or, set, get_or-set_same, get_or-set_other, Option, Some, None, is_some, refl, sym, ap, subst, ◌∙◌, arith, Bool}
 use Rattle.std.specs.Prelude.{◌^◌}
 use Rattle.std.specs.Option.{option_map}
 use Rattle.std.specs.List.{All}
 use Rattle.std.specs.FinMap.{get, len, insert}
-use Rattle.std.proofs.lemmas.Bool.{cases_eq}
+use Rattle.std.proofs.lemmas.Bool.{cases_eq, both_ways}
 use Rattle.std.proofs.lemmas.Option.{none-some, same_Some}
 use Rattle.std.proofs.lemmas.List.{length-set}
 use Rattle.std.proofs.lemmas.List.Elements.{All-from_get_or}
@@ -57,7 +57,7 @@ use Rattle.mt_insert.specs.Placing.{walk_placed, entry_of, pushed}
 use Rattle.mt_insert.proofs.Places.{may_store, may_publish}
 use Rattle.mt_state.specs.Views.{StateView, Core, shown, quota_of, quota_in, granted_in}
 use Rattle.mt_state.specs.Notes.{Notes}
-use Rattle.mt_state.specs.KeptOperations.{IsOpenOperation, IsStoring, IsPublishing, MayUnlock, IsUnlocking, IsKeptAt, IsPlacedOnce, IsKeptOf}
+use Rattle.mt_state.specs.KeptOperations.{IsOpenOperation, IsStoring, IsPublishing, MayUnlock, IsUnlocking, IsKeptAt, IsPlacedOnce, IsKeptOf, MayUnlockUnsplit}
 use Rattle.mt_state.specs.Invariant.{IsStampOf, HoldsLast, HoldsAt, StateInvariant}
 use Rattle.mt_state.proofs.Replies.{put_there, put_new}
 use Rattle.mt_state.proofs.Telling.{Gives, gives}
@@ -66,11 +66,13 @@ use Rattle.mt_state.proofs.Moved.{went, first_begun, first_upto, open_moved, has
 use Rattle.mt_state.proofs.Still.{floor_made, unready_none}
 use Rattle.mt_state.proofs.Reading.{key_of_owner, walk_same}
 use Rattle.mt_state.proofs.Loading.{row_of}
-use Rattle.mt_state.proofs.OneNode.{stepped, counted_live, replaced_at, replaced_holds, replaced_tree, replaced_versions, replaced_touches, few_steps, holds_here}
+use Rattle.mt_state.proofs.OneNode.{stepped, counted_live, replaced_at, replaced_holds, replaced_versions, replaced_touches, few_steps, holds_here, replaced_deleted}
 use Rattle.mt_state.proofs.Locking.{ready_one, room_for}
 use Rattle.mt_state.proofs.Growing.{makes_set}
 use Rattle.mt_insert.specs.Store.{IsStore}
 use Rattle.mt_insert.specs.Publish.{IsPublish}
+use Rattle.mt_state.proofs.LiveTrees.{slot_lives}
+use Rattle.mt_state.proofs.Bound.{put_no_remove}
 
 -- one pair more leaves the quota, and the account there
 quota_more : (a : Option Account) → granted_in (option_map one_more a) ≡ granted_in a
@@ -137,7 +139,7 @@ module _ (c : Core) (now : StateView) (o : ℕ) (is : shown c ≡ now) (h : Stat
     apart_in l inside counted never = All-from_get_or (IsApart (tree_of c.arena l).prefix key) (at c.arena l).slots any_entry (λ i within pair held same.
         let own = (keys_of c.arena.nodes c.arena.trees l inside arena_is.forest).keys i any_entry within in
         let stands : StandsFor c.arena.nodes c.arena.trees own.0 (layer_of (tree_of c.arena l).prefix) l i pair =
-        record { there = inside; live = h.unremoved.live l inside; tree_live = counted_live c.arena.trees (at c.arena l) counted; in_range = within; has = own.1; pair_is = held } in
+        record { there = inside; live = slot_lives c.arena h.deleted l inside i within; tree_live = counted_live c.arena.trees (at c.arena l) counted; in_range = within; has = own.1; pair_is = held } in
         never own.0 (layer_of (tree_of c.arena l).prefix) i pair stands (sym (owned_at (tree_of c.arena l).prefix (layer_of (tree_of c.arena l).prefix) (slot_at (at c.arena l) i) own.0 pair own.1 held) ∙ same))
 
     -- no other node has the pair of a key that stands in a slot
@@ -226,7 +228,7 @@ module _ (c : Core) (now : StateView) (o : ℕ) (is : shown c ≡ now) (h : Stat
     abbrev the_row : Columns
     the_row = row_over op.task (get (content_of c.arena) key)
 
-    module _ (within : k < length c.arena.nodes) (beside : (l : ℕ) → l < length c.arena.nodes → l ≢ k → counts c.arena.trees (at c.arena l) ≡ true → All (IsApart (tree_of c.arena l).prefix key) (at c.arena l).slots) (guarantee : Guarantee o c.arena the_arena)
+    module _ (within : k < length c.arena.nodes) (lives : n.version.deleted ≡ false) (beside : (l : ℕ) → l < length c.arena.nodes → l ≢ k → counts c.arena.trees (at c.arena l) ≡ true → All (IsApart (tree_of c.arena l).prefix key) (at c.arena l).slots) (guarantee : Guarantee o c.arena the_arena)
         (contents : content_of the_arena ≡ insert (content_of c.arena) (op.task.tenant, key_of (ask op.task)) the_row) (counted : Counts c accounts (content_of the_arena))
         (stamps : AllStamped (IsStampOf c.steps c.tape) (tree_of c.arena k).prefix n.slots → AllStamped (IsStampOf (c.steps + 1) (pushed c.tape (next_write c op))) (tree_of c.arena k).prefix slots) where
       places_pair : PlacesPair c o op the_after the_arena accounts
@@ -246,7 +248,7 @@ module _ (c : Core) (now : StateView) (o : ℕ) (is : shown c ≡ now) (h : Stat
             ];
         versions =
             replaced_versions c o h k within y (let was = h.versions k within in record { inserts = omega (arith, was.inserts); splits = omega (arith, was.splits) });
-        unremoved = replaced_tree c.arena k within y h.unremoved (h.unremoved.live k within);
+        deleted = replaced_deleted c.arena k within y h.deleted (λ gone. absurd (both_ways _ lives gone));
         counts = counted;
       }
 
@@ -255,7 +257,7 @@ module _ (c : Core) (now : StateView) (o : ℕ) (is : shown c ≡ now) (h : Stat
           → (told : reply ≡ reply_of (quota_of (shown c) op.task.tenant) (ask op.task) (tenant_map op.task.tenant (content_of c.arena)))
           → (makes : map_after (quota_of (shown c) op.task.tenant) (ask op.task) (tenant_map op.task.tenant (content_of c.arena)) ≡ insert (tenant_map op.task.tenant (content_of c.arena)) (key_of (ask op.task)) the_row)
           → (p : Phase) → op.walk.phase ≡ p → is_prepared p ≡ true → is_done p ≡ false → has_splits p ≡ false
-          → ((j : ℕ) → HoldsAt p op.walk op.splits j → j ≡ k) → p ≢ Enter → MayFollow p Unlock → op.walk.writes ≡ true
+          → ((j : ℕ) → HoldsAt p op j → j ≡ k) → p ≢ Enter → MayFollow p Unlock → op.walk.writes ≡ true
           → Notes (shown c) (view_of op) p Unlock (Some (record { reply = reply; at = c.steps + 1 }))
           → w ≡ walk_placed op.walk → Continues op.walk w → n.holder ≡ Some o → IsAtUnlock the_arena o w → Gives now the_new o false
       placed_gives changes told makes p at_p ready left none holds_one later follows writes notes goes same holder unlocks =
@@ -267,7 +269,8 @@ module _ (c : Core) (now : StateView) (o : ℕ) (is : shown c ≡ now) (h : Stat
           let unsplit = (h.ops o op there).unsplit (ap has_splits at_p ∙ none) in
           let own : IsUnlocking the_new o the_after = record {
             unlocks =
-                subst (λ (halves : List Halves). MayUnlock halves the_arena o the_after) (sym unsplit.halves) (subst (IsAtUnlock the_arena o) (sym whole) unlocks, unsplit);
+                subst (λ (halves : List Halves). MayUnlock halves the_arena o the_after) (sym unsplit.halves)
+                (subst (λ (removes : Bool). MayUnlockUnsplit removes the_arena o the_after) (sym (put_no_remove (ask op.task) put.put_is)) (subst (IsAtUnlock the_arena o) (sym whole) unlocks), unsplit);
             answer = record {
               outcome = record { reply = reply; at = c.steps + 1 };
               told = refl;
@@ -290,11 +293,11 @@ module _ (c : Core) (now : StateView) (o : ℕ) (is : shown c ≡ now) (h : Stat
             there = there;
             unfinished = ap is_done at_p ∙ left;
             task = refl;
-            held = λ j inside holds. subst (λ (q : Phase). HoldsAt q the_after.walk op.splits j) (sym ends)
-                (subst (λ (halves : List Halves). HoldsLast halves the_after.walk op.splits j) (sym unsplit.halves) (elim (replaced_holds c.arena k within y o j inside holds) [
+            held = λ j inside holds. subst (λ (q : Phase). HoldsAt q the_after j) (sym ends)
+                (subst (λ (halves : List Halves). HoldsLast halves the_after j) (sym unsplit.halves) (inl (elim (replaced_holds c.arena k within y o j inside holds) [
                   | inl same ↦ same.0 ∙ sym place
                   | inr was ↦ holds_one j (holds_here c now o is h room op there p at_p j was.0 was.1) ∙ sym place
-                ]));
+                ])));
             kept = kept;
             reserved =
                 let one = ready_one op p at_p ready in let no = unready_none the_after Unlock ends tt in let some = room_for c h o op p there at_p ready in omega (arith, one, no, some);
@@ -354,7 +357,7 @@ module _ (c : Core) (now : StateView) (o : ℕ) (is : shown c ≡ now) (h : Stat
         (untouched_beside c op h put) (untouched_now c op h put) in
         subst (λ (v : ArenaView). Gives now (stepped c v tape c.accounts o after) o false) (sym takes)
         (subst (λ (t : Kept). Gives now (stepped c (with_node c.arena k (with_slots n slots)) t c.accounts o after) o false) (sym t.places.tape)
-        (placed_gives slots c.accounts w Replaced j.held.there (beside_stored arena_is op.walk.slot s.pair may.stands) (subst (Guarantee o c.arena) takes t.guarantee) contents
+        (placed_gives slots c.accounts w Replaced j.held.there j.stands.live (beside_stored arena_is op.walk.slot s.pair may.stands) (subst (Guarantee o c.arena) takes t.guarantee) contents
         (counted_there (content_of (with_node c.arena k (with_slots n slots))) (row_over op.task (get (content_of c.arena) key)) before contents t.was_there) stamps
         refl replies.0 makes Store at_store refl refl refl (λ i one. one) (λ e. cc) tt stores_on refl t.walk t.same j.held.holder (subst (λ (v : ArenaView). IsAtUnlock v o w) takes t.kept)))
 
@@ -388,6 +391,6 @@ module _ (c : Core) (now : StateView) (o : ℕ) (is : shown c ≡ now) (h : Stat
         (keys_here arena_is s.holds) may.has s.missing refl (untouched_beside c op h put) (untouched_now c op h put) in
         subst (λ (v : ArenaView). Gives now (stepped c v tape accounts o after) o false) (sym t.is)
         (subst (λ (t : Kept). Gives now (stepped c (with_node c.arena k (with_slots n slots)) t accounts o after) o false) (sym t.places.tape)
-        (placed_gives slots accounts w New j.held.there (λ l inside differ counted. beside_missing arena_is t.missing l inside counted) (subst (Guarantee o c.arena) t.is t.guarantee) contents
+        (placed_gives slots accounts w New j.held.there j.stands.live (λ l inside differ counted. beside_missing arena_is t.missing l inside counted) (subst (Guarantee o c.arena) t.is t.guarantee) contents
         (counted_new accounts (content_of (with_node c.arena k (with_slots n slots))) (row_over op.task (get (content_of c.arena) key)) contents t.missing t.room t.more t.others) stamps
         refl replies.0 makes Publish at_publish refl refl refl (λ i one. one) (λ e. cc) tt publishes_on (inl refl) t.walk t.same j.held.holder (subst (λ (v : ArenaView). IsAtUnlock v o w) t.is t.kept)))

@@ -3,7 +3,7 @@ use Rattle.std.proofs.Common.{◌≡◌, ℕ, ◌+◌, ◌<◌, ◌≤◌, ◌�
 use Rattle.std.specs.FinMap.{len}
 use Rattle.mt_rows.specs.Rows.{Bytes}
 use Rattle.mt_rows.specs.Tenants.{Contents, tenant_map}
-use Rattle.mt_border.specs.Contents.{AllStamped}
+use Rattle.mt_border.specs.Contents.{AllStamped, IsStamped}
 use Rattle.mt_border.specs.declared.entry.Entry.{Entry}
 use Rattle.mt_border.proofs.ContentsStamps.{stamped_weaker}
 use Rattle.mt_tape.specs.Histories.{contents_at, IsLegalTape}
@@ -18,17 +18,29 @@ use Rattle.mt_state.specs.Views.{Core, shown, KeepsPast}
 use Rattle.mt_state.specs.Steps.{change_in}
 use Rattle.mt_state.specs.Promises.{IsQuiet}
 use Rattle.mt_state.specs.KeptOperations.{IsKeptOf}
-use Rattle.mt_state.specs.Invariant.{IsTape, AreStamps, IsStampOf, IsCountedUpTo, HoldsAt, IsUnremoved, StateInvariant, StateGuarantee, one_if_prepared}
+use Rattle.mt_state.specs.Invariant.{IsTape, AreStamps, IsStampOf, IsCountedUpTo, HoldsAt, DeletedAreEmpty, StateInvariant, StateGuarantee, one_if_prepared}
 use Rattle.mt_state.specs.Moves.{IsMove}
 use Rattle.mt_state.specs.Growth.{MakesFew}
 use Rattle.mt_state.proofs.Telling.{logs_later}
+use Rattle.std.proofs.lemmas.List.Elements.{All-from_get_or}
+use Rattle.mt_border.proofs.Edits.{any_entry}
+use Rattle.mt_arena.specs.NodeView.{NodeView}
+use Rattle.mt_arena.specs.Layers.{slot_at}
 
--- a node whose pairs count had the same pairs, and they counted
+-- each slot of the second node is one of the first
+abbrev pub AreSlotsOf : NodeView → NodeView → Type 0
+AreSlotsOf n m = (i : ℕ) → i < length m.slots → (j : ℕ) × (j < length n.slots) × (slot_at m i ≡ slot_at n j)
+
+pub same_slots : (n m : NodeView) → m.slots ≡ n.slots → AreSlotsOf n m
+same_slots n m same i within =
+    (i, subst (λ (s : List Entry). i < length s) same within, ap (λ (s : List Entry). slot_at (record n { slots = s }) i) same)
+
+-- a node whose pairs count had these pairs, and they counted
 pub record HasPairsOf (old new : ArenaView) (k : ℕ) : Type 0 where
   pub there : k < length old.nodes
   pub counted : counts old.trees (at old k) ≡ true
   pub prefix : (tree_of new k).prefix ≡ (tree_of old k).prefix
-  pub slots : (at new k).slots ≡ (at old k).slots
+  pub slots : AreSlotsOf (at old k) (at new k)
 
 -- what a step leaves that changes no pair
 abbrev pub quiet : Core → ArenaView → ℕ → ℕ → Operation → Core
@@ -48,7 +60,7 @@ pub record LeavesPairs (c : Core) (o : ℕ) (arena : ArenaView) : Type 0 where
   pub contents : content_of arena ≡ content_of c.arena
   pub stood : (k : ℕ) → k < length arena.nodes → counts arena.trees (at arena k) ≡ true → HasPairsOf c.arena arena k ⊎ ((at arena k).slots ≡ [])
   pub versions : (k : ℕ) → k < length arena.nodes → IsCountedUpTo (c.steps + 1) (at arena k)
-  pub unremoved : IsUnremoved arena
+  pub deleted : DeletedAreEmpty arena
   pub makes : MakesFew c.arena arena
 
 -- what it brings of its own operation
@@ -56,7 +68,7 @@ pub record IsOwn (c new : Core) (o : ℕ) (before after : Operation) : Type 0 wh
   pub there : operation_at c.table o ≡ Some before
   pub unfinished : is_done before.walk.phase ≡ false
   pub task : after.task ≡ before.task
-  pub held : (k : ℕ) → k < length new.arena.nodes → (at new.arena k).holder ≡ Some o → HoldsAt after.walk.phase after.walk after.splits k
+  pub held : (k : ℕ) → k < length new.arena.nodes → (at new.arena k).holder ≡ Some o → HoldsAt after.walk.phase after k
   pub kept : IsKeptOf new o after
   pub reserved : new.tape.reserved + one_if_prepared (Some before) ≡ c.tape.reserved + one_if_prepared (Some after)
 
@@ -92,9 +104,11 @@ module _ (c : Core) (o : ℕ) (before after : Operation) (arena : ArenaView) (re
   stamps k within counted = elim (leaves.stood k within counted) [
     | inl was ↦
         subst (λ (prefix : Bytes). AllStamped (IsStampOf (c.steps + 1) (record c.tape { reserved = reserved })) prefix (at arena k).slots) (sym was.prefix)
-        (subst (λ (slots : List Entry). AllStamped (IsStampOf (c.steps + 1) (record c.tape { reserved = reserved })) (tree_of c.arena k).prefix slots) (sym was.slots)
+        (All-from_get_or (IsStamped (IsStampOf (c.steps + 1) (record c.tape { reserved = reserved })) (tree_of c.arena k).prefix) (at arena k).slots any_entry (λ i inside.
+        let s = was.slots i inside in
+        subst (IsStamped (IsStampOf (c.steps + 1) (record c.tape { reserved = reserved })) (tree_of c.arena k).prefix) (sym s.2)
         (stamped_weaker (IsStampOf c.steps c.tape) (IsStampOf (c.steps + 1) (record c.tape { reserved = reserved })) (tree_of c.arena k).prefix (at c.arena k).slots
-        (λ q s w. (omega (arith, w.0), w.1, w.2)) (h.stamps k was.there was.counted)))
+        (λ q s w. (omega (arith, w.0), w.1, w.2)) (h.stamps k was.there was.counted) s.0 any_entry s.1)))
     | inr none ↦ subst (λ (slots : List Entry). AllStamped (IsStampOf (c.steps + 1) (record c.tape { reserved = reserved })) (tree_of arena k).prefix slots) (sym none) (λ i default within. absurd (omega arith))
   ]
 
@@ -114,7 +128,7 @@ module _ (c : Core) (o : ℕ) (before after : Operation) (arena : ArenaView) (re
     counts = λ t a is. subst (λ (all : Contents). (a.count ≡ len (tenant_map t all)) × (a.count ≤ a.quota)) (sym leaves.contents) (h.counts t a is);
     kept = own.kept;
     reserved = own.reserved;
-    unremoved = leaves.unremoved;
+    deleted = leaves.deleted;
   }
 
   pub is_quiet : change_in (view_of after) ≡ change_in (view_of before)

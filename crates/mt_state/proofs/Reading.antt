@@ -1,5 +1,5 @@
 -- The steps of an operation that holds nothing: for `State::descend`, `search`, `load` and `confirm`.
-use Rattle.std.proofs.Common.{◌≡◌, ◌≢◌, ℕ, ◌+◌, ◌<◌, ◌≤◌, false, List, length, set, Option, Some, None, refl, sym, ap, subst, ◌∙◌, arith}
+use Rattle.std.proofs.Common.{◌≡◌, ◌≢◌, ℕ, ◌+◌, ◌<◌, ◌≤◌, false, List, length, set, Option, Some, None, refl, sym, ap, subst, ◌∙◌, arith, Bool, true, not}
 use Rattle.std.specs.Prelude.{◌^◌}
 use Rattle.mt_slices.specs.Keys.{IsStoredKey, stored_key}
 use Rattle.mt_slices.proofs.Tenants.{stored_key-again}
@@ -34,21 +34,24 @@ use Rattle.mt_operation.specs.declared.outcome.Outcome.{Outcome}
 use Rattle.mt_operation.specs.declared.operation.Operation.{Operation}
 use Rattle.mt_operation.specs.Tasks.{ask}
 use Rattle.mt_operation.specs.Operations.{OperationView, view_of, moved}
-use Rattle.mt_operation.specs.Phases.{is_done, MayFollow, IsDescent, IsOfKind}
+use Rattle.mt_operation.specs.Phases.{is_done, MayFollow, IsDescent, IsOfKind, is_unplaced}
 use Rattle.mt_operation.specs.Tables.{op_at as operation_at}
 use Rattle.mt_descent.specs.Pasts.{Past, IsNow}
 use Rattle.mt_descent.specs.KeptWalks.{GoesThrough, IsInSlot, HasSlot, IsAtBorder, KeptAt, IsKept}
 use Rattle.mt_descent.specs.WalkMoves.{FindsIn, after_search}
 use Rattle.mt_state.specs.Views.{StateView, Core, shown, past_of}
 use Rattle.mt_state.specs.Steps.{told_change}
-use Rattle.mt_state.specs.Notes.{Notes}
+use Rattle.mt_state.specs.Notes.{Notes, Keeps}
 use Rattle.mt_state.specs.Ways.{IsOnWay, Descends}
-use Rattle.mt_state.specs.KeptOperations.{IsOpenOperation, TellsTaken, IsOnItsWay, IsAtLoad, IsAtConfirm, IsKeptAt}
+use Rattle.mt_state.specs.KeptOperations.{IsOpenOperation, TellsTaken, IsOnItsWay, IsAtLoad, IsAtConfirm, IsKeptAt, IsBound}
 use Rattle.mt_state.specs.Invariant.{StateInvariant}
 use Rattle.mt_state.proofs.Descents.{first_aside}
 use Rattle.mt_state.proofs.Telling.{Gives}
 use Rattle.mt_state.proofs.Moved.{went, first_same}
 use Rattle.mt_state.proofs.Still.{IsFree, IsUnready, still, still_gives}
+use Rattle.mt_state.proofs.Bound.{bound_on, get_untold}
+use Rattle.mt_state.proofs.OneNode.{quiet_grows}
+use Rattle.mt_rows.specs.Maps.{is_get}
 
 -- an operation that is on its way, by its phase
 pub way_of : (p : Phase) → IsDescent p → (c : Core) (o : ℕ) (op : Operation) → IsKeptAt p c o op → IsOnItsWay c op
@@ -97,14 +100,34 @@ on_way_open Forward d = refl
 on_way_open Lock d = refl
 on_way_open _ d = absurd d
 
-descent_notes : (p : Phase) → IsDescent p → (old : StateView) (op : OperationView) (next : Phase) (told : Option Outcome) → told ≡ None
-    → Notes old op p next told
-descent_notes Enter d old op next told e = e
-descent_notes Pick d old op next told e = e
-descent_notes Child d old op next told e = e
-descent_notes Verify d old op next told e = e
-descent_notes Forward d old op next told e = e
-descent_notes _ d old op next told e = absurd d
+-- an operation that goes on its way keeps its outcome; where it comes to read it has none
+pub keeps_on : (q : Phase) → IsOnWay q → (writes : Bool) → IsOfKind q writes → (told : Option Outcome) → (writes ≡ false → told ≡ None)
+    → Keeps (is_unplaced q) told told
+keeps_on Search on writes kind told reads = (reads kind, reads kind)
+keeps_on Enter on writes kind told reads = refl
+keeps_on Pick on writes kind told reads = refl
+keeps_on Child on writes kind told reads = refl
+keeps_on Verify on writes kind told reads = refl
+keeps_on Forward on writes kind told reads = refl
+keeps_on Lock on writes kind told reads = refl
+keeps_on _ on writes kind told reads = absurd on
+
+descent_notes : (p : Phase) → IsDescent p → (old : StateView) (op : OperationView) (next : Phase) (told : Option Outcome)
+    → Keeps (is_unplaced next) op.outcome told → Notes old op p next told
+descent_notes Enter d old op next told k = k
+descent_notes Pick d old op next told k = k
+descent_notes Child d old op next told k = k
+descent_notes Verify d old op next told k = k
+descent_notes Forward d old op next told k = k
+descent_notes _ d old op next told k = absurd d
+
+-- an operation that doesn't write is a get, which is told nothing on its way
+pub reads_untold : (c : Core) (op : Operation) → IsOpenOperation c op → op.walk.writes ≡ false → IsBound op.outcome c op → op.outcome ≡ None
+reads_untold c op k reads bound = get_untold op.outcome c op (by (is_get (ask op.task)) (sym reads ∙ k.writes)) bound
+  where
+    by : (gets : Bool) → false ≡ not gets → gets ≡ true
+    by true e = refl
+    by false e = absurd (cc)
 
 module _ (c : Core) (now : StateView) (o : ℕ) (is : shown c ≡ now) (h : StateInvariant c) (room : now.steps < 2 ^ 59) (op : Operation) (there : operation_at c.table o ≡ Some op) where
   -- an operation that goes down
@@ -124,11 +147,13 @@ module _ (c : Core) (now : StateView) (o : ℕ) (is : shown c ≡ now) (h : Stat
       let on : IsOnItsWay (still c now o is h room op there (descent_free op.walk.phase descends) w op.outcome) after = record {
         kept =
             first_aside w.phase goes.on_way c.arena (past_of (still c now o is h room op there (descent_free op.walk.phase descends) w op.outcome)) op.task.key None w after.walk.first (kept (past_of (still c now o is h room op there (descent_free op.walk.phase descends) w op.outcome)));
-        untold = way.untold;
+        bound =
+            bound_on c (still c now o is h room op there (descent_free op.walk.phase descends) w op.outcome) op k.always (quiet_grows c o c.arena c.tape.reserved after refl) w way.unprepared refl op.outcome way.bound;
         unprepared = way.unprepared;
       } in
       still_gives c now o is h room op there (descent_free op.walk.phase descends) w op.outcome goes.follows (on_way_unready w.phase goes.on_way) goes.same.writes goes.kind refl
-      (descent_notes op.walk.phase descends (shown c) (view_of op) w.phase op.outcome way.untold) (ap told_change way.untold)
+      (descent_notes op.walk.phase descends (shown c) (view_of op) w.phase op.outcome
+      (keeps_on w.phase goes.on_way w.writes goes.kind op.outcome (λ reads. reads_untold c op k.always (sym goes.same.writes ∙ reads) way.bound)))
       (kept_on_way w.phase goes.on_way (still c now o is h room op there (descent_free op.walk.phase descends) w op.outcome) o after on) false (sym (on_way_open w.phase goes.on_way))
 
 -- a stored key is that of its tenant and its user's key
@@ -230,6 +255,9 @@ module _ (c : Core) (now : StateView) (o : ℕ) (is : shown c ≡ now) (h : Stat
     looks_on : op.walk.writes ≡ false
     looks_on = subst (λ (p : Phase). IsOfKind p op.walk.writes) at_search (h.ops o op there).always.kind
 
+    search_untold : op.outcome ≡ None
+    search_untold = reads_untold c op (h.ops o op there).always looks_on searching.bound
+
     -- a search that found nothing: the key is missing, as of this step
     taken_missing : (f : Find) → (after_search f op.walk (c.steps + 1)).phase ≡ Confirm
         → ((after_search f op.walk (c.steps + 1)).taken ≡ takens.Missing) × ((after_search f op.walk (c.steps + 1)).right_at ≡ c.steps + 1) × ((after_search f op.walk 0).phase ≡ Confirm)
@@ -258,7 +286,7 @@ module _ (c : Core) (now : StateView) (o : ℕ) (is : shown c ≡ now) (h : Stat
         still_gives c now o is h room op there search_free w told
         (subst (λ (p : Phase). MayFollow p w.phase) (sym at_search) (subst (MayFollow Search) (sym confirms) tt))
         (subst IsUnready (sym confirms) tt) writes_same (subst (λ (p : Phase). IsOfKind p w.writes) (sym confirms) (writes_same ∙ looks_on))
-        (sym (ap told_change searching.untold))
+        (sym (ap told_change search_untold))
         (subst (λ (p : Phase). Notes (shown c) (view_of op) p w.phase told) (sym at_search) (subst (λ (p : Phase). Notes (shown c) (view_of op) Search p told) (sym confirms) (record {
           says = refl;
           lacks = record {
@@ -271,7 +299,6 @@ module _ (c : Core) (now : StateView) (o : ℕ) (is : shown c ≡ now) (h : Stat
                 (λ slot has. lacks c h arena op.task.key op.walk at_border.covers.remembered.there at_border.border at_border.covers.remembered.from slot found has_found t.2 slot has);
           };
         })))
-        (ap told_change searching.untold)
         (subst (λ (p : Phase). IsKeptAt p new o after) (sym confirms) own) false (sym (ap is_done confirms))
 
     -- a search that found a slot of the key, or of its link
@@ -293,7 +320,7 @@ module _ (c : Core) (now : StateView) (o : ℕ) (is : shown c ≡ now) (h : Stat
           way = record {
             kept =
                 subst (λ (x : Walk). IsKept c.arena (past_of new) op.task.key None x) (sym same) (kept (past_of new) None (now_is c h new refl refl refl) first_upto_now);
-            untold = searching.untold;
+            bound = bound_on c new op k (quiet_grows c o c.arena c.tape.reserved after refl) w searching.unprepared refl op.outcome searching.bound;
             unprepared = searching.unprepared;
           };
           found = λ last. subst (λ (x : Walk). HasSlot (at c.arena x.place.node) x.slot op.task.key x.layer) (sym (same ∙ is_after))
@@ -303,8 +330,7 @@ module _ (c : Core) (now : StateView) (o : ℕ) (is : shown c ≡ now) (h : Stat
         (subst (λ (p : Phase). MayFollow p w.phase) (sym at_search) (subst (MayFollow Search) (sym loads) tt))
         (subst IsUnready (sym loads) tt) writes_same (subst (λ (p : Phase). IsOfKind p w.writes) (sym loads) (writes_same ∙ looks_on))
         refl
-        (subst (λ (p : Phase). Notes (shown c) (view_of op) p w.phase op.outcome) (sym at_search) (subst (λ (p : Phase). Notes (shown c) (view_of op) Search p op.outcome) (sym loads) searching.untold))
-        (ap told_change searching.untold)
+        (subst (λ (p : Phase). Notes (shown c) (view_of op) p w.phase op.outcome) (sym at_search) (subst (λ (p : Phase). Notes (shown c) (view_of op) Search p op.outcome) (sym loads) (search_untold, search_untold)))
         (subst (λ (p : Phase). IsKeptAt p new o after) (sym loads) own) false (sym (ap is_done loads))
       where
         in_place : (f : Find) → HasSlot (at c.arena op.walk.place.node) (after_search f op.walk (c.steps + 1)).slot op.task.key op.walk.layer

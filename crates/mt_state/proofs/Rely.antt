@@ -1,22 +1,16 @@
 -- Rely and guarantee: what is kept of an operation stays under each step of another one, by what that step leaves to others alone.
-use Rattle.std.proofs.Common.{◌≡◌, ◌≢◌, ℕ, ◌-◌, ◌<◌, ◌≤◌, inl, inr, List, [], ◌∷◌, length, Option, None, Some, refl, sym, ap, subst, ◌∙◌, arith}
+use Rattle.std.proofs.Common.{◌≡◌, ◌≢◌, ℕ, ◌-◌, ◌<◌, ◌≤◌, inl, inr, List, [], ◌∷◌, length, Option, None, Some, sym, ap, subst, ◌∙◌, arith, Bool, true, false}
 use Rattle.std.proofs.lemmas.Bool.{cases_lt}
 use Rattle.mt_rows.specs.declared.command.Command.{Command}
 use Rattle.mt_rows.specs.declared.reply.Reply.{Reply}
 use Rattle.mt_rows.specs.Rows.{Columns}
 use Rattle.mt_rows.specs.Maps.{reply_of}
-use Rattle.mt_arena.specs.Arena.{ArenaView, Guarantee}
-use Rattle.mt_arena.specs.Accesses.{at, tree_of}
-use Rattle.mt_arena.specs.Layering.{IsHeldSlot}
-use Rattle.mt_arena.specs.declared.tree.Standing.TheVariants.{Dead}
-use Rattle.mt_arena.proofs.Links.{live_there}
-use Rattle.mt_border.specs.declared.entry.Held.{Held}
-use Rattle.mt_border.specs.declared.entry.Held.TheVariants.{Stable, Unstable}
+use Rattle.mt_arena.specs.Arena.{ArenaView, Guarantee, IsArena}
+use Rattle.mt_arena.specs.Accesses.{at}
 use Rattle.mt_operation.specs.declared.outcome.Outcome.{Outcome}
 use Rattle.mt_operation.specs.declared.operation.Operation.{Operation}
 use Rattle.mt_operation.specs.declared.phase.Phase.{Phase}
-use Rattle.mt_operation.specs.declared.phase.Phase.TheVariants as phases
-use Rattle.mt_operation.specs.declared.phase.Phase.TheVariants.{Enter, Load, Confirm, Store, MakeLayer, MarkUnstable, MarkLayer, Unlock}
+use Rattle.mt_operation.specs.declared.phase.Phase.TheVariants.{Load, Confirm, Store, Unlock}
 use Rattle.mt_operation.specs.declared.splits.Halves.{Halves}
 use Rattle.mt_operation.specs.Operations.{OperationView, view_of}
 use Rattle.mt_descent.specs.Pasts.{ExtendsPast}
@@ -24,12 +18,14 @@ use Rattle.mt_descent.specs.KeptWalks.{IsKept}
 use Rattle.mt_descent.proofs.Rely as descent
 use Rattle.mt_insert.proofs.Rely as insert
 use Rattle.mt_insert.proofs.SplitRely as splits
-use Rattle.mt_layer.specs.KeptLayers.{KeptLayer}
 use Rattle.mt_layer.proofs.Rely as layers
+use Rattle.mt_remove.specs.Writes.{is_remove}
+use Rattle.mt_remove.proofs.Rely as removals
+use Rattle.mt_operation.specs.Tasks.{ask}
 use Rattle.mt_state.specs.Views.{StateView, Core, shown, past_of, map_of, quota_of, KeepsPast, IsPlaced}
 use Rattle.mt_state.specs.Promises.{IsAnswer}
-use Rattle.mt_state.specs.KeptOperations.{IsOpenOperation, IsOnItsWay, HasAnswer, MayUnlock, IsClimbing, IsLayering, IsReturning, IsKeptAt, IsPlacedOnce, IsKeptOf, IsKeptFor, IsReadingAt, IsWritingAt}
-use Rattle.mt_state.specs.Invariant.{IsUnremoved, StateGuarantee}
+use Rattle.mt_state.specs.KeptOperations.{IsOpenOperation, IsOnItsWay, HasAnswer, IsBound, MayUnlock, MayUnlockUnsplit, IsUnlinking, IsClimbing, IsLayering, IsReturning, IsKeptAt, IsPlacedOnce, IsKeptOf, IsKeptFor, IsReadingAt, IsWritingAt}
+use Rattle.mt_state.specs.Invariant.{StateGuarantee}
 use Rattle.mt_state.proofs.Granted.{quota_stays}
 use Rattle.mt_operation.specs.Phases.{IsLayerKind, IsLayerPhase, Kind, row}
 use Rattle.mt_operation.specs.Phases as kinds
@@ -64,15 +60,12 @@ holder_was op q k old new g within holds other = elim (cases_lt k (length old.no
 ]
 
 -- one operation, and a step of another one
-module _ (old new : Core) (o q : ℕ) (unremoved : IsUnremoved new.arena) (g : StateGuarantee old new o) (other : q ≢ o) (later : old.steps < new.steps) (op : Operation) where
+module _ (old new : Core) (o q : ℕ) (arena : IsArena new.arena.nodes new.arena.trees) (g : StateGuarantee old new o) (other : q ≢ o) (later : old.steps < new.steps) (op : Operation) where
   past_stays : ExtendsPast op.walk.first (past_of old) (past_of new)
   past_stays = record { steps = g.past.steps; same = λ n from upto. g.past.same n (omega arith) upto }
 
   walk_stays : (row : Option Columns) → IsKept old.arena (past_of old) op.task.key row op.walk → IsKept new.arena (past_of new) op.task.key row op.walk
   walk_stays row h = descent.kept_stays o old.arena new.arena g.arena.nodes (past_of old) (past_of new) op.task.key row op.walk op.walk.phase past_stays h
-
-  way_stays : IsOnItsWay old op → IsOnItsWay new op
-  way_stays h = record { kept = walk_stays None h.kept; untold = h.untold; unprepared = h.unprepared }
 
   told_stays : IsOpenOperation old op → HasAnswer old op → HasAnswer new op
   told_stays k h = record {
@@ -82,99 +75,113 @@ module _ (old new : Core) (o q : ℕ) (unremoved : IsUnremoved new.arena) (g : S
     unprepared = h.unprepared;
   }
 
+  -- what it is bound for
+  bound_stays : (told : Option Outcome) → IsOpenOperation old op → IsBound told old op → IsBound told new op
+  bound_stays None k h = h
+  bound_stays (Some told) k h = record {
+    removes = h.removes;
+    answer = told_stays k h.answer;
+    cleans = removals.cleaning o q old.arena new.arena g.arena other op.task.key op.removal h.cleans;
+  }
+
+  way_stays : IsOpenOperation old op → IsOnItsWay old op → IsOnItsWay new op
+  way_stays k h = record { kept = walk_stays None h.kept; bound = bound_stays op.outcome k h.bound; unprepared = h.unprepared }
+
   -- what it climbs with
   climbing_stays : (p : Phase) → IsOpenOperation old op → IsClimbing old q op p → IsClimbing new q op p
   climbing_stays p k h = record { climbs = splits.split o q old.arena new.arena g.arena other p op.splits h.climbs; answer = told_stays k h.answer }
 
   -- what it may give back
+  unsplit_stays : (removes : Bool) → MayUnlockUnsplit removes old.arena q op → MayUnlockUnsplit removes new.arena q op
+  unsplit_stays true h = removals.removal o q old.arena new.arena g.arena other op.task.key op.walk op.removal Unlock h
+  unsplit_stays false h = insert.unlock o q old.arena new.arena g.arena other op.walk h
+
   unlocks_stay : (halves : List Halves) → MayUnlock halves old.arena q op → MayUnlock halves new.arena q op
-  unlocks_stay [] h = (insert.unlock o q old.arena new.arena g.arena other op.walk h.0, h.1)
+  unlocks_stay [] h = (unsplit_stays (is_remove (ask op.task)) h.0, h.1)
   unlocks_stay (x ∷ halves) h = splits.split o q old.arena new.arena g.arena other Unlock op.splits h
 
-  -- the tree of a node that is there is not dead
-  node_alive : (k t : ℕ) → k < length old.arena.nodes → (at old.arena k).tree ≡ t → t < length old.arena.trees → (tree_of new.arena k).standing ≢ Dead
-  node_alive k t within is there =
-      let same : (at new.arena k).tree ≡ t = (g.arena.nodes.nodes k within).tree ∙ is in
-      unremoved.alive (at new.arena k).tree (omega (arith, same, there, g.arena.nodes.tree_count))
-
-  slot_alive : (what : Held) → IsHeldSlot old.arena op.walk.place.node op.walk.slot q what → (tree_of new.arena op.walk.place.node).standing ≢ Dead
-  slot_alive what slot =
-      node_alive op.walk.place.node (at old.arena op.walk.place.node).tree slot.held.there refl (live_there old.arena.trees (at old.arena op.walk.place.node).tree slot.tree_live)
-
-  -- nor is that of the node at which an operation makes a layer
-  layer_alive : (p : Phase) → KeptLayer p old.arena q op.task.key op.walk → p ≢ Enter → (tree_of new.arena op.walk.place.node).standing ≢ Dead
-  layer_alive MakeLayer h later =
-      let b = h.holds.judged.at_border in node_alive op.walk.place.node op.walk.place.tree b.covers.remembered.there b.covers.remembered.tree_is b.through.there
-  layer_alive MarkUnstable h later = slot_alive (Stable h.pair) h.makes.layer.slot
-  layer_alive phases.Link h later = slot_alive (Unstable h.pair None) h.makes.layer.slot
-  layer_alive MarkLayer h later = slot_alive (Unstable h.pair (Some h.tree)) h.makes.layer.slot
-  layer_alive Unlock h later = node_alive op.walk.place.node (at old.arena op.walk.place.node).tree h.unlock.held.there refl h.unlock.tree_there
-  layer_alive Enter h later = absurd (later refl)
-  layer_alive _ h later = absurd h
-
   -- what it makes a layer with
-  layering_stays : (p : Phase) → p ≢ Enter → IsLayering old q op p → IsLayering new q op p
-  layering_stays p later h = record {
-    makes = layers.layer o q old.arena new.arena g.arena other op.task.key op.walk p (layer_alive p h.makes later) h.makes;
+  layering_stays : (p : Phase) → IsLayering old q op p → IsLayering new q op p
+  layering_stays p h = record {
+    makes = layers.layer o q old.arena new.arena g.arena other arena op.task.key op.walk p h.makes;
+    light = h.light;
     untold = h.untold;
     unprepared = h.unprepared;
   }
 
+  -- what it takes a node or a layer out with
+  unlinking_stays : (p : Phase) → IsOpenOperation old op → IsUnlinking old q op p → IsUnlinking new q op p
+  unlinking_stays p k h = record {
+    removes = h.removes;
+    kept = removals.removal o q old.arena new.arena g.arena other op.task.key op.walk op.removal p h.kept;
+    answer = told_stays k h.answer;
+  }
+
   -- what it gives back, by its outcome
   returning_stays : (told : Option Outcome) → IsOpenOperation old op → IsReturning told old q op → IsReturning told new q op
-  returning_stays None k h = record { layering = layering_stays Unlock (λ e. cc) h.layering; unsplit = h.unsplit }
+  returning_stays None k h = record { layering = layering_stays Unlock h.layering; unsplit = h.unsplit }
   returning_stays (Some told) k h = record { unlocks = unlocks_stay op.splits.halves.items h.unlocks; answer = told_stays k h.answer }
 
   -- what it reads, and what it is to write
   reading_stays : (p : Phase) → IsOpenOperation old op → IsReadingAt p old op → IsReadingAt p new op
-  reading_stays Load k h = record { way = way_stays h.way; found = λ now. absurd (omega (arith, k.made, later, now)) }
+  reading_stays Load k h = record { way = way_stays k h.way; found = λ now. absurd (omega (arith, k.made, later, now)) }
   reading_stays Confirm k h = record { row = h.row; kept = walk_stays h.row h.kept; tells = h.tells; unprepared = h.unprepared }
-  reading_stays _ k h = way_stays h
+  reading_stays _ k h = way_stays k h
 
   writing_stays : (p : Phase) → IsWritingAt p old q op → IsWritingAt p new q op
   writing_stays Store h = record {
     prepared = h.prepared;
     has = h.has;
     stores = insert.store o q old.arena new.arena g.arena other op.task h.prepared op.walk h.stores;
+    put = h.put;
     untold = h.untold;
   }
   writing_stays _ h = record {
     prepared = h.prepared;
     has = h.has;
     publishes = insert.publish o q old.arena new.arena g.arena other op.task h.prepared op.walk h.publishes;
+    put = h.put;
     untold = h.untold;
   }
 
   -- by what its next step does
-  kept_for_stays : (of : Kind) (p : Phase) → IsOpenOperation old op → (IsLayerKind of → p ≢ Enter) → IsKeptFor of p old q op → IsKeptFor of p new q op
-  kept_for_stays kinds.Descends p k on h = way_stays h
-  kept_for_stays kinds.Locks p k on h = way_stays h
-  kept_for_stays kinds.Reads p k on h = reading_stays p k h
-  kept_for_stays kinds.Judges p k on h = record { judges = insert.held o q old.arena new.arena g.arena other op.task.key op.walk h.judges; untold = h.untold; unprepared = h.unprepared }
-  kept_for_stays kinds.Writes p k on h = writing_stays p h
-  kept_for_stays kinds.Begins p k on h = record {
+  kept_for_stays : (of : Kind) (p : Phase) → IsOpenOperation old op → IsKeptFor of p old q op → IsKeptFor of p new q op
+  kept_for_stays kinds.Descends p k h = way_stays k h
+  kept_for_stays kinds.Locks p k h = way_stays k h
+  kept_for_stays kinds.Reads p k h = reading_stays p k h
+  kept_for_stays kinds.Judges p k h = record { judges = insert.held o q old.arena new.arena g.arena other op.task.key op.walk h.judges; bound = bound_stays op.outcome k h.bound; unprepared = h.unprepared }
+  kept_for_stays kinds.Writes p k h = writing_stays p h
+  kept_for_stays kinds.Begins p k h = record {
     prepared = h.prepared;
     has = h.has;
     starts = insert.split_start o q old.arena new.arena g.arena other op.task h.prepared op.walk h.starts;
+    put = h.put;
     untold = h.untold;
   }
-  kept_for_stays kinds.Splits p k on h = record {
+  kept_for_stays kinds.Splits p k h = record {
     prepared = h.prepared;
     has = h.has;
     moves = splits.move o q old.arena new.arena g.arena other op.task h.prepared op.walk op.splits h.moves;
+    put = h.put;
     untold = h.untold;
   }
-  kept_for_stays kinds.Climbs p k on h = climbing_stays p k h
-  kept_for_stays kinds.Layers p k on h = layering_stays p (on tt) h
-  kept_for_stays kinds.Returns p k on h = returning_stays op.outcome k h
-  kept_for_stays kinds.Ends p k on h = told_stays k h
-
-  layer_later : (p : Phase) → IsLayerPhase p → p ≢ Enter
-  layer_later Enter i e = i
-  layer_later _ i e = absurd (cc)
+  kept_for_stays kinds.Climbs p k h = climbing_stays p k h
+  kept_for_stays kinds.Layers p k h = layering_stays p h
+  kept_for_stays kinds.Drops p k h = record {
+    prepared = h.prepared;
+    has = h.has;
+    drops = removals.drop_key o q old.arena new.arena g.arena other op.task h.prepared op.walk h.drops;
+    removes = h.removes;
+    light = h.light;
+    untold = h.untold;
+  }
+  kept_for_stays kinds.Unlinks p k h = unlinking_stays p k h
+  kept_for_stays kinds.Cleans p k h = unlinking_stays p k h
+  kept_for_stays kinds.Returns p k h = returning_stays op.outcome k h
+  kept_for_stays kinds.Ends p k h = told_stays k h
 
   pub kept_stays : (p : Phase) → IsOpenOperation old op → IsKeptAt p old q op → IsKeptAt p new q op
-  kept_stays p k h = kept_for_stays (row p).kind p k (layer_later p) h
+  kept_stays p k h = kept_for_stays (row p).kind p k h
 
   -- what is kept of every operation
   pub open_stays : IsOpenOperation old op → IsOpenOperation new op
@@ -190,6 +197,7 @@ module _ (old new : Core) (o q : ℕ) (unremoved : IsUnremoved new.arena) (g : S
     floor = λ begun. subst (λ n. n < op.walk.first) (sym g.floor) (h.floor begun);
     begun = h.begun;
     short = h.short;
+    light = h.light;
   }
 
   placed_once_stays : (m : ℕ) → IsPlacedOnce old op m → IsPlacedOnce new op m
@@ -201,6 +209,7 @@ module _ (old new : Core) (o q : ℕ) (unremoved : IsUnremoved new.arena) (g : S
     tenant = h.tenant;
     key_is = h.key_is;
     makes = h.makes;
+    was = h.was;
   }
 
   -- the rely: all that is kept of an operation is stable under any step of another

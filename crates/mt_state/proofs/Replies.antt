@@ -1,20 +1,21 @@
 -- What gets and puts are told, and what they leave, by the row of their key: for the phases.
 use Rattle.std.proofs.Common.{◌≡◌, ℕ, ◌<◌, ◌≤◌, true, false, cond, List, [], Option, Some, None, refl, sym, ap, ◌∙◌}
 use Rattle.std.proofs.lemmas.Option.{same_Some}
-use Rattle.std.specs.FinMap.{get, len, insert}
+use Rattle.std.specs.FinMap.{get, len, insert, remove}
 use Rattle.std.proofs.lemmas.Bool.{lt-ltb, le-ltb}
 use Rattle.mt_rows.specs.declared.command.Command.{Command}
 use Rattle.mt_rows.specs.declared.command.Command.TheVariants.{Get, Put, Remove, Scan}
-use Rattle.mt_rows.specs.declared.reply.Reply.TheVariants.{Absent, Found, New, Replaced, Full}
+use Rattle.mt_rows.specs.declared.reply.Reply.TheVariants.{Absent, Removed, Found, New, Replaced, Full}
 use Rattle.mt_rows.specs.Rows.{Columns, shown}
 use Rattle.mt_rows.specs.Changes.{changed}
 use Rattle.mt_rows.specs.Commands.{key_of}
-use Rattle.mt_rows.specs.Maps.{Map, reply_of, map_after, is_change, is_get, told_of_row, told_of_put, map_after_put}
+use Rattle.mt_rows.specs.Maps.{Map, reply_of, map_after, is_change, is_get, told_of_row, told_of_put, map_after_put, told_of_remove}
 use Rattle.mt_operation.specs.declared.task.Request.{Request}
-use Rattle.mt_operation.specs.declared.task.Request.TheVariants.{Get as GetOf, Put as PutOf}
+use Rattle.mt_operation.specs.declared.task.Request.TheVariants.{Get as GetOf, Put as PutOf, Remove as RemoveOf}
 use Rattle.mt_operation.specs.Tasks.{command_of}
-use Rattle.mt_insert.specs.Puts.{change_of}
+use Rattle.mt_insert.specs.Puts.{change_of, is_put}
 use Rattle.mt_state.specs.Notes.{columns_asked}
+use Rattle.mt_remove.specs.Writes.{is_remove}
 
 looks : (columns : List ℕ) (row : Option Columns) → is_change (told_of_row columns row) ≡ false
 looks columns None = refl
@@ -54,14 +55,15 @@ get_asks (Remove key) e = absurd (cc)
 get_asks (Scan from after count columns) e = absurd (cc)
 
 -- a put of a key that is there
-pub put_there : (quota : ℕ) (r : Request) (m : Map) (row : Columns) → is_get (command_of r) ≡ false → get m (key_of (command_of r)) ≡ Some row
+pub put_there : (quota : ℕ) (r : Request) (m : Map) (row : Columns) → is_put (command_of r) ≡ true → get m (key_of (command_of r)) ≡ Some row
     → (Replaced ≡ reply_of quota (command_of r) m) × (map_after quota (command_of r) m ≡ insert m (key_of (command_of r)) (changed (change_of (command_of r)) row))
 unfolding reply_of map_after
 put_there quota (PutOf key change) m row e is = (ap (told_of_put quota (len m)) (sym is), ap (map_after_put quota key change m) is)
 put_there quota (GetOf key columns) m row e is = absurd (cc)
+put_there quota (RemoveOf key) m row e is = absurd (cc)
 
 -- a put of a new key, with room for it
-pub put_new : (quota : ℕ) (r : Request) (m : Map) → is_get (command_of r) ≡ false → get m (key_of (command_of r)) ≡ None → len m < quota
+pub put_new : (quota : ℕ) (r : Request) (m : Map) → is_put (command_of r) ≡ true → get m (key_of (command_of r)) ≡ None → len m < quota
     → (New ≡ reply_of quota (command_of r) m) × (map_after quota (command_of r) m ≡ insert m (key_of (command_of r)) (changed (change_of (command_of r)) []))
 unfolding reply_of map_after
 put_new quota (PutOf key change) m e none lt = (
@@ -69,10 +71,28 @@ put_new quota (PutOf key change) m e none lt = (
   ap (map_after_put quota key change m) none ∙ ap (λ b. cond b (insert m key (changed change [])) m) (lt-ltb (len m) quota lt),
 )
 put_new quota (GetOf key columns) m e none lt = absurd (cc)
+put_new quota (RemoveOf key) m e none lt = absurd (cc)
 
 -- and without
-pub put_full : (quota : ℕ) (r : Request) (m : Map) → is_get (command_of r) ≡ false → get m (key_of (command_of r)) ≡ None → quota ≤ len m
+pub put_full : (quota : ℕ) (r : Request) (m : Map) → is_put (command_of r) ≡ true → get m (key_of (command_of r)) ≡ None → quota ≤ len m
     → Full ≡ reply_of quota (command_of r) m
 unfolding reply_of
 put_full quota (PutOf key change) m e none le = sym (ap (told_of_put quota (len m)) none ∙ ap (λ b. cond b New Full) (le-ltb (len m) quota le))
 put_full quota (GetOf key columns) m e none le = absurd (cc)
+put_full quota (RemoveOf key) m e none le = absurd (cc)
+
+-- a removal of a key that is missing
+pub remove_missing : (quota : ℕ) (r : Request) (m : Map) → is_remove (command_of r) ≡ true → get m (key_of (command_of r)) ≡ None
+    → Absent ≡ reply_of quota (command_of r) m
+unfolding reply_of
+remove_missing quota (RemoveOf key) m e none = sym (ap told_of_remove none)
+remove_missing quota (GetOf key columns) m e none = absurd (cc)
+remove_missing quota (PutOf key change) m e none = absurd (cc)
+
+-- and of one that is there
+pub remove_there : (quota : ℕ) (r : Request) (m : Map) (row : Columns) → is_remove (command_of r) ≡ true → get m (key_of (command_of r)) ≡ Some row
+    → (Removed ≡ reply_of quota (command_of r) m) × (map_after quota (command_of r) m ≡ remove m (key_of (command_of r)))
+unfolding reply_of map_after
+remove_there quota (RemoveOf key) m row e is = (sym (ap told_of_remove is), refl)
+remove_there quota (GetOf key columns) m row e is = absurd (cc)
+remove_there quota (PutOf key change) m row e is = absurd (cc)

@@ -20,25 +20,25 @@ use Rattle.mt_operation.specs.declared.splits.Halves.{Halves}
 use Rattle.mt_operation.specs.declared.splits.Splits.{Splits}
 use Rattle.mt_operation.specs.declared.operation.Operation.{Operation}
 use Rattle.mt_operation.specs.Operations.{OperationView, view_of}
-use Rattle.mt_operation.specs.Phases.{is_done, MayFollow, IsOfKind, has_splits, IsClimb, FitsWrites, IsClimbKind, Kind, change_at, holds_of, may_be_parts, row}
+use Rattle.mt_operation.specs.Phases.{is_done, MayFollow, IsOfKind, has_splits, IsClimb, FitsWrites, IsClimbKind, Kind, change_at, holds_of, may_be_parts, row, is_unplaced, is_to_come}
 use Rattle.mt_operation.specs.Tables.{op_at as operation_at}
 use Rattle.mt_insert.specs.Placing.{released}
 use Rattle.mt_insert.specs.KeptSplits.{IsAmong, IsAtSplitMove, IsAtUnlockAll, KeptSplit, HoldsSplits}
 use Rattle.mt_insert.specs.Unlock.{Returns, IsUnlockAll}
 use Rattle.mt_state.specs.Views.{StateView, Core, shown}
 use Rattle.mt_state.specs.Steps.{told_change}
-use Rattle.mt_state.specs.Notes.{Notes}
+use Rattle.mt_state.specs.Notes.{Notes, Keeps}
 use Rattle.mt_state.specs.Promises.{IsAnswer, Touches}
 use Rattle.mt_state.specs.KeptOperations.{IsOpenOperation, IsSplitStarting, IsSplitMoving, HasAnswer, MayUnlock, IsUnlocking, IsKeptAt, IsClimbing, IsKeptFor}
-use Rattle.mt_state.specs.Invariant.{IsCountedUpTo, IsUnremoved, HoldsLast, HoldsAt, StateInvariant, HoldsBy}
+use Rattle.mt_state.specs.Invariant.{IsCountedUpTo, HoldsLast, HoldsAt, StateInvariant, HoldsBy, DeletedAreEmpty}
 use Rattle.mt_state.specs.Writes.{splitting}
 use Rattle.mt_state.proofs.Rely.{answer_stays}
 use Rattle.mt_state.proofs.Telling.{Gives}
-use Rattle.mt_state.proofs.Quiet.{LeavesPairs, HasPairsOf}
+use Rattle.mt_state.proofs.Quiet.{LeavesPairs, HasPairsOf, same_slots}
 use Rattle.mt_state.proofs.Moved.{went_with, first_same, first_begun, first_upto}
 use Rattle.mt_state.proofs.Still.{IsUnready, unready_none, IsUnreadyBy}
 use Rattle.mt_state.proofs.Reading.{walk_same}
-use Rattle.mt_state.proofs.OneNode.{same_counts, same_alive, returning_by, returning_told, counted_unlocked, replaced_at, replaced_touches, replaced_leaves, quiet_grows, holds_here, quiet_gives_with}
+use Rattle.mt_state.proofs.OneNode.{same_counts, returning_by, returning_told, counted_unlocked, replaced_at, replaced_touches, replaced_leaves, quiet_grows, holds_here, quiet_gives_with}
 use Rattle.mt_state.proofs.Locking.{ready_one, room_for}
 use Rattle.mt_state.proofs.Growing.{makes_same}
 use Rattle.mt_insert.specs.SplitStart.{IsSplitStart, IsSplitStopped}
@@ -145,16 +145,16 @@ halves_split p i = by (row p).kind i
     by _ i = absurd i
 
 -- it holds nodes of its splits alone
-holds_last : (l : List Halves) (w : Walk) (s : Splits) (k : ℕ) → l ≢ [] → IsAmong s k → HoldsLast l w s k
-holds_last [] w s k some among = absurd (some refl)
-holds_last (x ∷ l) w s k some among = among
+holds_last : (l : List Halves) (op : Operation) (k : ℕ) → l ≢ [] → IsAmong op.splits k → HoldsLast l op k
+holds_last [] op k some among = absurd (some refl)
+holds_last (x ∷ l) op k some among = among
 
-pub halves_held : (p : Phase) → HasHalves p → (w : Walk) (s : Splits) (k : ℕ) → s.halves.items ≢ [] → IsAmong s k → HoldsAt p w s k
-halves_held p i w s k some among = by (row p).kind i
+pub halves_held : (p : Phase) → HasHalves p → (op : Operation) (k : ℕ) → op.splits.halves.items ≢ [] → IsAmong op.splits k → HoldsAt p op k
+halves_held p i op k some among = by (row p).kind i
   where
-    by : (of : Kind) → HasHalvesBy of → HoldsBy (holds_of of) w s k
+    by : (of : Kind) → HasHalvesBy of → HoldsBy (holds_of of) op k
     by kinds.Climbs i = among
-    by kinds.Returns i = holds_last s.halves.items w s k some among
+    by kinds.Returns i = holds_last op.splits.halves.items op k some among
     by _ i = absurd i
 
 -- what is kept of an operation that climbs, by its phase
@@ -191,32 +191,40 @@ climb_answer : (p : Phase) → IsClimb p → (c : Core) (o : ℕ) (op : Operatio
 climb_answer p i c o op kept = (climbing_of p i c o op kept).answer
 
 -- what it holds are nodes of its splits
-pub climb_among : (p : Phase) → IsClimb p → (w : Walk) (s : Splits) (k : ℕ) → HoldsAt p w s k → IsAmong s k
-climb_among p i w s k holds = by (row p).kind i holds
+pub climb_among : (p : Phase) → IsClimb p → (op : Operation) (k : ℕ) → HoldsAt p op k → IsAmong op.splits k
+climb_among p i op k holds = by (row p).kind i holds
   where
-    by : (of : Kind) → IsClimbKind of → HoldsBy (holds_of of) w s k → IsAmong s k
+    by : (of : Kind) → IsClimbKind of → HoldsBy (holds_of of) op k → IsAmong op.splits k
     by kinds.Climbs i holds = holds
     by _ i holds = absurd i
 
-pub among_climb : (p : Phase) → IsClimb p → (w : Walk) (s : Splits) (k : ℕ) → IsAmong s k → HoldsAt p w s k
-among_climb p i w s k among = by (row p).kind i
+pub among_climb : (p : Phase) → IsClimb p → (op : Operation) (k : ℕ) → IsAmong op.splits k → HoldsAt p op k
+among_climb p i op k among = by (row p).kind i
   where
-    by : (of : Kind) → IsClimbKind of → HoldsBy (holds_of of) w s k
+    by : (of : Kind) → IsClimbKind of → HoldsBy (holds_of of) op k
     by kinds.Climbs i = among
     by _ i = absurd i
 
 -- a step of it leaves the outcome
-climb_notes : (p q : Phase) → IsClimb p → (old : StateView) (op : OperationView) → Notes old op p q op.outcome
-climb_notes SplitPrev q i old op = refl
-climb_notes LockParent q i old op = refl
-climb_notes InsertChild q i old op = refl
-climb_notes InteriorSplit q i old op = refl
-climb_notes Reparent q i old op = refl
-climb_notes RootGrow q i old op = refl
-climb_notes _ q i old op = absurd i
+halves_settled : (p : Phase) → HasHalves p → (told : Option Outcome) → Keeps (is_unplaced p) told told
+halves_settled p i told = by (row p).kind i
+  where
+    by : (of : Kind) → HasHalvesBy of → Keeps (is_to_come (change_at of)) told told
+    by kinds.Climbs i = refl
+    by kinds.Returns i = refl
+    by _ i = absurd i
+
+climb_notes : (p q : Phase) → IsClimb p → HasHalves q → (old : StateView) (op : OperationView) → Notes old op p q op.outcome
+climb_notes SplitPrev q i j old op = halves_settled q j op.outcome
+climb_notes LockParent q i j old op = halves_settled q j op.outcome
+climb_notes InsertChild q i j old op = halves_settled q j op.outcome
+climb_notes InteriorSplit q i j old op = halves_settled q j op.outcome
+climb_notes Reparent q i j old op = halves_settled q j op.outcome
+climb_notes RootGrow q i j old op = halves_settled q j op.outcome
+climb_notes _ q i j old op = absurd i
 
 -- whose node it is can be told
-is_held_or_not : (x : Option ℕ) (o : ℕ) → (x ≡ Some o) ⊎ (x ≢ Some o)
+pub is_held_or_not : (x : Option ℕ) (o : ℕ) → (x ≡ Some o) ⊎ (x ≢ Some o)
 is_held_or_not None o = inr (λ e. absurd (cc))
 is_held_or_not (Some q) o = elim (cases_eq q o) [
   | inl same ↦ inl (ap Some same)
@@ -231,7 +239,7 @@ module _ (c : Core) (o : ℕ) (h : StateInvariant c) (arena : ArenaView) where
     contents = m.contents;
     stood = m.stood;
     versions = λ k inside. let was = m.versions k inside in record { inserts = omega (arith, was.inserts); splits = omega (arith, was.splits) };
-    unremoved = m.unremoved;
+    deleted = m.deleted;
     makes = m.makes;
   }
 
@@ -253,7 +261,7 @@ module _ (c : Core) (o : ℕ) (h : StateInvariant c) (arena : ArenaView) where
           there = was;
           counted = ap (λ (t : List Tree). counts t (at c.arena k)) (sym trees) ∙ sym (same_counts arena.trees (at arena k) (at c.arena k) is.2 is.1) ∙ counted;
           prefix = ap (λ t. (tree_at arena.trees t).prefix) is.1 ∙ ap (λ (t : List Tree). (tree_at t (at c.arena k).tree).prefix) trees;
-          slots = is.0;
+          slots = same_slots (at c.arena k) (at arena k) is.0;
         }
 
     returned_versions : (k : ℕ) → k < length arena.nodes → IsCountedUpTo (c.steps + 1) (at arena k)
@@ -264,23 +272,21 @@ module _ (c : Core) (o : ℕ) (h : StateInvariant c) (arena : ArenaView) where
           | inr is ↦ subst (IsCountedUpTo (c.steps + 1)) (sym is) (record { inserts = omega (arith, was.inserts); splits = omega (arith, was.splits) })
         ]
 
-    returned_tree : IsUnremoved arena
-    returned_tree = record {
-      live = λ k inside. let was : k < length c.arena.nodes = omega (arith, inside, count) in (same k was).2 ∙ h.unremoved.live k was;
-      alive = same_alive c.arena arena trees h.unremoved;
-    }
+    returned_deleted : DeletedAreEmpty arena
+    returned_deleted k inside gone =
+        let was : k < length c.arena.nodes = omega (arith, inside, count) in let is = same k was in is.0 ∙ h.deleted k was (sym is.2 ∙ gone)
 
-    returned_leaves : Guarantee o c.arena arena → content_of arena ≡ content_of c.arena → LeavesPairs c o arena
+    pub returned_leaves : Guarantee o c.arena arena → content_of arena ≡ content_of c.arena → LeavesPairs c o arena
     returned_leaves guarantee contents = record {
       guarantee = guarantee;
       contents = contents;
       stood = λ k inside counted. inl (stood k inside counted);
       versions = returned_versions;
-      unremoved = returned_tree;
+      deleted = returned_deleted;
       makes = makes_same c.arena arena count (ap (λ (ts : List Tree). length ts) trees);
     }
 
-    returned_touches : Touches o c.arena arena
+    pub returned_touches : Touches o c.arena arena
     returned_touches k inside = elim (each k inside) [
       | inl (held, is) ↦ inr (inl (inl held))
       | inr is ↦ inl is
@@ -332,8 +338,8 @@ module _ (c : Core) (o : ℕ) (h : StateInvariant c) (few : c.steps < 2 ^ 59) (o
       quiet_gives_with c (shown c) o refl h few op there arena c.tape.reserved w op.outcome op.prepared s
       (moves_leave c o h arena t.moves) (halves_open op.walk.phase was) t.follows t.same.writes
       (halves_kind w.phase leads w.writes (t.same.writes ∙ halves_write op.walk.phase was op.walk.writes always.kind)) refl
-      (climb_notes op.walk.phase w.phase climb (shown c) (view_of op))
-      (λ k inside holds. halves_held w.phase leads after.walk s k t.some (t.holds k inside holds))
+      (climb_notes op.walk.phase w.phase climb leads (shown c) (view_of op))
+      (λ k inside holds. halves_held w.phase leads after k t.some (t.holds k inside holds))
       (halves_kept w.phase leads new o after t.some t.kept answer)
       (λ none. absurd (both_ways _ none (halves_split w.phase leads)))
       (let none = unready_none op op.walk.phase refl (halves_unready op.walk.phase was) in let no = unready_none after w.phase refl (halves_unready w.phase leads) in omega (arith, none, no))
@@ -345,7 +351,7 @@ module _ (c : Core) (o : ℕ) (h : StateInvariant c) (few : c.steps < 2 ^ 59) (o
 
   pub holds_among : IsClimb op.walk.phase → HoldsSplits c.arena o op.splits
   holds_among climb k within held =
-      climb_among op.walk.phase climb op.walk op.splits k (holds_here c (shown c) o refl h few op there op.walk.phase refl k within held)
+      climb_among op.walk.phase climb op k (holds_here c (shown c) o refl h few op there op.walk.phase refl k within held)
 
   pub climb_done : (arena : ArenaView) (w : Walk) (s : Splits) → IsClimb op.walk.phase → IsClimbFrom op.walk.phase o c.arena arena op.walk w op.splits s
       → Gives (shown c) (splitting c arena c.tape c.accounts o op w op.outcome op.prepared s) o false
@@ -383,14 +389,15 @@ module _ (c : Core) (o : ℕ) (h : StateInvariant c) (few : c.steps < 2 ^ 59) (o
           prepared = starting.prepared;
           has = starting.has;
           moves = subst (λ (x : Walk). IsAtSplitMove arena o op.task starting.prepared x s) (sym whole) (t.kept starting.prepared starting.has);
+          put = starting.put;
           untold = starting.untold;
         } in
         quiet_gives_with c (shown c) o refl h few op there arena c.tape.reserved w op.outcome op.prepared s
         (moves_leave c o h arena t.moves) (ap is_done at_start)
         (subst (λ (p : Phase). MayFollow p w.phase) (sym at_start) (subst (MayFollow SplitStart) (sym moves) tt))
         t.same.writes (subst (λ (p : Phase). IsOfKind p w.writes) (sym moves) (t.same.writes ∙ starts_on)) refl
-        (subst (λ (p : Phase). Notes (shown c) (view_of op) p w.phase op.outcome) (sym at_start) (subst (λ (p : Phase). Notes (shown c) (view_of op) SplitStart p op.outcome) (sym moves) starting.untold))
-        (λ k inside holds. subst (λ (p : Phase). HoldsAt p after.walk s k) (sym moves) (t.holds k inside holds))
+        (subst (λ (p : Phase). Notes (shown c) (view_of op) p w.phase op.outcome) (sym at_start) (subst (λ (p : Phase). Notes (shown c) (view_of op) SplitStart p op.outcome) (sym moves) (starting.untold, starting.untold)))
+        (λ k inside holds. subst (λ (p : Phase). HoldsAt p after k) (sym moves) (t.holds k inside holds))
         (subst (λ (p : Phase). IsKeptAt p new o after) (sym moves) own)
         (λ none. absurd (both_ways _ none (ap has_splits moves)))
         (let one = ready_one op SplitStart at_start refl in let now = ready_one after SplitMove moves refl in omega (arith, one, now))
@@ -472,7 +479,7 @@ module _ (c : Core) (o : ℕ) (h : StateInvariant c) (few : c.steps < 2 ^ 59) (o
     begun_unlock : 0 < op.walk.first
     begun_unlock = always.begun (λ enters. absurd (let no : Unlock ≡ Enter = sym at_unlock ∙ enters in cc))
 
-    last_among : (l : List Halves) (k : ℕ) → l ≢ [] → HoldsLast l op.walk op.splits k → IsAmong op.splits k
+    last_among : (l : List Halves) (k : ℕ) → l ≢ [] → HoldsLast l op k → IsAmong op.splits k
     last_among [] k there holds = absurd (there refl)
     last_among (x ∷ l) k there holds = holds
 

@@ -1,5 +1,5 @@
 -- A step of an operation that holds nothing, which leaves all nodes as they were: for `State::descend`, `search`, `load` and `confirm`.
-use Rattle.std.proofs.Common.{◌≡◌, ℕ, ◌+◌, ◌<◌, ◌≤◌, inl, Bool, false, length, Option, Some, None, refl, sym, ap, subst, ◌∙◌, arith}
+use Rattle.std.proofs.Common.{◌≡◌, ℕ, ◌+◌, ◌<◌, ◌≤◌, inl, Bool, false, length, Option, Some, refl, sym, ap, subst, ◌∙◌, arith}
 use Rattle.std.specs.Prelude.{◌^◌, if◌then◌else◌}
 use Rattle.std.proofs.lemmas.Option.{same_Some}
 use Rattle.mt_tape.proofs.EntryLaws.{floor_upto_last}
@@ -10,7 +10,6 @@ use Rattle.mt_operation.specs.declared.phase.Phase.{Phase}
 use Rattle.mt_operation.specs.declared.phase.Phase.TheVariants.{Done}
 use Rattle.mt_operation.specs.declared.walk.Walk.{Walk}
 use Rattle.mt_operation.specs.declared.outcome.Outcome.{Outcome}
-use Rattle.mt_operation.specs.declared.splits.Splits.{Splits}
 use Rattle.mt_operation.specs.declared.operation.Operation.{Operation}
 use Rattle.mt_operation.specs.Operations.{view_of}
 use Rattle.mt_operation.specs.Phases.{is_done, MayFollow, IsOfKind, has_splits, Change, Kind, Ready, change_at, holds_of, is_ready, may_be_parts, row}
@@ -46,9 +45,9 @@ pub leaves_all : (c : Core) (o : ℕ) → StateInvariant c → LeavesPairs c o c
 leaves_all c o h = record {
   guarantee = nothing_changes o c.arena;
   contents = refl;
-  stood = λ k within counted. inl (record { there = within; counted = counted; prefix = refl; slots = refl });
+  stood = λ k within counted. inl (record { there = within; counted = counted; prefix = refl; slots = λ i inside. (i, inside, refl) });
   versions = λ k within. let was = h.versions k within in record { inserts = omega (arith, was.inserts); splits = omega (arith, was.splits) };
-  unremoved = h.unremoved;
+  deleted = h.deleted;
   makes = makes_same c.arena c.arena refl refl;
 }
 
@@ -66,10 +65,10 @@ free_open : (p : Phase) → IsFree p → is_done p ≡ false
 free_open Done f = absurd f
 free_open _ f = refl
 
-free_holds : (p : Phase) (w : Walk) (s : Splits) (k : ℕ) → IsFree p → HoldsAt p w s k → ⊥
-free_holds p w s k f holds = by (row p).kind f holds
+free_holds : (p : Phase) (op : Operation) (k : ℕ) → IsFree p → HoldsAt p op k → ⊥
+free_holds p op k f holds = by (row p).kind f holds
   where
-    by : (of : Kind) → IsFreeBy of → HoldsBy (holds_of of) w s k → ⊥
+    by : (of : Kind) → IsFreeBy of → HoldsBy (holds_of of) op k → ⊥
     by kinds.Descends f holds = holds
     by kinds.Reads f holds = holds
     by kinds.Locks f holds = holds
@@ -120,7 +119,7 @@ module _ (c : Core) (now : StateView) (o : ℕ) (is : shown c ≡ now) (h : Stat
   holds_nothing k within held =
       let f = h.holders k o within held in
       let same = same_Some f.0 op (sym f.1 ∙ there) in
-      free_holds op.walk.phase op.walk op.splits k free (subst (λ (w : Operation). HoldsAt w.walk.phase w.walk w.splits k) same f.2)
+      free_holds op.walk.phase op k free (subst (λ (w : Operation). HoldsAt w.walk.phase w k) same f.2)
 
   -- what it leaves
   abbrev pub still : Walk → Option Outcome → Core
@@ -129,10 +128,10 @@ module _ (c : Core) (now : StateView) (o : ℕ) (is : shown c ≡ now) (h : Stat
   -- a step that leads it on so
   pub still_gives : (w : Walk) (told : Option Outcome) → MayFollow op.walk.phase w.phase → IsUnready w.phase → w.writes ≡ op.walk.writes
       → IsOfKind w.phase w.writes → change_in (view_of (went op (c.steps + 1) w told op.prepared)) ≡ change_in (view_of op)
-      → Notes (shown c) (view_of op) op.walk.phase w.phase told → change_in (view_of op) ≡ None
+      → Notes (shown c) (view_of op) op.walk.phase w.phase told
       → IsKeptAt w.phase (still w told) o (went op (c.steps + 1) w told op.prepared)
       → (done : Bool) → done ≡ is_done w.phase → Gives now (still w told) o done
-  still_gives w told follows unready writes kind same notes unchanged kept done ends =
+  still_gives w told follows unready writes kind same notes kept done ends =
       let after = went op (c.steps + 1) w told op.prepared in
       let k = h.ops o op there in
       let leaves = leaves_all c o h in
@@ -140,7 +139,16 @@ module _ (c : Core) (now : StateView) (o : ℕ) (is : shown c ≡ now) (h : Stat
         always = open_moved c op k.always w (still w told) told op.prepared refl refl (λ t some. some) (floor_made c h.tape) writes kind;
         kept = kept;
         unsplit = λ none. k.unsplit (free_unsplit op.walk.phase free);
-        placed = λ m placed. absurd (let no = sym placed ∙ same ∙ unchanged in cc);
+        placed = λ m placed. let once = k.placed m (sym same ∙ placed) in record {
+          entry = once.entry;
+          there = once.there;
+          step_is = once.step_is;
+          worker = once.worker;
+          tenant = once.tenant;
+          key_is = once.key_is;
+          makes = once.makes;
+          was = once.was;
+        };
       } in
       gives now c (still w told) o op after is h few
       (quiet_move c o op after c.arena c.tape.reserved h leaves (record {

@@ -3,7 +3,7 @@ use Rattle.std.proofs.Common.{◌≡◌, ℕ, ◌+◌, ◌<◌, ◌≤◌, Bool,
 use Rattle.std.specs.Prelude.{◌^◌}
 use Rattle.mt_rows.specs.Tenants.{tenant_map}
 use Rattle.mt_tape.proofs.TapeLaws.{contents_at-now}
-use Rattle.mt_arena.specs.Arena.{content_of}
+use Rattle.mt_arena.specs.Arena.{content_of, IsArena}
 use Rattle.mt_operation.specs.declared.phase.Phase.{Phase}
 use Rattle.mt_operation.specs.declared.phase.Phase.TheVariants.{Done}
 use Rattle.mt_operation.specs.declared.operation.Operation.{Operation}
@@ -25,9 +25,9 @@ logs_later logs floor steps h = record { few = h.few; made = λ i d within. omeg
 pub map_now : (c : Core) → IsTape c → (t m : ℕ) → c.steps ≤ m → map_of (shown c) t m ≡ tenant_map t (content_of c.arena)
 map_now c tape t m le = ap (tenant_map t) (contents_at-now c.tape.floor m c.tape.entries (content_of c.arena) tape.rises (omega (arith, tape.made)))
 
--- what the step gives: a state with the invariant, and a step that may be told
+-- what the step gives: a state with the invariant, as its arena has its own, and a step that may be told
 abbrev pub Gives : StateView → Core → ℕ → Bool → Type 0
-Gives now new o done = StateInvariant new × IsStep now (shown new) o done
+Gives now new o done = (IsArena new.arena.nodes new.arena.trees → StateInvariant new) × IsStep now (shown new) o done
 
 -- who is done has an answer
 answer_of : (c : Core) (o : ℕ) (op : Operation) (p : Phase) → IsKeptAt p c o op → is_done p ≡ true → HasAnswer c op
@@ -38,7 +38,7 @@ answer_of c o op _ h e = absurd (cc)
 pub gives : (now : StateView) (old new : Core) (o : ℕ) (before after : Operation) → shown old ≡ now → StateInvariant old → old.steps < 2 ^ 59
     → IsMove old new o before after → IsTold old new o before after → (done : Bool) → done ≡ is_done after.walk.phase → Gives now new o done
 gives now old new o before after view h few m t done ends = (
-  invariant_stays old new o before after h m t few,
+  λ arena. invariant_stays old new o before after h m t few arena,
   subst (λ v. IsStep v (shown new) o done) view (record {
     before = view_of before;
     after = view_of after;

@@ -1,5 +1,5 @@
 -- A step keeps that all maps since the floor keep their quotas, and that each entry's row is made by a change: for all phases.
-use Rattle.std.proofs.Common.{◌≡◌, ℕ, ◌+◌, ◌≤◌, inl, inr, Bool, true, false, [], ◌∷◌, ◌++◌, Option, Some, None, refl, sym, ap, subst, ◌∙◌, arith}
+use Rattle.std.proofs.Common.{◌≡◌, ℕ, ◌+◌, ◌≤◌, inl, inr, Bool, true, false, [], ◌∷◌, ◌++◌, Option, Some, None, refl, sym, ap, subst, ◌∙◌, arith, IsSome}
 use Rattle.std.specs.Prelude.{if◌then◌else◌}
 use Rattle.std.specs.List.{All, Contains}
 use Rattle.std.specs.FinMap.{len}
@@ -7,8 +7,8 @@ use Rattle.std.proofs.lemmas.Bool.{cases_lt, both_ways}
 use Rattle.std.proofs.lemmas.Option.{same_Some}
 use Rattle.std.proofs.lemmas.List.Elements.{All-push, All-contains, Contains-push_cases}
 use Rattle.mt_rows.specs.declared.tenants.Account.{Account}
-use Rattle.mt_rows.specs.Rows.{columns_of}
-use Rattle.mt_rows.specs.Changes.{IsChange, changed}
+use Rattle.mt_rows.specs.Rows.{columns_of, Columns}
+use Rattle.mt_rows.specs.Changes.{changed}
 use Rattle.mt_rows.specs.Commands.{HasColumns, HasShortColumns}
 use Rattle.mt_rows.specs.Maps.{is_get, is_change}
 use Rattle.mt_rows.specs.Accounts.{account_of}
@@ -19,30 +19,46 @@ use Rattle.mt_tape.proofs.EntryLaws.{all_upto_last}
 use Rattle.mt_tape.proofs.TapeLaws.{map_at-now}
 use Rattle.mt_arena.specs.Arena.{content_of}
 use Rattle.mt_operation.specs.declared.task.Request.{Request}
-use Rattle.mt_operation.specs.declared.task.Request.TheVariants.{Get as GetOf, Put as PutOf}
+use Rattle.mt_operation.specs.declared.task.Request.TheVariants.{Get as GetOf, Put as PutOf, Remove as RemoveOf}
 use Rattle.mt_operation.specs.declared.task.Task.{Task}
 use Rattle.mt_operation.specs.declared.operation.Operation.{Operation}
 use Rattle.mt_operation.specs.Tasks.{command_of, ask}
 use Rattle.mt_operation.specs.Operations.{view_of}
-use Rattle.mt_insert.specs.Puts.{change_of}
+use Rattle.mt_insert.specs.Puts.{change_of, is_put}
 use Rattle.mt_state.specs.Views.{Core, shown, granted_in, quota_of}
 use Rattle.mt_state.specs.Steps.{told_change, change_in}
 use Rattle.mt_state.specs.Promises.{IsPlacing}
 use Rattle.mt_state.specs.KeptOperations.{IsPlacedOnce}
-use Rattle.mt_state.specs.Written.{KeepsQuotas, IsMadeByChange}
+use Rattle.mt_state.specs.Written.{KeepsQuotas, IsMadeByChange, row_left}
 use Rattle.mt_state.specs.Invariant.{StateInvariant}
 use Rattle.mt_state.specs.Moves.{IsMove, IsTold}
 use Rattle.mt_state.proofs.Replies.{get_looks}
+use Rattle.mt_remove.specs.Writes.{is_remove}
 
 -- an account that has its quota still was there
 account_was : (now was : Option Account) (a : Account) → granted_in now ≡ granted_in was → now ≡ Some a → (b : Account) × (was ≡ Some b) × (b.quota ≡ a.quota)
 account_was now None a same is = absurd (let no = sym same ∙ ap granted_in is in cc)
 account_was now (Some b) a same is = (b, refl, same_Some b.quota a.quota (sym same ∙ ap granted_in is))
 
--- what a put writes is within its limits
-change_within : (r : Request) → is_get (command_of r) ≡ false → HasColumns (command_of r) → HasShortColumns (command_of r) → IsChange (change_of (command_of r))
-change_within (PutOf key change) put names short = record { names = names; short = short }
-change_within (GetOf key columns) put names short = absurd (cc)
+-- the row that a put leaves
+pub row_left_put : (r : Request) → is_put (command_of r) ≡ true → (before : Option Columns)
+    → row_left (command_of r) before ≡ Some (changed (change_of (command_of r)) (columns_of before))
+row_left_put (PutOf key change) put before = refl
+row_left_put (GetOf key columns) put before = absurd (cc)
+row_left_put (RemoveOf key) put before = absurd (cc)
+
+-- a removal leaves none
+pub row_left_remove : (r : Request) → is_remove (command_of r) ≡ true → (before : Option Columns) → row_left (command_of r) before ≡ None
+row_left_remove (RemoveOf key) removes before = refl
+row_left_remove (GetOf key columns) removes before = absurd (cc)
+row_left_remove (PutOf key change) removes before = absurd (cc)
+
+-- what a put or a removal writes is made by it
+made_by : (r : Request) → is_get (command_of r) ≡ false → HasColumns (command_of r) → HasShortColumns (command_of r) → (e : TapeEntry)
+    → e.after ≡ row_left (command_of r) e.before → (is_remove (command_of r) ≡ true → IsSome e.before) → IsMadeByChange e
+made_by (PutOf key change) writes names short e makes was = inl (record { change = change; within = record { names = names; short = short }; makes = makes })
+made_by (RemoveOf key) writes names short e makes was = inr (record { was = was refl; gone = makes })
+made_by (GetOf key columns) writes names short e makes was = absurd (cc)
 
 module _ (old new : Core) (o : ℕ) (before after : Operation) (h : StateInvariant old) (m : IsMove old new o before after) where
   -- each map since the floor keeps its quota: the older ones stay, and the new one is counted
@@ -82,15 +98,12 @@ module _ (old new : Core) (o : ℕ) (before after : Operation) (h : StateInvaria
     put_before true is =
         absurd (both_ways _ (ap is_change p.told ∙ get_looks (quota_of (shown old) before.task.tenant) (ask before.task) (tenant_map before.task.tenant (content_of old.arena)) is) p.changes)
 
-    put_after : is_get (ask after.task) ≡ false
-    put_after = ap (λ (t : Task). is_get (ask t)) m.task ∙ put_before (is_get (ask before.task)) refl
+    writes_after : is_get (ask after.task) ≡ false
+    writes_after = ap (λ (t : Task). is_get (ask t)) m.task ∙ put_before (is_get (ask before.task)) refl
 
     entry_made : IsMadeByChange p.entry
-    entry_made = record {
-      change = change_of (ask after.task);
-      within = change_within after.task.request put_after m.kept.always.columns m.kept.always.short;
-      makes = subst (λ (e : TapeEntry). e.after ≡ Some (changed (change_of (ask after.task)) (columns_of e.before))) (sym entry_is) once.makes;
-    }
+    entry_made = subst IsMadeByChange (sym entry_is)
+        (made_by after.task.request writes_after m.kept.always.columns m.kept.always.short once.entry once.makes once.was)
 
   -- every entry is made by a change
   pub written_stays : IsTold old new o before after → All IsMadeByChange new.tape.entries

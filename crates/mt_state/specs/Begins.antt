@@ -1,7 +1,7 @@
 -- A new state, and what a begin and a take make of a state.
 use Rattle.std.specs.Prelude.{◌≡◌, ◌≢◌, ℕ, ◌+◌, ◌<◌, max, true, not, [], replicate, Some, None, slice_set}
 use Rattle.mt_rows.specs.declared.command.Command.{Command}
-use Rattle.mt_rows.specs.declared.command.Command.TheVariants.{Get, Put}
+use Rattle.mt_rows.specs.declared.command.Command.TheVariants.{Get, Put, Remove}
 use Rattle.mt_rows.specs.declared.tenants.Account.{Account}
 use Rattle.mt_rows.specs.Accounts.{Accounts, account_of}
 use Rattle.mt_rows.specs.Maps.{is_get}
@@ -9,7 +9,7 @@ use Rattle.mt_runs.specs.declared.event.Answer.{Answer}
 use Rattle.mt_arena.specs.Accesses.{new_arena}
 use Rattle.mt_operation.specs.declared.phase.Phase.TheVariants.{Enter, Done}
 use Rattle.mt_operation.specs.Walks.{walk_from_top}
-use Rattle.mt_operation.specs.Operations.{OperationView, no_splits}
+use Rattle.mt_operation.specs.Operations.{OperationView, no_splits, no_removal}
 use Rattle.mt_operation.specs.Phases.{is_done}
 use Rattle.mt_state.specs.Views.{StateView, Shown, op_at}
 use Rattle.mt_state.specs.Promises.{IsAnswer}
@@ -34,10 +34,11 @@ HaveNoPairs accounts = (t : ℕ) (a : Account) → account_of accounts t ≡ Som
 abbrev pub IsWorker : ℕ → ℕ → Type 0
 IsWorker logs worker = worker < max logs 1
 
--- gets and puts may be begun, at any time
+-- gets, puts and removes may be begun, at any time
 abbrev pub MayBegin : Command → Type 0
 MayBegin (Get key columns) = Unit {0}
 MayBegin (Put key change) = Unit {0}
+MayBegin (Remove key) = Unit {0}
 MayBegin _ = ⊥
 
 -- an operation before its first step
@@ -52,6 +53,7 @@ begun worker tenant command = record {
   outcome = None;
   walk = walk_from_top (not (is_get command)) 0;
   splits = no_splits;
+  removal = no_removal;
 }
 
 -- an operation more, at an id that was free; all else is as it was

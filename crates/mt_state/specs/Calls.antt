@@ -11,10 +11,11 @@ use Rattle.mt_descent.specs.WalkMoves.{Continues, FindsIn, after_search, Loads, 
 use Rattle.mt_state.specs.Views.{Core, shown}
 use Rattle.mt_state.specs.Promises.{IsStep}
 use Rattle.mt_state.specs.Invariant.{StateInvariant}
+use Rattle.mt_arena.specs.Arena.{IsArena}
 
--- a step of operation o that keeps the invariant, and does what a step may do
+-- a step of operation o that keeps the invariant, as the arena keeps its own, and does what a step may do
 pub record IsLawful (old new : Core) (o : ℕ) (done : Bool) : Type 0 where
-  pub invariant : StateInvariant new
+  pub invariant : IsArena new.arena.nodes new.arena.trees → StateInvariant new
   pub step : IsStep (shown old) (shown new) o done
 
 -- the walk after a search by the next step

@@ -1,5 +1,5 @@
 -- The invariant of a state, and what a step of one operation leaves of it to all others.
-use Rattle.std.specs.Prelude.{◌≡◌, ◌≢◌, ℕ, ◌+◌, ◌==◌, ◌≤◌, ◌<◌, ◌^◌, true, false, if◌then◌else◌, List, [], ◌∷◌, length, Option, Some, None, IsSome}
+use Rattle.std.specs.Prelude.{◌≡◌, ℕ, ◌+◌, ◌==◌, ◌≤◌, ◌<◌, ◌^◌, true, if◌then◌else◌, List, [], ◌∷◌, length, Option, Some, None, IsSome}
 use Rattle.std.specs.List.{All, Contains}
 use Rattle.std.specs.FinMap.{len}
 use Rattle.mt_rows.specs.declared.tenants.Account.{Account}
@@ -14,20 +14,17 @@ use Rattle.mt_tape.specs.Histories.{IsLegalTape, IsUnwrittenSince, written_key}
 use Rattle.mt_arena.specs.NodeView.{NodeView}
 use Rattle.mt_arena.specs.Arena.{ArenaView, content_of, Guarantee}
 use Rattle.mt_arena.specs.Contents.{counts}
-use Rattle.mt_arena.specs.declared.tree.Standing.TheVariants.{Dead}
-use Rattle.mt_arena.specs.Forests.{tree_at}
 use Rattle.mt_arena.specs.Accesses.{at, tree_of}
 use Rattle.mt_operation.specs.declared.phase.Phase.{Phase}
-use Rattle.mt_operation.specs.Phases.{Holding, Free, Border, Parts, Last, row, is_prepared, holds_of}
-use Rattle.mt_operation.specs.declared.walk.Walk.{Walk}
+use Rattle.mt_operation.specs.Phases.{Holding, Free, Border, Parts, Emptied, Last, row, is_prepared, holds_of}
 use Rattle.mt_operation.specs.declared.splits.Halves.{Halves}
-use Rattle.mt_operation.specs.declared.splits.Splits.{Splits}
 use Rattle.mt_operation.specs.declared.operation.Operation.{Operation}
 use Rattle.mt_operation.specs.Tables.{Table, op_at as operation_at}
 use Rattle.mt_descent.specs.Pasts.{ExtendsPast}
 use Rattle.mt_state.specs.Views.{Shown, Core, shown, past_of, KeepsPast}
 use Rattle.mt_operation.specs.Operations.{OperationView}
 use Rattle.mt_insert.specs.KeptSplits.{IsAmong}
+use Rattle.mt_remove.specs.KeptRemovals.{IsAmong as IsOfRemoval}
 use Rattle.mt_state.specs.KeptOperations.{IsKeptOf}
 use Rattle.mt_state.specs.Written.{KeepsQuotas, IsMadeByChange}
 
@@ -63,25 +60,26 @@ pub record IsCountedUpTo (steps : ℕ) (n : NodeView) : Type 0 where
 abbrev pub AreVersions : Core → Type 0
 AreVersions c = (k : ℕ) → k < length c.arena.nodes → IsCountedUpTo c.steps (at c.arena k)
 
--- a node that an operation holds that is to give its locks back: its border node where nothing was split, else those of the splits
-abbrev pub HoldsLast : List Halves → Walk → Splits → ℕ → Type 0
-HoldsLast [] w s k = k ≡ w.place.node
-HoldsLast (_ ∷ _) w s k = IsAmong s k
+-- a node that an operation holds that is to give its locks back: its border node or one of its removal where nothing was split, else those of the splits
+abbrev pub HoldsLast : List Halves → Operation → ℕ → Type 0
+HoldsLast [] op k = IsOfRemoval op.walk op.removal k
+HoldsLast (_ ∷ _) op k = IsAmong op.splits k
 
 -- a node that an operation holds, by what its phase holds
-abbrev pub HoldsBy : Holding → Walk → Splits → ℕ → Type 0
-HoldsBy Free w s k = ⊥
-HoldsBy Border w s k = k ≡ w.place.node
-HoldsBy Parts w s k = IsAmong s k
-HoldsBy Last w s k = HoldsLast s.halves.items w s k
+abbrev pub HoldsBy : Holding → Operation → ℕ → Type 0
+HoldsBy Free op k = ⊥
+HoldsBy Border op k = k ≡ op.walk.place.node
+HoldsBy Parts op k = IsAmong op.splits k
+HoldsBy Emptied op k = IsOfRemoval op.walk op.removal k
+HoldsBy Last op k = HoldsLast op.splits.halves.items op k
 
-abbrev pub HoldsAt : Phase → Walk → Splits → ℕ → Type 0
-HoldsAt p w s k = HoldsBy (holds_of (row p).kind) w s k
+abbrev pub HoldsAt : Phase → Operation → ℕ → Type 0
+HoldsAt p op k = HoldsBy (holds_of (row p).kind) op k
 
 -- who holds a node is an operation that is there, at a phase in which it holds that node
 abbrev pub AreHolders : Core → Type 0
 AreHolders c = (k o : ℕ) → k < length c.arena.nodes → (at c.arena k).holder ≡ Some o →
-    (op : Operation) × (operation_at c.table o ≡ Some op) × HoldsAt op.walk.phase op.walk op.splits k
+    (op : Operation) × (operation_at c.table o ≡ Some op) × HoldsAt op.walk.phase op k
 
 -- how many operations have
 abbrev pub one_if_prepared : Option Operation → ℕ
@@ -110,10 +108,9 @@ AreCounted c = (t : ℕ) (a : Account) → account_of c.accounts t ≡ Some a �
 abbrev pub AreKept : Core → Type 0
 AreKept c = (o : ℕ) (op : Operation) → operation_at c.table o ≡ Some op → IsKeptOf c o op
 
--- as long as no phase takes a node out: each node is live, and no tree is dead
-pub record IsUnremoved (v : ArenaView) : Type 0 where
-  pub live : (k : ℕ) → k < length v.nodes → (at v k).version.deleted ≡ false
-  pub alive : (t : ℕ) → t < length v.trees → (tree_at v.trees t).standing ≢ Dead
+-- a node that was taken out has no slots
+abbrev pub DeletedAreEmpty : ArenaView → Type 0
+DeletedAreEmpty v = (k : ℕ) → k < length v.nodes → (at v k).version.deleted ≡ true → (at v k).slots ≡ []
 
 -- the invariant; `IsArena` is the arena's own; by `answered` each answer that was taken, and each operation that has made a step, has a step of its own
 pub record StateInvariant (c : Core) : Type 0 where
@@ -125,7 +122,7 @@ pub record StateInvariant (c : Core) : Type 0 where
   pub ops : AreKept c
   pub reserved : c.tape.reserved ≡ prepared_count c.table
   pub answered : c.answers + made_count (shown c).table ≤ c.steps
-  pub unremoved : IsUnremoved c.arena
+  pub deleted : DeletedAreEmpty c.arena
   pub few : c.steps ≤ 2 ^ 59
   pub quotas : KeepsQuotas (shown c)
   pub written : All IsMadeByChange c.tape.entries

@@ -1,10 +1,9 @@
 -- What a state keeps of each operation, by its phase.
-use Rattle.std.specs.Prelude.{◌≡◌, ◌≢◌, ℕ, ◌≤◌, ◌<◌, not, false, List, [], ◌∷◌, Option, Some, None, IsSome}
+use Rattle.std.specs.Prelude.{◌≡◌, ◌≢◌, ℕ, ◌≤◌, ◌<◌, not, Bool, true, false, List, [], ◌∷◌, Option, Some, None, IsSome}
 use Rattle.std.specs.List.{Contains}
 use Rattle.mt_slices.specs.Keys.{IsStoredKey}
 use Rattle.mt_rows.specs.declared.reply.Reply.TheVariants as replies
-use Rattle.mt_rows.specs.Rows.{Columns, columns_of, shown as columns_shown}
-use Rattle.mt_rows.specs.Changes.{changed}
+use Rattle.mt_rows.specs.Rows.{Columns, shown as columns_shown}
 use Rattle.mt_rows.specs.Commands.{key_of, HasColumns, HasShortColumns}
 use Rattle.mt_rows.specs.Accounts.{account_of}
 use Rattle.mt_rows.specs.Maps.{is_get}
@@ -13,7 +12,6 @@ use Rattle.mt_tape.specs.declared.entry.Entry.{Entry as TapeEntry}
 use Rattle.mt_arena.specs.Arena.{ArenaView}
 use Rattle.mt_arena.specs.Accesses.{at}
 use Rattle.mt_operation.specs.declared.phase.Phase.{Phase}
-use Rattle.mt_operation.specs.declared.phase.Phase.TheVariants as phases
 use Rattle.mt_operation.specs.declared.phase.Phase.TheVariants.{Enter, Load, Confirm, Store, Unlock}
 use Rattle.mt_operation.specs.declared.walk.Taken.{Taken}
 use Rattle.mt_operation.specs.declared.walk.Taken.TheVariants.{Missing, Row, Link, Nothing}
@@ -23,20 +21,23 @@ use Rattle.mt_operation.specs.declared.operation.Operation.{Operation}
 use Rattle.mt_operation.specs.Phases.{IsOfKind, has_splits, Kind, row}
 use Rattle.mt_operation.specs.Tasks.{ask}
 use Rattle.mt_operation.specs.declared.splits.Halves.{Halves}
-use Rattle.mt_operation.specs.Operations.{view_of, IsUnsplit}
-use Rattle.mt_insert.specs.Puts.{change_of}
+use Rattle.mt_operation.specs.Operations.{view_of, IsUnsplit, no_removal}
+use Rattle.mt_insert.specs.Puts.{is_put}
 use Rattle.mt_descent.specs.KeptWalks.{HasSlot, IsKept}
 use Rattle.mt_insert.specs.KeptPuts.{HoldsBorder, IsAtStore, IsAtPublish, IsAtSplitStart, IsAtUnlock}
 use Rattle.mt_insert.specs.KeptSplits.{IsAtSplitMove, IsAtUnlockAll, KeptSplit}
 use Rattle.mt_layer.specs.KeptLayers.{KeptLayer}
+use Rattle.mt_remove.specs.Writes.{is_remove}
+use Rattle.mt_remove.specs.KeptRemovals.{IsAtDropKey, IsAtUnlockRemoval, KeptRemoval, IsCleaning}
+use Rattle.mt_state.specs.Written.{row_left}
 use Rattle.mt_state.specs.Views.{Core, shown, past_of}
 use Rattle.mt_state.specs.Notes.{Says, columns_asked}
 use Rattle.mt_state.specs.Steps.{change_in}
 use Rattle.mt_state.specs.Promises.{IsAnswer}
 use Rattle.mt_operation.specs.Phases as kinds
 
--- what is kept of every operation: its key is its command's, of a tenant that is there; its numbers are those of steps made; and it has made one
--- where it isn't at its beginning
+-- what is kept of every operation: its key is its command's, of a tenant that is there; its numbers are those of steps made; it has made one where it
+-- isn't at its beginning; and it remembers nothing of a removal where it removes nothing
 pub record IsOpenOperation (c : Core) (op : Operation) : Type 0 where
   pub stored : IsStoredKey op.task.key
   pub owner : owned op.task.key ≡ (op.task.tenant, key_of (ask op.task))
@@ -49,6 +50,7 @@ pub record IsOpenOperation (c : Core) (op : Operation) : Type 0 where
   pub floor : 0 < op.walk.first → c.tape.floor < op.walk.first
   pub begun : op.walk.phase ≢ Enter → 0 < op.walk.first
   pub short : HasShortColumns (ask op.task)
+  pub light : is_remove (ask op.task) ≡ false → op.removal ≡ no_removal
 
 -- the outcome of a get, by what it took: that the key is missing, or the columns that it asks of the row
 abbrev pub TellsTaken : Operation → Option Columns → Taken → Type 0
@@ -58,10 +60,28 @@ TellsTaken op row Row =
 TellsTaken op row (Link tree) = op.outcome ≡ None
 TellsTaken op row Nothing = op.outcome ≡ None
 
--- an operation that holds nothing, and has no outcome yet
+-- the outcome is there, and right
+pub record HasAnswer (c : Core) (op : Operation) : Type 0 where
+  pub outcome : Outcome
+  pub told : op.outcome ≡ Some outcome
+  pub right : IsAnswer (shown c) (view_of op) outcome
+  pub unprepared : op.prepared ≡ None
+
+-- a removal that has its outcome, and goes back to the link of a layer that it has left empty
+pub record IsGoingBack (c : Core) (op : Operation) : Type 0 where
+  pub removes : is_remove (ask op.task) ≡ true
+  pub answer : HasAnswer c op
+  pub cleans : IsCleaning c.arena op.task.key op.removal
+
+-- before its change nothing is told of an operation, and it remembers nothing of a removal; behind it it goes back
+abbrev pub IsBound : Option Outcome → Core → Operation → Type 0
+IsBound None c op = op.removal ≡ no_removal
+IsBound (Some told) c op = IsGoingBack c op
+
+-- an operation that holds nothing, on its way to its key or back
 pub record IsOnItsWay (c : Core) (op : Operation) : Type 0 where
   pub kept : IsKept c.arena (past_of c) op.task.key None op.walk
-  pub untold : op.outcome ≡ None
+  pub bound : IsBound op.outcome c op
   pub unprepared : op.prepared ≡ None
 
 -- a get that goes to load: where nobody made a step since, its slot has its key, or a link for it
@@ -79,7 +99,7 @@ pub record IsAtConfirm (c : Core) (op : Operation) : Type 0 where
 -- an operation that holds its border node, to judge it
 pub record IsJudging (c : Core) (o : ℕ) (op : Operation) : Type 0 where
   pub judges : HoldsBorder c.arena o op.task.key op.walk
-  pub untold : op.outcome ≡ None
+  pub bound : IsBound op.outcome c op
   pub unprepared : op.prepared ≡ None
 
 -- one that has all ready to write over its key's row, and one that has all ready to make a pair
@@ -87,12 +107,14 @@ pub record IsStoring (c : Core) (o : ℕ) (op : Operation) : Type 0 where
   pub prepared : Prepared
   pub has : op.prepared ≡ Some prepared
   pub stores : IsAtStore c.arena o op.task prepared op.walk
+  pub put : is_put (ask op.task) ≡ true
   pub untold : op.outcome ≡ None
 
 pub record IsPublishing (c : Core) (o : ℕ) (op : Operation) : Type 0 where
   pub prepared : Prepared
   pub has : op.prepared ≡ Some prepared
   pub publishes : IsAtPublish c.arena o op.task prepared op.walk
+  pub put : is_put (ask op.task) ≡ true
   pub untold : op.outcome ≡ None
 
 -- one that has all ready to make a pair, in a full node: before its right half is made, and before their keys are parted
@@ -100,32 +122,47 @@ pub record IsSplitStarting (c : Core) (o : ℕ) (op : Operation) : Type 0 where
   pub prepared : Prepared
   pub has : op.prepared ≡ Some prepared
   pub starts : IsAtSplitStart c.arena o op.task prepared op.walk
+  pub put : is_put (ask op.task) ≡ true
   pub untold : op.outcome ≡ None
 
 pub record IsSplitMoving (c : Core) (o : ℕ) (op : Operation) : Type 0 where
   pub prepared : Prepared
   pub has : op.prepared ≡ Some prepared
   pub moves : IsAtSplitMove c.arena o op.task prepared op.walk op.splits
+  pub put : is_put (ask op.task) ≡ true
   pub untold : op.outcome ≡ None
 
--- the outcome is there, and right
-pub record HasAnswer (c : Core) (op : Operation) : Type 0 where
-  pub outcome : Outcome
-  pub told : op.outcome ≡ Some outcome
-  pub right : IsAnswer (shown c) (view_of op) outcome
-  pub unprepared : op.prepared ≡ None
+-- one that has all ready to take its key's pair out
+pub record IsDropping (c : Core) (o : ℕ) (op : Operation) : Type 0 where
+  pub prepared : Prepared
+  pub has : op.prepared ≡ Some prepared
+  pub drops : IsAtDropKey c.arena o op.task prepared op.walk
+  pub removes : is_remove (ask op.task) ≡ true
+  pub light : op.removal ≡ no_removal
+  pub untold : op.outcome ≡ None
 
 -- one whose keys are parted, and whose right halves come to their parents
 pub record IsClimbing (c : Core) (o : ℕ) (op : Operation) (phase : Phase) : Type 0 where
   pub climbs : KeptSplit phase c.arena o op.splits
   pub answer : HasAnswer c op
 
--- what it may give back: its border node where nothing was split, else each node of the splits
+-- one that has taken the pair out, and takes the empty node out; or that takes an empty layer out
+pub record IsUnlinking (c : Core) (o : ℕ) (op : Operation) (phase : Phase) : Type 0 where
+  pub removes : is_remove (ask op.task) ≡ true
+  pub kept : KeptRemoval phase c.arena o op.task.key op.walk op.removal
+  pub answer : HasAnswer c op
+
+-- what it may give back where nothing was split: its border node, and those of its removal
+abbrev pub MayUnlockUnsplit : Bool → ArenaView → ℕ → Operation → Type 0
+MayUnlockUnsplit true v o op = IsAtUnlockRemoval v o op.task.key op.walk op.removal
+MayUnlockUnsplit false v o op = IsAtUnlock v o op.walk
+
+-- what it may give back: that, or each node of the splits
 abbrev pub MayUnlock : List Halves → ArenaView → ℕ → Operation → Type 0
-MayUnlock [] v o op = IsAtUnlock v o op.walk × IsUnsplit op.splits
+MayUnlock [] v o op = MayUnlockUnsplit (is_remove (ask op.task)) v o op × IsUnsplit op.splits
 MayUnlock (_ ∷ _) v o op = IsAtUnlockAll v o op.splits
 
--- one that was placed, and holds its border node or the nodes of its splits
+-- one that was placed, and holds its border node, with those of its removal, or the nodes of its splits
 pub record IsUnlocking (c : Core) (o : ℕ) (op : Operation) : Type 0 where
   pub unlocks : MayUnlock op.splits.halves.items c.arena o op
   pub answer : HasAnswer c op
@@ -133,6 +170,7 @@ pub record IsUnlocking (c : Core) (o : ℕ) (op : Operation) : Type 0 where
 -- one that makes a layer: nothing is told of it, and nothing made ready
 pub record IsLayering (c : Core) (o : ℕ) (op : Operation) (phase : Phase) : Type 0 where
   pub makes : KeptLayer phase c.arena o op.task.key op.walk
+  pub light : op.removal ≡ no_removal
   pub untold : op.outcome ≡ None
   pub unprepared : op.prepared ≡ None
 
@@ -167,14 +205,17 @@ IsKeptFor kinds.Begins p c o op = IsSplitStarting c o op
 IsKeptFor kinds.Splits p c o op = IsSplitMoving c o op
 IsKeptFor kinds.Climbs p c o op = IsClimbing c o op p
 IsKeptFor kinds.Layers p c o op = IsLayering c o op p
+IsKeptFor kinds.Drops p c o op = IsDropping c o op
+IsKeptFor kinds.Unlinks p c o op = IsUnlinking c o op p
+IsKeptFor kinds.Cleans p c o op = IsUnlinking c o op p
 IsKeptFor kinds.Returns p c o op = IsReturning op.outcome c o op
 IsKeptFor kinds.Ends p c o op = HasAnswer c op
 
 abbrev pub IsKeptAt : Phase → Core → ℕ → Operation → Type 0
 IsKeptAt p c o op = IsKeptFor (row p).kind p c o op
 
--- a change that an operation has made has its entry in the tape, of its step, worker, tenant and key, with the row that the command makes of the one
--- before
+-- a change that an operation has made has its entry in the tape, of its step, worker, tenant and key, with the row that the command leaves over the one
+-- before, which was there where it removes
 pub record IsPlacedOnce (c : Core) (op : Operation) (step : ℕ) : Type 0 where
   pub entry : TapeEntry
   pub there : Contains c.tape.entries entry
@@ -182,7 +223,8 @@ pub record IsPlacedOnce (c : Core) (op : Operation) (step : ℕ) : Type 0 where
   pub worker : entry.worker ≡ op.task.worker
   pub tenant : entry.tenant ≡ op.task.tenant
   pub key_is : entry.key ≡ key_of (ask op.task)
-  pub makes : entry.after ≡ Some (changed (change_of (ask op.task)) (columns_of entry.before))
+  pub makes : entry.after ≡ row_left (ask op.task) entry.before
+  pub was : is_remove (ask op.task) ≡ true → IsSome entry.before
 
 -- all that is kept of the operation of an id
 pub record IsKeptOf (c : Core) (o : ℕ) (op : Operation) : Type 0 where

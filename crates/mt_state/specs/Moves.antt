@@ -11,7 +11,7 @@ use Rattle.mt_state.specs.Notes.{Notes}
 use Rattle.mt_state.specs.Promises.{IsQuiet, IsPlacing, Touches}
 use Rattle.mt_state.specs.KeptOperations.{IsKeptOf}
 use Rattle.mt_state.specs.Growth.{MakesFew}
-use Rattle.mt_state.specs.Invariant.{IsTape, AreStamps, AreVersions, HoldsAt, AreCounted, IsUnremoved, StateGuarantee, one_if_prepared}
+use Rattle.mt_state.specs.Invariant.{IsTape, AreStamps, AreVersions, HoldsAt, AreCounted, DeletedAreEmpty, StateGuarantee, one_if_prepared}
 
 -- What a step of operation o brings of its own. The rest of the invariant follows for all others.
 pub record IsMove (old new : Core) (o : ℕ) (before after : Operation) : Type 0 where
@@ -25,11 +25,11 @@ pub record IsMove (old new : Core) (o : ℕ) (before after : Operation) : Type 0
   pub tape : IsTape new
   pub stamps : AreStamps new
   pub versions : AreVersions new
-  pub held : (k : ℕ) → k < length new.arena.nodes → (at new.arena k).holder ≡ Some o → HoldsAt after.walk.phase after.walk after.splits k
+  pub held : (k : ℕ) → k < length new.arena.nodes → (at new.arena k).holder ≡ Some o → HoldsAt after.walk.phase after k
   pub counts : AreCounted new
   pub kept : IsKeptOf new o after
   pub reserved : new.tape.reserved + one_if_prepared (Some before) ≡ old.tape.reserved + one_if_prepared (Some after)
-  pub unremoved : IsUnremoved new.arena
+  pub deleted : DeletedAreEmpty new.arena
 
 -- what a step tells, beside what it brings
 pub record IsTold (old new : Core) (o : ℕ) (before after : Operation) : Type 0 where

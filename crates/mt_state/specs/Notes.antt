@@ -1,5 +1,5 @@
 -- The outcome of an operation: who sets it, and what it tells of the state that it was set in.
-use Rattle.std.specs.Prelude.{◌≡◌, ◌≢◌, ℕ, ◌+◌, ◌<◌, ◌≤◌, ◌⊎◌, List, Option, Some, None, length}
+use Rattle.std.specs.Prelude.{◌≡◌, ◌≢◌, ℕ, ◌+◌, ◌<◌, ◌≤◌, ◌⊎◌, List, Option, Some, None, length, Bool, true, false}
 use Rattle.std.specs.List.{Contains}
 use Rattle.std.specs.FinMap as pairs
 use Rattle.mt_rows.specs.declared.command.Command.{Command}
@@ -17,12 +17,14 @@ use Rattle.mt_arena.specs.Accesses.{at}
 use Rattle.mt_descent.specs.KeptWalks.{GoesThrough, IsInSlot, HasSlot}
 use Rattle.mt_descent.specs.WalkMoves.{TakesOut}
 use Rattle.mt_operation.specs.declared.phase.Phase.{Phase}
-use Rattle.mt_operation.specs.declared.phase.Phase.TheVariants.{Enter, Search, Load, Confirm, Judge, Store, Publish, SplitStart, SplitMove, SplitPrev, LockParent, InsertChild, InteriorSplit, Reparent, RootGrow, MakeLayer, Unlock, Done}
+use Rattle.mt_operation.specs.declared.phase.Phase.TheVariants.{Enter, Search, Load, Confirm, Forward, Judge, Store, Publish, SplitStart, SplitMove, MakeLayer, DropKey, Unlock, Done}
 use Rattle.mt_operation.specs.declared.walk.Taken.TheVariants.{Row}
 use Rattle.mt_operation.specs.declared.walk.Walk.{Walk}
 use Rattle.mt_operation.specs.declared.outcome.Outcome.{Outcome}
 use Rattle.mt_operation.specs.Operations.{OperationView}
 use Rattle.mt_state.specs.Views.{StateView, contents_of, map_of}
+use Rattle.mt_operation.specs.Phases.{is_unplaced}
+use Rattle.mt_remove.specs.Writes.{is_remove}
 
 -- the key that an operation is about, with its tenant
 abbrev pub key_asked : OperationView → ℕ × Bytes
@@ -84,30 +86,37 @@ pub record ShowsNone (old : StateView) (op : OperationView) (told : Option Outco
 abbrev pub IsStopped : StateView → Option Outcome → Type 0
 IsStopped old told = Says told replies.NoMemory (old.steps + 1)
 
+-- or the key that it removes was missing at this step
+abbrev pub IsEndedUntold : StateView → OperationView → Option Outcome → Type 0
+IsEndedUntold old op told = IsStopped old told ⊎ (is_remove op.command ≡ true) × Says told replies.Absent (old.steps + 1)
+
+-- an operation that ends as it judges was stopped or has missed its key, where it had no outcome; on its way back it has the one that it had
+abbrev pub EndsJudging : Option Outcome → StateView → OperationView → Option Outcome → Type 0
+EndsJudging None old op told = IsEndedUntold old op told
+EndsJudging (Some had) old op told = told ≡ op.outcome
+
+-- an operation whose change is still to come has no outcome, and had none; any other keeps the one that it had
+abbrev pub Keeps : Bool → Option Outcome → Option Outcome → Type 0
+Keeps true had told = (told ≡ None) × (had ≡ None)
+Keeps false had told = told ≡ had
+
 -- a pair was made, or the quota had no room
 abbrev pub IsJudged : StateView → Option Outcome → Type 0
 IsJudged old told = Says told replies.New (old.steps + 1) ⊎ Says told replies.Full (old.steps + 1)
 
--- the outcome after a step, by the phases before and after it: it is set by the step that looks or places, and an operation that splits or ends has the
--- one that it had; every other step leaves it without one, and so was an operation that goes on in the layer that it has made
+-- the outcome after a step, by the phases before and after it: it is set by the step that looks or places; a get that goes on its way again has none; and
+-- every other step keeps it
 abbrev pub Notes : StateView → OperationView → Phase → Phase → Option Outcome → Type 0
 Notes old op Search Confirm told = NotesAbsent old op told
 Notes old op Load Confirm told = ShowsRow old op told ⊎ ShowsNone old op told
 Notes old op Load Done told = IsStopped old told
-Notes old op Judge Done told = IsStopped old told
+Notes old op Confirm Enter told = told ≡ None
+Notes old op Confirm Forward told = told ≡ None
+Notes old op Judge Done told = EndsJudging op.outcome old op told
 Notes old op Store Unlock told = Says told replies.Replaced (old.steps + 1)
 Notes old op Publish Unlock told = IsJudged old told
 Notes old op SplitStart Done told = IsStopped old told
+Notes old op SplitMove _ told = IsJudged old told
 Notes old op MakeLayer Done told = IsStopped old told
-Notes old op SplitMove SplitPrev told = IsJudged old told
-Notes old op SplitMove LockParent told = IsJudged old told
-Notes old op SplitPrev _ told = told ≡ op.outcome
-Notes old op LockParent _ told = told ≡ op.outcome
-Notes old op InsertChild _ told = told ≡ op.outcome
-Notes old op InteriorSplit _ told = told ≡ op.outcome
-Notes old op Reparent _ told = told ≡ op.outcome
-Notes old op RootGrow _ told = told ≡ op.outcome
-Notes old op Confirm Done told = told ≡ op.outcome
-Notes old op Unlock Done told = told ≡ op.outcome
-Notes old op Unlock Enter told = (told ≡ None) × (op.outcome ≡ None)
-Notes old op _ _ told = told ≡ None
+Notes old op DropKey _ told = Says told replies.Removed (old.steps + 1)
+Notes old op _ q told = Keeps (is_unplaced q) op.outcome told

@@ -1,6 +1,6 @@
 -- The table of phases: where the step of each phase leads, and under which condition. Each walk is that of before with what the step has changed; a
 -- step that reads a marked node, or locks a locked one, is none (`IsInTheWay` of `Promises`).
-use Rattle.std.specs.Prelude.{◌≡◌, ℕ, ◌+◌, ◌⊎◌, length, Option, Some, None}
+use Rattle.std.specs.Prelude.{◌≡◌, ℕ, ◌+◌, ◌⊎◌, length, Option, Some, None, ◌≢◌, List, [], ◌∷◌}
 use Rattle.mt_version.specs.Changes.{IsStable}
 use Rattle.mt_slices.specs.Keys.{stored_key}
 use Rattle.mt_rows.specs.Rows.{Bytes, Columns}
@@ -14,7 +14,7 @@ use Rattle.mt_arena.specs.Layers.{slot_at}
 use Rattle.mt_arena.specs.Arena.{ArenaView}
 use Rattle.mt_arena.specs.Accesses.{at}
 use Rattle.mt_operation.specs.declared.phase.Phase.{Phase}
-use Rattle.mt_operation.specs.declared.phase.Phase.TheVariants.{Enter, Pick, Child, Verify, Search, Load, Confirm, Forward, Lock, Judge, Store, Publish, SplitStart, SplitMove, SplitPrev, LockParent, InsertChild, InteriorSplit, Reparent, RootGrow, MakeLayer, MarkUnstable, Link, MarkLayer, Unlock}
+use Rattle.mt_operation.specs.declared.phase.Phase.TheVariants.{Enter, Pick, Child, Verify, Search, Load, Confirm, Forward, Lock, Judge, Store, Publish, SplitStart, SplitMove, SplitPrev, LockParent, InsertChild, InteriorSplit, Reparent, RootGrow, MakeLayer, MarkUnstable, Link, MarkLayer, DropKey, LockPrev, LockAbove, Unlink, FixNext, Collapse, CleanLayer, Unlock}
 use Rattle.mt_operation.specs.declared.walk.Taken.TheVariants as takens
 use Rattle.mt_operation.specs.declared.walk.Walk.{Walk}
 use Rattle.mt_operation.specs.declared.outcome.Outcome.{Outcome}
@@ -32,6 +32,13 @@ use Rattle.mt_layer.specs.NewLayers.{walk_linked}
 use Rattle.mt_state.specs.declared.moves.Move.{Move}
 use Rattle.mt_state.specs.declared.moves.Move.TheVariants.{Moved, Done as DoneMove}
 use Rattle.mt_state.specs.Views.{StateView, op_at}
+use Rattle.mt_operation.specs.declared.removal.Removal.{Removal}
+use Rattle.mt_operation.specs.declared.splits.Halves.{Halves}
+use Rattle.mt_remove.specs.RemovalEdits.{IsToUnlink, for_rest, after_unlink}
+use Rattle.mt_remove.specs.Unlinks.{IsChildBefore}
+use Rattle.mt_remove.specs.CleanLayer.{LeadsTo as LeadsKey}
+use Rattle.mt_remove.specs.Unlock.{EmptiesLayer}
+use Rattle.mt_remove.specs.Ways.{IsJustBelow}
 
 -- from Forward: by the next node, which is unmarked; where there is none, the walk stays at its own
 abbrev pub GoesForward : Option ℕ → ArenaView → Bytes → Walk → Walk → Type 0
@@ -70,48 +77,134 @@ abbrev pub GoesAbove : Option ℕ → ArenaView → Walk → Walk → Type 0
 GoesAbove None v w x = x ≡ walk_at RootGrow w
 GoesAbove (Some p) v w x = ((at v p).holder ≡ None) × (x ≡ walk_at (for_parent (at v p)) w)
 
--- from Unlock: the operation is done where it has an outcome; else it has made a layer, and goes on in its tree
-abbrev pub GoesFromUnlock : Option Outcome → Walk → Walk → Type 0
-GoesFromUnlock (Some told) w x = x ≡ walk_done w
-GoesFromUnlock None w x = (tree : ℕ) × (w.taken ≡ takens.Link tree) × (x ≡ walk_into w tree (w.layer + 1))
+-- from Lock: the node is held, or the walk goes on
+abbrev pub IsBackAbove : ArenaView → ℕ → Walk → Walk → Type 0
+IsBackAbove old tree w reached = (reached.phase ≡ Judge) × IsJustBelow (tree_at old.trees tree) w.layer
 
--- Where the step of this number of an operation leads from each phase: of operation o for this key, with this outcome so far and these splits. Where a
+-- and so on the way back to the link of this tree, which is taken out next where the layer is the one above
+pub record LocksBack (o : ℕ) (old new : ArenaView) (r : Removal) (w x : Walk) : Type 0 where
+  pub tree : ℕ
+  pub cleans_is : r.cleans ≡ Some tree
+  pub reached : Walk
+  pub locks : Locks o old new w reached
+  pub cleans : IsBackAbove old tree w reached → x ≡ walk_at CleanLayer reached
+  pub goes : ¬ IsBackAbove old tree w reached → x ≡ reached
+
+abbrev pub LocksBy : Option Outcome → ℕ → ArenaView → ArenaView → Removal → Walk → Walk → Type 0
+LocksBy None o old new r w x = Locks o old new w x
+LocksBy (Some told) o old new r w x = LocksBack o old new r w x
+
+-- from Judge: the key's slot, from which its pair is taken next
+pub record JudgesRemoval (n : NodeView) (key : Bytes) (w x : Walk) : Type 0 where
+  pub slot : ℕ
+  pub stands : IsInSlot n slot key w.layer kinds.ThisKey
+  pub goes : x ≡ record w { slot = slot; phase = DropKey }
+
+-- no link on the way back: the operation is done
+pub record JudgesNone (n : NodeView) (key : Bytes) (w x : Walk) : Type 0 where
+  pub none : (slot : ℕ) → ¬ IsInSlot n slot key w.layer kinds.Link
+  pub goes : x ≡ walk_done w
+
+-- by whether it goes to its key, where it may also miss that, or be stopped; or goes back
+abbrev pub JudgesBy : Option Outcome → NodeView → Bytes → Walk → Walk → Type 0
+JudgesBy None n key w x = JudgesKey n key w x ⊎ JudgesOther n key w x ⊎ JudgesLink n key w x ⊎ JudgesRemoval n key w x ⊎ (x ≡ walk_done w)
+JudgesBy (Some told) n key w x = JudgesLink n key w x ⊎ JudgesNone n key w x
+
+-- behind a slot that was taken out: the border node is taken out too, where it is empty and no first child; else all is given back
+pub record LeavesSlot (v : ArenaView) (w x : Walk) : Type 0 where
+  pub unlinks : IsToUnlink v w.place.node → x ≡ walk_at LockPrev w
+  pub returns : ¬ IsToUnlink v w.place.node → x ≡ walk_at Unlock w
+
+-- from LockPrev: the node before, which nobody held, was locked
+pub record LocksBefore (v : ArenaView) (w x : Walk) : Type 0 where
+  pub left : ℕ
+  pub left_is : (at v w.place.node).previous ≡ Some left
+  pub free : (at v left).holder ≡ None
+  pub goes : x ≡ walk_at LockAbove w
+
+-- from LockAbove: the parent, which nobody held, was locked; the node is taken out where the child before it is the held neighbour
+pub record LocksParent (v : ArenaView) (r : Removal) (w x : Walk) : Type 0 where
+  pub parent : ℕ
+  pub parent_is : (at v w.place.node).parent ≡ Some parent
+  pub free : (at v parent).holder ≡ None
+  pub unlinks : IsChildBefore (at v parent) (at v w.place.node).low r.left → x ≡ walk_at Unlink w
+  pub returns : ¬ IsChildBefore (at v parent) (at v w.place.node).low r.left → x ≡ walk_at Unlock w
+
+-- from CleanLayer: no slot leads to the tree; or its root, which nobody held, was locked, and has a key; or it was empty, and was taken out with the link
+pub record CleansNone (old : ArenaView) (key : Bytes) (tree : ℕ) (w x : Walk) : Type 0 where
+  pub none : (slot : ℕ) → ¬ LeadsKey (at old w.place.node) key w.layer tree slot
+  pub goes : x ≡ walk_at Unlock w
+
+pub record CleansFull (old : ArenaView) (tree : ℕ) (w x : Walk) : Type 0 where
+  pub free : (at old (tree_at old.trees tree).root).holder ≡ None
+  pub full : (at old (tree_at old.trees tree).root).level ≡ 0 → (at old (tree_at old.trees tree).root).slots ≢ []
+  pub goes : x ≡ walk_at Unlock w
+
+pub record CleansEmpty (old new : ArenaView) (tree : ℕ) (w x : Walk) : Type 0 where
+  pub free : (at old (tree_at old.trees tree).root).holder ≡ None
+  pub border : (at old (tree_at old.trees tree).root).level ≡ 0
+  pub empty : (at old (tree_at old.trees tree).root).slots ≡ []
+  pub goes : LeavesSlot new w x
+
+-- from Unlock: an operation without an outcome has made a layer, and goes on in its tree; one that has split is done; and so is any other, but for a removal
+-- that has left a layer empty: it goes back from the top
+pub record ReturnsAll (v : ArenaView) (r : Removal) (w x : Walk) : Type 0 where
+  pub cleans : EmptiesLayer v w r → x ≡ walk_into w 0 0
+  pub ends : ¬ EmptiesLayer v w r → x ≡ walk_done w
+
+abbrev pub ReturnsBy : List Halves → ArenaView → Removal → Walk → Walk → Type 0
+ReturnsBy [] v r w x = ReturnsAll v r w x
+ReturnsBy (_ ∷ _) v r w x = x ≡ walk_done w
+
+abbrev pub GoesFromUnlock : Option Outcome → ArenaView → SplitsView → Removal → Walk → Walk → Type 0
+GoesFromUnlock (Some told) v s r w x = ReturnsBy s.halves v r w x
+GoesFromUnlock None v s r w x = (tree : ℕ) × (w.taken ≡ takens.Link tree) × (x ≡ walk_into w tree (w.layer + 1))
+
+-- Where the step of this number of an operation leads from each phase: of operation o for this key, with this outcome so far, these splits and this removal. Where a
 -- phase makes a growth, it may end the operation for want of memory.
-abbrev pub LeadsTo : Phase → ArenaView → ArenaView → ℕ → ℕ → Bytes → Option Outcome → SplitsView → Walk → Walk → Type 0
-LeadsTo Enter old new o step key told s w x = IsStable (at old (tree_at old.trees w.place.tree).root).version
+abbrev pub LeadsTo : Phase → ArenaView → ArenaView → ℕ → ℕ → Bytes → Option Outcome → SplitsView → Removal → Walk → Walk → Type 0
+LeadsTo Enter old new o step key told s r w x = IsStable (at old (tree_at old.trees w.place.tree).root).version
     × (x ≡ after_enter (tree_at old.trees w.place.tree).standing w (tree_at old.trees w.place.tree).root (at old (tree_at old.trees w.place.tree).root).version)
-LeadsTo Pick old new o step key told s w x = x ≡ after_pick w (child_for (at old w.place.node) (slice_in key w))
-LeadsTo Child old new o step key told s w x = IsStable (at old w.child).version × (x ≡ after_child w (at old w.child).version)
-LeadsTo Verify old new o step key told s w x = IsStable (at old w.place.node).version × Verifies (at old w.place.node) w x
-LeadsTo Search old new o step key told s w x = (found : Find) × FindsIn (at old w.place.node) key w.layer found × (x ≡ after_search found w step)
-LeadsTo Load old new o step key told s w x = GoesFromLoad (at old w.place.node) w x
-LeadsTo Confirm old new o step key told s w x = IsStable (at old w.place.node).version × Confirms (at old w.place.node) w x
-LeadsTo Forward old new o step key told s w x = GoesForward w.next old key w x
-LeadsTo Lock old new o step key told s w x = ((at old w.place.node).holder ≡ None) × Locks o old new w x
-LeadsTo Judge old new o step key told s w x =
-    JudgesKey (at old w.place.node) key w x ⊎ JudgesOther (at old w.place.node) key w x ⊎ JudgesLink (at old w.place.node) key w x ⊎ (x ≡ walk_done w)
-LeadsTo Store old new o step key told s w x = x ≡ walk_placed w
-LeadsTo Publish old new o step key told s w x = x ≡ walk_placed w
-LeadsTo SplitStart old new o step key told s w x = (x ≡ walk_at SplitMove w) ⊎ (x ≡ walk_done w)
-LeadsTo SplitMove old new o step key told s w x = x ≡ walk_at (after_parting (at old w.place.node).next) w
-LeadsTo SplitPrev old new o step key told s w x = x ≡ walk_at LockParent w
-LeadsTo LockParent old new o step key told s w x = GoesAbove (at old (last_half s).left).parent old w x
-LeadsTo InsertChild old new o step key told s w x = x ≡ walk_at Unlock w
-LeadsTo InteriorSplit old new o step key told s w x = x ≡ walk_at Reparent w
-LeadsTo Reparent old new o step key told s w x = x ≡ walk_at (after_reparent (at old (last_half s).right) s.moved) w
-LeadsTo RootGrow old new o step key told s w x = x ≡ walk_at Unlock w
-LeadsTo MakeLayer old new o step key told s w x = (x ≡ walk_linked w (length old.trees)) ⊎ (x ≡ walk_done w)
-LeadsTo MarkUnstable old new o step key told s w x = x ≡ walk_at Link w
-LeadsTo Link old new o step key told s w x = x ≡ walk_at MarkLayer w
-LeadsTo MarkLayer old new o step key told s w x = x ≡ walk_at Unlock w
-LeadsTo Unlock old new o step key told s w x = GoesFromUnlock told w x
-LeadsTo _ old new o step key told s w x = ⊥
+LeadsTo Pick old new o step key told s r w x = x ≡ after_pick w (child_for (at old w.place.node) (slice_in key w))
+LeadsTo Child old new o step key told s r w x = IsStable (at old w.child).version × (x ≡ after_child w (at old w.child).version)
+LeadsTo Verify old new o step key told s r w x = IsStable (at old w.place.node).version × Verifies (at old w.place.node) w x
+LeadsTo Search old new o step key told s r w x = (found : Find) × FindsIn (at old w.place.node) key w.layer found × (x ≡ after_search found w step)
+LeadsTo Load old new o step key told s r w x = GoesFromLoad (at old w.place.node) w x
+LeadsTo Confirm old new o step key told s r w x = IsStable (at old w.place.node).version × Confirms (at old w.place.node) w x
+LeadsTo Forward old new o step key told s r w x = GoesForward w.next old key w x
+LeadsTo Lock old new o step key told s r w x = ((at old w.place.node).holder ≡ None) × LocksBy told o old new r w x
+LeadsTo Judge old new o step key told s r w x = JudgesBy told (at old w.place.node) key w x
+LeadsTo Store old new o step key told s r w x = x ≡ walk_placed w
+LeadsTo Publish old new o step key told s r w x = x ≡ walk_placed w
+LeadsTo SplitStart old new o step key told s r w x = (x ≡ walk_at SplitMove w) ⊎ (x ≡ walk_done w)
+LeadsTo SplitMove old new o step key told s r w x = x ≡ walk_at (after_parting (at old w.place.node).next) w
+LeadsTo SplitPrev old new o step key told s r w x = x ≡ walk_at LockParent w
+LeadsTo LockParent old new o step key told s r w x = GoesAbove (at old (last_half s).left).parent old w x
+LeadsTo InsertChild old new o step key told s r w x = x ≡ walk_at Unlock w
+LeadsTo InteriorSplit old new o step key told s r w x = x ≡ walk_at Reparent w
+LeadsTo Reparent old new o step key told s r w x = x ≡ walk_at (after_reparent (at old (last_half s).right) s.moved) w
+LeadsTo RootGrow old new o step key told s r w x = x ≡ walk_at Unlock w
+LeadsTo MakeLayer old new o step key told s r w x = (x ≡ walk_linked w (length old.trees)) ⊎ (x ≡ walk_done w)
+LeadsTo MarkUnstable old new o step key told s r w x = x ≡ walk_at Link w
+LeadsTo Link old new o step key told s r w x = x ≡ walk_at MarkLayer w
+LeadsTo MarkLayer old new o step key told s r w x = x ≡ walk_at Unlock w
+LeadsTo DropKey old new o step key told s r w x = LeavesSlot new w x
+LeadsTo LockPrev old new o step key told s r w x = LocksBefore old w x
+LeadsTo LockAbove old new o step key told s r w x = LocksParent old r w x
+LeadsTo Unlink old new o step key told s r w x =
+    (parent : ℕ) × (r.parent ≡ Some parent) × (x ≡ walk_at (after_unlink (at old w.place.node).next (at new parent)) w)
+LeadsTo FixNext old new o step key told s r w x = (parent : ℕ) × (r.parent ≡ Some parent) × (x ≡ walk_at (for_rest (at old parent)) w)
+LeadsTo Collapse old new o step key told s r w x = x ≡ walk_at Unlock w
+LeadsTo CleanLayer old new o step key told s r w x =
+    (tree : ℕ) × (r.cleans ≡ Some tree) × (CleansNone old key tree w x ⊎ CleansFull old tree w x ⊎ CleansEmpty old new tree w x)
+LeadsTo Unlock old new o step key told s r w x = GoesFromUnlock told old s r w x
+LeadsTo _ old new o step key told s r w x = ⊥
 
 -- The step of an operation from its phase by the table, as it is shown: but for the number of the first step, which it sets, its walk is the one to which the
 -- table leads.
 pub record GoesBy (old new : ArenaView) (o step : ℕ) (before after : OperationView) : Type 0 where
   pub walk : Walk
-  pub leads : LeadsTo before.phase old new o step (stored_key before.tenant (key_of before.command)) before.outcome before.splits before.walk walk
+  pub leads : LeadsTo before.phase old new o step (stored_key before.tenant (key_of before.command)) before.outcome before.splits before.removal before.walk walk
   pub is : after.walk ≡ record walk { first = after.first }
 
 -- the step that operation o has made leads where the table says

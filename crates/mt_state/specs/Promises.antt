@@ -1,11 +1,9 @@
 -- What a step may do, and what it answers.
 use Rattle.std.specs.Prelude.{◌≡◌, ◌≢◌, ℕ, ◌+◌, ◌^◌, ◌<◌, ◌≤◌, ◌⊎◌, Bool, true, false, [], ◌∷◌, ◌++◌, Option, Some, None, IsSome, length, slice_set}
 use Rattle.std.specs.FinMap as pairs
+use Rattle.std.specs.Option.{option_map}
 use Rattle.mt_rows.specs.declared.reply.Reply.{Reply}
-use Rattle.mt_rows.specs.Rows.{columns_of}
-use Rattle.mt_rows.specs.Changes.{changed}
 use Rattle.mt_rows.specs.Commands.{key_of}
-use Rattle.mt_insert.specs.Puts.{change_of}
 use Rattle.mt_insert.specs.KeptSplits.{last_half}
 use Rattle.mt_rows.specs.Maps.{reply_of, is_change, is_no_memory}
 use Rattle.mt_rows.specs.Tenants.{tenant_map}
@@ -18,16 +16,18 @@ use Rattle.mt_arena.specs.Forests.{tree_at}
 use Rattle.mt_arena.specs.Accesses.{at}
 use Rattle.mt_operation.specs.declared.phase.Phase.{Phase}
 use Rattle.mt_operation.specs.declared.walk.Walk.{Walk}
+use Rattle.mt_operation.specs.declared.removal.Removal.{Removal}
 use Rattle.mt_operation.specs.declared.outcome.Outcome.{Outcome}
 use Rattle.mt_operation.specs.Operations.{OperationView, SplitsView}
 use Rattle.mt_descent.specs.WalkMoves.{IsBlocked, IsBlockedAt}
 use Rattle.mt_state.specs.declared.moves.Move.{Move}
 use Rattle.mt_state.specs.declared.moves.Move.TheVariants.{Moved, Again, NoMemory as NoMemoryMove, Done as DoneMove, Spent, NoSuch}
 use Rattle.mt_state.specs.Views.{StateView, contents_of, op_at, map_of, quota_of, KeepsPast, IsPlaced}
-use Rattle.mt_operation.specs.Phases.{Waiting, Never, RootMark, ChildMark, OwnMark, NextMark, OwnSlot, OwnLock, ParentLock, row, is_done, IsToGrow}
+use Rattle.mt_operation.specs.Phases.{Waiting, Never, RootMark, ChildMark, OwnMark, NextMark, OwnSlot, OwnLock, ParentLock, BeforeLock, AboveLock, BelowLock, row, is_done, IsToGrow}
 use Rattle.mt_state.specs.Steps.{HasMoved, change_in}
 use Rattle.mt_state.specs.Notes.{key_asked, Notes}
 use Rattle.mt_state.specs.Growth.{MakesFew}
+use Rattle.mt_state.specs.Written.{row_left}
 
 -- nothing of contents and tape changes, and the operation has made no other change
 pub record IsQuiet (old new : StateView) (before after : OperationView) : Type 0 where
@@ -35,7 +35,7 @@ pub record IsQuiet (old new : StateView) (before after : OperationView) : Type 0
   pub entries : new.tape.entries ≡ old.tape.entries
   pub change : change_in after ≡ change_in before
 
--- The step makes exactly its command's change: on its tenant's map, where its key has the row that the command makes of the one before, with one
+-- The step makes exactly its command's change: on its tenant's map, where its key has the row that the command leaves over the one before, with one
 -- entry of the tape, of this step's number.
 pub record IsPlacing (old new : StateView) (before after : OperationView) : Type 0 where
   pub reply : Reply
@@ -44,7 +44,7 @@ pub record IsPlacing (old new : StateView) (before after : OperationView) : Type
   pub outcome : after.outcome ≡ Some (record { reply = reply; at = old.steps + 1 })
   pub makes : (t : ℕ)
       → tenant_map t (contents_of new) ≡ maps_after_one (quota_of old) (Some (record { tenant = before.tenant; command = before.command })) (λ u. tenant_map u (contents_of old)) t
-  pub writes : pairs.get (contents_of new) (key_asked before) ≡ Some (changed (change_of before.command) (columns_of (pairs.get (contents_of old) (key_asked before))))
+  pub writes : pairs.get (contents_of new) (key_asked before) ≡ row_left before.command (pairs.get (contents_of old) (key_asked before))
   pub entry : TapeEntry
   pub pushes : new.tape.entries ≡ old.tape.entries ++ entry ∷ []
   pub step : entry.step ≡ old.steps + 1
@@ -96,34 +96,52 @@ abbrev pub HasStep : StateView → ℕ → Type 0
 HasStep v o = (op : OperationView) × (op_at v.table o ≡ Some op) × (is_done op.phase ≡ false)
 
 -- the node that a step reads or locks for which it may have to wait
-abbrev pub node_needed : Waiting → ArenaView → Walk → SplitsView → Option ℕ
-node_needed Never v w s = None
-node_needed RootMark v w s = Some (tree_at v.trees w.place.tree).root
-node_needed ChildMark v w s = Some w.child
-node_needed OwnMark v w s = Some w.place.node
-node_needed OwnSlot v w s = Some w.place.node
-node_needed NextMark v w s = w.next
-node_needed OwnLock v w s = Some w.place.node
-node_needed ParentLock v w s = (at v (last_half s).left).parent
+abbrev pub node_needed : Waiting → ArenaView → Walk → SplitsView → Removal → Option ℕ
+node_needed Never v w s r = None
+node_needed RootMark v w s r = Some (tree_at v.trees w.place.tree).root
+node_needed ChildMark v w s r = Some w.child
+node_needed OwnMark v w s r = Some w.place.node
+node_needed OwnSlot v w s r = Some w.place.node
+node_needed NextMark v w s r = w.next
+node_needed OwnLock v w s r = Some w.place.node
+node_needed ParentLock v w s r = (at v (last_half s).left).parent
+node_needed BeforeLock v w s r = (at v w.place.node).previous
+node_needed AboveLock v w s r = (at v w.place.node).parent
+node_needed BelowLock v w s r = option_map (λ tree. (tree_at v.trees tree).root) r.cleans
+
+-- the step is to lock it
+abbrev pub is_for_lock : Waiting → Bool
+is_for_lock OwnLock = true
+is_for_lock ParentLock = true
+is_for_lock BeforeLock = true
+is_for_lock AboveLock = true
+is_for_lock BelowLock = true
+is_for_lock _ = false
+
+abbrev pub locks_next : Phase → Bool
+locks_next p = is_for_lock (row p).waits
 
 -- how that node is in the way: by its lock, where it is to be locked; by the unstable slot, where that is to be loaded; else by its mark; each is its
 -- holder's
 abbrev pub BlocksBy : Waiting → NodeView → ℕ → ℕ → Type 0
 BlocksBy OwnLock n slot holder = n.holder ≡ Some holder
 BlocksBy ParentLock n slot holder = n.holder ≡ Some holder
+BlocksBy BeforeLock n slot holder = n.holder ≡ Some holder
+BlocksBy AboveLock n slot holder = n.holder ≡ Some holder
+BlocksBy BelowLock n slot holder = n.holder ≡ Some holder
 BlocksBy OwnSlot n slot holder = IsBlockedAt n slot holder
 BlocksBy _ n slot holder = IsBlocked n holder
 
 -- the same of the step of a phase
-abbrev pub needed_node : Phase → ArenaView → Walk → SplitsView → Option ℕ
-needed_node p v w s = node_needed (row p).waits v w s
+abbrev pub needed_node : Phase → ArenaView → Walk → SplitsView → Removal → Option ℕ
+needed_node p v w s r = node_needed (row p).waits v w s r
 
 abbrev pub Blocks : Phase → NodeView → ℕ → ℕ → Type 0
 Blocks p n slot holder = BlocksBy (row p).waits n slot holder
 
 -- who is in the way of the next step of an operation
-abbrev pub IsInTheWay : ArenaView → Phase → Walk → SplitsView → ℕ → Type 0
-IsInTheWay v phase w s holder = (k : ℕ) × (needed_node phase v w s ≡ Some k) × (k < length v.nodes) × Blocks phase (at v k) w.slot holder
+abbrev pub IsInTheWay : ArenaView → Phase → Walk → SplitsView → Removal → ℕ → Type 0
+IsInTheWay v phase w s r holder = (k : ℕ) × (needed_node phase v w s r ≡ Some k) × (k < length v.nodes) × Blocks phase (at v k) w.slot holder
 
 -- another operation, which has a step left, is in the way
 pub record IsHeldByOther (v : StateView) (o holder : ℕ) : Type 0 where
@@ -131,7 +149,7 @@ pub record IsHeldByOther (v : StateView) (o holder : ℕ) : Type 0 where
   pub unfinished : HasStep v holder
   pub op : OperationView
   pub there : op_at v.table o ≡ Some op
-  pub holds : IsInTheWay v.arena op.phase op.walk op.splits holder
+  pub holds : IsInTheWay v.arena op.phase op.walk op.splits op.removal holder
 
 -- the operation has been placed, or has found its quota full, and is to make a node
 pub record IsPlacedToGrow (v : StateView) (o : ℕ) : Type 0 where

@@ -10,6 +10,7 @@ use Rattle.mt_operation.specs.declared.operation.Operation.{Operation}
 use Rattle.mt_operation.specs.declared.splits.Splits.{Splits}
 use Rattle.mt_operation.specs.Operations.{moved}
 use Rattle.mt_state.specs.Views.{Core}
+use Rattle.mt_operation.specs.declared.removal.Removal.{Removal}
 
 -- a state in which operation o has walked on by one more step, with this outcome and what it has made ready, and with another arena, tape and accounts
 abbrev pub wrote : Core → ArenaView → Kept → Accounts → ℕ → Operation → Walk → Option Outcome → Option Prepared → Core
@@ -29,4 +30,14 @@ splitting c arena tape accounts o op w told prepared splits = record c {
   arena = arena;
   tape = tape;
   table = slice_set c.table o (Some (record (moved op (c.steps + 1) w) { outcome = told; prepared = prepared; splits = splits }));
+}
+
+-- a state in which operation o has walked on by one more step with this of its removal, and with another outcome, arena, tape and accounts
+abbrev pub removing : Core → ArenaView → Kept → Accounts → ℕ → Operation → Walk → Option Outcome → Option Prepared → Removal → Core
+removing c arena tape accounts o op w told prepared removal = record c {
+  steps = c.steps + 1;
+  accounts = accounts;
+  arena = arena;
+  tape = tape;
+  table = slice_set c.table o (Some (record (moved op (c.steps + 1) w) { outcome = told; prepared = prepared; removal = removal }));
 }

@@ -23,7 +23,7 @@ ghost use Rattle.mt_insert.specs.Unlock.{IsUnlock};
 /// by a link that it found under its lock, or in the layer that it has made.
 pub fn a_layer_is_a_step()
     ensures meets { (c : Core) (o : ℕ) (op : Operation) (arena : ArenaView) (w : Walk) → StateInvariant c → c.steps < 2 ^ 59 → operation_at c.table o ≡ Some op →
-        op.walk.phase ≡ Judge → MeetsOther o op.task.key c.arena arena op.walk w →
+        op.walk.phase ≡ Judge → op.outcome ≡ None → MeetsOther o op.task.key c.arena arena op.walk w →
         IsLawful c (wrote c arena c.tape c.accounts o op w op.outcome op.prepared) o false }
     ensures builds { (c : Core) (o : ℕ) (op : Operation) (arena : ArenaView) (w : Walk) → StateInvariant c → IsArena c.arena.nodes c.arena.trees → c.steps < 2 ^ 59 →
         operation_at c.table o ≡ Some op → IsLayerPhase op.walk.phase → IsLayerFrom op.walk.phase o op.task.key c.arena arena op.walk w →

@@ -10,6 +10,7 @@ pub mod histories;
 pub mod laws;
 pub mod layers;
 pub mod moves;
+pub mod removals;
 pub mod splits;
 pub mod tenants;
 pub mod writes;

@@ -21,6 +21,8 @@ ghost use Rattle.mt_insert.specs.Store.{IsStore};
 ghost use Rattle.mt_insert.specs.Judge.{IsMadeReady};
 ghost use Rattle.mt_descent.specs.WalkMoves.{IsLock};
 ghost use Rattle.mt_insert.specs.Unlock.{IsUnlock};
+ghost use Rattle.mt_remove.specs.Writes.{is_remove};
+ghost use Rattle.mt_operation.specs.Tasks.{ask};
 
 /// Each phase of a put makes a lawful step, by what its call ensures, and the invariant stays: where it
 /// takes the lock of its border node, or goes on its way; where it makes all ready, or has no memory
@@ -31,10 +33,10 @@ pub fn a_write_is_a_step()
         op.walk.phase ≡ Lock → IsLock o op.task.key c.arena arena op.walk w →
         IsLawful c (wrote c arena c.tape c.accounts o op w op.outcome op.prepared) o false }
     ensures readies { (c : Core) (o : ℕ) (op : Operation) (arena : ArenaView) (tape : Kept) (w : Walk) (prepared : Prepared) → StateInvariant c → c.steps < 2 ^ 59 → operation_at c.table o ≡ Some op →
-        op.walk.phase ≡ Judge → IsMadeReady o op.task c.arena arena c.tape tape op.walk w prepared →
+        op.walk.phase ≡ Judge → op.outcome ≡ None → IsPut op.task → IsMadeReady o op.task c.arena arena c.tape tape op.walk w prepared →
         IsLawful c (wrote c arena tape c.accounts o op w op.outcome (Some prepared)) o false }
     ensures stops { (c : Core) (o : ℕ) (op : Operation) (arena : ArenaView) (w : Walk) → StateInvariant c → c.steps < 2 ^ 59 → operation_at c.table o ≡ Some op →
-        op.walk.phase ≡ Judge → IsUnlock o c.arena arena op.walk w →
+        op.walk.phase ≡ Judge → op.outcome ≡ None → IsUnlock o c.arena arena op.walk w →
         IsLawful c (wrote c arena c.tape c.accounts o op w (Some (record { reply = NoMemory; at = c.steps + 1 })) op.prepared) o true }
     ensures stores { (c : Core) (o : ℕ) (op : Operation) (arena : ArenaView) (tape : Kept) (w : Walk) (row before : Columns) → StateInvariant c → IsArena c.arena.nodes c.arena.trees →
         c.steps < 2 ^ 59 → operation_at c.table o ≡ Some op → IsPut op.task → op.walk.phase ≡ Store →
@@ -49,6 +51,6 @@ pub fn a_write_is_a_step()
         IsPublishFull o op.task c.arena arena c.tape tape c.accounts accounts op.walk w →
         IsLawful c (wrote c arena tape accounts o op w (Some (record { reply = Full; at = c.steps + 1 })) None) o false }
     ensures unlocks { (c : Core) (o : ℕ) (op : Operation) (arena : ArenaView) (w : Walk) → StateInvariant c → c.steps < 2 ^ 59 → operation_at c.table o ≡ Some op →
-        op.walk.phase ≡ Unlock → op.outcome ≢ None → op.splits.halves.items ≡ [] → IsUnlock o c.arena arena op.walk w →
+        op.walk.phase ≡ Unlock → is_remove (ask op.task) ≡ false → op.outcome ≢ None → op.splits.halves.items ≡ [] → IsUnlock o c.arena arena op.walk w →
         IsLawful c (wrote c arena c.tape c.accounts o op w op.outcome op.prepared) o true }
 {}

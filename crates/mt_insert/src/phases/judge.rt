@@ -91,8 +91,8 @@ fn make_ready(
     }
 }
 
-// The tree to which a slot leads, which is a link.
-fn tree_at(border: &Border, slot: usize) -> usize
+/// The tree to which a slot leads, which is a link.
+pub fn tree_at(border: &Border, slot: usize) -> usize
     requires live { IsLive border.now slot }
     requires link { (tree : ℕ) × ((entry_at border.now slot).held ≡ Held.Link tree) }
     ensures { (entry_at border.now slot).held ≡ Held.Link result }

@@ -42,8 +42,8 @@ pub fn store(
     before
 }
 
-// Puts a write that the step of this number placed on the tape.
-pub(crate) fn push_write(tape: &mut Tape, mut write: mt_tape::Entry, step: u64)
+/// Puts a write that the step of this number placed on the tape.
+pub fn push_write(tape: &mut Tape, mut write: mt_tape::Entry, step: u64)
     requires reserved { 0 < tape.old.reserved }
     requires later { last_write tape.old < step }
     ensures { tape.new ≡ pushed tape.old (record write { step = step }) }

@@ -11,14 +11,14 @@ returns-in-Enter-clause-goes c = enter_goes c.enter.result c.args.arena.now _ _ 
 
 pub returns-in-Enter-clause-nears : goal.returns-in-Enter-clause-nears
 returns-in-Enter-clause-nears c =
-    enter_nears c.args.arena.now c.facts.ensures.arena c.requires.unremoved c.args.key.now c.requires.kept.0 _ _ c.requires.kept.1 c.enter.result (sym c.requires.phase ∙ c.in-Enter.is) c.enter.ensures.is
+    enter_nears c.args.arena.now c.facts.ensures.arena c.args.key.now c.requires.kept.0 _ _ c.requires.kept.1 c.enter.result (sym c.requires.phase ∙ c.in-Enter.is) c.enter.ensures.is
 
 pub returns-in-Verify-clause-goes : goal.returns-in-Verify-clause-goes
 returns-in-Verify-clause-goes c = verify_goes c.verify.result _ _ _ (sym c.requires.phase ∙ c.in-Verify.is) c.verify.ensures.is c.verify.ensures.same
 
 pub returns-in-Verify-clause-nears : goal.returns-in-Verify-clause-nears
 returns-in-Verify-clause-nears c =
-    verify_nears c.args.arena.now c.facts.ensures.arena c.requires.unremoved c.args.key.now c.requires.kept.0 _ _ c.requires.kept.1 c.verify.result (sym c.requires.phase ∙ c.in-Verify.is) c.verify.ensures.is
+    verify_nears c.args.arena.now c.facts.ensures.arena c.args.key.now c.requires.kept.0 _ _ c.requires.kept.1 c.verify.result (sym c.requires.phase ∙ c.in-Verify.is) c.verify.ensures.is
 
 pub returns-in-Forward-clause-goes : goal.returns-in-Forward-clause-goes
 returns-in-Forward-clause-goes c =
@@ -44,20 +44,20 @@ returns-in-Forward-clause-leads c =
     forward_leads c.forward.result c.args.arena.now c.args.key.now _ _ (sym c.requires.phase ∙ c.in-Forward.is) c.forward.ensures.again c.forward.ensures.last c.forward.ensures.is
 
 pub returns-in-Enter-clause-again : goal.returns-in-Enter-clause-again
-returns-in-Enter-clause-again c s =
-    enter_way c.args.arena.now c.facts.ensures.arena c.requires.kept.0 c.args.key.now _ _ c.requires.kept.1 s c.enter.result (sym c.requires.phase ∙ c.in-Enter.is) c.enter.ensures.again
+returns-in-Enter-clause-again c s rem =
+    enter_way c.args.arena.now c.facts.ensures.arena c.requires.kept.0 c.args.key.now _ _ c.requires.kept.1 s rem c.enter.result (sym c.requires.phase ∙ c.in-Enter.is) c.enter.ensures.again
 
 pub returns-in-Child-clause-again : goal.returns-in-Child-clause-again
-returns-in-Child-clause-again c s =
-    child_way c.args.arena.now c.facts.ensures.arena c.requires.kept.0 c.args.key.now _ _ c.requires.kept.1 s c.child.result (sym c.requires.phase ∙ c.in-Child.is) c.child.ensures.again
+returns-in-Child-clause-again c s rem =
+    child_way c.args.arena.now c.facts.ensures.arena c.requires.kept.0 c.args.key.now _ _ c.requires.kept.1 s rem c.child.result (sym c.requires.phase ∙ c.in-Child.is) c.child.ensures.again
 
 pub returns-in-Verify-clause-again : goal.returns-in-Verify-clause-again
-returns-in-Verify-clause-again c s =
-    verify_way c.args.arena.now c.facts.ensures.arena c.requires.kept.0 c.args.key.now _ _ c.requires.kept.1 s c.verify.result (sym c.requires.phase ∙ c.in-Verify.is) c.verify.ensures.again
+returns-in-Verify-clause-again c s rem =
+    verify_way c.args.arena.now c.facts.ensures.arena c.requires.kept.0 c.args.key.now _ _ c.requires.kept.1 s rem c.verify.result (sym c.requires.phase ∙ c.in-Verify.is) c.verify.ensures.again
 
 pub returns-in-Forward-clause-again : goal.returns-in-Forward-clause-again
-returns-in-Forward-clause-again c s =
-    forward_way c.args.arena.now c.facts.ensures.arena c.requires.kept.0 c.args.key.now _ _ c.requires.kept.1 s c.forward.result (sym c.requires.phase ∙ c.in-Forward.is) c.forward.ensures.again c.forward.ensures.last
+returns-in-Forward-clause-again c s rem =
+    forward_way c.args.arena.now c.facts.ensures.arena c.requires.kept.0 c.args.key.now _ _ c.requires.kept.1 s rem c.forward.result (sym c.requires.phase ∙ c.in-Forward.is) c.forward.ensures.again c.forward.ensures.last
 
 pub returns-in-Pick-clause-nears : goal.returns-in-Pick-clause-nears
 returns-in-Pick-clause-nears c = pick_nears c.args.arena.now _ _ _ (sym c.requires.phase ∙ c.in-Pick.is) c.pick.ensures.is
@@ -67,4 +67,4 @@ returns-in-Child-clause-nears c = child_nears c.args.arena.now _ _ c.child.resul
 
 pub returns-in-Forward-clause-nears : goal.returns-in-Forward-clause-nears
 returns-in-Forward-clause-nears c =
-    forward_nears c.args.arena.now c.facts.ensures.arena c.requires.unremoved c.args.key.now c.requires.kept.0 _ _ c.requires.kept.1 c.forward.result (slice_in c.args.key.now c.args.walk.now) (sym c.requires.phase ∙ c.in-Forward.is) c.forward.ensures.last c.forward.ensures.is
+    forward_nears c.args.arena.now c.facts.ensures.arena c.args.key.now c.requires.kept.0 _ _ c.requires.kept.1 c.forward.result (slice_in c.args.key.now c.args.walk.now) (sym c.requires.phase ∙ c.in-Forward.is) c.forward.ensures.last c.forward.ensures.is

@@ -10,11 +10,11 @@ returns-clause-locks c =
 
 pub returns-clause-readies : goal.returns-clause-readies
 returns-clause-readies c =
-    λ core o op arena tape w prepared h few there at_judge t. let g = judge_ready core (shown core) o refl h few op there at_judge arena tape w prepared t in record { invariant = g.0; step = g.1 }
+    λ core o op arena tape w prepared h few there at_judge untold put t. let g = judge_ready core (shown core) o refl h few op there at_judge untold put.put_is arena tape w prepared t in record { invariant = g.0; step = g.1 }
 
 pub returns-clause-stops : goal.returns-clause-stops
 returns-clause-stops c =
-    λ core o op arena w h few there at_judge t. let g = judge_refused core (shown core) o refl h few op there at_judge arena core.tape w refl t in record { invariant = g.0; step = g.1 }
+    λ core o op arena w h few there at_judge untold t. let g = judge_refused core (shown core) o refl h few op there at_judge untold arena core.tape w refl t in record { invariant = g.0; step = g.1 }
 
 pub returns-clause-stores : goal.returns-clause-stores
 returns-clause-stores c =
@@ -30,4 +30,4 @@ returns-clause-fills c =
 
 pub returns-clause-unlocks : goal.returns-clause-unlocks
 returns-clause-unlocks c =
-    λ core o op arena w h few there at_unlock told none t. let g = unlock_done core (shown core) o refl h few op there at_unlock told none arena w t in record { invariant = g.0; step = g.1 }
+    λ core o op arena w h few there at_unlock puts told none t. let g = unlock_done core (shown core) o refl h few op there at_unlock puts told none arena w t in record { invariant = g.0; step = g.1 }

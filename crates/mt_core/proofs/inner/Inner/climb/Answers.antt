@@ -22,7 +22,7 @@ go_on-requires c =
 pub invariant_of-self : goal.invariant_of-self
 invariant_of-self c =
     (climb_gives (core_of c.self.inside) _ c.args.id c.self.view_is c.self.invariant c.requires.next _ _ _ c.swap_splits.ensures.gives c.swap_splits.ensures.takes _ c.open.ensures
-    _ _ _ _ c.swap_splits-2.ensures.takes c.requires.few c.facts.ensures.arena c.in-On.ensures _ c.go_on.ensures.moves).0
+    _ _ _ _ c.swap_splits-2.ensures.takes c.requires.few c.facts.ensures.arena c.in-On.ensures _ c.go_on.ensures.moves).0 c.facts-2.ensures.arena
 
 pub returns-in-On : goal.returns-in-On
 returns-in-On c =

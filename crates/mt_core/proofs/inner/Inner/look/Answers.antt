@@ -37,7 +37,7 @@ step_by-stepped-requires-clause-leaves c =
 pub invariant_of-self : goal.invariant_of-self
 invariant_of-self c =
     (look_comes (core_of c.self.inside) _ c.args.id c.self.view_is c.self.invariant c.requires.few c.in-To.ensures.op c.in-To.ensures.there c.facts.ensures.arena c.in-To.ensures.op.walk.phase refl c.in-To.ensures.after
-    (subst (λ (x : Operation). LooksAt x.walk.phase (core_of c.self.inside).arena (c.self.inside.steps + 1) x (Step) c.in-To.ensures.after) c.in-To.ensures.makes.shows (subst (λ (y : Operation). LooksAt c.in-To.ensures.makes.shown.now.walk.phase (core_of c.self.inside).arena (c.self.inside.steps + 1) c.in-To.ensures.makes.shown.now (Step) y) c.in-To.ensures.makes.leaves c.in-To.ensures.makes.met)) c.step_by-stepped.new.self c.in-To.ensures.table c.ending.result (c.ending.ensures ∙ ap ending c.in-To.ensures.phase_is)).0
+    (subst (λ (x : Operation). LooksAt x.walk.phase (core_of c.self.inside).arena (c.self.inside.steps + 1) x (Step) c.in-To.ensures.after) c.in-To.ensures.makes.shows (subst (λ (y : Operation). LooksAt c.in-To.ensures.makes.shown.now.walk.phase (core_of c.self.inside).arena (c.self.inside.steps + 1) c.in-To.ensures.makes.shown.now (Step) y) c.in-To.ensures.makes.leaves c.in-To.ensures.makes.met)) c.step_by-stepped.new.self c.in-To.ensures.table c.ending.result (c.ending.ensures ∙ ap ending c.in-To.ensures.phase_is)).0 c.facts.ensures.arena
 
 pub returns-in-To-clause-looks : goal.returns-in-To-clause-looks
 returns-in-To-clause-looks c =

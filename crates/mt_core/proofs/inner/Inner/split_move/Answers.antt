@@ -1,8 +1,7 @@
-use Rattle.mt_state.specs.Invariant.{StateInvariant}
 use Rattle.mt_state.specs.declared.moves.Move.TheVariants.{Moved}
 use Rattle.mt_core.specs.States.{core_of}
 use Rattle.mt_core.specs.Points.{StepsOn}
-use Rattle.mt_core.proofs.Following.{made, outcome_is}
+use Rattle.mt_core.proofs.Following.{IsSound, made, outcome_is}
 use Rattle.mt_core.proofs.SplitSteps.{move_has, move_reserved, move_open, may_part, move_is_put, move_asks, move_with, move_without}
 use Rattle.mt_core.proofs.inner.Inner.split_move.Goals.{then-is_new, else-is_new}
 use Rattle.mt_core.proofs.inner.Inner.split_move.Goals as goal
@@ -30,7 +29,7 @@ go_on_with-requires c =
     may_part (core_of c.self.inside) _ c.args.id c.self.view_is c.self.invariant c.requires.few c.requires.next _ _ c.taken_out-prepared.ensures
 
 steps_on : (c : goal.After-go_on_with)
-    → StateInvariant (made (core_of c.self.inside) c.split_move-is_new.new.arena c.split_move-is_new.new.tape c.split_move-is_new.new.tenants c.go_on_with.new.self)
+    → IsSound (made (core_of c.self.inside) c.split_move-is_new.new.arena c.split_move-is_new.new.tape c.split_move-is_new.new.tenants c.go_on_with.new.self)
     × StepsOn c.args.self.now (made (core_of c.self.inside) c.split_move-is_new.new.arena c.split_move-is_new.new.tape c.split_move-is_new.new.tenants c.go_on_with.new.self) c.args.id Moved
 steps_on c =
     let e = c.split_move-is_new.ensures in
@@ -42,7 +41,7 @@ steps_on c =
     ]
 
 pub invariant_of-self : goal.invariant_of-self
-invariant_of-self c = (steps_on c).0
+invariant_of-self c = (steps_on c).0 c.facts-2.ensures.arena
 
 pub returns : goal.returns
 returns c = (steps_on c).1

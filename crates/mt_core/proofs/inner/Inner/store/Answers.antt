@@ -2,10 +2,9 @@ use Rattle.std.proofs.Common.{refl}
 use Rattle.mt_operation.specs.declared.phase.Phase.TheVariants.{Store}
 use Rattle.mt_state.specs.declared.moves.Move.TheVariants.{Moved}
 use Rattle.mt_state.specs.Views.{Core}
-use Rattle.mt_state.specs.Invariant.{StateInvariant}
 use Rattle.mt_core.specs.States.{core_of}
 use Rattle.mt_core.specs.Points.{StepsOn}
-use Rattle.mt_core.proofs.Following.{made}
+use Rattle.mt_core.proofs.Following.{IsSound, made}
 use Rattle.mt_core.proofs.PutSteps.{store_has, open_after, may_go_on, put_is, room_is, store_at, store_made}
 use Rattle.mt_core.proofs.inner.Inner.store.Goals as goal
 
@@ -34,12 +33,12 @@ go_on_with-requires c =
 abbrev after : goal.After-go_on_with → Core
 after c = made (core_of c.self.inside) c.store.new.arena c.store.new.tape c.self.inside.tenants c.go_on_with.new.self
 
-gives : (c : goal.After-go_on_with) → StateInvariant (after c) × StepsOn c.args.self.now (after c) c.args.id Moved
+gives : (c : goal.After-go_on_with) → IsSound (after c) × StepsOn c.args.self.now (after c) c.args.id Moved
 gives c =
     store_made (core_of c.self.inside) _ c.args.id c.self.view_is c.self.invariant c.requires.next _ _ c.taken_out-prepared.ensures _ c.open-operation.ensures c.requires.few _ _ _ _ _ _ c.facts.ensures.arena c.store.ensures c.placed-told.ensures c.go_on_with.ensures.moves
 
 pub invariant_of-self : goal.invariant_of-self
-invariant_of-self c = (gives c).0
+invariant_of-self c = (gives c).0 c.facts-2.ensures.arena
 
 pub returns : goal.returns
 returns c = (gives c).1

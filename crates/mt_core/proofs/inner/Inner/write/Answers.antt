@@ -1,7 +1,7 @@
 -- That each phase may make its step, for `Inner::write`.
-use Rattle.mt_operation.specs.Phases.{IsClimb, IsLayerPhase}
-use Rattle.mt_operation.specs.declared.phase.Phase.TheVariants.{Lock, Judge, Store, Publish, SplitStart, SplitMove, Unlock}
-use Rattle.mt_core.proofs.NextSteps.{next_at, next_is, climbs, layers}
+use Rattle.mt_operation.specs.Phases.{IsClimb, IsLayerPhase, IsRemovalPhase}
+use Rattle.mt_operation.specs.declared.phase.Phase.TheVariants.{Lock, Judge, Store, Publish, SplitStart, SplitMove, DropKey, Unlock}
+use Rattle.mt_core.proofs.NextSteps.{next_at, next_is, climbs, layers, removals}
 use Rattle.mt_core.proofs.inner.Inner.write.Goals as goal
 
 pub lock-requires-clause-next : goal.lock-requires-clause-next
@@ -30,3 +30,9 @@ build-requires-clause-next c = next_at c.args.self.now c.args.id c.args.phase c.
 
 pub unlock-requires-clause-next : goal.unlock-requires-clause-next
 unlock-requires-clause-next c = next_is c.args.self.now c.args.id c.args.phase c.requires.next Unlock c.in-Unlock.is
+
+pub drop_key-requires-clause-next : goal.drop_key-requires-clause-next
+drop_key-requires-clause-next c = next_is c.args.self.now c.args.id c.args.phase c.requires.next DropKey c.in-DropKey.is
+
+pub take_out-requires-clause-next : goal.take_out-requires-clause-next
+take_out-requires-clause-next c = next_at c.args.self.now c.args.id c.args.phase c.requires.next IsRemovalPhase (removals c.args.phase c.in-LockPrev.is)

@@ -1,0 +1,328 @@
+-- The steps of a removal by the ensures of the calls that they make: for `Inner::judge_removal`, `drop_key`, `take_out`, `unlock_removal`, `lock_back` and `judge_back`.
+use Rattle.std.proofs.Common.{IsSome, List, None, Option, Some, [], ap, arith, false, inl, inr, is_some, length, refl, set, subst, suc, sym, true, zero, ℕ, ◌+◌, ◌<◌, ◌∙◌, ◌∷◌, ◌≡◌, ◌≢◌}
+use Rattle.std.specs.Prelude.{IfSome, ◌^◌}
+use Rattle.std.specs.Option.{option_map}
+use Rattle.std.proofs.lemmas.Bool.{both_ways}
+use Rattle.std.proofs.lemmas.Option.{same_Some}
+use Rattle.mt_version.specs.Changes.{CanUnlock}
+use Rattle.mt_rows.specs.declared.reply.Reply.TheVariants.{Absent, Removed}
+use Rattle.mt_rows.specs.Accounts.{Accounts, HasPairs, account_of}
+use Rattle.mt_tape.specs.Tapes.{Kept}
+use Rattle.mt_arena.specs.NodeView.{NodeView, node_at}
+use Rattle.mt_arena.specs.Arena.{ArenaView, IsArena}
+use Rattle.mt_arena.specs.Accesses.{at}
+use Rattle.mt_operation.specs.declared.phase.Phase.{Phase}
+use Rattle.mt_operation.specs.declared.phase.Phase.TheVariants.{CleanLayer, Done, DropKey, Judge, Lock, Unlock}
+use Rattle.mt_operation.specs.declared.walk.Walk.{Walk}
+use Rattle.mt_operation.specs.declared.splits.Halves.{Halves}
+use Rattle.mt_operation.specs.declared.removal.Removal.{Removal}
+use Rattle.mt_operation.specs.declared.outcome.Outcome.{Outcome}
+use Rattle.mt_operation.specs.declared.prepared.Prepared.{Prepared}
+use Rattle.mt_operation.specs.declared.operation.Operation.{Operation}
+use Rattle.mt_operation.specs.Operations.{SplitsView, made_ready, moved, noted, splits_of, view_of, with_nothing_ready, with_removal}
+use Rattle.mt_operation.specs.Phases.{IsRemovalPhase, is_done}
+use Rattle.mt_operation.specs.Tables.{MayMove, Table, op_at as operation_at}
+use Rattle.mt_operation.specs.Tasks.{ask}
+use Rattle.mt_remove.specs.DropKey.{IsDropKey}
+use Rattle.mt_remove.specs.Judge.{FindsAbsent, IsMadeReady}
+use Rattle.mt_remove.specs.KeptRemovals.{HoldsRemoval, IsAmong, IsAtDropKey, IsAtUnlockRemoval, IsUnburdened, KeptRemoval}
+use Rattle.mt_remove.specs.RemovalEdits.{root_of}
+use Rattle.mt_remove.specs.Steps.{IsRemovalFrom}
+use Rattle.mt_remove.specs.Unlock.{IsUnlockRemoval}
+use Rattle.mt_remove.specs.Ways.{Follows, IsLockWay}
+use Rattle.mt_remove.specs.Writes.{IsRemoval, is_remove}
+use Rattle.mt_state.specs.declared.moves.Move.{Move}
+use Rattle.mt_state.specs.declared.moves.Move.TheVariants.{Again, Done as DoneMove, Moved}
+use Rattle.mt_state.specs.Views.{Core, StateView, shown}
+use Rattle.mt_state.specs.Promises.{IsHeldByOther, IsInTheWay, IsStep, Tells}
+use Rattle.mt_state.specs.Phases.{GoesFromUnlock, JudgesBy, Leads, LeadsOn, LocksBy, ReturnsBy}
+use Rattle.mt_state.specs.KeptOperations.{IsKeptAt, IsOnItsWay}
+use Rattle.mt_state.specs.Invariant.{StateInvariant}
+use Rattle.mt_state.proofs.Shown.{shown_there}
+use Rattle.mt_state.proofs.Telling.{Gives}
+use Rattle.mt_state.proofs.Needs.{drop_counted, drop_kept, drop_light, drop_removes, holder_left, removal_held_at, removal_kept_at, removal_of, removal_unlock_kept, removal_unlock_room}
+use Rattle.mt_state.proofs.RemovalBy.{removal_leads}
+use Rattle.mt_state.proofs.RemovalDrop.{drop_done}
+use Rattle.mt_state.proofs.RemovalLooks.{back_ended, drop_missing, drop_ready, going_back, lock_back, removal_returned}
+use Rattle.mt_state.proofs.RemovalSteps.{removed_done, takes_removal, removal_open, unlinking_of}
+use Rattle.mt_core.specs.Nexts.{IsNext, ending}
+use Rattle.mt_core.specs.Points.{Nears, StepsOn}
+use Rattle.mt_core.proofs.Following.{IsOver, IsSound, Writes, in_the_way, made, may_move, may_over, opened, over_first, over_next, phase_is}
+use Rattle.mt_core.proofs.Leading.{leads_over}
+use Rattle.mt_core.proofs.PutSteps.{judges_none, link_made}
+
+-- what a step that leads to this phase tells
+tells_ending : (p : Phase) (old new : StateView) (o : ℕ) → IsStep old new o (is_done p) → Tells old new o (ending p)
+tells_ending Done old new o s = s
+tells_ending _ old new o s = s
+
+leads_ending : (p : Phase) (old new : StateView) (o : ℕ) → Leads old new o → LeadsOn old new o (ending p)
+leads_ending Done old new o leads = leads
+leads_ending _ old new o leads = leads
+
+nears_ending : (p : Phase) (old new : Core) (o : ℕ) → Nears old new o Moved → Nears old new o (ending p)
+nears_ending Done old new o nears = tt
+nears_ending _ old new o nears = nears
+
+-- a node that is held is there
+held_there : (nodes : List NodeView) (k o : ℕ) → (node_at nodes k).holder ≡ Some o → k < length nodes
+held_there [] k o held = absurd (cc)
+held_there (n ∷ nodes) zero o held = omega arith
+held_there (n ∷ nodes) (suc k) o held = omega (arith, held_there nodes k o held)
+
+-- who holds the root of the layer below is in the way of its removal
+pub cleaning_waits : (v : ArenaView) (w : Walk) (r : Removal) → w.phase ≡ CleanLayer → (result : Option ℕ)
+    → IfSome result (λ holder. (tree : ℕ) × (r.cleans ≡ Some tree) × ((at v (root_of v tree)).holder ≡ Some holder))
+    → IfSome result (λ holder. (s : SplitsView) → IsInTheWay v w.phase w s r holder)
+cleaning_waits v w r at_clean None held = tt
+cleaning_waits v w r at_clean (Some holder) held = λ s. subst (λ (p : Phase). IsInTheWay v p w s r holder) (sym at_clean)
+    (root_of v held.0, ap (option_map (λ tree. root_of v tree)) held.1, held_there v.nodes (root_of v held.0) holder held.2, held.2)
+
+-- what is there is not none
+pub some_ready : (ready : Option Prepared) → IsSome ready → ready ≢ None
+some_ready None some e = absurd (cc)
+some_ready (Some prepared) some e = absurd (cc)
+
+-- where a removal goes from Unlock that has split nothing
+returns_from : (told : Option Outcome) → told ≢ None → (halves : List Halves) → halves ≡ [] → (o : ℕ) (v u : ArenaView) (w x : Walk) (r t : Removal)
+    → IsUnlockRemoval o v u w x r t → (s : SplitsView) → s.halves ≡ halves → GoesFromUnlock told v s r w x
+returns_from None some halves none o v u w x r t is s same = absurd (some refl)
+returns_from (Some told) some halves none o v u w x r t is s same =
+    subst (λ (hs : List Halves). ReturnsBy hs v r w x) (sym (same ∙ none)) (record { cleans = λ e. (is.cleans e).0; ends = λ e. (is.ends e).0 })
+
+-- one that was told something goes back as it locks, so it removes
+lock_removes : (c : Core) (o : ℕ) → StateInvariant c → (x : Operation) → operation_at c.table o ≡ Some x → x.walk.phase ≡ Lock → x.outcome ≢ None
+    → is_remove (ask x.task) ≡ true
+lock_removes c o h x there at_lock told =
+    let way : IsOnItsWay c x = subst (λ (p : Phase). IsKeptAt p c o x) at_lock (h.ops o x there).kept in (going_back x.outcome told c x way.bound).removes
+
+-- and so does one that takes a node or a layer out
+take_removes : (c : Core) (o : ℕ) → StateInvariant c → (x : Operation) → operation_at c.table o ≡ Some x → IsRemovalPhase x.walk.phase
+    → is_remove (ask x.task) ≡ true
+take_removes c o h x there takes = (unlinking_of x.walk.phase takes c o x (h.ops o x there).kept).removes
+
+module _ (c now : Core) (o : ℕ) (is : c ≡ now) (h : StateInvariant c) (few : now.steps < 2 ^ 59) (x : Operation) (there : operation_at c.table o ≡ Some x) where
+  few_here : c.steps < 2 ^ 59
+  few_here = subst (λ (v : Core). v.steps < 2 ^ 59) (sym is) few
+
+  -- no count speaks of a removal
+  nears_none : is_remove (ask x.task) ≡ true → (new : Core) → Nears now new o Moved
+  nears_none removes new = subst (λ (v : Core). Nears v new o Moved) is none
+    where
+      none : Nears c new o Moved
+      none height count u =
+          absurd (both_ways _ (subst (λ (y : Operation). is_remove (ask y.task) ≡ false) (same_Some u.op x (sym u.there ∙ there)) u.stays) removes)
+
+  -- what is told of a step that leads to this phase
+  steps_on : (p : Phase) (new : Core) → is_remove (ask x.task) ≡ true → Gives (shown c) new o (is_done p) → Leads (shown now) (shown new) o
+      → IsSound new × StepsOn now new o (ending p)
+  steps_on p new removes g leads = (
+    g.0,
+    record {
+      tells = tells_ending p (shown now) (shown new) o (subst (λ (v : StateView). IsStep v (shown new) o (is_done p)) (ap shown is) g.1);
+      nears = nears_ending p now new o (nears_none removes new);
+      leads = leads_ending p (shown now) (shown new) o leads;
+    },
+  )
+
+  -- of one that moves, and of one that ends
+  moves_on : (new : Core) → is_remove (ask x.task) ≡ true → Gives (shown c) new o false → Leads (shown now) (shown new) o → IsSound new × StepsOn now new o Moved
+  moves_on new removes g leads =
+      (g.0, record { tells = subst (λ (v : StateView). IsStep v (shown new) o false) (ap shown is) g.1; nears = nears_none removes new; leads = leads })
+
+  ends_it : (new : Core) → Gives (shown c) new o true → Leads (shown now) (shown new) o → IsSound new × StepsOn now new o DoneMove
+  ends_it new g leads = (g.0, record { tells = subst (λ (v : StateView). IsStep v (shown new) o true) (ap shown is) g.1; nears = tt; leads = leads })
+
+  -- Judge: all that was made ready, or no key
+  module _ (next : IsNext now o (λ q. q ≡ Judge)) (untold : x.outcome ≡ None) (removes : is_remove (ask x.task) ≡ true) where
+    at_judge : x.walk.phase ≡ Judge
+    at_judge = phase_is c now o (λ q. q ≡ Judge) is x there next
+
+    pub removal_ready : (arena : ArenaView) (tape : Kept) (w : Walk) (prepared : Prepared) (mid table : Table)
+        → IsMadeReady o x.task c.arena arena c.tape tape x.walk w prepared
+        → Writes c.table mid o (λ y. moved y (c.steps + 1) w) → Writes mid table o (λ y. made_ready y prepared)
+        → IsSound (made c arena tape c.accounts table) × StepsOn now (made c arena tape c.accounts table) o Moved
+    removal_ready arena tape w prepared mid table t moves readies =
+        let over = over_next c.table mid table o (λ y. made_ready y prepared) (moved x (c.steps + 1) w) (over_first c.table mid o (λ y. moved y (c.steps + 1) w) x there moves) readies in
+        moves_on (made c arena tape c.accounts table) removes
+        (subst (λ (all : Table). Gives (shown c) (made c arena tape c.accounts all) o false) (sym over.is)
+        (drop_ready c o h few_here x there at_judge untold (removal_of c o h x there removes) removes arena tape w prepared t))
+        (leads_over c o h x there Judge at_judge now is arena tape c.accounts table _ over w
+        (judges_none untold (inr (inr (inr (inl (record { slot = t.slot; stands = t.in_slot; goes = t.walk })))))) refl)
+
+    pub removal_missing : (arena : ArenaView) (tape : Kept) (w : Walk) (told : Outcome) (table : Table) → tape ≡ c.tape
+        → FindsAbsent o x.task c.arena arena x.walk w
+        → told ≡ record { reply = Absent; at = c.steps + 1 } → Writes c.table table o (λ y. noted (moved y (c.steps + 1) w) (Some told))
+        → IsSound (made c arena tape c.accounts table) × StepsOn now (made c arena tape c.accounts table) o DoneMove
+    removal_missing arena tape w told table keeps t says writes =
+        ends_it (made c arena tape c.accounts table)
+        (subst (λ (all : Table). Gives (shown c) (made c arena tape c.accounts all) o true) (sym (writes x there))
+        (subst (λ (k : Kept). Gives (shown c) (made c arena k c.accounts (set c.table o (Some (noted (moved x (c.steps + 1) w) (Some told))))) o true) (sym keeps)
+        (subst (λ (r : Outcome). Gives (shown c) (made c arena c.tape c.accounts (set c.table o (Some (noted (moved x (c.steps + 1) w) (Some r))))) o true) (sym says)
+        (drop_missing c o h few_here x there at_judge untold (removal_of c o h x there removes) removes arena w t))))
+        (leads_over c o h x there Judge at_judge now is arena tape c.accounts table _ (over_first c.table table o (λ y. noted (moved y (c.steps + 1) w) (Some told)) x there writes) w
+        (judges_none untold (inr (inr (inr (inr t.unlocks.walk))))) refl)
+
+  -- Judge on the way back: a link is followed, or there is none
+  module _ (next : IsNext now o (λ q. q ≡ Judge)) (told : x.outcome ≢ None) where
+    pub follow_made : IsArena c.arena.nodes c.arena.trees → (arena : ArenaView) (w : Walk) (table : Table) → Follows o x.task.key c.arena arena x.walk w
+        → Writes c.table table o (λ y. moved y (c.steps + 1) w)
+        → (answer : Move) → answer ≡ ending w.phase
+        → IsSound (made c arena c.tape c.accounts table) × StepsOn now (made c arena c.tape c.accounts table) o answer
+    follow_made is_arena arena w table (inl t) writes answer says =
+        subst (λ (a : Move). IsSound (made c arena c.tape c.accounts table) × StepsOn now (made c arena c.tape c.accounts table) o a)
+        (sym (says ∙ ap (λ (y : Walk). ending y.phase) t.goes.walk)) (link_made c now o is h few next is_arena x there arena c.tape w table refl t writes)
+    follow_made is_arena arena w table (inr t) writes answer says =
+        let at_judge = phase_is c now o (λ q. q ≡ Judge) is x there next in
+        subst (λ (a : Move). IsSound (made c arena c.tape c.accounts table) × StepsOn now (made c arena c.tape c.accounts table) o a)
+        (sym (says ∙ ap (λ (y : Walk). ending y.phase) t.unlocks.walk)) (ends_it (made c arena c.tape c.accounts table)
+        (subst (λ (all : Table). Gives (shown c) (made c arena c.tape c.accounts all) o true) (sym (writes x there)) (back_ended c o h few_here x there at_judge told arena w t))
+        (leads_over c o h x there Judge at_judge now is arena c.tape c.accounts table _ (over_first c.table table o (λ y. moved y (c.steps + 1) w) x there writes) w
+        (judged_none x.outcome told) refl))
+      where
+        judged_none : (had : Option Outcome) → had ≢ None → JudgesBy had (at c.arena x.walk.place.node) x.task.key x.walk w
+        judged_none None some = absurd (some refl)
+        judged_none (Some had) some = inr (record { none = t.none; goes = t.unlocks.walk })
+
+  -- Lock on the way back
+  module _ (next : IsNext now o (λ q. q ≡ Lock)) (told : x.outcome ≢ None) where
+    pub back_made : (arena : ArenaView) (w : Walk) (table : Table) → IsLockWay o x.task.key c.arena arena x.walk w x.removal
+        → Writes c.table table o (λ y. moved y (c.steps + 1) w)
+        → IsSound (made c arena c.tape c.accounts table) × StepsOn now (made c arena c.tape c.accounts table) o Moved
+    back_made arena w table t writes =
+        let at_lock = phase_is c now o (λ q. q ≡ Lock) is x there next in
+        moves_on (made c arena c.tape c.accounts table) (lock_removes c o h x there at_lock told)
+        (subst (λ (all : Table). Gives (shown c) (made c arena c.tape c.accounts all) o false) (sym (writes x there)) (lock_back c o h few_here x there at_lock told arena w t))
+        (leads_over c o h x there Lock at_lock now is arena c.tape c.accounts table _ (over_first c.table table o (λ y. moved y (c.steps + 1) w) x there writes) w
+        (t.locks.free, locked_back x.outcome told) refl)
+      where
+        locked_back : (had : Option Outcome) → had ≢ None → LocksBy had o c.arena arena x.removal x.walk w
+        locked_back None some = absurd (some refl)
+        locked_back (Some had) some = record {
+          tree = t.tree;
+          cleans_is = t.cleans_is;
+          reached = t.reached;
+          locks = t.locks.locks;
+          cleans = λ both. t.cleans both.0 both.1;
+          goes = λ other. t.goes (λ at_reached below. other (at_reached, below));
+        }
+
+  -- DropKey: what it has ready was taken out
+  module _ (next : IsNext now o (λ q. q ≡ DropKey)) where
+    at_drop : x.walk.phase ≡ DropKey
+    at_drop = phase_is c now o (λ q. q ≡ DropKey) is x there next
+
+    module _ (taken : Table) (prepared : Prepared)
+        (takes : (y : Operation) → operation_at c.table o ≡ Some y → (y.prepared ≡ Some prepared) × (taken ≡ set c.table o (Some (with_nothing_ready y)))) where
+      over_taken : IsOver c.table taken o (with_nothing_ready x)
+      over_taken = over_first c.table taken o with_nothing_ready x there (λ y at_y. (takes y at_y).1)
+
+      pub drop_open : IsSome (operation_at taken o)
+      drop_open = ap is_some over_taken.there
+
+      pub drop_may_go : MayMove taken o (c.steps + 1)
+      drop_may_go = may_over c o h x there (ap is_done at_drop) taken (with_nothing_ready x) over_taken refl
+
+      -- whichever operation is found at the id then
+      module _ (y : Operation) (there_y : operation_at taken o ≡ Some y) where
+        it_is : with_nothing_ready x ≡ y
+        it_is = opened c.table taken o (with_nothing_ready x) y over_taken there_y
+
+        pub drop_is : IsRemoval y.task
+        drop_is = subst (λ (z : Operation). IsRemoval z.task) it_is (drop_removes c o h x there at_drop)
+
+        pub drop_at : IsAtDropKey c.arena o y.task prepared y.walk
+        drop_at = subst (λ (z : Operation). IsAtDropKey c.arena o z.task prepared z.walk) it_is (drop_kept c o h x there at_drop prepared (takes x there).0)
+
+        pub drop_free : IsUnburdened y.removal
+        drop_free = subst (λ (z : Operation). IsUnburdened z.removal) it_is (drop_light c o h x there at_drop)
+
+        pub drop_pairs : IsArena c.arena.nodes c.arena.trees → HasPairs (account_of c.accounts y.task.tenant)
+        drop_pairs is_arena = subst (λ (z : Operation). HasPairs (account_of c.accounts z.task.tenant)) it_is (drop_counted c o h x there is_arena at_drop)
+
+        pub drop_made : IsArena c.arena.nodes c.arena.trees → (arena : ArenaView) → IsArena arena.nodes arena.trees → (tape : Kept) (accounts : Accounts) (w : Walk) (r : Removal)
+            → IsDropKey o (c.steps + 1) y.task c.arena arena c.tape tape c.accounts accounts y.walk w y.removal r
+            → (told : Outcome) → told ≡ record { reply = Removed; at = c.steps + 1 } → (mid last : Table)
+            → Writes taken mid o (λ z. noted (moved z (c.steps + 1) w) (Some told)) → Writes mid last o (λ z. with_removal z r)
+            → IsSound (made c arena tape accounts last) × StepsOn now (made c arena tape accounts last) o Moved
+        drop_made was arena is_now tape accounts w r drops told says mid last moves remembers =
+            let after = noted (moved (with_nothing_ready x) (c.steps + 1) w) (Some told) in
+            let over = over_next c.table mid last o (λ z. with_removal z r) after (over_next c.table taken mid o (λ z. noted (moved z (c.steps + 1) w) (Some told)) (with_nothing_ready x) over_taken moves) remembers in
+            let d = subst (λ (z : Operation). IsDropKey o (c.steps + 1) z.task c.arena arena c.tape tape c.accounts accounts z.walk w z.removal r) (sym it_is) drops in
+            let removes : is_remove (ask x.task) ≡ true = ap is_remove (drop_removes c o h x there at_drop).is in
+            moves_on (made c arena tape accounts last) removes
+            (subst (λ (all : Table). Gives (shown c) (made c arena tape accounts all) o false) (sym over.is)
+            (subst (λ (t : Outcome). Gives (shown c) (made c arena tape accounts (set c.table o (Some (with_removal (noted (moved (with_nothing_ready x) (c.steps + 1) w) (Some t)) r)))) o false) (sym says)
+            (drop_done c o h few_here x there at_drop was arena is_now tape accounts w r d)))
+            (leads_over c o h x there DropKey at_drop now is arena tape accounts last _ over w (record { unlinks = d.goes.unlinks; returns = d.goes.returns }) refl)
+
+  -- behind it, till all is given back
+  module _ (next : IsNext now o IsRemovalPhase) where
+    at_removal : IsRemovalPhase x.walk.phase
+    at_removal = phase_is c now o IsRemovalPhase is x there next
+
+    pub take_kept : KeptRemoval x.walk.phase c.arena o x.task.key x.walk x.removal
+    take_kept = removal_kept_at c o h x there x.walk.phase refl at_removal
+
+    pub take_may_go : MayMove c.table o (c.steps + 1)
+    take_may_go = may_move c o h x there (removal_open x.walk.phase (takes_removal x.walk.phase at_removal))
+
+    pub take_made : IsArena c.arena.nodes c.arena.trees → (arena : ArenaView) (w : Walk) (r : Removal)
+        → IsRemovalFrom x.walk.phase o (c.steps + 1) x.task.key c.arena arena x.walk w x.removal r
+        → (mid last : Table) → Writes c.table mid o (λ y. moved y (c.steps + 1) w) → Writes mid last o (λ z. with_removal z r)
+        → IsSound (made c arena c.tape c.accounts last) × StepsOn now (made c arena c.tape c.accounts last) o Moved
+    take_made is_arena arena w r from mid last moves remembers =
+        let over = over_next c.table mid last o (λ z. with_removal z r) (moved x (c.steps + 1) w) (over_first c.table mid o (λ y. moved y (c.steps + 1) w) x there moves) remembers in
+        moves_on (made c arena c.tape c.accounts last) (take_removes c o h x there at_removal)
+        (subst (λ (all : Table). Gives (shown c) (made c arena c.tape c.accounts all) o false) (sym over.is) (removed_done c o h few_here x there at_removal is_arena arena w r from))
+        (leads_over c o h x there x.walk.phase refl now is arena c.tape c.accounts last _ over w
+        (removal_leads o (c.steps + 1) x.task.key c.arena arena x.walk w x.removal r is_arena h.deleted x.walk.phase at_removal take_kept from x.outcome (splits_of x.splits)) refl)
+
+    -- another operation holds the node that is to be locked
+    pub take_waits : (arena : ArenaView) → arena ≡ c.arena → (holder : ℕ) → IsInTheWay c.arena x.walk.phase x.walk (splits_of x.splits) x.removal holder
+        → (HoldsRemoval c.arena o x.walk x.removal → holder ≢ o) → (answer : Move) → answer ≡ Again holder → StepsOn now (record c { arena = arena }) o answer
+    take_waits arena stays holder way another answer says =
+        let held = in_the_way c.arena x.walk.phase x.walk (splits_of x.splits) x.removal holder way in
+        let waits : IsHeldByOther (shown c) o holder = record {
+          other = another (removal_held_at c o h x there at_removal);
+          unfinished = holder_left c o h x there held.0 holder held.1 held.2;
+          op = view_of x;
+          there = shown_there c.table o x there;
+          holds = way;
+        } in
+        subst (StepsOn now (record c { arena = arena }) o) (sym says) (record {
+          tells = (
+            ap (λ (v : ArenaView). shown (record c { arena = v })) stays ∙ ap shown is,
+            (_, shown_there now.table o next.0 next.1, removal_open next.0.walk.phase (takes_removal next.0.walk.phase next.2)),
+            subst (λ (v : StateView). IsHeldByOther v o holder) (ap shown is) waits,
+          );
+          nears = tt;
+          leads = tt;
+        })
+
+  -- Unlock: all locks were given back
+  module _ (next : IsNext now o (λ q. q ≡ Unlock)) (removes : is_remove (ask x.task) ≡ true) (told : x.outcome ≢ None) (none : x.splits.halves.items ≡ []) where
+    at_unlock : x.walk.phase ≡ Unlock
+    at_unlock = phase_is c now o (λ q. q ≡ Unlock) is x there next
+
+    pub return_kept : IsAtUnlockRemoval c.arena o x.task.key x.walk x.removal
+    return_kept = removal_unlock_kept c o h x there at_unlock removes told none
+
+    pub return_room : (k : ℕ) → IsAmong x.walk x.removal k → CanUnlock (at c.arena k).version
+    return_room = removal_unlock_room c o h x there at_unlock removes told none
+
+    pub return_may_go : MayMove c.table o (c.steps + 1)
+    return_may_go = may_move c o h x there (ap is_done at_unlock)
+
+    pub return_made : (arena : ArenaView) (w : Walk) (r : Removal) → IsUnlockRemoval o c.arena arena x.walk w x.removal r
+        → (mid last : Table) → Writes c.table mid o (λ y. moved y (c.steps + 1) w) → Writes mid last o (λ z. with_removal z r)
+        → (answer : Move) → answer ≡ ending w.phase
+        → IsSound (made c arena c.tape c.accounts last) × StepsOn now (made c arena c.tape c.accounts last) o answer
+    return_made arena w r t mid last moves remembers answer says =
+        let over = over_next c.table mid last o (λ z. with_removal z r) (moved x (c.steps + 1) w) (over_first c.table mid o (λ y. moved y (c.steps + 1) w) x there moves) remembers in
+        let new = made c arena c.tape c.accounts last in
+        subst (λ (a : Move). IsSound new × StepsOn now new o a) (sym says) (steps_on w.phase new removes
+        (subst (λ (all : Table). Gives (shown c) (made c arena c.tape c.accounts all) o (is_done w.phase)) (sym over.is)
+        (removal_returned c o h few_here x there at_unlock removes told none arena w r t))
+        (leads_over c o h x there Unlock at_unlock now is arena c.tape c.accounts last _ over w
+        (returns_from x.outcome told x.splits.halves.items none o c.arena arena x.walk w x.removal r t (splits_of x.splits) refl) refl))

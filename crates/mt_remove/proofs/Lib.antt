@@ -1,0 +1,16 @@
+pub mod Rely
+pub mod Held
+pub mod Locking
+pub mod LockingAbove
+pub mod Resting
+pub mod TakingOut
+pub mod Fixing
+pub mod Collapsing
+pub mod DroppingLayers
+pub mod CleaningOn
+pub mod Returning
+pub mod GoingOn
+pub mod Linked
+pub mod Looking
+pub mod Dropping
+pub mod Leaving

@@ -1,0 +1,41 @@
+-- That a removal which meets a link may load its tree, and goes on there; and that no slot has one where the node has a pair.
+use Rattle.std.proofs.Common.{ap, inl, inr}
+use Rattle.mt_arena.specs.NodeView.{NodeView}
+use Rattle.mt_arena.specs.Accesses.{at}
+use Rattle.mt_insert.proofs.Looks.{link_there, leads_there}
+use Rattle.mt_insert.proofs.Places.{meets_link}
+use Rattle.mt_remove.proofs.Linked.{no_link_here, no_link_long}
+use Rattle.mt_remove.proofs.phases.follow.follow.Goals as goal
+
+pub tree_at-tree-requires-clause-link : goal.tree_at-tree-requires-clause-link
+tree_at-tree-requires-clause-link c =
+    let found = rw (c.in-Slot-default-Link.field-1-is) at c.in-Slot-default-Link.ensures in
+    link_there (at c.args.arena.now c.args.walk.now.place.node) c.border.result.now c.in-Slot-default-Link.slot c.args.key.now c.args.walk.now.layer (ap (λ (n : NodeView). n.slots) c.border.ensures) found
+
+pub returns-in-Slot-default-Link : goal.returns-in-Slot-default-Link
+returns-in-Slot-default-Link c =
+    let found = rw (c.in-Slot-default-Link.field-1-is) at c.in-Slot-default-Link.ensures in
+    let leads = leads_there (at c.args.arena.now c.args.walk.now.place.node) c.border.result.now c.in-Slot-default-Link.slot c.tree_at-tree.result (ap (λ (n : NodeView). n.slots) c.border.ensures) c.tree_at-tree.ensures in
+    inl (record {
+      slot = c.in-Slot-default-Link.slot;
+      in_slot = found;
+      tree = c.tree_at-tree.result;
+      leads = leads;
+      goes = c.go_below.ensures;
+      kept = rw (c.go_below.ensures.is, c.go_below.ensures.walk)
+          (meets_link c.args.arena.now c.args.operation c.args.key.now c.args.walk.now c.facts.ensures.arena c.requires.kept c.in-Slot-default-Link.slot c.tree_at-tree.result found leads);
+    })
+
+pub returns-in-Slot-default-ThisKey : goal.returns-in-Slot-default-ThisKey
+returns-in-Slot-default-ThisKey c = inr (record {
+  none = no_link_here c.args.arena.now c.args.walk.now.place.node c.args.key.now c.args.walk.now.layer 0 c.facts.ensures.arena c.requires.kept.judged.held.there c.in-Slot-default-ThisKey.field-0
+      (rw (c.in-Slot-default-ThisKey.field-1-is) at c.in-Slot-default-ThisKey.ensures);
+  unlocks = c.unlock.ensures;
+})
+
+pub returns-in-Slot-default-OtherLong : goal.returns-in-Slot-default-OtherLong
+returns-in-Slot-default-OtherLong c = inr (record {
+  none = no_link_long c.args.arena.now c.args.walk.now.place.node c.args.key.now c.args.walk.now.layer 0 c.facts.ensures.arena c.requires.kept.judged.held.there c.in-Slot-default-OtherLong.field-0
+      (rw (c.in-Slot-default-OtherLong.field-1-is) at c.in-Slot-default-OtherLong.ensures);
+  unlocks = c.unlock-in-Slot-default-OtherLong.ensures;
+})

@@ -1,0 +1,48 @@
+-- That a removal which meets a link may load its tree, and goes on there; and that the key is missing where the node has nothing of it, or another long one.
+use Rattle.std.proofs.Common.{refl, ap}
+use Rattle.mt_arena.specs.NodeView.{NodeView}
+use Rattle.mt_arena.specs.Accesses.{at}
+use Rattle.mt_insert.proofs.Looks.{link_there, leads_there}
+use Rattle.mt_insert.proofs.Places.{meets_link, none_here}
+use Rattle.mt_remove.proofs.Looking.{none_beside}
+use Rattle.mt_remove.proofs.phases.judge.judge.Goals as goal
+
+pub tree_at-tree-requires-clause-link : goal.tree_at-tree-requires-clause-link
+tree_at-tree-requires-clause-link c =
+    let found = rw (c.in-Slot-default-Link.field-1-is) at c.in-Slot-default-Link.ensures in
+    link_there (at c.args.arena.now c.args.walk.now.place.node) c.border.result.now c.in-Slot-default-Link.slot c.args.task.now.key c.args.walk.now.layer (ap (λ (n : NodeView). n.slots) c.border.ensures) found
+
+pub returns-in-Slot-default-Link : goal.returns-in-Slot-default-Link
+returns-in-Slot-default-Link c =
+    let found = rw (c.in-Slot-default-Link.field-1-is) at c.in-Slot-default-Link.ensures in
+    let leads = leads_there (at c.args.arena.now c.args.walk.now.place.node) c.border.result.now c.in-Slot-default-Link.slot c.tree_at-tree.result (ap (λ (n : NodeView). n.slots) c.border.ensures) c.tree_at-tree.ensures in (
+      refl,
+      record {
+        slot = c.in-Slot-default-Link.slot;
+        in_slot = found;
+        tree = c.tree_at-tree.result;
+        leads = leads;
+        goes = c.go_below.ensures;
+        kept = rw (c.go_below.ensures.is, c.go_below.ensures.walk)
+            (meets_link c.args.arena.now c.args.operation c.args.task.now.key c.args.walk.now c.facts.ensures.arena c.requires.kept c.in-Slot-default-Link.slot c.tree_at-tree.result found leads);
+      },
+    )
+
+pub returns-in-Slot-default-OtherLong : goal.returns-in-Slot-default-OtherLong
+returns-in-Slot-default-OtherLong c = (
+  refl,
+  record {
+    missing = none_beside c.args.arena.now c.args.operation c.args.task.now.key c.args.walk.now c.facts.ensures.arena c.requires.kept c.in-Slot-default-OtherLong.field-0
+        (rw (c.in-Slot-default-OtherLong.field-1-is) at c.in-Slot-default-OtherLong.ensures);
+    unlocks = c.unlock.ensures;
+  },
+)
+
+pub returns-in-Missing : goal.returns-in-Missing
+returns-in-Missing c = (
+  refl,
+  record {
+    missing = none_here c.args.arena.now c.args.operation c.args.task.now.key c.args.walk.now c.facts.ensures.arena c.requires.kept c.in-Missing.ensures;
+    unlocks = c.unlock-in-Missing.ensures;
+  },
+)

@@ -1,0 +1,43 @@
+-- DropKey: the key's pair was taken out of its slot.
+use Rattle.std.specs.Prelude.{◌≡◌, ℕ, Some}
+use Rattle.std.specs.Option.{option_map}
+use Rattle.std.specs.FinMap.{get}
+use Rattle.mt_rows.specs.Rows.{Columns}
+use Rattle.mt_rows.specs.Accounts.{Accounts, account_of, one_less, OthersStay}
+use Rattle.mt_border.specs.Contents.{owned}
+use Rattle.mt_border.specs.Entries.{without}
+use Rattle.mt_tape.specs.Tapes.{Kept}
+use Rattle.mt_tape.specs.Histories.{with_write}
+use Rattle.mt_arena.specs.Arena.{ArenaView, Guarantee, content_of}
+use Rattle.mt_arena.specs.Accesses.{at, with_node}
+use Rattle.mt_arena.specs.Layers.{slot_at}
+use Rattle.mt_arena.specs.Edits.{with_slots}
+use Rattle.mt_operation.specs.declared.task.Task.{Task}
+use Rattle.mt_operation.specs.declared.walk.Walk.{Walk}
+use Rattle.mt_operation.specs.declared.removal.Removal.{Removal}
+use Rattle.mt_descent.specs.WalkMoves.{Continues}
+use Rattle.mt_insert.specs.Placing.{pushed}
+use Rattle.mt_insert.specs.KeptPuts.{HoldsOnly}
+use Rattle.mt_remove.specs.Writes.{removal_over}
+use Rattle.mt_remove.specs.KeptRemovals.{KeptRemoval}
+use Rattle.mt_remove.specs.RemovalEdits.{GoesOnEmptied}
+
+-- the step of this number places the removal: its write is the one change of the contents, and the last one on the tape
+pub record Removes (task : Task) (step : ℕ) (old new : ArenaView) (tape taped : Kept) (row : Columns) : Type 0 where
+  pub was_there : get (content_of old) (owned task.key) ≡ Some row
+  pub contents : content_of new ≡ with_write (content_of old) (removal_over task row step)
+  pub tape_is : taped ≡ pushed tape (removal_over task row step)
+
+-- the pair was taken out of the walk's slot, and its tenant has one less
+pub record IsDropKey (op step : ℕ) (task : Task) (old new : ArenaView) (tape taped : Kept) (accounts counted : Accounts) (before after : Walk) (s t : Removal) : Type 0 where
+  pub is : new ≡ with_node old before.place.node (with_slots (at old before.place.node)
+      (without (at old before.place.node).slots (slot_at (at old before.place.node) before.slot)))
+  pub row : Columns
+  pub places : Removes task step old new tape taped row
+  pub count : account_of counted task.tenant ≡ option_map one_less (account_of accounts task.tenant)
+  pub others : OthersStay accounts counted task.tenant
+  pub goes : GoesOnEmptied new before after s t
+  pub same : Continues before after
+  pub guarantee : Guarantee op old new
+  pub kept : KeptRemoval after.phase new op task.key after t
+  pub holds : HoldsOnly old op before.place.node → HoldsOnly new op after.place.node

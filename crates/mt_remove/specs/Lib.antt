@@ -1,0 +1,10 @@
+pub mod Writes
+pub mod KeptRemovals
+pub mod RemovalEdits
+pub mod Unlinks
+pub mod CleanLayer
+pub mod Judge
+pub mod DropKey
+pub mod Unlock
+pub mod Ways
+pub mod Steps

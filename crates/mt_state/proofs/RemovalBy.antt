@@ -1,0 +1,207 @@
+-- What each step of a removal behind DropKey leaves of all nodes, and where it leads, by its phase.
+use Rattle.std.proofs.Common.{◌≡◌, ◌≢◌, ℕ, ◌<◌, ◌⊎◌, inl, inr, Bool, true, false, length, Option, Some, None, refl, sym, ap, subst, arith, cond, eqb}
+use Rattle.std.proofs.lemmas.Bool.{cases_eq, cases_lt}
+use Rattle.std.proofs.lemmas.Option.{same_Some}
+use Rattle.mt_rows.specs.Rows.{Bytes}
+use Rattle.mt_arena.specs.NodeView.{NodeView}
+use Rattle.mt_arena.specs.Arena.{ArenaView, IsArena}
+use Rattle.mt_arena.specs.Accesses.{at}
+use Rattle.mt_operation.specs.declared.phase.Phase.{Phase}
+use Rattle.mt_operation.specs.declared.phase.Phase.TheVariants.{LockPrev, LockAbove, Unlink, FixNext, Collapse, CleanLayer, Unlock}
+use Rattle.mt_operation.specs.declared.walk.Walk.{Walk}
+use Rattle.mt_operation.specs.declared.removal.Removal.{Removal}
+use Rattle.mt_operation.specs.Phases.{MayFollow, IsRemovalPhase}
+use Rattle.mt_descent.specs.WalkMoves.{KeepsPairs}
+use Rattle.mt_insert.specs.SplitEdits.{walk_at}
+use Rattle.mt_remove.specs.KeptRemovals.{HoldsRemoval, KeptRemoval, HoldsEmpty, IsAtLockPrev, IsAtLockAbove, IsAtUnlink, IsAtFixNext, IsAtCollapse, IsAtCleanLayer}
+use Rattle.mt_remove.specs.RemovalEdits.{for_rest, after_unlink, root_of}
+use Rattle.mt_remove.specs.Unlinks.{IsChildBefore, IsLockPrev, IsLockAbove, IsUnlink, IsFixNext, IsCollapse}
+use Rattle.mt_remove.specs.CleanLayer.{IsCleanLayer}
+use Rattle.mt_remove.specs.Steps.{IsRemovalFrom}
+use Rattle.mt_remove.proofs.GoingOn.{emptied_either}
+use Rattle.mt_remove.proofs.Locking.{left_there}
+use Rattle.mt_remove.proofs.LockingAbove.{parent_there}
+use Rattle.mt_remove.proofs.CleaningOn.{held_link}
+use Rattle.mt_remove.proofs.DroppingLayers.{tree_there, root_there}
+use Rattle.mt_state.specs.Invariant.{DeletedAreEmpty}
+use Rattle.mt_state.proofs.RemovalNodes.{LeavesNodes, none_leaves, lock_leaves, named_leaves, unlink_leaves, collapse_leaves, clean_leaves}
+use Rattle.mt_operation.specs.declared.outcome.Outcome.{Outcome}
+use Rattle.mt_operation.specs.Operations.{SplitsView}
+use Rattle.mt_state.specs.Phases.{LeadsTo}
+
+-- what a step brings: what is left of all nodes, where it leads, and what is kept then
+pub record Removes (p : Phase) (o : ℕ) (key : Bytes) (v u : ArenaView) (before after : Walk) (s t : Removal) : Type 0 where
+  pub leaves : LeavesNodes o v u
+  pub keeps : KeepsPairs o v u before after
+  pub follows : MayFollow p after.phase
+  pub kept : KeptRemoval after.phase u o key after t
+  pub holds : HoldsRemoval v o before s → HoldsRemoval u o after t
+
+-- there is some value, or none
+some_or_none : (x : Option ℕ) → ((k : ℕ) × (x ≡ Some k)) ⊎ (x ≡ None)
+some_or_none (Some k) = inl (k, refl)
+some_or_none None = inr refl
+
+same_or_other : (x y : Option ℕ) → (x ≡ y) ⊎ (x ≢ y)
+same_or_other None None = inl refl
+same_or_other None (Some k) = inr (λ e. absurd (cc))
+same_or_other (Some k) None = inr (λ e. absurd (cc))
+same_or_other (Some k) (Some j) = elim (cases_eq k j) [ inl is ↦ inl (ap Some is) | inr other ↦ inr (λ e. other (same_Some k j e)) ]
+
+-- what comes before a place can be told
+child_before : (place : ℕ) (left first : Option ℕ) → ((0 < place) × (left ≡ first)) ⊎ ¬ ((0 < place) × (left ≡ first))
+child_before place left first = elim (cases_lt 0 place) [
+  | inr none ↦ inr (λ b. absurd (omega (arith, b.0, none)))
+  | inl some ↦ elim (same_or_other left first) [ inl is ↦ inl (some, is) | inr other ↦ inr (λ b. other b.1) ]
+]
+
+-- the phases behind Unlink and FixNext
+rest_follows : (root one : Bool) → MayFollow Unlink (cond root (cond one Collapse Unlock) Unlock) × MayFollow FixNext (cond root (cond one Collapse Unlock) Unlock)
+rest_follows true true = (tt, tt)
+rest_follows true false = (tt, tt)
+rest_follows false one = (tt, tt)
+
+unlink_follows : (behind : Option ℕ) (p : NodeView) → MayFollow Unlink (after_unlink behind p)
+unlink_follows None p = (rest_follows p.version.root (eqb (length p.children) 1)).0
+unlink_follows (Some k) p = tt
+
+module _ (o step : ℕ) (key : Bytes) (v u : ArenaView) (before after : Walk) (s t : Removal) (arena : IsArena v.nodes v.trees) (deleted : DeletedAreEmpty v) where
+  at_phase : (q : Phase) → after ≡ walk_at q before → after.phase ≡ q
+  at_phase q is = ap (λ (w : Walk). w.phase) is
+
+  -- an empty node that is no first child has one before it
+  has_previous : HoldsEmpty v o before → (left : ℕ) × ((at v before.place.node).previous ≡ Some left)
+  has_previous e = elim (some_or_none (at v before.place.node).previous) [
+    | inl is ↦ is
+    | inr none ↦
+        let there = e.node.returns.held.there in
+        let first = (arena.nodes.each before.place.node there).chain.first e.node.returns.level_is ((arena.ranged.each before.place.node there).unmarked e.whole e.live) e.live none in
+        absurd (let later = e.later in omega (arith, first, later))
+  ]
+
+  has_parent : HoldsEmpty v o before → (parent : ℕ) × ((at v before.place.node).parent ≡ Some parent)
+  has_parent e = elim (some_or_none (at v before.place.node).parent) [ inl is ↦ is | inr none ↦ absurd (e.child none) ]
+
+  lock_prev_removes : IsAtLockPrev v o key before s → IsLockPrev o v u before after s t → Removes LockPrev o key v u before after s t
+  lock_prev_removes k b =
+      let left = has_previous k.node in
+      let is = b.is left.0 left.1 in
+      record {
+        leaves = subst (LeavesNodes o v) (sym is.1) (lock_leaves o v deleted left.0 (left_there v o left.0 key before s arena k left.1));
+        keeps = b.on.keeps;
+        follows = subst (MayFollow LockPrev) (sym (at_phase LockAbove b.walk)) tt;
+        kept = b.on.kept key k;
+        holds = b.on.holds;
+      }
+
+  lock_above_removes : IsAtLockAbove v o key before s → IsLockAbove o v u before after s t → Removes LockAbove o key v u before after s t
+  lock_above_removes k b =
+      let parent = has_parent k.node in
+      let is = b.is parent.0 parent.1 in
+      let before_it : IsChildBefore (at v parent.0) (at v before.place.node).low s.left ⊎ ¬ IsChildBefore (at v parent.0) (at v before.place.node).low s.left = child_before _ s.left _ in
+      record {
+        leaves = subst (LeavesNodes o v) (sym is.1) (lock_leaves o v deleted parent.0 (parent_there v o parent.0 key before s arena k parent.1));
+        keeps = b.on.keeps;
+        follows = elim before_it [
+          | inl is ↦ subst (MayFollow LockAbove) (sym (at_phase Unlink (b.unlinks parent.0 parent.1 is))) tt
+          | inr other ↦ subst (MayFollow LockAbove) (sym (at_phase Unlock (b.returns parent.0 parent.1 other))) tt
+        ];
+        kept = b.on.kept key k;
+        holds = b.on.holds;
+      }
+
+  unlink_removes : IsAtUnlink v o key before s → IsUnlink o step v u before after s t → Removes Unlink o key v u before after s t
+  unlink_removes k b = record {
+    leaves = subst (LeavesNodes o v) (sym (b.is k.left k.parent k.left_is k.parent_is))
+        (unlink_leaves o v deleted k.parent k.left before.place.node step k.has_above.node.returns.held k.has_left.node.returns.held k.node.node.returns.held k.node.empty);
+    keeps = b.on.keeps;
+    follows = subst (MayFollow Unlink) (sym (at_phase (after_unlink (at v before.place.node).next (at u k.parent)) (b.walk k.parent k.parent_is)))
+        (unlink_follows (at v before.place.node).next (at u k.parent));
+    kept = b.on.kept key k;
+    holds = b.on.holds;
+  }
+
+  fix_next_removes : IsAtFixNext v o key before s → IsFixNext o v u before after s t → Removes FixNext o key v u before after s t
+  fix_next_removes k b = record {
+    leaves = subst (LeavesNodes o v) (sym (b.is k.left k.behind k.left_is k.next))
+        (named_leaves o v deleted k.behind k.left ((arena.nodes.each k.left k.has_left.held.there).names.next k.behind k.next));
+    keeps = b.on.keeps;
+    follows = subst (MayFollow FixNext) (sym (at_phase (for_rest (at v k.parent)) (b.walk k.parent k.parent_is)))
+        (rest_follows (at v k.parent).version.root (eqb (length (at v k.parent).children) 1)).1;
+    kept = b.on.kept key k;
+    holds = b.on.holds;
+  }
+
+  collapse_removes : IsAtCollapse v o key before s → IsCollapse o step v u before after s t → Removes Collapse o key v u before after s t
+  collapse_removes k b =
+      let above = k.has_above.node.returns in
+      let level = above.level_is in
+      record {
+        leaves = subst (LeavesNodes o v) (sym (b.is k.left k.parent k.left_is k.parent_is))
+            (collapse_leaves o v deleted k.parent k.left step above.held k.has_left.returns.held ((arena.nodes.each k.parent above.held.there).slots.slotless (omega (arith, level))) above.tree_there);
+        keeps = b.on.keeps;
+        follows = subst (MayFollow Collapse) (sym (at_phase Unlock b.walk)) tt;
+        kept = b.on.kept key k;
+        holds = b.on.holds;
+      }
+
+  clean_layer_removes : IsAtCleanLayer v o key before s → IsCleanLayer o step v u key before after s t → Removes CleanLayer o key v u before after s t
+  clean_layer_removes k b = record { leaves = both.0; keeps = b.keeps; follows = both.1; kept = b.kept; holds = b.holds }
+    where
+      both : LeavesNodes o v u × MayFollow CleanLayer after.phase
+      both = elim b.is [
+        | inl none ↦ (subst (LeavesNodes o v) (sym none.is) (none_leaves o v deleted), subst (MayFollow CleanLayer) (sym (at_phase Unlock none.walk)) tt)
+        | inr (inl full) ↦
+            let link = held_link v o full.slot b.tree key before s k full.leads.in_slot.in_range full.leads.link in (
+              subst (LeavesNodes o v) (sym full.is) (lock_leaves o v deleted (root_of v b.tree) (root_there v o before.place.node full.slot b.tree arena link)),
+              subst (MayFollow CleanLayer) (sym (at_phase Unlock full.walk)) tt,
+            )
+        | inr (inr drops) ↦
+            let link = held_link v o drops.slot b.tree key before s k drops.leads.in_slot.in_range drops.leads.link in (
+              subst (LeavesNodes o v) (sym drops.is)
+                  (clean_leaves o v deleted before.place.node drops.slot b.tree step k.holds.judged.held k.holds.judged.stands.live
+                  (tree_there v o before.place.node drops.slot b.tree arena link) (root_there v o before.place.node drops.slot b.tree arena link) drops.empty.1),
+              elim (emptied_either u before after (record s { below = Some (root_of v b.tree) }) t drops.goes) [
+                | inl at ↦ subst (MayFollow CleanLayer) (sym at) tt
+                | inr at ↦ subst (MayFollow CleanLayer) (sym at) tt
+              ],
+            )
+      ]
+
+  -- by the phase
+  pub removes_by : (p : Phase) → IsRemovalPhase p → KeptRemoval p v o key before s → IsRemovalFrom p o step key v u before after s t
+      → Removes p o key v u before after s t
+  removes_by LockPrev i k b = lock_prev_removes k b
+  removes_by LockAbove i k b = lock_above_removes k b
+  removes_by Unlink i k b = unlink_removes k b
+  removes_by FixNext i k b = fix_next_removes k b
+  removes_by Collapse i k b = collapse_removes k b
+  removes_by CleanLayer i k b = clean_layer_removes k b
+  removes_by _ i k b = absurd i
+
+  -- where it leads, by the table of phases
+  pub removal_leads : (p : Phase) → IsRemovalPhase p → KeptRemoval p v o key before s → IsRemovalFrom p o step key v u before after s t
+      → (told : Option Outcome) (splits : SplitsView) → LeadsTo p v u o step key told splits s before after
+  removal_leads LockPrev i k b told splits =
+      let left = has_previous k.node in record { left = left.0; left_is = left.1; free = (b.is left.0 left.1).0; goes = b.walk }
+  removal_leads LockAbove i k b told splits =
+      let parent = has_parent k.node in
+      record { parent = parent.0; parent_is = parent.1; free = (b.is parent.0 parent.1).0; unlinks = b.unlinks parent.0 parent.1; returns = b.returns parent.0 parent.1 }
+  removal_leads Unlink i k b told splits = (k.parent, k.parent_is, b.walk k.parent k.parent_is)
+  removal_leads FixNext i k b told splits = (k.parent, k.parent_is, b.walk k.parent k.parent_is)
+  removal_leads Collapse i k b told splits = b.walk
+  removal_leads CleanLayer i k b told splits = (
+    b.tree,
+    b.cleans,
+    elim b.is [
+      | inl none ↦ inl (record { none = none.none; goes = none.walk })
+      | inr (inl full) ↦ inr (inl (record { free = full.free; full = full.full; goes = full.walk }))
+      | inr (inr drops) ↦ inr (inr (record {
+        free = drops.free;
+        border = drops.empty.0;
+        empty = drops.empty.1;
+        goes = record { unlinks = drops.goes.unlinks; returns = drops.goes.returns };
+      }))
+    ],
+  )
+  removal_leads _ i k b told splits = absurd i
