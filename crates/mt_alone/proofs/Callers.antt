@@ -4,8 +4,6 @@ use mathlib.Core.Path.{fun_ext}
 use Rattle.std.specs.Prelude.{◌^◌, IsSome}
 use Rattle.std.proofs.lemmas.Bool.{eqb-true}
 use Rattle.mt_rows.specs.declared.command.Command.{Command}
-use Rattle.mt_rows.specs.declared.command.Command.TheVariants.{Get, Put}
-use Rattle.mt_remove.specs.Writes.{is_remove}
 use Rattle.mt_rows.specs.declared.reply.Reply.{Reply}
 use Rattle.mt_rows.specs.declared.refusal.Refusal.{Refusal}
 use Rattle.mt_rows.specs.declared.refusal.Refusal.TheVariants as refusals
@@ -28,7 +26,7 @@ use Rattle.mt_core.specs.Alone.{IsAlone, IsRun, most_steps}
 use Rattle.mt_core.specs.Rights.{IsRightState}
 use Rattle.mt_alone.specs.declared.runs.Unfinished.{Unfinished}
 use Rattle.mt_alone.specs.declared.runs.Unfinished.TheVariants as unfinished
-use Rattle.mt_alone.specs.TenantMaps.{MayRun, TenantMaps, tenant_maps, fresh_maps, with_map, after_command}
+use Rattle.mt_alone.specs.TenantMaps.{TenantMaps, tenant_maps, fresh_maps, with_map, after_command}
 use Rattle.mt_alone.specs.Runs.{Keeps, IsIdle, IsOnly, IsSettled, TellsRun, Finishes}
 use Rattle.mt_alone.specs.Callers.{maps_in, AreOpen, HasNumbers, Answers}
 use Rattle.mt_alone.proofs.RunLemmas.{keeps_same, keeps_on}
@@ -80,20 +78,8 @@ live_le (n ∷ nodes) = let rest = live_le nodes in let one = by n.version.delet
     by true = omega arith
     by false = omega arith
 
--- who is run by itself removes nothing
-stays_of : (command : Command) → MayRun command → is_remove command ≡ false
-stays_of (Get key columns) may = refl
-stays_of (Put key change) may = refl
-stays_of _ may = absurd may
-
--- and may be begun
-pub begins_of : (command : Command) → MayRun command → MayBegin command
-begins_of (Get key columns) may = tt
-begins_of (Put key change) may = tt
-begins_of _ may = absurd may
-
 -- a begin in a state in which no operation is open, as long as a number is left
-module _ (old mid : StateView) (o tenant : ℕ) (command : Command) (right : IsRightState old) (idle : old.steps ≢ 2 ^ 59 → IsIdle old) (point : MayRun command) (b : Begins old mid o 0 tenant command) (may : IsAdmissible old tenant command) where
+module _ (old mid : StateView) (o tenant : ℕ) (command : Command) (right : IsRightState old) (idle : old.steps ≢ 2 ^ 59 → IsIdle old) (point : MayBegin command) (b : Begins old mid o 0 tenant command) (may : IsAdmissible old tenant command) where
   abbrev op : OperationView
   op = begun 0 tenant command
 
@@ -114,7 +100,6 @@ module _ (old mid : StateView) (o tenant : ℕ) (command : Command) (right : IsR
   begun_alone : mid.steps + most_steps mid ≤ 2 ^ 59 → IsAlone mid o op
   begun_alone numbers = record {
     there = b.there;
-    stays = stays_of command point;
     first = refl;
     enters = refl;
     free = subst (λ (v : ArenaView). (k : ℕ) → k < length v.nodes → (at v k).holder ≡ None) (sym arena_stands) free_before;

@@ -3,8 +3,8 @@
 ghost use Rattle.std.specs.Prelude.{◌≡◌, ◌≢◌, ◌^◌, ◌↔◌, [], None, IfOk, IsTrue, IsSome};
 ghost use Rattle.mt_rows.specs.Accounts.{account_of};
 ghost use Rattle.mt_state.specs.Views.{granted_in};
-ghost use Rattle.mt_state.specs.Begins.{HaveNoPairs};
-ghost use Rattle.mt_alone.specs.TenantMaps.{MayRun, fresh_maps};
+ghost use Rattle.mt_state.specs.Begins.{HaveNoPairs, MayBegin};
+ghost use Rattle.mt_alone.specs.TenantMaps.{fresh_maps};
 ghost use Rattle.mt_alone.specs.Runs.{IsIdle};
 ghost use Rattle.mt_alone.specs.Callers.{alone_view, maps_of, AreOpen, Clears, Answers};
 
@@ -85,11 +85,14 @@ impl Caller for Alone {
     }
 }
 
-// Whether the command is run here: no remove and no scan.
-fn may_run(command: &Command) -> bool
-    ensures { IsTrue result ↔ MayRun command.now }
+// Whether the state takes the command: no scan.
+fn may_begin(command: &Command) -> bool
+    ensures { IsTrue result ↔ MayBegin command.now }
 {
-    matches!(command, Command::Get { .. } | Command::Put { .. })
+    matches!(
+        command,
+        Command::Get { .. } | Command::Put { .. } | Command::Remove { .. }
+    )
 }
 
 // Finishes the command that is stuck, if one is, and then runs this one.
@@ -104,7 +107,7 @@ fn run(
     requires there { IsSome (account_of state.old.accounts tenant) }
     ensures { Answers state.old state.new tenant command result stuck.new }
 {
-    if !may_run(&command) {
+    if !may_begin(&command) {
         return Err(CallerFault::Stuck);
     }
     match finish_stuck(state, stuck) {
@@ -145,7 +148,7 @@ fn answer(
     requires idle { state.old.steps ≢ 2 ^ 59 → IsIdle state.old }
     requires free { stuck.old ≡ None }
     requires there { IsSome (account_of state.old.accounts tenant) }
-    requires point { MayRun command }
+    requires point { MayBegin command }
     ensures { Answers state.old state.new tenant command result stuck.new }
 {
     state.facts();

@@ -11,9 +11,10 @@ use mt_test_streams::{ALL, ROWS, TestServer, Way, bytes_of, many, name_of, strea
 use std::alloc::Global;
 use std::process::Abort;
 
-// A remove is not run alone yet.
-const MORE_ROWS: [&str; 1] = [
-    "00000005 01 00000007 00000004 04 0001 6b 00000001 06 > 00000001 00 > memory",
+// A pair is put and removed, and then it is missing; a scan can't be begun yet.
+const MORE_ROWS: [&str; 2] = [
+    "00000005 01 00000007 00000009 03 0001 6b 01 00 0001 76 00000004 04 0001 6b 00000004 04 0001 6b > 00000001 00 00000001 03 00000001 05 00000001 01 > closed",
+    "00000005 01 00000007 00000006 05 00 0000 02 00 00000001 06 > 00000001 00 > memory",
 ];
 
 // Tenant 7, which may have a hundred pairs, and tenant 8, which may have one.

@@ -50,6 +50,7 @@ pub mod Topping
 pub mod Inserting
 pub mod Parting
 pub mod Heights
+pub mod RootLevels
 pub mod TakenOut
 pub mod Unlinking
 pub mod Collapsing

@@ -22,6 +22,7 @@ ghost use Rattle.mt_arena.specs.declared.tree.Standing.TheVariants.{Dead, Live};
 ghost use Rattle.mt_arena.specs.NodeView.{NodeView, node_at};
 ghost use Rattle.mt_arena.specs.Nodes.{Holds, HasRange};
 ghost use Rattle.mt_arena.specs.Forests.{tree_at, layer_of};
+ghost use Rattle.mt_arena.specs.RootLevels.{levels_above, levels_of};
 ghost use Rattle.mt_arena.specs.Layers.{slot_at};
 ghost use Rattle.mt_arena.specs.Contents.{content};
 ghost use Rattle.mt_arena.specs.Arena.{IsArena, ArenaView, Guarantee, live_count};
@@ -255,6 +256,15 @@ pub fn a_level_needs_a_node()
     ensures root { (nodes : List NodeView) (trees : List Tree) (t : ℕ) → IsArena nodes trees → t < length trees →
         (tree_at trees t).standing ≡ Live →
         let r = (tree_at trees t).root in (r < length nodes) × ((node_at nodes r).level < live_count nodes) }
+{}
+
+/// A live tree has a live node on each of its levels, and no two trees have one node: so the levels of the
+/// live trees of all layers above any one are no more than the live nodes. A tree adds its own below it.
+pub fn levels_are_few()
+    ensures few { (nodes : List NodeView) (trees : List Tree) (layer : ℕ) → IsArena nodes trees → levels_above nodes trees layer ≤ live_count nodes }
+    ensures adds { (nodes : List NodeView) (trees : List Tree) (layer t : ℕ) → t < length trees → (tree_at trees t).standing ≡ Live → layer_of (tree_at trees t).prefix ≡ layer →
+        levels_above nodes trees layer + levels_of nodes (tree_at trees t) ≤ levels_above nodes trees (layer + 1) }
+    ensures top { (nodes : List NodeView) (trees : List Tree) → levels_above nodes trees 0 ≡ 0 }
 {}
 
 /// A child stands in its parent at the place where its low fence belongs among the separators.

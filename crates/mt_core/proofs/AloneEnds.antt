@@ -1,5 +1,5 @@
 -- How far an operation comes that is alone, or that nobody disturbs any more, and how its run ends: for `Inner::run_alone`.
-use Rattle.std.proofs.Common.{◌≡◌, ◌≢◌, ℕ, zero, suc, ◌+◌, ◌*◌, ◌<◌, ◌≤◌, inl, inr, List, [], ◌∷◌, true, false, Option, None, Some, refl, sym, ap, subst, ◌∙◌, arith}
+use Rattle.std.proofs.Common.{◌≡◌, ◌≢◌, ℕ, zero, suc, ◌+◌, ◌*◌, ◌<◌, ◌≤◌, inl, inr, List, [], ◌∷◌, Bool, true, false, Option, None, Some, refl, sym, ap, subst, ◌∙◌, arith}
 use Rattle.std.specs.Prelude.{◌^◌, min}
 use Rattle.std.proofs.Math.Nat.{mul-le-mul_right, min-le_right}
 use Rattle.std.proofs.lemmas.Option.{same_Some}
@@ -27,7 +27,8 @@ use Rattle.mt_state.specs.Invariant.{StateInvariant}
 use Rattle.mt_state.specs.Promises.{HasStep, IsHeldByOther, IsAnswer, IsStep, Tells}
 use Rattle.mt_state.proofs.Shown.{shown_there, inside_of}
 use Rattle.mt_core.specs.Alone.{most_steps, IsChain, Runs, IsAlone, EndsAlone, IsUndisturbed, EndsSoon}
-use Rattle.mt_core.specs.Points.{AreBelow, astray, above, before_unlock, HasMade, MayHaveGrown, IsFreeOfOthers, IsUnhindered, StepsOn, split_level}
+use Rattle.mt_core.specs.Points.{AreBelow, astray, above, before_unlock, HasMade, MayHaveGrown, IsFreeOfOthers, IsSoFar, IsUnhindered, StepsOn, split_level}
+use Rattle.mt_core.proofs.RemovalNears.{few_removal, removal_begins, removal_left}
 use Rattle.mt_core.proofs.Astray.{behind_most}
 use Rattle.mt_core.proofs.Following.{in_the_way}
 use Rattle.mt_core.proofs.AloneRuns.{no_value, stepped, IsRunning, running_first, running_on, run_outcome}
@@ -106,16 +107,16 @@ unhindered_first c o op h arena u =
     record {
       op = inner;
       there = inside.1;
-      stays = stays;
       free = u.free;
-      point = record { below = λ _. nodes_below c h arena; few = starts_at inner.walk.phase c o inner h arena left stays (h.ops o inner inside.1).kept };
+      point = subst (λ (b : Bool). IsSoFar b (live_count c.arena.nodes) 0 c.arena inner) (sym stays)
+          (record { below = λ _. nodes_below c h arena; few = starts_at inner.walk.phase c o inner h arena left stays (h.ops o inner inside.1).kept });
     }
 
--- so it is with one that is alone
-undisturbed_alone : (v : StateView) (o : ℕ) (op : OperationView) → IsAlone v o op → IsUndisturbed v o op
-undisturbed_alone v o op alone = record {
+-- so it is with a get or a put that is alone
+undisturbed_alone : (v : StateView) (o : ℕ) (op : OperationView) → IsAlone v o op → is_remove op.command ≡ false → IsUndisturbed v o op
+undisturbed_alone v o op alone stays = record {
   there = alone.there;
-  stays = alone.stays;
+  stays = stays;
   unfinished = ap is_done alone.enters;
   free = λ k q within holds. absurd (no_value (sym (alone.free k within) ∙ holds));
   numbers = alone.numbers;
@@ -177,6 +178,15 @@ left_at : (p : Phase) (c : Core) (op : Operation) (height made : ℕ) → HasMad
 left_at Done c op height made few = absurd few
 left_at _ c op height made few = refl
 
+-- so with a get or a put, and with a removal
+so_far_few : (b : Bool) (c : Core) (o : ℕ) (op : Operation) (height made : ℕ) → IsKeptAt op.walk.phase c o op → IsSoFar b height made c.arena op → made < 256 * (height + 64)
+so_far_few true c o op height made kept point = few_removal height made c.arena op.walk op.outcome op.removal point
+so_far_few false c o op height made kept point = few_made op.walk.phase c o op height made kept (most_above height op.walk) point.below point.few
+
+so_far_left : (b : Bool) (c : Core) (op : Operation) (height made : ℕ) → IsSoFar b height made c.arena op → is_done op.walk.phase ≡ false
+so_far_left true c op height made point = removal_left op.walk.phase height point.round made c.arena op.walk point.few
+so_far_left false c op height made point = left_at op.walk.phase c op height made point.few
+
 -- an operation with no step left is at its end
 done_is : (p : Phase) → is_done p ≡ true → p ≡ Done
 done_is Done e = refl
@@ -207,9 +217,32 @@ untold_first c o op h alone = ap (λ (x : OperationView). x.outcome) (sym inside
     by None bound = refl
     by (Some told) bound = absurd (let first = ap (λ (x : OperationView). x.first) inside.2 in omega (arith, first, alone.first, bound.answer.right.begun))
 
+-- and with a removal
+alone_removal : (c : Core) (o : ℕ) (op : OperationView) → StateInvariant c → IsAlone (shown c) o op → is_remove op.command ≡ true
+    → IsUnhindered c o (live_count c.arena.nodes) 0
+alone_removal c o op h alone removes =
+    let inside = inside_of c.table o op alone.there in
+    let inner : Operation = inside.0 in
+    record {
+      op = inner;
+      there = inside.1;
+      free = λ k q within holds. absurd (no_value (sym (alone.free k within) ∙ holds));
+      point = subst (λ (b : Bool). IsSoFar b (live_count c.arena.nodes) 0 c.arena inner) (sym (ap (λ (x : OperationView). is_remove x.command) inside.2 ∙ removes))
+          (removal_begins c.arena inner.walk inner.outcome inner.removal (ap (λ (x : OperationView). x.phase) inside.2 ∙ alone.enters)
+          (ap (λ (x : OperationView). x.outcome) inside.2 ∙ untold_first c o op h alone));
+    }
+
+alone_unhindered : (c : Core) (o : ℕ) (op : OperationView) → StateInvariant c → IsArena c.arena.nodes c.arena.trees → IsAlone (shown c) o op
+    → IsUnhindered c o (live_count c.arena.nodes) 0
+alone_unhindered c o op h arena alone = by (is_remove op.command) refl
+  where
+    by : (b : Bool) → is_remove op.command ≡ b → IsUnhindered c o (live_count c.arena.nodes) 0
+    by true removes = alone_removal c o op h alone removes
+    by false stays = unhindered_first c o op h arena (undisturbed_alone (shown c) o op alone stays)
+
 pub alone_first : (old : Core) (o : ℕ) (op : OperationView) → StateInvariant old → IsArena old.arena.nodes old.arena.trees → IsAlone (shown old) o op
     → GoesAlone old old o op 0
-alone_first old o op h arena alone = record { run = running_first (shown old) o op alone (untold_first old o op h alone); free = unhindered_first old o op h arena (undisturbed_alone (shown old) o op alone) }
+alone_first old o op h arena alone = record { run = running_first (shown old) o op alone (untold_first old o op h alone); free = alone_unhindered old o op h arena alone }
 
 -- an operation that moved goes on
 pub alone_goes_on : (old v w : Core) (o : ℕ) (op : OperationView) (made : ℕ) → GoesAlone old v o op made → StepsOn v w o Moved → GoesAlone old w o op (made + 1)
@@ -223,15 +256,14 @@ module _ (old v : Core) (o : ℕ) (op : OperationView) (made : ℕ) (h : StateIn
   inner = g.free.op
 
   few : made < most_steps (shown old)
-  few =
-      few_made inner.walk.phase v o inner (live_count old.arena.nodes) made (h.ops o inner g.free.there).kept (most_above (live_count old.arena.nodes) inner.walk) g.free.point.below g.free.point.few
+  few = so_far_few (is_remove (ask inner.task)) v o inner (live_count old.arena.nodes) made (h.ops o inner g.free.there).kept g.free.point
 
   -- what is shown of it
   same : g.run.after ≡ view_of inner
   same = same_Some g.run.after (view_of inner) (sym g.run.there ∙ shown_there v.table o inner g.free.there)
 
   left : is_done g.run.after.phase ≡ false
-  left = ap (λ (x : OperationView). is_done x.phase) same ∙ left_at inner.walk.phase v inner (live_count old.arena.nodes) made g.free.point.few
+  left = ap (λ (x : OperationView). is_done x.phase) same ∙ so_far_left (is_remove (ask inner.task)) v inner (live_count old.arena.nodes) made g.free.point
 
   -- a step that ends it ends the run
   ends_done : (w : StateView) → IsStep (shown v) w o true → EndsAlone (shown old) w o op DoneMove
@@ -299,11 +331,10 @@ module _ (old v : Core) (o made : ℕ) (h : StateInvariant v) (u : IsUnhindered 
   met = u.op
 
   made_few : made < most_steps (shown old)
-  made_few =
-      few_made met.walk.phase v o met (live_count old.arena.nodes) made (h.ops o met u.there).kept (most_above (live_count old.arena.nodes) met.walk) u.point.below u.point.few
+  made_few = so_far_few (is_remove (ask met.task)) v o met (live_count old.arena.nodes) made (h.ops o met u.there).kept u.point
 
   met_left : HasStep (shown v) o
-  met_left = (view_of met, shown_there v.table o met u.there, left_at met.walk.phase v met (live_count old.arena.nodes) made u.point.few)
+  met_left = (view_of met, shown_there v.table o met u.there, so_far_left (is_remove (ask met.task)) v met (live_count old.arena.nodes) made u.point)
 
 -- each answer but Moved is Done, or that there is no memory
 pub undisturbed_stops : (old v w : Core) (o : ℕ) (op : OperationView) (made : ℕ) (answer : Move) → StateInvariant v → IsUndisturbed (shown old) o op

@@ -31,6 +31,7 @@ use Rattle.mt_core.specs.Nexts.{IsNext}
 use Rattle.mt_core.specs.Points.{StepsOn, above}
 use Rattle.mt_core.specs.Climbs.{TellsClimbed}
 use Rattle.mt_core.specs.declared.climbs.Climbed.TheVariants.{Blocked, NoMemory as NoMemoryClimbed}
+use Rattle.mt_core.proofs.Climbing.{climb_none}
 use Rattle.mt_core.proofs.Points.{nears_by, point_first}
 use Rattle.mt_core.proofs.Following.{IsOver, Writes, holder_open, made, may_over, next_here, opened, over_first, over_next, set_back}
 use Rattle.mt_core.proofs.Leading.{leads_over}
@@ -272,7 +273,8 @@ module _ (c now : Core) (o : ℕ) (is : c ≡ now) (h : StateInvariant c) (next 
             nears =
                 nears_by c (made c arena c.tape c.accounts all) o op after there over_all.there (climb_keeps op.walk.phase at_climb o c.arena arena op.walk w op.splits t told).keeps.guarantee refl
                 (λ height n p. point_first height (n + 1) arena w t after.walk.first
-                (climb_nears op.walk.phase at_climb o c.arena arena op.walk w op.splits t refl arena_is.nodes kept.climbs told height n p));
+                (climb_nears op.walk.phase at_climb o c.arena arena op.walk w op.splits t refl arena_is.nodes kept.climbs told height n p))
+                (λ removes height n r. absurd (climb_none op.walk.phase at_climb height r.round n c.arena op.walk r.few));
             leads =
                 leads_over c o h op there op.walk.phase refl c refl arena c.tape c.accounts all after over_all w (climb_leads op.walk.phase at_climb o c.arena arena op.walk w op.splits t told (c.steps + 1) op.task.key op.outcome op.removal) refl;
           })

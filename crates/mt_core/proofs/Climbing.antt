@@ -4,13 +4,13 @@ use Rattle.std.proofs.lemmas.Bool.{cases_lt}
 use Rattle.mt_arena.specs.Arena.{ArenaView}
 use Rattle.mt_arena.specs.Accesses.{at}
 use Rattle.mt_operation.specs.declared.phase.Phase.{Phase}
-use Rattle.mt_operation.specs.declared.phase.Phase.TheVariants.{Unlock}
+use Rattle.mt_operation.specs.declared.phase.Phase.TheVariants.{SplitPrev, LockParent, InsertChild, InteriorSplit, Reparent, RootGrow, Unlock}
 use Rattle.mt_operation.specs.declared.walk.Walk.{Walk}
 use Rattle.mt_operation.specs.declared.splits.Halves.{Halves}
 use Rattle.mt_operation.specs.declared.splits.Splits.{Splits}
 use Rattle.mt_insert.specs.SplitEdits.{walk_at}
 use Rattle.mt_operation.specs.Phases.{IsClimb}
-use Rattle.mt_core.specs.Points.{AreBelow, HasMade, IsAtPoint, MayHaveGrown, before_unlock}
+use Rattle.mt_core.specs.Points.{AreBelow, HasMade, HasRemoved, IsAtPoint, MayHaveGrown, before_unlock}
 use Rattle.mt_core.proofs.Points.{below_at, few_at, point_at}
 use Rattle.mt_state.proofs.Climbing.{LeavesNodes}
 
@@ -45,6 +45,16 @@ unlock_grown (x ∷ l) some = tt
 pub unlock_most : (l : List Halves) (height : ℕ) → l ≢ [] → before_unlock l height ≡ 23 * height + 7
 unlock_most [] height some = absurd (some refl)
 unlock_most (x ∷ l) height some = refl
+
+-- no removal makes such a step
+pub climb_none : (p : Phase) → IsClimb p → (height round made : ℕ) (v : ArenaView) (w : Walk) → HasRemoved p height round made v w → ⊥
+climb_none SplitPrev i height round made v w few = few
+climb_none LockParent i height round made v w few = few
+climb_none InsertChild i height round made v w few = few
+climb_none InteriorSplit i height round made v w few = few
+climb_none Reparent i height round made v w few = few
+climb_none RootGrow i height round made v w few = few
+climb_none _ i height round made v w few = absurd i
 
 -- so a step from one phase to another comes nearer, by what it leaves of the nodes and how many steps were made
 pub nears_on : (op : ℕ) (old new : ArenaView) (before after : Walk) (s t : Splits) (p q : Phase) → before.phase ≡ p → IsClimb p → after ≡ walk_at q before

@@ -34,11 +34,11 @@ use Rattle.mt_state.proofs.Telling.{Gives}
 use Rattle.mt_state.proofs.LayerSteps.{build_done, leave_done, make_stopped}
 use Rattle.mt_state.proofs.LayerNodes.{LeavesNodes, layer_keeps, layer_goes, layer_leads, layer_leaves, layer_next}
 use Rattle.mt_core.specs.Nexts.{IsNext}
-use Rattle.mt_core.specs.Points.{AreBelow, HasMade, IsAtPoint, IsLiveTree, MayHaveGrown, Nears, StepsOn, above, astray, before_unlock}
+use Rattle.mt_core.specs.Points.{AreBelow, HasMade, HasRemoved, IsRemovalAt, IsAtPoint, IsLiveTree, MayHaveGrown, Nears, StepsOn, above, astray, before_unlock}
 use Rattle.mt_core.proofs.Following.{IsSound, Writes, made, may_move, over_first, phase_is}
 use Rattle.mt_core.proofs.Leading.{leads_over}
 use Rattle.mt_core.proofs.LookPoints.{next_layer, shallow_below}
-use Rattle.mt_core.proofs.Points.{below_at, few_at, nears_by, point_at, point_first}
+use Rattle.mt_core.proofs.Points.{below_at, few_at, nears_by, rounds_at, point_at, point_first}
 
 module _ (o : ℕ) (old new : ArenaView) (l : LeavesNodes o old new) where
   -- all nodes stand below a level where one did
@@ -93,6 +93,14 @@ layer_live Link i v o key w kept = kept.makes.layer.slot.live
 layer_live MarkLayer i v o key w kept = kept.makes.layer.slot.live
 layer_live _ i v o key w kept = absurd i
 
+-- no removal makes a layer
+layer_none : (p : Phase) → IsLayerPhase p → (height round made : ℕ) (v : ArenaView) (w : Walk) → HasRemoved p height round made v w → ⊥
+layer_none MakeLayer i height round made v w few = few
+layer_none MarkUnstable i height round made v w few = few
+layer_none Link i height round made v w few = few
+layer_none MarkLayer i height round made v w few = few
+layer_none _ i height round made v w few = absurd i
+
 -- a step of a layer is left
 layer_open : (p : Phase) → IsLayerPhase p → is_done p ≡ false
 layer_open Done i = absurd i
@@ -119,10 +127,11 @@ module _ (c now : Core) (o : ℕ) (is : c ≡ now) (h : StateInvariant c) (x : O
 
   steps_on : (arena : ArenaView) (w : Walk) (table : Table) → Writes c.table table o (λ y. moved y (c.steps + 1) w) → Guarantee o c.arena arena
       → ((height n : ℕ) → IsAtPoint height n c.arena x.walk x.splits → IsAtPoint height (n + 1) arena w x.splits)
+      → ((height n : ℕ) → IsRemovalAt height n c.arena x.walk x.outcome x.removal → ⊥)
       → LeadsTo x.walk.phase c.arena arena o (c.steps + 1) x.task.key x.outcome (splits_of x.splits) x.removal x.walk w
       → Gives (shown c) (made c arena c.tape c.accounts (set c.table o (Some (moved x (c.steps + 1) w)))) o false
       → IsSound (made c arena c.tape c.accounts table) × StepsOn now (made c arena c.tape c.accounts table) o Moved
-  steps_on arena w table writes guarantee brings leads g =
+  steps_on arena w table writes guarantee brings none leads g =
       let after = moved x (c.steps + 1) w in
       let new = made c arena c.tape c.accounts table in
       let over = over_first c.table table o (λ y. moved y (c.steps + 1) w) x there writes in
@@ -131,7 +140,7 @@ module _ (c now : Core) (o : ℕ) (is : c ≡ now) (h : StateInvariant c) (x : O
         record {
           tells = told.1;
           nears = subst (λ (v : Core). Nears v new o Moved) is
-              (nears_by c new o x after there over.there guarantee refl (λ height n point. point_first height (n + 1) arena w x.splits after.walk.first (brings height n point)));
+              (nears_by c new o x after there over.there guarantee refl (λ height n point. point_first height (n + 1) arena w x.splits after.walk.first (brings height n point)) (λ removes height n r. absurd (none height n r)));
           leads = leads_over c o h x there x.walk.phase refl now is arena c.tape c.accounts table after over w leads refl;
         },
       )
@@ -146,6 +155,7 @@ module _ (c now : Core) (o : ℕ) (is : c ≡ now) (h : StateInvariant c) (x : O
       let layer = phase_is c now o IsLayerPhase is x there next in
       steps_on arena w table writes (layer_keeps p layer o x.task.key c.arena arena x.walk w b).keeps.guarantee
       (λ height n. layer_nears p layer o x.task.key c.arena arena x.walk w x.splits refl (layer_there p layer c.arena o x.task.key x.walk kept) (layer_live p layer c.arena o x.task.key x.walk kept) kept b height n)
+      (λ height n r. layer_none p layer height r.round n c.arena x.walk r.few)
       (layer_leads p layer o x.task.key c.arena arena x.walk w b (c.steps + 1) x.outcome (splits_of x.splits) x.removal)
       (build_done c o h (steps_few few) x there arena w layer b)
 
@@ -175,7 +185,8 @@ module _ (c now : Core) (o : ℕ) (is : c ≡ now) (h : StateInvariant c) (x : O
       → (arena : ArenaView) (w : Walk) (table : Table) (leaves : IsAtLeave c.arena o x.task.key x.walk) → IsLeave o c.arena arena x.walk w
       → Writes c.table table o (λ y. moved y (c.steps + 1) w)
       → IsSound (made c arena c.tape c.accounts table) × StepsOn now (made c arena c.tape c.accounts table) o Moved
-  leave_made few is_arena next untold arena w table leaves t writes = steps_on arena w table writes g.keeps.guarantee brings leads
+  leave_made few is_arena next untold arena w table leaves t writes = steps_on arena w table writes g.keeps.guarantee brings
+      (λ height n r. (rounds_at height n c.arena x.walk x.outcome x.removal Unlock at_unlock r).1 untold) leads
       (leave_done c o h (steps_few few) x there at_unlock untold arena w t)
     where
       g : GoesInto o leaves.tree c.arena arena x.walk w

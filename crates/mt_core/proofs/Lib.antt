@@ -5,6 +5,7 @@ pub mod Leading
 pub mod Astray
 pub mod LookPoints
 pub mod ReadSteps
+mod RemovalNears
 mod RemovalSteps
 pub mod SplitSteps
 pub mod PutSteps

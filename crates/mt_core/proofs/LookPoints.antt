@@ -18,11 +18,13 @@ use Rattle.mt_arena.specs.Forests.{tree_at}
 use Rattle.mt_arena.specs.Arena.{ArenaView, IsArena}
 use Rattle.mt_arena.specs.Accesses.{at}
 use Rattle.mt_operation.specs.declared.phase.Phase.{Phase}
-use Rattle.mt_operation.specs.declared.phase.Phase.TheVariants.{Enter, Pick, Child, Verify, Search, Load, Confirm, Forward, Done}
+use Rattle.mt_operation.specs.declared.phase.Phase.TheVariants.{Enter, Pick, Child, Verify, Search, Load, Confirm, Forward, Lock, Unlock, Done}
 use Rattle.mt_operation.specs.declared.walk.Taken.{Taken}
 use Rattle.mt_operation.specs.declared.walk.Taken.TheVariants.{Missing, Row, Link, Nothing}
 use Rattle.mt_operation.specs.declared.walk.Walk.{Walk}
+use Rattle.mt_operation.specs.declared.splits.Halves.{Halves}
 use Rattle.mt_operation.specs.declared.splits.Splits.{Splits}
+use Rattle.mt_operation.specs.Phases.{IsDescent}
 use Rattle.mt_descent.specs.Seen.{Stands, HasNext, IsRemembered}
 use Rattle.mt_descent.specs.Pasts.{Past}
 use Rattle.mt_descent.specs.KeptWalks.{GoesThrough, slice_in, IsAtVerify, IsAtConfirm, IsAtForward, TakenHolds, KeptAt, IsKept, IsAtBorder}
@@ -31,7 +33,7 @@ use Rattle.mt_descent.proofs.Ways.{same_stands}
 use Rattle.mt_state.proofs.Decides.{same_or_not, outdated_or_not}
 use Rattle.mt_core.proofs.Points.{below_at, few_at}
 use Rattle.mt_core.proofs.Astray.{behind_fewer}
-use Rattle.mt_core.specs.Points.{AreBelow, SeesNow, SeesChild, behind, astray, level_of, above, HasMade, IsAtPoint, IsLiveTree, TookLiveTree}
+use Rattle.mt_core.specs.Points.{AreBelow, Budget, HasMade, MayHaveGrown, SeesNow, SeesChild, behind, astray, level_of, above, until, IsAtPoint, IsBudget, IsLiveTree, TookLiveTree, WalksBy, budget_of}
 use Rattle.mt_arena.proofs.OneLink.{leads}
 use Rattle.mt_operation.specs.declared.walk.Taken.TheVariants as takens
 
@@ -68,81 +70,61 @@ not_deleted : (deleted : Bool) → ¬ (deleted ≡ true) → deleted ≡ false
 not_deleted false never = refl
 not_deleted true never = absurd (never refl)
 
-module _ (v : ArenaView) (height made : ℕ) (s : Splits) where
+-- what it says of a walk at this phase
+walks_at : (v : ArenaView) (w : Walk) (p : Phase) → w.phase ≡ p → (b : Budget) (made : ℕ) → WalksBy w.phase b made v w → WalksBy p b made v w
+walks_at v w p is b made few = subst (λ (q : Phase). WalksBy q b made v w) is few
+
+module _ (v : ArenaView) (b : Budget) (law : IsBudget v b) (made : ℕ) where
   -- a walk that comes to a node with its version of now
-  few_by : (border writes : Bool) (w : Walk) → SeesNow v w → made + 3 * level_of v w ≤ above height w + 3 * height
-      → HasMade (arrival_at border writes) height made v w s
+  few_by : (border writes : Bool) (w : Walk) → SeesNow v w → made + 3 * level_of v w ≤ until b w
+      → WalksBy (arrival_at border writes) b made v w
   few_by true true w now few = inl (now, omega (arith, few))
   few_by true false w now few = inl (now, omega (arith, few))
   few_by false writes w now few = inl (now, few)
 
-  comes_onto : (w : Walk) (k : ℕ) (seen : Parts) → AreBelow v height → seen ≡ (at v k).version
-      → made + 3 * (at v k).level ≤ above height w + 3 * height → IsAtPoint height made v (walk_onto w k seen) s
-  comes_onto w k seen below now few = record { below = λ other. below; few = few_by seen.border w.writes (walk_onto w k seen) now few }
+  comes_onto : (w : Walk) (k : ℕ) (seen : Parts) → seen ≡ (at v k).version → made + 3 * (at v k).level ≤ until b w
+      → WalksBy (walk_onto w k seen).phase b made v (walk_onto w k seen)
+  comes_onto w k seen now few = few_by seen.border w.writes (walk_onto w k seen) now few
 
   -- and one that comes with an older one
-  strays_by : (border writes : Bool) (w : Walk) → made + (5 + behind v w.place.node) ≤ astray height → HasMade (arrival_at border writes) height made v w s
+  strays_by : (border writes : Bool) (w : Walk) → made + (5 + behind v w.place.node) ≤ b.lost → WalksBy (arrival_at border writes) b made v w
   strays_by true true w few = inr (omega (arith, few))
   strays_by true false w few = inr (omega (arith, few))
   strays_by false writes w few = inr (omega (arith, few))
 
-  strays_onto : (w : Walk) (k : ℕ) (seen : Parts) → AreBelow v height → made + (5 + behind v k) ≤ astray height → IsAtPoint height made v (walk_onto w k seen) s
-  strays_onto w k seen below few = record { below = λ other. below; few = strays_by seen.border w.writes (walk_onto w k seen) few }
-
   -- one that stays at its border node, to search or to lock
-  stays_by : (writes : Bool) (w : Walk) → (SeesNow v w × (made ≤ astray height)) ⊎ (made + (5 + behind v w.place.node) ≤ astray height)
-      → HasMade (arrival writes) height made v w s
-  stays_by true w few = elim few [ inl now ↦ inl (now.0, omega (arith, now.1)) | inr strays ↦ inr (omega (arith, strays)) ]
-  stays_by false w few = elim few [ inl now ↦ inl (now.0, omega (arith, now.1)) | inr strays ↦ inr strays ]
-
-  stays_here : (w : Walk) → AreBelow v height → (SeesNow v w × (made ≤ astray height)) ⊎ (made + (5 + behind v w.place.node) ≤ astray height)
-      → IsAtPoint height made v (walk_here w) s
-  stays_here w below few = record { below = λ other. below; few = stays_by w.writes (walk_here w) few }
-
--- a border node that stands leads on
-pub after_live : (w : Walk) (now : Parts) (next : Option ℕ) → now.deleted ≡ false → after_change w now next ≡ record w { place = record w.place { seen = now }; next = next; phase = Forward }
-after_live w now next live =
-    ap (λ (deleted : Bool). cond deleted (walk_anew w) (record w { place = record w.place { seen = now }; next = next; phase = Forward })) live
+  stays_by : (writes : Bool) (w : Walk) → (SeesNow v w × (made ≤ b.lost)) ⊎ (made + (5 + behind v w.place.node) ≤ b.lost)
+      → WalksBy (arrival writes) b made v w
+  stays_by true w few = elim few [ inl now ↦ inl (now.0, omega (arith, now.1, law.begins w.layer)) | inr strays ↦ inr (omega (arith, strays)) ]
+  stays_by false w few = elim few [ inl now ↦ inl (now.0, omega (arith, now.1, law.begins w.layer)) | inr strays ↦ inr strays ]
 
 module _ (v : ArenaView) (w after : Walk) where
   -- a walk picks a child, and looks at it
-  pub pick_nears : (c : ℕ) → w.phase ≡ Pick → after ≡ after_pick w c → (height made : ℕ) (s : Splits) → IsAtPoint height made v w s
-      → IsAtPoint height (made + 1) v after s
-  pick_nears c picks is height made s point =
-      let below = below_at height made v w s Pick picks (λ grown. grown) point in
-      let few : (SeesNow v w × (made + 3 * level_of v w ≤ above height w + 3 * height)) ⊎ (made + 4 ≤ astray height) = few_at height made v w s Pick picks point in
-      subst (λ (x : Walk). IsAtPoint height (made + 1) v x s) (sym is) (record {
-        below = λ other. below;
-        few = elim few [
-          | inl now ↦ inl (now.0, omega (arith, now.1))
-          | inr strays ↦ inr (omega (arith, strays))
-        ];
-      })
+  pub pick_nears : (c : ℕ) → w.phase ≡ Pick → after ≡ after_pick w c → (b : Budget) → IsBudget v b → (made : ℕ) → WalksBy w.phase b made v w
+      → WalksBy after.phase b (made + 1) v after
+  pick_nears c picks is b law made few = subst (λ (x : Walk). WalksBy x.phase b (made + 1) v x) (sym is)
+      (elim (walks_at v w Pick picks b made few) [
+        | inl now ↦ inl (now.0, omega (arith, now.1))
+        | inr strays ↦ inr (omega (arith, strays))
+      ])
 
-  pub child_nears : (r : Option ℕ) → w.phase ≡ Child → IfNone r (after ≡ after_child w (at v w.child).version) → (height made : ℕ) (s : Splits)
-      → IfNone r (IsAtPoint height made v w s → IsAtPoint height (made + 1) v after s)
-  child_nears (Some holder) looks is height made s = tt
-  child_nears None looks is height made s = λ point.
-      let below = below_at height made v w s Child looks (λ grown. grown) point in
-      let few : (SeesNow v w × (made + 3 * level_of v w ≤ above height w + 3 * height + 1)) ⊎ (made + 3 ≤ astray height) = few_at height made v w s Child looks point in
-      subst (λ (x : Walk). IsAtPoint height (made + 1) v x s) (sym is) (record {
-        below = λ other. below;
-        few = elim few [
-          | inl now ↦ inl (now.0, refl, omega (arith, now.1))
-          | inr strays ↦ inr (inl (refl, omega (arith, strays)))
-        ];
-      })
+  pub child_nears : (r : Option ℕ) → w.phase ≡ Child → IfNone r (after ≡ after_child w (at v w.child).version) → (b : Budget) → IsBudget v b → (made : ℕ)
+      → IfNone r (WalksBy w.phase b made v w → WalksBy after.phase b (made + 1) v after)
+  child_nears (Some holder) looks is b law made = tt
+  child_nears None looks is b law made = λ few. subst (λ (x : Walk). WalksBy x.phase b (made + 1) v x) (sym is)
+      (elim (walks_at v w Child looks b made few) [
+        | inl now ↦ inl (now.0, refl, omega (arith, now.1))
+        | inr strays ↦ inr (inl (refl, omega (arith, strays)))
+      ])
 
 module _ (v : ArenaView) (arena : IsArena v.nodes v.trees) (key : Bytes) (past : Past) (w after : Walk) (kept : IsKept v past key None w) where
   -- from its beginning a walk comes to the root, or back to the top where its tree is dead
   pub enter_nears : (r : Option ℕ) → w.phase ≡ Enter
       → IfNone r (after ≡ after_enter (tree_at v.trees w.place.tree).standing w (tree_at v.trees w.place.tree).root (at v (tree_at v.trees w.place.tree).root).version)
-      → (height made : ℕ) (s : Splits) → IfNone r (IsAtPoint height made v w s → IsAtPoint height (made + 1) v after s)
-  enter_nears (Some holder) enters is height made s = tt
-  enter_nears None enters is height made s = λ point.
-      let below = below_at height made v w s Enter enters (λ grown. grown) point in
-      let few : (IsLiveTree v w.place.tree × (made ≤ above height w)) ⊎ (made + 1 ≤ astray height) = few_at height made v w s Enter enters point in
-      subst (λ (x : Walk). IsAtPoint height (made + 1) v x s) (sym is) (by height made s below few (tree_at v.trees w.place.tree).standing refl)
+      → (b : Budget) → IsBudget v b → (made : ℕ) → IfNone r (WalksBy w.phase b made v w → WalksBy after.phase b (made + 1) v after)
+  enter_nears (Some holder) enters is b law made = tt
+  enter_nears None enters is b law made = λ few. subst (λ (x : Walk). WalksBy x.phase b (made + 1) v x) (sym is)
+      (by b law made (walks_at v w Enter enters b made few) (tree_at v.trees w.place.tree).standing refl)
     where
       through : GoesThrough v w.place.tree w.layer key
       through = subst (λ (p : Phase). KeptAt p v past key None w) enters kept
@@ -150,22 +132,17 @@ module _ (v : ArenaView) (arena : IsArena v.nodes v.trees) (key : Bytes) (past :
       k : ℕ
       k = (tree_at v.trees w.place.tree).root
 
-      there : k < length v.nodes
-      there = (arena.forest.each w.place.tree through.there).root_there
-
-      live_root : (tree_at v.trees w.place.tree).standing ≡ Live → (at v k).version.deleted ≡ false
-      live_root live = ((arena.forest.homes k w.place.tree there through.there).root_is refl (λ dead. absurd (let no = sym live ∙ dead in cc))).live
-
-      by : (height made : ℕ) (s : Splits) → AreBelow v height → (IsLiveTree v w.place.tree × (made ≤ above height w)) ⊎ (made + 1 ≤ astray height)
-          → (standing : Standing) → (tree_at v.trees w.place.tree).standing ≡ standing → IsAtPoint height (made + 1) v (after_enter standing w k (at v k).version) s
-      by height made s below few (Made q) e = absurd (through.unmade q e)
-      by height made s below few Live e =
-          let under = below k there (live_root e) in
-          let upto : made ≤ above height w = elim few [ inl now ↦ now.1 | inr strays ↦ omega (arith, strays) ] in
-          comes_onto v height (made + 1) s w k (at v k).version below refl (omega (arith, upto, under))
-      by height made s below few Dead e = elim few [
+      by : (b : Budget) → IsBudget v b → (made : ℕ) → WalksBy Enter b made v w
+          → (standing : Standing) → (tree_at v.trees w.place.tree).standing ≡ standing
+          → WalksBy (after_enter standing w k (at v k).version).phase b (made + 1) v (after_enter standing w k (at v k).version)
+      by b law made few (Made q) e = absurd (through.unmade q e)
+      by b law made few Live e =
+          let under = law.roots w.place.tree through.there e in
+          let upto : made ≤ b.enters w.layer = elim few [ inl now ↦ now.1 | inr strays ↦ omega (arith, strays, law.begins w.layer) ] in
+          comes_onto v b law (made + 1) w k (at v k).version refl (omega (arith, upto, under))
+      by b law made few Dead e = elim few [
         | inl now ↦ absurd (let no = sym now.0 ∙ e in cc)
-        | inr strays ↦ record { below = λ grown. below; few = inl (arena.forest.top.live, omega (arith, strays)) }
+        | inr strays ↦ inl (arena.forest.top.live, omega (arith, strays, law.begins 0))
       ]
 
   -- the child of a node that was as it is seen is live
@@ -173,77 +150,75 @@ module _ (v : ArenaView) (arena : IsArena v.nodes v.trees) (key : Bytes) (past :
   child_live verifying stands = (is_child v key w arena verifying stands).live
 
   -- one that is astray comes to the child where its node is as it was; else it picks again with the version of now, or begins anew
-  strays_on : (height made : ℕ) (s : Splits) → IsAtVerify v key w → Verifies (at v w.place.node) w after → AreBelow v height → made + 2 ≤ astray height
-      → (Stands (at v w.place.node) w.place.seen → IsAtPoint height (made + 1) v (walk_onto w w.child w.child_seen) s) → IsAtPoint height (made + 1) v after s
-  strays_on height made s verifying is below upto onto = elim (same_or_not (at v w.place.node).version w.place.seen) [
-    | inl same ↦ subst (λ (x : Walk). IsAtPoint height (made + 1) v x s) (sym (is.same same))
+  strays_on : (b : Budget) → IsBudget v b → (made : ℕ) → IsAtVerify v key w → Verifies (at v w.place.node) w after → made + 2 ≤ b.lost
+      → (Stands (at v w.place.node) w.place.seen → WalksBy (walk_onto w w.child w.child_seen).phase b (made + 1) v (walk_onto w w.child w.child_seen))
+      → WalksBy after.phase b (made + 1) v after
+  strays_on b law made verifying is upto onto = elim (same_or_not (at v w.place.node).version w.place.seen) [
+    | inl same ↦ subst (λ (x : Walk). WalksBy x.phase b (made + 1) v x) (sym (is.same same))
         (onto (same_stands (at v w.place.node) w.place.seen verifying.above.covers.remembered.undeleted same))
     | inr other ↦ elim (outdated_or_not (at v w.place.node) w.place.seen) [
-      | inl outdated ↦ subst (λ (x : Walk). IsAtPoint height (made + 1) v x s) (sym (is.outdated other outdated)) (record { below = λ grown. below; few = inr (omega (arith, upto)) })
+      | inl outdated ↦ subst (λ (x : Walk). WalksBy x.phase b (made + 1) v x) (sym (is.outdated other outdated)) (inr (omega (arith, upto)))
       | inr whole ↦
-          let under = below w.place.node verifying.above.covers.remembered.there (not_deleted (at v w.place.node).version.deleted (λ gone. whole (inl gone))) in
-          subst (λ (x : Walk). IsAtPoint height (made + 1) v x s) (sym (is.changed other whole)) (record { below = λ grown. below; few = inl (refl, omega (arith, upto, under)) })
+          let under = law.under w.place.node verifying.above.covers.remembered.there (not_deleted (at v w.place.node).version.deleted (λ gone. whole (inl gone))) w.layer w.place.tree in
+          subst (λ (x : Walk). WalksBy x.phase b (made + 1) v x) (sym (is.changed other whole)) (inl (refl, omega (arith, upto, under)))
     ]
   ]
 
   -- and so does one that is not
-  pub verify_nears : (r : Option ℕ) → w.phase ≡ Verify → IfNone r (Verifies (at v w.place.node) w after) → (height made : ℕ) (s : Splits)
-      → IfNone r (IsAtPoint height made v w s → IsAtPoint height (made + 1) v after s)
-  verify_nears (Some holder) verifies is height made s = tt
-  verify_nears None verifies is height made s = λ point.
+  pub verify_nears : (r : Option ℕ) → w.phase ≡ Verify → IfNone r (Verifies (at v w.place.node) w after) → (b : Budget) → IsBudget v b → (made : ℕ)
+      → IfNone r (WalksBy w.phase b made v w → WalksBy after.phase b (made + 1) v after)
+  verify_nears (Some holder) verifies is b law made = tt
+  verify_nears None verifies is b law made = λ point.
       let verifying : IsAtVerify v key w = subst (λ (p : Phase). KeptAt p v past key None w) verifies kept in
-      let below : AreBelow v height = below_at height made v w s Verify verifies (λ grown. grown) point in
-      let few : (SeesNow v w × SeesChild v w × (made + 3 * level_of v w ≤ above height w + 3 * height + 2)) ⊎ (SeesChild v w × (made + 2 ≤ astray height)) ⊎ (made + (6 + behind v w.child) ≤ astray height) =
-      few_at height made v w s Verify verifies point in
+      let few : WalksBy Verify b made v w = walks_at v w Verify verifies b made point in
       elim few [
         | inl now ↦
             let same = same_now v w now.0 in
             let level = child_level v key w arena verifying (same_stands (at v w.place.node) w.place.seen verifying.above.covers.remembered.undeleted same) in
-            subst (λ (x : Walk). IsAtPoint height (made + 1) v x s) (sym (is.same same))
-            (comes_onto v height (made + 1) s w w.child w.child_seen below now.1 (omega (arith, now.2, level)))
+            subst (λ (x : Walk). WalksBy x.phase b (made + 1) v x) (sym (is.same same))
+            (comes_onto v b law (made + 1) w w.child w.child_seen now.1 (omega (arith, now.2, level)))
         | inr strays ↦ elim strays [
-          | inl sees ↦ strays_on height made s verifying is below sees.1 (λ stands.
-              let under = below w.child verifying.picked.there (child_live verifying stands) in
-              comes_onto v height (made + 1) s w w.child w.child_seen below sees.0 (omega (arith, sees.1, under)))
-          | inr far ↦ strays_on height made s verifying is below (omega (arith, far)) (λ stands. strays_onto v height (made + 1) s w w.child w.child_seen below (omega (arith, far)))
+          | inl sees ↦ strays_on b law made verifying is sees.1 (λ stands.
+              let under = law.under w.child verifying.picked.there (child_live verifying stands) w.layer w.place.tree in
+              comes_onto v b law (made + 1) w w.child w.child_seen sees.0 (omega (arith, sees.1, under)))
+          | inr far ↦ strays_on b law made verifying is (omega (arith, far)) (λ stands. strays_by v b law (made + 1) w.child_seen.border w.writes (walk_onto w w.child w.child_seen) (omega (arith, far)))
         ]
       ]
 
   -- it goes on to the next border node, which begins behind its own, or stays; or begins anew where that one was deleted
   pub forward_nears : (r : Option ℕ) (slice : ℕ) → w.phase ≡ Forward → (w.next ≡ None → IsNone r × (after ≡ walk_here w))
       → ((j : ℕ) → w.next ≡ Some j → IfNone r (after ≡ after_forward w slice j (at v j)))
-      → (height made : ℕ) (s : Splits) → IfNone r (IsAtPoint height made v w s → IsAtPoint height (made + 1) v after s)
-  forward_nears (Some holder) slice forwards last is height made s = tt
-  forward_nears None slice forwards last is height made s = λ point.
+      → (b : Budget) → IsBudget v b → (made : ℕ) → IfNone r (WalksBy w.phase b made v w → WalksBy after.phase b (made + 1) v after)
+  forward_nears (Some holder) slice forwards last is b law made = tt
+  forward_nears None slice forwards last is b law made = λ point.
       let forward : IsAtForward v key w = subst (λ (p : Phase). KeptAt p v past key None w) forwards kept in
-      let below : AreBelow v height = below_at height made v w s Forward forwards (λ grown. grown) point in
-      let few : (SeesNow v w × (made + (2 + behind v w.place.node) ≤ astray height)) ⊎ (made + (6 + behind v w.place.node) ≤ astray height) = few_at height made v w s Forward forwards point in
-      let here : IsAtPoint height (made + 1) v (walk_here w) s = stays_here v height (made + 1) s w below (elim few [
+      let few : WalksBy Forward b made v w = walks_at v w Forward forwards b made point in
+      let here : WalksBy (walk_here w).phase b (made + 1) v (walk_here w) = stays_by v b law (made + 1) w.writes (walk_here w) (elim few [
         | inl now ↦ inl (now.0, omega (arith, now.1))
         | inr strays ↦ inr (omega (arith, strays))
       ]) in
-      let upto : made + (2 + behind v w.place.node) ≤ astray height = elim few [
+      let upto : made + (2 + behind v w.place.node) ≤ b.lost = elim few [
         | inl now ↦ now.1
         | inr strays ↦ omega (arith, strays)
       ] in
-      by_next height made s here (λ j e. subst (λ (x : Walk). IsAtPoint height (made + 1) v x s) (sym (is j e))
-      (onward height made s forward.next below upto here j e (at v j).version.deleted (nat_le (at v j).low slice) refl)) w.next refl
+      by_next b made here (λ j e. subst (λ (x : Walk). WalksBy x.phase b (made + 1) v x) (sym (is j e))
+      (onward b made forward.next upto here j e (at v j).version.deleted (nat_le (at v j).low slice) refl)) w.next refl
     where
-      onward : (height made : ℕ) (s : Splits) → HasNext v w.place.tree w.place.node w.place.seen w.next → AreBelow v height
-          → made + (2 + behind v w.place.node) ≤ astray height → IsAtPoint height (made + 1) v (walk_here w) s
-          → (j : ℕ) → w.next ≡ Some j → (deleted b : Bool) → (at v j).version.deleted ≡ deleted
-          → IsAtPoint height (made + 1) v (cond deleted (walk_anew w) (cond b (walk_to_next w j (at v j)) (walk_here w))) s
-      onward height made s next below upto here j e true b gone = record { below = λ grown. below; few = inr (omega (arith, upto)) }
-      onward height made s next below upto here j e false false live = here
-      onward height made s next below upto here j e false true live =
+      onward : (b : Budget) (made : ℕ) → HasNext v w.place.tree w.place.node w.place.seen w.next
+          → made + (2 + behind v w.place.node) ≤ b.lost → WalksBy (walk_here w).phase b (made + 1) v (walk_here w)
+          → (j : ℕ) → w.next ≡ Some j → (deleted near : Bool) → (at v j).version.deleted ≡ deleted
+          → let x = cond deleted (walk_anew w) (cond near (walk_to_next w j (at v j)) (walk_here w)) in WalksBy x.phase b (made + 1) v x
+      onward b made next upto here j e true near gone = inr (omega (arith, upto))
+      onward b made next upto here j e false false live = here
+      onward b made next upto here j e false true live =
           let fewer = behind_fewer v.nodes (at v w.place.node).low (at v j).low j (next.after j e) (next.there j e) live refl in
-          record { below = λ grown. below; few = inl (refl, omega (arith, upto, fewer)) }
+          inl (refl, omega (arith, upto, fewer))
 
-      by_next : (height made : ℕ) (s : Splits) → IsAtPoint height (made + 1) v (walk_here w) s
-          → ((j : ℕ) → w.next ≡ Some j → IsAtPoint height (made + 1) v after s) → (next : Option ℕ) → w.next ≡ next
-          → IsAtPoint height (made + 1) v after s
-      by_next height made s here there None e = subst (λ (x : Walk). IsAtPoint height (made + 1) v x s) (sym (last e).1) here
-      by_next height made s here there (Some j) e = there j e
+      by_next : (b : Budget) (made : ℕ) → WalksBy (walk_here w).phase b (made + 1) v (walk_here w)
+          → ((j : ℕ) → w.next ≡ Some j → WalksBy after.phase b (made + 1) v after) → (next : Option ℕ) → w.next ≡ next
+          → WalksBy after.phase b (made + 1) v after
+      by_next b made here there None e = subst (λ (x : Walk). WalksBy x.phase b (made + 1) v x) (sym (last e).1) here
+      by_next b made here there (Some j) e = there j e
 
 -- a search leaves its walk at the node
 pub search_nears : (v : ArenaView) (w after : Walk) (f : Find) (step : ℕ) → w.phase ≡ Search → after ≡ after_search f w step
@@ -358,3 +333,50 @@ confirm_nears v past key row w after stored confirming h confirms goes_on height
     onward stands Missing e holds on = absurd (on refl)
     onward stands Row e holds on = absurd (on refl)
     onward stands Nothing e holds on = absurd (on refl)
+
+-- the bounds of a get or a put hold of it where all live nodes are below the height
+pub height_law : (v : ArenaView) (height : ℕ) → IsArena v.nodes v.trees → AreBelow v height → IsBudget v (budget_of height)
+height_law v height arena below = record {
+  begins = λ layer. omega arith;
+  under = λ k there live layer t. let low = below k there live in omega (arith, low);
+  roots = λ t there live.
+      let root = (arena.forest.each t there).root_there in
+      let home = (arena.forest.homes (tree_at v.trees t).root t root there).root_is refl (λ dead. absurd (let no = sym live ∙ dead in cc)) in
+      below (tree_at v.trees t).root root home.live;
+}
+
+-- the phases on the way are those of which it speaks
+pub walks_made : (p : Phase) (height made : ℕ) (v : ArenaView) (w : Walk) (s : Splits) → WalksBy p (budget_of height) made v w → HasMade p height made v w s
+walks_made Enter height made v w s few = few
+walks_made Pick height made v w s few = few
+walks_made Child height made v w s few = few
+walks_made Verify height made v w s few = few
+walks_made Search height made v w s few = few
+walks_made Load height made v w s few = few
+walks_made Confirm height made v w s few = few
+walks_made Forward height made v w s few = few
+walks_made Lock height made v w s few = few
+walks_made _ height made v w s few = absurd few
+
+made_walks : (p : Phase) → IsDescent p → (height made : ℕ) (v : ArenaView) (w : Walk) (s : Splits) → HasMade p height made v w s → WalksBy p (budget_of height) made v w
+made_walks Enter i height made v w s few = few
+made_walks Pick i height made v w s few = few
+made_walks Child i height made v w s few = few
+made_walks Verify i height made v w s few = few
+made_walks Forward i height made v w s few = few
+made_walks _ i height made v w s few = absurd i
+
+descent_ungrown : (p : Phase) → IsDescent p → (halves : List Halves) → ¬ MayHaveGrown p halves
+descent_ungrown Unlock i halves grown = i
+descent_ungrown _ i halves grown = grown
+
+-- a step down brings a get or a put on
+pub descent_nears : (v : ArenaView) (w x : Walk) (s : Splits) → IsArena v.nodes v.trees → IsDescent w.phase
+    → ((b : Budget) → IsBudget v b → (made : ℕ) → WalksBy w.phase b made v w → WalksBy x.phase b (made + 1) v x)
+    → (height made : ℕ) → IsAtPoint height made v w s → IsAtPoint height (made + 1) v x s
+descent_nears v w x s arena descent nears height made point =
+    let below = point.below (descent_ungrown w.phase descent s.halves.items) in
+    record {
+      below = λ ungrown. below;
+      few = walks_made x.phase height (made + 1) v x s (nears (budget_of height) (height_law v height arena below) made (made_walks w.phase descent height made v w s point.few));
+    }

@@ -28,7 +28,7 @@ use Rattle.mt_state.specs.Phases.{GoesForward, LeadsTo}
 use Rattle.mt_state.specs.Ways.{Descends, ShowsTaken}
 use Rattle.mt_state.proofs.Descents.{Leads, descends, entered, verified, forwarded, stayed}
 use Rattle.mt_state.proofs.Replies.{get_asks}
-use Rattle.mt_core.specs.Points.{IsAtPoint}
+use Rattle.mt_core.specs.Points.{Budget, IsBudget, WalksBy}
 use Rattle.mt_core.specs.Looks.{led_to, MayLoad, MayConfirm, TellsDescended, TellsLoaded}
 use Rattle.mt_operation.specs.declared.removal.Removal.{Removal}
 
@@ -200,7 +200,7 @@ tells_shown f taken reply v op step after told gets loads is says = record {
 -- what a step makes of an operation of which it leads the walk down
 pub looks_down : (v : ArenaView) (op : Operation) (w : Walk)
     → ((o step : ℕ) (told : Option Outcome) (s : SplitsView) (rem : Removal) → LeadsTo op.walk.phase v v o step op.task.key told s rem op.walk w) → Descends op.walk w
-    → ((height made : ℕ) (splits : Splits) → IsAtPoint height made v op.walk splits → IsAtPoint height (made + 1) v w splits)
+    → ((budget : Budget) → IsBudget v budget → (made : ℕ) → WalksBy op.walk.phase budget made v op.walk → WalksBy w.phase budget (made + 1) v w)
     → ((past : Past) → IsKept v past op.task.key None w)
     → TellsDescended v op (led_to op w op.outcome)
 looks_down v op w leads goes nears kept = record { leads = leads; goes = goes; nears = nears; kept = kept; others = refl }

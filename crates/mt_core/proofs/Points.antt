@@ -1,5 +1,5 @@
 -- How a step brings an operation on that nobody is in the way of: by the point to which its walk came. For each phase of `Inner`.
-use Rattle.std.proofs.Common.{◌≡◌, ℕ, ◌+◌, inl, inr, length, Some, sym, ap, subst, ◌∙◌}
+use Rattle.std.proofs.Common.{◌≡◌, ℕ, ◌+◌, inl, inr, Bool, true, false, length, Option, Some, refl, sym, ap, subst, ◌∙◌}
 use Rattle.std.proofs.lemmas.Bool.{cases_lt, cases_eq}
 use Rattle.std.proofs.lemmas.Option.{same_Some}
 use Rattle.mt_arena.specs.Arena.{ArenaView, Guarantee}
@@ -14,7 +14,9 @@ use Rattle.mt_operation.specs.declared.operation.Operation.{Operation}
 use Rattle.mt_operation.specs.Tables.{op_at as operation_at}
 use Rattle.mt_state.specs.declared.moves.Move.TheVariants.{Moved}
 use Rattle.mt_state.specs.Views.{Core}
-use Rattle.mt_core.specs.Points.{AreBelow, HasMade, MayHaveGrown, IsAtPoint, IsFreeOfOthers, Nears}
+use Rattle.mt_core.specs.Points.{AreBelow, HasMade, HasRemoved, MayHaveGrown, IsAtPoint, IsFreeOfOthers, IsRemovalAt, IsSoFar, Nears, RoundsAt}
+use Rattle.mt_operation.specs.declared.outcome.Outcome.{Outcome}
+use Rattle.mt_operation.specs.declared.removal.Removal.{Removal}
 
 -- the number of the first step says nothing of the point
 made_first : (p : Phase) (height made : ℕ) (v : ArenaView) (w : Walk) (s : Splits) (first : ℕ) → HasMade p height made v w s
@@ -45,6 +47,43 @@ module _ (height made : ℕ) (v : ArenaView) (w : Walk) (s : Splits) (p : Phase)
   pub few_at : IsAtPoint height made v w s → HasMade p height made v w s
   few_at point = subst (λ (q : Phase). HasMade q height made v w s) is point.few
 
+-- what brings a get or a put on, and what a removal, by which of them it is
+so_far : (b : Bool) (height made : ℕ) (v new : ArenaView) (op after : Operation)
+    → (IsAtPoint height made v op.walk op.splits → IsAtPoint height (made + 1) new after.walk after.splits)
+    → (b ≡ true → IsRemovalAt height made v op.walk op.outcome op.removal → IsRemovalAt height (made + 1) new after.walk after.outcome after.removal)
+    → IsSoFar b height made v op → IsSoFar b height (made + 1) new after
+so_far true height made v new op after brings removes point = removes refl point
+so_far false height made v new op after brings removes point = brings point
+
+-- how far a removal has come that is at this phase
+module _ (height made : ℕ) (v : ArenaView) (w : Walk) (told : Option Outcome) (r : Removal) (p : Phase) (is : w.phase ≡ p) (point : IsRemovalAt height made v w told r) where
+  pub removed_at : HasRemoved p height point.round made v w
+  removed_at = subst (λ (q : Phase). HasRemoved q height point.round made v w) is point.few
+
+  pub rounds_at : RoundsAt p told point.round v w r
+  rounds_at = subst (λ (q : Phase). RoundsAt q told point.round v w r) is point.rounds
+
+-- the number of the first step says nothing of it
+removed_first : (p : Phase) (height round made : ℕ) (v : ArenaView) (w : Walk) (first : ℕ) → HasRemoved p height round made v w
+    → HasRemoved p height round made v (record w { first = first })
+removed_first Enter height round made v w first h = h
+removed_first _ height round made v w first h = h
+
+rounds_first : (p : Phase) (told : Option Outcome) (round : ℕ) (v : ArenaView) (w : Walk) (first : ℕ) (r : Removal) → RoundsAt p told round v w r
+    → RoundsAt p told round v (record w { first = first }) r
+rounds_first Enter told round v w first r h = h
+rounds_first _ told round v w first r h = h
+
+pub removal_first : (height made : ℕ) (v : ArenaView) (w : Walk) (told : Option Outcome) (r : Removal) (first : ℕ) → IsRemovalAt height made v w told r
+    → IsRemovalAt height made v (record w { first = first }) told r
+removal_first height made v w told r first p = record {
+  round = p.round;
+  most = p.most;
+  live = p.live;
+  rounds = rounds_first w.phase told p.round v w first r p.rounds;
+  few = removed_first w.phase height p.round made v w first p.few;
+}
+
 module _ (c new : Core) (o : ℕ) (op after : Operation) (there : operation_at c.table o ≡ Some op) (came : operation_at new.table o ≡ Some after) (g : Guarantee o c.arena new.arena) (asked : after.task ≡ op.task) where
   -- nobody else comes to hold a node
   free_after : IsFreeOfOthers c.arena o → IsFreeOfOthers new.arena o
@@ -56,13 +95,30 @@ module _ (c new : Core) (o : ℕ) (op after : Operation) (there : operation_at c
     ]
   ]
 
-  -- a step brings the operation on whose walk came to the next point
+  -- a step brings the operation on whose walk came to the next point, or which has come further with its removal
   pub nears_by : ((height made : ℕ) → IsAtPoint height made c.arena op.walk op.splits → IsAtPoint height (made + 1) new.arena after.walk after.splits)
+      → (is_remove (ask op.task) ≡ true → (height made : ℕ) → IsRemovalAt height made c.arena op.walk op.outcome op.removal
+      → IsRemovalAt height (made + 1) new.arena after.walk after.outcome after.removal)
       → Nears c new o Moved
-  nears_by brings height made u = record {
+  nears_by brings removes height made u = record {
     op = after;
     there = came;
-    stays = ap (λ (task : Task). is_remove (ask task)) (asked ∙ ap (λ (x : Operation). x.task) (same_Some op u.op (sym there ∙ u.there))) ∙ u.stays;
     free = free_after u.free;
-    point = brings height made (subst (λ (x : Operation). IsAtPoint height made c.arena x.walk x.splits) (same_Some u.op op (sym u.there ∙ there)) u.point);
+    point = subst (λ (task : Task). IsSoFar (is_remove (ask task)) height (made + 1) new.arena after) (sym asked)
+        (so_far (is_remove (ask op.task)) height made c.arena new.arena op after (brings height made) (λ is. removes is height made)
+        (subst (λ (x : Operation). IsSoFar (is_remove (ask x.task)) height made c.arena x) (same_Some u.op op (sym u.there ∙ there)) u.point));
+  }
+
+  -- and a removal alone, by what brings it on
+  pub nears_removal : is_remove (ask op.task) ≡ true → ((height made : ℕ) → IsRemovalAt height made c.arena op.walk op.outcome op.removal
+      → IsRemovalAt height (made + 1) new.arena after.walk after.outcome after.removal)
+      → Nears c new o Moved
+  nears_removal is removes height made u = record {
+    op = after;
+    there = came;
+    free = free_after u.free;
+    point = subst (λ (task : Task). IsSoFar (is_remove (ask task)) height (made + 1) new.arena after) (sym asked)
+        (subst (λ (b : Bool). IsSoFar b height (made + 1) new.arena after) (sym is) (removes height made
+        (subst (λ (b : Bool). IsSoFar b height made c.arena op) is
+        (subst (λ (x : Operation). IsSoFar (is_remove (ask x.task)) height made c.arena x) (same_Some u.op op (sym u.there ∙ there)) u.point))));
   }

@@ -47,10 +47,15 @@ use Rattle.mt_state.proofs.Confirming.{get_of, confirm_done, confirm_back}
 use Rattle.mt_core.specs.Nexts.{ending}
 use Rattle.mt_core.specs.Looks.{Looks, LooksAt, MayDescend, MayLook, led_to, TellsDescended, TellsSearched, TellsLoaded, TellsConfirmed}
 use Rattle.mt_core.specs.Points.{IsAtPoint, Nears, StepsOn}
-use Rattle.mt_core.proofs.Points.{point_first, nears_by}
+use Rattle.mt_core.proofs.Points.{point_first, removal_first, nears_by}
+use Rattle.mt_core.proofs.RemovalNears.{descent_removal}
+use Rattle.mt_core.specs.Points.{IsRemovalAt}
+use Rattle.mt_remove.specs.Writes.{is_remove}
+use Rattle.mt_state.proofs.Bound.{get_no_remove}
+use Rattle.std.proofs.lemmas.Bool.{both_ways}
 use Rattle.mt_core.proofs.Following.{IsSound, IsOver, holder_open, in_the_way}
 use Rattle.mt_core.proofs.Leading.{leads_over}
-use Rattle.mt_core.proofs.LookPoints.{search_nears, load_nears, confirm_nears}
+use Rattle.mt_core.proofs.LookPoints.{search_nears, load_nears, confirm_nears, descent_nears}
 
 -- who holds nothing has a step left
 free_unfinished : (p : Phase) → IsFree p → is_done p ≡ false
@@ -129,6 +134,18 @@ module _ (c now : Core) (o : ℕ) (is : c ≡ now) (h : StateInvariant c) (room 
   abbrev BringsOn : Walk → Type 0
   BringsOn w = (height made : ℕ) → IsAtPoint height made c.arena op.walk op.splits → IsAtPoint height (made + 1) c.arena w op.splits
 
+  -- and so it does where it removes
+  abbrev BringsRemoval : Walk → Option Outcome → Type 0
+  BringsRemoval w told = is_remove (ask op.task) ≡ true → (height made : ℕ) → IsRemovalAt height made c.arena op.walk op.outcome op.removal
+      → IsRemovalAt height (made + 1) c.arena w told op.removal
+
+  -- no get removes
+  reads_get : (p : Phase) → op.walk.phase ≡ p → (IsOfKind p op.walk.writes → op.walk.writes ≡ false) → (w : Walk) (told : Option Outcome) → BringsRemoval w told
+  reads_get p at_p reads w told removes =
+      let always = (h.ops o op there).always in
+      let gets = get_of (is_get (ask op.task)) op.walk.writes always.writes (reads (subst (λ (q : Phase). IsOfKind q op.walk.writes) at_p always.kind)) in
+      absurd (both_ways _ (get_no_remove (ask op.task) gets) removes)
+
   -- where the table of phases leads it
   abbrev GoesOn : Phase → Walk → Type 0
   GoesOn p w = LeadsTo p c.arena c.arena o (c.steps + 1) op.task.key op.outcome (splits_of op.splits) op.removal op.walk w
@@ -136,9 +153,9 @@ module _ (c now : Core) (o : ℕ) (is : c ≡ now) (h : StateInvariant c) (room 
   led_over : (w : Walk) (told : Option Outcome) → IsOver c.table (led w told) o (noted (moved op (c.steps + 1) w) told)
   led_over w told = record { is = refl; there = set_is c.table o (noted (moved op (c.steps + 1) w) told) op there }
 
-  moved_gives : (w : Walk) (told : Option Outcome) → Gives (shown now) (stepped c (led w told)) o false → BringsOn w → GoesOn op.walk.phase w
+  moved_gives : (w : Walk) (told : Option Outcome) → Gives (shown now) (stepped c (led w told)) o false → BringsOn w → BringsRemoval w told → GoesOn op.walk.phase w
       → (table : Table) → table ≡ led w told → StepGives table Moved
-  moved_gives w told g brings goes table e = subst (λ (t : Table). StepGives t Moved) (sym e) (
+  moved_gives w told g brings removes goes table e = subst (λ (t : Table). StepGives t Moved) (sym e) (
     g.0,
     record {
       tells = g.1;
@@ -152,6 +169,7 @@ module _ (c now : Core) (o : ℕ) (is : c ≡ now) (h : StateInvariant c) (room 
           let after = noted (moved op (c.steps + 1) w) told in
           nears_by c (stepped c (led w told)) o op after there (set_is c.table o after op there) (nothing_changes o c.arena) refl
           (λ height made point. point_first height (made + 1) c.arena w op.splits after.walk.first (brings height made point))
+          (λ is height made r. removal_first height (made + 1) c.arena w told op.removal after.walk.first (removes is height made r))
 
   done_gives : (w : Walk) (told : Option Outcome) → Gives (shown now) (stepped c (led w told)) o true → GoesOn op.walk.phase w → (table : Table)
       → table ≡ led w told → StepGives table DoneMove
@@ -173,7 +191,7 @@ module _ (c now : Core) (o : ℕ) (is : c ≡ now) (h : StateInvariant c) (room 
 
   -- a step down
   pub descent_gives : (w : Walk) → IsDescent op.walk.phase → Descends op.walk w → ((past : Past) → IsKept c.arena past op.task.key None w)
-      → BringsOn w → GoesOn op.walk.phase w → (table : Table) → table ≡ set c.table o (Some (moved op (c.steps + 1) w)) → StepGives table Moved
+      → BringsOn w → BringsRemoval w op.outcome → GoesOn op.walk.phase w → (table : Table) → table ≡ set c.table o (Some (moved op (c.steps + 1) w)) → StepGives table Moved
   descent_gives w descent goes kept brings = moved_gives w op.outcome (descend_done c (shown now) o (ap shown is) h room op there w descent goes kept) brings
 
   -- what is kept of an operation that is to search
@@ -225,6 +243,7 @@ module _ (c now : Core) (o : ℕ) (is : c ≡ now) (h : StateInvariant c) (room 
   search_gives_missing arena at_search w found kept confirms told says table e =
       moved_gives w (Some (record { reply = Absent; at = c.steps + 1 })) (search_missing c (shown now) o (ap shown is) h room arena op there at_search w found.0 found.1 found.2 kept confirms)
       (λ height made point. search_nears c.arena op.walk w found.0 (c.steps + 1) at_search found.2 height made op.splits point)
+      (reads_get Search at_search (λ kind. kind) w (Some (record { reply = Absent; at = c.steps + 1 })))
       (goes_at Search at_search w found)
       table (e ∙ ap (λ (x : Outcome). led w (Some x)) says)
 
@@ -237,6 +256,7 @@ module _ (c now : Core) (o : ℕ) (is : c ≡ now) (h : StateInvariant c) (room 
   search_gives_found arena at_search w found kept other =
       moved_gives w op.outcome (search_found c (shown now) o (ap shown is) h room arena op there at_search w found.0 found.1 found.2 kept (loads found.0 found.2))
       (λ height made point. search_nears c.arena op.walk w found.0 (c.steps + 1) at_search found.2 height made op.splits point)
+      (reads_get Search at_search (λ kind. kind) w op.outcome)
       (goes_at Search at_search w found)
     where
       loads : (f : Find) → w ≡ after_search f op.walk (c.steps + 1) → w.phase ≡ Load
@@ -261,6 +281,7 @@ module _ (c now : Core) (o : ℕ) (is : c ≡ now) (h : StateInvariant c) (room 
   confirm_gives_back at_confirm stable w same confirms kept other =
       moved_gives w None (confirm_back c (shown now) o (ap shown is) h room op there at_confirm w same confirms kept other)
       (λ height made point. let k = confirming at_confirm in confirm_nears c.arena (past_of c) op.task.key k.0 op.walk w (h.ops o op there).always.stored at_confirm k.1 confirms other height made op.splits point)
+      (reads_get Confirm at_confirm (λ kind. kind) w None)
       (goes_at Confirm at_confirm w (stable, confirms))
 
   -- a load
@@ -281,6 +302,7 @@ module _ (c now : Core) (o : ℕ) (is : c ≡ now) (h : StateInvariant c) (room 
           (load_taken c (shown now) o (ap shown is) h room arena op there at_load t.walk t.row after.outcome t.loads shows same_now
           (λ past stamped since. kept_loads c.arena op.task.key op.walk t.walk past t.row arena (load_kept at_load) stamped since t.loads))
           (λ height made point. load_nears c.arena op.task.key op.walk t.walk t.row arena (load_kept at_load).at_border at_load t.loads height made op.splits point)
+          (reads_get Load at_load (λ kind. kind) t.walk after.outcome)
           (goes_at Load at_load t.walk (record { row = t.row; taken = t.walk; loads = t.loads; goes = inl refl }))
           table (e ∙ ap (λ (x : Walk). led x after.outcome) same))
 
@@ -304,10 +326,11 @@ module _ (c now : Core) (o : ℕ) (is : c ≡ now) (h : StateInvariant c) (room 
   led_table after w told others table e = e ∙ ap (λ (x : Operation). set c.table o (Some (counted x (c.steps + 1) op.walk.first))) others
 
   -- a body that goes down
-  pub descent_comes : IsDescent op.walk.phase → Comes (TellsDescended c.arena)
-  descent_comes descent after t table e answer ends =
+  pub descent_comes : IsArena c.arena.nodes c.arena.trees → IsDescent op.walk.phase → Comes (TellsDescended c.arena)
+  descent_comes arena descent after t table e answer ends =
       subst (StepGives table) (sym (ends ∙ way_moves after.walk.phase t.goes.on_way))
-      (descent_gives after.walk descent t.goes t.kept (λ height made point. t.nears height made op.splits point) (t.leads o (c.steps + 1) op.outcome (splits_of op.splits) op.removal) table (led_table after after.walk op.outcome t.others table e))
+      (descent_gives after.walk descent t.goes t.kept (descent_nears c.arena op.walk after.walk op.splits arena descent t.nears)
+      (λ removes. descent_removal c.arena op.walk after.walk op.outcome op.removal arena descent t.nears) (t.leads o (c.steps + 1) op.outcome (splits_of op.splits) op.removal) table (led_table after after.walk op.outcome t.others table e))
 
   -- one that searches
   pub search_comes : IsArena c.arena.nodes c.arena.trees → op.walk.phase ≡ Search → Comes (TellsSearched c.arena (c.steps + 1))
@@ -402,11 +425,11 @@ module _ (c now : Core) (o : ℕ) (is : c ≡ now) (h : StateInvariant c) (room 
 
   -- what a look gives that was made
   pub look_comes : IsArena c.arena.nodes c.arena.trees → (p : Phase) → op.walk.phase ≡ p → Comes (λ x after. LooksAt p c.arena (c.steps + 1) x Step after)
-  look_comes arena Enter e = descent_comes (subst IsDescent (sym e) tt)
-  look_comes arena Pick e = descent_comes (subst IsDescent (sym e) tt)
-  look_comes arena Child e = descent_comes (subst IsDescent (sym e) tt)
-  look_comes arena Verify e = descent_comes (subst IsDescent (sym e) tt)
-  look_comes arena Forward e = descent_comes (subst IsDescent (sym e) tt)
+  look_comes arena Enter e = descent_comes arena (subst IsDescent (sym e) tt)
+  look_comes arena Pick e = descent_comes arena (subst IsDescent (sym e) tt)
+  look_comes arena Child e = descent_comes arena (subst IsDescent (sym e) tt)
+  look_comes arena Verify e = descent_comes arena (subst IsDescent (sym e) tt)
+  look_comes arena Forward e = descent_comes arena (subst IsDescent (sym e) tt)
   look_comes arena Search e = search_comes arena e
   look_comes arena Load e = load_comes arena e
   look_comes arena Confirm e = confirm_comes e

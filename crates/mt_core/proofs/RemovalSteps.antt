@@ -1,18 +1,20 @@
 -- The steps of a removal by the ensures of the calls that they make: for `Inner::judge_removal`, `drop_key`, `take_out`, `unlock_removal`, `lock_back` and `judge_back`.
 use Rattle.std.proofs.Common.{IsSome, List, None, Option, Some, [], ap, arith, false, inl, inr, is_some, length, refl, set, subst, suc, sym, true, zero, ℕ, ◌+◌, ◌<◌, ◌∙◌, ◌∷◌, ◌≡◌, ◌≢◌}
-use Rattle.std.specs.Prelude.{IfSome, ◌^◌}
+use Rattle.std.specs.Prelude.{IfSome, ◌^◌, ◌⊎◌, ◌≤◌}
 use Rattle.std.specs.Option.{option_map}
-use Rattle.std.proofs.lemmas.Bool.{both_ways}
+use Rattle.std.proofs.lemmas.Bool.{cases_eq}
+use Rattle.mt_state.proofs.SplitSteps.{is_held_or_not}
 use Rattle.std.proofs.lemmas.Option.{same_Some}
 use Rattle.mt_version.specs.Changes.{CanUnlock}
 use Rattle.mt_rows.specs.declared.reply.Reply.TheVariants.{Absent, Removed}
 use Rattle.mt_rows.specs.Accounts.{Accounts, HasPairs, account_of}
 use Rattle.mt_tape.specs.Tapes.{Kept}
 use Rattle.mt_arena.specs.NodeView.{NodeView, node_at}
-use Rattle.mt_arena.specs.Arena.{ArenaView, IsArena}
+use Rattle.mt_arena.specs.Arena.{ArenaView, Guarantee, IsArena, live_count}
+use Rattle.mt_arena.specs.Forests.{tree_at}
 use Rattle.mt_arena.specs.Accesses.{at}
 use Rattle.mt_operation.specs.declared.phase.Phase.{Phase}
-use Rattle.mt_operation.specs.declared.phase.Phase.TheVariants.{CleanLayer, Done, DropKey, Judge, Lock, Unlock}
+use Rattle.mt_operation.specs.declared.phase.Phase.TheVariants.{CleanLayer, Done, DropKey, Enter, Judge, Lock, Unlock}
 use Rattle.mt_operation.specs.declared.walk.Walk.{Walk}
 use Rattle.mt_operation.specs.declared.splits.Halves.{Halves}
 use Rattle.mt_operation.specs.declared.removal.Removal.{Removal}
@@ -40,29 +42,19 @@ use Rattle.mt_state.specs.KeptOperations.{IsKeptAt, IsOnItsWay}
 use Rattle.mt_state.specs.Invariant.{StateInvariant}
 use Rattle.mt_state.proofs.Shown.{shown_there}
 use Rattle.mt_state.proofs.Telling.{Gives}
-use Rattle.mt_state.proofs.Needs.{drop_counted, drop_kept, drop_light, drop_removes, holder_left, removal_held_at, removal_kept_at, removal_of, removal_unlock_kept, removal_unlock_room}
-use Rattle.mt_state.proofs.RemovalBy.{removal_leads}
+use Rattle.mt_state.proofs.Needs.{drop_counted, drop_kept, drop_light, drop_removes, holder_left, judge_kept, lock_kept, removal_held_at, removal_kept_at, removal_of, removal_unlock_kept, removal_unlock_room}
+use Rattle.mt_state.proofs.RemovalBy.{removal_leads, removes_by}
 use Rattle.mt_state.proofs.RemovalDrop.{drop_done}
-use Rattle.mt_state.proofs.RemovalLooks.{back_ended, drop_missing, drop_ready, going_back, lock_back, removal_returned}
+use Rattle.mt_state.proofs.RemovalLooks.{back_ended, drop_missing, drop_ready, going_back, lock_back, removal_returned, empties_or_not}
 use Rattle.mt_state.proofs.RemovalSteps.{removed_done, takes_removal, removal_open, unlinking_of}
 use Rattle.mt_core.specs.Nexts.{IsNext, ending}
-use Rattle.mt_core.specs.Points.{Nears, StepsOn}
+use Rattle.mt_core.specs.Points.{IsRemovalAt, Nears, StepsOn}
 use Rattle.mt_core.proofs.Following.{IsOver, IsSound, Writes, in_the_way, made, may_move, may_over, opened, over_first, over_next, phase_is}
 use Rattle.mt_core.proofs.Leading.{leads_over}
+use Rattle.mt_arena.proofs.Elsewhere.{layer_is}
+use Rattle.mt_core.proofs.Points.{nears_removal, removal_first, removed_at, rounds_at}
+use Rattle.mt_core.proofs.RemovalNears.{back_lock, back_removal, emptied_removal, live_fewer, live_stays, ready_removal, shallow_layer, taken_removal, taken_walk, tree_layer, tree_stands}
 use Rattle.mt_core.proofs.PutSteps.{judges_none, link_made}
-
--- what a step that leads to this phase tells
-tells_ending : (p : Phase) (old new : StateView) (o : ℕ) → IsStep old new o (is_done p) → Tells old new o (ending p)
-tells_ending Done old new o s = s
-tells_ending _ old new o s = s
-
-leads_ending : (p : Phase) (old new : StateView) (o : ℕ) → Leads old new o → LeadsOn old new o (ending p)
-leads_ending Done old new o leads = leads
-leads_ending _ old new o leads = leads
-
-nears_ending : (p : Phase) (old new : Core) (o : ℕ) → Nears old new o Moved → Nears old new o (ending p)
-nears_ending Done old new o nears = tt
-nears_ending _ old new o nears = nears
 
 -- a node that is held is there
 held_there : (nodes : List NodeView) (k o : ℕ) → (node_at nodes k).holder ≡ Some o → k < length nodes
@@ -82,6 +74,27 @@ cleaning_waits v w r at_clean (Some holder) held = λ s. subst (λ (p : Phase). 
 pub some_ready : (ready : Option Prepared) → IsSome ready → ready ≢ None
 some_ready None some e = absurd (cc)
 some_ready (Some prepared) some e = absurd (cc)
+
+-- whether a node is one of a removal can be told
+among_or_not : (w : Walk) (r : Removal) (k : ℕ) → IsAmong w r k ⊎ ¬ IsAmong w r k
+among_or_not w r k = elim (cases_eq k w.place.node) [
+  | inl node ↦ inl (inl node)
+  | inr no_node ↦ elim (is_held_or_not r.left k) [
+    | inl left ↦ inl (inr (inl left))
+    | inr no_left ↦ elim (is_held_or_not r.parent k) [
+      | inl parent ↦ inl (inr (inr (inl parent)))
+      | inr no_parent ↦ elim (is_held_or_not r.below k) [
+        | inl below ↦ inl (inr (inr (inr below)))
+        | inr no_below ↦ inr (λ among. elim among [
+          | inl node ↦ no_node node
+          | inr (inl left) ↦ no_left left
+          | inr (inr (inl parent)) ↦ no_parent parent
+          | inr (inr (inr below)) ↦ no_below below
+        ])
+      ]
+    ]
+  ]
+]
 
 -- where a removal goes from Unlock that has split nothing
 returns_from : (told : Option Outcome) → told ≢ None → (halves : List Halves) → halves ≡ [] → (o : ℕ) (v u : ArenaView) (w x : Walk) (r t : Removal)
@@ -105,30 +118,17 @@ module _ (c now : Core) (o : ℕ) (is : c ≡ now) (h : StateInvariant c) (few :
   few_here : c.steps < 2 ^ 59
   few_here = subst (λ (v : Core). v.steps < 2 ^ 59) (sym is) few
 
-  -- no count speaks of a removal
-  nears_none : is_remove (ask x.task) ≡ true → (new : Core) → Nears now new o Moved
-  nears_none removes new = subst (λ (v : Core). Nears v new o Moved) is none
-    where
-      none : Nears c new o Moved
-      none height count u =
-          absurd (both_ways _ (subst (λ (y : Operation). is_remove (ask y.task) ≡ false) (same_Some u.op x (sym u.there ∙ there)) u.stays) removes)
+  -- a step brings the removal on
+  nears_by_removal : is_remove (ask x.task) ≡ true → (arena : ArenaView) (tape : Kept) (accounts : Accounts) (table : Table) (after : Operation)
+      → IsOver c.table table o after → after.task ≡ x.task → Guarantee o c.arena arena
+      → ((height n : ℕ) → IsRemovalAt height n c.arena x.walk x.outcome x.removal → IsRemovalAt height (n + 1) arena after.walk after.outcome after.removal)
+      → Nears now (made c arena tape accounts table) o Moved
+  nears_by_removal removes arena tape accounts table after over asked guarantee brings = subst (λ (v : Core). Nears v (made c arena tape accounts table) o Moved) is
+      (nears_removal c (made c arena tape accounts table) o x after there over.there guarantee asked removes brings)
 
-  -- what is told of a step that leads to this phase
-  steps_on : (p : Phase) (new : Core) → is_remove (ask x.task) ≡ true → Gives (shown c) new o (is_done p) → Leads (shown now) (shown new) o
-      → IsSound new × StepsOn now new o (ending p)
-  steps_on p new removes g leads = (
-    g.0,
-    record {
-      tells = tells_ending p (shown now) (shown new) o (subst (λ (v : StateView). IsStep v (shown new) o (is_done p)) (ap shown is) g.1);
-      nears = nears_ending p now new o (nears_none removes new);
-      leads = leads_ending p (shown now) (shown new) o leads;
-    },
-  )
-
-  -- of one that moves, and of one that ends
-  moves_on : (new : Core) → is_remove (ask x.task) ≡ true → Gives (shown c) new o false → Leads (shown now) (shown new) o → IsSound new × StepsOn now new o Moved
-  moves_on new removes g leads =
-      (g.0, record { tells = subst (λ (v : StateView). IsStep v (shown new) o false) (ap shown is) g.1; nears = nears_none removes new; leads = leads })
+  -- what is told of one that moves, and of one that ends
+  moves_on : (new : Core) → Gives (shown c) new o false → Nears now new o Moved → Leads (shown now) (shown new) o → IsSound new × StepsOn now new o Moved
+  moves_on new g nears leads = (g.0, record { tells = subst (λ (v : StateView). IsStep v (shown new) o false) (ap shown is) g.1; nears = nears; leads = leads })
 
   ends_it : (new : Core) → Gives (shown c) new o true → Leads (shown now) (shown new) o → IsSound new × StepsOn now new o DoneMove
   ends_it new g leads = (g.0, record { tells = subst (λ (v : StateView). IsStep v (shown new) o true) (ap shown is) g.1; nears = tt; leads = leads })
@@ -138,15 +138,24 @@ module _ (c now : Core) (o : ℕ) (is : c ≡ now) (h : StateInvariant c) (few :
     at_judge : x.walk.phase ≡ Judge
     at_judge = phase_is c now o (λ q. q ≡ Judge) is x there next
 
-    pub removal_ready : (arena : ArenaView) (tape : Kept) (w : Walk) (prepared : Prepared) (mid table : Table)
+    pub removal_ready : IsArena c.arena.nodes c.arena.trees → (arena : ArenaView) (tape : Kept) (w : Walk) (prepared : Prepared) (mid table : Table)
         → IsMadeReady o x.task c.arena arena c.tape tape x.walk w prepared
         → Writes c.table mid o (λ y. moved y (c.steps + 1) w) → Writes mid table o (λ y. made_ready y prepared)
         → IsSound (made c arena tape c.accounts table) × StepsOn now (made c arena tape c.accounts table) o Moved
-    removal_ready arena tape w prepared mid table t moves readies =
+    removal_ready is_arena arena tape w prepared mid table t moves readies =
         let over = over_next c.table mid table o (λ y. made_ready y prepared) (moved x (c.steps + 1) w) (over_first c.table mid o (λ y. moved y (c.steps + 1) w) x there moves) readies in
-        moves_on (made c arena tape c.accounts table) removes
+        let judged = (judge_kept c o h x there at_judge).judged in
+        let through = judged.at_border.through in
+        let of = judged.at_border.covers.remembered.tree_is in
+        let after = made_ready (moved x (c.steps + 1) w) prepared in
+        moves_on (made c arena tape c.accounts table)
         (subst (λ (all : Table). Gives (shown c) (made c arena tape c.accounts all) o false) (sym over.is)
         (drop_ready c o h few_here x there at_judge untold (removal_of c o h x there removes) removes arena tape w prepared t))
+        (nears_by_removal removes arena tape c.accounts table after over refl t.keeps.guarantee (λ height n point. removal_first height (n + 1) arena w x.outcome x.removal after.walk.first
+        (subst (λ (v : ArenaView). IsRemovalAt height (n + 1) v w x.outcome x.removal) (sym t.stays) (subst (λ (told : Option Outcome). IsRemovalAt height (n + 1) c.arena w told x.removal) (sym untold)
+        (ready_removal c.arena x.walk w t.slot x.removal t.walk at_judge is_arena through.there (tree_stands c.arena is_arena x.task.key x.walk through judged.held.there of judged.stands.live)
+        (tree_layer c.arena is_arena x.task.key x.walk through judged.held.there of judged.stands.live) (shallow_layer x.walk.layer x.task.key (h.ops o x there).always.stored through.begun) height n
+        (subst (λ (told : Option Outcome). IsRemovalAt height n c.arena x.walk told x.removal) untold point))))))
         (leads_over c o h x there Judge at_judge now is arena tape c.accounts table _ over w
         (judges_none untold (inr (inr (inr (inl (record { slot = t.slot; stands = t.in_slot; goes = t.walk })))))) refl)
 
@@ -186,13 +195,17 @@ module _ (c now : Core) (o : ℕ) (is : c ≡ now) (h : StateInvariant c) (few :
 
   -- Lock on the way back
   module _ (next : IsNext now o (λ q. q ≡ Lock)) (told : x.outcome ≢ None) where
-    pub back_made : (arena : ArenaView) (w : Walk) (table : Table) → IsLockWay o x.task.key c.arena arena x.walk w x.removal
+    pub back_made : IsArena c.arena.nodes c.arena.trees → (arena : ArenaView) (w : Walk) (table : Table) → IsLockWay o x.task.key c.arena arena x.walk w x.removal
         → Writes c.table table o (λ y. moved y (c.steps + 1) w)
         → IsSound (made c arena c.tape c.accounts table) × StepsOn now (made c arena c.tape c.accounts table) o Moved
-    back_made arena w table t writes =
+    back_made is_arena arena w table t writes =
         let at_lock = phase_is c now o (λ q. q ≡ Lock) is x there next in
-        moves_on (made c arena c.tape c.accounts table) (lock_removes c o h x there at_lock told)
+        let after = moved x (c.steps + 1) w in
+        let over = over_first c.table table o (λ y. moved y (c.steps + 1) w) x there writes in
+        moves_on (made c arena c.tape c.accounts table)
         (subst (λ (all : Table). Gives (shown c) (made c arena c.tape c.accounts all) o false) (sym (writes x there)) (lock_back c o h few_here x there at_lock told arena w t))
+        (nears_by_removal (lock_removes c o h x there at_lock told) arena c.tape c.accounts table after over refl t.locks.keeps.guarantee (λ height n point.
+        removal_first height (n + 1) arena w x.outcome x.removal after.walk.first (back_lock o x.task.key c.arena arena x.walk w x.outcome x.removal at_lock is_arena (lock_kept c o h x there at_lock) told t height n point)))
         (leads_over c o h x there Lock at_lock now is arena c.tape c.accounts table _ (over_first c.table table o (λ y. moved y (c.steps + 1) w) x there writes) w
         (t.locks.free, locked_back x.outcome told) refl)
       where
@@ -250,10 +263,15 @@ module _ (c now : Core) (o : ℕ) (is : c ≡ now) (h : StateInvariant c) (few :
             let over = over_next c.table mid last o (λ z. with_removal z r) after (over_next c.table taken mid o (λ z. noted (moved z (c.steps + 1) w) (Some told)) (with_nothing_ready x) over_taken moves) remembers in
             let d = subst (λ (z : Operation). IsDropKey o (c.steps + 1) z.task c.arena arena c.tape tape c.accounts accounts z.walk w z.removal r) (sym it_is) drops in
             let removes : is_remove (ask x.task) ≡ true = ap is_remove (drop_removes c o h x there at_drop).is in
-            moves_on (made c arena tape accounts last) removes
+            moves_on (made c arena tape accounts last)
             (subst (λ (all : Table). Gives (shown c) (made c arena tape accounts all) o false) (sym over.is)
             (subst (λ (t : Outcome). Gives (shown c) (made c arena tape accounts (set c.table o (Some (with_removal (noted (moved (with_nothing_ready x) (c.steps + 1) w) (Some t)) r)))) o false) (sym says)
             (drop_done c o h few_here x there at_drop was arena is_now tape accounts w r d)))
+            (nears_by_removal removes arena tape accounts last (with_removal after r) over refl d.guarantee (λ height n point. removal_first height (n + 1) arena w (Some told) r after.walk.first
+            (emptied_removal arena x.walk w x.removal r (Some told) height (n + 1) point.round d.goes (λ e. absurd (cc))
+            (subst (λ (v : ArenaView). live_count v.nodes ≤ height) (sym d.is) (live_stays c.arena x.walk.place.node _ refl refl height point.live))
+            (rounds_at height n c.arena x.walk x.outcome x.removal DropKey at_drop point)
+            (let few = removed_at height n c.arena x.walk x.outcome x.removal DropKey at_drop point in omega (arith, few)))))
             (leads_over c o h x there DropKey at_drop now is arena tape accounts last _ over w (record { unlinks = d.goes.unlinks; returns = d.goes.returns }) refl)
 
   -- behind it, till all is given back
@@ -273,10 +291,18 @@ module _ (c now : Core) (o : ℕ) (is : c ≡ now) (h : StateInvariant c) (few :
         → IsSound (made c arena c.tape c.accounts last) × StepsOn now (made c arena c.tape c.accounts last) o Moved
     take_made is_arena arena w r from mid last moves remembers =
         let over = over_next c.table mid last o (λ z. with_removal z r) (moved x (c.steps + 1) w) (over_first c.table mid o (λ y. moved y (c.steps + 1) w) x there moves) remembers in
-        moves_on (made c arena c.tape c.accounts last) (take_removes c o h x there at_removal)
+        let p = x.walk.phase in
+        let after = with_removal (moved x (c.steps + 1) w) r in
+        let leads = removal_leads o (c.steps + 1) x.task.key c.arena arena x.walk w x.removal r is_arena h.deleted p at_removal take_kept from x.outcome (splits_of x.splits) in
+        let brings = removes_by o (c.steps + 1) x.task.key c.arena arena x.walk w x.removal r is_arena h.deleted p at_removal take_kept from in
+        let told = (unlinking_of p at_removal c o x (h.ops o x there).kept).answer.told in
+        moves_on (made c arena c.tape c.accounts last)
         (subst (λ (all : Table). Gives (shown c) (made c arena c.tape c.accounts all) o false) (sym over.is) (removed_done c o h few_here x there at_removal is_arena arena w r from))
-        (leads_over c o h x there x.walk.phase refl now is arena c.tape c.accounts last _ over w
-        (removal_leads o (c.steps + 1) x.task.key c.arena arena x.walk w x.removal r is_arena h.deleted x.walk.phase at_removal take_kept from x.outcome (splits_of x.splits)) refl)
+        (nears_by_removal (take_removes c o h x there at_removal) arena c.tape c.accounts last after over refl brings.keeps.guarantee (λ height n point. removal_first height (n + 1) arena w x.outcome r after.walk.first
+        (taken_removal p at_removal c.arena arena x.walk w x.outcome x.removal r refl brings.follows
+        (taken_walk o (c.steps + 1) x.task.key c.arena arena x.walk w x.removal p at_removal x.outcome (splits_of x.splits) leads) (λ none. absurd (let no = sym told ∙ none in cc))
+        (live_fewer c.arena.nodes arena.nodes brings.leaves.count (λ k lt. (brings.leaves.each k lt).gone)) height n point)))
+        (leads_over c o h x there p refl now is arena c.tape c.accounts last _ over w leads refl)
 
     -- another operation holds the node that is to be locked
     pub take_waits : (arena : ArenaView) → arena ≡ c.arena → (holder : ℕ) → IsInTheWay c.arena x.walk.phase x.walk (splits_of x.splits) x.removal holder
@@ -314,15 +340,37 @@ module _ (c now : Core) (o : ℕ) (is : c ≡ now) (h : StateInvariant c) (few :
     pub return_may_go : MayMove c.table o (c.steps + 1)
     return_may_go = may_move c o h x there (ap is_done at_unlock)
 
-    pub return_made : (arena : ArenaView) (w : Walk) (r : Removal) → IsUnlockRemoval o c.arena arena x.walk w x.removal r
+    -- a node that was taken out stays so
+    returned_gone : (arena : ArenaView) (w : Walk) (r : Removal) → IsUnlockRemoval o c.arena arena x.walk w x.removal r → (k : ℕ) → k < length c.arena.nodes
+        → (at c.arena k).version.deleted ≡ true → (at arena k).version.deleted ≡ true
+    returned_gone arena w r t k within gone = elim (among_or_not x.walk x.removal k) [
+      | inl among ↦ ap (λ (n : NodeView). n.version.deleted) (t.is.given k among) ∙ gone
+      | inr other ↦ ap (λ (n : NodeView). n.version.deleted) (t.is.others k other) ∙ gone
+    ]
+
+    pub return_made : IsArena c.arena.nodes c.arena.trees → (arena : ArenaView) (w : Walk) (r : Removal) → IsUnlockRemoval o c.arena arena x.walk w x.removal r
         → (mid last : Table) → Writes c.table mid o (λ y. moved y (c.steps + 1) w) → Writes mid last o (λ z. with_removal z r)
         → (answer : Move) → answer ≡ ending w.phase
         → IsSound (made c arena c.tape c.accounts last) × StepsOn now (made c arena c.tape c.accounts last) o answer
-    return_made arena w r t mid last moves remembers answer says =
+    return_made is_arena arena w r t mid last moves remembers answer says =
         let over = over_next c.table mid last o (λ z. with_removal z r) (moved x (c.steps + 1) w) (over_first c.table mid o (λ y. moved y (c.steps + 1) w) x there moves) remembers in
         let new = made c arena c.tape c.accounts last in
-        subst (λ (a : Move). IsSound new × StepsOn now new o a) (sym says) (steps_on w.phase new removes
-        (subst (λ (all : Table). Gives (shown c) (made c arena c.tape c.accounts all) o (is_done w.phase)) (sym over.is)
-        (removal_returned c o h few_here x there at_unlock removes told none arena w r t))
-        (leads_over c o h x there Unlock at_unlock now is arena c.tape c.accounts last _ over w
-        (returns_from x.outcome told x.splits.halves.items none o c.arena arena x.walk w x.removal r t (splits_of x.splits) refl) refl))
+        let gives : Gives (shown c) new o (is_done w.phase) = subst (λ (all : Table). Gives (shown c) (made c arena c.tape c.accounts all) o (is_done w.phase)) (sym over.is)
+        (removal_returned c o h few_here x there at_unlock removes told none arena w r t) in
+        let leads = leads_over c o h x there Unlock at_unlock now is arena c.tape c.accounts last _ over w
+        (returns_from x.outcome told x.splits.halves.items none o c.arena arena x.walk w x.removal r t (splits_of x.splits) refl) refl in
+        elim (empties_or_not c o h few_here x there at_unlock removes told none) [
+          | inl empties ↦
+              let goes = t.cleans empties in
+              let at_enter : w.phase ≡ Enter = ap (λ (y : Walk). y.phase) goes.0 in
+              let after = with_removal (moved x (c.steps + 1) w) r in
+              subst (λ (a : Move). IsSound new × StepsOn now new o a) (sym (says ∙ ap ending at_enter)) (moves_on new (subst (λ (p : Phase). Gives (shown c) new o (is_done p)) at_enter gives)
+              (nears_by_removal removes arena c.tape c.accounts last after over refl t.keeps.guarantee (λ height n point. removal_first height (n + 1) arena w x.outcome r after.walk.first
+              (back_removal c.arena arena x.walk w x.outcome x.removal r at_unlock goes.0 (ap (λ (y : Removal). y.cleans) goes.1) is_arena t.is.trees
+              (layer_is (tree_at c.arena.trees x.walk.place.tree).prefix x.task.key x.walk.layer return_kept.removes.through.of_tree)
+              (live_fewer c.arena.nodes arena.nodes t.is.count (returned_gone arena w r t)) height n point)))
+              leads)
+          | inr keeps ↦
+              let at_done : w.phase ≡ Done = ap (λ (y : Walk). y.phase) (t.ends keeps).0 in
+              subst (λ (a : Move). IsSound new × StepsOn now new o a) (sym (says ∙ ap ending at_done)) (ends_it new (subst (λ (p : Phase). Gives (shown c) new o (is_done p)) at_done gives) leads)
+        ]

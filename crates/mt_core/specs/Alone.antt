@@ -36,10 +36,9 @@ pub record Runs (old new : StateView) (o : ℕ) (answer : Move) : Type 0 where
 abbrev pub most_steps : StateView → ℕ
 most_steps v = 256 * (live_count v.arena.nodes + 64)
 
--- a get or a put that has not made a step, in a state in which nobody holds a node and numbers are left for a whole run
+-- an operation that has not made a step, in a state in which nobody holds a node and numbers are left for a whole run
 pub record IsAlone (v : StateView) (o : ℕ) (op : OperationView) : Type 0 where
   pub there : op_at v.table o ≡ Some op
-  pub stays : is_remove op.command ≡ false
   pub first : op.first ≡ 0
   pub enters : op.phase ≡ Enter
   pub free : (k : ℕ) → k < length v.arena.nodes → (at v.arena k).holder ≡ None

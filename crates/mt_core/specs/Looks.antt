@@ -14,7 +14,6 @@ use Rattle.mt_operation.specs.declared.steps.Made.{Made}
 use Rattle.mt_operation.specs.declared.steps.Made.TheVariants.{Step, Blocked, Nothing}
 use Rattle.mt_operation.specs.declared.walk.Walk.{Walk}
 use Rattle.mt_operation.specs.declared.outcome.Outcome.{Outcome}
-use Rattle.mt_operation.specs.declared.splits.Splits.{Splits}
 use Rattle.mt_operation.specs.declared.operation.Operation.{Operation}
 use Rattle.mt_operation.specs.declared.removal.Removal.{Removal}
 use Rattle.mt_descent.specs.Pasts.{Past, IsNow}
@@ -27,7 +26,7 @@ use Rattle.mt_state.specs.Notes.{Says}
 use Rattle.mt_state.specs.Ways.{Descends, ShowsTaken}
 use Rattle.mt_operation.specs.Phases.{IsDescent}
 use Rattle.mt_state.specs.Phases.{LeadsTo}
-use Rattle.mt_core.specs.Points.{IsAtPoint}
+use Rattle.mt_core.specs.Points.{Budget, IsBudget, WalksBy}
 
 -- what a step makes of an operation that holds nothing, where nobody is in its way; else it is as it was
 abbrev pub Looks : ArenaView → (Operation → Operation → Type 0) → Operation → Made → Operation → Type 0
@@ -63,7 +62,7 @@ pub record MayConfirm (v : ArenaView) (op : Operation) : Type 0 where
 pub record TellsDescended (v : ArenaView) (op after : Operation) : Type 0 where
   pub leads : (o step : ℕ) (told : Option Outcome) (s : SplitsView) (rem : Removal) → LeadsTo op.walk.phase v v o step op.task.key told s rem op.walk after.walk
   pub goes : Descends op.walk after.walk
-  pub nears : (height made : ℕ) (splits : Splits) → IsAtPoint height made v op.walk splits → IsAtPoint height (made + 1) v after.walk splits
+  pub nears : (budget : Budget) → IsBudget v budget → (made : ℕ) → WalksBy op.walk.phase budget made v op.walk → WalksBy after.walk.phase budget (made + 1) v after.walk
   pub kept : (past : Past) → IsKept v past op.task.key None after.walk
   pub others : after ≡ led_to op after.walk op.outcome
 

@@ -13,12 +13,11 @@ ghost use Rattle.mt_state.specs.Notes.{columns_asked};
 ghost use Rattle.mt_state.specs.Ways.{Descends};
 ghost use Rattle.mt_operation.specs.Phases.{IsDescent};
 ghost use Rattle.mt_operation.specs.declared.removal.Removal.{Removal as AnyRemoval};
-ghost use Rattle.mt_operation.specs.declared.splits.Splits.{Splits as AnySplits};
 ghost use Rattle.mt_operation.specs.declared.outcome.Outcome.{Outcome as AnyOutcome};
 ghost use Rattle.mt_operation.specs.Operations.{SplitsView};
 ghost use Rattle.mt_state.specs.Phases.{LeadsTo};
 ghost use Rattle.mt_core.specs.Looks.{Looks, LooksAt, MayLook, MayDescend, MaySearch, MayLoad, MayConfirm, TellsDescended, TellsSearched, TellsLoaded, TellsConfirmed};
-ghost use Rattle.mt_core.specs.Points.{IsAtPoint};
+ghost use Rattle.mt_core.specs.Points.{Budget, IsBudget, WalksBy};
 
 use mt_arena::Arena;
 use mt_descent::{child, confirm, enter, forward, load, pick, search, verify};
@@ -70,7 +69,7 @@ fn go_down(arena: &Arena, key: &StoredKey, walk: &mut Walk, phase: Phase) -> Opt
     ensures again { (s : SplitsView) (rem : AnyRemoval) → IfSome result (λ holder. IsInTheWay arena.now walk.old.phase walk.old s rem holder × (walk.new ≡ walk.old)) }
     ensures leads { (o step : ℕ) (told : Option AnyOutcome) (s : SplitsView) (rem : AnyRemoval) → IfNone result (LeadsTo walk.old.phase arena.now arena.now o step key.now told s rem walk.old walk.new) }
     ensures goes { IfNone result (Descends walk.old walk.new) }
-    ensures nears { (height made : ℕ) (splits : AnySplits) → IfNone result (IsAtPoint height made arena.now walk.old splits → IsAtPoint height (made + 1) arena.now walk.new splits) }
+    ensures nears { (budget : Budget) → IsBudget arena.now budget → (made : ℕ) → IfNone result (WalksBy walk.old.phase budget made arena.now walk.old → WalksBy walk.new.phase budget (made + 1) arena.now walk.new) }
     ensures kept { (past : Past) → IfNone result (IsKept arena.now past key.now None walk.new) }
 {
     arena.facts();

@@ -144,6 +144,7 @@ impl Inner {
         requires removes { (op : AnyOperation) → operation_at self.old.table id ≡ Some op → is_remove (ask op.task) ≡ true }
         ensures { StepsOn self.old self.new id result }
     {
+        self.arena.facts();
         self.steps += 1;
         let operation = open(&self.operations, id);
         let mut walk = operation.walk;

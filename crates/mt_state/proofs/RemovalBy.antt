@@ -49,7 +49,7 @@ same_or_other (Some k) None = inr (λ e. absurd (cc))
 same_or_other (Some k) (Some j) = elim (cases_eq k j) [ inl is ↦ inl (ap Some is) | inr other ↦ inr (λ e. other (same_Some k j e)) ]
 
 -- what comes before a place can be told
-child_before : (place : ℕ) (left first : Option ℕ) → ((0 < place) × (left ≡ first)) ⊎ ¬ ((0 < place) × (left ≡ first))
+pub child_before : (place : ℕ) (left first : Option ℕ) → ((0 < place) × (left ≡ first)) ⊎ ¬ ((0 < place) × (left ≡ first))
 child_before place left first = elim (cases_lt 0 place) [
   | inr none ↦ inr (λ b. absurd (omega (arith, b.0, none)))
   | inl some ↦ elim (same_or_other left first) [ inl is ↦ inl (some, is) | inr other ↦ inr (λ b. other b.1) ]

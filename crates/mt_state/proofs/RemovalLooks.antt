@@ -276,7 +276,7 @@ module _ (c : Core) (o : ℕ) (h : StateInvariant c) (few : c.steps < 2 ^ 59) (o
     ]
 
     -- whether the layer was left empty can be told
-    empties_or_not : EmptiesLayer c.arena op.walk op.removal ⊎ ¬ EmptiesLayer c.arena op.walk op.removal
+    pub empties_or_not : EmptiesLayer c.arena op.walk op.removal ⊎ ¬ EmptiesLayer c.arena op.walk op.removal
     empties_or_not = elim (true_or_not op.removal.emptied) [
       | inr stays ↦ inr (λ e. stays e.emptied)
       | inl emptied ↦ elim (cases_lt 0 op.walk.layer) [

@@ -51,7 +51,7 @@ after_on c = made (core_of c.self.inside) c.judge-judged.new.arena c.judge-judge
 
 gives_on : (c : goal.After-go_on-in-GoesOn) → IsSound (after_on c) × StepsOn c.args.self.now (after_on c) c.args.id Moved
 gives_on c =
-    on_made (core_of c.self.inside) _ c.args.id c.self.view_is c.self.invariant c.requires.few c.requires.next c.facts.ensures.arena _ c.open-operation.ensures (holds_inside (λ (x : Operation). x.outcome ≡ None) (core_of c.self.inside) _ c.args.id c.self.view_is c.requires.untold _ c.open-operation.ensures) _ _ _ _ c.in-GoesOn.ensures.0 c.in-GoesOn.ensures.1 c.go_on-in-GoesOn.ensures.moves
+    on_made (core_of c.self.inside) _ c.args.id c.self.view_is c.self.invariant c.requires.few c.requires.next c.facts.ensures.arena _ c.open-operation.ensures (holds_inside (λ (x : Operation). x.outcome ≡ None) (core_of c.self.inside) _ c.args.id c.self.view_is c.requires.untold _ c.open-operation.ensures) (holds_inside (λ (x : Operation). is_remove (ask x.task) ≡ false) (core_of c.self.inside) _ c.args.id c.self.view_is c.requires.stays _ c.open-operation.ensures) _ _ _ _ c.in-GoesOn.ensures.0 c.in-GoesOn.ensures.1 c.go_on-in-GoesOn.ensures.moves
 
 pub invariant_of-self-in-GoesOn : goal.invariant_of-self-in-GoesOn
 invariant_of-self-in-GoesOn c = (gives_on c).0 c.facts-2.ensures.arena

@@ -37,7 +37,7 @@ after_ready c = made (core_of c.self.inside) c.judge-looked.new.arena c.judge-lo
 
 gives_ready : (c : goal.After-make_ready) → IsSound (after_ready c) × StepsOn c.args.self.now (after_ready c) c.args.id Moved
 gives_ready c =
-    removal_ready (core_of c.self.inside) _ c.args.id c.self.view_is c.self.invariant c.requires.few _ c.open-operation.ensures c.requires.next (holds_inside (λ (x : Operation). x.outcome ≡ None) (core_of c.self.inside) _ c.args.id c.self.view_is c.requires.untold _ c.open-operation.ensures) (holds_inside (λ (x : Operation). is_remove (ask x.task) ≡ true) (core_of c.self.inside) _ c.args.id c.self.view_is c.requires.removes _ c.open-operation.ensures) _ _ _ _ _ _ c.in-Ready.ensures c.go_on.ensures.moves c.make_ready.ensures.readies
+    removal_ready (core_of c.self.inside) _ c.args.id c.self.view_is c.self.invariant c.requires.few _ c.open-operation.ensures c.requires.next (holds_inside (λ (x : Operation). x.outcome ≡ None) (core_of c.self.inside) _ c.args.id c.self.view_is c.requires.untold _ c.open-operation.ensures) (holds_inside (λ (x : Operation). is_remove (ask x.task) ≡ true) (core_of c.self.inside) _ c.args.id c.self.view_is c.requires.removes _ c.open-operation.ensures) c.facts.ensures.arena _ _ _ _ _ _ c.in-Ready.ensures c.go_on.ensures.moves c.make_ready.ensures.readies
 
 pub invariant_of-self : goal.invariant_of-self
 invariant_of-self c = (gives_ready c).0 c.facts-2.ensures.arena

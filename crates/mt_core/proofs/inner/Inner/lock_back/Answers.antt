@@ -30,7 +30,7 @@ after c = made (core_of c.self.inside) c.lock.new.arena c.self.inside.tape c.sel
 
 gives : (c : goal.After-go_on) → IsSound (after c) × StepsOn c.args.self.now (after c) c.args.id Moved
 gives c =
-    back_made (core_of c.self.inside) _ c.args.id c.self.view_is c.self.invariant c.requires.few _ c.open-operation.ensures c.requires.next (holds_inside (λ (x : Operation). x.outcome ≢ None) (core_of c.self.inside) _ c.args.id c.self.view_is c.requires.told _ c.open-operation.ensures) _ _ _ c.in_default.ensures.locks c.go_on.ensures.moves
+    back_made (core_of c.self.inside) _ c.args.id c.self.view_is c.self.invariant c.requires.few _ c.open-operation.ensures c.requires.next (holds_inside (λ (x : Operation). x.outcome ≢ None) (core_of c.self.inside) _ c.args.id c.self.view_is c.requires.told _ c.open-operation.ensures) c.facts.ensures.arena _ _ _ c.in_default.ensures.locks c.go_on.ensures.moves
 
 pub invariant_of-self-2 : goal.invariant_of-self-2
 invariant_of-self-2 c = (gives c).0 c.facts-2.ensures.arena

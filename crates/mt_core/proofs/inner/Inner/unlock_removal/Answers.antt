@@ -21,10 +21,10 @@ after c = made (core_of c.self.inside) c.unlock.new.arena c.self.inside.tape c.s
 
 gives : (c : goal.After-ending) → IsSound (after c) × StepsOn c.args.self.now (after c) c.args.id c.ending.result
 gives c =
-    return_made (core_of c.self.inside) _ c.args.id c.self.view_is c.self.invariant c.requires.few _ c.open-operation.ensures c.requires.next (holds_inside (λ (x : Operation). is_remove (ask x.task) ≡ true) (core_of c.self.inside) _ c.args.id c.self.view_is c.requires.removes _ c.open-operation.ensures) (holds_inside (λ (x : Operation). x.outcome ≢ None) (core_of c.self.inside) _ c.args.id c.self.view_is c.requires.told _ c.open-operation.ensures) (holds_inside (λ (x : Operation). x.splits.halves.items ≡ []) (core_of c.self.inside) _ c.args.id c.self.view_is c.requires.unsplit _ c.open-operation.ensures) _ _ _ c.unlock.ensures _ _ c.go_on.ensures.moves c.remember_removal.ensures.remembers _ c.ending.ensures
+    return_made (core_of c.self.inside) _ c.args.id c.self.view_is c.self.invariant c.requires.few _ c.open-operation.ensures c.requires.next (holds_inside (λ (x : Operation). is_remove (ask x.task) ≡ true) (core_of c.self.inside) _ c.args.id c.self.view_is c.requires.removes _ c.open-operation.ensures) (holds_inside (λ (x : Operation). x.outcome ≢ None) (core_of c.self.inside) _ c.args.id c.self.view_is c.requires.told _ c.open-operation.ensures) (holds_inside (λ (x : Operation). x.splits.halves.items ≡ []) (core_of c.self.inside) _ c.args.id c.self.view_is c.requires.unsplit _ c.open-operation.ensures) c.facts.ensures.arena _ _ _ c.unlock.ensures _ _ c.go_on.ensures.moves c.remember_removal.ensures.remembers _ c.ending.ensures
 
 pub invariant_of-self : goal.invariant_of-self
-invariant_of-self c = (gives c).0 c.facts.ensures.arena
+invariant_of-self c = (gives c).0 c.facts-2.ensures.arena
 
 pub returns : goal.returns
 returns c = (gives c).1
