@@ -4,8 +4,6 @@ use Rattle.std.specs.Prelude.{◌^◌, min}
 use Rattle.std.proofs.Math.Nat.{mul-le-mul_right, min-le_right}
 use Rattle.std.proofs.lemmas.Option.{same_Some}
 use Rattle.mt_arena.specs.Arena.{ArenaView, IsArena, live_count}
-use Rattle.mt_arena.specs.Accesses.{at}
-use Rattle.mt_arena.proofs.Heights.{any_below_live}
 use Rattle.mt_operation.specs.declared.phase.Phase.{Phase}
 use Rattle.mt_operation.specs.declared.phase.Phase.TheVariants as phases
 use Rattle.mt_operation.specs.declared.phase.Phase.TheVariants.{Enter, Pick, Child, Verify, Search, Load, Confirm, Forward, Lock, Judge, Store, Publish, SplitStart, SplitMove, SplitPrev, LockParent, InsertChild, InteriorSplit, Reparent, RootGrow, MakeLayer, MarkUnstable, MarkLayer, DropKey, LockPrev, LockAbove, Unlink, FixNext, Collapse, CleanLayer, Unlock, Done}
@@ -13,7 +11,7 @@ use Rattle.mt_operation.specs.declared.walk.Walk.{Walk}
 use Rattle.mt_operation.specs.declared.splits.Halves.{Halves}
 use Rattle.mt_operation.specs.declared.operation.Operation.{Operation}
 use Rattle.mt_operation.specs.Operations.{OperationView, view_of}
-use Rattle.mt_operation.specs.Phases.{is_done, IsToGrow}
+use Rattle.mt_operation.specs.Phases.{IsToGrow, is_done}
 use Rattle.mt_operation.specs.Tasks.{ask}
 use Rattle.mt_operation.specs.Tables.{op_at as operation_at}
 use Rattle.mt_insert.specs.KeptSplits.{HasSplits, last_of}
@@ -22,15 +20,15 @@ use Rattle.mt_state.specs.declared.moves.Move.{Move}
 use Rattle.mt_state.specs.declared.moves.Move.TheVariants.{Moved, Again, NoMemory as NoMemoryMove, Done as DoneMove, Spent, NoSuch}
 use Rattle.mt_state.specs.Views.{StateView, Core, shown, op_at}
 use Rattle.mt_operation.specs.declared.outcome.Outcome.{Outcome}
-use Rattle.mt_state.specs.KeptOperations.{IsKeptAt, IsOnItsWay, IsBound, HasAnswer}
+use Rattle.mt_state.specs.KeptOperations.{HasAnswer, IsBound, IsKeptAt, IsOnItsWay}
 use Rattle.mt_state.specs.Invariant.{StateInvariant}
 use Rattle.mt_state.specs.Promises.{HasStep, IsHeldByOther, IsAnswer, IsStep, Tells}
 use Rattle.mt_state.proofs.Shown.{shown_there, inside_of}
 use Rattle.mt_core.specs.Alone.{most_steps, IsChain, Runs, IsAlone, EndsAlone, IsUndisturbed, EndsSoon}
-use Rattle.mt_core.specs.Points.{AreBelow, astray, above, before_unlock, HasMade, MayHaveGrown, IsFreeOfOthers, IsSoFar, IsUnhindered, StepsOn, split_level}
-use Rattle.mt_core.proofs.RemovalNears.{few_removal, removal_begins, removal_left}
-use Rattle.mt_core.proofs.Astray.{behind_most}
+use Rattle.mt_core.specs.Points.{AreBelow, HasMade, IsFreeOfOthers, IsSoFar, IsUnhindered, MayHaveGrown, StepsOn, above, astray, before_unlock, split_level}
+use Rattle.mt_core.proofs.RemovalNears.{few_removal, removal_left}
 use Rattle.mt_core.proofs.Following.{in_the_way}
+use Rattle.mt_core.proofs.AloneStarts.{unhindered_first}
 use Rattle.mt_core.proofs.AloneRuns.{no_value, stepped, IsRunning, running_first, running_on, run_outcome}
 
 -- one step more is part of the run
@@ -50,73 +48,10 @@ chain_ends made old new o chain h = omega (arith, chain_number made old (shown n
 pub run_stops : (old v w : StateView) (o made : ℕ) (answer : Move) → IsChain made old v o → answer ≢ Moved → Tells v w o answer → Runs old w o answer
 run_stops old v w o made answer chain other s = record { made = made; mid = v; chain = chain; tells = s; ends = other }
 
--- live nodes stand on levels below their number
-nodes_below : (c : Core) → StateInvariant c → IsArena c.arena.nodes c.arena.trees → AreBelow c.arena (live_count c.arena.nodes)
-nodes_below c h arena k within live = any_below_live c.arena.nodes arena.nodes arena.ranged k within live
-
--- an operation that removes nothing is no removal
-no_removing : (op : Operation) → is_remove (ask op.task) ≡ false → is_remove (ask op.task) ≡ true → ⊥
-no_removing op stays removes = let no = sym stays ∙ removes in cc
-
--- at whatever phase an operation stands, it may find its way again, and has made no step so far
-starts_at : (p : Phase) (c : Core) (o : ℕ) (op : Operation) → StateInvariant c → IsArena c.arena.nodes c.arena.trees → is_done p ≡ false
-    → is_remove (ask op.task) ≡ false → IsKeptAt p c o op → HasMade p (live_count c.arena.nodes) 0 c.arena op.walk op.splits
-starts_at Enter c o op h arena left stays kept = inr (omega arith)
-starts_at Pick c o op h arena left stays kept = inr (omega arith)
-starts_at Child c o op h arena left stays kept = inr (omega arith)
-starts_at Verify c o op h arena left stays kept = inr (inr (omega (arith, behind_most c.arena.nodes (at c.arena op.walk.child).low)))
-starts_at Search c o op h arena left stays kept = inr (omega (arith, behind_most c.arena.nodes (at c.arena op.walk.place.node).low))
-starts_at Load c o op h arena left stays kept = inr (omega (arith, behind_most c.arena.nodes (at c.arena op.walk.place.node).low))
-starts_at Confirm c o op h arena left stays kept = inr (omega (arith, behind_most c.arena.nodes (at c.arena op.walk.place.node).low))
-starts_at Forward c o op h arena left stays kept = inr (omega (arith, behind_most c.arena.nodes (at c.arena op.walk.place.node).low))
-starts_at Lock c o op h arena left stays kept = inr (omega (arith, behind_most c.arena.nodes (at c.arena op.walk.place.node).low))
-starts_at Judge c o op h arena left stays kept = omega arith
-starts_at Store c o op h arena left stays kept = omega arith
-starts_at Publish c o op h arena left stays kept = omega arith
-starts_at SplitStart c o op h arena left stays kept = omega arith
-starts_at SplitMove c o op h arena left stays kept = omega arith
-starts_at SplitPrev c o op h arena left stays kept = omega arith
-starts_at LockParent c o op h arena left stays kept = omega arith
-starts_at InsertChild c o op h arena left stays kept = omega arith
-starts_at InteriorSplit c o op h arena left stays kept = omega arith
-starts_at Reparent c o op h arena left stays kept =
-    omega (arith, (arena.nodes.each (last_of op.splits).right kept.climbs.splits.parted.right.held.there).children.interior.room)
-starts_at RootGrow c o op h arena left stays kept = omega arith
-starts_at MakeLayer c o op h arena left stays kept = omega arith
-starts_at MarkUnstable c o op h arena left stays kept = omega arith
-starts_at phases.Link c o op h arena left stays kept = omega arith
-starts_at MarkLayer c o op h arena left stays kept = omega arith
-starts_at DropKey c o op h arena left stays kept = absurd (no_removing op stays kept.removes)
-starts_at LockPrev c o op h arena left stays kept = absurd (no_removing op stays kept.removes)
-starts_at LockAbove c o op h arena left stays kept = absurd (no_removing op stays kept.removes)
-starts_at Unlink c o op h arena left stays kept = absurd (no_removing op stays kept.removes)
-starts_at FixNext c o op h arena left stays kept = absurd (no_removing op stays kept.removes)
-starts_at Collapse c o op h arena left stays kept = absurd (no_removing op stays kept.removes)
-starts_at CleanLayer c o op h arena left stays kept = absurd (no_removing op stays kept.removes)
-starts_at Unlock c o op h arena left stays kept = omega arith
-starts_at Done c o op h arena left stays kept = absurd (let no = sym left in cc)
-
--- nobody is in the way of an operation while nobody else holds a node
-pub unhindered_first : (c : Core) (o : ℕ) (op : OperationView) → StateInvariant c → IsArena c.arena.nodes c.arena.trees → IsUndisturbed (shown c) o op
-    → IsUnhindered c o (live_count c.arena.nodes) 0
-unhindered_first c o op h arena u =
-    let inside = inside_of c.table o op u.there in
-    let inner : Operation = inside.0 in
-    let left : is_done inner.walk.phase ≡ false = ap (λ (x : OperationView). is_done x.phase) inside.2 ∙ u.unfinished in
-    let stays : is_remove (ask inner.task) ≡ false = ap (λ (x : OperationView). is_remove x.command) inside.2 ∙ u.stays in
-    record {
-      op = inner;
-      there = inside.1;
-      free = u.free;
-      point = subst (λ (b : Bool). IsSoFar b (live_count c.arena.nodes) 0 c.arena inner) (sym stays)
-          (record { below = λ _. nodes_below c h arena; few = starts_at inner.walk.phase c o inner h arena left stays (h.ops o inner inside.1).kept });
-    }
-
--- so it is with a get or a put that is alone
-undisturbed_alone : (v : StateView) (o : ℕ) (op : OperationView) → IsAlone v o op → is_remove op.command ≡ false → IsUndisturbed v o op
-undisturbed_alone v o op alone stays = record {
+-- so it is with one that is alone
+undisturbed_alone : (v : StateView) (o : ℕ) (op : OperationView) → IsAlone v o op → IsUndisturbed v o op
+undisturbed_alone v o op alone = record {
   there = alone.there;
-  stays = stays;
   unfinished = ap is_done alone.enters;
   free = λ k q within holds. absurd (no_value (sym (alone.free k within) ∙ holds));
   numbers = alone.numbers;
@@ -217,32 +152,9 @@ untold_first c o op h alone = ap (λ (x : OperationView). x.outcome) (sym inside
     by None bound = refl
     by (Some told) bound = absurd (let first = ap (λ (x : OperationView). x.first) inside.2 in omega (arith, first, alone.first, bound.answer.right.begun))
 
--- and with a removal
-alone_removal : (c : Core) (o : ℕ) (op : OperationView) → StateInvariant c → IsAlone (shown c) o op → is_remove op.command ≡ true
-    → IsUnhindered c o (live_count c.arena.nodes) 0
-alone_removal c o op h alone removes =
-    let inside = inside_of c.table o op alone.there in
-    let inner : Operation = inside.0 in
-    record {
-      op = inner;
-      there = inside.1;
-      free = λ k q within holds. absurd (no_value (sym (alone.free k within) ∙ holds));
-      point = subst (λ (b : Bool). IsSoFar b (live_count c.arena.nodes) 0 c.arena inner) (sym (ap (λ (x : OperationView). is_remove x.command) inside.2 ∙ removes))
-          (removal_begins c.arena inner.walk inner.outcome inner.removal (ap (λ (x : OperationView). x.phase) inside.2 ∙ alone.enters)
-          (ap (λ (x : OperationView). x.outcome) inside.2 ∙ untold_first c o op h alone));
-    }
-
-alone_unhindered : (c : Core) (o : ℕ) (op : OperationView) → StateInvariant c → IsArena c.arena.nodes c.arena.trees → IsAlone (shown c) o op
-    → IsUnhindered c o (live_count c.arena.nodes) 0
-alone_unhindered c o op h arena alone = by (is_remove op.command) refl
-  where
-    by : (b : Bool) → is_remove op.command ≡ b → IsUnhindered c o (live_count c.arena.nodes) 0
-    by true removes = alone_removal c o op h alone removes
-    by false stays = unhindered_first c o op h arena (undisturbed_alone (shown c) o op alone stays)
-
 pub alone_first : (old : Core) (o : ℕ) (op : OperationView) → StateInvariant old → IsArena old.arena.nodes old.arena.trees → IsAlone (shown old) o op
     → GoesAlone old old o op 0
-alone_first old o op h arena alone = record { run = running_first (shown old) o op alone (untold_first old o op h alone); free = alone_unhindered old o op h arena alone }
+alone_first old o op h arena alone = record { run = running_first (shown old) o op alone (untold_first old o op h alone); free = unhindered_first old o op h arena (undisturbed_alone (shown old) o op alone) }
 
 -- an operation that moved goes on
 pub alone_goes_on : (old v w : Core) (o : ℕ) (op : OperationView) (made : ℕ) → GoesAlone old v o op made → StepsOn v w o Moved → GoesAlone old w o op (made + 1)

@@ -161,6 +161,7 @@ module _ (c : Core) (o : ℕ) (op : Operation) (h : StateInvariant c) (there : o
             light = a.light;
           };
           kept = kept_climbing op.walk.phase climbs new o y (record {
+            stays = climbing.stays;
             climbs = grow_same op.splits t same op.walk.phase grows c.arena o climbing.climbs;
             answer = record { outcome = climbing.answer.outcome; told = climbing.answer.told; right = subst (λ (x : OperationView). IsAnswer (shown new) x climbing.answer.outcome) (sym (same_view same)) right; unprepared = climbing.answer.unprepared };
           });

@@ -15,6 +15,7 @@ pub mod EventNames
 pub mod EventRuns
 pub mod NextSteps
 pub mod AloneRuns
+pub mod AloneStarts
 pub mod AloneEnds
 pub mod Retained
 pub mod Tabling

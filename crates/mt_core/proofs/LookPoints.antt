@@ -28,12 +28,12 @@ use Rattle.mt_operation.specs.Phases.{IsDescent}
 use Rattle.mt_descent.specs.Seen.{Stands, HasNext, IsRemembered}
 use Rattle.mt_descent.specs.Pasts.{Past}
 use Rattle.mt_descent.specs.KeptWalks.{GoesThrough, slice_in, IsAtVerify, IsAtConfirm, IsAtForward, TakenHolds, KeptAt, IsKept, IsAtBorder}
-use Rattle.mt_descent.specs.WalkMoves.{arrival, arrival_at, walk_onto, walk_anew, walk_here, walk_to_next, after_enter, after_pick, after_child, after_search, after_confirm, after_change, after_forward, Verifies, Confirms, Loads, TakesOut}
+use Rattle.mt_descent.specs.WalkMoves.{arrival, arrival_at, walk_onto, walk_anew, walk_here, walk_to_next, after_enter, after_pick, after_child, after_search, after_confirm, after_forward, Verifies, Confirms, Loads, TakesOut}
 use Rattle.mt_descent.proofs.Ways.{same_stands}
 use Rattle.mt_state.proofs.Decides.{same_or_not, outdated_or_not}
 use Rattle.mt_core.proofs.Points.{below_at, few_at}
 use Rattle.mt_core.proofs.Astray.{behind_fewer}
-use Rattle.mt_core.specs.Points.{AreBelow, Budget, HasMade, MayHaveGrown, SeesNow, SeesChild, behind, astray, level_of, above, until, IsAtPoint, IsBudget, IsLiveTree, TookLiveTree, WalksBy, budget_of}
+use Rattle.mt_core.specs.Points.{AreBelow, Budget, HasMade, MayHaveGrown, SeesNow, behind, astray, level_of, above, until, IsAtPoint, IsBudget, IsLiveTree, TookLiveTree, WalksBy, budget_of}
 use Rattle.mt_arena.proofs.OneLink.{leads}
 use Rattle.mt_operation.specs.declared.walk.Taken.TheVariants as takens
 

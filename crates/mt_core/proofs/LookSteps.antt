@@ -17,7 +17,6 @@ use Rattle.mt_operation.specs.declared.outcome.Outcome.{Outcome}
 use Rattle.mt_operation.specs.declared.operation.Operation.{Operation}
 use Rattle.mt_operation.specs.Tasks.{ask}
 use Rattle.mt_operation.specs.Operations.{SplitsView, splits_of}
-use Rattle.mt_operation.specs.declared.splits.Splits.{Splits}
 use Rattle.mt_descent.specs.Pasts.{Past}
 use Rattle.mt_descent.specs.Seen.{child_for}
 use Rattle.mt_descent.specs.KeptWalks.{slice_in, KeptAt, IsKept}

@@ -313,7 +313,7 @@ module _ (c now : Core) (o : ℕ) (is : c ≡ now) (h : StateInvariant c) where
         let after = moved x (c.steps + 1) w in
         let over = over_first c.table table o (λ y. moved y (c.steps + 1) w) x there writes in
         steps_on (made c arena tape c.accounts table)
-        (gives_on x arena tape w table over arena refl keeps (meet_done c o h few_inside x there at_judge untold arena w t))
+        (gives_on x arena tape w table over arena refl keeps (meet_done c o h few_inside x there at_judge untold stays arena w t))
         (nears_made x after there refl arena tape c.accounts table over t.keeps.guarantee
         (λ height n point. point_first height (n + 1) arena w x.splits after.walk.first
         (subst (λ (v : ArenaView). IsAtPoint height (n + 1) v w x.splits) (sym t.stays) (meet_brings c.arena t.slot w x.walk x.splits t.walk at_judge height n point)))

@@ -1,5 +1,5 @@
 -- How each step brings a removal on that nobody is in the way of: for `Inner::lock_onward`, `judge_put`, and for the methods of `removals.rt`.
-use Rattle.std.proofs.Common.{◌≡◌, ◌≢◌, ℕ, zero, suc, ◌+◌, ◌*◌, ◌<◌, ◌≤◌, ◌⊎◌, inl, inr, Bool, true, false, cond, List, [], ◌∷◌, length, set, Option, Some, None, refl, sym, ap, subst, ◌∙◌, arith}
+use Rattle.std.proofs.Common.{◌≡◌, ◌≢◌, ℕ, zero, suc, ◌+◌, ◌*◌, ◌<◌, ◌≤◌, inl, inr, Bool, true, false, cond, List, [], ◌∷◌, length, set, Option, Some, None, refl, sym, ap, subst, ◌∙◌, arith}
 use Rattle.std.specs.Prelude.{if◌then◌else◌, nat_lt, min, slice_index, ◌-◌}
 use Rattle.std.proofs.lemmas.Option.{same_Some}
 use Rattle.std.proofs.Math.Nat.{add-mul, min-eq_left, min-eq_right, min-le_left, min-le_right, mul-le-mul_right}
@@ -15,7 +15,7 @@ use Rattle.mt_arena.specs.NodeView.{NodeView, node_at}
 use Rattle.mt_arena.specs.Edits.{locked, unlocked}
 use Rattle.mt_arena.specs.Forests.{layer_of, tree_at}
 use Rattle.mt_arena.specs.Contents.{is_live}
-use Rattle.mt_arena.specs.Arena.{ArenaView, IsArena, live_count, one_if_live}
+use Rattle.mt_arena.specs.Arena.{ArenaView, IsArena, live_count}
 use Rattle.mt_arena.specs.Accesses.{at, with_node}
 use Rattle.mt_arena.specs.RootLevels.{levels_above, levels_among, levels_if, levels_of}
 use Rattle.mt_arena.proofs.Elsewhere.{layer_is}
@@ -40,7 +40,7 @@ use Rattle.mt_operation.specs.Operations.{SplitsView}
 use Rattle.mt_state.specs.Phases.{LeadsTo}
 use Rattle.mt_state.proofs.RemovalBy.{child_before}
 use Rattle.mt_state.proofs.Decides.{outdated_or_not}
-use Rattle.mt_core.specs.Points.{Budget, HasRemoved, HasRounds, IsBudget, IsLiveTree, IsRemovalAt, RoundsAt, SeesNow, WalksBy, astray, before_round, behind, round_budget, until}
+use Rattle.mt_core.specs.Points.{Budget, HasRemoved, HasRounds, IsBudget, IsLiveTree, IsRemovalAt, RoundsAt, WalksBy, astray, before_round, behind, round_budget, until}
 use Rattle.mt_core.proofs.Points.{removed_at, rounds_at}
 
 -- nodes of the same levels make the same levels of trees
@@ -536,13 +536,3 @@ few_removal height made v w told r point = few_removed w.phase height point.roun
 pub removal_left : (p : Phase) (height round made : ℕ) (v : ArenaView) (w : Walk) → HasRemoved p height round made v w → is_done p ≡ false
 removal_left Done height round made v w few = absurd few
 removal_left _ height round made v w few = refl
-
--- one that has made no step, and was told nothing
-pub removal_begins : (v : ArenaView) (w : Walk) (told : Option Outcome) (r : Removal) → w.phase ≡ Enter → told ≡ None → IsRemovalAt (live_count v.nodes) 0 v w told r
-removal_begins v w told r enters untold = subst (λ (had : Option Outcome). IsRemovalAt (live_count v.nodes) 0 v w had r) (sym untold) (record {
-  round = 0;
-  most = omega arith;
-  live = omega arith;
-  rounds = subst (λ (p : Phase). RoundsAt p None 0 v w r) (sym enters) refl;
-  few = subst (λ (p : Phase). HasRemoved p (live_count v.nodes) 0 0 v w) (sym enters) (inr (omega arith));
-})

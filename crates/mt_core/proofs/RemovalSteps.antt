@@ -4,7 +4,6 @@ use Rattle.std.specs.Prelude.{IfSome, ◌^◌, ◌⊎◌, ◌≤◌}
 use Rattle.std.specs.Option.{option_map}
 use Rattle.std.proofs.lemmas.Bool.{cases_eq}
 use Rattle.mt_state.proofs.SplitSteps.{is_held_or_not}
-use Rattle.std.proofs.lemmas.Option.{same_Some}
 use Rattle.mt_version.specs.Changes.{CanUnlock}
 use Rattle.mt_rows.specs.declared.reply.Reply.TheVariants.{Absent, Removed}
 use Rattle.mt_rows.specs.Accounts.{Accounts, HasPairs, account_of}
@@ -36,8 +35,8 @@ use Rattle.mt_remove.specs.Writes.{IsRemoval, is_remove}
 use Rattle.mt_state.specs.declared.moves.Move.{Move}
 use Rattle.mt_state.specs.declared.moves.Move.TheVariants.{Again, Done as DoneMove, Moved}
 use Rattle.mt_state.specs.Views.{Core, StateView, shown}
-use Rattle.mt_state.specs.Promises.{IsHeldByOther, IsInTheWay, IsStep, Tells}
-use Rattle.mt_state.specs.Phases.{GoesFromUnlock, JudgesBy, Leads, LeadsOn, LocksBy, ReturnsBy}
+use Rattle.mt_state.specs.Promises.{IsHeldByOther, IsInTheWay, IsStep}
+use Rattle.mt_state.specs.Phases.{GoesFromUnlock, JudgesBy, Leads, LocksBy, ReturnsBy}
 use Rattle.mt_state.specs.KeptOperations.{IsKeptAt, IsOnItsWay}
 use Rattle.mt_state.specs.Invariant.{StateInvariant}
 use Rattle.mt_state.proofs.Shown.{shown_there}

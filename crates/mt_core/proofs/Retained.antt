@@ -158,7 +158,7 @@ module _ (c : Core) (answers : ℕ) (logs : List ℕ) (tape : Kept) (table : Tab
   way_stays h = record { kept = walk_stays None h.kept; bound = bound_stays op.outcome h.bound; unprepared = h.unprepared }
 
   layering_stays : (p : Phase) → IsLayering c q op p → IsLayering new q op p
-  layering_stays p h = record { makes = h.makes; light = h.light; untold = h.untold; unprepared = h.unprepared }
+  layering_stays p h = record { stays = h.stays; makes = h.makes; light = h.light; untold = h.untold; unprepared = h.unprepared }
 
   returning_stays : (told : Option Outcome) → IsReturning told c q op → IsReturning told new q op
   returning_stays None h = record { layering = layering_stays Unlock h.layering; unsplit = h.unsplit }
@@ -181,7 +181,7 @@ module _ (c : Core) (answers : ℕ) (logs : List ℕ) (tape : Kept) (table : Tab
   kept_stays kinds.Writes p h = writing_stays p h
   kept_stays kinds.Begins p h = record { prepared = h.prepared; has = h.has; starts = h.starts; put = h.put; untold = h.untold }
   kept_stays kinds.Splits p h = record { prepared = h.prepared; has = h.has; moves = h.moves; put = h.put; untold = h.untold }
-  kept_stays kinds.Climbs p h = record { climbs = h.climbs; answer = told_stays h.answer }
+  kept_stays kinds.Climbs p h = record { stays = h.stays; climbs = h.climbs; answer = told_stays h.answer }
   kept_stays kinds.Layers p h = layering_stays p h
   kept_stays kinds.Drops p h = record { prepared = h.prepared; has = h.has; drops = h.drops; removes = h.removes; light = h.light; untold = h.untold }
   kept_stays kinds.Unlinks p h = unlinking_stays p h

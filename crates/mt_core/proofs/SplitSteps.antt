@@ -100,7 +100,7 @@ made_parted (Some behind) height made v w s few = omega (arith, few)
 -- an operation that has split nodes gives back those of its splits, which it holds
 all_of : (l : List Halves) (v : ArenaView) (o : ℕ) (op : Operation) → l ≢ [] → MayUnlock l v o op → IsAtUnlockAll v o op.splits
 all_of [] v o op some may = absurd (some refl)
-all_of (x ∷ l) v o op some may = may
+all_of (x ∷ l) v o op some may = may.0
 
 last_among : (l : List Halves) (op : Operation) (k : ℕ) → l ≢ [] → HoldsLast l op k → IsAmong op.splits k
 last_among [] op k some holds = absurd (some refl)

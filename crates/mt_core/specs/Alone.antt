@@ -17,7 +17,6 @@ use Rattle.mt_state.specs.declared.moves.Move.TheVariants.{Moved, NoMemory as No
 use Rattle.mt_state.specs.Views.{StateView, contents_of, op_at, quota_of}
 use Rattle.mt_state.specs.Steps.{IsSameAsked}
 use Rattle.mt_state.specs.Promises.{IsStep, Tells}
-use Rattle.mt_remove.specs.Writes.{is_remove}
 
 -- so many steps of operation o were made, one after the other, none of which was its last
 abbrev pub IsChain : ℕ → StateView → StateView → ℕ → Type 0
@@ -44,10 +43,9 @@ pub record IsAlone (v : StateView) (o : ℕ) (op : OperationView) : Type 0 where
   pub free : (k : ℕ) → k < length v.arena.nodes → (at v.arena k).holder ≡ None
   pub numbers : v.steps + most_steps v ≤ 2 ^ 59
 
--- an unfinished get or put, at whatever phase, also one that was disturbed before, while nobody else holds a node and numbers are left for a whole run
+-- an unfinished operation, at whatever phase, also one that was disturbed before, while nobody else holds a node and numbers are left for a whole run
 pub record IsUndisturbed (v : StateView) (o : ℕ) (op : OperationView) : Type 0 where
   pub there : op_at v.table o ≡ Some op
-  pub stays : is_remove op.command ≡ false
   pub unfinished : is_done op.phase ≡ false
   pub free : (k q : ℕ) → k < length v.arena.nodes → (at v.arena k).holder ≡ Some q → q ≡ o
   pub numbers : v.steps + most_steps v ≤ 2 ^ 59

@@ -21,6 +21,8 @@ use Rattle.mt_operation.specs.declared.splits.Halves.{Halves}
 use Rattle.mt_operation.specs.declared.operation.Operation.{Operation}
 use Rattle.mt_operation.specs.Operations.{OperationView, view_of, IsUnsplit}
 use Rattle.mt_operation.specs.Phases.{is_done, MayFollow, IsOfKind, has_splits, IsLayerPhase, FitsWrites, IsLayerKind, Kind, change_at, holds_of, may_be_parts, row, is_unplaced}
+use Rattle.mt_operation.specs.Tasks.{ask}
+use Rattle.mt_remove.specs.Writes.{is_remove}
 use Rattle.mt_operation.specs.Tables.{op_at as operation_at}
 use Rattle.mt_descent.specs.KeptWalks.{IsAtEnter, KeptAt}
 use Rattle.mt_insert.specs.KeptPuts.{IsAtMakeLayer, HoldsOnly}
@@ -245,9 +247,9 @@ module _ (c : Core) (o : ℕ) (h : StateInvariant c) (few : c.steps < 2 ^ 59) (o
     judging = kept_at Judge at_judge
 
     -- another long key stands in the place of the operation's own
-    pub meet_done : op.outcome ≡ None → (arena : ArenaView) (w : Walk) → MeetsOther o op.task.key c.arena arena op.walk w
+    pub meet_done : op.outcome ≡ None → is_remove (ask op.task) ≡ false → (arena : ArenaView) (w : Walk) → MeetsOther o op.task.key c.arena arena op.walk w
         → Gives (shown c) (quiet c arena c.tape.reserved o (went op (c.steps + 1) w op.outcome op.prepared)) o false
-    meet_done untold arena w t =
+    meet_done untold stays arena w t =
         let after = went op (c.steps + 1) w op.outcome op.prepared in
         let new = quiet c c.arena c.tape.reserved o after in
         let makes : w.phase ≡ MakeLayer = ap (λ (x : Walk). x.phase) t.walk in
@@ -255,6 +257,7 @@ module _ (c : Core) (o : ℕ) (h : StateInvariant c) (few : c.steps < 2 ^ 59) (o
         let place : w.place.node ≡ op.walk.place.node = ap (λ (x : Walk). x.place.node) t.walk in
         let whole = walk_same c op always w (begun_at Judge at_judge (λ enters. absurd (cc))) (ap (λ (x : Walk). x.first) t.walk) in
         let own : IsLayering new o after MakeLayer = record {
+          stays = stays;
           makes = subst (IsAtMakeLayer c.arena o op.task.key) (sym whole) t.kept;
           light = subst (λ (told : Option Outcome). IsBound told c op) untold judging.bound;
           untold = untold;
@@ -385,6 +388,7 @@ module _ (c : Core) (o : ℕ) (h : StateInvariant c) (few : c.steps < 2 ^ 59) (o
           always = open_moved c op always w building op.outcome op.prepared refl refl (λ t some. some) (floor_made c h.tape) t.same.writes
               (made_kind w.phase leads w.writes (t.same.writes ∙ layer_writes op.walk.phase layer op.walk.writes always.kind));
           kept = made_kept w.phase leads building o built unsplit (record {
+            stays = layering.stays;
             makes = subst (KeptLayer w.phase arena o op.task.key) (sym whole) t.kept;
             light = layering.light;
             untold = layering.untold;

@@ -36,6 +36,7 @@ use Rattle.mt_operation.specs.declared.walk.Walk.{Walk}
 use Rattle.mt_operation.specs.declared.outcome.Outcome.{Outcome}
 use Rattle.mt_operation.specs.declared.operation.Operation.{Operation}
 use Rattle.mt_operation.specs.Tasks.{ask}
+use Rattle.mt_remove.specs.Writes.{is_remove}
 use Rattle.mt_operation.specs.Operations.{view_of}
 use Rattle.mt_operation.specs.Phases.{is_done, MayFollow, IsOfKind}
 use Rattle.mt_operation.specs.Tables.{op_at as operation_at}
@@ -62,6 +63,7 @@ use Rattle.mt_state.proofs.OneNode.{same_counts, quiet_grows, holds_here}
 use Rattle.mt_state.proofs.Locking.{ready_one, room_for, no_room_left}
 use Rattle.mt_state.proofs.Placing.{Counts, next_write, placed, PlacesPair, untouched_beside, untouched_now, placed_move, placed_right, is_placing, placed_once}
 use Rattle.mt_state.proofs.Putting.{stamped_apart, room_left, beside_missing, counted_new}
+use Rattle.mt_state.proofs.Bound.{put_no_remove}
 use Rattle.mt_state.proofs.SplitSteps.{HasHalves, halves_kind, halves_open, halves_unready, halves_split, halves_held, halves_kept}
 
 -- once the keys are parted the halves are there, and the quota was judged
@@ -220,6 +222,9 @@ module _ (c : Core) (o : ℕ) (h : StateInvariant c) (few : c.steps < 2 ^ 59) (o
   some : op.splits.halves.items ≢ []
   some none = let no = ap (λ hs. length hs) none in let one = moving.moves.one in absurd (omega (arith, no, one))
 
+  stays_put : is_remove (ask op.task) ≡ false
+  stays_put = put_no_remove (ask op.task) moving.put
+
   kind : IsOfKind w.phase w.writes
   kind = halves_kind w.phase leads w.writes (p.same.writes ∙ subst (λ (p : Phase). IsOfKind p op.walk.writes) at_move always.kind)
 
@@ -267,7 +272,7 @@ module _ (c : Core) (o : ℕ) (h : StateInvariant c) (few : c.steps < 2 ^ 59) (o
     kept_full : IsKeptOf new_full o after_full
     kept_full = record {
       always = open_moved_with c op always w new_full told_full None op.splits refl refl (λ t some. some) (floor_made c h.tape) p.same.writes kind;
-      kept = halves_kept w.phase leads new_full o after_full some p.kept answer_full;
+      kept = halves_kept w.phase leads new_full o after_full stays_put some p.kept answer_full;
       unsplit = λ none. absurd (both_ways _ none (halves_split w.phase leads));
       placed = λ m placed. absurd (cc);
     }
@@ -381,7 +386,7 @@ module _ (c : Core) (o : ℕ) (h : StateInvariant c) (few : c.steps < 2 ^ 59) (o
         } in
         let own : IsKeptOf new_core o after_new = record {
           always = open_moved_with c op always w new_core told_new None op.splits refl refl counted.there (floor_made c h.tape) p.same.writes kind;
-          kept = halves_kept w.phase leads new_core o after_new some p.kept answer;
+          kept = halves_kept w.phase leads new_core o after_new stays_put some p.kept answer;
           unsplit = λ none. absurd (both_ways _ none (halves_split w.phase leads));
           placed =
               λ m placed_at. subst (IsPlacedOnce new_core after_new) (same_Some (c.steps + 1) m placed_at) (placed_once c o op after_new arena accounts h put pair refl);

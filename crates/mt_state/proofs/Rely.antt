@@ -89,7 +89,7 @@ module _ (old new : Core) (o q : ℕ) (arena : IsArena new.arena.nodes new.arena
 
   -- what it climbs with
   climbing_stays : (p : Phase) → IsOpenOperation old op → IsClimbing old q op p → IsClimbing new q op p
-  climbing_stays p k h = record { climbs = splits.split o q old.arena new.arena g.arena other p op.splits h.climbs; answer = told_stays k h.answer }
+  climbing_stays p k h = record { stays = h.stays; climbs = splits.split o q old.arena new.arena g.arena other p op.splits h.climbs; answer = told_stays k h.answer }
 
   -- what it may give back
   unsplit_stays : (removes : Bool) → MayUnlockUnsplit removes old.arena q op → MayUnlockUnsplit removes new.arena q op
@@ -98,11 +98,12 @@ module _ (old new : Core) (o q : ℕ) (arena : IsArena new.arena.nodes new.arena
 
   unlocks_stay : (halves : List Halves) → MayUnlock halves old.arena q op → MayUnlock halves new.arena q op
   unlocks_stay [] h = (unsplit_stays (is_remove (ask op.task)) h.0, h.1)
-  unlocks_stay (x ∷ halves) h = splits.split o q old.arena new.arena g.arena other Unlock op.splits h
+  unlocks_stay (x ∷ halves) h = (splits.split o q old.arena new.arena g.arena other Unlock op.splits h.0, h.1)
 
   -- what it makes a layer with
   layering_stays : (p : Phase) → IsLayering old q op p → IsLayering new q op p
   layering_stays p h = record {
+    stays = h.stays;
     makes = layers.layer o q old.arena new.arena g.arena other arena op.task.key op.walk p h.makes;
     light = h.light;
     untold = h.untold;

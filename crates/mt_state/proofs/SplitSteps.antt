@@ -21,6 +21,8 @@ use Rattle.mt_operation.specs.declared.splits.Splits.{Splits}
 use Rattle.mt_operation.specs.declared.operation.Operation.{Operation}
 use Rattle.mt_operation.specs.Operations.{OperationView, view_of}
 use Rattle.mt_operation.specs.Phases.{is_done, MayFollow, IsOfKind, has_splits, IsClimb, FitsWrites, IsClimbKind, Kind, change_at, holds_of, may_be_parts, row, is_unplaced, is_to_come}
+use Rattle.mt_operation.specs.Tasks.{ask}
+use Rattle.mt_remove.specs.Writes.{is_remove}
 use Rattle.mt_operation.specs.Tables.{op_at as operation_at}
 use Rattle.mt_insert.specs.Placing.{released}
 use Rattle.mt_insert.specs.KeptSplits.{IsAmong, IsAtSplitMove, IsAtUnlockAll, KeptSplit, HoldsSplits}
@@ -173,19 +175,20 @@ kept_climbing p i c o op climbing = by (row p).kind i
     by _ i = absurd i
 
 -- and what is kept of it is what is kept of the splits, and its answer
-may_unlock : (l : List Halves) (v : ArenaView) (o : ℕ) (op : Operation) → l ≢ [] → IsAtUnlockAll v o op.splits → MayUnlock l v o op
-may_unlock [] v o op some all = absurd (some refl)
-may_unlock (x ∷ l) v o op some all = all
+may_unlock : (l : List Halves) (v : ArenaView) (o : ℕ) (op : Operation) → is_remove (ask op.task) ≡ false → l ≢ [] → IsAtUnlockAll v o op.splits
+    → MayUnlock l v o op
+may_unlock [] v o op stays some all = absurd (some refl)
+may_unlock (x ∷ l) v o op stays some all = (all, stays)
 
 may_unlock_all : (l : List Halves) (v : ArenaView) (o : ℕ) (op : Operation) → l ≢ [] → MayUnlock l v o op → IsAtUnlockAll v o op.splits
 may_unlock_all [] v o op some may = absurd (some refl)
-may_unlock_all (x ∷ l) v o op some may = may
+may_unlock_all (x ∷ l) v o op some may = may.0
 
-pub halves_kept : (p : Phase) → HasHalves p → (c : Core) (o : ℕ) (op : Operation) → op.splits.halves.items ≢ [] → KeptSplit p c.arena o op.splits
-    → HasAnswer c op → IsKeptAt p c o op
-halves_kept Unlock i c o op some kept answer =
-    returning_by op.outcome answer.outcome answer.told c o op (record { unlocks = may_unlock op.splits.halves.items c.arena o op some kept; answer = answer })
-halves_kept p i c o op some kept answer = kept_climbing p i c o op (record { climbs = kept; answer = answer })
+pub halves_kept : (p : Phase) → HasHalves p → (c : Core) (o : ℕ) (op : Operation) → is_remove (ask op.task) ≡ false → op.splits.halves.items ≢ []
+    → KeptSplit p c.arena o op.splits → HasAnswer c op → IsKeptAt p c o op
+halves_kept Unlock i c o op stays some kept answer =
+    returning_by op.outcome answer.outcome answer.told c o op (record { unlocks = may_unlock op.splits.halves.items c.arena o op stays some kept; answer = answer })
+halves_kept p i c o op stays some kept answer = kept_climbing p i c o op (record { stays = stays; climbs = kept; answer = answer })
 
 climb_answer : (p : Phase) → IsClimb p → (c : Core) (o : ℕ) (op : Operation) → IsKeptAt p c o op → HasAnswer c op
 climb_answer p i c o op kept = (climbing_of p i c o op kept).answer
@@ -340,7 +343,7 @@ module _ (c : Core) (o : ℕ) (h : StateInvariant c) (few : c.steps < 2 ^ 59) (o
       (halves_kind w.phase leads w.writes (t.same.writes ∙ halves_write op.walk.phase was op.walk.writes always.kind)) refl
       (climb_notes op.walk.phase w.phase climb leads (shown c) (view_of op))
       (λ k inside holds. halves_held w.phase leads after k t.some (t.holds k inside holds))
-      (halves_kept w.phase leads new o after t.some t.kept answer)
+      (halves_kept w.phase leads new o after (climbing_of op.walk.phase climb c o op (h.ops o op there).kept).stays t.some t.kept answer)
       (λ none. absurd (both_ways _ none (halves_split w.phase leads)))
       (let none = unready_none op op.walk.phase refl (halves_unready op.walk.phase was) in let no = unready_none after w.phase refl (halves_unready w.phase leads) in omega (arith, none, no))
       t.moves.touches false (sym (halves_open w.phase leads))

@@ -141,8 +141,9 @@ pub record IsDropping (c : Core) (o : ℕ) (op : Operation) : Type 0 where
   pub light : op.removal ≡ no_removal
   pub untold : op.outcome ≡ None
 
--- one whose keys are parted, and whose right halves come to their parents
+-- one that removes nothing, whose keys are parted, and whose right halves come to their parents
 pub record IsClimbing (c : Core) (o : ℕ) (op : Operation) (phase : Phase) : Type 0 where
+  pub stays : is_remove (ask op.task) ≡ false
   pub climbs : KeptSplit phase c.arena o op.splits
   pub answer : HasAnswer c op
 
@@ -157,18 +158,19 @@ abbrev pub MayUnlockUnsplit : Bool → ArenaView → ℕ → Operation → Type 
 MayUnlockUnsplit true v o op = IsAtUnlockRemoval v o op.task.key op.walk op.removal
 MayUnlockUnsplit false v o op = IsAtUnlock v o op.walk
 
--- what it may give back: that, or each node of the splits
+-- what it may give back: that, or each node of the splits, where it removes nothing
 abbrev pub MayUnlock : List Halves → ArenaView → ℕ → Operation → Type 0
 MayUnlock [] v o op = MayUnlockUnsplit (is_remove (ask op.task)) v o op × IsUnsplit op.splits
-MayUnlock (_ ∷ _) v o op = IsAtUnlockAll v o op.splits
+MayUnlock (_ ∷ _) v o op = IsAtUnlockAll v o op.splits × (is_remove (ask op.task) ≡ false)
 
 -- one that was placed, and holds its border node, with those of its removal, or the nodes of its splits
 pub record IsUnlocking (c : Core) (o : ℕ) (op : Operation) : Type 0 where
   pub unlocks : MayUnlock op.splits.halves.items c.arena o op
   pub answer : HasAnswer c op
 
--- one that makes a layer: nothing is told of it, and nothing made ready
+-- one that removes nothing, and makes a layer: nothing is told of it, and nothing made ready
 pub record IsLayering (c : Core) (o : ℕ) (op : Operation) (phase : Phase) : Type 0 where
+  pub stays : is_remove (ask op.task) ≡ false
   pub makes : KeptLayer phase c.arena o op.task.key op.walk
   pub light : op.removal ≡ no_removal
   pub untold : op.outcome ≡ None

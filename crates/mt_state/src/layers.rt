@@ -14,6 +14,8 @@ ghost use Rattle.mt_state.specs.Calls.{IsLawful};
 ghost use Rattle.mt_state.specs.Writes.{wrote};
 ghost use Rattle.mt_operation.specs.Phases.{IsLayerPhase};
 ghost use Rattle.mt_layer.specs.Builds.{IsLayerFrom, IsLeave};
+ghost use Rattle.mt_operation.specs.Tasks.{ask};
+ghost use Rattle.mt_remove.specs.Writes.{is_remove};
 ghost use Rattle.mt_insert.specs.Judge.{MeetsLink, MeetsOther};
 ghost use Rattle.mt_insert.specs.Unlock.{IsUnlock};
 
@@ -23,7 +25,7 @@ ghost use Rattle.mt_insert.specs.Unlock.{IsUnlock};
 /// by a link that it found under its lock, or in the layer that it has made.
 pub fn a_layer_is_a_step()
     ensures meets { (c : Core) (o : ℕ) (op : Operation) (arena : ArenaView) (w : Walk) → StateInvariant c → c.steps < 2 ^ 59 → operation_at c.table o ≡ Some op →
-        op.walk.phase ≡ Judge → op.outcome ≡ None → MeetsOther o op.task.key c.arena arena op.walk w →
+        op.walk.phase ≡ Judge → op.outcome ≡ None → is_remove (ask op.task) ≡ false → MeetsOther o op.task.key c.arena arena op.walk w →
         IsLawful c (wrote c arena c.tape c.accounts o op w op.outcome op.prepared) o false }
     ensures builds { (c : Core) (o : ℕ) (op : Operation) (arena : ArenaView) (w : Walk) → StateInvariant c → IsArena c.arena.nodes c.arena.trees → c.steps < 2 ^ 59 →
         operation_at c.table o ≡ Some op → IsLayerPhase op.walk.phase → IsLayerFrom op.walk.phase o op.task.key c.arena arena op.walk w →

@@ -3,7 +3,7 @@ use Rattle.mt_state.proofs.layers.a_layer_is_a_step.Goals as goal
 
 pub returns-clause-meets : goal.returns-clause-meets
 returns-clause-meets c =
-    λ core o op arena w h few there at_judge untold t. let g = meet_done core o h few op there at_judge untold arena w t in record { invariant = g.0; step = g.1 }
+    λ core o op arena w h few there at_judge untold stays t. let g = meet_done core o h few op there at_judge untold stays arena w t in record { invariant = g.0; step = g.1 }
 
 pub returns-clause-builds : goal.returns-clause-builds
 returns-clause-builds c =

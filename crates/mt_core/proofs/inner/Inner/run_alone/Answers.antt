@@ -3,7 +3,8 @@ use Rattle.mt_arena.specs.Arena.{live_count}
 use Rattle.mt_state.specs.Views.{shown}
 use Rattle.mt_state.specs.declared.moves.Move.TheVariants.{Moved}
 use Rattle.mt_core.specs.Points.{StepsOn}
-use Rattle.mt_core.proofs.AloneEnds.{chain_more, chain_number, chain_ends, run_stops, unhindered_first, alone_first, alone_goes_on, alone_stops, undisturbed_stops}
+use Rattle.mt_core.proofs.AloneStarts.{unhindered_first}
+use Rattle.mt_core.proofs.AloneEnds.{chain_more, chain_number, chain_ends, run_stops, alone_first, alone_goes_on, alone_stops, undisturbed_stops}
 use Rattle.mt_core.proofs.inner.Inner.run_alone.Goals as goal
 
 pub loop-init : goal.loop-init
