@@ -1,0 +1,44 @@
+-- What a reading tells of one tenant's map.
+use Rattle.std.specs.Prelude.{◌≡◌, ◌⊎◌, ℕ, ◌+◌, ◌<◌, length, take, slice_index, ◌==◌, if◌then◌else◌, Bool, true, false, List, Option, Some, None, filter_map}
+use Rattle.std.specs.List.{Contains}
+use Rattle.std.specs.FinMap as pairs
+use Rattle.mt_slices.specs.Keys.{IsStoredKey, stored_key, tenant_of, user_key_of}
+use Rattle.mt_rows.specs.Rows.{Bytes, Columns}
+use Rattle.mt_rows.specs.Tenants.{Contents}
+use Rattle.mt_border.specs.declared.entry.Pair.{Pair}
+use Rattle.mt_border.specs.declared.entry.Entry.{Entry}
+use Rattle.mt_border.specs.Entry.{pair_of}
+use Rattle.mt_border.specs.Contents.{owned, key_at, HasKey}
+use Rattle.mt_readings.specs.Reading.{is_below}
+use Rattle.mt_readings.specs.Spans.{HasPair}
+
+-- a tenant's pair, by its user's key
+abbrev pub own_pair : ℕ → Bytes → Bytes → Columns → Option (Bytes × Columns)
+own_pair t prefix key row = if tenant_of key == t then Some (user_key_of key, row) else None
+
+-- the tenant's pairs among those that were read
+abbrev pub own_pairs : ℕ → Bytes → List (Entry × Pair) → List (Bytes × Columns)
+own_pairs t prefix xs = filter_map (λ x. own_pair t prefix (key_at prefix x.0 x.1) x.1.row) xs
+
+-- which of a tenant's keys are done with at a fence
+abbrev pub passed_at : ℕ → Bytes → Bool → Bytes → Bool
+passed_at t fence after key = is_below fence after (stored_key t key)
+
+-- each pair of the contents is that of a stored key
+abbrev pub HasStoredKeys : Contents → Type 0
+HasStoredKeys c = (q : ℕ × Bytes) (row : Columns) → pairs.get c q ≡ Some row → (key : Bytes) × IsStoredKey key × (owned key ≡ q)
+
+-- what was read tells all that the contents have of a tenant from a fence on, as far as its keys are reached
+pub record TellsTenant (c : Contents) (t : ℕ) (prefix : Bytes) (layer : ℕ) (fence : Bytes) (after : Bool) (reached : Bytes → Bool) (xs : List (Entry × Pair)) : Type 0 where
+  pub whole : (key : Bytes) → IsStoredKey key → tenant_of key ≡ t → is_below fence after key ≡ false → reached key ≡ true → HasPair c prefix layer xs key ⊎ (pairs.get c (owned key) ≡ None)
+  pub real : (x : Entry × Pair) → Contains xs x → (key : Bytes) × HasKey prefix layer x.0 key × (pair_of x.0.held ≡ Some x.1) × (pairs.get c (owned key) ≡ Some x.1.row) × (is_below fence after key ≡ false) × (tenant_of key ≡ t → reached key ≡ true)
+
+-- A key stands behind all that begin with these bytes, the least that does: its last byte is one more than theirs there, behind which they have
+-- nothing but greatest bytes.
+pub record IsBehindAll (prefix reached : Bytes) : Type 0 where
+  pub place : ℕ
+  pub in_range : place < length prefix
+  pub long : length reached ≡ place + 1
+  pub alike : take place reached ≡ take place prefix
+  pub more : slice_index reached place ≡ slice_index prefix place + 1
+  pub full : (i : ℕ) → place < i → i < length prefix → slice_index prefix i ≡ 255
