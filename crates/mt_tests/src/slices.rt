@@ -1,5 +1,8 @@
 //! Stored keys and their slices and marks, by values worked out by hand.
 
+ghost use Rattle.std.specs.Prelude.{◌≤◌, length};
+ghost use Rattle.mt_slices.specs.Fences.{least_from};
+
 use mt_slices::{KeyRefusal, Mark, StoredKey, USER_KEY_BYTES};
 use std::alloc::Global;
 use std::cmp::Ordering;
@@ -76,4 +79,64 @@ fn keys_and_marks_are_in_the_order_of_the_bytes(rt: HostRuntime) {
         are_in_order(&rt, &key, &other, order);
     }
     assert!(rt; Mark::Short(8).is_before(Mark::Long) && !Mark::Long.is_before(Mark::Short(8)));
+}
+
+// The least keys behind these bytes, from the slice on and through it.
+fn has_least(rt: &impl Abort, alloc: Global, prefix: &[u8], slice: u64, from: &[u8], through: &[u8])
+    requires whole { 4 ≤ length (least_from prefix.now slice) }
+    requires within { length (least_from prefix.now slice) ≤ 255 }
+    requires few { length prefix.now ≤ 246 }
+{
+    let key = StoredKey::least_from(alloc, prefix, slice).expect(rt, "memory");
+    assert!(rt; key.as_bytes() == from);
+    let key = StoredKey::least_through(alloc, prefix, slice).expect(rt, "memory");
+    assert!(rt; key.as_bytes() == through);
+}
+
+#[test]
+fn a_scan_goes_on_at_the_least_keys(rt: HostRuntime) {
+    has_least(
+        &rt,
+        rt.alloc(),
+        b"",
+        7 << 32,
+        b"\0\0\0\x07",
+        b"\0\0\0\x07\0\0\0\0\0",
+    );
+    has_least(
+        &rt,
+        rt.alloc(),
+        b"\0\0\0\x07abcd",
+        0,
+        b"\0\0\0\x07abcd\0",
+        b"\0\0\0\x07abcd\0\0\0\0\0\0\0\0\0",
+    );
+    has_least(
+        &rt,
+        rt.alloc(),
+        b"\0\0\0\x07abcd",
+        0x65 << 56,
+        b"\0\0\0\x07abcde",
+        b"\0\0\0\x07abcde\0\0\0\0\0\0\0\0",
+    );
+}
+
+// The least key behind all that begin with these bytes.
+fn has_behind(rt: &impl Abort, alloc: Global, prefix: &[u8], behind: Option<&[u8]>)
+    requires { length prefix.now ≤ 255 }
+{
+    let key = StoredKey::least_behind(alloc, prefix).expect(rt, "memory");
+    assert!(rt; key.as_ref().map(StoredKey::as_bytes) == behind);
+}
+
+#[test]
+fn a_scan_goes_on_behind_a_tree(rt: HostRuntime) {
+    has_behind(&rt, rt.alloc(), b"\0\0\0\x07abcd", Some(b"\0\0\0\x07abce"));
+    has_behind(
+        &rt,
+        rt.alloc(),
+        b"\0\0\0\x07ab\xff\xff",
+        Some(b"\0\0\0\x07ac"),
+    );
+    has_behind(&rt, rt.alloc(), b"\0\0\0\x07\xff\xff\xff\xff", None);
 }
