@@ -8,7 +8,7 @@ use Rattle.mt_arena.specs.declared.tree.Tree.{Tree}
 use Rattle.mt_arena.specs.declared.tree.Standing.TheVariants.{Dead}
 use Rattle.mt_arena.specs.NodeView.{NodeView, node_at}
 use Rattle.mt_arena.specs.Nodes.{IsChild, HasChild, bounds}
-use Rattle.mt_arena.specs.Forests.{IsForest, IsHome, IsRoot, IsTree, tree_at, no_tree}
+use Rattle.mt_arena.specs.Forests.{IsForest, IsHome, IsRoot, IsTree, AllBegin, tree_at, no_tree}
 use Rattle.mt_arena.specs.Layers.{AreLayered}
 use Rattle.mt_arena.specs.Contents.{content}
 use Rattle.mt_arena.specs.Guarantee.{Changes, TreeChanges}
@@ -21,6 +21,7 @@ use Rattle.mt_arena.specs.Settled.{IsSettled}
 use Rattle.mt_arena.specs.Lags.{Follows, IsUnder}
 use Rattle.mt_arena.specs.Removals.{MayCollapse, nodes_under, without_root, with_retired}
 use Rattle.mt_arena.proofs.Pairs.{here, there}
+use Rattle.mt_arena.proofs.Begins.{KeepsSeat, begins_set, begins_trees}
 use Rattle.mt_arena.proofs.Locks.{is_held}
 use Rattle.mt_arena.proofs.Collapse.{nodes_collapsed, ranged_collapsed}
 use Rattle.mt_arena.proofs.LinkEdits.{KeepsLinks, same_links, layers_set, layers_empty}
@@ -258,6 +259,12 @@ module _ (v : ArenaView) (room root child step op : ℕ) (sound : ArenaInvariant
       | inr other ↦ rw (tree_u u other) (record { root_there = omega (arith, size, (sound.arena.forest.each u lu).root_there); whole = (sound.arena.forest.each u lu).whole })
     ]
 
+    -- both nodes begin where they began
+    begins_new : AllBegin new v.trees
+    begins_new =
+        begins_set ys v.trees child y (omega (arith, lc, size_ys)) (subst (λ (n : NodeView). KeepsSeat n y) (sym at_child) (record { tree = refl; level = refl; low = refl }))
+        (begins_set xs v.trees root w lr (record { tree = refl; level = refl; low = refl }) sound.arena.forest.begins)
+
     forest_out : IsForest new ts
     forest_out =
         let forest = sound.arena.forest in
@@ -265,6 +272,7 @@ module _ (v : ArenaView) (room root child step op : ℕ) (sound : ArenaInvariant
         record {
           tree_there = λ k lk. omega (arith, tree_of_node k (omega (arith, lk, size)), trees_size);
           homes = λ k u lk lu. home_at k (omega (arith, lk, size)) u (omega (arith, lu, trees_size));
+          begins = begins_trees new v.trees ts (λ k lk. same_prefix (node_at new k).tree) begins_new;
           each = λ u lu. each_tree u (omega (arith, lu, trees_size));
           peers = λ b d lb ld. record {
             one_live = λ differ live also e. (forest.peers b d (omega (arith, lb, trees_size)) (omega (arith, ld, trees_size))).one_live differ

@@ -8,6 +8,7 @@ use Rattle.mt_arena.specs.NodeView.{NodeView, node_at}
 use Rattle.mt_arena.specs.Forests.{IsForest, IsHome, IsTree, tree_at, no_tree}
 use Rattle.mt_arena.specs.Edits.{retired}
 use Rattle.mt_arena.proofs.Pairs.{here, there}
+use Rattle.mt_arena.proofs.Begins.{begins_set, begins_trees}
 use Rattle.mt_arena.proofs.TakenOut.{same_of_trees}
 
 -- the record of a tree that is taken out
@@ -125,6 +126,8 @@ module _ (xs : List NodeView) (trees : List Tree) (u r : ℕ) (forest : IsForest
   forest_dead = record {
     tree_there = λ k lk. omega (arith, tree_of_node k (omega (arith, lk, size)), trees_size);
     homes = λ k t lk lt. home_at k (omega (arith, lk, size)) t (omega (arith, lt, trees_size));
+    begins = begins_trees new trees ts (λ k lk. same_prefix (node_at new k).tree)
+        (begins_set xs trees r (retired x) lr (record { tree = refl; level = refl; low = refl }) forest.begins);
     each = λ t lt. each_tree t (omega (arith, lt, trees_size));
     peers = λ a b la lb. record {
       one_live = λ differ one two e. (forest.peers a b (omega (arith, la, trees_size)) (omega (arith, lb, trees_size))).one_live differ

@@ -205,7 +205,7 @@ module _ (v : ArenaView) (room node i u step op : ℕ) (sound : ArenaInvariant v
   -- trees
   forest_ys : IsForest ys v.trees
   forest_ys =
-      forest_set xs v.trees node y ln forest (record { tree = refl; deleted = refl; flag = refl; root = λ h. record { live = h.live; flag = h.flag; parentless = h.parentless; low = h.low; reach = h.reach } }) keys
+      forest_set xs v.trees node y ln forest (record { tree = refl; level = refl; low = refl; deleted = refl; flag = refl; root = λ h. record { live = h.live; flag = h.flag; parentless = h.parentless; low = h.low; reach = h.reach } }) keys
 
   forest_out : IsForest new ts
   forest_out = subst (λ (m : NodeView). IsForest (set ys r (retired m)) ts) at_root

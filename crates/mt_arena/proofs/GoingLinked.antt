@@ -201,7 +201,7 @@ module _ (v : ArenaView) (room node i t op : ℕ) (key : Bytes) (pair : Pair) (s
 
   forest_new : IsForest new v.trees
   forest_new =
-      forest_set xs v.trees node y ln forest (record { tree = refl; deleted = refl; flag = refl; root = λ h. record { live = h.live; flag = h.flag; parentless = h.parentless; low = h.low; reach = h.reach } })
+      forest_set xs v.trees node y ln forest (record { tree = refl; level = refl; low = refl; deleted = refl; flag = refl; root = λ h. record { live = h.live; flag = h.flag; parentless = h.parentless; low = h.low; reach = h.reach } })
       (keys_after v room node i op sound (Unstable pair (Some t)) may.slot (Link t) holds)
 
   pub sound_live : ArenaInvariant new ts v.retired room

@@ -1,14 +1,15 @@
 -- The facts of trees are kept as a new root comes over the halves of the old one: for `Topping`.
-use Rattle.std.proofs.Common.{◌≡◌, ◌≢◌, ℕ, ◌+◌, ◌<◌, ◌++◌, List, [], ◌∷◌, length, set, true, false, refl, sym, ap, ◌∙◌, inl, inr, arith, length-append}
+use Rattle.std.proofs.Common.{◌≡◌, ◌≢◌, ℕ, ◌+◌, ◌<◌, ◌++◌, List, [], ◌∷◌, length, set, true, false, refl, sym, ap, subst, ◌∙◌, inl, inr, arith, length-append}
 use Rattle.std.proofs.lemmas.Bool.{cases_eq}
 use Rattle.std.proofs.lemmas.List.{length-set, get_or-set_same, get_or-set_other}
 use Rattle.mt_rows.specs.Rows.{Bytes}
 use Rattle.mt_arena.specs.declared.tree.Tree.{Tree}
 use Rattle.mt_arena.specs.declared.tree.Standing.TheVariants.{Dead}
 use Rattle.mt_arena.specs.NodeView.{NodeView, node_at}
-use Rattle.mt_arena.specs.Forests.{IsForest, IsHome, IsTree, HaveKeys, tree_at, no_tree}
+use Rattle.mt_arena.specs.Forests.{IsForest, IsHome, IsTree, HaveKeys, AllBegin, tree_at, no_tree}
 use Rattle.mt_arena.specs.Growth.{AreRootHalves, fresh_top, left_below, right_below}
 use Rattle.mt_arena.proofs.Pairs.{here, there, last, before}
+use Rattle.mt_arena.proofs.Begins.{KeepsSeat, begins_set, begins_push, begins_trees}
 
 no_keys_at_all : (prefix : Bytes) → HaveKeys prefix []
 no_keys_at_all prefix = record { keys = λ k d inside. absurd (omega arith); begun = λ k d inside. absurd (omega arith) }
@@ -221,10 +222,21 @@ module _ (xs : List NodeView) (trees : List Tree) (i j op : ℕ) (f : AreRootHal
     | inr other ↦ rw (tree_u u other) (record { root_there = omega (arith, more, (forest.each u lu).root_there); whole = (forest.each u lu).whole })
   ]
 
+  -- the halves begin where they began
+  begins_left : AllBegin (set xs i y) trees
+  begins_left = begins_set xs trees i y li (record { tree = refl; level = refl; low = refl }) forest.begins
+
+  begins_halves : AllBegin ws trees
+  begins_halves =
+      let at_right = there xs i j y (λ e. f.differ (sym e)) in
+      let keeps = subst (λ (n : NodeView). KeepsSeat n z) (sym at_right) (record { tree = refl; level = refl; low = refl }) in
+      begins_set (set xs i y) trees j z (omega (arith, lj, length-set xs i y)) keeps begins_left
+
   pub forest_grown : IsForest vs ts
   forest_grown = record {
     tree_there = λ k lk. omega (arith, tree_of_node k lk, trees_size);
     homes = λ k u lk lu. home_at k lk u (omega (arith, lu, trees_size));
+    begins = begins_trees vs trees ts (λ k lk. same_prefix (node_at vs k).tree) (begins_push ws trees g (λ border over. absurd (omega (arith, over))) begins_halves);
     each = λ u lu. each_tree u (omega (arith, lu, trees_size));
     peers = λ a b la lb. record {
       one_live = λ d live also e. (forest.peers a b (omega (arith, la, trees_size)) (omega (arith, lb, trees_size))).one_live d

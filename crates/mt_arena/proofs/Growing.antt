@@ -10,7 +10,7 @@ use Rattle.mt_arena.specs.declared.tree.Tree.{Tree}
 use Rattle.mt_arena.specs.declared.tree.Standing.TheVariants.{Made}
 use Rattle.mt_arena.specs.declared.retired.Retired.{Retired}
 use Rattle.mt_arena.specs.NodeView.{NodeView, node_at}
-use Rattle.mt_arena.specs.Forests.{IsForest, HaveKeys, tree_at, layer_of}
+use Rattle.mt_arena.specs.Forests.{IsForest, HaveKeys, HasSlice, tree_at, layer_of}
 use Rattle.mt_arena.specs.Layers.{AreLayered, LeadsTo, HasLink, slot_at}
 use Rattle.mt_arena.specs.Nodes.{HasRange}
 use Rattle.mt_arena.specs.Guarantee.{NodesGuarantee, PointsOnly}
@@ -76,8 +76,8 @@ module _ (xs : List NodeView) (i low op : ℕ) (within : i < length xs) (held : 
   at_m = here xs i m within
 
   pub sound_half : (trees : List Tree) (gone : List Retired) (room more : ℕ) → ArenaInvariant xs trees gone room → length xs + 1 ≤ more
-      → HasRange (node_at xs i) → ArenaInvariant (ys ++ half ∷ []) trees gone more
-  sound_half trees gone room more sound enough range =
+      → HasRange (node_at xs i) → HasSlice (tree_at trees (node_at xs i).tree).prefix low → ArenaInvariant (ys ++ half ∷ []) trees gone more
+  sound_half trees gone room more sound enough range begins =
       let marked = sound_splitting xs trees gone room i within sound (is_held op (node_at xs i) held) in
       let forest = marked.arena.forest in
       let x = node_at xs i in
@@ -87,7 +87,7 @@ module _ (xs : List NodeView) (i low op : ℕ) (within : i < length xs) (held : 
           nodes = nodes_half ys x i low op (omega (arith, within, size_y)) (rw at_m (is_held op x held)) level marked.arena.nodes;
           ranged = ranged_half xs i low op within marked.arena.nodes sound.arena.ranged live level range held;
           forest =
-              forest_push ys trees half forest there_is ((sound.arena.forest.homes i x.tree within there_is).standing refl live) refl (no_keys (tree_at trees x.tree).prefix [] refl);
+              forest_push ys trees half forest there_is ((sound.arena.forest.homes i x.tree within there_is).standing refl live) refl (no_keys (tree_at trees x.tree).prefix [] refl) (λ border over. begins);
           layers = layers_push ys trees half refl marked.arena.layers;
         };
         retired = retired_push ys gone half marked.retired refl;

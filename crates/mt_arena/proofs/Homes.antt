@@ -5,13 +5,16 @@ use Rattle.std.proofs.lemmas.List.{length-set}
 use Rattle.mt_arena.specs.declared.tree.Tree.{Tree}
 use Rattle.mt_arena.specs.declared.tree.Standing.TheVariants.{Dead}
 use Rattle.mt_arena.specs.NodeView.{NodeView, node_at}
-use Rattle.mt_arena.specs.Forests.{IsForest, IsHome, IsTree, IsRoot, HaveKeys, tree_at}
+use Rattle.mt_arena.specs.Forests.{IsForest, IsHome, IsTree, IsRoot, HaveKeys, BeginsAtKey, tree_at}
 use Rattle.mt_arena.specs.Ways.{AreBegun}
 use Rattle.mt_arena.proofs.Pairs.{here, there, last, before}
+use Rattle.mt_arena.proofs.Begins.{begins_set, begins_push}
 
 -- what a node that changes keeps of its place among the trees
 pub record KeepsHome (x y : NodeView) : Type 0 where
   pub tree : y.tree ≡ x.tree
+  pub level : y.level ≡ x.level
+  pub low : y.low ≡ x.low
   pub deleted : y.version.deleted ≡ x.version.deleted
   pub flag : y.version.root ≡ x.version.root
   pub root : IsRoot x → IsRoot y
@@ -52,6 +55,7 @@ forest_set xs trees i y within forest keeps keys =
             (λ e. subst (λ u. HaveKeys (tree_at trees u).prefix y.slots) (keeps.tree ∙ e) keys) (forest.homes i t within lt_t))
         | inr other ↦ rw (there xs i k y other) (forest.homes k t (omega (arith, lt, size)) lt_t)
       ];
+      begins = begins_set xs trees i y within (record { tree = keeps.tree; level = keeps.level; low = keeps.low }) forest.begins;
       each = λ t lt. tree_more (length xs) (length (set xs i y)) (tree_at trees t) (omega (arith, size)) (forest.each t lt);
       peers = forest.peers;
       top = forest.top;
@@ -59,9 +63,9 @@ forest_set xs trees i y within forest keeps keys =
 
 -- a node more that is no root, of a tree that stands
 pub forest_push : (xs : List NodeView) (trees : List Tree) (y : NodeView) → IsForest xs trees → y.tree < length trees
-    → (tree_at trees y.tree).standing ≢ Dead → y.version.root ≡ false → HasKeysOf trees y
+    → (tree_at trees y.tree).standing ≢ Dead → y.version.root ≡ false → HasKeysOf trees y → BeginsAtKey (tree_at trees y.tree).prefix y
     → IsForest (xs ++ y ∷ []) trees
-forest_push xs trees y forest there_is stands no_root keys =
+forest_push xs trees y forest there_is stands no_root keys new =
     let size : length (xs ++ y ∷ []) ≡ length xs + 1 = length-append xs (y ∷ []) in
     record {
       tree_there = λ k lt. elim (cases_eq k (length xs)) [
@@ -78,6 +82,7 @@ forest_push xs trees y forest there_is stands no_root keys =
         }
         | inr other ↦ rw (before xs y k (omega arith)) (forest.homes k t (omega arith) lt_t)
       ];
+      begins = begins_push xs trees y new forest.begins;
       each = λ t lt. tree_more (length xs) (length (xs ++ y ∷ [])) (tree_at trees t) (omega arith) (forest.each t lt);
       peers = forest.peers;
       top = forest.top;

@@ -121,7 +121,7 @@ module _ (xs : List NodeView) (i j q : ℕ) (nodes : AreNodes xs) (f : Inserts x
   -- a child is no root
   pub exact_place : (trees : List Tree) → IsForest xs trees → KeepsPlace trees l (exact l)
   exact_place trees forest = record {
-    home = record { tree = refl; deleted = refl; flag = refl; root = λ root. absurd (child.knows root.parentless) };
+    home = record { tree = refl; level = refl; low = refl; deleted = refl; flag = refl; root = λ root. absurd (child.knows root.parentless) };
     keys = keys_of xs trees j f.left_there forest;
   }
 
@@ -156,7 +156,7 @@ module _ (v : ArenaView) (room parent left right op : ℕ) (sound : ArenaInvaria
       nodes = nodes_right v.nodes parent left right sound.arena.nodes may.inserts may.room;
       ranged = ranged_right v.nodes parent left right sound.arena.nodes may.inserts sound.arena.ranged;
       forest = forest_set2 v.nodes v.trees parent left y z may.held.there may.left_held.there apart sound.arena.forest (record {
-        home = record { tree = refl; deleted = refl; flag = refl; root = λ h. record { live = h.live; flag = h.flag; parentless = h.parentless; low = h.low; reach = h.reach } };
+        home = record { tree = refl; level = refl; low = refl; deleted = refl; flag = refl; root = λ h. record { live = h.live; flag = h.flag; parentless = h.parentless; low = h.low; reach = h.reach } };
         keys = keys_of v.nodes v.trees parent may.held.there sound.arena.forest;
       }) (exact_place v.nodes parent left right sound.arena.nodes may.inserts v.trees sound.arena.forest);
       layers = kept.layers sound.arena.layers;

@@ -6,6 +6,7 @@ pub mod Unlock
 pub mod Retire
 pub mod Push
 pub mod Settled
+pub mod Begins
 pub mod Homes
 pub mod Trees
 pub mod LinkEdits
@@ -69,3 +70,5 @@ pub mod GoingLinked
 pub mod NextLayer
 pub mod LayerStays
 pub mod SettledBut
+pub mod Separators
+pub mod NextBegins

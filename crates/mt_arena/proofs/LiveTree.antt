@@ -7,6 +7,7 @@ use Rattle.mt_arena.specs.declared.tree.Standing.TheVariants.{Made, Live}
 use Rattle.mt_arena.specs.NodeView.{NodeView, node_at}
 use Rattle.mt_arena.specs.Forests.{IsForest, IsHome, IsTree, tree_at, no_tree}
 use Rattle.mt_arena.specs.Guarantee.{TreeChanges}
+use Rattle.mt_arena.proofs.Begins.{begins_trees}
 use Rattle.mt_arena.proofs.TakenOut.{same_of_trees}
 
 -- the record of a tree that goes live
@@ -84,6 +85,7 @@ module _ (xs : List NodeView) (trees : List Tree) (t op : ℕ) (forest : IsFores
   forest_live = record {
     tree_there = λ k lk. omega (arith, forest.tree_there k lk, trees_size);
     homes = λ k u lk lu. home_at k u lk (omega (arith, lu, trees_size));
+    begins = begins_trees xs trees ts (λ k lk. same_prefix (node_at xs k).tree) forest.begins;
     each = λ u lu. each_tree u (omega (arith, lu, trees_size));
     peers = λ a b la lb. record {
       one_live =

@@ -24,7 +24,7 @@ pub sound_locked : (xs : List NodeView) (trees : List Tree) (gone : List Retired
 sound_locked xs trees gone room i op within sound free =
     let x = node_at xs i in
     sound_set xs trees gone room i (locked x op) within sound (nodes_locked xs i op within sound.arena.nodes) (ranged_locked xs i op within sound.arena.nodes sound.arena.ranged free)
-    record { tree = refl; deleted = refl; flag = refl; root = λ r. record { live = r.live; flag = r.flag; parentless = r.parentless; low = r.low; reach = r.reach } }
+    record { tree = refl; level = refl; low = refl; deleted = refl; flag = refl; root = λ r. record { live = r.live; flag = r.flag; parentless = r.parentless; low = r.low; reach = r.reach } }
     (keys_of xs trees i within sound.arena.forest)
     record { tree = refl; deleted = refl; forth = same_links x.slots; back = same_links x.slots }
 
@@ -65,7 +65,7 @@ pub sound_unlocked : (xs : List NodeView) (trees : List Tree) (gone : List Retir
 sound_unlocked xs trees gone room i within sound settled =
     let x = node_at xs i in
     sound_set xs trees gone room i (unlocked x) within sound (nodes_unlocked xs i within sound.arena.nodes settled) (ranged_unlocked xs i within sound.arena.ranged settled (settled_range xs trees i within sound.arena settled))
-    record { tree = refl; deleted = refl; flag = refl; root = λ r. record { live = r.live; flag = r.flag; parentless = r.parentless; low = r.low; reach = r.reach } }
+    record { tree = refl; level = refl; low = refl; deleted = refl; flag = refl; root = λ r. record { live = r.live; flag = r.flag; parentless = r.parentless; low = r.low; reach = r.reach } }
     (keys_of xs trees i within sound.arena.forest)
     record { tree = refl; deleted = refl; forth = same_links x.slots; back = same_links x.slots }
 
@@ -98,7 +98,7 @@ pub sound_splitting : (xs : List NodeView) (trees : List Tree) (gone : List Reti
 sound_splitting xs trees gone room i within sound held =
     let x = node_at xs i in
     sound_set xs trees gone room i (splitting x) within sound (nodes_splitting xs i within sound.arena.nodes held) (ranged_marked xs i x.slots (splitting x).version within sound.arena.ranged refl (λ _. refl) (λ e. absurd (cc)))
-    record { tree = refl; deleted = refl; flag = refl; root = λ r. record { live = r.live; flag = r.flag; parentless = r.parentless; low = r.low; reach = r.reach } }
+    record { tree = refl; level = refl; low = refl; deleted = refl; flag = refl; root = λ r. record { live = r.live; flag = r.flag; parentless = r.parentless; low = r.low; reach = r.reach } }
     (keys_of xs trees i within sound.arena.forest)
     record { tree = refl; deleted = refl; forth = same_links x.slots; back = same_links x.slots }
 

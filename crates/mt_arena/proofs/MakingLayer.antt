@@ -125,7 +125,7 @@ module _ (v : ArenaView) (room more op : ℕ) (prefix : Bytes) (e : Entry) (soun
   keys_with = subst (λ (t : Tree). HaveKeys t.prefix (e ∷ [])) (sym tree_is) may.keys
 
   keeps_home : KeepsHome x y
-  keeps_home = record { tree = refl; deleted = refl; flag = refl; root = λ h. record { live = h.live; flag = h.flag; parentless = h.parentless; low = h.low; reach = h.reach } }
+  keeps_home = record { tree = refl; level = refl; low = refl; deleted = refl; flag = refl; root = λ h. record { live = h.live; flag = h.flag; parentless = h.parentless; low = h.low; reach = h.reach } }
 
   keeps_links : KeepsLinks x y
   keeps_links = record {

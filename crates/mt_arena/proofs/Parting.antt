@@ -202,10 +202,10 @@ module _ (v : ArenaView) (room more parent left right op : ℕ) (sound : ArenaIn
           nodes = nodes_parts v.nodes parent left right op sound.arena.nodes may.inserts may.full may.next;
           ranged = ranged_parts v.nodes parent left (at v right).low right op li lj apart sound.arena.nodes sound.arena.ranged may.next ranges.0 ranges.1;
           forest = forest_push halves v.trees u (forest_set2 v.nodes v.trees parent left y z li lj apart forest (record {
-            home = record { tree = refl; deleted = refl; flag = refl; root = λ h. record { live = h.live; flag = h.flag; parentless = h.parentless; low = h.low; reach = h.reach } };
+            home = record { tree = refl; level = refl; low = refl; deleted = refl; flag = refl; root = λ h. record { live = h.live; flag = h.flag; parentless = h.parentless; low = h.low; reach = h.reach } };
             keys = keys_of v.nodes v.trees parent li forest;
           }) (exact_place v.nodes parent left right sound.arena.nodes may.inserts v.trees forest))
-              there_is ((forest.homes parent x.tree li there_is).standing refl may.inserts.parent_live) refl (no_keys (tree_at v.trees x.tree).prefix u.slots refl);
+              there_is ((forest.homes parent x.tree li there_is).standing refl may.inserts.parent_live) refl (no_keys (tree_at v.trees x.tree).prefix u.slots refl) (λ border over. absurd (omega (arith, border, may.inserts.right_level)));
           layers = layers_push halves v.trees u refl (kept.layers sound.arena.layers);
         };
         retired = retired_push halves v.retired u (kept.retired sound.retired) refl;

@@ -27,7 +27,7 @@ pub sound_pointed : (xs : List NodeView) (trees : List Tree) (gone : List Retire
 sound_pointed xs trees gone room i previous parent within sound points no_root range tied =
     let x = node_at xs i in
     sound_set xs trees gone room i (pointed x previous parent) within sound (nodes_pointed xs i previous parent within sound.arena.nodes points) (ranged_pointed xs i previous parent within sound.arena.ranged range tied)
-    record { tree = refl; deleted = refl; flag = refl; root = λ r. record { live = r.live; flag = r.flag; parentless = no_root r.flag ∙ r.parentless; low = r.low; reach = r.reach } }
+    record { tree = refl; level = refl; low = refl; deleted = refl; flag = refl; root = λ r. record { live = r.live; flag = r.flag; parentless = no_root r.flag ∙ r.parentless; low = r.low; reach = r.reach } }
     (keys_of xs trees i within sound.arena.forest)
     record { tree = refl; deleted = refl; forth = same_links x.slots; back = same_links x.slots }
 

@@ -63,7 +63,7 @@ pub sound_slots : (xs : List NodeView) (trees : List Tree) (gone : List Retired)
 sound_slots xs trees gone room i slots within sound held level may =
     let x = node_at xs i in
     sound_set xs trees gone room i (with_slots x slots) within sound (nodes_slots xs i slots within sound.arena.nodes held level may.border (within_all x slots may.inside)) (ranged_marked xs i slots (with_slots x slots).version within sound.arena.ranged refl (λ marked. marked) (λ whole. whole))
-    record { tree = refl; deleted = refl; flag = refl; root = λ r. record { live = r.live; flag = r.flag; parentless = r.parentless; low = r.low; reach = r.reach } }
+    record { tree = refl; level = refl; low = refl; deleted = refl; flag = refl; root = λ r. record { live = r.live; flag = r.flag; parentless = r.parentless; low = r.low; reach = r.reach } }
     may.keys
     record { tree = refl; deleted = refl; forth = may.forth; back = may.back }
 

@@ -66,9 +66,9 @@ module _ (xs : List NodeView) (trees : List Tree) (i j : ℕ) (kept moved : List
   forest_split : IsForest xs trees → HaveKeys (tree_at trees x.tree).prefix kept → HaveKeys (tree_at trees r.tree).prefix moved
       → r.version.root ≡ false → IsForest zs trees
   forest_split forest left right no_root =
-      let one = forest_set xs trees i y li forest (record { tree = refl; deleted = refl; flag = refl; root = λ h. record { live = h.live; flag = h.flag; parentless = h.parentless; low = h.low; reach = h.reach } }) left in
+      let one = forest_set xs trees i y li forest (record { tree = refl; level = refl; low = refl; deleted = refl; flag = refl; root = λ h. record { live = h.live; flag = h.flag; parentless = h.parentless; low = h.low; reach = h.reach } }) left in
       forest_set ys trees j z ljy one
-      (subst (λ (n : NodeView). KeepsHome n z) (sym old_j) (record { tree = refl; deleted = refl; flag = refl; root = λ h. absurd (let e = h.flag in cc) })) right
+      (subst (λ (n : NodeView). KeepsHome n z) (sym old_j) (record { tree = refl; level = refl; low = refl; deleted = refl; flag = refl; root = λ h. absurd (let e = h.flag in cc) })) right
 
   layers_split : AreLayered xs trees → r.slots ≡ [] → HasLinksOf x.slots kept → HasLinksOf x.slots moved
       → ((a u : ℕ) → a < length x.slots → (get_or x.slots a any_entry).held ≡ Link u → HasSlot kept u (get_or x.slots a any_entry).slice ⊎ HasSlot moved u (get_or x.slots a any_entry).slice)

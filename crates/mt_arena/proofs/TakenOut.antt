@@ -11,6 +11,7 @@ use Rattle.mt_arena.specs.Forests.{IsForest, tree_at, no_tree}
 use Rattle.mt_arena.specs.Guarantee.{Changes}
 use Rattle.mt_arena.specs.Edits.{retired}
 use Rattle.mt_arena.proofs.Pairs.{here, there}
+use Rattle.mt_arena.proofs.Begins.{begins_set}
 use Rattle.mt_arena.proofs.HeldChanges.{changes_held}
 
 -- trees and their nodes, where the node is no root of a tree that stands
@@ -36,6 +37,7 @@ forest_retired xs trees i within forest no_root =
         })
         | inr other ↦ rw (there xs i k y other) (forest.homes k t (omega (arith, lt, size)) lt_t)
       ];
+      begins = begins_set xs trees i y within (record { tree = refl; level = refl; low = refl }) forest.begins;
       each = λ t lt. let h = forest.each t lt in record { root_there = omega (arith, size, h.root_there); whole = h.whole };
       peers = forest.peers;
       top = forest.top;

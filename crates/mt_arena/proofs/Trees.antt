@@ -1,5 +1,5 @@
 -- The facts of trees and their nodes are kept where an operation begins to make a tree: for `MakingLayer`.
-use Rattle.std.proofs.Common.{◌≡◌, ℕ, zero, suc, ◌+◌, ◌*◌, ◌<◌, List, [], ◌∷◌, ◌++◌, length, refl, inl, inr, arith, length-append}
+use Rattle.std.proofs.Common.{◌≡◌, ℕ, zero, suc, ◌+◌, ◌*◌, ◌<◌, List, [], ◌∷◌, ◌++◌, length, refl, ap, inl, inr, arith, length-append}
 use Rattle.std.proofs.lemmas.Bool.{cases_eq}
 use Rattle.mt_rows.specs.Rows.{Bytes}
 use Rattle.mt_arena.specs.declared.tree.Tree.{Tree}
@@ -8,6 +8,7 @@ use Rattle.mt_arena.specs.NodeView.{NodeView, node_at}
 use Rattle.mt_arena.specs.Forests.{IsForest, IsHome, tree_at, layer_of}
 use Rattle.mt_arena.specs.Edits.{fresh_root}
 use Rattle.mt_arena.proofs.Pairs.{last, before}
+use Rattle.mt_arena.proofs.Begins.{begins_push, begins_trees}
 
 -- a list of trees with one more: the last one, and those before it
 pub last_tree : (ts : List Tree) (u : Tree) → tree_at (ts ++ u ∷ []) (length ts) ≡ u
@@ -79,6 +80,8 @@ forest_tree xs trees prefix op forest whole =
           | inr t_other ↦ rw (before xs y k (omega arith), before_tree trees u t (omega arith)) (forest.homes k t (omega arith) (omega arith))
         ]
       ];
+      begins = begins_push xs (trees ++ u ∷ []) y (λ border over. absurd (omega (arith, over)))
+          (begins_trees xs trees (trees ++ u ∷ []) (λ k lt. ap (λ (t : Tree). t.prefix) (before_tree trees u (node_at xs k).tree (forest.tree_there k lt))) forest.begins);
       each = λ t lt. elim (cases_eq t (length trees)) [
         | inl is ↦ rw (is, last_tree trees u) record { root_there = omega arith; whole = whole }
         | inr other ↦ rw (before_tree trees u t (omega arith)) (let h = forest.each t (omega arith) in record { root_there = omega (arith, size, h.root_there); whole = h.whole })

@@ -190,11 +190,11 @@ module _ (v : ArenaView) (room parent left node step op : ℕ) (sound : ArenaInv
   }
 
   keeps_parent : KeepsHome p q
-  keeps_parent = record { tree = refl; deleted = refl; flag = refl; root = same_root p q refl refl refl refl refl }
+  keeps_parent = record { tree = refl; level = refl; low = refl; deleted = refl; flag = refl; root = same_root p q refl refl refl refl refl }
 
   forest_ys : IsForest ys v.trees
   forest_ys =
-      forest_set xs v.trees left y li sound.arena.forest (record { tree = refl; deleted = refl; flag = refl; root = λ root. absurd (left_child.knows root.parentless) }) (keys_of xs v.trees left li sound.arena.forest)
+      forest_set xs v.trees left y li sound.arena.forest (record { tree = refl; level = refl; low = refl; deleted = refl; flag = refl; root = λ root. absurd (left_child.knows root.parentless) }) (keys_of xs v.trees left li sound.arena.forest)
 
   no_root : (t : ℕ) → t < length v.trees → (tree_at v.trees t).root ≡ node → (tree_at v.trees t).standing ≡ Dead
   no_root t lt is = standing_dead ((tree_at v.trees t).standing) (λ stands. child.knows ((sound.arena.forest.homes node t lj lt).root_is is stands).parentless)

@@ -1,10 +1,11 @@
 -- What holds of trees and their nodes after every step.
 use Rattle.std.specs.Prelude.{◌≡◌, ◌≢◌, ℕ, ◌*◌, ◌/◌, ◌<◌, true, false, List, [], length, None, slice_index_or}
 use Rattle.std.specs.List.{All}
+use Rattle.mt_slices.specs.Slices.{slice_of}
 use Rattle.mt_slices.specs.declared.mark.Mark.TheVariants.{Short}
 use Rattle.mt_rows.specs.Rows.{Bytes}
 use Rattle.mt_border.specs.declared.entry.Entry.{Entry}
-use Rattle.mt_border.specs.Contents.{AreKeys}
+use Rattle.mt_border.specs.Contents.{AreKeys, IsOfTree}
 use Rattle.mt_arena.specs.declared.tree.Tree.{Tree}
 use Rattle.mt_arena.specs.declared.tree.Standing.TheVariants.{Live, Dead}
 use Rattle.mt_arena.specs.NodeView.{NodeView, node_at}
@@ -25,6 +26,20 @@ layer_of prefix = length prefix / 8
 pub record HaveKeys (prefix : Bytes) (slots : List Entry) : Type 0 where
   pub keys : AreKeys prefix (layer_of prefix) slots
   pub begun : All (λ e. e.mark ≢ Short 0) slots
+
+-- some stored key of the tree whose keys begin with these bytes has this slice in the tree's layer
+pub record HasSlice (prefix : Bytes) (slice : ℕ) : Type 0 where
+  pub key : Bytes
+  pub of_tree : IsOfTree prefix (layer_of prefix) key
+  pub is : slice ≡ slice_of key (layer_of prefix)
+
+-- a border node of that tree begins at the slice of a stored key, unless it begins at 0
+abbrev pub BeginsAtKey : Bytes → NodeView → Type 0
+BeginsAtKey prefix n = n.level ≡ 0 → 0 < n.low → HasSlice prefix n.low
+
+-- so does each border node in its own tree, also one that was taken out; proofs open it by `begins_at` of `proofs/Begins`
+unfoldable pub AllBegin : List NodeView → List Tree → Type 0
+AllBegin nodes trees = (k : ℕ) → k < length nodes → BeginsAtKey (tree_at trees (node_at nodes k).tree).prefix (node_at nodes k)
 
 -- the root of a tree: it has the whole range, and its version says that it is one
 pub record IsRoot (n : NodeView) : Type 0 where
@@ -63,6 +78,7 @@ pub record IsTop (trees : List Tree) : Type 0 where
 pub record IsForest (nodes : List NodeView) (trees : List Tree) : Type 0 where
   pub tree_there : (k : ℕ) → k < length nodes → (node_at nodes k).tree < length trees
   pub homes : (k t : ℕ) → k < length nodes → t < length trees → IsHome k (node_at nodes k) t (tree_at trees t)
+  pub begins : AllBegin nodes trees
   pub each : (t : ℕ) → t < length trees → IsTree (length nodes) (tree_at trees t)
   pub peers : (t u : ℕ) → t < length trees → u < length trees → ArePeers t (tree_at trees t) u (tree_at trees u)
   pub top : IsTop trees

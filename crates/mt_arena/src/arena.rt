@@ -21,7 +21,7 @@ ghost use Rattle.mt_border.specs.Contents.{HasKey, owned};
 ghost use Rattle.mt_arena.specs.declared.tree.Standing.TheVariants.{Live};
 ghost use Rattle.mt_arena.specs.NodeView.{node_at, border_view, interior_view};
 ghost use Rattle.mt_arena.specs.Nodes.{Holds};
-ghost use Rattle.mt_arena.specs.Forests.{tree_at, layer_of};
+ghost use Rattle.mt_arena.specs.Forests.{HasSlice, tree_at, layer_of};
 ghost use Rattle.mt_arena.specs.Layers.{slot_at};
 ghost use Rattle.mt_arena.specs.Settled.{IsSettled};
 ghost use Rattle.mt_arena.specs.Nodes.{HasRange};
@@ -239,8 +239,8 @@ impl Arena {
     }
 
     /// Begins the split of a border node: marks it for readers of its range, and makes its right half, a
-    /// node without range that names it as the one before, and which the operation holds. An error
-    /// leaves all as it was.
+    /// node without range that names it as the one before, and which the operation holds. It begins at
+    /// the slice of a stored key. An error leaves all as it was.
     pub fn begin_split(
         &mut self,
         left: usize,
@@ -251,6 +251,7 @@ impl Arena {
         requires live { (at self.old left).version.deleted ≡ false }
         requires border { (at self.old left).level ≡ 0 }
         requires range { HasRange (at self.old left) }
+        requires begins { HasSlice (tree_of self.old left).prefix low }
         requires mine { IsOpen self.old left operation }
         ensures number { IfOk result (λ node. node ≡ length self.old.nodes) }
         ensures is { OnOk result (self.new ≡ with_half self.old left low operation) }

@@ -21,7 +21,7 @@ ghost use Rattle.mt_arena.specs.declared.tree.Tree.{Tree};
 ghost use Rattle.mt_arena.specs.declared.tree.Standing.TheVariants.{Dead, Live};
 ghost use Rattle.mt_arena.specs.NodeView.{NodeView, node_at};
 ghost use Rattle.mt_arena.specs.Nodes.{Holds, HasRange};
-ghost use Rattle.mt_arena.specs.Forests.{tree_at, layer_of};
+ghost use Rattle.mt_arena.specs.Forests.{HasSlice, tree_at, layer_of};
 ghost use Rattle.mt_arena.specs.RootLevels.{levels_above, levels_of};
 ghost use Rattle.mt_arena.specs.Layers.{slot_at};
 ghost use Rattle.mt_arena.specs.Contents.{content};
@@ -273,6 +273,18 @@ pub fn a_child_stands_where_it_begins()
         (node_at nodes parent).version.deleted ≡ false → place < length (node_at nodes parent).children →
         slice_index (node_at nodes parent).children place ≡ k →
         place_of (node_at nodes parent).separators (node_at nodes k).low ≡ place }
+{}
+
+/// Where a border node has a next one, it ends where that one begins, and that is the slice of a stored
+/// key of its tree. So is the high fence of a border node that has a range and such a fence. Both hold
+/// also of nodes that were taken out.
+pub fn a_next_node_begins_at_a_key()
+    ensures next { (nodes : List NodeView) (trees : List Tree) (k x : ℕ) → IsArena nodes trees → k < length nodes →
+        (node_at nodes k).level ≡ 0 → (node_at nodes k).next ≡ Some x →
+        ((node_at nodes k).high ≡ Some (node_at nodes x).low) × HasSlice (tree_at trees (node_at nodes k).tree).prefix (node_at nodes x).low }
+    ensures high { (nodes : List NodeView) (trees : List Tree) (k high : ℕ) → IsArena nodes trees → k < length nodes →
+        (node_at nodes k).level ≡ 0 → HasRange (node_at nodes k) → (node_at nodes k).high ≡ Some high →
+        HasSlice (tree_at trees (node_at nodes k).tree).prefix high }
 {}
 
 /// The only live node of a tree is so as its lock is taken.

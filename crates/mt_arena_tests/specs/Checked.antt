@@ -35,6 +35,7 @@ pub record Takes (v : ArenaView) (k : ℕ) (key : Bytes) : Type 0 where
   pub level : (at v k).level ≡ 0
   pub live : (at v k).version.deleted ≡ false
   pub tree : (at v k).tree ≡ 0
+  pub stored : IsStoredKey key
   pub begun : 0 < length key
   pub holds : Holds (at v k) (slice_of key 0)
   pub missing : IsMissing (at v k).slots (slice_of key 0) (mark_of key 0)

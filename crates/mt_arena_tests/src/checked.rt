@@ -316,6 +316,7 @@ impl Checked {
         let (slice, mark, border) = (key.slice(0), key.mark(0), self.arena.border(node));
         assert!(rt; border.is_full());
         let low = border.separator(slice, mark);
+        self.arena.facts();
         let half = self.arena.begin_split(node, low, 5).expect(rt, "memory");
         self.count = self.count.checked_add(1).expect(rt, "a number");
         assert!(rt; self.may_split(node, half, key));

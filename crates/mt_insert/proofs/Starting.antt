@@ -9,16 +9,17 @@ use Rattle.mt_border.proofs.ContentsKeys.{new_is_entry}
 use Rattle.mt_arena.specs.declared.tree.Standing.TheVariants.{Made}
 use Rattle.mt_arena.specs.NodeView.{NodeView, node_at}
 use Rattle.mt_arena.specs.Nodes.{AreNodes}
-use Rattle.mt_arena.specs.Forests.{tree_at}
+use Rattle.mt_arena.specs.Forests.{HasSlice, tree_at}
 use Rattle.mt_arena.specs.Lags.{Follows, IsUnder, AreChildren}
 use Rattle.mt_arena.specs.Edits.{splitting, fresh_half}
 use Rattle.mt_arena.specs.Several.{IsHalf, MaySplit}
 use Rattle.mt_arena.specs.Arena.{ArenaView, IsArena}
-use Rattle.mt_arena.specs.Accesses.{at, with_half}
+use Rattle.mt_arena.specs.Accesses.{at, tree_of, with_half}
 use Rattle.mt_arena.proofs.Pairs.{here, there, last, before}
 use Rattle.mt_arena.proofs.Lags.{begun_left, begun_right, fresh_children, followers_of}
 use Rattle.mt_arena.proofs.Locks.{is_held}
 use Rattle.mt_arena.proofs.Quiet.{nodes_splitting}
+use Rattle.mt_arena.proofs.Separators.{separator_begins}
 use Rattle.mt_operation.specs.declared.phase.Phase.TheVariants.{SplitMove}
 use Rattle.mt_operation.specs.declared.walk.Walk.{Walk}
 use Rattle.mt_operation.specs.declared.task.Task.{Task}
@@ -93,6 +94,10 @@ module _ (v : ArenaView) (op : ℕ) (task : Task) (prepared : Prepared) (w : Wal
 
   through : GoesThrough v x.tree w.layer task.key
   through = subst (λ t. GoesThrough v t w.layer task.key) (sym h.holds.judged.at_border.covers.remembered.tree_is) h.holds.judged.at_border.through
+
+  -- the right half begins at the slice of a key
+  begins : HasSlice (tree_at v.trees x.tree).prefix low
+  begins = separator_begins v.nodes v.trees k task.key w.layer low arena.forest lk through.of_tree separator
 
   is_half : IsHalf made k q op
   is_half = record {
@@ -185,6 +190,13 @@ module _ (v : ArenaView) (op : ℕ) (task : Task) (prepared : Prepared) (w : Wal
       suffix = h.suffix;
       ready = h.ready;
     }
+
+-- where the right half begins, some stored key of its tree has its slice
+pub half_begins : (v : ArenaView) (op : ℕ) (task : Task) (prepared : Prepared) (w : Walk) (low : ℕ) → IsArena v.nodes v.trees
+    → IsAtSplitStart v op task prepared w
+    → IsSeparator (slices_with (at v w.place.node).slots (slice_of task.key w.layer) (mark_of task.key w.layer)) low
+    → HasSlice (tree_of v w.place.node).prefix low
+half_begins v op task prepared w low arena h separator = begins v op task prepared w arena h low separator
 
 -- what is kept as a split starts
 pub kept_start : (old new : ArenaView) (op : ℕ) (key : Bytes) (task : Task) (prepared : Prepared) (w : Walk) (was is : Splits)
