@@ -5,14 +5,15 @@ use Rattle.std.proofs.lemmas.Option.{same_Some}
 use Rattle.mt_arena.specs.Arena.{IsArena, live_count}
 use Rattle.mt_arena.specs.Accesses.{at}
 use Rattle.mt_arena.proofs.Heights.{any_below_live}
+use Rattle.mt_operation.specs.declared.walk.Aim.TheVariants as aims
 use Rattle.mt_operation.specs.declared.phase.Phase.{Phase}
 use Rattle.mt_operation.specs.declared.phase.Phase.TheVariants as phases
-use Rattle.mt_operation.specs.declared.phase.Phase.TheVariants.{Enter, Pick, Child, Verify, Search, Load, Confirm, Forward, Lock, Judge, Store, Publish, SplitStart, SplitMove, SplitPrev, LockParent, InsertChild, InteriorSplit, Reparent, RootGrow, MakeLayer, MarkUnstable, MarkLayer, DropKey, LockPrev, LockAbove, Unlink, FixNext, Collapse, CleanLayer, Unlock, Done}
+use Rattle.mt_operation.specs.declared.phase.Phase.TheVariants.{Enter, Pick, Child, Verify, Search, Load, Confirm, Forward, Lock, Judge, Store, Publish, SplitStart, SplitMove, SplitPrev, LockParent, InsertChild, InteriorSplit, Reparent, RootGrow, MakeLayer, MarkUnstable, MarkLayer, DropKey, LockPrev, LockAbove, Unlink, FixNext, Collapse, CleanLayer, Unlock, Done, Snap, Check, Hop}
 use Rattle.mt_operation.specs.declared.splits.Halves.{Halves}
 use Rattle.mt_operation.specs.declared.operation.Operation.{Operation}
 use Rattle.mt_operation.specs.Operations.{OperationView}
 use Rattle.mt_operation.specs.Phases.{IsOfKind, is_done}
-use Rattle.mt_operation.specs.Tasks.{ask}
+use Rattle.mt_operation.specs.Tasks.{ask, aim_of}
 use Rattle.mt_insert.specs.KeptSplits.{last_of}
 use Rattle.mt_remove.specs.Writes.{is_remove}
 use Rattle.mt_remove.specs.KeptRemovals.{IsCleaning}
@@ -20,7 +21,6 @@ use Rattle.mt_descent.specs.KeptWalks.{GoesThrough}
 use Rattle.mt_slices.specs.Keys.{IsStoredKey}
 use Rattle.mt_rows.specs.declared.command.Command.{Command}
 use Rattle.mt_rows.specs.declared.command.Command.TheVariants.{Remove}
-use Rattle.mt_rows.specs.Maps.{is_get}
 use Rattle.mt_arena.specs.Forests.{layer_of, tree_at}
 use Rattle.mt_arena.proofs.Elsewhere.{layer_is}
 use Rattle.mt_state.proofs.Bound.{put_no_remove}
@@ -32,6 +32,7 @@ use Rattle.mt_state.specs.Invariant.{StateInvariant}
 use Rattle.mt_state.proofs.Shown.{inside_of}
 use Rattle.mt_core.specs.Alone.{IsUndisturbed}
 use Rattle.mt_core.specs.Points.{AreBelow, HasMade, HasRemoved, HasRounds, IsSoFar, IsUnhindered, RoundsAt}
+use Rattle.mt_core.proofs.NoScans.{no_scanning}
 use Rattle.mt_core.proofs.RemovalNears.{shallow_layer}
 use Rattle.mt_core.proofs.Astray.{behind_most}
 
@@ -44,50 +45,53 @@ no_put : {A : Type 0} (op : Operation) → is_remove (ask op.task) ≡ true → 
 no_put op removes stays = absurd (both_ways _ stays removes)
 
 -- nor is a get
-no_read : {A : Type 0} (op : Operation) → is_remove (ask op.task) ≡ true → not (is_get (ask op.task)) ≡ false → A
+no_read : {A : Type 0} (op : Operation) → is_remove (ask op.task) ≡ true → aim_of (ask op.task) ≡ aims.Read → A
 no_read {A = A} op removes reads = by (ask op.task) removes reads
   where
-    by : (command : Command) → is_remove command ≡ true → not (is_get command) ≡ false → A
+    by : (command : Command) → is_remove command ≡ true → aim_of command ≡ aims.Read → A
     by (Remove key) removes reads = absurd (cc)
     by _ removes reads = absurd (cc)
 
 -- at whatever phase an operation stands, it may find its way again, and has made no step so far
-starts_at : (p : Phase) (c : Core) (o : ℕ) (op : Operation) → StateInvariant c → IsArena c.arena.nodes c.arena.trees → is_done p ≡ false
+starts_at : (p : Phase) (c : Core) (o : ℕ) (op : Operation) → StateInvariant c → IsArena c.arena.nodes c.arena.trees → IsOpenOperation c op → IsOfKind p op.walk.aim → is_done p ≡ false
     → is_remove (ask op.task) ≡ false → IsKeptAt p c o op → HasMade p (live_count c.arena.nodes) 0 c.arena op.walk op.splits
-starts_at Enter c o op h arena left stays kept = inr (omega arith)
-starts_at Pick c o op h arena left stays kept = inr (omega arith)
-starts_at Child c o op h arena left stays kept = inr (omega arith)
-starts_at Verify c o op h arena left stays kept = inr (inr (omega (arith, behind_most c.arena.nodes (at c.arena op.walk.child).low)))
-starts_at Search c o op h arena left stays kept = inr (omega (arith, behind_most c.arena.nodes (at c.arena op.walk.place.node).low))
-starts_at Load c o op h arena left stays kept = inr (omega (arith, behind_most c.arena.nodes (at c.arena op.walk.place.node).low))
-starts_at Confirm c o op h arena left stays kept = inr (omega (arith, behind_most c.arena.nodes (at c.arena op.walk.place.node).low))
-starts_at Forward c o op h arena left stays kept = inr (omega (arith, behind_most c.arena.nodes (at c.arena op.walk.place.node).low))
-starts_at Lock c o op h arena left stays kept = inr (omega (arith, behind_most c.arena.nodes (at c.arena op.walk.place.node).low))
-starts_at Judge c o op h arena left stays kept = omega arith
-starts_at Store c o op h arena left stays kept = omega arith
-starts_at Publish c o op h arena left stays kept = omega arith
-starts_at SplitStart c o op h arena left stays kept = omega arith
-starts_at SplitMove c o op h arena left stays kept = omega arith
-starts_at SplitPrev c o op h arena left stays kept = omega arith
-starts_at LockParent c o op h arena left stays kept = omega arith
-starts_at InsertChild c o op h arena left stays kept = omega arith
-starts_at InteriorSplit c o op h arena left stays kept = omega arith
-starts_at Reparent c o op h arena left stays kept =
+starts_at Enter c o op h arena always kind left stays kept = inr (omega arith)
+starts_at Pick c o op h arena always kind left stays kept = inr (omega arith)
+starts_at Child c o op h arena always kind left stays kept = inr (omega arith)
+starts_at Verify c o op h arena always kind left stays kept = inr (inr (omega (arith, behind_most c.arena.nodes (at c.arena op.walk.child).low)))
+starts_at Search c o op h arena always kind left stays kept = inr (omega (arith, behind_most c.arena.nodes (at c.arena op.walk.place.node).low))
+starts_at Load c o op h arena always kind left stays kept = inr (omega (arith, behind_most c.arena.nodes (at c.arena op.walk.place.node).low))
+starts_at Confirm c o op h arena always kind left stays kept = inr (omega (arith, behind_most c.arena.nodes (at c.arena op.walk.place.node).low))
+starts_at Forward c o op h arena always kind left stays kept = inr (omega (arith, behind_most c.arena.nodes (at c.arena op.walk.place.node).low))
+starts_at Lock c o op h arena always kind left stays kept = inr (omega (arith, behind_most c.arena.nodes (at c.arena op.walk.place.node).low))
+starts_at Judge c o op h arena always kind left stays kept = omega arith
+starts_at Store c o op h arena always kind left stays kept = omega arith
+starts_at Publish c o op h arena always kind left stays kept = omega arith
+starts_at SplitStart c o op h arena always kind left stays kept = omega arith
+starts_at SplitMove c o op h arena always kind left stays kept = omega arith
+starts_at SplitPrev c o op h arena always kind left stays kept = omega arith
+starts_at LockParent c o op h arena always kind left stays kept = omega arith
+starts_at InsertChild c o op h arena always kind left stays kept = omega arith
+starts_at InteriorSplit c o op h arena always kind left stays kept = omega arith
+starts_at Reparent c o op h arena always kind left stays kept =
     omega (arith, (arena.nodes.each (last_of op.splits).right kept.climbs.splits.parted.right.held.there).children.interior.room)
-starts_at RootGrow c o op h arena left stays kept = omega arith
-starts_at MakeLayer c o op h arena left stays kept = omega arith
-starts_at MarkUnstable c o op h arena left stays kept = omega arith
-starts_at phases.Link c o op h arena left stays kept = omega arith
-starts_at MarkLayer c o op h arena left stays kept = omega arith
-starts_at DropKey c o op h arena left stays kept = no_put op kept.removes stays
-starts_at LockPrev c o op h arena left stays kept = no_put op kept.removes stays
-starts_at LockAbove c o op h arena left stays kept = no_put op kept.removes stays
-starts_at Unlink c o op h arena left stays kept = no_put op kept.removes stays
-starts_at FixNext c o op h arena left stays kept = no_put op kept.removes stays
-starts_at Collapse c o op h arena left stays kept = no_put op kept.removes stays
-starts_at CleanLayer c o op h arena left stays kept = no_put op kept.removes stays
-starts_at Unlock c o op h arena left stays kept = omega arith
-starts_at Done c o op h arena left stays kept = absurd (let no = sym left in cc)
+starts_at RootGrow c o op h arena always kind left stays kept = omega arith
+starts_at MakeLayer c o op h arena always kind left stays kept = omega arith
+starts_at MarkUnstable c o op h arena always kind left stays kept = omega arith
+starts_at phases.Link c o op h arena always kind left stays kept = omega arith
+starts_at MarkLayer c o op h arena always kind left stays kept = omega arith
+starts_at DropKey c o op h arena always kind left stays kept = no_put op kept.removes stays
+starts_at LockPrev c o op h arena always kind left stays kept = no_put op kept.removes stays
+starts_at LockAbove c o op h arena always kind left stays kept = no_put op kept.removes stays
+starts_at Unlink c o op h arena always kind left stays kept = no_put op kept.removes stays
+starts_at FixNext c o op h arena always kind left stays kept = no_put op kept.removes stays
+starts_at Collapse c o op h arena always kind left stays kept = no_put op kept.removes stays
+starts_at CleanLayer c o op h arena always kind left stays kept = no_put op kept.removes stays
+starts_at Unlock c o op h arena always kind left stays kept = omega arith
+starts_at Snap c o op h arena always kind left stays kept = no_scanning c op always kind
+starts_at Check c o op h arena always kind left stays kept = no_scanning c op always kind
+starts_at Hop c o op h arena always kind left stays kept = no_scanning c op always kind
+starts_at Done c o op h arena always kind left stays kept = absurd (let no = sym left in cc)
 
 -- a key goes through 32 layers at most, and so does the way to a link that is to be taken out
 module _ (c : Core) (op : Operation) (stored : IsStoredKey op.task.key) where
@@ -115,7 +119,7 @@ module _ (c : Core) (op : Operation) (stored : IsStoredKey op.task.key) where
 
 -- a removal at whatever phase may find its way again, and has made no step and no round so far
 removal_starts : (p : Phase) (c : Core) (o : ℕ) (op : Operation) → IsOpenOperation c op → is_done p ≡ false → is_remove (ask op.task) ≡ true
-    → IsOfKind p op.walk.writes → IsKeptAt p c o op
+    → IsOfKind p op.walk.aim → IsKeptAt p c o op
     → HasRemoved p (live_count c.arena.nodes) 0 0 c.arena op.walk × RoundsAt p op.outcome 0 c.arena op.walk op.removal
 removal_starts Enter c o op always left removes kind kept = (inr (omega arith), bound_few c op always.stored op.outcome kept.bound)
 removal_starts Pick c o op always left removes kind kept = (inr (omega arith), bound_few c op always.stored op.outcome kept.bound)
@@ -123,7 +127,7 @@ removal_starts Child c o op always left removes kind kept = (inr (omega arith), 
 removal_starts Verify c o op always left removes kind kept = (inr (inr (omega (arith, behind_most c.arena.nodes (at c.arena op.walk.child).low))), bound_few c op always.stored op.outcome kept.bound)
 removal_starts Search c o op always left removes kind kept = (inr (omega (arith, behind_most c.arena.nodes (at c.arena op.walk.place.node).low)), bound_few c op always.stored op.outcome kept.bound)
 removal_starts Load c o op always left removes kind kept = (inr (omega (arith, behind_most c.arena.nodes (at c.arena op.walk.place.node).low)), bound_few c op always.stored op.outcome kept.way.bound)
-removal_starts Confirm c o op always left removes kind kept = no_read op removes (sym always.writes ∙ kind)
+removal_starts Confirm c o op always left removes kind kept = no_read op removes (sym always.aim ∙ kind)
 removal_starts Forward c o op always left removes kind kept = (inr (omega (arith, behind_most c.arena.nodes (at c.arena op.walk.place.node).low)), bound_few c op always.stored op.outcome kept.bound)
 removal_starts Lock c o op always left removes kind kept = (inr (omega (arith, behind_most c.arena.nodes (at c.arena op.walk.place.node).low)), bound_few c op always.stored op.outcome kept.bound)
 removal_starts Judge c o op always left removes kind kept = (omega arith, bound_few c op always.stored op.outcome kept.bound)
@@ -149,6 +153,9 @@ removal_starts FixNext c o op always left removes kind kept = (omega arith, thro
 removal_starts Collapse c o op always left removes kind kept = (omega arith, through_few c op always.stored kept.kept.removes.through)
 removal_starts CleanLayer c o op always left removes kind kept = (omega arith, through_few c op always.stored kept.kept.holds.judged.at_border.through)
 removal_starts Unlock c o op always left removes kind kept = (omega arith, returns_few c op always.stored o removes op.outcome kept)
+removal_starts Snap c o op always left removes kind kept = no_scanning c op always kind
+removal_starts Check c o op always left removes kind kept = no_scanning c op always kind
+removal_starts Hop c o op always left removes kind kept = no_scanning c op always kind
 removal_starts Done c o op always left removes kind kept = absurd (let no = sym left in cc)
 
 -- whether it removes or not
@@ -157,7 +164,7 @@ point_first : (c : Core) (o : ℕ) (op : Operation) → StateInvariant c → IsA
 point_first c o op h arena left kept true removes =
     let starts = removal_starts op.walk.phase c o op kept.always left removes kept.always.kind kept.kept in
     record { round = 0; most = omega arith; live = omega arith; rounds = starts.1; few = starts.0 }
-point_first c o op h arena left kept false stays = record { below = λ _. nodes_below c h arena; few = starts_at op.walk.phase c o op h arena left stays kept.kept }
+point_first c o op h arena left kept false stays = record { below = λ _. nodes_below c h arena; few = starts_at op.walk.phase c o op h arena kept.always kept.always.kind left stays kept.kept }
 
 -- nobody is in the way of an operation while nobody else holds a node
 pub unhindered_first : (c : Core) (o : ℕ) (op : OperationView) → StateInvariant c → IsArena c.arena.nodes c.arena.trees → IsUndisturbed (shown c) o op

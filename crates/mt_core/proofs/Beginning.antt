@@ -60,8 +60,9 @@ module _ (c : Core) (now : StateView) (opening : OpeningView) (op : Operation) (
         owner = a.owner;
         columns = a.columns;
         tenant = known_tenant;
-        writes = ap (λ (w : Walk). w.writes) a.walk;
-        kind = subst (λ (w : Walk). IsOfKind w.phase w.writes) (sym a.walk) tt;
+        aim = ap (λ (w : Walk). w.aim) a.walk;
+        no_scan = a.no_scan;
+        kind = subst (λ (w : Walk). IsOfKind w.phase w.aim) (sym a.walk) tt;
         order = let first = ap (λ (w : Walk). w.first) a.walk in omega (arith, first);
         made = let last = ap (λ (v : OperationView). v.last) a.is_begun in omega (arith, last);
         floor = λ begun. let first = ap (λ (w : Walk). w.first) a.walk in absurd (omega (arith, first, begun));

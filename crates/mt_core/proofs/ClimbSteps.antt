@@ -151,7 +151,8 @@ module _ (c : Core) (o : ℕ) (op : Operation) (h : StateInvariant c) (there : o
             owner = a.owner;
             columns = a.columns;
             tenant = a.tenant;
-            writes = a.writes;
+            aim = a.aim;
+            no_scan = a.no_scan;
             kind = a.kind;
             order = a.order;
             made = a.made;

@@ -10,7 +10,7 @@ use Rattle.mt_arena.specs.NodeView.{NodeView}
 use Rattle.mt_arena.specs.Arena.{ArenaView, IsArena}
 use Rattle.mt_arena.specs.Accesses.{at}
 use Rattle.mt_operation.specs.declared.phase.Phase.{Phase}
-use Rattle.mt_operation.specs.declared.phase.Phase.TheVariants.{Load, Lock, LockParent, LockPrev, LockAbove, CleanLayer, Done}
+use Rattle.mt_operation.specs.declared.phase.Phase.TheVariants.{Load, Lock, LockParent, LockPrev, LockAbove, CleanLayer, Done, Snap}
 use Rattle.mt_operation.specs.declared.walk.Walk.{Walk}
 use Rattle.mt_operation.specs.declared.outcome.Outcome.{Outcome}
 use Rattle.mt_operation.specs.declared.operation.Operation.{Operation}
@@ -116,6 +116,7 @@ in_the_way v p w s rem holder way = (way.0, way.2, held_by p (at v way.0) way.3)
     held_by LockAbove n blocks = blocks
     held_by CleanLayer n blocks = blocks
     held_by Load n blocks = blocks.by
+    held_by Snap n blocks = blocks.1.by
     held_by _ n blocks = blocks.by
 
 -- an outcome of this reply

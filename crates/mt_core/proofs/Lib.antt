@@ -32,3 +32,4 @@ pub mod LayerSteps
 pub mod Climbing
 pub mod ClimbingNears
 pub mod ClimbSteps
+pub mod NoScans

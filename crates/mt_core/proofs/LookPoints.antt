@@ -17,8 +17,10 @@ use Rattle.mt_arena.specs.Nodes.{IsChild}
 use Rattle.mt_arena.specs.Forests.{tree_at}
 use Rattle.mt_arena.specs.Arena.{ArenaView, IsArena}
 use Rattle.mt_arena.specs.Accesses.{at}
+use Rattle.mt_operation.specs.declared.walk.Aim.{Aim}
+use Rattle.mt_operation.specs.declared.walk.Aim.TheVariants as aims
 use Rattle.mt_operation.specs.declared.phase.Phase.{Phase}
-use Rattle.mt_operation.specs.declared.phase.Phase.TheVariants.{Enter, Pick, Child, Verify, Search, Load, Confirm, Forward, Lock, Unlock, Done}
+use Rattle.mt_operation.specs.declared.phase.Phase.TheVariants.{Enter, Pick, Child, Verify, Search, Load, Confirm, Forward, Lock, Unlock, Done, Snap}
 use Rattle.mt_operation.specs.declared.walk.Taken.{Taken}
 use Rattle.mt_operation.specs.declared.walk.Taken.TheVariants.{Missing, Row, Link, Nothing}
 use Rattle.mt_operation.specs.declared.walk.Walk.{Walk}
@@ -76,27 +78,30 @@ walks_at v w p is b made few = subst (λ (q : Phase). WalksBy q b made v w) is f
 
 module _ (v : ArenaView) (b : Budget) (law : IsBudget v b) (made : ℕ) where
   -- a walk that comes to a node with its version of now
-  few_by : (border writes : Bool) (w : Walk) → SeesNow v w → made + 3 * level_of v w ≤ until b w
-      → WalksBy (arrival_at border writes) b made v w
-  few_by true true w now few = inl (now, omega (arith, few))
-  few_by true false w now few = inl (now, omega (arith, few))
-  few_by false writes w now few = inl (now, few)
+  few_by : (border : Bool) (aim : Aim) (w : Walk) → SeesNow v w → made + 3 * level_of v w ≤ until b w
+      → WalksBy (arrival_at border aim) b made v w
+  few_by true aims.Write w now few = inl (now, omega (arith, few))
+  few_by true aims.Read w now few = inl (now, omega (arith, few))
+  few_by true aims.Scan w now few = inl (now, omega (arith, few))
+  few_by false aim w now few = inl (now, few)
 
   comes_onto : (w : Walk) (k : ℕ) (seen : Parts) → seen ≡ (at v k).version → made + 3 * (at v k).level ≤ until b w
       → WalksBy (walk_onto w k seen).phase b made v (walk_onto w k seen)
-  comes_onto w k seen now few = few_by seen.border w.writes (walk_onto w k seen) now few
+  comes_onto w k seen now few = few_by seen.border w.aim (walk_onto w k seen) now few
 
   -- and one that comes with an older one
-  strays_by : (border writes : Bool) (w : Walk) → made + (5 + behind v w.place.node) ≤ b.lost → WalksBy (arrival_at border writes) b made v w
-  strays_by true true w few = inr (omega (arith, few))
-  strays_by true false w few = inr (omega (arith, few))
-  strays_by false writes w few = inr (omega (arith, few))
+  strays_by : (border : Bool) (aim : Aim) (w : Walk) → made + (5 + behind v w.place.node) ≤ b.lost → WalksBy (arrival_at border aim) b made v w
+  strays_by true aims.Write w few = inr (omega (arith, few))
+  strays_by true aims.Read w few = inr (omega (arith, few))
+  strays_by true aims.Scan w few = inr (omega (arith, few))
+  strays_by false aim w few = inr (omega (arith, few))
 
   -- one that stays at its border node, to search or to lock
-  stays_by : (writes : Bool) (w : Walk) → (SeesNow v w × (made ≤ b.lost)) ⊎ (made + (5 + behind v w.place.node) ≤ b.lost)
-      → WalksBy (arrival writes) b made v w
-  stays_by true w few = elim few [ inl now ↦ inl (now.0, omega (arith, now.1, law.begins w.layer)) | inr strays ↦ inr (omega (arith, strays)) ]
-  stays_by false w few = elim few [ inl now ↦ inl (now.0, omega (arith, now.1, law.begins w.layer)) | inr strays ↦ inr strays ]
+  stays_by : (aim : Aim) (w : Walk) → (SeesNow v w × (made ≤ b.lost)) ⊎ (made + (5 + behind v w.place.node) ≤ b.lost)
+      → WalksBy (arrival aim) b made v w
+  stays_by aims.Write w few = elim few [ inl now ↦ inl (now.0, omega (arith, now.1, law.begins w.layer)) | inr strays ↦ inr (omega (arith, strays)) ]
+  stays_by aims.Read w few = elim few [ inl now ↦ inl (now.0, omega (arith, now.1, law.begins w.layer)) | inr strays ↦ inr strays ]
+  stays_by aims.Scan w few = elim few [ inl now ↦ inl (now.0, omega (arith, now.1, law.begins w.layer)) | inr strays ↦ inr strays ]
 
 module _ (v : ArenaView) (w after : Walk) where
   -- a walk picks a child, and looks at it
@@ -181,7 +186,7 @@ module _ (v : ArenaView) (arena : IsArena v.nodes v.trees) (key : Bytes) (past :
           | inl sees ↦ strays_on b law made verifying is sees.1 (λ stands.
               let under = law.under w.child verifying.picked.there (child_live verifying stands) w.layer w.place.tree in
               comes_onto v b law (made + 1) w w.child w.child_seen sees.0 (omega (arith, sees.1, under)))
-          | inr far ↦ strays_on b law made verifying is (omega (arith, far)) (λ stands. strays_by v b law (made + 1) w.child_seen.border w.writes (walk_onto w w.child w.child_seen) (omega (arith, far)))
+          | inr far ↦ strays_on b law made verifying is (omega (arith, far)) (λ stands. strays_by v b law (made + 1) w.child_seen.border w.aim (walk_onto w w.child w.child_seen) (omega (arith, far)))
         ]
       ]
 
@@ -193,7 +198,7 @@ module _ (v : ArenaView) (arena : IsArena v.nodes v.trees) (key : Bytes) (past :
   forward_nears None slice forwards last is b law made = λ point.
       let forward : IsAtForward v key w = subst (λ (p : Phase). KeptAt p v past key None w) forwards kept in
       let few : WalksBy Forward b made v w = walks_at v w Forward forwards b made point in
-      let here : WalksBy (walk_here w).phase b (made + 1) v (walk_here w) = stays_by v b law (made + 1) w.writes (walk_here w) (elim few [
+      let here : WalksBy (walk_here w).phase b (made + 1) v (walk_here w) = stays_by v b law (made + 1) w.aim (walk_here w) (elim few [
         | inl now ↦ inl (now.0, omega (arith, now.1))
         | inr strays ↦ inr (omega (arith, strays))
       ]) in
@@ -356,6 +361,7 @@ walks_made Load height made v w s few = few
 walks_made Confirm height made v w s few = few
 walks_made Forward height made v w s few = few
 walks_made Lock height made v w s few = few
+walks_made Snap height made v w s few = few
 walks_made _ height made v w s few = absurd few
 
 made_walks : (p : Phase) → IsDescent p → (height made : ℕ) (v : ArenaView) (w : Walk) (s : Splits) → HasMade p height made v w s → WalksBy p (budget_of height) made v w

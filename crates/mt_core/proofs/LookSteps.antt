@@ -51,11 +51,11 @@ pub forward_goes : (r : Option ℕ) (slice : ℕ) (nodes : ℕ → NodeView) (be
     → (before.next ≡ None → IsNone r × (after ≡ walk_here before))
     → ((j : ℕ) → before.next ≡ Some j → IfNone r (after ≡ after_forward before slice j (nodes j))) → Continues before after → IfNone r (Descends before after)
 forward_goes None slice nodes before after at_forward last is same =
-    descends before after same (subst (λ (p : Phase). Leads p after.phase after.writes) (sym at_forward) (by before.next refl))
+    descends before after same (subst (λ (p : Phase). Leads p after.phase after.aim) (sym at_forward) (by before.next refl))
   where
-    by : (next : Option ℕ) → before.next ≡ next → Leads Forward after.phase after.writes
-    by None e = subst (λ (x : Walk). Leads Forward x.phase x.writes) (sym (last e).1) (stayed before)
-    by (Some j) e = subst (λ (x : Walk). Leads Forward x.phase x.writes) (sym (is j e)) (forwarded before slice j (nodes j))
+    by : (next : Option ℕ) → before.next ≡ next → Leads Forward after.phase after.aim
+    by None e = subst (λ (x : Walk). Leads Forward x.phase x.aim) (sym (last e).1) (stayed before)
+    by (Some j) e = subst (λ (x : Walk). Leads Forward x.phase x.aim) (sym (is j e)) (forwarded before slice j (nodes j))
 forward_goes (Some holder) slice nodes before after at_forward last is same = tt
 
 -- the table of phases leads it there: from Enter

@@ -12,6 +12,7 @@ use Rattle.mt_arena.specs.NodeView.{NodeView}
 use Rattle.mt_arena.specs.Edits.{locked, unlocked}
 use Rattle.mt_arena.specs.Arena.{ArenaView, Guarantee, IsArena}
 use Rattle.mt_arena.specs.Accesses.{at, with_node}
+use Rattle.mt_operation.specs.declared.walk.Aim.TheVariants as aims
 use Rattle.mt_operation.specs.declared.phase.Phase.{Phase}
 use Rattle.mt_operation.specs.declared.phase.Phase.TheVariants.{Enter, Forward, Judge, Lock, MakeLayer, Publish, SplitStart, Store, Unlock}
 use Rattle.mt_operation.specs.declared.walk.Walk.{Walk}
@@ -29,8 +30,8 @@ use Rattle.mt_descent.specs.WalkMoves.{IsLock, Locks, walk_anew, walk_into}
 use Rattle.mt_insert.specs.Puts.{IsPut, is_put}
 use Rattle.mt_remove.specs.Writes.{is_remove}
 use Rattle.mt_operation.specs.declared.task.Request.{Request}
-use Rattle.mt_operation.specs.declared.task.Request.TheVariants.{Get as GetOf, Put as PutOf, Remove as RemoveOf}
-use Rattle.mt_operation.specs.Tasks.{ask, command_of}
+use Rattle.mt_operation.specs.declared.task.Request.TheVariants.{Get as GetOf, Put as PutOf, Remove as RemoveOf, Scan as ScanOf}
+use Rattle.mt_operation.specs.Tasks.{ask, command_of, aim_of}
 use Rattle.mt_rows.specs.Maps.{is_get}
 use Rattle.mt_version.specs.Parts.{Parts}
 use Rattle.mt_arena.proofs.OneLink.{leads}
@@ -188,15 +189,16 @@ pub judges_none : {told : Option Outcome} → told ≡ None → {n : NodeView} �
 judges_none {told} untold {n} {key} {w} {x} goes = subst (λ (t : Option Outcome). JudgesBy t n key w x) (sym untold) goes
 
 -- an operation that judges, and removes nothing, puts
-put_of : (r : Request) → is_remove (command_of r) ≡ false → not (is_get (command_of r)) ≡ true → is_put (command_of r) ≡ true
+put_of : (r : Request) → is_remove (command_of r) ≡ false → aim_of (command_of r) ≡ aims.Write → is_put (command_of r) ≡ true
 put_of (GetOf key columns) stays writes = absurd (cc)
+put_of (ScanOf from after count columns) stays writes = absurd (cc)
 put_of (PutOf key change) stays writes = refl
 put_of (RemoveOf key) stays writes = absurd (cc)
 
 pub judged_put : (c : Core) (o : ℕ) → StateInvariant c → (x : Operation) → operation_at c.table o ≡ Some x → x.walk.phase ≡ Judge → is_remove (ask x.task) ≡ false
     → is_put (ask x.task) ≡ true
 judged_put c o h x there at_judge stays =
-    let always = (h.ops o x there).always in put_of x.task.request stays (sym always.writes ∙ subst (λ (p : Phase). IsOfKind p x.walk.writes) at_judge always.kind)
+    let always = (h.ops o x there).always in put_of x.task.request stays (sym always.aim ∙ subst (λ (p : Phase). IsOfKind p x.walk.aim) at_judge always.kind)
 
 module _ (c now : Core) (o : ℕ) (is : c ≡ now) (h : StateInvariant c) where
   -- the operation that is to make its step, at its phase

@@ -1,5 +1,6 @@
 -- What the steps of an operation that holds nothing ask of the invariant, and what they tell: for `Inner::descend`, `search`, `load` and `confirm`.
 use denote.Enum.Bare.{sameb, same_true}
+use Rattle.mt_operation.specs.declared.walk.Aim.TheVariants as aims
 use Rattle.mt_operation.specs.contracts.phase.Phase.{the_type}
 use Rattle.std.proofs.Common.{rules, ◌≡◌, ◌≢◌, ℕ, ◌+◌, ◌<◌, ◌≤◌, ◌⊎◌, inl, inr, Bool, true, false, not, set, Option, Some, None, refl, sym, ap, subst, ◌∙◌, arith}
 use Rattle.std.specs.Prelude.{◌^◌}
@@ -14,7 +15,7 @@ use Rattle.mt_version.specs.Changes.{IsStable}
 use Rattle.mt_arena.specs.Arena.{IsArena}
 use Rattle.mt_arena.specs.Accesses.{at}
 use Rattle.mt_operation.specs.declared.phase.Phase.{Phase}
-use Rattle.mt_operation.specs.declared.phase.Phase.TheVariants.{Enter, Pick, Child, Verify, Forward, Search, Load, Confirm, Done}
+use Rattle.mt_operation.specs.declared.phase.Phase.TheVariants.{Enter, Pick, Child, Verify, Forward, Search, Load, Confirm, Done, Snap, Check, Hop}
 use Rattle.mt_operation.specs.declared.walk.Walk.{Walk}
 use Rattle.mt_operation.specs.declared.outcome.Outcome.{Outcome}
 use Rattle.mt_operation.specs.declared.operation.Operation.{Operation}
@@ -44,6 +45,7 @@ use Rattle.mt_state.proofs.Still.{IsFree, holds_nothing, nothing_changes}
 use Rattle.mt_state.proofs.Reading.{way_of, descend_done, search_missing, search_found}
 use Rattle.mt_state.proofs.Loading.{load_taken, load_stopped}
 use Rattle.mt_state.proofs.Confirming.{get_of, confirm_done, confirm_back}
+use Rattle.mt_core.proofs.NoScans.{no_scanning}
 use Rattle.mt_core.specs.Nexts.{ending}
 use Rattle.mt_core.specs.Looks.{Looks, LooksAt, MayDescend, MayLook, led_to, TellsDescended, TellsSearched, TellsLoaded, TellsConfirmed}
 use Rattle.mt_core.specs.Points.{IsAtPoint, Nears, StepsOn}
@@ -140,10 +142,10 @@ module _ (c now : Core) (o : ℕ) (is : c ≡ now) (h : StateInvariant c) (room 
       → IsRemovalAt height (made + 1) c.arena w told op.removal
 
   -- no get removes
-  reads_get : (p : Phase) → op.walk.phase ≡ p → (IsOfKind p op.walk.writes → op.walk.writes ≡ false) → (w : Walk) (told : Option Outcome) → BringsRemoval w told
+  reads_get : (p : Phase) → op.walk.phase ≡ p → (IsOfKind p op.walk.aim → op.walk.aim ≡ aims.Read) → (w : Walk) (told : Option Outcome) → BringsRemoval w told
   reads_get p at_p reads w told removes =
       let always = (h.ops o op there).always in
-      let gets = get_of (is_get (ask op.task)) op.walk.writes always.writes (reads (subst (λ (q : Phase). IsOfKind q op.walk.writes) at_p always.kind)) in
+      let gets = get_of (ask op.task) op.walk.aim always.aim (reads (subst (λ (q : Phase). IsOfKind q op.walk.aim) at_p always.kind)) in
       absurd (both_ways _ (get_no_remove (ask op.task) gets) removes)
 
   -- where the table of phases leads it
@@ -209,7 +211,7 @@ module _ (c now : Core) (o : ℕ) (is : c ≡ now) (h : StateInvariant c) (room 
   pub load_gets : op.walk.phase ≡ Load → is_get (ask op.task) ≡ true
   load_gets at_load =
       let always = (h.ops o op there).always in
-      get_of (is_get (ask op.task)) op.walk.writes always.writes (subst (λ (p : Phase). IsOfKind p op.walk.writes) at_load always.kind)
+      get_of (ask op.task) op.walk.aim always.aim (subst (λ (p : Phase). IsOfKind p op.walk.aim) at_load always.kind)
 
   pub asked_columns : HasColumns (ask op.task)
   asked_columns = (h.ops o op there).always.columns
@@ -293,7 +295,7 @@ module _ (c now : Core) (o : ℕ) (is : c ≡ now) (h : StateInvariant c) (room 
   ]
     where
       same_now : Continues op.walk t.walk
-      same_now = record { writes = ap (λ (x : Walk). x.writes) t.loads.is; first = ap (λ (x : Walk). x.first) t.loads.is }
+      same_now = record { aim = ap (λ (x : Walk). x.aim) t.loads.is; first = ap (λ (x : Walk). x.first) t.loads.is }
 
       taken : after.walk ≡ t.walk → ShowsTaken op t.row t.walk after.outcome → StepGives table answer
       taken same shows =
@@ -311,7 +313,7 @@ module _ (c now : Core) (o : ℕ) (is : c ≡ now) (h : StateInvariant c) (room 
           let walk : Walk = record t.walk { phase = Done } in
           subst (StepGives table) (sym (ends ∙ ap (λ (x : Walk). ending x.phase) same))
           (done_gives walk (Some (record { reply = NoMemory; at = c.steps + 1 }))
-          (load_stopped c (shown now) o (ap shown is) h room arena op there at_load walk refl (record { writes = same_now.writes; first = same_now.first }))
+          (load_stopped c (shown now) o (ap shown is) h room arena op there at_load walk refl (record { aim = same_now.aim; first = same_now.first }))
           (goes_at Load at_load walk (record { row = t.row; taken = t.walk; loads = t.loads; goes = inr refl }))
           table (e ∙ ap (λ (x : Walk). led x after.outcome) same ∙ ap (led walk) says))
 
@@ -379,6 +381,9 @@ module _ (c now : Core) (o : ℕ) (is : c ≡ now) (h : StateInvariant c) (room 
   may_look Search e = record { phase = e; kept = search_kept e }
   may_look Load e = record { phase = e; get = load_gets e; columns = asked_columns; kept = load_kept e }
   may_look Confirm e = record { phase = e; kept = confirm_kept e }
+  may_look Snap e = no_scanning c op (h.ops o op there).always (subst (λ (p : Phase). IsOfKind p op.walk.aim) e (h.ops o op there).always.kind)
+  may_look Check e = no_scanning c op (h.ops o op there).always (subst (λ (p : Phase). IsOfKind p op.walk.aim) e (h.ops o op there).always.kind)
+  may_look Hop e = no_scanning c op (h.ops o op there).always (subst (λ (p : Phase). IsOfKind p op.walk.aim) e (h.ops o op there).always.kind)
   may_look _ e = tt
 
   -- a look is made by an operation with a step left
@@ -404,6 +409,9 @@ module _ (c now : Core) (o : ℕ) (is : c ≡ now) (h : StateInvariant c) (room 
   look_first Search step after t = t.same.first
   look_first Load step after t = loaded_first step after t
   look_first Confirm step after t = t.same.first
+  look_first Snap step after t = absurd t
+  look_first Check step after t = absurd t
+  look_first Hop step after t = absurd t
   look_first _ step after t = absurd (let no_step : ◌≡◌ {A = Made} Step Nothing = t.0 in cc)
 
   -- and leaves it as it was where none is made
@@ -421,6 +429,9 @@ module _ (c now : Core) (o : ℕ) (is : c ≡ now) (h : StateInvariant c) (room 
   look_leaves Search step made after other t = looks_leave (TellsSearched c.arena step) made after other t
   look_leaves Load step made after other t = looks_leave (TellsLoaded c.arena step) made after other t
   look_leaves Confirm step made after other t = looks_leave (TellsConfirmed c.arena) made after other t
+  look_leaves Snap step made after other t = absurd t
+  look_leaves Check step made after other t = absurd t
+  look_leaves Hop step made after other t = absurd t
   look_leaves _ step made after other t = t.1
 
   -- what a look gives that was made
@@ -433,6 +444,9 @@ module _ (c now : Core) (o : ℕ) (is : c ≡ now) (h : StateInvariant c) (room 
   look_comes arena Search e = search_comes arena e
   look_comes arena Load e = load_comes arena e
   look_comes arena Confirm e = confirm_comes e
+  look_comes arena Snap e = λ after t. absurd t
+  look_comes arena Check e = λ after t. absurd t
+  look_comes arena Hop e = λ after t. absurd t
   look_comes arena _ e = λ after t. absurd (let no_step : ◌≡◌ {A = Made} Step Nothing = t.0 in cc)
 
   -- where somebody is in the way, that one is told
@@ -446,6 +460,9 @@ module _ (c now : Core) (o : ℕ) (is : c ≡ now) (h : StateInvariant c) (room 
   look_blocked Search e step holder after t = blocked (subst IsFree (sym e) tt) holder t.0
   look_blocked Load e step holder after t = blocked (subst IsFree (sym e) tt) holder t.0
   look_blocked Confirm e step holder after t = blocked (subst IsFree (sym e) tt) holder t.0
+  look_blocked Snap e step holder after t = absurd t
+  look_blocked Check e step holder after t = absurd t
+  look_blocked Hop e step holder after t = absurd t
   look_blocked _ e step holder after t = λ answer again. absurd (let no_block : ◌≡◌ {A = Made} (Blocked holder) Nothing = t.0 in cc)
 
   -- and a step that is left to others is no look
@@ -458,6 +475,9 @@ module _ (c now : Core) (o : ℕ) (is : c ≡ now) (h : StateInvariant c) (room 
   look_left Search step after t = absurd t
   look_left Load step after t = absurd t
   look_left Confirm step after t = absurd t
+  look_left Snap step after t = absurd t
+  look_left Check step after t = absurd t
+  look_left Hop step after t = absurd t
   look_left _ step after t = tt
 
 -- no first step has the number of the next step

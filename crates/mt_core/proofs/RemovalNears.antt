@@ -22,7 +22,7 @@ use Rattle.mt_arena.proofs.Elsewhere.{layer_is}
 use Rattle.mt_arena.proofs.Heights.{any_below_live}
 use Rattle.mt_arena.proofs.RootLevels.{above_few, above_live}
 use Rattle.mt_operation.specs.declared.phase.Phase.{Phase}
-use Rattle.mt_operation.specs.declared.phase.Phase.TheVariants.{Child, CleanLayer, Collapse, Confirm, Done, DropKey, Enter, FixNext, Forward, Judge, Load, Lock, LockAbove, LockPrev, Pick, Search, Unlink, Unlock, Verify}
+use Rattle.mt_operation.specs.declared.phase.Phase.TheVariants.{Child, CleanLayer, Collapse, Confirm, Done, DropKey, Enter, FixNext, Forward, Judge, Load, Lock, LockAbove, LockPrev, Pick, Search, Unlink, Unlock, Verify, Snap}
 use Rattle.mt_operation.specs.declared.walk.Walk.{Walk}
 use Rattle.mt_operation.specs.declared.outcome.Outcome.{Outcome}
 use Rattle.mt_operation.specs.declared.removal.Removal.{Removal}
@@ -462,6 +462,7 @@ rounds_walk Load b made v w told round r few left = left
 rounds_walk Confirm b made v w told round r few left = left
 rounds_walk Forward b made v w told round r few left = left
 rounds_walk Lock b made v w told round r few left = left
+rounds_walk Snap b made v w told round r few left = left
 rounds_walk _ b made v w told round r few left = absurd few
 
 descent_rounds : (p : Phase) → IsDescent p → (told : Option Outcome) (round : ℕ) (v : ArenaView) (w : Walk) (r : Removal) → RoundsAt p told round v w r → HasRounds told round v r
@@ -514,6 +515,7 @@ few_removed p height round made v w most few = by p few
       | inr lost ↦ elim lost [ inl sees ↦ omega (arith, sees.1) | inr strays ↦ omega (arith, strays) ]
     ]
     by Search few = elim few [ inl now ↦ omega (arith, now.1, here, enters, tall) | inr strays ↦ omega (arith, strays) ]
+    by Snap few = elim few [ inl now ↦ omega (arith, now.1, here, enters, tall) | inr strays ↦ omega (arith, strays) ]
     by Load few = elim few [ inl now ↦ omega (arith, now.1, here, enters, tall) | inr strays ↦ omega (arith, strays) ]
     by Confirm few = elim few [ inl now ↦ omega (arith, now.2, here, enters, tall) | inr strays ↦ omega (arith, strays) ]
     by Forward few = elim few [ inl now ↦ omega (arith, now.1) | inr strays ↦ omega (arith, strays) ]

@@ -101,6 +101,7 @@ module _ (c : Core) (o : ℕ) (op : Operation) where
   change_since kinds.Descends p h m is = bound_since op.outcome refl h.bound m is
   change_since kinds.Locks p h m is = bound_since op.outcome refl h.bound m is
   change_since kinds.Reads p h m is = reading p h m is
+  change_since kinds.Scans p h m is = bound_since op.outcome refl h.bound m is
   change_since kinds.Judges p h m is = bound_since op.outcome refl h.bound m is
   change_since kinds.Writes p h m is = absurd (writing p h m is)
   change_since kinds.Begins p h m is = absurd (no_change h.untold m is)
@@ -177,6 +178,7 @@ module _ (c : Core) (answers : ℕ) (logs : List ℕ) (tape : Kept) (table : Tab
   kept_stays kinds.Descends p h = way_stays h
   kept_stays kinds.Locks p h = way_stays h
   kept_stays kinds.Reads p h = reading_stays p h
+  kept_stays kinds.Scans p h = way_stays h
   kept_stays kinds.Judges p h = record { judges = h.judges; bound = bound_stays op.outcome h.bound; unprepared = h.unprepared }
   kept_stays kinds.Writes p h = writing_stays p h
   kept_stays kinds.Begins p h = record { prepared = h.prepared; has = h.has; starts = h.starts; put = h.put; untold = h.untold }
@@ -195,7 +197,8 @@ module _ (c : Core) (answers : ℕ) (logs : List ℕ) (tape : Kept) (table : Tab
     owner = k.owner;
     columns = k.columns;
     tenant = k.tenant;
-    writes = k.writes;
+    aim = k.aim;
+    no_scan = k.no_scan;
     kind = k.kind;
     order = k.order;
     made = k.made;

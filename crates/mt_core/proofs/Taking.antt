@@ -83,7 +83,7 @@ hands_out_by c now o table answer before after is h gave displaces =
     record {
       op = view_of op;
       there = ap (λ (v : StateView). op_at v.table o) (sym is) ∙ shown_there c.table o op gave.1;
-      rest = record { key = op.task.key; prepared = op.prepared; splits = op.splits };
+      rest = record { key = op.task.key; prepared = op.prepared; splits = op.splits; scan = op.scan };
       is = displaced.rest;
       key = key_of_owner op.task.key op.task.tenant (key_of (ask op.task)) kept.always.stored kept.always.owner;
       unprepared = (done_answer c o op h gave.1 gave.2.finished).unprepared;

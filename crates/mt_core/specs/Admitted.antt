@@ -1,5 +1,5 @@
 -- What is made of a command before its operation is begun, and which refusals a begin of it answers.
-use Rattle.std.specs.Prelude.{◌≡◌, ◌≢◌, ℕ, ◌^◌, not, length, Option, Some, None, IsSome, Result, Ok, Err, IsOk}
+use Rattle.std.specs.Prelude.{◌≡◌, ◌≢◌, ℕ, ◌^◌, false, length, Option, Some, None, IsSome, Result, Ok, Err, IsOk}
 use Rattle.mt_slices.specs.Keys.{IsStoredKey}
 use Rattle.mt_rows.specs.declared.command.Command.{Command}
 use Rattle.mt_rows.specs.declared.refusal.Refusal.{Refusal}
@@ -7,11 +7,11 @@ use Rattle.mt_rows.specs.declared.refusal.Refusal.TheVariants.{Memory, NoTenant,
 use Rattle.mt_rows.specs.declared.tenants.Account.{Account}
 use Rattle.mt_rows.specs.Accounts.{account_of}
 use Rattle.mt_rows.specs.Commands.{key_of, HasColumns, HasShortColumns, IsTaken}
-use Rattle.mt_rows.specs.Maps.{is_get}
+use Rattle.mt_rows.specs.Maps.{is_scan}
 use Rattle.mt_border.specs.Contents.{owned}
 use Rattle.mt_operation.specs.declared.task.Request.{Request}
 use Rattle.mt_operation.specs.declared.operation.Operation.{Operation}
-use Rattle.mt_operation.specs.Tasks.{command_of, ask}
+use Rattle.mt_operation.specs.Tasks.{command_of, ask, aim_of}
 use Rattle.mt_operation.specs.Operations.{OperationView, view_of, IsUnsplit}
 use Rattle.mt_operation.specs.Walks.{walk_from_top}
 use Rattle.mt_state.specs.Views.{StateView}
@@ -27,7 +27,8 @@ pub record IsRequest (request : Request) (command : Command) : Type 0 where
 -- an operation before its first step, with its key in stored form
 pub record IsAdmitted (op : Operation) : Type 0 where
   pub is_begun : view_of op ≡ begun op.task.worker op.task.tenant (ask op.task)
-  pub walk : op.walk ≡ walk_from_top (not (is_get (ask op.task))) 0
+  pub walk : op.walk ≡ walk_from_top (aim_of (ask op.task)) 0
+  pub no_scan : is_scan (ask op.task) ≡ false
   pub unprepared : op.prepared ≡ None
   pub unsplit : IsUnsplit op.splits
   pub stored : IsStoredKey op.task.key

@@ -9,7 +9,7 @@ use Rattle.mt_version.specs.Changes.{IsStable}
 use Rattle.mt_arena.specs.Arena.{ArenaView}
 use Rattle.mt_arena.specs.Accesses.{at}
 use Rattle.mt_operation.specs.declared.phase.Phase.{Phase}
-use Rattle.mt_operation.specs.declared.phase.Phase.TheVariants.{Enter, Pick, Child, Verify, Forward, Search, Load, Confirm, Done}
+use Rattle.mt_operation.specs.declared.phase.Phase.TheVariants.{Enter, Pick, Child, Verify, Forward, Search, Load, Confirm, Done, Snap, Check, Hop}
 use Rattle.mt_operation.specs.declared.steps.Made.{Made}
 use Rattle.mt_operation.specs.declared.steps.Made.TheVariants.{Step, Blocked, Nothing}
 use Rattle.mt_operation.specs.declared.walk.Walk.{Walk}
@@ -101,6 +101,9 @@ MayLook Forward v op = MayDescend v op
 MayLook Search v op = MaySearch v op
 MayLook Load v op = MayLoad v op
 MayLook Confirm v op = MayConfirm v op
+MayLook Snap v op = ⊥
+MayLook Check v op = ⊥
+MayLook Hop v op = ⊥
 MayLook _ v op = Unit {0}
 
 -- what the step of this number makes of it then; nothing, where it is none
@@ -113,4 +116,7 @@ LooksAt Forward v step op made after = Looks v (TellsDescended v) op made after
 LooksAt Search v step op made after = Looks v (TellsSearched v step) op made after
 LooksAt Load v step op made after = Looks v (TellsLoaded v step) op made after
 LooksAt Confirm v step op made after = Looks v (TellsConfirmed v) op made after
+LooksAt Snap v step op made after = ⊥
+LooksAt Check v step op made after = ⊥
+LooksAt Hop v step op made after = ⊥
 LooksAt _ v step op made after = (made ≡ Nothing) × (after ≡ op)

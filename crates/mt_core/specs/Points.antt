@@ -5,7 +5,7 @@ use Rattle.mt_arena.specs.Arena.{ArenaView, one_if_live, live_count}
 use Rattle.mt_arena.specs.RootLevels.{levels_above, levels_of}
 use Rattle.mt_arena.specs.Accesses.{at}
 use Rattle.mt_operation.specs.declared.phase.Phase.{Phase}
-use Rattle.mt_operation.specs.declared.phase.Phase.TheVariants.{Enter, Pick, Child, Verify, Search, Load, Confirm, Forward, Lock, Judge, Store, Publish, SplitStart, SplitMove, SplitPrev, LockParent, InsertChild, InteriorSplit, Reparent, RootGrow, MakeLayer, MarkUnstable, Link, MarkLayer, DropKey, LockPrev, LockAbove, Unlink, FixNext, Collapse, CleanLayer, Unlock}
+use Rattle.mt_operation.specs.declared.phase.Phase.TheVariants.{Enter, Pick, Child, Verify, Search, Load, Confirm, Forward, Lock, Judge, Store, Publish, SplitStart, SplitMove, SplitPrev, LockParent, InsertChild, InteriorSplit, Reparent, RootGrow, MakeLayer, MarkUnstable, Link, MarkLayer, DropKey, LockPrev, LockAbove, Unlink, FixNext, Collapse, CleanLayer, Unlock, Snap}
 use Rattle.mt_operation.specs.declared.walk.Walk.{Walk}
 use Rattle.mt_operation.specs.declared.splits.Halves.{Halves}
 use Rattle.mt_operation.specs.declared.splits.Splits.{Splits}
@@ -102,6 +102,7 @@ WalksBy Pick b made v w = (SeesNow v w × (made + 3 * level_of v w ≤ until b w
 WalksBy Child b made v w = (SeesNow v w × (made + 3 * level_of v w ≤ until b w + 1)) ⊎ (made + 3 ≤ b.lost)
 WalksBy Verify b made v w = (SeesNow v w × SeesChild v w × (made + 3 * level_of v w ≤ until b w + 2)) ⊎ (SeesChild v w × (made + 2 ≤ b.lost)) ⊎ (made + (6 + behind v w.child) ≤ b.lost)
 WalksBy Search b made v w = (SeesNow v w × (made ≤ until b w)) ⊎ (made + (5 + behind v w.place.node) ≤ b.lost)
+WalksBy Snap b made v w = (SeesNow v w × (made ≤ until b w)) ⊎ (made + (5 + behind v w.place.node) ≤ b.lost)
 WalksBy Load b made v w = (SeesNow v w × (made ≤ until b w + 1)) ⊎ (made + (4 + behind v w.place.node) ≤ b.lost)
 WalksBy Confirm b made v w = (SeesNow v w × TookLiveTree v w × (made ≤ until b w + 2)) ⊎ (made + (3 + behind v w.place.node) ≤ b.lost)
 WalksBy Forward b made v w = (SeesNow v w × (made + (2 + behind v w.place.node) ≤ b.lost)) ⊎ (made + (6 + behind v w.place.node) ≤ b.lost)
@@ -119,6 +120,7 @@ HasMade Pick height made v w s = WalksBy Pick (budget_of height) made v w
 HasMade Child height made v w s = WalksBy Child (budget_of height) made v w
 HasMade Verify height made v w s = WalksBy Verify (budget_of height) made v w
 HasMade Search height made v w s = WalksBy Search (budget_of height) made v w
+HasMade Snap height made v w s = WalksBy Snap (budget_of height) made v w
 HasMade Load height made v w s = WalksBy Load (budget_of height) made v w
 HasMade Confirm height made v w s = WalksBy Confirm (budget_of height) made v w
 HasMade Forward height made v w s = WalksBy Forward (budget_of height) made v w

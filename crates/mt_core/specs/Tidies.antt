@@ -67,7 +67,7 @@ pub record HandsOutRest (table : Shown) (o : ℕ) (before after : Displaced) : T
 
 -- inside it is all that the operation had of these
 pub record DisplacesRest (op : Operation) (before after : Displaced) : Type 0 where
-  pub rest : after.rest ≡ Some (record { key = op.task.key; prepared = op.prepared; splits = op.splits })
+  pub rest : after.rest ≡ Some (record { key = op.task.key; prepared = op.prepared; splits = op.splits; scan = op.scan })
   pub writes : after.writes ≡ before.writes
 
 -- of the operation that is there

@@ -2,7 +2,7 @@
 
 ghost use Rattle.std.specs.Prelude.{◌≡◌, ◌≤◌, [], None, IfOk, vec_capacity};
 
-use mt_operation::{Prepared, Splits};
+use mt_operation::{Prepared, Scan, Splits};
 use mt_slices::StoredKey;
 use mt_tape::Entry;
 use std::alloc::{AllocError, Global};
@@ -22,6 +22,7 @@ pub struct Rest {
     pub key: StoredKey,
     pub prepared: Option<Prepared>,
     pub splits: Splits,
+    pub scan: Scan,
 }
 
 impl Displaced {

@@ -42,6 +42,7 @@ pub(crate) fn look(alloc: Global, arena: &Arena, operation: &mut Operation, step
         Phase::Search => search_key(arena, operation, step),
         Phase::Load => load_row(alloc, arena, operation, step),
         Phase::Confirm => confirm_row(arena, operation),
+        Phase::Snap | Phase::Check | Phase::Hop => unreachable!(),
         _ => Made::Nothing,
     }
 }

@@ -144,12 +144,14 @@ fn answer_of(operation: Operation, displaced: &mut Displaced) -> Answer
         prepared,
         splits,
         removal: _,
+        scan,
     } = operation;
     let Task { request, key, .. } = task;
     displaced.rest = Some(Rest {
         key,
         prepared,
         splits,
+        scan,
     });
     let Some(Outcome { reply, at }) = outcome else {
         unreachable!()

@@ -406,7 +406,7 @@ fn removes(task: &Task) -> bool
 {
     match task.request {
         Request::Remove { .. } => true,
-        Request::Get { .. } | Request::Put { .. } => false,
+        Request::Get { .. } | Request::Put { .. } | Request::Scan { .. } => false,
     }
 }
 

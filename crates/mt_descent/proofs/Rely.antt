@@ -21,7 +21,7 @@ use Rattle.mt_arena.specs.Arena.{ArenaView}
 use Rattle.mt_arena.specs.Accesses.{at}
 use Rattle.mt_arena.specs.Guarantee.{NodesGuarantee, Changes, TreeChanges, HasSameKeys}
 use Rattle.mt_operation.specs.declared.phase.Phase.{Phase}
-use Rattle.mt_operation.specs.declared.phase.Phase.TheVariants.{Enter, Pick, Child, Verify, Search, Load, Confirm, Forward, Lock, Done}
+use Rattle.mt_operation.specs.declared.phase.Phase.TheVariants.{Enter, Pick, Child, Verify, Search, Load, Confirm, Forward, Lock, Snap, Check, Done}
 use Rattle.mt_operation.specs.declared.walk.Taken.{Taken}
 use Rattle.mt_operation.specs.declared.walk.Taken.TheVariants.{Missing, Row, Link, Nothing}
 use Rattle.mt_operation.specs.declared.walk.Walk.{Walk}
@@ -225,6 +225,8 @@ module _ (op : ℕ) (old new : ArenaView) (e : NodesGuarantee op old.nodes new.n
     next = next_stays w.place.tree w.place.node w.place.seen w.next h.remembered.there h.remembered.was h.next;
   }
   kept_stays before after key row w Lock g h = border_stays key w h
+  kept_stays before after key row w Snap g h = border_stays key w h
+  kept_stays before after key row w Check g h = border_stays key w h
   kept_stays before after key row w Done g h = answered_stays before after key row w w.taken g h
   kept_stays before after key row w _ g h = tt
 

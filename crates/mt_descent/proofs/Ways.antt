@@ -22,6 +22,8 @@ use Rattle.mt_arena.specs.Nodes.{IsNode, IsChild, bounds}
 use Rattle.mt_arena.specs.Forests.{tree_at}
 use Rattle.mt_arena.specs.Arena.{ArenaView, IsArena}
 use Rattle.mt_arena.specs.Accesses.{at}
+use Rattle.mt_operation.specs.declared.walk.Aim.{Aim}
+use Rattle.mt_operation.specs.declared.walk.Aim.TheVariants as aims
 use Rattle.mt_operation.specs.declared.walk.Walk.{Walk}
 use Rattle.mt_operation.specs.declared.phase.Phase.TheVariants.{Forward}
 use Rattle.mt_descent.specs.Seen.{RangeStands, Stands, WasSeen, Covers, child_for, HasNext}
@@ -57,19 +59,19 @@ live_tree v t layer k key arena through within is live = by (tree_at v.trees t).
     by Dead e = absurd ((arena.forest.homes k t within through.there).standing is live e)
 
 -- a walk at a node of either kind
-arrived_by : (v : ArenaView) (past : Past) (key : Bytes) (row : Option Columns) (w : Walk) (border writes : Bool)
-    → (border ≡ true → IsAtBorder v key w) → (border ≡ false → IsAtPick v key w) → KeptAt (arrival_at border writes) v past key row w
-arrived_by v past key row w true true f g = f refl
-arrived_by v past key row w true false f g = f refl
-arrived_by v past key row w false true f g = g refl
-arrived_by v past key row w false false f g = g refl
+arrived_by : (v : ArenaView) (past : Past) (key : Bytes) (row : Option Columns) (w : Walk) (border : Bool) (aim : Aim)
+    → (border ≡ true → IsAtBorder v key w) → (border ≡ false → IsAtPick v key w) → KeptAt (arrival_at border aim) v past key row w
+arrived_by v past key row w true aims.Read f g = f refl
+arrived_by v past key row w true aims.Write f g = f refl
+arrived_by v past key row w true aims.Scan f g = f refl
+arrived_by v past key row w false aim f g = g refl
 
 -- a walk that comes to a node which covers the slice keeps what its next phase asks, by the node's kind
 pub arrived : (v : ArenaView) (past : Past) (key : Bytes) (row : Option Columns) (w : Walk) (k : ℕ) (seen : Parts) → IsArena v.nodes v.trees
     → GoesThrough v w.place.tree w.layer key → Covers v w.place.tree k seen (slice_in key w) → IsKept v past key row (walk_onto w k seen)
 arrived v past key row w k seen arena through covers =
     let node = arena.nodes.each k covers.remembered.there in
-    arrived_by v past key row (walk_onto w k seen) seen.border w.writes
+    arrived_by v past key row (walk_onto w k seen) seen.border w.aim
     (λ is. record { through = through; covers = covers; border = node.kind.border (covers.remembered.was.ages.border ∙ is) })
     (λ is. record { through = through; covers = covers; interior = node.kind.interior (covers.remembered.was.ages.border ∙ is) })
 
@@ -221,17 +223,18 @@ covers_here v key w h before = record {
     by None e stands = omega (arith, slice_of_lt key w.layer h.through.of_tree.stored.are_bytes, h.next.last e stands)
     by (Some j) e stands = omega (arith, before j e, h.next.meets j e stands)
 
-arrives : (v : ArenaView) (past : Past) (key : Bytes) (row : Option Columns) (w : Walk) (writes : Bool) → IsAtBorder v key w
-    → KeptAt (arrival writes) v past key row w
-arrives v past key row w true h = h
-arrives v past key row w false h = h
+arrives : (v : ArenaView) (past : Past) (key : Bytes) (row : Option Columns) (w : Walk) (aim : Aim) → IsAtBorder v key w
+    → KeptAt (arrival aim) v past key row w
+arrives v past key row w aims.Read h = h
+arrives v past key row w aims.Write h = h
+arrives v past key row w aims.Scan h = h
 
 -- a walk that stays at its border node, since the slice lies before the next one
 pub kept_here : (v : ArenaView) (past : Past) (key : Bytes) (row : Option Columns) (w : Walk) → IsAtForward v key w
     → ((j : ℕ) → w.next ≡ Some j → slice_in key w < (at v j).low) → IsKept v past key row (walk_here w)
 kept_here v past key row w h before =
     let b = covers_here v key w h before in
-    arrives v past key row (walk_here w) w.writes record { through = b.through; covers = b.covers; border = b.border }
+    arrives v past key row (walk_here w) w.aim record { through = b.through; covers = b.covers; border = b.border }
 
 -- or since there is no next one
 pub kept_last : (v : ArenaView) (past : Past) (key : Bytes) (row : Option Columns) (w : Walk) → IsAtForward v key w → w.next ≡ None

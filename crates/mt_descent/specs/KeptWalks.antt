@@ -16,7 +16,7 @@ use Rattle.mt_arena.specs.Layers.{slot_at}
 use Rattle.mt_arena.specs.Arena.{ArenaView}
 use Rattle.mt_arena.specs.Accesses.{at, IsHeld}
 use Rattle.mt_operation.specs.declared.phase.Phase.{Phase}
-use Rattle.mt_operation.specs.declared.phase.Phase.TheVariants.{Enter, Pick, Child, Verify, Search, Load, Confirm, Forward, Lock, Done}
+use Rattle.mt_operation.specs.declared.phase.Phase.TheVariants.{Enter, Pick, Child, Verify, Search, Load, Confirm, Forward, Lock, Snap, Check, Done}
 use Rattle.mt_operation.specs.declared.walk.Taken.{Taken}
 use Rattle.mt_operation.specs.declared.walk.Taken.TheVariants.{Missing, Row, Link, Nothing}
 use Rattle.mt_operation.specs.declared.walk.Walk.{Walk}
@@ -59,7 +59,7 @@ pub record IsAtVerify (v : ArenaView) (key : Bytes) (w : Walk) : Type 0 where
   pub picked : IsPicked v w.place.node w.place.seen (slice_in key w) w.child
   pub child : WasSeen (at v w.child) w.child_seen
 
--- at Search and at Lock
+-- at Search, at Lock, and at Snap and Check of a scan
 pub record IsAtBorder (v : ArenaView) (key : Bytes) (w : Walk) : Type 0 where
   pub through : GoesThrough v w.place.tree w.layer key
   pub covers : Covers v w.place.tree w.place.node w.place.seen (slice_in key w)
@@ -123,7 +123,7 @@ pub record IsAtJudge (v : ArenaView) (op : ℕ) (key : Bytes) (w : Walk) : Type 
   pub stands : RangeStands (at v w.place.node) w.place.seen
 
 -- What is kept at a phase of an operation that holds nothing. What is kept at the others stands elsewhere, since it names the operation: at Judge
--- it is `IsAtJudge`.
+-- it is `IsAtJudge`; and so does what a scan keeps of what it has read.
 abbrev pub KeptAt : Phase → ArenaView → Past → Bytes → Option Columns → Walk → Type 0
 KeptAt Enter v past key row w = IsAtEnter v key w
 KeptAt Pick v past key row w = IsAtPick v key w
@@ -134,6 +134,8 @@ KeptAt Load v past key row w = IsAtLoad v key w
 KeptAt Confirm v past key row w = IsAtConfirm v past key row w
 KeptAt Forward v past key row w = IsAtForward v key w
 KeptAt Lock v past key row w = IsAtBorder v key w
+KeptAt Snap v past key row w = IsAtBorder v key w
+KeptAt Check v past key row w = IsAtBorder v key w
 KeptAt Done v past key row w = TakenWasRight past key row w w.taken
 KeptAt _ v past key row w = Unit {0}
 

@@ -18,8 +18,10 @@ use Rattle.mt_arena.specs.Layers.{slot_at}
 use Rattle.mt_arena.specs.Edits.{locked}
 use Rattle.mt_arena.specs.Arena.{ArenaView, content_of, Guarantee}
 use Rattle.mt_arena.specs.Accesses.{at, with_node}
+use Rattle.mt_operation.specs.declared.walk.Aim.{Aim}
+use Rattle.mt_operation.specs.declared.walk.Aim.TheVariants as aims
 use Rattle.mt_operation.specs.declared.phase.Phase.{Phase}
-use Rattle.mt_operation.specs.declared.phase.Phase.TheVariants.{Enter, Pick, Child, Verify, Search, Load, Confirm, Forward, Lock, Judge, Done}
+use Rattle.mt_operation.specs.declared.phase.Phase.TheVariants.{Enter, Pick, Child, Verify, Search, Load, Confirm, Forward, Lock, Judge, Snap, Done}
 use Rattle.mt_operation.specs.declared.walk.Taken.{Taken}
 use Rattle.mt_operation.specs.declared.walk.Taken.TheVariants.{Missing, Row, Link, Nothing}
 use Rattle.mt_operation.specs.declared.walk.Walk.{Walk}
@@ -44,9 +46,9 @@ pub record IsBlockedAt (n : NodeView) (slot holder : ℕ) : Type 0 where
   pub unstable : IsUnstable (slot_at n slot).held
   pub by : n.holder ≡ Some holder
 
--- the walk is still that of the same operation: it goes to look or to lock as before, and its first step is the same
+-- the walk is still that of the same operation: its aim is as before, and its first step is the same
 pub record Continues (before after : Walk) : Type 0 where
-  pub writes : after.writes ≡ before.writes
+  pub aim : after.aim ≡ before.aim
   pub first : after.first ≡ before.first
 
 -- a step of an operation that changes no pair: others may rely on what it leaves, and the walk is still its own
@@ -55,17 +57,19 @@ pub record KeepsPairs (op : ℕ) (old new : ArenaView) (before after : Walk) : T
   pub guarantee : Guarantee op old new
   pub contents : content_of new ≡ content_of old
 
--- what comes next at a border node: a get looks, others lock
-abbrev pub arrival : Bool → Phase
-arrival writes = if writes then Lock else Search
+-- what comes next at a border node: a get looks for its key, a put or a remove locks, a scan reads
+abbrev pub arrival : Aim → Phase
+arrival aims.Read = Search
+arrival aims.Write = Lock
+arrival aims.Scan = Snap
 
 -- and at a node of either kind
-abbrev pub arrival_at : Bool → Bool → Phase
-arrival_at border writes = if border then arrival writes else Pick
+abbrev pub arrival_at : Bool → Aim → Phase
+arrival_at border aim = if border then arrival aim else Pick
 
 -- the walk comes to a node, and remembers it with this version
 abbrev pub walk_onto : Walk → ℕ → Parts → Walk
-walk_onto w k seen = record w { place = record w.place { node = k; seen = seen }; phase = arrival_at seen.border w.writes }
+walk_onto w k seen = record w { place = record w.place { node = k; seen = seen }; phase = arrival_at seen.border w.aim }
 
 -- the walk begins at a tree of a layer
 abbrev pub walk_into : Walk → ℕ → ℕ → Walk
@@ -143,7 +147,7 @@ pub record Confirms (n : NodeView) (before after : Walk) : Type 0 where
 
 -- the walk stays at its border node
 abbrev pub walk_here : Walk → Walk
-walk_here w = record w { phase = arrival w.writes }
+walk_here w = record w { phase = arrival w.aim }
 
 -- the walk goes to the next border node, and remembers its version and its next one
 abbrev pub walk_to_next : Walk → ℕ → NodeView → Walk

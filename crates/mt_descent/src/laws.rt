@@ -1,12 +1,13 @@
 //! What is kept of an operation stays under the steps of all others. Contracts alone: no code runs.
 
-ghost use Rattle.std.specs.Prelude.{ℕ, ◌≡◌, ◌≢◌, ◌<◌, Bool, Option, Some, length};
+ghost use Rattle.std.specs.Prelude.{ℕ, ◌≡◌, ◌≢◌, ◌<◌, Option, Some, length};
 ghost use Rattle.mt_slices.specs.Keys.{IsStoredKey};
 ghost use Rattle.mt_rows.specs.Rows.{Bytes, Columns};
 ghost use Rattle.mt_arena.specs.Arena.{ArenaView, IsArena};
 ghost use Rattle.mt_arena.specs.Ways.{BelongsIn};
 ghost use Rattle.mt_arena.specs.Accesses.{at, IsOpen};
 ghost use Rattle.mt_arena.specs.Guarantee.{NodesGuarantee};
+ghost use Rattle.mt_operation.specs.declared.walk.Aim.{Aim};
 ghost use Rattle.mt_operation.specs.declared.walk.Walk.{Walk};
 ghost use Rattle.mt_descent.specs.Pasts.{Past, ExtendsPast};
 ghost use Rattle.mt_descent.specs.KeptWalks.{HoldsNothing, IsAtJudge, IsKept};
@@ -14,8 +15,8 @@ ghost use Rattle.mt_operation.specs.Walks.{walk_from_top};
 
 /// A stored key may be looked for from the top tree on.
 pub fn walks_begin()
-    ensures { (v : ArenaView) (past : Past) (key : Bytes) (row : Option Columns) (writes : Bool) (first : ℕ) → IsArena v.nodes v.trees → IsStoredKey key →
-        IsKept v past key row (walk_from_top writes first) }
+    ensures { (v : ArenaView) (past : Past) (key : Bytes) (row : Option Columns) (aim : Aim) (first : ℕ) → IsArena v.nodes v.trees → IsStoredKey key →
+        IsKept v past key row (walk_from_top aim first) }
 {}
 
 /// Whatever an operation that holds nothing keeps at its phase, it keeps through each step of any

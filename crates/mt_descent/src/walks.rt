@@ -6,11 +6,11 @@ ghost use Rattle.mt_descent.specs.Seen.{IsOutdated};
 ghost use Rattle.mt_descent.specs.WalkMoves.{IsBlocked, arrival, walk_onto, walk_into, after_change};
 
 use mt_arena::Node;
-use mt_operation::{Phase, Walk};
+use mt_operation::{Aim, Phase, Walk};
 use mt_version::Version;
 
-// The operation that marked the node, if it is marked.
-pub(crate) fn blocker(node: &Node) -> Option<usize>
+/// The operation that marked the node, if it is marked.
+pub fn blocker(node: &Node) -> Option<usize>
     requires { IsMarked node.now.version → node.now.holder ≢ None }
     ensures some { IfSome result (IsBlocked node.now) }
     ensures none { IfNone result (IsStable node.now.version) }
@@ -22,28 +22,32 @@ pub(crate) fn blocker(node: &Node) -> Option<usize>
     }
 }
 
-// What comes at a border node: a get looks, others lock.
-pub(crate) fn arrival(writes: bool) -> Phase
-    ensures { result ≡ arrival writes }
+// What comes at a border node: a get looks for its key, a put or a remove locks, a scan reads.
+pub(crate) fn arrival(aim: Aim) -> Phase
+    ensures { result ≡ arrival aim }
 {
-    if writes { Phase::Lock } else { Phase::Search }
+    match aim {
+        Aim::Read => Phase::Search,
+        Aim::Write => Phase::Lock,
+        Aim::Scan => Phase::Snap,
+    }
 }
 
-// Comes to a node.
-pub(crate) fn onto(walk: &mut Walk, node: usize, seen: Version)
+/// Comes to a node.
+pub fn onto(walk: &mut Walk, node: usize, seen: Version)
     ensures { walk.new ≡ walk_onto walk.old node seen }
 {
     walk.place.node = node;
     walk.place.seen = seen;
     walk.phase = if seen.is_border() {
-        arrival(walk.writes)
+        arrival(walk.aim)
     } else {
         Phase::Pick
     };
 }
 
-// Begins at a tree of a layer.
-pub(crate) fn into(walk: &mut Walk, tree: usize, layer: usize)
+/// Begins at a tree of a layer.
+pub fn into(walk: &mut Walk, tree: usize, layer: usize)
     ensures { walk.new ≡ walk_into walk.old tree layer }
 {
     walk.place.tree = tree;
@@ -58,8 +62,8 @@ pub(crate) fn is_outdated(node: &Node, seen: Version) -> bool
     node.version().is_deleted() || node.version().splits() != seen.splits()
 }
 
-// It does not: anew where the node was deleted, else to the next node.
-pub(crate) fn move_on(walk: &mut Walk, node: &Node)
+/// The border node has changed: anew where it was deleted, else to the next node.
+pub fn move_on(walk: &mut Walk, node: &Node)
     ensures { walk.new ≡ after_change walk.old node.now.version node.now.next }
 {
     if node.version().is_deleted() {

@@ -12,7 +12,7 @@ use Rattle.mt_rows.proofs.ContentLaws.{get-tenant_map, tenant_map-insert, tenant
 use Rattle.mt_border.specs.Contents.{owned}
 use Rattle.mt_tape.specs.Histories.{with_write}
 use Rattle.mt_operation.specs.declared.task.Request.{Request}
-use Rattle.mt_operation.specs.declared.task.Request.TheVariants.{Get, Put, Remove}
+use Rattle.mt_operation.specs.declared.task.Request.TheVariants.{Get, Put, Remove, Scan as ScanOf}
 use Rattle.mt_operation.specs.declared.task.Task.{Task}
 use Rattle.mt_operation.specs.Tasks.{command_of, ask}
 use Rattle.mt_insert.specs.Puts.{change_of, is_put, IsPut, row_over, write_of}
@@ -23,6 +23,7 @@ put_there : (quota : ℕ) (r : Request) (m : Map) (row : Columns) → is_put (co
 unfolding reply_of map_after
 put_there quota (Put key change) m row e is = (ap (told_of_put quota (len m)) is, ap (map_after_put quota key change m) is)
 put_there quota (Get key columns) m row e is = absurd (cc)
+put_there quota (ScanOf from after count columns) m row e is = absurd (cc)
 put_there quota (Remove key) m row e is = absurd (cc)
 
 -- a put of a new key, with room for it
@@ -34,6 +35,7 @@ put_new quota (Put key change) m e none lt = (
   ap (map_after_put quota key change m) none ∙ ap (λ b. cond b (insert m key (changed change [])) m) (lt-ltb (len m) quota lt),
 )
 put_new quota (Get key columns) m e none lt = absurd (cc)
+put_new quota (ScanOf from after count columns) m e none lt = absurd (cc)
 put_new quota (Remove key) m e none lt = absurd (cc)
 
 -- and without
@@ -45,6 +47,7 @@ put_full quota (Put key change) m e none le = (
   ap (map_after_put quota key change m) none ∙ ap (λ b. cond b (insert m key (changed change [])) m) (le-ltb (len m) quota le),
 )
 put_full quota (Get key columns) m e none le = absurd (cc)
+put_full quota (ScanOf from after count columns) m e none le = absurd (cc)
 put_full quota (Remove key) m e none le = absurd (cc)
 
 module _ (quota step : ℕ) (contents : Contents) (task : Task) (put : IsPut task) where

@@ -47,7 +47,7 @@ fn change_of(request: &Request) -> &Change
 {
     match request {
         Request::Put { change, .. } => change,
-        Request::Get { .. } | Request::Remove { .. } => unreachable!(),
+        Request::Get { .. } | Request::Remove { .. } | Request::Scan { .. } => unreachable!(),
     }
 }
 

@@ -56,7 +56,7 @@ const SINGLE_LINES: [(&str, &str); 50] = [
     ),
     (
         "until 1 Enter\nuntil 1 fill\nuntil 1 snap\nuntil 1 unlock\n",
-        "bad line\nbad line\nbad line\nnone\n",
+        "bad line\nbad line\nnone\nnone\n",
     ),
     ("tenant 7 5\nbegin 1 7 put 61\n", "ok\nbad line\n"),
     ("tenant 7 5\nbegin 1 7 put 61 0\n", "ok\nbad line\n"),

@@ -4,3 +4,4 @@ pub mod Places
 pub mod QueueLaws
 pub mod TableMoves
 pub mod BodySteps
+pub mod Seeing

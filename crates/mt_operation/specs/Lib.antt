@@ -6,3 +6,4 @@ pub mod Operations
 pub mod Tables
 pub mod Seats
 pub mod Queues
+pub mod Scans

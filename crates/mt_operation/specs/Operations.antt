@@ -1,7 +1,7 @@
 -- An operation between its steps: what is shown of it, and what each change makes of it.
 use Rattle.std.specs.Prelude.{◌≡◌, ℕ, List, [], Bool, false, not, ◌==◌, if◌then◌else◌, Option, Some, None}
 use Rattle.mt_rows.specs.declared.command.Command.{Command}
-use Rattle.mt_rows.specs.Maps.{is_get}
+use Rattle.mt_rows.specs.Rows.{Bytes, Columns}
 use Rattle.mt_operation.specs.declared.phase.Phase.{Phase}
 use Rattle.mt_operation.specs.declared.walk.Walk.{Walk}
 use Rattle.mt_operation.specs.declared.task.Task.{Task}
@@ -10,9 +10,12 @@ use Rattle.mt_operation.specs.declared.prepared.Prepared.{Prepared}
 use Rattle.mt_operation.specs.declared.splits.Halves.{Halves}
 use Rattle.mt_operation.specs.declared.splits.Splits.{Splits}
 use Rattle.mt_operation.specs.declared.removal.Removal.{Removal}
+use Rattle.mt_operation.specs.declared.scan.Scan.{Scan}
+use Rattle.mt_operation.specs.declared.scan.Stop.{Stop}
+use Rattle.mt_operation.specs.declared.scan.Stop.TheVariants as stops
 use Rattle.mt_operation.specs.declared.operation.Operation.{Operation}
 use Rattle.mt_operation.specs.Phases.{is_done}
-use Rattle.mt_operation.specs.Tasks.{ask}
+use Rattle.mt_operation.specs.Tasks.{ask, aim_of, begins_after}
 use Rattle.mt_operation.specs.Walks.{walk_from_top}
 
 -- what is shown of splits: the halves from the lowest level up, the node above the last ones once it is locked, and how many children of the last right
@@ -29,8 +32,24 @@ splits_of s = record { halves = s.halves.items; above = s.above; moved = s.moved
 abbrev pub no_splits : SplitsView
 no_splits = record { halves = []; above = None; moved = 0 }
 
+-- what is shown of a scan: the fence that it has reached, whether it begins behind that, the pairs that it has collected, those that it has seen, and how the
+-- stretch ends in which it has
+pub record ScanView : Type 0 where
+  pub fence : Bytes
+  pub after : Bool
+  pub collected : List (Bytes × Columns)
+  pub seen : List (Bytes × Columns)
+  pub stop : Stop
+
+abbrev pub scan_of : Task → Scan → ScanView
+scan_of task s = record { fence = task.key; after = s.after; collected = s.collected.items; seen = s.seen; stop = s.stop }
+
+-- nothing is collected yet, and nothing seen
+abbrev pub no_scan : Bytes → Command → ScanView
+no_scan key command = record { fence = key; after = begins_after command; collected = []; seen = []; stop = stops.Tree }
+
 -- what is shown of an operation: whose command it is, the numbers of its first and last step so far, 0 where it has made none, what its next step
--- does, what it answers, once that is known, what it remembers of its way, what it has split, and what it remembers of its removal
+-- does, what it answers, once that is known, what it remembers of its way, what it has split, and what it remembers of its removal, and of its scan
 pub record OperationView : Type 0 where
   pub worker : ℕ
   pub tenant : ℕ
@@ -42,6 +61,7 @@ pub record OperationView : Type 0 where
   pub walk : Walk
   pub splits : SplitsView
   pub removal : Removal
+  pub scan : ScanView
 
 abbrev pub view_of : Operation → OperationView
 view_of op = record {
@@ -55,6 +75,7 @@ view_of op = record {
   walk = op.walk;
   splits = splits_of op.splits;
   removal = op.removal;
+  scan = scan_of op.task op.scan;
 }
 
 -- an operation with a step left
@@ -71,9 +92,18 @@ pub record IsUnsplit (s : Splits) : Type 0 where
 abbrev pub no_removal : Removal
 no_removal = record { emptied = false; left = None; parent = None; below = None; cleans = None }
 
--- an operation before its first step, with the splits of one that has split nothing
-abbrev pub begun : Task → Splits → Operation
-begun task splits = record { task = task; walk = walk_from_top (not (is_get (ask task))) 0; last = 0; outcome = None; prepared = None; splits = splits; removal = no_removal }
+-- an operation before its first step, with the splits of one that has split nothing, and with what one remembers that has scanned nothing
+abbrev pub begun : Task → Splits → Scan → Operation
+begun task splits scan = record {
+  task = task;
+  walk = walk_from_top (aim_of (ask task)) 0;
+  last = 0;
+  outcome = None;
+  prepared = None;
+  splits = splits;
+  removal = no_removal;
+  scan = scan;
+}
 
 -- an operation that has made the step of this number, which is its first where it had made none, and walks on so
 abbrev pub moved : Operation → ℕ → Walk → Operation

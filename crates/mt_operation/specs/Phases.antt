@@ -1,15 +1,18 @@
 -- The table of phases: a row for each, with all that hangs on an operation's phase alone. What a phase keeps of its operation, and under which condition
 -- its step leads where, is told by the crates that have its call.
 use Rattle.std.specs.Prelude.{◌≡◌, ℕ, ◌==◌, Bool, true, false, List, [], ◌∷◌, codes}
+use Rattle.mt_operation.specs.declared.walk.Aim.{Aim}
+use Rattle.mt_operation.specs.declared.walk.Aim.TheVariants as aims
 use Rattle.mt_operation.specs.declared.phase.Phase.{Phase}
-use Rattle.mt_operation.specs.declared.phase.Phase.TheVariants.{Enter, Pick, Child, Verify, Search, Load, Confirm, Forward, Lock, Judge, Store, Publish, SplitStart, SplitMove, SplitPrev, LockParent, InsertChild, InteriorSplit, Reparent, RootGrow, MakeLayer, MarkUnstable, Link, MarkLayer, DropKey, LockPrev, LockAbove, Unlink, FixNext, Collapse, CleanLayer, Unlock, Done}
+use Rattle.mt_operation.specs.declared.phase.Phase.TheVariants.{Enter, Pick, Child, Verify, Search, Load, Confirm, Forward, Lock, Judge, Store, Publish, SplitStart, SplitMove, SplitPrev, LockParent, InsertChild, InteriorSplit, Reparent, RootGrow, MakeLayer, MarkUnstable, Link, MarkLayer, DropKey, LockPrev, LockAbove, Unlink, FixNext, Collapse, CleanLayer, Unlock, Snap, Check, Hop, Done}
 
--- What the step does: it goes down to the node of the key, reads there for a get, locks the node for a write, judges what the write finds, writes, begins to
+-- What the step does: it goes down to the node of the key, reads there for a get or for a scan, locks the node for a write, judges what the write finds, writes, begins to
 -- split the node, splits it, brings right halves up to their parents, makes a layer, takes the pair out, takes the empty node out, takes an empty layer
 -- out, or gives the locks back. There is none where the operation has ended. By it hangs what the operation holds, and how far its change is.
 pub data Kind : Type 0 where
   Descends : Kind
   Reads : Kind
+  Scans : Kind
   Locks : Kind
   Judges : Kind
   Writes : Kind
@@ -64,11 +67,12 @@ change_at Cleans = Settled
 change_at Returns = Settled
 change_at Ends = Settled
 change_at Reads = ToCome
+change_at Scans = ToCome
 change_at Layers = ToCome
 change_at _ = Either
 
--- for what the step may have to wait: for nothing; for the mark of the tree's root, of the child, of the walk's own node, or of the next one; for an unstable
--- slot; or for the lock of its own node, of the parent of its splits, of the node before its own, of its own node's parent, or of the root of the layer below
+-- for what the step may have to wait: for nothing; for the mark of the tree's root, of the child, of the walk's own node, or of the next one; for the walk's
+-- slot, or for one of those that are read, where that is unstable; or for the lock of its own node, of the parent of its splits, of the node before its own, of its own node's parent, or of the root of the layer below
 pub data Waiting : Type 0 where
   Never : Waiting
   RootMark : Waiting
@@ -76,6 +80,7 @@ pub data Waiting : Type 0 where
   OwnMark : Waiting
   NextMark : Waiting
   OwnSlot : Waiting
+  ReadSlot : Waiting
   OwnLock : Waiting
   ParentLock : Waiting
   BeforeLock : Waiting
@@ -100,14 +105,14 @@ abbrev line : ℕ → List ℕ → Kind → Waiting → Growth → List Phase �
 line number name kind waits grows next = record { number = number; name = name; kind = kind; waits = waits; grows = grows; next = next }
 
 abbrev pub row : Phase → PhaseRow
-row Enter = line 0 (codes "enter") Descends RootMark TakesNone (Enter ∷ Pick ∷ Search ∷ Lock ∷ [])
+row Enter = line 0 (codes "enter") Descends RootMark TakesNone (Enter ∷ Pick ∷ Search ∷ Lock ∷ Snap ∷ [])
 row Pick = line 1 (codes "pick") Descends Never TakesNone (Child ∷ [])
 row Child = line 2 (codes "child") Descends ChildMark TakesNone (Verify ∷ [])
-row Verify = line 3 (codes "verify") Descends OwnMark TakesNone (Enter ∷ Pick ∷ Search ∷ Lock ∷ [])
+row Verify = line 3 (codes "verify") Descends OwnMark TakesNone (Enter ∷ Pick ∷ Search ∷ Lock ∷ Snap ∷ [])
 row Search = line 4 (codes "search") Reads Never TakesNone (Load ∷ Confirm ∷ [])
 row Load = line 5 (codes "load") Reads OwnSlot EndsForWant (Confirm ∷ Done ∷ [])
 row Confirm = line 6 (codes "confirm") Reads OwnMark TakesNone (Done ∷ Enter ∷ Forward ∷ [])
-row Forward = line 7 (codes "forward") Descends NextMark TakesNone (Enter ∷ Forward ∷ Search ∷ Lock ∷ [])
+row Forward = line 7 (codes "forward") Descends NextMark TakesNone (Enter ∷ Forward ∷ Search ∷ Lock ∷ Snap ∷ [])
 row Lock = line 8 (codes "lock") Locks OwnLock TakesNone (Enter ∷ Forward ∷ Judge ∷ CleanLayer ∷ [])
 row Judge = line 9 (codes "judge") Judges Never EndsForWant (Store ∷ Publish ∷ SplitStart ∷ MakeLayer ∷ DropKey ∷ Enter ∷ Done ∷ [])
 row Store = line 10 (codes "store") Writes Never TakesNone (Unlock ∷ [])
@@ -132,13 +137,17 @@ row FixNext = line 28 (codes "fixnext") Unlinks Never TakesNone (Collapse ∷ Un
 row Collapse = line 29 (codes "collapse") Unlinks Never TakesNone (Unlock ∷ [])
 row CleanLayer = line 30 (codes "cleanlayer") Cleans BelowLock TakesNone (LockPrev ∷ Unlock ∷ [])
 row Unlock = line 31 (codes "unlock") Returns Never TakesNone (Enter ∷ Done ∷ [])
-row Done = line 32 (codes "done") Ends Never TakesNone []
+row Snap = line 32 (codes "snap") Scans ReadSlot EndsForWant (Check ∷ Done ∷ [])
+row Check = line 33 (codes "check") Scans OwnMark EndsForWant (Hop ∷ Enter ∷ Forward ∷ Done ∷ [])
+row Hop = line 34 (codes "hop") Scans NextMark TakesNone (Snap ∷ Enter ∷ [])
+row Done = line 35 (codes "done") Ends Never TakesNone []
 
 -- those that have a step
 abbrev pub steps : List Phase
 steps = Enter ∷ Pick ∷ Child ∷ Verify ∷ Search ∷ Load ∷ Confirm ∷ Forward ∷ Lock ∷ Judge ∷ Store ∷ Publish
     ∷ SplitStart ∷ SplitMove ∷ SplitPrev ∷ LockParent ∷ InsertChild ∷ InteriorSplit ∷ Reparent ∷ RootGrow
-    ∷ MakeLayer ∷ MarkUnstable ∷ Link ∷ MarkLayer ∷ DropKey ∷ LockPrev ∷ LockAbove ∷ Unlink ∷ FixNext ∷ Collapse ∷ CleanLayer ∷ Unlock ∷ []
+    ∷ MakeLayer ∷ MarkUnstable ∷ Link ∷ MarkLayer ∷ DropKey ∷ LockPrev ∷ LockAbove ∷ Unlink ∷ FixNext ∷ Collapse ∷ CleanLayer ∷ Unlock
+    ∷ Snap ∷ Check ∷ Hop ∷ []
 
 -- a phase's name, as it is written
 abbrev pub name_of : Phase → List ℕ
@@ -199,20 +208,22 @@ IsDescent p = IsDescentKind (row p).kind
 abbrev pub IsNoLookKind : Kind → Type 0
 IsNoLookKind Descends = ⊥
 IsNoLookKind Reads = ⊥
+IsNoLookKind Scans = ⊥
 IsNoLookKind _ = Unit {0}
 
 abbrev pub IsNoLook : Phase → Type 0
 IsNoLook p = IsNoLookKind (row p).kind
 
--- a phase of gets alone, of writes alone, or of both
-abbrev pub FitsWrites : Kind → Bool → Type 0
-FitsWrites Descends writes = Unit {0}
-FitsWrites Ends writes = Unit {0}
-FitsWrites Reads writes = writes ≡ false
-FitsWrites _ writes = writes ≡ true
+-- a phase of gets alone, of scans alone, of writes alone, or of all
+abbrev pub FitsAim : Kind → Aim → Type 0
+FitsAim Descends aim = Unit {0}
+FitsAim Ends aim = Unit {0}
+FitsAim Reads aim = aim ≡ aims.Read
+FitsAim Scans aim = aim ≡ aims.Scan
+FitsAim _ aim = aim ≡ aims.Write
 
-abbrev pub IsOfKind : Phase → Bool → Type 0
-IsOfKind p writes = FitsWrites (row p).kind writes
+abbrev pub IsOfKind : Phase → Aim → Type 0
+IsOfKind p aim = FitsAim (row p).kind aim
 
 -- all is made ready for its write
 abbrev pub is_ready : Change → Bool

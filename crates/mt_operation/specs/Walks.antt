@@ -1,15 +1,16 @@
 -- A walk before its first step.
-use Rattle.std.specs.Prelude.{ℕ, Bool, true, false, None}
+use Rattle.std.specs.Prelude.{ℕ, true, false, None}
 use Rattle.mt_version.specs.Parts.{fresh_parts}
 use Rattle.mt_operation.specs.declared.phase.Phase.TheVariants.{Enter}
 use Rattle.mt_operation.specs.declared.walk.Taken.TheVariants.{Missing}
+use Rattle.mt_operation.specs.declared.walk.Aim.{Aim}
 use Rattle.mt_operation.specs.declared.walk.Walk.{Walk}
 
 -- a walk that begins: at the top tree, with nothing seen
-abbrev pub walk_from_top : Bool → ℕ → Walk
-walk_from_top writes first = record {
+abbrev pub walk_from_top : Aim → ℕ → Walk
+walk_from_top aim first = record {
   phase = Enter;
-  writes = writes;
+  aim = aim;
   first = first;
   layer = 0;
   place = record { tree = 0; node = 0; seen = fresh_parts false true };

@@ -1,12 +1,14 @@
 //! One operation: its task, and what it remembers between its steps.
 
 ghost use Rattle.std.specs.Prelude.{◌≡◌, ◌==◌};
-ghost use Rattle.mt_operation.specs.Operations.{begun, IsUnsplit, moved, counted, is_unfinished};
+ghost use Rattle.mt_operation.specs.Operations.{begun, scan_of, no_scan, IsUnsplit, moved, counted, is_unfinished};
+ghost use Rattle.mt_operation.specs.Tasks.{ask};
 
 use crate::outcome::Outcome;
 use crate::phase::Phase;
 use crate::prepared::Prepared;
 use crate::removal::Removal;
+use crate::scan::Scan;
 use crate::splits::Splits;
 use crate::task::Task;
 use crate::walk::Walk;
@@ -24,23 +26,27 @@ pub struct Operation {
     pub prepared: Option<Prepared>,
     pub splits: Splits,
     pub removal: Removal,
+    pub scan: Scan,
 }
 
 impl Operation {
     /// An operation that has made no step: its walk begins at the top tree.
     pub fn new(alloc: Global, task: Task) -> Self
-        ensures is { result ≡ begun task result.splits }
+        ensures is { result ≡ begun task result.splits result.scan }
         ensures unsplit { IsUnsplit result.splits }
+        ensures unscanned { scan_of task result.scan ≡ no_scan task.key (ask task) }
     {
-        let writes = !task.request.is_get();
+        let aim = task.request.aim();
+        let after = task.request.begins_after();
         Operation {
             task,
-            walk: Walk::new(writes, 0),
+            walk: Walk::new(aim, 0),
             last: 0,
             outcome: None,
             prepared: None,
             splits: Splits::new(alloc),
             removal: Removal::new(),
+            scan: Scan::new(alloc, after),
         }
     }
 

@@ -74,12 +74,18 @@ pub enum Phase {
     CleanLayer,
     /// Gives all locks back.
     Unlock,
+    /// Reads the border node's pairs, from the reached fence on up to the first link.
+    Snap,
+    /// Compares the border node's version, and keeps the pairs that were read.
+    Check,
+    /// Goes on behind what was read: into a link's tree, at the next node, or from the top.
+    Hop,
     /// The operation has its answer.
     Done,
 }
 
 /// The phases that have a step, in the order of the table.
-pub const PHASES: [Phase; 32] = [
+pub const PHASES: [Phase; 35] = [
     Phase::Enter,
     Phase::Pick,
     Phase::Child,
@@ -112,6 +118,9 @@ pub const PHASES: [Phase; 32] = [
     Phase::Collapse,
     Phase::CleanLayer,
     Phase::Unlock,
+    Phase::Snap,
+    Phase::Check,
+    Phase::Hop,
 ];
 
 impl Phase {
@@ -152,6 +161,9 @@ impl Phase {
             Phase::Collapse => "collapse",
             Phase::CleanLayer => "cleanlayer",
             Phase::Unlock => "unlock",
+            Phase::Snap => "snap",
+            Phase::Check => "check",
+            Phase::Hop => "hop",
             Phase::Done => "done",
         }
     }

@@ -1,10 +1,11 @@
-//! What an operation was begun with. It never changes.
+//! What an operation was begun with. It never changes, but for the key of a scan, which is the fence that
+//! the scan has reached.
 
 ghost use Rattle.std.specs.Prelude.{◌≡◌};
-ghost use Rattle.mt_rows.specs.Maps.{is_get};
 ghost use Rattle.mt_rows.specs.Commands.{key_of};
-ghost use Rattle.mt_operation.specs.Tasks.{command_of};
+ghost use Rattle.mt_operation.specs.Tasks.{command_of, aim_of, begins_after};
 
+use crate::walk::Aim;
 use mt_rows::{Change, ColumnIndexes, Command, Key};
 use mt_slices::StoredKey;
 
@@ -12,14 +13,31 @@ use mt_slices::StoredKey;
 #[derive(Drop)]
 pub enum Request {
     /// The row of the key: all of it, or these columns.
-    Get { key: Key, columns: ColumnIndexes },
+    Get {
+        key: Key,
+        columns: ColumnIndexes,
+    },
     /// Writes columns of the key's row.
-    Put { key: Key, change: Change },
+    Put {
+        key: Key,
+        change: Change,
+    },
     /// Takes the key's row away.
-    Remove { key: Key },
+    Remove {
+        key: Key,
+    },
+    /// Up to `count` pairs in rising order from the key `from` on, or after it; of each row all of it, or
+    /// these columns.
+    Scan {
+        from: Key,
+        after: bool,
+        count: u8,
+        columns: ColumnIndexes,
+    },
 }
 
-/// The request of a worker for a tenant, and the request's key as it is stored.
+/// The request of a worker for a tenant, and the request's key as it is stored; that of a scan is the
+/// fence that it has reached.
 #[derive(Drop)]
 pub struct Task {
     pub worker: u8,
@@ -29,22 +47,34 @@ pub struct Task {
 }
 
 impl Request {
-    /// Whether it is a get.
-    pub fn is_get(&self) -> bool
-        ensures { result ≡ is_get (command_of self.now) }
+    /// What it comes to do at the border node of its key.
+    pub fn aim(&self) -> Aim
+        ensures { result ≡ aim_of (command_of self.now) }
     {
         match self {
-            Request::Get { .. } => true,
-            Request::Put { .. } | Request::Remove { .. } => false,
+            Request::Get { .. } => Aim::Read,
+            Request::Put { .. } | Request::Remove { .. } => Aim::Write,
+            Request::Scan { .. } => Aim::Scan,
         }
     }
 
-    /// The key that it is about.
+    /// Whether it is a scan that begins behind its key.
+    pub fn begins_after(&self) -> bool
+        ensures { result ≡ begins_after (command_of self.now) }
+    {
+        match self {
+            Request::Scan { after, .. } => *after,
+            Request::Get { .. } | Request::Put { .. } | Request::Remove { .. } => false,
+        }
+    }
+
+    /// The key that it is about, or from which a scan starts.
     pub fn key(&self) -> &Key
         ensures { result.now ≡ key_of (command_of self.now) }
     {
         match self {
             Request::Get { key, .. } | Request::Put { key, .. } | Request::Remove { key } => key,
+            Request::Scan { from, .. } => from,
         }
     }
 
@@ -59,6 +89,17 @@ impl Request {
                 change: change.into_list(),
             },
             Request::Remove { key } => Command::Remove { key },
+            Request::Scan {
+                from,
+                after,
+                count,
+                columns,
+            } => Command::Scan {
+                from,
+                after,
+                count,
+                columns,
+            },
         }
     }
 }

@@ -16,7 +16,7 @@ use mt_descent::laws::{kept_stays, walks_begin};
 use mt_descent::load;
 use mt_insert::{Judged, judge};
 use mt_layer::*;
-use mt_operation::{Phase, Prepared, Task, Walk};
+use mt_operation::{Aim, Phase, Prepared, Task, Walk};
 use mt_slices::StoredKey;
 use std::process::Abort;
 
@@ -33,7 +33,7 @@ fn from_the_top(arena: &Arena, key: &StoredKey) -> Walk
     arena.facts();
     walks_begin();
     let _bytes = key.as_bytes();
-    Walk::new(true, 0)
+    Walk::new(Aim::Write, 0)
 }
 
 // Walks down in the tree, and locks the border node.

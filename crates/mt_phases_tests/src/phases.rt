@@ -15,7 +15,7 @@ use mt_descent::laws::{kept_stays, walks_begin};
 use mt_descent::{child, confirm, enter, forward, load, lock, pick, search, verify};
 use mt_insert::laws::holds_once_locked;
 use mt_insert::*;
-use mt_operation::{Phase, Prepared, Request, Splits, Task, Walk};
+use mt_operation::{Aim, Phase, Prepared, Request, Splits, Task, Walk};
 use mt_rows::{Change, Column, Key, NamedColumns, Row, Tenants};
 use mt_slices::StoredKey;
 use mt_tape::Tape;
@@ -65,7 +65,11 @@ pub fn walk_down(rt: &impl Abort, arena: &Arena, key: &StoredKey, phase: Phase) 
     arena.facts();
     walks_begin();
     let _bytes = key.as_bytes();
-    let mut walk = Walk::new(phase == Phase::Lock, 0);
+    let aim = match phase {
+        Phase::Lock => Aim::Write,
+        _ => Aim::Read,
+    };
+    let mut walk = Walk::new(aim, 0);
     go_to(rt, arena, key, &mut walk, phase);
     assert!(rt; matches!(walk.phase, Phase::Search | Phase::Lock));
     walk
@@ -130,7 +134,7 @@ pub fn empty_store(rt: &impl Abort, alloc: Global) -> Store {
         arena: Arena::new(alloc).expect(rt, "memory"),
         tape: Tape::new(alloc, 0),
         tenants,
-        walk: Walk::new(true, 0),
+        walk: Walk::new(Aim::Write, 0),
         splits: Splits::new(alloc),
     }
 }

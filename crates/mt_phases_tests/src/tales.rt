@@ -9,7 +9,7 @@ use crate::phases::{Store, answer, begin, empty_store, get, place, put, put_of, 
 use mt_arena::Arena;
 use mt_descent::lock;
 use mt_operation::{
-    Halves, Made, Operation, Operations, Outcome, Phase, Request, Splits, Stepped, Task, Walk,
+    Aim, Halves, Made, Operation, Operations, Outcome, Phase, Request, Splits, Stepped, Task, Walk,
 };
 use mt_rows::{Command, Reply};
 use mt_slices::StoredKey;
@@ -100,7 +100,7 @@ fn table_of(rt: &impl Abort, alloc: Global) -> (Operations, usize)
 fn make_steps(table: &mut Operations, id: usize) -> u64
     requires { (o : ℕ) → MayMove table.old o 5 }
 {
-    let mut walk = Walk::new(true, 0);
+    let mut walk = Walk::new(Aim::Write, 0);
     walk.phase = Phase::Lock;
     table.go_on(id, 5, &walk);
     let floor = table.floor_needed(5);
@@ -178,7 +178,7 @@ fn is_answered(operation: &Operation) -> bool {
 
 // Whether step 9 follows step 5 and is no last one.
 fn goes_on(operation: &mut Operation) -> bool {
-    operation.go_on(9, &Walk::new(true, 0));
+    operation.go_on(9, &Walk::new(Aim::Write, 0));
     operation.is_unfinished() && (operation.first(), operation.last) == (5, 9)
 }
 
@@ -188,9 +188,10 @@ fn request_of(operation: Operation) -> Request {
     request
 }
 
-// Whether it is one of `k` and no get.
+// Whether it is one of `k` that comes to write, and no scan.
 fn is_named(request: &Request) -> bool {
-    !request.is_get() && request.key().as_bytes() == b"k".as_slice()
+    let writes = request.aim() == Aim::Write && !request.begins_after();
+    writes && request.key().as_bytes() == b"k".as_slice()
 }
 
 // Whether it is a put of `k` that was answered, and may go on.

@@ -1,5 +1,5 @@
 -- What an operation is bound for stays under its own steps: for the steps of one that holds nothing, or is to judge.
-use Rattle.std.proofs.Common.{◌≡◌, ℕ, ◌+◌, ◌<◌, true, false, List, length, Option, Some, None, refl, sym, ap, subst, ◌∙◌, arith}
+use Rattle.std.proofs.Common.{◌≢◌, ◌≡◌, ℕ, ◌+◌, ◌<◌, true, false, List, length, Option, Some, None, refl, sym, ap, subst, ◌∙◌, arith}
 use Rattle.mt_rows.specs.declared.command.Command.{Command}
 use Rattle.mt_rows.specs.declared.command.Command.TheVariants.{Get, Put, Remove, Scan}
 use Rattle.mt_rows.specs.Rows.{Bytes}
@@ -9,13 +9,14 @@ use Rattle.mt_arena.specs.declared.tree.Tree.{Tree}
 use Rattle.mt_arena.specs.Forests.{tree_at}
 use Rattle.mt_arena.specs.Arena.{ArenaView}
 use Rattle.mt_descent.specs.KeptWalks.{GoesThrough}
+use Rattle.mt_operation.specs.declared.walk.Aim.TheVariants as aims
 use Rattle.mt_operation.specs.declared.walk.Walk.{Walk}
 use Rattle.mt_operation.specs.declared.removal.Removal.{Removal}
 use Rattle.mt_operation.specs.declared.outcome.Outcome.{Outcome}
 use Rattle.mt_operation.specs.declared.prepared.Prepared.{Prepared}
 use Rattle.mt_operation.specs.declared.splits.Splits.{Splits}
 use Rattle.mt_operation.specs.declared.operation.Operation.{Operation}
-use Rattle.mt_operation.specs.Tasks.{ask}
+use Rattle.mt_operation.specs.Tasks.{ask, aim_of}
 use Rattle.mt_operation.specs.Operations.{view_of}
 use Rattle.mt_insert.specs.Puts.{is_put}
 use Rattle.mt_remove.specs.Writes.{is_remove}
@@ -33,11 +34,22 @@ get_no_remove (Put key change) e = absurd (cc)
 get_no_remove (Remove key) e = absurd (cc)
 get_no_remove (Scan from after count columns) e = absurd (cc)
 
+pub remove_writes : (command : Command) → is_remove command ≡ true → aim_of command ≡ aims.Write
+remove_writes (Get key columns) e = absurd (cc)
+remove_writes (Put key change) e = absurd (cc)
+remove_writes (Remove key) e = refl
+remove_writes (Scan from after count columns) e = absurd (cc)
+
 pub put_no_remove : (command : Command) → is_put command ≡ true → is_remove command ≡ false
 put_no_remove (Get key columns) e = absurd (cc)
 put_no_remove (Put key change) e = refl
 put_no_remove (Remove key) e = absurd (cc)
 put_no_remove (Scan from after count columns) e = absurd (cc)
+
+-- what doesn't write is told nothing before it looks
+pub look_untold : (told : Option Outcome) (c : Core) (op : Operation) → aim_of (ask op.task) ≢ aims.Write → IsBound told c op → told ≡ None
+look_untold None c op looks bound = refl
+look_untold (Some outcome) c op looks bound = absurd (looks (remove_writes (ask op.task) bound.removes))
 
 -- a get is told nothing before it looks
 pub get_untold : (told : Option Outcome) (c : Core) (op : Operation) → is_get (ask op.task) ≡ true → IsBound told c op → told ≡ None

@@ -12,13 +12,17 @@ use Rattle.mt_border.specs.Contents.{owned}
 use Rattle.mt_tape.specs.Histories.{contents_at}
 use Rattle.mt_arena.specs.Arena.{ArenaView, content_of}
 use Rattle.mt_arena.specs.Accesses.{at}
+use Rattle.mt_operation.specs.declared.walk.Aim.{Aim}
+use Rattle.mt_operation.specs.declared.walk.Aim.TheVariants as aims
 use Rattle.mt_operation.specs.declared.phase.Phase.{Phase}
-use Rattle.mt_operation.specs.declared.phase.Phase.TheVariants.{Enter, Pick, Child, Verify, Search, Confirm, Forward, Lock, Done}
+use Rattle.mt_operation.specs.declared.phase.Phase.TheVariants.{Enter, Pick, Child, Verify, Search, Confirm, Forward, Lock, Done, Snap}
 use Rattle.mt_operation.specs.declared.walk.Taken.{Taken}
 use Rattle.mt_operation.specs.declared.walk.Taken.TheVariants.{Missing, Row, Link, Nothing}
 use Rattle.mt_operation.specs.declared.walk.Walk.{Walk}
 use Rattle.mt_operation.specs.declared.operation.Operation.{Operation}
-use Rattle.mt_operation.specs.Tasks.{ask}
+use Rattle.mt_rows.specs.declared.command.Command.{Command}
+use Rattle.mt_rows.specs.declared.command.Command.TheVariants.{Get, Put, Remove, Scan}
+use Rattle.mt_operation.specs.Tasks.{ask, aim_of}
 use Rattle.mt_operation.specs.Operations.{view_of}
 use Rattle.mt_operation.specs.Phases.{is_done, MayFollow, IsOfKind}
 use Rattle.mt_operation.specs.Tables.{op_at as operation_at}
@@ -50,6 +54,7 @@ row_aside Verify on v past key row w k = k
 row_aside Search on v past key row w k = k
 row_aside Forward on v past key row w k = k
 row_aside Lock on v past key row w k = k
+row_aside Snap on v past key row w k = k
 row_aside _ on v past key row w k = absurd on
 
 -- nor of the past
@@ -62,12 +67,15 @@ past_aside Verify on v past other key row w k = k
 past_aside Search on v past other key row w k = k
 past_aside Forward on v past other key row w k = k
 past_aside Lock on v past other key row w k = k
+past_aside Snap on v past other key row w k = k
 past_aside _ on v past other key row w k = absurd on
 
--- a get is one that does not write
-pub get_of : (b writes : Bool) → writes ≡ not b → writes ≡ false → b ≡ true
-get_of true writes e f = refl
-get_of false writes e f = absurd (let no = sym e ∙ f in cc)
+-- what comes to look for its key is a get
+pub get_of : (command : Command) (aim : Aim) → aim ≡ aim_of command → aim ≡ aims.Read → is_get command ≡ true
+get_of (Get key columns) aim e f = refl
+get_of (Put key change) aim e f = absurd (let no = sym e ∙ f in cc)
+get_of (Remove key) aim e f = absurd (let no = sym e ∙ f in cc)
+get_of (Scan from after count columns) aim e f = absurd (let no = sym e ∙ f in cc)
 
 module _ (c : Core) (now : StateView) (o : ℕ) (is : shown c ≡ now) (h : StateInvariant c) (room : now.steps < 2 ^ 59) (op : Operation) (there : operation_at c.table o ≡ Some op) (at_confirm : op.walk.phase ≡ Confirm) where
   confirming : IsAtConfirm c op
@@ -82,11 +90,11 @@ module _ (c : Core) (now : StateView) (o : ℕ) (is : shown c ≡ now) (h : Stat
   begun : 0 < op.walk.first
   begun = always.begun (λ enters. absurd (let no : Confirm ≡ Enter = sym at_confirm ∙ enters in cc))
 
-  looks_on : op.walk.writes ≡ false
-  looks_on = subst (λ (p : Phase). IsOfKind p op.walk.writes) at_confirm always.kind
+  looks_on : op.walk.aim ≡ aims.Read
+  looks_on = subst (λ (p : Phase). IsOfKind p op.walk.aim) at_confirm always.kind
 
   gets : is_get (ask op.task) ≡ true
-  gets = get_of (is_get (ask op.task)) op.walk.writes always.writes looks_on
+  gets = get_of (ask op.task) op.walk.aim always.aim looks_on
 
   -- what it took tells of no change
   no_change : (taken : Taken) → TellsTaken op confirming.row taken → told_change op.outcome ≡ None
@@ -107,16 +115,16 @@ module _ (c : Core) (now : StateView) (o : ℕ) (is : shown c ≡ now) (h : Stat
         kept (past_of c) confirming.row (subst (λ (p : Phase). KeptAt p c.arena (past_of c) op.task.key confirming.row op.walk) at_confirm confirming.kept)
 
     -- the walk ends as it is, or goes on its way
-    after_taken : (taken : Taken) → w ≡ after_confirm taken op.walk → (w ≡ record op.walk { phase = Done }) ⊎ Leads Confirm w.phase w.writes
+    after_taken : (taken : Taken) → w ≡ after_confirm taken op.walk → (w ≡ record op.walk { phase = Done }) ⊎ Leads Confirm w.phase w.aim
     after_taken Missing e = inl e
     after_taken Row e = inl e
-    after_taken (Link u) e = inr (subst (λ (x : Walk). Leads Confirm x.phase x.writes) (sym e) (tt, tt, tt))
+    after_taken (Link u) e = inr (subst (λ (x : Walk). Leads Confirm x.phase x.aim) (sym e) (tt, tt, tt))
     after_taken Nothing e = inl e
 
-    ends_or_leads : (w ≡ record op.walk { phase = Done }) ⊎ Leads Confirm w.phase w.writes
+    ends_or_leads : (w ≡ record op.walk { phase = Done }) ⊎ Leads Confirm w.phase w.aim
     ends_or_leads = elim (same_or_not (at c.arena op.walk.place.node).version op.walk.place.seen) [
       | inl stands ↦ after_taken op.walk.taken (confirms.same stands)
-      | inr changed ↦ inr (subst (λ (x : Walk). Leads Confirm x.phase x.writes) (sym (confirms.changed changed))
+      | inr changed ↦ inr (subst (λ (x : Walk). Leads Confirm x.phase x.aim) (sym (confirms.changed changed))
           (changed_leads Confirm tt tt op.walk (at c.arena op.walk.place.node).version (at c.arena op.walk.place.node).next))
     ]
 
@@ -153,7 +161,7 @@ module _ (c : Core) (now : StateView) (o : ℕ) (is : shown c ≡ now) (h : Stat
         let own = by op.walk.taken right confirming.tells in
         still_gives c now o is h room op there confirm_free w op.outcome
         (subst (λ (p : Phase). MayFollow p w.phase) (sym at_confirm) (subst (MayFollow Confirm) (sym done) tt))
-        (subst IsUnready (sym done) tt) same.writes (subst (λ (p : Phase). IsOfKind p w.writes) (sym done) tt)
+        (subst IsUnready (sym done) tt) same.aim (subst (λ (p : Phase). IsOfKind p w.aim) (sym done) tt)
         refl
         (subst (λ (p : Phase). Notes (shown c) (view_of op) p w.phase op.outcome) (sym at_confirm) (subst (λ (p : Phase). Notes (shown c) (view_of op) Confirm p op.outcome) (sym done) refl))
         (subst (λ (p : Phase). IsKeptAt p new o after) (sym done) own) true (sym (ap is_done done))
@@ -193,7 +201,7 @@ module _ (c : Core) (now : StateView) (o : ℕ) (is : shown c ≡ now) (h : Stat
       | inr leads ↦ back leads
     ]
       where
-        back : Leads Confirm w.phase w.writes → Gives now (still c now o is h room op there confirm_free w None) o false
+        back : Leads Confirm w.phase w.aim → Gives now (still c now o is h room op there confirm_free w None) o false
         back leads =
             let new = still c now o is h room op there confirm_free w None in
             let after = went op (c.steps + 1) w None op.prepared in
@@ -205,7 +213,7 @@ module _ (c : Core) (now : StateView) (o : ℕ) (is : shown c ≡ now) (h : Stat
             } in
             still_gives c now o is h room op there confirm_free w None
             (subst (λ (p : Phase). MayFollow p w.phase) (sym at_confirm) leads.1)
-            (on_way_unready w.phase leads.0) same.writes leads.2
+            (on_way_unready w.phase leads.0) same.aim leads.2
             (sym (no_change op.walk.taken confirming.tells))
             (notes w.phase leads.1 leads.0)
             (kept_on_way w.phase leads.0 new o after on) false (sym (on_way_open w.phase leads.0))

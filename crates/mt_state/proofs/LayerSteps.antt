@@ -13,6 +13,8 @@ use Rattle.mt_arena.specs.NodeView.{NodeView}
 use Rattle.mt_arena.specs.Edits.{unlocked}
 use Rattle.mt_arena.specs.Arena.{ArenaView, content_of, Guarantee}
 use Rattle.mt_arena.specs.Accesses.{at, tree_of, IsHeld, with_node}
+use Rattle.mt_operation.specs.declared.walk.Aim.{Aim}
+use Rattle.mt_operation.specs.declared.walk.Aim.TheVariants as aims
 use Rattle.mt_operation.specs.declared.phase.Phase.{Phase}
 use Rattle.mt_operation.specs.declared.phase.Phase.TheVariants.{Enter, Judge, MakeLayer, MarkUnstable, Link, MarkLayer, Unlock, Done}
 use Rattle.mt_operation.specs.declared.walk.Walk.{Walk}
@@ -20,7 +22,7 @@ use Rattle.mt_operation.specs.declared.outcome.Outcome.{Outcome}
 use Rattle.mt_operation.specs.declared.splits.Halves.{Halves}
 use Rattle.mt_operation.specs.declared.operation.Operation.{Operation}
 use Rattle.mt_operation.specs.Operations.{OperationView, view_of, IsUnsplit}
-use Rattle.mt_operation.specs.Phases.{is_done, MayFollow, IsOfKind, has_splits, IsLayerPhase, FitsWrites, IsLayerKind, Kind, change_at, holds_of, may_be_parts, row, is_unplaced}
+use Rattle.mt_operation.specs.Phases.{is_done, MayFollow, IsOfKind, has_splits, IsLayerPhase, FitsAim, IsLayerKind, Kind, change_at, holds_of, may_be_parts, row, is_unplaced}
 use Rattle.mt_operation.specs.Tasks.{ask}
 use Rattle.mt_remove.specs.Writes.{is_remove}
 use Rattle.mt_operation.specs.Tables.{op_at as operation_at}
@@ -75,10 +77,10 @@ layer_begun : (p : Phase) → IsLayerPhase p → p ≢ Enter
 layer_begun Enter i e = i
 layer_begun _ i e = absurd (cc)
 
-layer_writes : (p : Phase) → IsLayerPhase p → (writes : Bool) → IsOfKind p writes → writes ≡ true
-layer_writes p i writes kind = by (row p).kind i kind
+layer_writes : (p : Phase) → IsLayerPhase p → (aim : Aim) → IsOfKind p aim → aim ≡ aims.Write
+layer_writes p i aim kind = by (row p).kind i kind
   where
-    by : (k : Kind) → IsLayerKind k → FitsWrites k writes → writes ≡ true
+    by : (k : Kind) → IsLayerKind k → FitsAim k aim → aim ≡ aims.Write
     by kinds.Layers i kind = kind
     by _ i kind = absurd i
 
@@ -123,10 +125,10 @@ kept_layering p i c o op layering = by (row p).kind i
     by _ i = absurd i
 
 -- so does one that has made it
-made_kind : (p : Phase) → HasLayer p → (writes : Bool) → writes ≡ true → IsOfKind p writes
-made_kind p i writes is = by (row p).kind i
+made_kind : (p : Phase) → HasLayer p → (aim : Aim) → aim ≡ aims.Write → IsOfKind p aim
+made_kind p i aim is = by (row p).kind i
   where
-    by : (k : Kind) → HasLayerBy k → FitsWrites k writes
+    by : (k : Kind) → HasLayerBy k → FitsAim k aim
     by kinds.Layers i = is
     by kinds.Returns i = is
     by _ i = absurd i
@@ -182,8 +184,8 @@ module _ (c : Core) (o : ℕ) (h : StateInvariant c) (few : c.steps < 2 ^ 59) (o
   begun_at : (p : Phase) → op.walk.phase ≡ p → p ≢ Enter → 0 < op.walk.first
   begun_at p at_p other = always.begun (λ enters. other (sym at_p ∙ enters))
 
-  kind_at : (p : Phase) → op.walk.phase ≡ p → IsOfKind p op.walk.writes
-  kind_at p at_p = subst (λ (p : Phase). IsOfKind p op.walk.writes) at_p always.kind
+  kind_at : (p : Phase) → op.walk.phase ≡ p → IsOfKind p op.walk.aim
+  kind_at p at_p = subst (λ (p : Phase). IsOfKind p op.walk.aim) at_p always.kind
 
   -- the lock of the one node that it holds is given back
   module _ (arena : ArenaView) (w : Walk) (told : Option Outcome) (is : arena ≡ with_node c.arena op.walk.place.node (unlocked (at c.arena op.walk.place.node))) (keeps : KeepsPairs o c.arena arena op.walk w)
@@ -212,14 +214,14 @@ module _ (c : Core) (o : ℕ) (h : StateInvariant c) (few : c.steps < 2 ^ 59) (o
     ]
 
     pub back_gives : (p q : Phase) → op.walk.phase ≡ p → w.phase ≡ q → is_done p ≡ false → IsUnready p → IsUnready q → MayFollow p q
-        → w.writes ≡ op.walk.writes → IsOfKind q w.writes
+        → w.aim ≡ op.walk.aim → IsOfKind q w.aim
         → told_change told ≡ told_change op.outcome → Notes (shown c) (view_of op) p q told → IsKeptAt q new o after → IsUnsplit op.splits
         → Gives (shown c) new o (is_done q)
     back_gives p q at_p at_q unfinished was_unready unready follows writes kind same notes kept unsplit =
         quiet_gives c (shown c) o refl h few op there arena c.tape.reserved w told op.prepared
         back_leaves (ap is_done at_p ∙ unfinished)
         (subst (λ (p : Phase). MayFollow p w.phase) (sym at_p) (subst (MayFollow p) (sym at_q) follows))
-        writes (subst (λ (q : Phase). IsOfKind q w.writes) (sym at_q) kind) same
+        writes (subst (λ (q : Phase). IsOfKind q w.aim) (sym at_q) kind) same
         (subst (λ (p : Phase). Notes (shown c) (view_of op) p w.phase told) (sym at_p) (subst (λ (q : Phase). Notes (shown c) (view_of op) p q told) (sym at_q) notes))
         (λ j inside holds. absurd (free j (subst (λ (v : ArenaView). j < length v.nodes) is inside) (subst (λ (v : ArenaView). (at v j).holder ≡ Some o) is holds)))
         (subst (λ (q : Phase). IsKeptAt q new o after) (sym at_q) kept)
@@ -253,7 +255,7 @@ module _ (c : Core) (o : ℕ) (h : StateInvariant c) (few : c.steps < 2 ^ 59) (o
         let after = went op (c.steps + 1) w op.outcome op.prepared in
         let new = quiet c c.arena c.tape.reserved o after in
         let makes : w.phase ≡ MakeLayer = ap (λ (x : Walk). x.phase) t.walk in
-        let writes : w.writes ≡ op.walk.writes = ap (λ (x : Walk). x.writes) t.walk in
+        let writes : w.aim ≡ op.walk.aim = ap (λ (x : Walk). x.aim) t.walk in
         let place : w.place.node ≡ op.walk.place.node = ap (λ (x : Walk). x.place.node) t.walk in
         let whole = walk_same c op always w (begun_at Judge at_judge (λ enters. absurd (cc))) (ap (λ (x : Walk). x.first) t.walk) in
         let own : IsLayering new o after MakeLayer = record {
@@ -267,7 +269,7 @@ module _ (c : Core) (o : ℕ) (h : StateInvariant c) (few : c.steps < 2 ^ 59) (o
         (quiet_gives c (shown c) o refl h few op there c.arena c.tape.reserved w op.outcome op.prepared
         (leaves_all c o h) (ap is_done at_judge)
         (subst (λ (p : Phase). MayFollow p w.phase) (sym at_judge) (subst (MayFollow Judge) (sym makes) tt))
-        writes (subst (λ (q : Phase). IsOfKind q w.writes) (sym makes) (writes ∙ kind_at Judge at_judge)) refl
+        writes (subst (λ (q : Phase). IsOfKind q w.aim) (sym makes) (writes ∙ kind_at Judge at_judge)) refl
         (subst (λ (p : Phase). Notes (shown c) (view_of op) p w.phase op.outcome) (sym at_judge) (subst (λ (q : Phase). Notes (shown c) (view_of op) Judge q op.outcome) (sym makes) (untold, untold)))
         (λ j inside holds. subst (λ (q : Phase). HoldsAt q after j) (sym makes) (holds_here c (shown c) o refl h few op there Judge at_judge j inside holds ∙ sym place))
         (subst (λ (q : Phase). IsKeptAt q new o after) (sym makes) own)
@@ -282,7 +284,7 @@ module _ (c : Core) (o : ℕ) (h : StateInvariant c) (few : c.steps < 2 ^ 59) (o
     below_done arena w t =
         let enters : w.phase ≡ Enter = ap (λ (x : Walk). x.phase) t.goes.walk in
         back_gives arena w op.outcome t.goes.is t.goes.keeps judging.judges.judged.held (holds_here c (shown c) o refl h few op there Judge at_judge)
-        Judge Enter at_judge enters refl tt tt tt t.goes.keeps.same.writes tt refl refl
+        Judge Enter at_judge enters refl tt tt tt t.goes.keeps.same.aim tt refl refl
         (below_kept arena w enters t.kept judging.unprepared
         (bound_on c (quiet c arena c.tape.reserved o (went op (c.steps + 1) w op.outcome op.prepared)) op always (quiet_grows c o arena c.tape.reserved (went op (c.steps + 1) w op.outcome op.prepared) t.goes.keeps.contents) w judging.unprepared (ap (λ (v : ArenaView). v.trees) t.goes.is) op.outcome judging.bound)) (unsplit_at Judge at_judge refl)
 
@@ -301,7 +303,7 @@ module _ (c : Core) (o : ℕ) (h : StateInvariant c) (few : c.steps < 2 ^ 59) (o
         λ j inside holds. border_alone op.walk op.removal j leaving.layering.light
         (subst (λ (halves : List Halves). HoldsLast halves op j) leaving.unsplit.halves (holds_here c (shown c) o refl h few op there Unlock at_unlock j inside holds)) in
         back_gives arena w op.outcome g.is g.keeps leaving.layering.makes.unlock.held only
-        Unlock Enter at_unlock enters refl tt tt tt g.keeps.same.writes tt refl refl
+        Unlock Enter at_unlock enters refl tt tt tt g.keeps.same.aim tt refl refl
         (below_kept arena w enters (t.kept op.task.key k) leaving.layering.unprepared
         (subst (λ (told : Option Outcome). IsBound told (quiet c arena c.tape.reserved o (went op (c.steps + 1) w op.outcome op.prepared)) (went op (c.steps + 1) w op.outcome op.prepared)) (sym untold) leaving.layering.light)) leaving.unsplit
 
@@ -327,7 +329,7 @@ module _ (c : Core) (o : ℕ) (h : StateInvariant c) (few : c.steps < 2 ^ 59) (o
           unprepared = making.unprepared;
         } in
         back_gives arena w told t.is t.keeps making.makes.holds.judged.held (holds_here c (shown c) o refl h few op there MakeLayer at_make)
-        MakeLayer Done at_make (ap (λ (x : Walk). x.phase) t.walk) refl tt tt tt t.keeps.same.writes tt (sym (ap told_change making.untold)) refl own (unsplit_at MakeLayer at_make refl)
+        MakeLayer Done at_make (ap (λ (x : Walk). x.phase) t.walk) refl tt tt tt t.keeps.same.aim tt (sym (ap told_change making.untold)) refl own (unsplit_at MakeLayer at_make refl)
 
   -- a layer comes one step nearer
   module _ (arena : ArenaView) (w : Walk) (layer : IsLayerPhase op.walk.phase) (from : IsLayerFrom op.walk.phase o op.task.key c.arena arena op.walk w) where
@@ -385,8 +387,8 @@ module _ (c : Core) (o : ℕ) (h : StateInvariant c) (few : c.steps < 2 ^ 59) (o
     build_kept =
         let whole = walk_same c op always w (begun_at op.walk.phase refl (layer_begun op.walk.phase layer)) t.same.first in
         record {
-          always = open_moved c op always w building op.outcome op.prepared refl refl (λ t some. some) (floor_made c h.tape) t.same.writes
-              (made_kind w.phase leads w.writes (t.same.writes ∙ layer_writes op.walk.phase layer op.walk.writes always.kind));
+          always = open_moved c op always w building op.outcome op.prepared refl refl (λ t some. some) (floor_made c h.tape) t.same.aim
+              (made_kind w.phase leads w.aim (t.same.aim ∙ layer_writes op.walk.phase layer op.walk.aim always.kind));
           kept = made_kept w.phase leads building o built unsplit (record {
             stays = layering.stays;
             makes = subst (KeptLayer w.phase arena o op.task.key) (sym whole) t.kept;

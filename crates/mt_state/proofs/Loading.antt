@@ -36,6 +36,7 @@ use Rattle.mt_arena.specs.Accesses.{at, tree_of}
 use Rattle.mt_arena.specs.Ways.{StandsFor}
 use Rattle.mt_arena.proofs.Homes as homes
 use Rattle.mt_arena.proofs.Owners.{found}
+use Rattle.mt_operation.specs.declared.walk.Aim.TheVariants as aims
 use Rattle.mt_operation.specs.declared.task.Task.{Task}
 use Rattle.mt_operation.specs.declared.phase.Phase.{Phase}
 use Rattle.mt_operation.specs.declared.phase.Phase.TheVariants.{Enter, Load, Confirm, Done}
@@ -117,11 +118,11 @@ module _ (c : Core) (now : StateView) (o : ℕ) (is : shown c ≡ now) (h : Stat
   begun : 0 < op.walk.first
   begun = always.begun (λ enters. absurd (let no : Load ≡ Enter = sym at_load ∙ enters in cc))
 
-  looks_on : op.walk.writes ≡ false
-  looks_on = subst (λ (p : Phase). IsOfKind p op.walk.writes) at_load always.kind
+  looks_on : op.walk.aim ≡ aims.Read
+  looks_on = subst (λ (p : Phase). IsOfKind p op.walk.aim) at_load always.kind
 
   gets : is_get (ask op.task) ≡ true
-  gets = get_of (is_get (ask op.task)) op.walk.writes always.writes looks_on
+  gets = get_of (ask op.task) op.walk.aim always.aim looks_on
 
   load_untold : op.outcome ≡ None
   load_untold = get_untold op.outcome c op gets loading.way.bound
@@ -147,7 +148,7 @@ module _ (c : Core) (now : StateView) (o : ℕ) (is : shown c ≡ now) (h : Stat
       } in
       still_gives c now o is h room op there load_free w told
       (subst (λ (p : Phase). MayFollow p w.phase) (sym at_load) (subst (MayFollow Load) (sym done) tt))
-      (subst IsUnready (sym done) tt) same.writes (subst (λ (p : Phase). IsOfKind p w.writes) (sym done) tt)
+      (subst IsUnready (sym done) tt) same.aim (subst (λ (p : Phase). IsOfKind p w.aim) (sym done) tt)
       (sym (ap told_change load_untold))
       (subst (λ (p : Phase). Notes (shown c) (view_of op) p w.phase told) (sym at_load) (subst (λ (p : Phase). Notes (shown c) (view_of op) Load p told) (sym done) refl))
       (subst (λ (p : Phase). IsKeptAt p new o after) (sym done) own) true (sym (ap is_done done))
@@ -298,7 +299,7 @@ module _ (c : Core) (now : StateView) (o : ℕ) (is : shown c ≡ now) (h : Stat
         } in
         still_gives c now o is h room op there load_free w told
         (subst (λ (p : Phase). MayFollow p w.phase) (sym at_load) (subst (MayFollow Load) (sym confirms) tt))
-        (subst IsUnready (sym confirms) tt) same.writes (subst (λ (p : Phase). IsOfKind p w.writes) (sym confirms) (same.writes ∙ looks_on))
+        (subst IsUnready (sym confirms) tt) same.aim (subst (λ (p : Phase). IsOfKind p w.aim) (sym confirms) (same.aim ∙ looks_on))
         (no_change w.taken loads.takes ∙ sym (ap told_change load_untold))
         (subst (λ (p : Phase). Notes (shown c) (view_of op) p w.phase told) (sym at_load) (subst (λ (p : Phase). Notes (shown c) (view_of op) Load p told) (sym confirms) (noted w.taken loads.takes)))
         (subst (λ (p : Phase). IsKeptAt p new o after) (sym confirms) own) false (sym (ap is_done confirms))

@@ -16,6 +16,7 @@ use Rattle.mt_arena.specs.NodeView.{NodeView}
 use Rattle.mt_arena.specs.Edits.{locked, unlocked}
 use Rattle.mt_arena.specs.Arena.{ArenaView, content_of, Guarantee}
 use Rattle.mt_arena.specs.Accesses.{at, with_node}
+use Rattle.mt_operation.specs.declared.walk.Aim.TheVariants as aims
 use Rattle.mt_operation.specs.declared.phase.Phase.{Phase}
 use Rattle.mt_operation.specs.declared.phase.Phase.TheVariants.{Enter, Lock, Judge, Store, Publish, SplitStart, Unlock, Done}
 use Rattle.mt_operation.specs.declared.walk.Walk.{Walk}
@@ -120,8 +121,8 @@ module _ (c : Core) (now : StateView) (o : ℕ) (is : shown c ≡ now) (h : Stat
     begun_lock : 0 < op.walk.first
     begun_lock = always.begun (λ enters. absurd (let no : Lock ≡ Enter = sym at_lock ∙ enters in cc))
 
-    locks_on : op.walk.writes ≡ true
-    locks_on = subst (λ (p : Phase). IsOfKind p op.walk.writes) at_lock always.kind
+    locks_on : op.walk.aim ≡ aims.Write
+    locks_on = subst (λ (p : Phase). IsOfKind p op.walk.aim) at_lock always.kind
 
     module _ (arena : ArenaView) (w : Walk) (t : IsLock o op.task.key c.arena arena op.walk w) where
       abbrev locked_core : ArenaView → Core
@@ -130,7 +131,7 @@ module _ (c : Core) (now : StateView) (o : ℕ) (is : shown c ≡ now) (h : Stat
       -- the node was deleted or split: the operation is on its way, and the arena as it was
       lock_left : arena ≡ c.arena → w ≡ after_change op.walk n.version n.next → Gives now (locked_core arena) o false
       lock_left stays goes =
-          let leads : Leads Lock w.phase w.writes = subst (λ (x : Walk). Leads Lock x.phase x.writes) (sym goes) (changed_leads Lock tt tt op.walk n.version n.next) in
+          let leads : Leads Lock w.phase w.aim = subst (λ (x : Walk). Leads Lock x.phase x.aim) (sym goes) (changed_leads Lock tt tt op.walk n.version n.next) in
           let new = still c now o is h room op there lock_free w op.outcome in
           let after = went op (c.steps + 1) w op.outcome op.prepared in
           let on : IsOnItsWay new after = record {
@@ -141,9 +142,9 @@ module _ (c : Core) (now : StateView) (o : ℕ) (is : shown c ≡ now) (h : Stat
           } in
           subst (λ (v : ArenaView). Gives now (locked_core v) o false) (sym stays)
           (still_gives c now o is h room op there lock_free w op.outcome
-          (subst (λ (p : Phase). MayFollow p w.phase) (sym at_lock) leads.1) (on_way_unready w.phase leads.0) t.keeps.same.writes leads.2 refl
+          (subst (λ (p : Phase). MayFollow p w.phase) (sym at_lock) leads.1) (on_way_unready w.phase leads.0) t.keeps.same.aim leads.2 refl
           (subst (λ (p : Phase). Notes (shown c) (view_of op) p w.phase op.outcome) (sym at_lock)
-          (keeps_on w.phase leads.0 w.writes leads.2 op.outcome (λ reads. absurd (both_ways _ reads (t.keeps.same.writes ∙ locks_on)))))
+          (keeps_on w.phase leads.0 w.aim leads.2 op.outcome (λ reads. absurd (reads (t.keeps.same.aim ∙ locks_on)))))
           (kept_on_way w.phase leads.0 new o after on) false (sym (on_way_open w.phase leads.0)))
 
       -- the operation holds its node
@@ -166,7 +167,7 @@ module _ (c : Core) (now : StateView) (o : ℕ) (is : shown c ≡ now) (h : Stat
           quiet_gives c now o is h room op there arena c.tape.reserved w op.outcome op.prepared
           (subst (LeavesPairs c o) (sym takes) leaves) (ap is_done at_lock)
           (subst (λ (p : Phase). MayFollow p w.phase) (sym at_lock) (subst (MayFollow Lock) (sym judges) tt))
-          t.keeps.same.writes (subst (λ (p : Phase). IsOfKind p w.writes) (sym judges) (t.keeps.same.writes ∙ locks_on)) refl
+          t.keeps.same.aim (subst (λ (p : Phase). IsOfKind p w.aim) (sym judges) (t.keeps.same.aim ∙ locks_on)) refl
           (subst (λ (p : Phase). Notes (shown c) (view_of op) p w.phase op.outcome) (sym at_lock) (subst (λ (p : Phase). Notes (shown c) (view_of op) Lock p op.outcome) (sym judges) refl))
           (λ j inside holds. subst (λ (p : Phase). HoldsAt p after j) (sym judges) (locked_here within j (subst (λ (v : ArenaView). j < length v.nodes) takes inside) (subst (λ (v : ArenaView). (at v j).holder ≡ Some o) takes holds) ∙ sym place))
           (subst (λ (p : Phase). IsKeptAt p (locked_core arena) o after) (sym judges) own)
@@ -232,7 +233,7 @@ module _ (c : Core) (now : StateView) (o : ℕ) (is : shown c ≡ now) (h : Stat
         (subst (LeavesPairs c o) (sym t.is) (back_leaves within (subst (Guarantee o c.arena) t.is t.keeps.guarantee) (subst (λ (v : ArenaView). content_of v ≡ content_of c.arena) t.is t.keeps.contents)))
         (ap is_done at_unlock)
         (subst (λ (p : Phase). MayFollow p w.phase) (sym at_unlock) (subst (MayFollow Unlock) (sym ends) tt))
-        t.keeps.same.writes (subst (λ (p : Phase). IsOfKind p w.writes) (sym ends) tt) refl
+        t.keeps.same.aim (subst (λ (p : Phase). IsOfKind p w.aim) (sym ends) tt) refl
         (subst (λ (p : Phase). Notes (shown c) (view_of op) p w.phase op.outcome) (sym at_unlock) (subst (λ (p : Phase). Notes (shown c) (view_of op) Unlock p op.outcome) (sym ends) refl))
         (λ j inside holds. absurd (back_free within holds_only j (subst (λ (v : ArenaView). j < length v.nodes) t.is inside) (subst (λ (v : ArenaView). (at v j).holder ≡ Some o) t.is holds)))
         (subst (λ (p : Phase). IsKeptAt p new o after) (sym ends) own)
@@ -248,8 +249,8 @@ module _ (c : Core) (now : StateView) (o : ℕ) (is : shown c ≡ now) (h : Stat
     begun_judge : 0 < op.walk.first
     begun_judge = always.begun (λ enters. absurd (let no : Judge ≡ Enter = sym at_judge ∙ enters in cc))
 
-    judges_on : op.walk.writes ≡ true
-    judges_on = subst (λ (p : Phase). IsOfKind p op.walk.writes) at_judge always.kind
+    judges_on : op.walk.aim ≡ aims.Write
+    judges_on = subst (λ (p : Phase). IsOfKind p op.walk.aim) at_judge always.kind
 
     -- where it goes on with all ready
     abbrev IsToPlace : Phase → Type 0
@@ -279,7 +280,7 @@ module _ (c : Core) (now : StateView) (o : ℕ) (is : shown c ≡ now) (h : Stat
         (quiet_gives c now o is h room op there c.arena (c.tape.reserved + 1) w op.outcome (Some prepared)
         (leaves_all c o h) (ap is_done at_judge)
         (subst (λ (p : Phase). MayFollow p w.phase) (sym at_judge) (follows w.phase to))
-        t.keeps.same.writes (kind w.phase to) refl
+        t.keeps.same.aim (kind w.phase to) refl
         (subst (λ (p : Phase). Notes (shown c) (view_of op) p w.phase op.outcome) (sym at_judge) (notes w.phase to))
         (λ j inside holds. holds_on w.phase to j (holds_here c now o is h room op there Judge at_judge j inside holds ∙ sym place))
         (own w.phase to (subst (λ (x : Walk). KeptReady w.phase c.arena o op.task prepared x) (sym whole) t.kept))
@@ -309,10 +310,10 @@ module _ (c : Core) (now : StateView) (o : ℕ) (is : shown c ≡ now) (h : Stat
         follows SplitStart t = tt
         follows _ t = absurd t
 
-        kind : (p : Phase) → IsToPlace p → IsOfKind p w.writes
-        kind Store i = t.keeps.same.writes ∙ judges_on
-        kind Publish i = t.keeps.same.writes ∙ judges_on
-        kind SplitStart i = t.keeps.same.writes ∙ judges_on
+        kind : (p : Phase) → IsToPlace p → IsOfKind p w.aim
+        kind Store i = t.keeps.same.aim ∙ judges_on
+        kind Publish i = t.keeps.same.aim ∙ judges_on
+        kind SplitStart i = t.keeps.same.aim ∙ judges_on
         kind _ t = absurd t
 
         notes : (p : Phase) → IsToPlace p → Notes (shown c) (view_of op) Judge p op.outcome
@@ -370,7 +371,7 @@ module _ (c : Core) (now : StateView) (o : ℕ) (is : shown c ≡ now) (h : Stat
         (subst (LeavesPairs c o) (sym t.is) (back_leaves within (subst (Guarantee o c.arena) t.is t.keeps.guarantee) (subst (λ (v : ArenaView). content_of v ≡ content_of c.arena) t.is t.keeps.contents)))
         (ap is_done at_judge)
         (subst (λ (p : Phase). MayFollow p w.phase) (sym at_judge) (subst (MayFollow Judge) (sym ends) tt))
-        t.keeps.same.writes (subst (λ (p : Phase). IsOfKind p w.writes) (sym ends) tt) (sym (ap told_change untold))
+        t.keeps.same.aim (subst (λ (p : Phase). IsOfKind p w.aim) (sym ends) tt) (sym (ap told_change untold))
         (subst (λ (p : Phase). Notes (shown c) (view_of op) p w.phase told) (sym at_judge) (subst (λ (p : Phase). Notes (shown c) (view_of op) Judge p told) (sym ends) (subst (λ had. EndsJudging had (shown c) (view_of op) told) (sym untold) (inl refl))))
         (λ j inside holds. absurd (back_free within (holds_here c now o is h room op there Judge at_judge) j (subst (λ (v : ArenaView). j < length v.nodes) t.is inside) (subst (λ (v : ArenaView). (at v j).holder ≡ Some o) t.is holds)))
         (subst (λ (p : Phase). IsKeptAt p new o after) (sym ends) own)
@@ -394,8 +395,8 @@ module _ (c : Core) (now : StateView) (o : ℕ) (is : shown c ≡ now) (h : Stat
     begun_publish : 0 < op.walk.first
     begun_publish = always.begun (λ enters. absurd (let no : Publish ≡ Enter = sym at_publish ∙ enters in cc))
 
-    publishes_on : op.walk.writes ≡ true
-    publishes_on = subst (λ (p : Phase). IsOfKind p op.walk.writes) at_publish always.kind
+    publishes_on : op.walk.aim ≡ aims.Write
+    publishes_on = subst (λ (p : Phase). IsOfKind p op.walk.aim) at_publish always.kind
 
     -- a put of a new key that finds its quota full
     pub publish_full : (arena : ArenaView) (tape : Kept) (accounts : Accounts) (w : Walk)
@@ -439,7 +440,7 @@ module _ (c : Core) (now : StateView) (o : ℕ) (is : shown c ≡ now) (h : Stat
         (quiet_gives c now o is h room op there c.arena (c.tape.reserved - 1) w told None
         (leaves_all c o h) (ap is_done at_publish)
         (subst (λ (p : Phase). MayFollow p w.phase) (sym at_publish) (subst (MayFollow Publish) (sym ends) tt))
-        t.same.writes (subst (λ (p : Phase). IsOfKind p w.writes) (sym ends) (t.same.writes ∙ publishes_on)) (sym (ap told_change publishing.untold))
+        t.same.aim (subst (λ (p : Phase). IsOfKind p w.aim) (sym ends) (t.same.aim ∙ publishes_on)) (sym (ap told_change publishing.untold))
         (subst (λ (p : Phase). Notes (shown c) (view_of op) p w.phase told) (sym at_publish) (subst (λ (p : Phase). Notes (shown c) (view_of op) Publish p told) (sym ends) (inr refl)))
         (λ j inside holds. subst (λ (p : Phase). HoldsAt p after j) (sym ends) (subst (λ (halves : List Halves). HoldsLast halves after j) (sym unsplit.halves) (inl (holds_here c now o is h room op there Publish at_publish j inside holds ∙ sym place))))
         (subst (λ (p : Phase). IsKeptAt p new o after) (sym ends) own)

@@ -59,13 +59,14 @@ module _ (c : Core) (op : Operation) (k : IsOpenOperation c op) (w : Walk) where
   pub open_moved_on : (new : Core) (told : Option Outcome) (prepared : Option Prepared) (s : Splits) (r : Removal)
       → (is_remove (ask op.task) ≡ false → r ≡ no_removal) → new.steps ≡ c.steps + 1
       → new.tape.floor ≡ c.tape.floor → ((t : ℕ) → IsSome (account_of c.accounts t) → IsSome (account_of new.accounts t)) → c.tape.floor ≤ c.steps
-      → w.writes ≡ op.walk.writes → IsOfKind w.phase w.writes → IsOpenOperation new (went_on op (c.steps + 1) w told prepared s r)
-  open_moved_on new told prepared s r light steps floor accounts upto writes kind = record {
+      → w.aim ≡ op.walk.aim → IsOfKind w.phase w.aim → IsOpenOperation new (went_on op (c.steps + 1) w told prepared s r)
+  open_moved_on new told prepared s r light steps floor accounts upto aim kind = record {
     stored = k.stored;
     owner = k.owner;
     columns = k.columns;
     tenant = accounts op.task.tenant k.tenant;
-    writes = writes ∙ k.writes;
+    aim = aim ∙ k.aim;
+    no_scan = k.no_scan;
     kind = kind;
     order = first_upto;
     made = omega (arith, steps);
@@ -80,12 +81,12 @@ module _ (c : Core) (op : Operation) (k : IsOpenOperation c op) (w : Walk) where
 
   pub open_moved_with : (new : Core) (told : Option Outcome) (prepared : Option Prepared) (s : Splits) → new.steps ≡ c.steps + 1
       → new.tape.floor ≡ c.tape.floor → ((t : ℕ) → IsSome (account_of c.accounts t) → IsSome (account_of new.accounts t)) → c.tape.floor ≤ c.steps
-      → w.writes ≡ op.walk.writes → IsOfKind w.phase w.writes → IsOpenOperation new (went_with op (c.steps + 1) w told prepared s)
+      → w.aim ≡ op.walk.aim → IsOfKind w.phase w.aim → IsOpenOperation new (went_with op (c.steps + 1) w told prepared s)
   open_moved_with new told prepared s = open_moved_on new told prepared s op.removal k.light
 
   pub open_moved : (new : Core) (told : Option Outcome) (prepared : Option Prepared) → new.steps ≡ c.steps + 1 → new.tape.floor ≡ c.tape.floor
       → ((t : ℕ) → IsSome (account_of c.accounts t) → IsSome (account_of new.accounts t)) → c.tape.floor ≤ c.steps
-      → w.writes ≡ op.walk.writes → IsOfKind w.phase w.writes → IsOpenOperation new (went op (c.steps + 1) w told prepared)
+      → w.aim ≡ op.walk.aim → IsOfKind w.phase w.aim → IsOpenOperation new (went op (c.steps + 1) w told prepared)
   open_moved new told prepared = open_moved_with new told prepared op.splits
 
   -- what is shown of it

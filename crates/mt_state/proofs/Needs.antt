@@ -41,7 +41,7 @@ use Rattle.mt_rows.proofs.ContentLaws.{get-tenant_map}
 use Rattle.mt_arena.specs.Arena.{IsArena, content_of}
 use Rattle.mt_arena.specs.Forests.{layer_of}
 use Rattle.mt_operation.specs.declared.task.Request.{Request}
-use Rattle.mt_operation.specs.declared.task.Request.TheVariants.{Get as GetOf, Put as PutOf, Remove as RemoveOf}
+use Rattle.mt_operation.specs.declared.task.Request.TheVariants.{Get as GetOf, Put as PutOf, Remove as RemoveOf, Scan as ScanOf}
 use Rattle.mt_operation.specs.declared.removal.Removal.{Removal}
 use Rattle.mt_insert.proofs.Places.{may_store}
 use Rattle.mt_remove.specs.KeptRemovals.{IsAtDropKey, IsUnburdened, KeptRemoval, HoldsRemoval, IsAtUnlockRemoval, IsCleaning, IsAmong as IsOfRemoval}
@@ -90,6 +90,7 @@ layering p makes c o op kept = by (row p).kind makes kept
 request_removes : (r : Request) → is_remove (command_of r) ≡ true → command_of r ≡ Remove (key_of (command_of r))
 request_removes (RemoveOf key) removes = refl
 request_removes (GetOf key columns) removes = absurd (cc)
+request_removes (ScanOf from after count columns) removes = absurd (cc)
 request_removes (PutOf key change) removes = absurd (cc)
 
 -- a map with a key has some

@@ -228,7 +228,7 @@ module _ (c : Core) (now : StateView) (o : ℕ) (is : shown c ≡ now) (h : Stat
   -- a step that changes no pair, by what it leaves and what is kept of its operation, which has these splits and this of its removal then
   pub quiet_gives_on : (arena : ArenaView) (reserved : ℕ) (w : Walk) (told : Option Outcome) (prepared : Option Prepared) (s : Splits) (r : Removal)
       → LeavesPairs c o arena → (is_remove (ask op.task) ≡ false → r ≡ no_removal) → is_done op.walk.phase ≡ false → MayFollow op.walk.phase w.phase
-      → w.writes ≡ op.walk.writes → IsOfKind w.phase w.writes → change_in (view_of (went_on op (c.steps + 1) w told prepared s r)) ≡ change_in (view_of op)
+      → w.aim ≡ op.walk.aim → IsOfKind w.phase w.aim → change_in (view_of (went_on op (c.steps + 1) w told prepared s r)) ≡ change_in (view_of op)
       → Notes (shown c) (view_of op) op.walk.phase w.phase told
       → ((k : ℕ) → k < length arena.nodes → (at arena k).holder ≡ Some o → HoldsAt w.phase (went_on op (c.steps + 1) w told prepared s r) k)
       → IsKeptAt w.phase (quiet c arena reserved o (went_on op (c.steps + 1) w told prepared s r)) o (went_on op (c.steps + 1) w told prepared s r)
@@ -277,7 +277,7 @@ module _ (c : Core) (now : StateView) (o : ℕ) (is : shown c ≡ now) (h : Stat
   -- one that leaves what is remembered of a removal
   pub quiet_gives_with : (arena : ArenaView) (reserved : ℕ) (w : Walk) (told : Option Outcome) (prepared : Option Prepared) (s : Splits)
       → LeavesPairs c o arena → is_done op.walk.phase ≡ false → MayFollow op.walk.phase w.phase
-      → w.writes ≡ op.walk.writes → IsOfKind w.phase w.writes → change_in (view_of (went_with op (c.steps + 1) w told prepared s)) ≡ change_in (view_of op)
+      → w.aim ≡ op.walk.aim → IsOfKind w.phase w.aim → change_in (view_of (went_with op (c.steps + 1) w told prepared s)) ≡ change_in (view_of op)
       → Notes (shown c) (view_of op) op.walk.phase w.phase told
       → ((k : ℕ) → k < length arena.nodes → (at arena k).holder ≡ Some o → HoldsAt w.phase (went_with op (c.steps + 1) w told prepared s) k)
       → IsKeptAt w.phase (quiet c arena reserved o (went_with op (c.steps + 1) w told prepared s)) o (went_with op (c.steps + 1) w told prepared s)
@@ -290,7 +290,7 @@ module _ (c : Core) (now : StateView) (o : ℕ) (is : shown c ≡ now) (h : Stat
   -- one that leaves the splits, of an operation that has none
   pub quiet_gives : (arena : ArenaView) (reserved : ℕ) (w : Walk) (told : Option Outcome) (prepared : Option Prepared) → LeavesPairs c o arena
       → is_done op.walk.phase ≡ false → MayFollow op.walk.phase w.phase
-      → w.writes ≡ op.walk.writes → IsOfKind w.phase w.writes → change_in (view_of (went op (c.steps + 1) w told prepared)) ≡ change_in (view_of op)
+      → w.aim ≡ op.walk.aim → IsOfKind w.phase w.aim → change_in (view_of (went op (c.steps + 1) w told prepared)) ≡ change_in (view_of op)
       → Notes (shown c) (view_of op) op.walk.phase w.phase told
       → ((k : ℕ) → k < length arena.nodes → (at arena k).holder ≡ Some o → HoldsAt w.phase (went op (c.steps + 1) w told prepared) k)
       → IsKeptAt w.phase (quiet c arena reserved o (went op (c.steps + 1) w told prepared)) o (went op (c.steps + 1) w told prepared)

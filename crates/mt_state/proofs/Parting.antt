@@ -225,8 +225,8 @@ module _ (c : Core) (o : ℕ) (h : StateInvariant c) (few : c.steps < 2 ^ 59) (o
   stays_put : is_remove (ask op.task) ≡ false
   stays_put = put_no_remove (ask op.task) moving.put
 
-  kind : IsOfKind w.phase w.writes
-  kind = halves_kind w.phase leads w.writes (p.same.writes ∙ subst (λ (p : Phase). IsOfKind p op.walk.writes) at_move always.kind)
+  kind : IsOfKind w.phase w.aim
+  kind = halves_kind w.phase leads w.aim (p.same.aim ∙ subst (λ (p : Phase). IsOfKind p op.walk.aim) at_move always.kind)
 
   -- its tenant's map misses the key
   missing_there : IsPut op.task → get (tenant_map op.task.tenant (content_of c.arena)) (key_of (ask op.task)) ≡ None
@@ -271,7 +271,7 @@ module _ (c : Core) (o : ℕ) (h : StateInvariant c) (few : c.steps < 2 ^ 59) (o
 
     kept_full : IsKeptOf new_full o after_full
     kept_full = record {
-      always = open_moved_with c op always w new_full told_full None op.splits refl refl (λ t some. some) (floor_made c h.tape) p.same.writes kind;
+      always = open_moved_with c op always w new_full told_full None op.splits refl refl (λ t some. some) (floor_made c h.tape) p.same.aim kind;
       kept = halves_kept w.phase leads new_full o after_full stays_put some p.kept answer_full;
       unsplit = λ none. absurd (both_ways _ none (halves_split w.phase leads));
       placed = λ m placed. absurd (cc);
@@ -385,7 +385,7 @@ module _ (c : Core) (o : ℕ) (h : StateInvariant c) (few : c.steps < 2 ^ 59) (o
           unprepared = refl;
         } in
         let own : IsKeptOf new_core o after_new = record {
-          always = open_moved_with c op always w new_core told_new None op.splits refl refl counted.there (floor_made c h.tape) p.same.writes kind;
+          always = open_moved_with c op always w new_core told_new None op.splits refl refl counted.there (floor_made c h.tape) p.same.aim kind;
           kept = halves_kept w.phase leads new_core o after_new stays_put some p.kept answer;
           unsplit = λ none. absurd (both_ways _ none (halves_split w.phase leads));
           placed =

@@ -41,6 +41,7 @@ use Rattle.mt_arena.specs.Accesses.{at, tree_of, with_node, with_row}
 use Rattle.mt_arena.proofs.Homes as homes
 use Rattle.mt_arena.proofs.Elsewhere.{stands_once}
 use Rattle.mt_arena.proofs.Steps.{keys_of}
+use Rattle.mt_operation.specs.declared.walk.Aim.TheVariants as aims
 use Rattle.mt_operation.specs.declared.phase.Phase.{Phase}
 use Rattle.mt_operation.specs.declared.phase.Phase.TheVariants.{Enter, Store, Publish, Unlock}
 use Rattle.mt_operation.specs.declared.walk.Walk.{Walk}
@@ -257,7 +258,7 @@ module _ (c : Core) (now : StateView) (o : ℕ) (is : shown c ≡ now) (h : Stat
           → (told : reply ≡ reply_of (quota_of (shown c) op.task.tenant) (ask op.task) (tenant_map op.task.tenant (content_of c.arena)))
           → (makes : map_after (quota_of (shown c) op.task.tenant) (ask op.task) (tenant_map op.task.tenant (content_of c.arena)) ≡ insert (tenant_map op.task.tenant (content_of c.arena)) (key_of (ask op.task)) the_row)
           → (p : Phase) → op.walk.phase ≡ p → is_prepared p ≡ true → is_done p ≡ false → has_splits p ≡ false
-          → ((j : ℕ) → HoldsAt p op j → j ≡ k) → p ≢ Enter → MayFollow p Unlock → op.walk.writes ≡ true
+          → ((j : ℕ) → HoldsAt p op j → j ≡ k) → p ≢ Enter → MayFollow p Unlock → op.walk.aim ≡ aims.Write
           → Notes (shown c) (view_of op) p Unlock (Some (record { reply = reply; at = c.steps + 1 }))
           → w ≡ walk_placed op.walk → Continues op.walk w → n.holder ≡ Some o → IsAtUnlock the_arena o w → Gives now the_new o false
       placed_gives changes told makes p at_p ready left none holds_one later follows writes notes goes same holder unlocks =
@@ -281,8 +282,8 @@ module _ (c : Core) (now : StateView) (o : ℕ) (is : shown c ≡ now) (h : Stat
           } in
           let kept : IsKeptOf the_new o the_after = record {
             always =
-                open_moved c op always w the_new (Some (record { reply = reply; at = c.steps + 1 })) None refl refl counted.there (floor_made c h.tape) same.writes
-                (subst (λ (q : Phase). IsOfKind q w.writes) (sym ends) (same.writes ∙ writes));
+                open_moved c op always w the_new (Some (record { reply = reply; at = c.steps + 1 })) None refl refl counted.there (floor_made c h.tape) same.aim
+                (subst (λ (q : Phase). IsOfKind q w.aim) (sym ends) (same.aim ∙ writes));
             kept = subst (λ (q : Phase). IsKeptAt q the_new o the_after) (sym ends) own;
             unsplit = λ over. unsplit;
             placed =
@@ -329,8 +330,8 @@ module _ (c : Core) (now : StateView) (o : ℕ) (is : shown c ≡ now) (h : Stat
     storing : IsStoring c o op
     storing = subst (λ (p : Phase). IsKeptAt p c o op) at_store (h.ops o op there).kept
 
-    stores_on : op.walk.writes ≡ true
-    stores_on = subst (λ (p : Phase). IsOfKind p op.walk.writes) at_store always.kind
+    stores_on : op.walk.aim ≡ aims.Write
+    stores_on = subst (λ (p : Phase). IsOfKind p op.walk.aim) at_store always.kind
 
     -- a put that writes its row over the one of its key
     pub store_done : (arena : ArenaView) (tape : Kept) (w : Walk) (row before : Columns) → IsArena c.arena.nodes c.arena.trees
@@ -365,8 +366,8 @@ module _ (c : Core) (now : StateView) (o : ℕ) (is : shown c ≡ now) (h : Stat
     publishing : IsPublishing c o op
     publishing = subst (λ (p : Phase). IsKeptAt p c o op) at_publish (h.ops o op there).kept
 
-    publishes_on : op.walk.writes ≡ true
-    publishes_on = subst (λ (p : Phase). IsOfKind p op.walk.writes) at_publish always.kind
+    publishes_on : op.walk.aim ≡ aims.Write
+    publishes_on = subst (λ (p : Phase). IsOfKind p op.walk.aim) at_publish always.kind
 
     -- a put of a new key that finds room
     pub publish_done : (arena : ArenaView) (tape : Kept) (accounts : Accounts) (w : Walk) (row : Columns) → IsArena c.arena.nodes c.arena.trees

@@ -25,8 +25,10 @@ use Rattle.mt_arena.specs.Layers.{slot_at}
 use Rattle.mt_arena.specs.Arena.{IsArena, content_of}
 use Rattle.mt_arena.specs.Accesses.{at}
 use Rattle.mt_arena.proofs.Places.{same_slot}
+use Rattle.mt_operation.specs.declared.walk.Aim.{Aim}
+use Rattle.mt_operation.specs.declared.walk.Aim.TheVariants as aims
 use Rattle.mt_operation.specs.declared.phase.Phase.{Phase}
-use Rattle.mt_operation.specs.declared.phase.Phase.TheVariants.{Enter, Pick, Child, Verify, Search, Load, Confirm, Forward, Lock}
+use Rattle.mt_operation.specs.declared.phase.Phase.TheVariants.{Enter, Pick, Child, Verify, Search, Load, Confirm, Forward, Lock, Snap}
 use Rattle.mt_operation.specs.declared.walk.Taken.{Taken}
 use Rattle.mt_operation.specs.declared.walk.Taken.TheVariants as takens
 use Rattle.mt_operation.specs.declared.walk.Walk.{Walk}
@@ -49,7 +51,7 @@ use Rattle.mt_state.proofs.Descents.{first_aside}
 use Rattle.mt_state.proofs.Telling.{Gives}
 use Rattle.mt_state.proofs.Moved.{went, first_same}
 use Rattle.mt_state.proofs.Still.{IsFree, IsUnready, still, still_gives}
-use Rattle.mt_state.proofs.Bound.{bound_on, get_untold}
+use Rattle.mt_state.proofs.Bound.{bound_on, look_untold}
 use Rattle.mt_state.proofs.OneNode.{quiet_grows}
 use Rattle.mt_rows.specs.Maps.{is_get}
 
@@ -70,6 +72,7 @@ kept_on_way Verify d c o op k = k
 kept_on_way Search d c o op k = k
 kept_on_way Forward d c o op k = k
 kept_on_way Lock d c o op k = k
+kept_on_way Snap d c o op k = k
 kept_on_way _ d c o op k = absurd d
 
 pub descent_free : (p : Phase) → IsDescent p → IsFree p
@@ -88,6 +91,7 @@ on_way_unready Verify d = tt
 on_way_unready Search d = tt
 on_way_unready Forward d = tt
 on_way_unready Lock d = tt
+on_way_unready Snap d = tt
 on_way_unready _ d = absurd d
 
 pub on_way_open : (p : Phase) → IsOnWay p → is_done p ≡ false
@@ -98,19 +102,21 @@ on_way_open Verify d = refl
 on_way_open Search d = refl
 on_way_open Forward d = refl
 on_way_open Lock d = refl
+on_way_open Snap d = refl
 on_way_open _ d = absurd d
 
 -- an operation that goes on its way keeps its outcome; where it comes to read it has none
-pub keeps_on : (q : Phase) → IsOnWay q → (writes : Bool) → IsOfKind q writes → (told : Option Outcome) → (writes ≡ false → told ≡ None)
+pub keeps_on : (q : Phase) → IsOnWay q → (aim : Aim) → IsOfKind q aim → (told : Option Outcome) → (aim ≢ aims.Write → told ≡ None)
     → Keeps (is_unplaced q) told told
-keeps_on Search on writes kind told reads = (reads kind, reads kind)
-keeps_on Enter on writes kind told reads = refl
-keeps_on Pick on writes kind told reads = refl
-keeps_on Child on writes kind told reads = refl
-keeps_on Verify on writes kind told reads = refl
-keeps_on Forward on writes kind told reads = refl
-keeps_on Lock on writes kind told reads = refl
-keeps_on _ on writes kind told reads = absurd on
+keeps_on Search on aim kind told reads = let none = reads (λ writes. absurd (let no = sym kind ∙ writes in cc)) in (none, none)
+keeps_on Snap on aim kind told reads = let none = reads (λ writes. absurd (let no = sym kind ∙ writes in cc)) in (none, none)
+keeps_on Enter on aim kind told reads = refl
+keeps_on Pick on aim kind told reads = refl
+keeps_on Child on aim kind told reads = refl
+keeps_on Verify on aim kind told reads = refl
+keeps_on Forward on aim kind told reads = refl
+keeps_on Lock on aim kind told reads = refl
+keeps_on _ on aim kind told reads = absurd on
 
 descent_notes : (p : Phase) → IsDescent p → (old : StateView) (op : OperationView) (next : Phase) (told : Option Outcome)
     → Keeps (is_unplaced next) op.outcome told → Notes old op p next told
@@ -121,13 +127,9 @@ descent_notes Verify d old op next told k = k
 descent_notes Forward d old op next told k = k
 descent_notes _ d old op next told k = absurd d
 
--- an operation that doesn't write is a get, which is told nothing on its way
-pub reads_untold : (c : Core) (op : Operation) → IsOpenOperation c op → op.walk.writes ≡ false → IsBound op.outcome c op → op.outcome ≡ None
-reads_untold c op k reads bound = get_untold op.outcome c op (by (is_get (ask op.task)) (sym reads ∙ k.writes)) bound
-  where
-    by : (gets : Bool) → false ≡ not gets → gets ≡ true
-    by true e = refl
-    by false e = absurd (cc)
+-- an operation that doesn't write is told nothing on its way
+pub reads_untold : (c : Core) (op : Operation) → IsOpenOperation c op → op.walk.aim ≢ aims.Write → IsBound op.outcome c op → op.outcome ≡ None
+reads_untold c op k reads bound = look_untold op.outcome c op (λ writes. reads (k.aim ∙ writes)) bound
 
 module _ (c : Core) (now : StateView) (o : ℕ) (is : shown c ≡ now) (h : StateInvariant c) (room : now.steps < 2 ^ 59) (op : Operation) (there : operation_at c.table o ≡ Some op) where
   -- an operation that goes down
@@ -151,9 +153,9 @@ module _ (c : Core) (now : StateView) (o : ℕ) (is : shown c ≡ now) (h : Stat
             bound_on c (still c now o is h room op there (descent_free op.walk.phase descends) w op.outcome) op k.always (quiet_grows c o c.arena c.tape.reserved after refl) w way.unprepared refl op.outcome way.bound;
         unprepared = way.unprepared;
       } in
-      still_gives c now o is h room op there (descent_free op.walk.phase descends) w op.outcome goes.follows (on_way_unready w.phase goes.on_way) goes.same.writes goes.kind refl
+      still_gives c now o is h room op there (descent_free op.walk.phase descends) w op.outcome goes.follows (on_way_unready w.phase goes.on_way) goes.same.aim goes.kind refl
       (descent_notes op.walk.phase descends (shown c) (view_of op) w.phase op.outcome
-      (keeps_on w.phase goes.on_way w.writes goes.kind op.outcome (λ reads. reads_untold c op k.always (sym goes.same.writes ∙ reads) way.bound)))
+      (keeps_on w.phase goes.on_way w.aim goes.kind op.outcome (λ reads. reads_untold c op k.always (λ writes. reads (goes.same.aim ∙ writes)) way.bound)))
       (kept_on_way w.phase goes.on_way (still c now o is h room op there (descent_free op.walk.phase descends) w op.outcome) o after on) false (sym (on_way_open w.phase goes.on_way))
 
 -- a stored key is that of its tenant and its user's key
@@ -234,10 +236,10 @@ module _ (c : Core) (now : StateView) (o : ℕ) (is : shown c ≡ now) (h : Stat
     first_upto_now : op.walk.first ≤ c.steps + 1
     first_upto_now = let k = (h.ops o op there).always in omega (arith, k.order, k.made)
 
-    writes_same : w.writes ≡ op.walk.writes
-    writes_same = ap (λ (x : Walk). x.writes) is_after ∙ by found
+    writes_same : w.aim ≡ op.walk.aim
+    writes_same = ap (λ (x : Walk). x.aim) is_after ∙ by found
       where
-        by : (f : Find) → (after_search f op.walk (c.steps + 1)).writes ≡ op.walk.writes
+        by : (f : Find) → (after_search f op.walk (c.steps + 1)).aim ≡ op.walk.aim
         by finds.Missing = refl
         by (finds.Slot slot OtherLong) = refl
         by (finds.Slot slot ThisKey) = refl
@@ -252,11 +254,11 @@ module _ (c : Core) (now : StateView) (o : ℕ) (is : shown c ≡ now) (h : Stat
         by (finds.Slot slot ThisKey) = refl
         by (finds.Slot slot ToTree) = refl
 
-    looks_on : op.walk.writes ≡ false
-    looks_on = subst (λ (p : Phase). IsOfKind p op.walk.writes) at_search (h.ops o op there).always.kind
+    looks_on : op.walk.aim ≡ aims.Read
+    looks_on = subst (λ (p : Phase). IsOfKind p op.walk.aim) at_search (h.ops o op there).always.kind
 
     search_untold : op.outcome ≡ None
-    search_untold = reads_untold c op (h.ops o op there).always looks_on searching.bound
+    search_untold = reads_untold c op (h.ops o op there).always (λ writes. absurd (let no = sym looks_on ∙ writes in cc)) searching.bound
 
     -- a search that found nothing: the key is missing, as of this step
     taken_missing : (f : Find) → (after_search f op.walk (c.steps + 1)).phase ≡ Confirm
@@ -285,7 +287,7 @@ module _ (c : Core) (now : StateView) (o : ℕ) (is : shown c ≡ now) (h : Stat
         } in
         still_gives c now o is h room op there search_free w told
         (subst (λ (p : Phase). MayFollow p w.phase) (sym at_search) (subst (MayFollow Search) (sym confirms) tt))
-        (subst IsUnready (sym confirms) tt) writes_same (subst (λ (p : Phase). IsOfKind p w.writes) (sym confirms) (writes_same ∙ looks_on))
+        (subst IsUnready (sym confirms) tt) writes_same (subst (λ (p : Phase). IsOfKind p w.aim) (sym confirms) (writes_same ∙ looks_on))
         (sym (ap told_change search_untold))
         (subst (λ (p : Phase). Notes (shown c) (view_of op) p w.phase told) (sym at_search) (subst (λ (p : Phase). Notes (shown c) (view_of op) Search p told) (sym confirms) (record {
           says = refl;
@@ -328,7 +330,7 @@ module _ (c : Core) (now : StateView) (o : ℕ) (is : shown c ≡ now) (h : Stat
         } in
         still_gives c now o is h room op there search_free w op.outcome
         (subst (λ (p : Phase). MayFollow p w.phase) (sym at_search) (subst (MayFollow Search) (sym loads) tt))
-        (subst IsUnready (sym loads) tt) writes_same (subst (λ (p : Phase). IsOfKind p w.writes) (sym loads) (writes_same ∙ looks_on))
+        (subst IsUnready (sym loads) tt) writes_same (subst (λ (p : Phase). IsOfKind p w.aim) (sym loads) (writes_same ∙ looks_on))
         refl
         (subst (λ (p : Phase). Notes (shown c) (view_of op) p w.phase op.outcome) (sym at_search) (subst (λ (p : Phase). Notes (shown c) (view_of op) Search p op.outcome) (sym loads) (search_untold, search_untold)))
         (subst (λ (p : Phase). IsKeptAt p new o after) (sym loads) own) false (sym (ap is_done loads))

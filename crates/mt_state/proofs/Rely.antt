@@ -150,6 +150,7 @@ module _ (old new : Core) (o q : ℕ) (arena : IsArena new.arena.nodes new.arena
   kept_for_stays kinds.Descends p k h = way_stays k h
   kept_for_stays kinds.Locks p k h = way_stays k h
   kept_for_stays kinds.Reads p k h = reading_stays p k h
+  kept_for_stays kinds.Scans p k h = way_stays k h
   kept_for_stays kinds.Judges p k h = record { judges = insert.held o q old.arena new.arena g.arena other op.task.key op.walk h.judges; bound = bound_stays op.outcome k h.bound; unprepared = h.unprepared }
   kept_for_stays kinds.Writes p k h = writing_stays p h
   kept_for_stays kinds.Begins p k h = record {
@@ -191,7 +192,8 @@ module _ (old new : Core) (o q : ℕ) (arena : IsArena new.arena.nodes new.arena
     owner = h.owner;
     columns = h.columns;
     tenant = g.accounts op.task.tenant h.tenant;
-    writes = h.writes;
+    aim = h.aim;
+    no_scan = h.no_scan;
     kind = h.kind;
     order = h.order;
     made = omega (arith, h.made, later);

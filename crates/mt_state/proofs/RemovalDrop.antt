@@ -253,8 +253,8 @@ module _ (c : Core) (o : ℕ) (h : StateInvariant c) (few : c.steps < 2 ^ 59) (o
 
   kept : IsKeptOf new o after
   kept = record {
-    always = open_moved_on c op always w new told None op.splits r (λ puts. absurd (both_ways _ puts dropping.removes)) refl refl counts_less.there (floor_made c h.tape) t.same.writes
-        (removal_kind w.phase leads w.writes (t.same.writes ∙ subst (λ (p : Phase). IsOfKind p op.walk.writes) at_drop always.kind));
+    always = open_moved_on c op always w new told None op.splits r (λ puts. absurd (both_ways _ puts dropping.removes)) refl refl counts_less.there (floor_made c h.tape) t.same.aim
+        (removal_kind w.phase leads w.aim (t.same.aim ∙ subst (λ (p : Phase). IsOfKind p op.walk.aim) at_drop always.kind));
     kept = removal_kept w.phase new o after dropping.removes unsplit (subst (λ (x : Walk). KeptRemoval w.phase arena o op.task.key x r) (sym whole) t.kept) answer;
     unsplit = λ none. unsplit;
     placed = λ m is. subst (IsPlacedOnce new after) (same_Some (c.steps + 1) m is) (wrote_once c o op after arena accounts h write writes places refl);

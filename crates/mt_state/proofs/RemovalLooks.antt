@@ -118,7 +118,7 @@ module _ (c : Core) (o : ℕ) (h : StateInvariant c) (few : c.steps < 2 ^ 59) (o
         (quiet_gives c (shown c) o refl h few op there c.arena (c.tape.reserved + 1) w op.outcome (Some prepared)
         (leaves_all c o h) (ap is_done at_judge)
         (subst (λ (p : Phase). MayFollow p w.phase) (sym at_judge) (subst (MayFollow Judge) (sym drops) tt))
-        t.keeps.same.writes (subst (λ (p : Phase). IsOfKind p w.writes) (sym drops) (t.keeps.same.writes ∙ subst (λ (p : Phase). IsOfKind p op.walk.writes) at_judge always.kind)) refl
+        t.keeps.same.aim (subst (λ (p : Phase). IsOfKind p w.aim) (sym drops) (t.keeps.same.aim ∙ subst (λ (p : Phase). IsOfKind p op.walk.aim) at_judge always.kind)) refl
         (subst (λ (p : Phase). Notes (shown c) (view_of op) p w.phase op.outcome) (sym at_judge) (subst (λ (q : Phase). Notes (shown c) (view_of op) Judge q op.outcome) (sym drops) (untold, untold)))
         (λ j inside holds. subst (λ (q : Phase). HoldsAt q after j) (sym drops) (holds_here c (shown c) o refl h few op there Judge at_judge j inside holds ∙ sym place))
         (subst (λ (q : Phase). IsKeptAt q new o after) (sym drops) own)
@@ -153,7 +153,7 @@ module _ (c : Core) (o : ℕ) (h : StateInvariant c) (few : c.steps < 2 ^ 59) (o
           unprepared = judging.unprepared;
         } in
         back_gives c o h few op there arena w told u.is u.keeps judging.judges.judged.held (holds_here c (shown c) o refl h few op there Judge at_judge)
-        Judge Done at_judge (ap (λ (x : Walk). x.phase) u.walk) refl tt tt tt u.keeps.same.writes tt (sym (ap told_change untold))
+        Judge Done at_judge (ap (λ (x : Walk). x.phase) u.walk) refl tt tt tt u.keeps.same.aim tt (sym (ap told_change untold))
         (subst (λ had. EndsJudging had (shown c) (view_of op) told) (sym untold) (inr (removes, refl)))
         own (unsplit_at Judge at_judge refl)
 
@@ -166,7 +166,7 @@ module _ (c : Core) (o : ℕ) (h : StateInvariant c) (few : c.steps < 2 ^ 59) (o
         let going = going_back op.outcome told c op judging.bound in
         let grows = quiet_grows c o arena c.tape.reserved (went op (c.steps + 1) w op.outcome op.prepared) u.keeps.contents in
         back_gives c o h few op there arena w op.outcome u.is u.keeps judging.judges.judged.held (holds_here c (shown c) o refl h few op there Judge at_judge)
-        Judge Done at_judge (ap (λ (x : Walk). x.phase) u.walk) refl tt tt tt u.keeps.same.writes tt refl
+        Judge Done at_judge (ap (λ (x : Walk). x.phase) u.walk) refl tt tt tt u.keeps.same.aim tt refl
         (ends_judging op.outcome told (shown c) (view_of op))
         (answered_on c new op always grows w op.prepared op.splits op.removal judging.unprepared going.answer) (unsplit_at Judge at_judge refl)
 
@@ -200,7 +200,7 @@ module _ (c : Core) (o : ℕ) (h : StateInvariant c) (few : c.steps < 2 ^ 59) (o
           let within = at_border.covers.remembered.there in
           let cleans : w.phase ≡ CleanLayer = ap (λ (x : Walk). x.phase) goes in
           let place : w.place.node ≡ k = ap (λ (x : Walk). x.place.node) (goes ∙ ap (walk_at CleanLayer) reached) in
-          let writes : w.writes ≡ op.walk.writes = ap (λ (x : Walk). x.writes) goes ∙ t.locks.keeps.same.writes in
+          let writes : w.aim ≡ op.walk.aim = ap (λ (x : Walk). x.aim) goes ∙ t.locks.keeps.same.aim in
           let whole = walk_same c op always w begun_lock (ap (λ (x : Walk). x.first) goes ∙ t.locks.keeps.same.first) in
           let counted : IsCountedUpTo (c.steps + 1) (locked n o) = let was = h.versions k within in record { inserts = omega (arith, was.inserts); splits = omega (arith, was.splits) } in
           let leaves : LeavesPairs c o (with_node c.arena k (locked n o)) = replaced_leaves c o h k within (locked n o) refl refl refl counted
@@ -210,7 +210,7 @@ module _ (c : Core) (o : ℕ) (h : StateInvariant c) (few : c.steps < 2 ^ 59) (o
           quiet_gives c (shown c) o refl h few op there arena c.tape.reserved w op.outcome op.prepared
           (subst (LeavesPairs c o) (sym takes) leaves) (ap is_done at_lock)
           (subst (λ (p : Phase). MayFollow p w.phase) (sym at_lock) (subst (MayFollow Lock) (sym cleans) tt))
-          writes (subst (λ (p : Phase). IsOfKind p w.writes) (sym cleans) (writes ∙ subst (λ (p : Phase). IsOfKind p op.walk.writes) at_lock always.kind)) refl
+          writes (subst (λ (p : Phase). IsOfKind p w.aim) (sym cleans) (writes ∙ subst (λ (p : Phase). IsOfKind p op.walk.aim) at_lock always.kind)) refl
           (subst (λ (p : Phase). Notes (shown c) (view_of op) p w.phase op.outcome) (sym at_lock) (subst (λ (p : Phase). Notes (shown c) (view_of op) Lock p op.outcome) (sym cleans) refl))
           (λ j inside holds. subst (λ (p : Phase). HoldsAt p after j) (sym cleans) (locked_here within j (subst (λ (v : ArenaView). j < length v.nodes) takes inside) (subst (λ (v : ArenaView). (at v j).holder ≡ Some o) takes holds) ∙ sym place))
           (subst (λ (p : Phase). IsKeptAt p locked_core o after) (sym cleans)
@@ -320,7 +320,7 @@ module _ (c : Core) (o : ℕ) (h : StateInvariant c) (few : c.steps < 2 ^ 59) (o
       answer : HasAnswer new after
       answer = answered_on c new op always (quiet_grows c o arena c.tape.reserved after t.keeps.contents) w op.prepared op.splits r unlocking.answer.unprepared unlocking.answer
 
-      returned_on : (q : Phase) → w.phase ≡ q → MayFollow Unlock q → IsUnready q → IsOfKind q w.writes → Notes (shown c) (view_of op) Unlock q op.outcome → IsKeptAt q new o after
+      returned_on : (q : Phase) → w.phase ≡ q → MayFollow Unlock q → IsUnready q → IsOfKind q w.aim → Notes (shown c) (view_of op) Unlock q op.outcome → IsKeptAt q new o after
           → Gives (shown c) new o (is_done w.phase)
       returned_on q at_q follows unready kind notes kept =
           let each = each_returned arena t.is in
@@ -328,7 +328,7 @@ module _ (c : Core) (o : ℕ) (h : StateInvariant c) (few : c.steps < 2 ^ 59) (o
           (returned_leaves c o h arena t.is.count t.is.trees each t.keeps.guarantee t.keeps.contents)
           (λ puts. absurd (both_ways _ puts removes)) (ap is_done at_unlock)
           (subst (λ (p : Phase). MayFollow p w.phase) (sym at_unlock) (subst (MayFollow Unlock) (sym at_q) follows))
-          t.keeps.same.writes (subst (λ (p : Phase). IsOfKind p w.writes) (sym at_q) kind) refl
+          t.keeps.same.aim (subst (λ (p : Phase). IsOfKind p w.aim) (sym at_q) kind) refl
           (subst (λ (p : Phase). Notes (shown c) (view_of op) p w.phase op.outcome) (sym at_unlock) (subst (λ (p : Phase). Notes (shown c) (view_of op) Unlock p op.outcome) (sym at_q) notes))
           (λ j inside holds. absurd (t.nothing holds_removal j inside holds))
           (subst (λ (p : Phase). IsKeptAt p new o after) (sym at_q) kept)

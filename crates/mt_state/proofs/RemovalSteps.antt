@@ -4,6 +4,8 @@ use Rattle.std.specs.Prelude.{◌^◌}
 use Rattle.std.proofs.lemmas.Bool.{both_ways}
 use Rattle.mt_rows.specs.Rows.{Bytes}
 use Rattle.mt_arena.specs.Arena.{ArenaView, IsArena}
+use Rattle.mt_operation.specs.declared.walk.Aim.{Aim}
+use Rattle.mt_operation.specs.declared.walk.Aim.TheVariants as aims
 use Rattle.mt_operation.specs.declared.phase.Phase.{Phase}
 use Rattle.mt_operation.specs.declared.phase.Phase.TheVariants.{LockPrev, LockAbove, Unlink, FixNext, Collapse, CleanLayer, Unlock, Done, Enter}
 use Rattle.mt_operation.specs.declared.walk.Walk.{Walk}
@@ -13,7 +15,7 @@ use Rattle.mt_operation.specs.declared.splits.Halves.{Halves}
 use Rattle.mt_operation.specs.declared.operation.Operation.{Operation}
 use Rattle.mt_operation.specs.Tasks.{ask}
 use Rattle.mt_operation.specs.Operations.{view_of, IsUnsplit, OperationView}
-use Rattle.mt_operation.specs.Phases.{is_done, MayFollow, IsOfKind, FitsWrites, Kind, change_at, holds_of, row, is_unplaced, is_to_come, has_splits, IsRemovalKind, IsRemovalPhase}
+use Rattle.mt_operation.specs.Phases.{is_done, MayFollow, IsOfKind, FitsAim, Kind, change_at, holds_of, row, is_unplaced, is_to_come, has_splits, IsRemovalKind, IsRemovalPhase}
 use Rattle.mt_operation.specs.Phases as kinds
 use Rattle.mt_operation.specs.Tables.{op_at as operation_at}
 use Rattle.mt_descent.specs.WalkMoves.{KeepsPairs}
@@ -63,19 +65,19 @@ has_removal CleanLayer v o key w r k = tt
 has_removal Unlock v o key w r k = tt
 has_removal _ v o key w r k = absurd k
 
-pub removal_kind : (p : Phase) → HasRemoval p → (writes : Bool) → writes ≡ true → IsOfKind p writes
-removal_kind p i writes is = by (row p).kind i
+pub removal_kind : (p : Phase) → HasRemoval p → (aim : Aim) → aim ≡ aims.Write → IsOfKind p aim
+removal_kind p i aim is = by (row p).kind i
   where
-    by : (of : Kind) → HasRemovalBy of → FitsWrites of writes
+    by : (of : Kind) → HasRemovalBy of → FitsAim of aim
     by kinds.Unlinks i = is
     by kinds.Cleans i = is
     by kinds.Returns i = is
     by _ i = absurd i
 
-pub removal_writes : (p : Phase) → HasRemoval p → (writes : Bool) → IsOfKind p writes → writes ≡ true
-removal_writes p i writes kind = by (row p).kind i kind
+pub removal_writes : (p : Phase) → HasRemoval p → (aim : Aim) → IsOfKind p aim → aim ≡ aims.Write
+removal_writes p i aim kind = by (row p).kind i kind
   where
-    by : (of : Kind) → HasRemovalBy of → FitsWrites of writes → writes ≡ true
+    by : (of : Kind) → HasRemovalBy of → FitsAim of aim → aim ≡ aims.Write
     by kinds.Unlinks i kind = kind
     by kinds.Cleans i kind = kind
     by kinds.Returns i kind = kind
@@ -223,8 +225,8 @@ module _ (c : Core) (o : ℕ) (h : StateInvariant c) (few : c.steps < 2 ^ 59) (o
         quiet_gives_on c (shown c) o refl h few op there arena c.tape.reserved w op.outcome op.prepared op.splits r
         (removal_leaves c o h arena leaves keeps.guarantee keeps.contents)
         (λ puts. absurd (both_ways _ puts unlinking.removes))
-        (removal_open p was) follows keeps.same.writes
-        (removal_kind w.phase leads w.writes (keeps.same.writes ∙ removal_writes p was op.walk.writes always.kind)) refl
+        (removal_open p was) follows keeps.same.aim
+        (removal_kind w.phase leads w.aim (keeps.same.aim ∙ removal_writes p was op.walk.aim always.kind)) refl
         (removal_notes p w.phase takes leads (shown c) (view_of op))
         (λ k within held. removal_held w.phase (behind_of p w.phase takes follows) after k unsplit.halves
         (subst (λ (x : Walk). IsOfRemoval x r k) (sym whole) (holds k within held)))

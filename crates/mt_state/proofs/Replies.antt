@@ -10,9 +10,11 @@ use Rattle.mt_rows.specs.Rows.{Columns, shown}
 use Rattle.mt_rows.specs.Changes.{changed}
 use Rattle.mt_rows.specs.Commands.{key_of}
 use Rattle.mt_rows.specs.Maps.{Map, reply_of, map_after, is_change, is_get, told_of_row, told_of_put, map_after_put, told_of_remove}
+use Rattle.std.proofs.lemmas.Bool.{both_ways}
+use Rattle.mt_operation.specs.declared.walk.Aim.TheVariants as aims
 use Rattle.mt_operation.specs.declared.task.Request.{Request}
-use Rattle.mt_operation.specs.declared.task.Request.TheVariants.{Get as GetOf, Put as PutOf, Remove as RemoveOf}
-use Rattle.mt_operation.specs.Tasks.{command_of}
+use Rattle.mt_operation.specs.declared.task.Request.TheVariants.{Get as GetOf, Put as PutOf, Remove as RemoveOf, Scan as ScanOf}
+use Rattle.mt_operation.specs.Tasks.{command_of, aim_of}
 use Rattle.mt_insert.specs.Puts.{change_of, is_put}
 use Rattle.mt_state.specs.Notes.{columns_asked}
 use Rattle.mt_remove.specs.Writes.{is_remove}
@@ -28,6 +30,14 @@ get_looks quota (Get key columns) m e = looks columns (get m key)
 get_looks quota (Put key change) m e = absurd (cc)
 get_looks quota (Remove key) m e = absurd (cc)
 get_looks quota (Scan from after count columns) m e = absurd (cc)
+
+-- a command that changes its map comes to write
+pub change_writes : (quota : ℕ) (c : Command) (m : Map) → is_change (reply_of quota c m) ≡ true → aim_of c ≡ aims.Write
+unfolding reply_of
+change_writes quota (Get key columns) m changes = absurd (both_ways _ (get_looks quota (Get key columns) m refl) changes)
+change_writes quota (Put key change) m changes = refl
+change_writes quota (Remove key) m changes = refl
+change_writes quota (Scan from after count columns) m changes = absurd (cc)
 
 -- a get of a key that is not there
 pub get_absent : (quota : ℕ) (c : Command) (m : Map) → is_get c ≡ true → get m (key_of c) ≡ None → Absent ≡ reply_of quota c m
@@ -60,6 +70,7 @@ pub put_there : (quota : ℕ) (r : Request) (m : Map) (row : Columns) → is_put
 unfolding reply_of map_after
 put_there quota (PutOf key change) m row e is = (ap (told_of_put quota (len m)) (sym is), ap (map_after_put quota key change m) is)
 put_there quota (GetOf key columns) m row e is = absurd (cc)
+put_there quota (ScanOf from after count columns) m row e is = absurd (cc)
 put_there quota (RemoveOf key) m row e is = absurd (cc)
 
 -- a put of a new key, with room for it
@@ -71,6 +82,7 @@ put_new quota (PutOf key change) m e none lt = (
   ap (map_after_put quota key change m) none ∙ ap (λ b. cond b (insert m key (changed change [])) m) (lt-ltb (len m) quota lt),
 )
 put_new quota (GetOf key columns) m e none lt = absurd (cc)
+put_new quota (ScanOf from after count columns) m e none lt = absurd (cc)
 put_new quota (RemoveOf key) m e none lt = absurd (cc)
 
 -- and without
@@ -79,6 +91,7 @@ pub put_full : (quota : ℕ) (r : Request) (m : Map) → is_put (command_of r) �
 unfolding reply_of
 put_full quota (PutOf key change) m e none le = sym (ap (told_of_put quota (len m)) none ∙ ap (λ b. cond b New Full) (le-ltb (len m) quota le))
 put_full quota (GetOf key columns) m e none le = absurd (cc)
+put_full quota (ScanOf from after count columns) m e none le = absurd (cc)
 put_full quota (RemoveOf key) m e none le = absurd (cc)
 
 -- a removal of a key that is missing
@@ -87,6 +100,7 @@ pub remove_missing : (quota : ℕ) (r : Request) (m : Map) → is_remove (comman
 unfolding reply_of
 remove_missing quota (RemoveOf key) m e none = sym (ap told_of_remove none)
 remove_missing quota (GetOf key columns) m e none = absurd (cc)
+remove_missing quota (ScanOf from after count columns) m e none = absurd (cc)
 remove_missing quota (PutOf key change) m e none = absurd (cc)
 
 -- and of one that is there
@@ -95,4 +109,5 @@ pub remove_there : (quota : ℕ) (r : Request) (m : Map) (row : Columns) → is_
 unfolding reply_of map_after
 remove_there quota (RemoveOf key) m row e is = (sym (ap told_of_remove is), refl)
 remove_there quota (GetOf key columns) m row e is = absurd (cc)
+remove_there quota (ScanOf from after count columns) m row e is = absurd (cc)
 remove_there quota (PutOf key change) m row e is = absurd (cc)

@@ -12,6 +12,8 @@ use Rattle.mt_arena.specs.Forests.{tree_at}
 use Rattle.mt_arena.specs.Contents.{counts}
 use Rattle.mt_arena.specs.Arena.{ArenaView, content_of, Guarantee}
 use Rattle.mt_arena.specs.Accesses.{at, IsHeld, with_node, with_half}
+use Rattle.mt_operation.specs.declared.walk.Aim.{Aim}
+use Rattle.mt_operation.specs.declared.walk.Aim.TheVariants as aims
 use Rattle.mt_operation.specs.declared.phase.Phase.{Phase}
 use Rattle.mt_operation.specs.declared.phase.Phase.TheVariants.{Enter, SplitStart, SplitMove, SplitPrev, LockParent, InsertChild, InteriorSplit, Reparent, RootGrow, Unlock, Done}
 use Rattle.mt_operation.specs.declared.walk.Walk.{Walk}
@@ -20,7 +22,7 @@ use Rattle.mt_operation.specs.declared.splits.Halves.{Halves}
 use Rattle.mt_operation.specs.declared.splits.Splits.{Splits}
 use Rattle.mt_operation.specs.declared.operation.Operation.{Operation}
 use Rattle.mt_operation.specs.Operations.{OperationView, view_of}
-use Rattle.mt_operation.specs.Phases.{is_done, MayFollow, IsOfKind, has_splits, IsClimb, FitsWrites, IsClimbKind, Kind, change_at, holds_of, may_be_parts, row, is_unplaced, is_to_come}
+use Rattle.mt_operation.specs.Phases.{is_done, MayFollow, IsOfKind, has_splits, IsClimb, FitsAim, IsClimbKind, Kind, change_at, holds_of, may_be_parts, row, is_unplaced, is_to_come}
 use Rattle.mt_operation.specs.Tasks.{ask}
 use Rattle.mt_remove.specs.Writes.{is_remove}
 use Rattle.mt_operation.specs.Tables.{op_at as operation_at}
@@ -110,18 +112,18 @@ halves_begun : (p : Phase) → HasHalves p → p ≢ Enter
 halves_begun Enter i e = i
 halves_begun _ i e = absurd (cc)
 
-halves_write : (p : Phase) → HasHalves p → (writes : Bool) → IsOfKind p writes → writes ≡ true
-halves_write p i writes kind = by (row p).kind i kind
+halves_write : (p : Phase) → HasHalves p → (aim : Aim) → IsOfKind p aim → aim ≡ aims.Write
+halves_write p i aim kind = by (row p).kind i kind
   where
-    by : (k : Kind) → HasHalvesBy k → FitsWrites k writes → writes ≡ true
+    by : (k : Kind) → HasHalvesBy k → FitsAim k aim → aim ≡ aims.Write
     by kinds.Climbs i kind = kind
     by kinds.Returns i kind = kind
     by _ i kind = absurd i
 
-pub halves_kind : (p : Phase) → HasHalves p → (writes : Bool) → writes ≡ true → IsOfKind p writes
-halves_kind p i writes is = by (row p).kind i
+pub halves_kind : (p : Phase) → HasHalves p → (aim : Aim) → aim ≡ aims.Write → IsOfKind p aim
+halves_kind p i aim is = by (row p).kind i
   where
-    by : (k : Kind) → HasHalvesBy k → FitsWrites k writes
+    by : (k : Kind) → HasHalvesBy k → FitsAim k aim
     by kinds.Climbs i = is
     by kinds.Returns i = is
     by _ i = absurd i
@@ -339,8 +341,8 @@ module _ (c : Core) (o : ℕ) (h : StateInvariant c) (few : c.steps < 2 ^ 59) (o
       let new = splitting c arena c.tape c.accounts o op w op.outcome op.prepared s in
       let answer = answer_on arena w s t.moves.contents (always.begun (halves_begun op.walk.phase was)) (climb_answer op.walk.phase climb c o op (h.ops o op there).kept) in
       quiet_gives_with c (shown c) o refl h few op there arena c.tape.reserved w op.outcome op.prepared s
-      (moves_leave c o h arena t.moves) (halves_open op.walk.phase was) t.follows t.same.writes
-      (halves_kind w.phase leads w.writes (t.same.writes ∙ halves_write op.walk.phase was op.walk.writes always.kind)) refl
+      (moves_leave c o h arena t.moves) (halves_open op.walk.phase was) t.follows t.same.aim
+      (halves_kind w.phase leads w.aim (t.same.aim ∙ halves_write op.walk.phase was op.walk.aim always.kind)) refl
       (climb_notes op.walk.phase w.phase climb leads (shown c) (view_of op))
       (λ k inside holds. halves_held w.phase leads after k t.some (t.holds k inside holds))
       (halves_kept w.phase leads new o after (climbing_of op.walk.phase climb c o op (h.ops o op there).kept).stays t.some t.kept answer)
@@ -377,8 +379,8 @@ module _ (c : Core) (o : ℕ) (h : StateInvariant c) (few : c.steps < 2 ^ 59) (o
     begun_start : 0 < op.walk.first
     begun_start = always.begun (λ enters. absurd (let no : SplitStart ≡ Enter = sym at_start ∙ enters in cc))
 
-    starts_on : op.walk.writes ≡ true
-    starts_on = subst (λ (p : Phase). IsOfKind p op.walk.writes) at_start always.kind
+    starts_on : op.walk.aim ≡ aims.Write
+    starts_on = subst (λ (p : Phase). IsOfKind p op.walk.aim) at_start always.kind
 
     -- the right half of the full node is made
     started_done : (arena : ArenaView) (w : Walk) (s : Splits) → StartsSplit c o op arena w s
@@ -398,7 +400,7 @@ module _ (c : Core) (o : ℕ) (h : StateInvariant c) (few : c.steps < 2 ^ 59) (o
         quiet_gives_with c (shown c) o refl h few op there arena c.tape.reserved w op.outcome op.prepared s
         (moves_leave c o h arena t.moves) (ap is_done at_start)
         (subst (λ (p : Phase). MayFollow p w.phase) (sym at_start) (subst (MayFollow SplitStart) (sym moves) tt))
-        t.same.writes (subst (λ (p : Phase). IsOfKind p w.writes) (sym moves) (t.same.writes ∙ starts_on)) refl
+        t.same.aim (subst (λ (p : Phase). IsOfKind p w.aim) (sym moves) (t.same.aim ∙ starts_on)) refl
         (subst (λ (p : Phase). Notes (shown c) (view_of op) p w.phase op.outcome) (sym at_start) (subst (λ (p : Phase). Notes (shown c) (view_of op) SplitStart p op.outcome) (sym moves) (starting.untold, starting.untold)))
         (λ k inside holds. subst (λ (p : Phase). HoldsAt p after k) (sym moves) (t.holds k inside holds))
         (subst (λ (p : Phase). IsKeptAt p new o after) (sym moves) own)
@@ -455,7 +457,7 @@ module _ (c : Core) (o : ℕ) (h : StateInvariant c) (few : c.steps < 2 ^ 59) (o
         (subst (Guarantee o c.arena) g.is g.keeps.guarantee) (subst (λ (v : ArenaView). content_of v ≡ content_of c.arena) g.is g.keeps.contents)))
         (ap is_done at_start)
         (subst (λ (p : Phase). MayFollow p w.phase) (sym at_start) (subst (MayFollow SplitStart) (sym ends) tt))
-        g.keeps.same.writes (subst (λ (p : Phase). IsOfKind p w.writes) (sym ends) tt) (sym (ap told_change starting.untold))
+        g.keeps.same.aim (subst (λ (p : Phase). IsOfKind p w.aim) (sym ends) tt) (sym (ap told_change starting.untold))
         (subst (λ (p : Phase). Notes (shown c) (view_of op) p w.phase told) (sym at_start) (subst (λ (p : Phase). Notes (shown c) (view_of op) SplitStart p told) (sym ends) refl))
         (λ j inside holds. absurd (free within j (subst (λ (v : ArenaView). j < length v.nodes) g.is inside) (subst (λ (v : ArenaView). (at v j).holder ≡ Some o) g.is holds)))
         (subst (λ (p : Phase). IsKeptAt p new o after) (sym ends) own)
@@ -506,7 +508,7 @@ module _ (c : Core) (o : ℕ) (h : StateInvariant c) (few : c.steps < 2 ^ 59) (o
         (returned_leaves c o h arena t.is.count t.is.trees each t.keeps.guarantee t.keeps.contents)
         (ap is_done at_unlock)
         (subst (λ (p : Phase). MayFollow p w.phase) (sym at_unlock) (subst (MayFollow Unlock) (sym ends) tt))
-        t.keeps.same.writes (subst (λ (p : Phase). IsOfKind p w.writes) (sym ends) tt) refl
+        t.keeps.same.aim (subst (λ (p : Phase). IsOfKind p w.aim) (sym ends) tt) refl
         (subst (λ (p : Phase). Notes (shown c) (view_of op) p w.phase op.outcome) (sym at_unlock) (subst (λ (p : Phase). Notes (shown c) (view_of op) Unlock p op.outcome) (sym ends) refl))
         (λ k inside holds. absurd (t.nothing (λ j within held. last_among op.splits.halves.items j some (holds_here c (shown c) o refl h few op there Unlock at_unlock j within held)) k inside holds))
         (subst (λ (p : Phase). IsKeptAt p new o after) (sym ends) (answer_on arena w s t.keeps.contents begun_unlock unlocking.answer))

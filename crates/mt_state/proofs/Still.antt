@@ -126,8 +126,8 @@ module _ (c : Core) (now : StateView) (o : ℕ) (is : shown c ≡ now) (h : Stat
   still w told = quiet c c.arena c.tape.reserved o (went op (c.steps + 1) w told op.prepared)
 
   -- a step that leads it on so
-  pub still_gives : (w : Walk) (told : Option Outcome) → MayFollow op.walk.phase w.phase → IsUnready w.phase → w.writes ≡ op.walk.writes
-      → IsOfKind w.phase w.writes → change_in (view_of (went op (c.steps + 1) w told op.prepared)) ≡ change_in (view_of op)
+  pub still_gives : (w : Walk) (told : Option Outcome) → MayFollow op.walk.phase w.phase → IsUnready w.phase → w.aim ≡ op.walk.aim
+      → IsOfKind w.phase w.aim → change_in (view_of (went op (c.steps + 1) w told op.prepared)) ≡ change_in (view_of op)
       → Notes (shown c) (view_of op) op.walk.phase w.phase told
       → IsKeptAt w.phase (still w told) o (went op (c.steps + 1) w told op.prepared)
       → (done : Bool) → done ≡ is_done w.phase → Gives now (still w told) o done

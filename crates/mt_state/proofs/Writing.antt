@@ -18,11 +18,12 @@ use Rattle.mt_tape.specs.Tapes.{last_step_over}
 use Rattle.mt_tape.proofs.EntryLaws.{all_upto_last}
 use Rattle.mt_tape.proofs.TapeLaws.{map_at-now}
 use Rattle.mt_arena.specs.Arena.{content_of}
+use Rattle.mt_operation.specs.declared.walk.Aim.TheVariants as aims
 use Rattle.mt_operation.specs.declared.task.Request.{Request}
-use Rattle.mt_operation.specs.declared.task.Request.TheVariants.{Get as GetOf, Put as PutOf, Remove as RemoveOf}
+use Rattle.mt_operation.specs.declared.task.Request.TheVariants.{Get as GetOf, Put as PutOf, Remove as RemoveOf, Scan as ScanOf}
 use Rattle.mt_operation.specs.declared.task.Task.{Task}
 use Rattle.mt_operation.specs.declared.operation.Operation.{Operation}
-use Rattle.mt_operation.specs.Tasks.{command_of, ask}
+use Rattle.mt_operation.specs.Tasks.{command_of, ask, aim_of}
 use Rattle.mt_operation.specs.Operations.{view_of}
 use Rattle.mt_insert.specs.Puts.{change_of, is_put}
 use Rattle.mt_state.specs.Views.{Core, shown, granted_in, quota_of}
@@ -32,7 +33,7 @@ use Rattle.mt_state.specs.KeptOperations.{IsPlacedOnce}
 use Rattle.mt_state.specs.Written.{KeepsQuotas, IsMadeByChange, row_left}
 use Rattle.mt_state.specs.Invariant.{StateInvariant}
 use Rattle.mt_state.specs.Moves.{IsMove, IsTold}
-use Rattle.mt_state.proofs.Replies.{get_looks}
+use Rattle.mt_state.proofs.Replies.{change_writes}
 use Rattle.mt_remove.specs.Writes.{is_remove}
 
 -- an account that has its quota still was there
@@ -45,20 +46,23 @@ pub row_left_put : (r : Request) → is_put (command_of r) ≡ true → (before 
     → row_left (command_of r) before ≡ Some (changed (change_of (command_of r)) (columns_of before))
 row_left_put (PutOf key change) put before = refl
 row_left_put (GetOf key columns) put before = absurd (cc)
+row_left_put (ScanOf from after count columns) put before = absurd (cc)
 row_left_put (RemoveOf key) put before = absurd (cc)
 
 -- a removal leaves none
 pub row_left_remove : (r : Request) → is_remove (command_of r) ≡ true → (before : Option Columns) → row_left (command_of r) before ≡ None
 row_left_remove (RemoveOf key) removes before = refl
 row_left_remove (GetOf key columns) removes before = absurd (cc)
+row_left_remove (ScanOf from after count columns) removes before = absurd (cc)
 row_left_remove (PutOf key change) removes before = absurd (cc)
 
 -- what a put or a removal writes is made by it
-made_by : (r : Request) → is_get (command_of r) ≡ false → HasColumns (command_of r) → HasShortColumns (command_of r) → (e : TapeEntry)
+made_by : (r : Request) → aim_of (command_of r) ≡ aims.Write → HasColumns (command_of r) → HasShortColumns (command_of r) → (e : TapeEntry)
     → e.after ≡ row_left (command_of r) e.before → (is_remove (command_of r) ≡ true → IsSome e.before) → IsMadeByChange e
 made_by (PutOf key change) writes names short e makes was = inl (record { change = change; within = record { names = names; short = short }; makes = makes })
 made_by (RemoveOf key) writes names short e makes was = inr (record { was = was refl; gone = makes })
 made_by (GetOf key columns) writes names short e makes was = absurd (cc)
+made_by (ScanOf from after count columns) writes names short e makes was = absurd (cc)
 
 module _ (old new : Core) (o : ℕ) (before after : Operation) (h : StateInvariant old) (m : IsMove old new o before after) where
   -- each map since the floor keeps its quota: the older ones stay, and the new one is counted
@@ -93,13 +97,12 @@ module _ (old new : Core) (o : ℕ) (before after : Operation) (h : StateInvaria
       | inr is ↦ is
     ]
 
-    put_before : (b : Bool) → is_get (ask before.task) ≡ b → is_get (ask before.task) ≡ false
-    put_before false is = is
-    put_before true is =
-        absurd (both_ways _ (ap is_change p.told ∙ get_looks (quota_of (shown old) before.task.tenant) (ask before.task) (tenant_map before.task.tenant (content_of old.arena)) is) p.changes)
+    writes_before : aim_of (ask before.task) ≡ aims.Write
+    writes_before =
+        change_writes (quota_of (shown old) before.task.tenant) (ask before.task) (tenant_map before.task.tenant (content_of old.arena)) (sym (ap is_change p.told) ∙ p.changes)
 
-    writes_after : is_get (ask after.task) ≡ false
-    writes_after = ap (λ (t : Task). is_get (ask t)) m.task ∙ put_before (is_get (ask before.task)) refl
+    writes_after : aim_of (ask after.task) ≡ aims.Write
+    writes_after = ap (λ (t : Task). aim_of (ask t)) m.task ∙ writes_before
 
     entry_made : IsMadeByChange p.entry
     entry_made = subst IsMadeByChange (sym entry_is)

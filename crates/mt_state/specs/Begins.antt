@@ -1,15 +1,17 @@
 -- A new state, and what a begin and a take make of a state.
-use Rattle.std.specs.Prelude.{◌≡◌, ◌≢◌, ℕ, ◌+◌, ◌<◌, max, true, not, [], replicate, Some, None, slice_set}
+use Rattle.std.specs.Prelude.{◌≡◌, ◌≢◌, ℕ, ◌+◌, ◌<◌, max, true, [], replicate, Some, None, slice_set}
 use Rattle.mt_rows.specs.declared.command.Command.{Command}
 use Rattle.mt_rows.specs.declared.command.Command.TheVariants.{Get, Put, Remove}
 use Rattle.mt_rows.specs.declared.tenants.Account.{Account}
 use Rattle.mt_rows.specs.Accounts.{Accounts, account_of}
-use Rattle.mt_rows.specs.Maps.{is_get}
+use Rattle.mt_rows.specs.Commands.{key_of}
+use Rattle.mt_slices.specs.Keys.{stored_key}
 use Rattle.mt_runs.specs.declared.event.Answer.{Answer}
 use Rattle.mt_arena.specs.Accesses.{new_arena}
 use Rattle.mt_operation.specs.declared.phase.Phase.TheVariants.{Enter, Done}
 use Rattle.mt_operation.specs.Walks.{walk_from_top}
-use Rattle.mt_operation.specs.Operations.{OperationView, no_splits, no_removal}
+use Rattle.mt_operation.specs.Operations.{OperationView, no_splits, no_removal, no_scan}
+use Rattle.mt_operation.specs.Tasks.{aim_of}
 use Rattle.mt_operation.specs.Phases.{is_done}
 use Rattle.mt_state.specs.Views.{StateView, Shown, op_at}
 use Rattle.mt_state.specs.Promises.{IsAnswer}
@@ -51,9 +53,10 @@ begun worker tenant command = record {
   last = 0;
   phase = Enter;
   outcome = None;
-  walk = walk_from_top (not (is_get command)) 0;
+  walk = walk_from_top (aim_of command) 0;
   splits = no_splits;
   removal = no_removal;
+  scan = no_scan (stored_key tenant (key_of command)) command;
 }
 
 -- an operation more, at an id that was free; all else is as it was

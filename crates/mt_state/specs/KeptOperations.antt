@@ -6,7 +6,7 @@ use Rattle.mt_rows.specs.declared.reply.Reply.TheVariants as replies
 use Rattle.mt_rows.specs.Rows.{Columns, shown as columns_shown}
 use Rattle.mt_rows.specs.Commands.{key_of, HasColumns, HasShortColumns}
 use Rattle.mt_rows.specs.Accounts.{account_of}
-use Rattle.mt_rows.specs.Maps.{is_get}
+use Rattle.mt_rows.specs.Maps.{is_scan}
 use Rattle.mt_border.specs.Contents.{owned}
 use Rattle.mt_tape.specs.declared.entry.Entry.{Entry as TapeEntry}
 use Rattle.mt_arena.specs.Arena.{ArenaView}
@@ -19,7 +19,7 @@ use Rattle.mt_operation.specs.declared.outcome.Outcome.{Outcome}
 use Rattle.mt_operation.specs.declared.prepared.Prepared.{Prepared}
 use Rattle.mt_operation.specs.declared.operation.Operation.{Operation}
 use Rattle.mt_operation.specs.Phases.{IsOfKind, has_splits, Kind, row}
-use Rattle.mt_operation.specs.Tasks.{ask}
+use Rattle.mt_operation.specs.Tasks.{ask, aim_of}
 use Rattle.mt_operation.specs.declared.splits.Halves.{Halves}
 use Rattle.mt_operation.specs.Operations.{view_of, IsUnsplit, no_removal}
 use Rattle.mt_insert.specs.Puts.{is_put}
@@ -43,8 +43,9 @@ pub record IsOpenOperation (c : Core) (op : Operation) : Type 0 where
   pub owner : owned op.task.key ≡ (op.task.tenant, key_of (ask op.task))
   pub columns : HasColumns (ask op.task)
   pub tenant : IsSome (account_of c.accounts op.task.tenant)
-  pub writes : op.walk.writes ≡ not (is_get (ask op.task))
-  pub kind : IsOfKind op.walk.phase op.walk.writes
+  pub aim : op.walk.aim ≡ aim_of (ask op.task)
+  pub no_scan : is_scan (ask op.task) ≡ false
+  pub kind : IsOfKind op.walk.phase op.walk.aim
   pub order : op.walk.first ≤ op.last
   pub made : op.last ≤ c.steps
   pub floor : 0 < op.walk.first → c.tape.floor < op.walk.first
@@ -201,6 +202,7 @@ abbrev pub IsKeptFor : Kind → Phase → Core → ℕ → Operation → Type 0
 IsKeptFor kinds.Descends p c o op = IsOnItsWay c op
 IsKeptFor kinds.Locks p c o op = IsOnItsWay c op
 IsKeptFor kinds.Reads p c o op = IsReadingAt p c op
+IsKeptFor kinds.Scans p c o op = IsOnItsWay c op
 IsKeptFor kinds.Judges p c o op = IsJudging c o op
 IsKeptFor kinds.Writes p c o op = IsWritingAt p c o op
 IsKeptFor kinds.Begins p c o op = IsSplitStarting c o op

@@ -23,7 +23,7 @@ use Rattle.mt_descent.specs.WalkMoves.{IsBlocked, IsBlockedAt}
 use Rattle.mt_state.specs.declared.moves.Move.{Move}
 use Rattle.mt_state.specs.declared.moves.Move.TheVariants.{Moved, Again, NoMemory as NoMemoryMove, Done as DoneMove, Spent, NoSuch}
 use Rattle.mt_state.specs.Views.{StateView, contents_of, op_at, map_of, quota_of, KeepsPast, IsPlaced}
-use Rattle.mt_operation.specs.Phases.{Waiting, Never, RootMark, ChildMark, OwnMark, NextMark, OwnSlot, OwnLock, ParentLock, BeforeLock, AboveLock, BelowLock, row, is_done, IsToGrow}
+use Rattle.mt_operation.specs.Phases.{Waiting, Never, RootMark, ChildMark, OwnMark, NextMark, OwnSlot, ReadSlot, OwnLock, ParentLock, BeforeLock, AboveLock, BelowLock, row, is_done, IsToGrow}
 use Rattle.mt_state.specs.Steps.{HasMoved, change_in}
 use Rattle.mt_state.specs.Notes.{key_asked, Notes}
 use Rattle.mt_state.specs.Growth.{MakesFew}
@@ -102,6 +102,7 @@ node_needed RootMark v w s r = Some (tree_at v.trees w.place.tree).root
 node_needed ChildMark v w s r = Some w.child
 node_needed OwnMark v w s r = Some w.place.node
 node_needed OwnSlot v w s r = Some w.place.node
+node_needed ReadSlot v w s r = Some w.place.node
 node_needed NextMark v w s r = w.next
 node_needed OwnLock v w s r = Some w.place.node
 node_needed ParentLock v w s r = (at v (last_half s).left).parent
@@ -121,7 +122,7 @@ is_for_lock _ = false
 abbrev pub locks_next : Phase → Bool
 locks_next p = is_for_lock (row p).waits
 
--- how that node is in the way: by its lock, where it is to be locked; by the unstable slot, where that is to be loaded; else by its mark; each is its
+-- how that node is in the way: by its lock, where it is to be locked; by an unstable slot, where that is to be loaded or read; else by its mark; each is its
 -- holder's
 abbrev pub BlocksBy : Waiting → NodeView → ℕ → ℕ → Type 0
 BlocksBy OwnLock n slot holder = n.holder ≡ Some holder
@@ -130,6 +131,7 @@ BlocksBy BeforeLock n slot holder = n.holder ≡ Some holder
 BlocksBy AboveLock n slot holder = n.holder ≡ Some holder
 BlocksBy BelowLock n slot holder = n.holder ≡ Some holder
 BlocksBy OwnSlot n slot holder = IsBlockedAt n slot holder
+BlocksBy ReadSlot n slot holder = (i : ℕ) × IsBlockedAt n i holder
 BlocksBy _ n slot holder = IsBlocked n holder
 
 -- the same of the step of a phase

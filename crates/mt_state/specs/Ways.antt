@@ -3,7 +3,7 @@ use Rattle.std.specs.Prelude.{◌≡◌, ℕ, ◌+◌, List, Option, Some, None,
 use Rattle.mt_rows.specs.declared.reply.Reply.TheVariants.{Found}
 use Rattle.mt_rows.specs.Rows.{Columns, shown}
 use Rattle.mt_operation.specs.declared.phase.Phase.{Phase}
-use Rattle.mt_operation.specs.declared.phase.Phase.TheVariants.{Search, Lock}
+use Rattle.mt_operation.specs.declared.phase.Phase.TheVariants.{Search, Lock, Snap}
 use Rattle.mt_operation.specs.declared.walk.Walk.{Walk}
 use Rattle.mt_descent.specs.WalkMoves.{Continues}
 use Rattle.mt_operation.specs.Phases.{MayFollow, IsOfKind, IsDescent}
@@ -18,6 +18,7 @@ use Rattle.mt_state.specs.Views.{Core}
 abbrev pub IsOnWay : Phase → Type 0
 IsOnWay Search = Unit {0}
 IsOnWay Lock = Unit {0}
+IsOnWay Snap = Unit {0}
 IsOnWay phase = IsDescent phase
 
 -- a walk goes on so, to look or to lock as before
@@ -25,7 +26,7 @@ pub record Descends (before after : Walk) : Type 0 where
   pub on_way : IsOnWay after.phase
   pub same : Continues before after
   pub follows : MayFollow before.phase after.phase
-  pub kind : IsOfKind after.phase after.writes
+  pub kind : IsOfKind after.phase after.aim
 
 -- a state in which operation o has walked on by one more step, with this outcome or none, and all else is as it was
 abbrev pub walked : Core → ℕ → Operation → Walk → Option Outcome → Core

@@ -8,7 +8,7 @@ ghost use Rattle.mt_arena.specs.Layers.{slot_at};
 ghost use Rattle.mt_arena.specs.NodeFacts.{IsUnstable};
 ghost use Rattle.mt_arena.specs.Accesses.{at};
 ghost use Rattle.mt_operation.specs.declared.phase.Phase.{Phase};
-ghost use Rattle.mt_operation.specs.declared.phase.Phase.TheVariants.{Search, Load, Confirm, Done};
+ghost use Rattle.mt_operation.specs.declared.phase.Phase.TheVariants.{Search, Load, Confirm, Snap, Done};
 ghost use Rattle.mt_operation.specs.declared.outcome.Outcome.{Outcome};
 ghost use Rattle.mt_operation.specs.declared.operation.Operation.{Operation};
 ghost use Rattle.mt_operation.specs.declared.removal.Removal.{Removal};
@@ -55,7 +55,7 @@ pub fn wrong_steps_are_refused()
     ensures for_another_node { (v : ArenaView) (phase : Phase) (w : Walk) (s : SplitsView) (r : Removal) (k holder : ℕ) → needed_node phase v w s r ≡ Some k →
         (at v k).holder ≢ Some holder → ¬ IsInTheWay v phase w s r holder }
     ensures for_none { (v : ArenaView) (phase : Phase) (w : Walk) (s : SplitsView) (r : Removal) (holder : ℕ) → needed_node phase v w s r ≡ None → ¬ IsInTheWay v phase w s r holder }
-    ensures lock_alone { (v : ArenaView) (phase : Phase) (w : Walk) (s : SplitsView) (r : Removal) (k holder : ℕ) → locks_next phase ≡ false → phase ≢ Load →
+    ensures lock_alone { (v : ArenaView) (phase : Phase) (w : Walk) (s : SplitsView) (r : Removal) (k holder : ℕ) → locks_next phase ≡ false → phase ≢ Load → phase ≢ Snap →
         needed_node phase v w s r ≡ Some k → IsStable (at v k).version → ¬ IsInTheWay v phase w s r holder }
     ensures of_another { (o q k : ℕ) (old new : ArenaView) → Touches o old new → k < length old.nodes → q ≢ o →
         (at old k).holder ≡ Some q → (at new k).holder ≢ Some o → (at new k).slots ≡ (at old k).slots }

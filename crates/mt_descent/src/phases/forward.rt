@@ -26,7 +26,7 @@ pub fn forward(arena: &Arena, key: &StoredKey, walk: &mut Walk) -> Option<usize>
 {
     arena.facts();
     let Some(next) = walk.next else {
-        walk.phase = arrival(walk.writes);
+        walk.phase = arrival(walk.aim);
         return None;
     };
     let node = arena.node(next);
@@ -50,6 +50,6 @@ fn go_to(walk: &mut Walk, slice: u64, next: usize, node: &Node)
         walk.next = node.next();
         walk.phase = Phase::Forward;
     } else {
-        walk.phase = arrival(walk.writes);
+        walk.phase = arrival(walk.aim);
     }
 }

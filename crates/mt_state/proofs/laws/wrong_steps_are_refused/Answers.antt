@@ -6,7 +6,7 @@ use Rattle.mt_version.specs.Changes.{IsMarked, IsStable}
 use Rattle.mt_arena.specs.NodeView.{NodeView}
 use Rattle.mt_arena.specs.Accesses.{at}
 use Rattle.mt_operation.specs.declared.phase.Phase.{Phase}
-use Rattle.mt_operation.specs.declared.phase.Phase.TheVariants.{Load, Lock, LockParent, LockPrev, LockAbove, CleanLayer}
+use Rattle.mt_operation.specs.declared.phase.Phase.TheVariants.{Load, Lock, LockParent, LockPrev, LockAbove, CleanLayer, Snap}
 use Rattle.mt_state.specs.Promises.{Blocks, locks_next}
 use Rattle.mt_state.proofs.laws.wrong_steps_are_refused.Goals as goal
 
@@ -19,20 +19,22 @@ held_by : (p : Phase) (n : NodeView) (slot holder : ℕ) → Blocks p n slot hol
 held_by Lock n slot holder blocks = blocks
 held_by LockParent n slot holder blocks = blocks
 held_by Load n slot holder blocks = blocks.by
+held_by Snap n slot holder blocks = blocks.1.by
 held_by LockPrev n slot holder blocks = blocks
 held_by LockAbove n slot holder blocks = blocks
 held_by CleanLayer n slot holder blocks = blocks
 held_by _ n slot holder blocks = blocks.by
 
 -- and the node is marked, where it is only to be read
-marked_by : (p : Phase) (n : NodeView) (slot holder : ℕ) → locks_next p ≡ false → p ≢ Load → Blocks p n slot holder → IsMarked n.version
-marked_by Lock n slot holder lock load blocks = absurd (cc)
-marked_by LockParent n slot holder lock load blocks = absurd (cc)
-marked_by LockPrev n slot holder lock load blocks = absurd (cc)
-marked_by LockAbove n slot holder lock load blocks = absurd (cc)
-marked_by CleanLayer n slot holder lock load blocks = absurd (cc)
-marked_by Load n slot holder lock load blocks = absurd (load refl)
-marked_by _ n slot holder lock load blocks = blocks.marked
+marked_by : (p : Phase) (n : NodeView) (slot holder : ℕ) → locks_next p ≡ false → p ≢ Load → p ≢ Snap → Blocks p n slot holder → IsMarked n.version
+marked_by Lock n slot holder lock load snap blocks = absurd (cc)
+marked_by LockParent n slot holder lock load snap blocks = absurd (cc)
+marked_by LockPrev n slot holder lock load snap blocks = absurd (cc)
+marked_by LockAbove n slot holder lock load snap blocks = absurd (cc)
+marked_by CleanLayer n slot holder lock load snap blocks = absurd (cc)
+marked_by Load n slot holder lock load snap blocks = absurd (load refl)
+marked_by Snap n slot holder lock load snap blocks = absurd (snap refl)
+marked_by _ n slot holder lock load snap blocks = blocks.marked
 
 pub returns-clause-for_another_node : goal.returns-clause-for_another_node
 returns-clause-for_another_node c = λ v phase w s r k holder needs other way.
@@ -43,9 +45,9 @@ pub returns-clause-for_none : goal.returns-clause-for_none
 returns-clause-for_none c = λ v phase w s r holder none way. absurd (let no = sym none ∙ way.1 in cc)
 
 pub returns-clause-lock_alone : goal.returns-clause-lock_alone
-returns-clause-lock_alone c = λ v phase w s r k holder lock load needs stable way.
+returns-clause-lock_alone c = λ v phase w s r k holder lock load snap needs stable way.
     let same = same_Some way.0 k (sym way.1 ∙ needs) in
-    unmarked (at v way.0).version (subst (λ j. IsStable (at v j).version) (sym same) stable) (marked_by phase (at v way.0) w.slot holder lock load way.3)
+    unmarked (at v way.0).version (subst (λ j. IsStable (at v j).version) (sym same) stable) (marked_by phase (at v way.0) w.slot holder lock load snap way.3)
 
 pub returns-clause-of_another : goal.returns-clause-of_another
 returns-clause-of_another c = λ o q k old new touches within other held free. elim (touches k within) [

@@ -1,0 +1,16 @@
+-- What a scan remembers between its steps: what is shown of it.
+use Rattle.std.specs.Prelude.{◌+◌, ◌≤◌, List, length, map, take, drop}
+use Rattle.std.specs.List.{All}
+use Rattle.mt_rows.specs.Rows.{Bytes, Columns}
+use Rattle.mt_operation.specs.declared.seen.SeenPair.{SeenPair}
+
+-- a pair of those that were seen: its key stands among these bytes
+abbrev pub pair_in : Bytes → SeenPair → Bytes × Columns
+pair_in bytes p = (take p.key_length (drop p.key_start bytes), p.row)
+
+abbrev pub pairs_in : Bytes → List SeenPair → List (Bytes × Columns)
+pairs_in bytes pairs = map (pair_in bytes) pairs
+
+-- each has its key there
+abbrev pub HasKeys : Bytes → List SeenPair → Type 0
+HasKeys bytes pairs = All (λ p. p.key_start + p.key_length ≤ length bytes) pairs
