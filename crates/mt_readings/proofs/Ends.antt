@@ -8,9 +8,10 @@ use Rattle.std.specs.Ordering.{nat_cmp, is_lt, ordering_then}
 use Rattle.std.specs.Cmp.Lexicographic.{slice_cmp}
 use Rattle.std.specs.List.{Contains}
 use Rattle.std.specs.FinMap.{get}
-use Rattle.mt_slices.specs.Keys.{tenant_of}
+use Rattle.mt_slices.specs.Keys.{IsStoredKey, tenant_of, user_key_of}
 use Rattle.mt_slices.specs.Slices.{slice_of, mark_of, rest_of, slice_at}
 use Rattle.mt_slices.proofs.Bytes.{AreBytes, bytes-drop, bytes-tail}
+use Rattle.mt_slices.proofs.Tenants.{stored_key-again}
 use Rattle.mt_slices.proofs.Numbers.{number, number_lt, slice_at-number, tenant_of-number}
 use Rattle.mt_rows.specs.Rows.{Bytes}
 use Rattle.mt_rows.specs.Tenants.{Contents}
@@ -25,15 +26,17 @@ use Rattle.mt_arena.specs.Arena.{IsArena}
 use Rattle.mt_arena.specs.Contents.{content}
 use Rattle.mt_readings.specs.Reading.{is_below, is_behind, read, stop}
 use Rattle.mt_readings.proofs.Readings.{read_in, rank_of}
-use Rattle.mt_border.specs.Entries.{slices}
 use Rattle.mt_border.proofs.ContentsKeys.{is_mark_of}
 use Rattle.mt_interior.specs.Fences.{end_of}
 use Rattle.mt_arena.proofs.Elsewhere.{layer_is}
-use Rattle.std.proofs.lemmas.List.{get_or-map}
+use Rattle.std.proofs.lemmas.List.{take-take, nil_from_length}
+use Rattle.std.proofs.Math.Seq.{take-append_seam}
+use Rattle.std.specs.Int.{w32, to_be_bytes, from_be_bytes}
 use Rattle.mt_readings.specs.Spans.{IsScanAt, TellsAll}
 use Rattle.mt_readings.proofs.Bytewise.{nat_less, nat_greater, nat_same, reaches}
 use Rattle.mt_readings.proofs.Spanning.{not_lt, told_of, real_of}
-use Rattle.mt_readings.specs.Tenancies.{TellsTenant, IsBehindAll}
+use Rattle.mt_slices.specs.Fences.{IsBehindAll}
+use Rattle.mt_readings.specs.Tenancies.{TellsTenant}
 
 abbrev cmp : Bytes → Bytes → Ordering
 cmp = slice_cmp nat_cmp
@@ -70,6 +73,26 @@ from_full (p ∷ ps) (c ∷ key) full bytes from =
           let rest = from_full ps key (λ i lt. full (suc i) (omega (arith, lt))) (λ i. bytes (suc i)) (ap is_lt (sym (ap (λ o. ordering_then o (cmp key ps)) (nat_same p)) ∙ ap (λ x. cmp (x ∷ key) (p ∷ ps)) (sym same)) ∙ from) in
           (λ i. same i ∷ rest i)
     ]
+
+-- and so it does from bytes on of which it has the first so many, and of which the rest are the greatest
+from_greatest : (n : ℕ) (ps key : Bytes) → take n key ≡ take n ps → ((i : ℕ) → n ≤ i → i < length ps → slice_index ps i ≡ 255) → ((i : ℕ) → slice_index key i < 256) →
+    is_lt (cmp key ps) ≡ false → take (length ps) key ≡ ps
+from_greatest zero ps key alike full bytes from = from_full ps key (λ i lt. full i (omega arith) lt) bytes from
+from_greatest (suc n) [] key alike full bytes from = refl
+from_greatest (suc n) (p ∷ ps) [] alike full bytes from = absurd (let none = ap length alike in cc)
+from_greatest (suc n) (p ∷ ps) (c ∷ key) alike full bytes from =
+    let same : c ≡ p = cc in
+    let rest_alike : take n key ≡ take n ps = cc in
+    let rest = from_greatest n ps key rest_alike (λ i more lt. full (suc i) (omega (arith, more)) (omega (arith, lt))) (λ i. bytes (suc i))
+    (ap is_lt (sym (ap (λ o. ordering_then o (cmp key ps)) (nat_same p)) ∙ ap (λ x. cmp (x ∷ key) (p ∷ ps)) (sym same)) ∙ from) in
+    (λ i. same i ∷ rest i)
+
+-- keys of one tenant begin with the same four bytes
+pub first_four : (a b : Bytes) → 4 ≤ length a → 4 ≤ length b → AreBytes a → AreBytes b → tenant_of a ≡ tenant_of b → take 4 a ≡ take 4 b
+first_four a b long_a long_b bytes_a bytes_b same = front a long_a bytes_a ∙ ap (to_be_bytes w32) same ∙ sym (front b long_b bytes_b)
+  where
+    front : (key : Bytes) → 4 ≤ length key → AreBytes key → take 4 key ≡ to_be_bytes w32 (tenant_of key)
+    front key long bytes = ap (take 4) (sym (stored_key-again key long bytes)) ∙ take-append_seam (to_be_bytes w32 (tenant_of key)) (user_key_of key)
 
 -- a key between some bytes and the least key behind all that begin so begins so
 pub under_all : (place : ℕ) (ps es key : Bytes) → place < length ps → length es ≡ place + 1 → take place es ≡ take place ps → slice_index es place ≡ slice_index ps place + 1 →
@@ -137,14 +160,14 @@ from_first (suc n) (a ∷ f) (c ∷ key) from = elim (cases_lt c a) [
 ]
 
 -- a slice fits 64 bits
-slice_of_lt : (key : Bytes) (layer : ℕ) → AreBytes key → slice_of key layer < 18446744073709551616
+pub slice_of_lt : (key : Bytes) (layer : ℕ) → AreBytes key → slice_of key layer < 18446744073709551616
 slice_of_lt key layer bytes = by (rest_of key layer) (bytes-drop (8 * layer) key bytes)
   where
     by : (xs : Bytes) → AreBytes xs → slice_at xs < 18446744073709551616
     by xs b = rw (slice_at-number xs) (number_lt 8 xs b)
 
 -- and a tenant's is one of those that begin with its number
-slice_of_tenant : (key : Bytes) → AreBytes key → 4 ≤ length key → slice_of key 0 < (tenant_of key + 1) * 4294967296
+pub slice_of_tenant : (key : Bytes) → AreBytes key → 4 ≤ length key → slice_of key 0 < (tenant_of key + 1) * 4294967296
 slice_of_tenant key bytes long = rw (slice_at-number key, tenant_of-number key) (by key bytes long)
   where
     by : (xs : Bytes) → AreBytes xs → 4 ≤ length xs → number 8 xs < (number 4 xs + 1) * 4294967296
@@ -153,6 +176,26 @@ slice_of_tenant key bytes long = rw (slice_at-number key, tenant_of-number key) 
     by (x ∷ y ∷ []) b l = absurd (omega (arith, l))
     by (x ∷ y ∷ z ∷ []) b l = absurd (omega (arith, l))
     by (x ∷ y ∷ z ∷ u ∷ xs) b l = let rest = number_lt 4 xs (bytes-tail u xs (bytes-tail z (u ∷ xs) (bytes-tail y (z ∷ u ∷ xs) (bytes-tail x (y ∷ z ∷ u ∷ xs) b)))) in omega (arith, rest)
+
+-- nor is it below the first of them
+pub slice_from_tenant : (key : Bytes) → 4 ≤ length key → tenant_of key * 4294967296 ≤ slice_of key 0
+slice_from_tenant key long = rw (slice_at-number key, tenant_of-number key) (by key long)
+  where
+    by : (xs : Bytes) → 4 ≤ length xs → number 4 xs * 4294967296 ≤ number 8 xs
+    by [] l = absurd (omega (arith, l))
+    by (x ∷ []) l = absurd (omega (arith, l))
+    by (x ∷ y ∷ []) l = absurd (omega (arith, l))
+    by (x ∷ y ∷ z ∷ []) l = absurd (omega (arith, l))
+    by (x ∷ y ∷ z ∷ u ∷ xs) l = omega arith
+
+-- so a key whose slice is one of a tenant's is that tenant's
+pub tenant_is : (key : Bytes) (t : ℕ) → AreBytes key → 4 ≤ length key → t * 4294967296 ≤ slice_of key 0 → slice_of key 0 < (t + 1) * 4294967296 → tenant_of key ≡ t
+tenant_is key t bytes long low high = let over = slice_from_tenant key long in let under = slice_of_tenant key bytes long in omega (arith, low, high, over, under)
+
+-- and keys that begin with the same four bytes are of one tenant
+pub same_tenant : (a b : Bytes) → take 4 a ≡ take 4 b → tenant_of a ≡ tenant_of b
+unfolding tenant_of
+same_tenant a b alike = ap (from_be_bytes w32) alike
 
 module _ (nodes : List NodeView) (trees : List Tree) (k layer : ℕ) (fence : Bytes) (after : Bool) (t : ℕ) (arena : IsArena nodes trees) (scan : IsScanAt nodes trees k layer fence) where
   abbrev n : NodeView
@@ -164,7 +207,7 @@ module _ (nodes : List NodeView) (trees : List Tree) (k layer : ℕ) (fence : By
   abbrev behind : Entry → Bool
   behind = is_behind fence after layer
 
-  prefix_long : length prefix ≡ 8 * layer
+  pub prefix_long : length prefix ≡ 8 * layer
   prefix_long =
       let size = (arena.forest.each n.tree (arena.forest.tree_there k scan.border.there)).whole in
       let is = layer_is prefix fence layer scan.of_tree in
@@ -190,20 +233,39 @@ module _ (nodes : List NodeView) (trees : List Tree) (k layer : ℕ) (fence : By
     real = real_pairs (is_below reached false) (λ key of mine. before_all b.place prefix reached key b.in_range b.long b.alike b.more (ap (λ m. take m key) prefix_long ∙ sym of.begins));
   }
 
-  -- up to the end of the tenant's keys, where a key or link of a greater tenant was met
-  pub to_the_tenants_end : (e : Entry) → layer ≡ 0 → Contains n.slots e → (t + 1) * 4294967296 ≤ e.slice → ((l : Entry) → stop behind n.slots ≡ Some l → (t + 1) * 4294967296 ≤ l.slice) →
+  -- up to the end of the tenant's keys, where the range of a node of the top tree goes so far
+  pub to_the_tenants_end : layer ≡ 0 → (t + 1) * 4294967296 ≤ end_of n.high → ((l : Entry) → stop behind n.slots ≡ Some l → (t + 1) * 4294967296 ≤ l.slice) →
       TellsTenant (content trees nodes) t prefix layer fence after (λ key. true) (read behind n.slots)
-  to_the_tenants_end e top has over links = record {
+  to_the_tenants_end top over links = record {
     whole = λ key stored mine ahead to.
         let of : IsOfTree prefix layer key = record { stored = stored; reaches = omega (arith, top); begins = scan.of_tree.begins ∙ none_alike top key } in
         let low : slice_of key layer < (t + 1) * 4294967296 = subst (λ m. slice_of key m < (t + 1) * 4294967296) (sym top) (subst (λ u. slice_of key 0 < (u + 1) * 4294967296) mine (slice_of_tenant key stored.are_bytes stored.has_tenant)) in
-        let within = (arena.nodes.each k scan.border.there).slots.within has.0 has.1 in
-        let is : slice_index (slices n.slots) has.0 ≡ e.slice = get_or-map (λ (x : Entry). x.slice) n.slots has.0 e 0 has.1 ∙ ap (λ (x : Entry). x.slice) has.2 in
-        let high : e.slice < end_of n.high = subst (λ s. s < end_of n.high) is within.1 in
         let few = rank_of (mark_of key layer) (is_mark_of key layer) in
-        told_of nodes trees k layer fence after arena scan key stored ahead of (omega (arith, low, over, high)) (λ s. let far = links s.link s.stops in omega (arith, far, low, few, s.before));
+        told_of nodes trees k layer fence after arena scan key stored ahead of (omega (arith, low, over)) (λ s. let far = links s.link s.stops in omega (arith, far, low, few, s.before));
     real = real_pairs (λ key. true) (λ key of mine. refl);
   }
     where
       none_alike : layer ≡ 0 → (key : Bytes) → take (8 * layer) fence ≡ take (8 * layer) key
       none_alike top key = ap (λ m. take (8 * m) fence) top ∙ ap (λ m. take (8 * m) key) (sym top)
+
+  -- up to the end of a tree behind which the tenant has no key: so are all of them from the fence on, since theirs are at most the greatest bytes
+  pub to_the_last_trees_end : stop behind n.slots ≡ None → n.high ≡ None → tenant_of fence ≡ t → ((i : ℕ) → 4 ≤ i → i < length prefix → slice_index prefix i ≡ 255) →
+      TellsTenant (content trees nodes) t prefix layer fence after (λ key. true) (read behind n.slots)
+  to_the_last_trees_end stops end own full = record {
+    whole = λ key stored mine ahead to.
+        let begins = in_tree key stored mine (not_lt after (cmp key fence) ahead) in
+        let of : IsOfTree prefix layer key = record { stored = stored; reaches = reaches (8 * layer) fence key scan.of_tree.reaches (begins ∙ scan.of_tree.begins); begins = sym begins } in
+        told_of nodes trees k layer fence after arena scan key stored ahead of (subst (λ h. slice_of key layer < end_of h) (sym end) (slice_of_lt key layer stored.are_bytes)) (λ s. let both = sym stops ∙ s.stops in cc);
+    real = real_pairs (λ key. true) (λ key of mine. refl);
+  }
+    where
+      in_tree : (key : Bytes) → IsStoredKey key → tenant_of key ≡ t → is_lt (cmp key fence) ≡ false → take (8 * layer) key ≡ prefix
+      in_tree key stored mine from = elim (cases_eq layer 0) [
+        | inl top ↦ ap (λ m. take (8 * m) key) top ∙ sym (nil_from_length prefix (let long = prefix_long in omega (arith, long, top)))
+        | inr below ↦
+            let from_prefix : is_lt (cmp key prefix) ≡ false = subst (λ p. is_lt (cmp key p) ≡ false) (sym scan.of_tree.begins) (from_first (8 * layer) fence key from) in
+            let alike : take 4 key ≡ take 4 prefix =
+            first_four key fence stored.has_tenant scan.of_tree.stored.has_tenant stored.are_bytes scan.of_tree.stored.are_bytes (mine ∙ sym own)
+            ∙ sym (ap (take 4) scan.of_tree.begins ∙ take-take 4 (8 * layer) fence (omega (arith, below))) in
+            ap (λ m. take m key) (sym prefix_long) ∙ from_greatest 4 prefix key alike full stored.are_bytes from_prefix
+      ]

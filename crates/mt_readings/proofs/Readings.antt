@@ -119,6 +119,16 @@ module _ (behind : Entry → Bool) where
   stop_link [] l h = absurd (cc)
   stop_link (e ∷ es) l h = stop_link_by e es l (behind e) (pair_of e.held) refl h (λ inner. stop_link es l inner)
 
+  -- and the fence isn't behind it
+  stop_ahead_by : (e : Entry) (es : List Entry) (l : Entry) (b : Bool) (p : Option Pair) → behind e ≡ b → (if b then stop behind es else stop_on e p (stop behind es)) ≡ Some l → (stop behind es ≡ Some l → behind l ≡ false) → behind l ≡ false
+  stop_ahead_by e es l true p b_is h rest = rest h
+  stop_ahead_by e es l false None b_is h rest = let same : e ≡ l = cc in ap behind (sym same) ∙ b_is
+  stop_ahead_by e es l false (Some pair) b_is h rest = rest h
+
+  pub stop_ahead : (es : List Entry) (l : Entry) → stop behind es ≡ Some l → behind l ≡ false
+  stop_ahead [] l h = absurd (cc)
+  stop_ahead (e ∷ es) l h = stop_ahead_by e es l (behind e) (pair_of e.held) refl h (λ inner. stop_ahead es l inner)
+
   -- in a list of rising places, the first is below each other
   first_below : (e : Entry) (es : List Entry) (f : Entry) → IsRising (orders (e ∷ es)) → Contains es f → order_of e < order_of f
   first_below e es f rising h =

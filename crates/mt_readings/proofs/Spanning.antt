@@ -1,5 +1,5 @@
 -- What the reading of a node tells of the contents, up to a fence.
-use Rattle.std.proofs.Common.{◌≡◌, ℕ, zero, suc, ◌+◌, ◌-◌, ◌*◌, ◌<◌, ◌≤◌, ◌⊎◌, inl, inr, Bool, true, false, min, List, [], ◌∷◌, length, get_or, Some, None, refl, sym, ap, subst, ◌∙◌, arith}
+use Rattle.std.proofs.Common.{◌≡◌, ℕ, zero, suc, ◌+◌, ◌-◌, ◌*◌, ◌<◌, ◌≤◌, ◌⊎◌, inl, inr, Bool, true, false, min, List, [], ◌∷◌, length, take, get_or, Some, None, refl, sym, ap, subst, ◌∙◌, arith}
 use Rattle.std.specs.Prelude.{if◌then◌else◌, slice_index}
 use Rattle.std.specs.Int.{w64, to_be_bytes}
 use Rattle.std.proofs.lemmas.Bool.{cases_lt, cases_eq, ne_eqb}
@@ -17,6 +17,7 @@ use Rattle.mt_slices.specs.Marks.{mark_rank}
 use Rattle.mt_slices.specs.Slices.{slice_of, mark_of, suffix_of, rest_of, padded}
 use Rattle.mt_slices.specs.declared.mark.Mark.{Mark}
 use Rattle.mt_slices.proofs.Bytes.{bytes-drop}
+use Rattle.mt_slices.proofs.Order.{cmp_below}
 use Rattle.mt_slices.proofs.Padding.{slice_bytes, get_or-padded}
 use Rattle.mt_slices.proofs.Rejoin.{mark_short, mark_long}
 use Rattle.mt_slices.specs.declared.mark.Mark.TheVariants.{Long, Short}
@@ -66,10 +67,10 @@ module _ (nodes : List NodeView) (trees : List Tree) (k layer : ℕ) (fence : By
   abbrev behind : Entry → Bool
   behind = is_behind fence after layer
 
-  border_is : IsBorder n.slots
+  pub border_is : IsBorder n.slots
   border_is = (arena.nodes.each k at.border.there).slots.border
 
-  keys_are : AreKeys prefix layer n.slots
+  pub keys_are : AreKeys prefix layer n.slots
   keys_are = subst (λ m. AreKeys prefix m n.slots) (layer_is prefix fence layer at.of_tree) ((arena.forest.homes k n.tree at.border.there (arena.forest.tree_there k at.border.there)).keys refl).keys
 
   -- a key from the fence on and below another of the tree is of the tree, and has a byte in the layer
@@ -77,9 +78,9 @@ module _ (nodes : List NodeView) (trees : List Tree) (k layer : ℕ) (fence : By
     from : is_lt (cmp key fence) ≡ false
     from = not_lt after (cmp key fence) ahead
 
-    in_between : (reached : Bytes) → IsOfTree prefix layer reached → is_below reached false key ≡ true → IsOfTree prefix layer key
-    in_between reached of to =
-        let alike = squeeze (8 * layer) fence key reached at.of_tree.reaches (sym at.of_tree.begins ∙ of.begins) from to in
+    in_between : (reached : Bytes) → prefix ≡ take (8 * layer) reached → is_below reached false key ≡ true → IsOfTree prefix layer key
+    in_between reached begins to =
+        let alike = squeeze (8 * layer) fence key reached at.of_tree.reaches (sym at.of_tree.begins ∙ begins) from to in
         record { stored = stored; reaches = reaches (8 * layer) fence key at.of_tree.reaches alike; begins = at.of_tree.begins ∙ sym alike }
 
     pub has_byte : IsOfTree prefix layer key → 8 * layer < length key
@@ -174,13 +175,16 @@ module _ (nodes : List NodeView) (trees : List Tree) (k layer : ℕ) (fence : By
   long_link m (Link tree) can none = can
 
   module _ (link : Entry) (stops : stop behind n.slots ≡ Some link) where
-    stands : Contains n.slots link
+    pub stands : Contains n.slots link
     stands = stop_in behind n.slots link stops
 
-    link_order : order_of link ≡ 10 * link.slice + 9
-    link_order = ap (λ m. 10 * link.slice + mark_rank m) (long_link link.mark link.held (All-contains IsEntry n.slots link border_is.each stands).held (stop_link behind n.slots link stops))
+    pub link_long : link.mark ≡ Long
+    link_long = long_link link.mark link.held (All-contains IsEntry n.slots link border_is.each stands).held (stop_link behind n.slots link stops)
 
-    slice_within : link.slice < end_of n.high
+    link_order : order_of link ≡ 10 * link.slice + 9
+    link_order = ap (λ m. 10 * link.slice + mark_rank m) link_long
+
+    pub slice_within : link.slice < end_of n.high
     slice_within =
         let w = (arena.nodes.each k at.border.there).slots.within stands.0 stands.1 in
         let is : slice_index (slices n.slots) stands.0 ≡ link.slice = get_or-map (λ (e : Entry). e.slice) n.slots stands.0 link 0 stands.1 ∙ ap (λ (e : Entry). e.slice) stands.2 in
@@ -189,7 +193,7 @@ module _ (nodes : List NodeView) (trees : List Tree) (k layer : ℕ) (fence : By
     pub to_link : (reached : Bytes) → IsAtLink prefix layer link.slice reached → TellsAll (content trees nodes) prefix layer fence after reached (read behind n.slots)
     to_link reached la = record {
       whole = λ key stored ahead to.
-          let of = in_between key stored ahead reached la.of_tree to in
+          let of = in_between key stored ahead reached la.of_tree.begins to in
           let lt = under key of to in
           let few = rank_of (mark_of key layer) (is_mark_of key layer) in
           let inside = slice_within in
@@ -210,7 +214,7 @@ module _ (nodes : List NodeView) (trees : List Tree) (k layer : ℕ) (fence : By
   -- the fence at the node's end
   module _ (high : ℕ) (reached : Bytes) (sl : IsAtSlice prefix layer high reached) where
     parts : (key : Bytes) → IsOfTree prefix layer key → cmp key reached ≡ ordering_then (place_cmp (slice_of key layer) (mark_of key layer) high (mark_of reached layer)) (cmp (suffix_of key layer) (suffix_of reached layer))
-    parts key of = in_tree prefix reached false layer sl.of_tree key of
+    parts key of = cmp_below key reached layer of.stored.are_bytes sl.are_bytes (sym of.begins ∙ sl.begins)
         ∙ ap (λ s. ordering_then (place_cmp (slice_of key layer) (mark_of key layer) s (mark_of reached layer)) (cmp (suffix_of key layer) (suffix_of reached layer))) sl.slice_is
 
     under_slice : (key : Bytes) → IsOfTree prefix layer key → slice_of key layer < high → is_below reached false key ≡ true
@@ -227,7 +231,7 @@ module _ (nodes : List NodeView) (trees : List Tree) (k layer : ℕ) (fence : By
             let j = length (rest_of reached layer) - 1 in
             let few = sl.few in
             let alike : padded (rest_of key layer) ≡ padded (rest_of reached layer) =
-            sym (slice_bytes (rest_of key layer) (bytes-drop (8 * layer) key of.stored.are_bytes)) ∙ ap (to_be_bytes w64) (same ∙ sym sl.slice_is) ∙ slice_bytes (rest_of reached layer) (bytes-drop (8 * layer) reached sl.of_tree.stored.are_bytes) in
+            sym (slice_bytes (rest_of key layer) (bytes-drop (8 * layer) key of.stored.are_bytes)) ∙ ap (to_be_bytes w64) (same ∙ sym sl.slice_is) ∙ slice_bytes (rest_of reached layer) (bytes-drop (8 * layer) reached sl.are_bytes) in
             absurd (some (sym (get_or-padded (rest_of reached layer) j (omega (arith, few))) ∙ ap (λ xs. get_or xs j 0) (sym alike) ∙ get_or-padded (rest_of key layer) j (omega (arith, few)) ∙ get_or_past (rest_of key layer) j 0 past))
       ]
     ]
@@ -272,7 +276,7 @@ module _ (nodes : List NodeView) (trees : List Tree) (k layer : ℕ) (fence : By
     pub to_next : stop behind n.slots ≡ None → n.high ≡ Some high → TellsAll (content trees nodes) prefix layer fence after reached (read behind n.slots)
     to_next stops high_is = record {
       whole = λ key stored ahead to.
-          let of = in_between key stored ahead reached sl.of_tree to in
+          let of = in_between key stored ahead reached sl.begins to in
           told_of key stored ahead of (subst (λ h. slice_of key layer < end_of h) (sym high_is) (slice_under key of (has_byte key stored ahead of) to)) (λ s. let both = sym stops ∙ s.stops in cc);
       real = λ x among.
           let w = real_of x among in

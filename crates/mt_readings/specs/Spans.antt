@@ -1,5 +1,5 @@
 -- A scan at a border node, and what its reading of the node tells of the contents.
-use Rattle.std.specs.Prelude.{◌≡◌, ◌≢◌, ◌⊎◌, ℕ, ◌≤◌, ◌<◌, ◌*◌, ◌-◌, ◌==◌, if◌then◌else◌, Bool, true, false, List, length, slice_index, Some, None}
+use Rattle.std.specs.Prelude.{◌≡◌, ◌≢◌, ◌⊎◌, ℕ, ◌≤◌, ◌<◌, ◌*◌, ◌-◌, ◌==◌, if◌then◌else◌, Bool, true, false, List, length, take, slice_index, Some, None}
 use Rattle.std.specs.List.{Contains}
 use Rattle.std.specs.FinMap as pairs
 use Rattle.mt_slices.specs.Keys.{IsStoredKey}
@@ -40,9 +40,11 @@ pub record TellsAll (c : Contents) (prefix : Bytes) (layer : ℕ) (fence : Bytes
 abbrev pub least_in : ℕ → ℕ
 least_in layer = if layer == 0 then 4 else 1
 
--- the least key of a tree whose slice is this one or a higher one: it ends in this slice, with no zero byte at its end but where it needs one
+-- the least bytes of a tree whose slice is this one or a higher one: they end in this slice, with no zero byte at their end but where a key needs one. They
+-- need not be a stored key: in the last layer they may be a byte too long for one, and still part the tree's keys
 pub record IsAtSlice (prefix : Bytes) (layer slice : ℕ) (fence : Bytes) : Type 0 where
-  pub of_tree : IsOfTree prefix layer fence
+  pub are_bytes : (i : ℕ) → slice_index fence i < 256
+  pub begins : prefix ≡ take (8 * layer) fence
   pub slice_is : slice_of fence layer ≡ slice
   pub few : length (rest_of fence layer) ≤ 8
   pub least : (length (rest_of fence layer) ≤ least_in layer) ⊎ (slice_index (rest_of fence layer) (length (rest_of fence layer) - 1) ≢ 0)

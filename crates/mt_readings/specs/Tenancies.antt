@@ -1,5 +1,5 @@
 -- What a reading tells of one tenant's map.
-use Rattle.std.specs.Prelude.{◌≡◌, ◌⊎◌, ℕ, ◌+◌, ◌<◌, length, take, slice_index, ◌==◌, if◌then◌else◌, Bool, true, false, List, Option, Some, None, filter_map}
+use Rattle.std.specs.Prelude.{◌≡◌, ◌⊎◌, ℕ, ◌==◌, if◌then◌else◌, Bool, true, false, List, Option, Some, None, filter_map}
 use Rattle.std.specs.List.{Contains}
 use Rattle.std.specs.FinMap as pairs
 use Rattle.mt_slices.specs.Keys.{IsStoredKey, stored_key, tenant_of, user_key_of}
@@ -32,13 +32,3 @@ HasStoredKeys c = (q : ℕ × Bytes) (row : Columns) → pairs.get c q ≡ Some 
 pub record TellsTenant (c : Contents) (t : ℕ) (prefix : Bytes) (layer : ℕ) (fence : Bytes) (after : Bool) (reached : Bytes → Bool) (xs : List (Entry × Pair)) : Type 0 where
   pub whole : (key : Bytes) → IsStoredKey key → tenant_of key ≡ t → is_below fence after key ≡ false → reached key ≡ true → HasPair c prefix layer xs key ⊎ (pairs.get c (owned key) ≡ None)
   pub real : (x : Entry × Pair) → Contains xs x → (key : Bytes) × HasKey prefix layer x.0 key × (pair_of x.0.held ≡ Some x.1) × (pairs.get c (owned key) ≡ Some x.1.row) × (is_below fence after key ≡ false) × (tenant_of key ≡ t → reached key ≡ true)
-
--- A key stands behind all that begin with these bytes, the least that does: its last byte is one more than theirs there, behind which they have
--- nothing but greatest bytes.
-pub record IsBehindAll (prefix reached : Bytes) : Type 0 where
-  pub place : ℕ
-  pub in_range : place < length prefix
-  pub long : length reached ≡ place + 1
-  pub alike : take place reached ≡ take place prefix
-  pub more : slice_index reached place ≡ slice_index prefix place + 1
-  pub full : (i : ℕ) → place < i → i < length prefix → slice_index prefix i ≡ 255

@@ -1,6 +1,6 @@
 //! What a scan's reading tells of its tenant's map. Contracts alone: no code runs.
 
-ghost use Rattle.std.specs.Prelude.{◌≡◌, ◌≢◌, ◌<◌, ◌≤◌, ◌^◌, ◌+◌, ◌*◌, ℕ, Bool, true, false, List, Some, None};
+ghost use Rattle.std.specs.Prelude.{◌≡◌, ◌≢◌, ◌<◌, ◌≤◌, ◌^◌, ◌+◌, ◌*◌, ℕ, Bool, true, false, List, Some, None, length, slice_index};
 ghost use Rattle.std.specs.List.{Contains};
 ghost use Rattle.mt_arena.specs.declared.tree.Tree.{Tree};
 ghost use Rattle.mt_arena.specs.NodeView.{NodeView, node_at};
@@ -10,15 +10,17 @@ ghost use Rattle.mt_arena.specs.Contents.{content};
 ghost use Rattle.mt_readings.specs.Spans.{IsScanAt, TellsAll};
 ghost use Rattle.std.specs.FinMap as pairs;
 ghost use Rattle.mt_slices.specs.Keys.{IsStoredKey, stored_key, tenant_of};
+ghost use Rattle.mt_slices.specs.Fences.{IsBehindAll};
 ghost use Rattle.mt_rows.specs.Rows.{Bytes, Columns};
 ghost use Rattle.mt_rows.specs.Tenants.{Contents, tenant_map};
 ghost use Rattle.mt_border.specs.declared.entry.Pair.{Pair};
 ghost use Rattle.mt_border.specs.declared.entry.Entry.{Entry};
 ghost use Rattle.mt_border.specs.Contents.{HasKey, owned};
 ghost use Rattle.mt_border.specs.Entries.{IsBorder};
+ghost use Rattle.mt_interior.specs.Fences.{end_of};
 ghost use Rattle.mt_readings.specs.Reading.{is_below, is_behind, read, stop};
 ghost use Rattle.mt_walks.specs.Walked.{IsStretch};
-ghost use Rattle.mt_readings.specs.Tenancies.{own_pairs, passed_at, HasStoredKeys, TellsTenant, IsBehindAll};
+ghost use Rattle.mt_readings.specs.Tenancies.{own_pairs, passed_at, HasStoredKeys, TellsTenant};
 
 /// The tenant's pairs among those that were read are a stretch of its map: all of it from the fence on, as far as its keys
 /// are reached.
@@ -45,14 +47,25 @@ pub fn a_stretch_to_the_trees_end()
         TellsTenant (content trees nodes) t prefix layer fence after (is_below reached false) (read behind (node_at nodes k).slots) }
 {}
 
-/// Where the reading of a node of the top tree met an entry of a greater tenant, and no link of the tenant before, it tells all
-/// that the contents have of the tenant behind the fence.
+/// Where the range of a node of the top tree goes as far as the tenant's keys, and its reading met no link of the tenant, it
+/// tells all that the contents have of the tenant behind the fence.
 pub fn a_stretch_to_the_tenants_end()
-    ensures { (nodes : List NodeView) (trees : List Tree) (k layer : ℕ) (fence : Bytes) (after : Bool) (t : ℕ) (e : Entry) → IsArena nodes trees → IsScanAt nodes trees k layer fence →
+    ensures { (nodes : List NodeView) (trees : List Tree) (k layer : ℕ) (fence : Bytes) (after : Bool) (t : ℕ) → IsArena nodes trees → IsScanAt nodes trees k layer fence →
         let prefix = (tree_at trees (node_at nodes k).tree).prefix in
         let behind = is_behind fence after layer in
-        layer ≡ 0 → Contains (node_at nodes k).slots e → (t + 1) * 4294967296 ≤ e.slice →
+        layer ≡ 0 → (t + 1) * 4294967296 ≤ end_of (node_at nodes k).high →
         ((l : Entry) → stop behind (node_at nodes k).slots ≡ Some l → (t + 1) * 4294967296 ≤ l.slice) →
+        TellsTenant (content trees nodes) t prefix layer fence after (λ key. true) (read behind (node_at nodes k).slots) }
+{}
+
+/// Where the reading of a tree's last node met no link, and all bytes behind the tenant's four with which the tree's keys begin are
+/// the greatest, it tells all that the contents have of the tenant behind the fence: none of its keys stands behind the tree.
+pub fn a_stretch_to_the_last_trees_end()
+    ensures { (nodes : List NodeView) (trees : List Tree) (k layer : ℕ) (fence : Bytes) (after : Bool) (t : ℕ) → IsArena nodes trees → IsScanAt nodes trees k layer fence →
+        let prefix = (tree_at trees (node_at nodes k).tree).prefix in
+        let behind = is_behind fence after layer in
+        stop behind (node_at nodes k).slots ≡ None → (node_at nodes k).high ≡ None → tenant_of fence ≡ t →
+        ((i : ℕ) → 4 ≤ i → i < length prefix → slice_index prefix i ≡ 255) →
         TellsTenant (content trees nodes) t prefix layer fence after (λ key. true) (read behind (node_at nodes k).slots) }
 {}
 

@@ -1,14 +1,25 @@
-//! How a scan comes to the next node. Contracts alone: no code runs.
+//! What a scan keeps between its steps, and how it comes to the next node. Contracts alone: no code runs.
 
 ghost use Rattle.std.specs.Prelude.{◌≡◌, ◌≢◌, ◌<◌, ℕ, false, length, Some, None};
+ghost use Rattle.std.specs.List.{Contains};
 ghost use Rattle.mt_version.specs.Changes.{IsStable};
+ghost use Rattle.mt_slices.specs.Keys.{tenant_of};
 ghost use Rattle.mt_slices.specs.Slices.{slice_of};
-ghost use Rattle.mt_rows.specs.Rows.{Bytes};
+ghost use Rattle.mt_rows.specs.Rows.{Bytes, Columns};
 ghost use Rattle.mt_arena.specs.Arena.{ArenaView, IsArena};
 ghost use Rattle.mt_arena.specs.Accesses.{at};
 ghost use Rattle.mt_arena.specs.Guarantee.{NodesGuarantee};
+ghost use Rattle.mt_arena.specs.NodeFacts.{IsUnstable};
+ghost use Rattle.mt_border.specs.declared.entry.Entry.{Entry};
+ghost use Rattle.mt_border.specs.declared.entry.Pair.{Pair};
+ghost use Rattle.mt_operation.specs.declared.scan.Stop.{Stop};
+ghost use Rattle.mt_operation.specs.declared.scan.Stop.TheVariants as stops;
+ghost use Rattle.mt_operation.specs.declared.walk.Walk.{Walk};
+ghost use Rattle.mt_operation.specs.Operations.{ScanView};
+ghost use Rattle.mt_readings.specs.Tenancies.{own_pairs};
 ghost use Rattle.mt_descent.specs.Seen.{Covers};
-ghost use Rattle.mt_scan.specs.Hops.{IsNextFrom, IsAtHop};
+ghost use Rattle.mt_scan.specs.Snaps.{read_in, link_in, IsOver, prefix_in, IsSnap};
+ghost use Rattle.mt_scan.specs.Hops.{IsNextFrom, IsAtHop, IsAtCheck, KeptHop};
 
 /// The next node of a border node begins at its end, and there is none exactly where it has no end.
 pub fn a_node_tells_its_next()
@@ -36,4 +47,32 @@ pub fn wrong_hops_are_refused()
     ensures begins_elsewhere { (v : ArenaView) (tree layer : ℕ) (key : Bytes) (x : ℕ) → (at v x).low ≢ slice_of key layer → ¬ IsAtHop v tree layer key x }
     ensures another_tree { (v : ArenaView) (tree layer : ℕ) (key : Bytes) (x : ℕ) → (at v x).tree ≢ tree → ¬ IsAtHop v tree layer key x }
     ensures no_border { (v : ArenaView) (tree layer : ℕ) (key : Bytes) (x : ℕ) → (at v x).level ≢ 0 → ¬ IsAtHop v tree layer key x }
+{}
+
+/// What a scan keeps at Check and at Hop stays under each step of any operation, by what the step leaves to
+/// others alone.
+pub fn scans_stay()
+    ensures check { (op : ℕ) (old new : ArenaView) (key : Bytes) (w : Walk) (stop : Stop) → NodesGuarantee op old.nodes new.nodes old.trees new.trees →
+        IsAtCheck old key w stop → IsAtCheck new key w stop }
+    ensures hop { (op : ℕ) (old new : ArenaView) (key : Bytes) (w : Walk) (stop : Stop) → NodesGuarantee op old.nodes new.nodes old.trees new.trees →
+        KeptHop old key w stop → KeptHop new key w stop }
+{}
+
+/// No step of Snap drops a pair of the tenant's among those that it reads, or notes a pair that is none of them;
+/// none reads over an unstable slot; none ends with the tenant before the tenant's first link, and none
+/// with a node behind which another tenant's keys begin.
+pub fn wrong_snaps_are_refused()
+    ensures drops_a_pair { (v : ArenaView) (before after : Walk) (was is : ScanView) (pair : Bytes × Columns) →
+        Contains (own_pairs (tenant_of was.fence) (prefix_in v before) (read_in (at v before.place.node) was before.layer)) pair →
+        ¬ Contains is.seen pair → ¬ IsSnap v before after was is }
+    ensures adds_a_pair { (v : ArenaView) (before after : Walk) (was is : ScanView) (pair : Bytes × Columns) →
+        ¬ Contains (own_pairs (tenant_of was.fence) (prefix_in v before) (read_in (at v before.place.node) was before.layer)) pair →
+        Contains is.seen pair → ¬ IsSnap v before after was is }
+    ensures reads_over_an_unstable_slot { (v : ArenaView) (before after : Walk) (was is : ScanView) (x : Entry × Pair) →
+        Contains (read_in (at v before.place.node) was before.layer) x → IsUnstable x.0.held → ¬ IsSnap v before after was is }
+    ensures ends_before_a_link { (v : ArenaView) (before after : Walk) (was is : ScanView) (link : Entry) →
+        link_in (at v before.place.node) was before.layer ≡ Some link → ¬ IsOver (tenant_of was.fence) before.layer link.slice →
+        is.stop ≡ stops.Tenant → ¬ IsSnap v before after was is }
+    ensures runs_into_another_tenant { (v : ArenaView) (before after : Walk) (was is : ScanView) (slice : ℕ) →
+        IsOver (tenant_of was.fence) before.layer slice → is.stop ≡ stops.Next slice → ¬ IsSnap v before after was is }
 {}

@@ -2,4 +2,4 @@ use Rattle.mt_readings.proofs.Ends.{to_the_tenants_end}
 use Rattle.mt_readings.proofs.tenants.a_stretch_to_the_tenants_end.Goals as goal
 
 pub returns : goal.returns
-returns c = λ nodes trees k layer fence after t e arena scan top has over links. to_the_tenants_end nodes trees k layer fence after t arena scan e top has over links
+returns c = λ nodes trees k layer fence after t arena scan top over links. to_the_tenants_end nodes trees k layer fence after t arena scan top over links
