@@ -29,13 +29,13 @@ below_or a b Equal e never = absurd (never (ap is_le (keys_total.antisymm b a �
 below_or a b Greater e never = absurd (never (ap is_le (keys_total.antisymm b a ∙ ap ordering_reverse e)))
 
 -- a key is at most itself
-le_itself : (a : Bytes) (o : Ordering) → cmp a a ≡ o → is_le (cmp a a) ≡ true
+pub le_itself : (a : Bytes) (o : Ordering) → cmp a a ≡ o → is_le (cmp a a) ≡ true
 le_itself a Less e = ap is_le e
 le_itself a Equal e = ap is_le e
 le_itself a Greater e = absurd (let turned = sym e ∙ keys_total.antisymm a a ∙ ap ordering_reverse e in cc)
 
 -- a key below another is not at least as great
-not_le : (a b : Bytes) → cmp a b ≡ Less → is_le (cmp b a) ≡ true → ⊥
+pub not_le : (a b : Bytes) → cmp a b ≡ Less → is_le (cmp b a) ≡ true → ⊥
 not_le a b less le = let turned = ap is_le (keys_total.antisymm b a ∙ ap ordering_reverse less) in cc
 
 -- what is done with stands below what is not
@@ -51,18 +51,18 @@ pub rises_more : (x : Bytes) (xs : List Bytes) → AllByRecursion (λ y. cmp x y
 unfolding IsStrictlySortedBy
 rises_more x xs first rest = (first, rest)
 
-rises_first : (x : Bytes) (xs : List Bytes) → Rises (x ∷ xs) → AllByRecursion (λ y. cmp x y ≡ Less) xs
+pub rises_first : (x : Bytes) (xs : List Bytes) → Rises (x ∷ xs) → AllByRecursion (λ y. cmp x y ≡ Less) xs
 unfolding IsStrictlySortedBy
 rises_first x xs h = h.0
 
-rises_rest : (x : Bytes) (xs : List Bytes) → Rises (x ∷ xs) → Rises xs
+pub rises_rest : (x : Bytes) (xs : List Bytes) → Rises (x ∷ xs) → Rises xs
 unfolding IsStrictlySortedBy
 rises_rest x xs h = h.1
 
-later : {X : Type 0} (x : X) (xs : List X) (a : X) → Contains xs a → Contains (x ∷ xs) a
+pub later : {X : Type 0} (x : X) (xs : List X) (a : X) → Contains xs a → Contains (x ∷ xs) a
 later x xs a h = (suc h.0, let lt = h.1 in omega (arith, lt), h.2)
 
-here : {X : Type 0} (x : X) (xs : List X) → Contains (x ∷ xs) x
+pub here : {X : Type 0} (x : X) (xs : List X) → Contains (x ∷ xs) x
 here x xs = (0, omega arith, refl)
 
 rises_append : (xs ys : List Bytes) → Rises xs → Rises ys → ((a b : Bytes) → Contains xs a → Contains ys b → cmp a b ≡ Less) → Rises (xs ++ ys)
@@ -97,7 +97,7 @@ keys_shown columns [] = refl
 keys_shown columns (p ∷ ps) = ap (λ ks. p.0 ∷ ks) (keys_shown columns ps)
 
 -- what holds of each pair's key, and of each key
-of_keys : (P : Bytes → Type 0) (ps : Shown) → All (λ p. P p.0) ps → All P (keys_of ps)
+pub of_keys : (P : Bytes → Type 0) (ps : Shown) → All (λ p. P p.0) ps → All P (keys_of ps)
 of_keys P ps h = All-map P (λ p. p.0) ps h
 
 keys_with : (ps qs : Shown) → keys_of (ps ++ qs) ≡ keys_of ps ++ keys_of qs

@@ -6,7 +6,7 @@ ghost use Rattle.std.specs.Ordering.{nat_cmp, is_le};
 ghost use Rattle.std.specs.Cmp.Lexicographic.{slice_cmp};
 ghost use Rattle.std.specs.FinMap as pairs;
 ghost use Rattle.mt_rows.specs.Rows.{Bytes, Columns};
-ghost use Rattle.mt_rows.specs.Maps.{Map, is_walked};
+ghost use Rattle.mt_rows.specs.Maps.{Map, is_walked, scanned};
 ghost use Rattle.mt_runs.specs.Scans.{Shown, IsReached, IsLawful};
 ghost use Rattle.mt_walks.specs.Walked.{IsWithin, HasWalked, IsStretch, IsFront, keys_of, shown_all, is_upto};
 
@@ -16,6 +16,13 @@ pub fn a_whole_walk_is_lawful()
         HasWalked maps (IsWithin first last) from after columns passed ps → length ps ≤ count →
         ((key : Bytes) → is_walked from after key ≡ true → IsReached count ps key → passed key ≡ true) →
         IsLawful maps (IsWithin first last) from after count columns ps }
+{}
+
+/// A lawful scan between whose first and last step the map stayed the same shows exactly the first pairs that it walks.
+pub fn a_scan_of_a_still_map_is_exact()
+    ensures { (maps : ℕ → Map) (m : Map) (first last : ℕ) (from : Bytes) (after : Bool) (count : ℕ) (columns : List ℕ) (ps : Shown) →
+        ((n : ℕ) → IsWithin first last n → maps n ≡ m) →
+        IsLawful maps (IsWithin first last) from after count columns ps → ps ≡ scanned from after count columns m }
 {}
 
 /// A walk begins with no key done, before its start.
