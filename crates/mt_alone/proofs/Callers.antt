@@ -9,7 +9,7 @@ use Rattle.mt_rows.specs.declared.refusal.Refusal.{Refusal}
 use Rattle.mt_rows.specs.declared.refusal.Refusal.TheVariants as refusals
 use Rattle.mt_rows.specs.declared.tenants.Account.{Account}
 use Rattle.mt_rows.specs.Accounts.{Accounts, account_of}
-use Rattle.mt_rows.specs.Maps.{reply_of, map_after}
+use Rattle.mt_rows.specs.Maps.{reply_of, map_after, is_scan}
 use Rattle.mt_rows.specs.Tenants.{Contents, tenant_map}
 use Rattle.mt_runs.specs.Placings.{Maps}
 use Rattle.mt_session.specs.declared.caller.CallerFault.TheVariants.{Refused, Stuck}
@@ -18,7 +18,7 @@ use Rattle.mt_arena.specs.Arena.{ArenaView, live_count}
 use Rattle.mt_arena.specs.Accesses.{at}
 use Rattle.mt_operation.specs.Operations.{OperationView}
 use Rattle.mt_state.specs.Views.{StateView, contents_of, quota_in, quota_of, granted, granted_in}
-use Rattle.mt_state.specs.Begins.{Begins, MayBegin, begun, new_state}
+use Rattle.mt_state.specs.Begins.{Begins, begun, new_state}
 use Rattle.mt_state.specs.Refused.{IsFault, IsAdmissible, IsRefusal}
 use Rattle.mt_state.proofs.HistoryStart.{content-new, tenant_map-empty}
 use Rattle.mt_core.specs.declared.answers.Ticket.{Ticket}
@@ -79,7 +79,7 @@ live_le (n ∷ nodes) = let rest = live_le nodes in let one = by n.version.delet
     by false = omega arith
 
 -- a begin in a state in which no operation is open, as long as a number is left
-module _ (old mid : StateView) (o tenant : ℕ) (command : Command) (right : IsRightState old) (idle : old.steps ≢ 2 ^ 59 → IsIdle old) (point : MayBegin command) (b : Begins old mid o 0 tenant command) (may : IsAdmissible old tenant command) where
+module _ (old mid : StateView) (o tenant : ℕ) (command : Command) (right : IsRightState old) (idle : old.steps ≢ 2 ^ 59 → IsIdle old) (point : is_scan command ≡ false) (b : Begins old mid o 0 tenant command) (may : IsAdmissible old tenant command) where
   abbrev op : OperationView
   op = begun 0 tenant command
 
@@ -100,6 +100,7 @@ module _ (old mid : StateView) (o tenant : ℕ) (command : Command) (right : IsR
   begun_alone : mid.steps + most_steps mid ≤ 2 ^ 59 → IsAlone mid o op
   begun_alone numbers = record {
     there = b.there;
+    no_scan = point;
     first = refl;
     enters = refl;
     free = subst (λ (v : ArenaView). (k : ℕ) → k < length v.nodes → (at v k).holder ≡ None) (sym arena_stands) free_before;

@@ -1,9 +1,10 @@
 //! A caller over a state without logs.
 
-ghost use Rattle.std.specs.Prelude.{◌≡◌, ◌≢◌, ◌^◌, ◌↔◌, [], None, IfOk, IsTrue, IsSome};
+ghost use Rattle.std.specs.Prelude.{◌≡◌, ◌≢◌, ◌^◌, [], None, IfOk, IsSome, false};
 ghost use Rattle.mt_rows.specs.Accounts.{account_of};
+ghost use Rattle.mt_rows.specs.Maps.{is_scan};
 ghost use Rattle.mt_state.specs.Views.{granted_in};
-ghost use Rattle.mt_state.specs.Begins.{HaveNoPairs, MayBegin};
+ghost use Rattle.mt_state.specs.Begins.{HaveNoPairs};
 ghost use Rattle.mt_alone.specs.TenantMaps.{fresh_maps};
 ghost use Rattle.mt_alone.specs.Runs.{IsIdle};
 ghost use Rattle.mt_alone.specs.Callers.{alone_view, maps_of, AreOpen, Clears, Answers};
@@ -85,14 +86,11 @@ impl Caller for Alone {
     }
 }
 
-// Whether the state takes the command: no scan.
-fn may_begin(command: &Command) -> bool
-    ensures { IsTrue result ↔ MayBegin command.now }
+// Whether it is a scan.
+fn is_scan(command: &Command) -> bool
+    ensures { result ≡ is_scan command.now }
 {
-    matches!(
-        command,
-        Command::Get { .. } | Command::Put { .. } | Command::Remove { .. }
-    )
+    matches!(command, Command::Scan { .. })
 }
 
 // Finishes the command that is stuck, if one is, and then runs this one.
@@ -107,7 +105,7 @@ fn run(
     requires there { IsSome (account_of state.old.accounts tenant) }
     ensures { Answers state.old state.new tenant command result stuck.new }
 {
-    if !may_begin(&command) {
+    if is_scan(&command) {
         return Err(CallerFault::Stuck);
     }
     match finish_stuck(state, stuck) {
@@ -148,7 +146,7 @@ fn answer(
     requires idle { state.old.steps ≢ 2 ^ 59 → IsIdle state.old }
     requires free { stuck.old ≡ None }
     requires there { IsSome (account_of state.old.accounts tenant) }
-    requires point { MayBegin command }
+    requires point { is_scan command ≡ false }
     ensures { Answers state.old state.new tenant command result stuck.new }
 {
     state.facts();

@@ -6,7 +6,6 @@ use Rattle.mt_operation.specs.declared.phase.Phase.{Phase}
 use Rattle.mt_operation.specs.Operations.{OperationView}
 use Rattle.mt_state.specs.declared.moves.Move.{Move}
 use Rattle.mt_state.specs.declared.moves.Move.TheVariants.{Moved, Again, NoMemory}
-use Rattle.mt_state.specs.Begins.{MayBegin}
 use Rattle.mt_core.specs.declared.answers.Ticket.{Ticket}
 use Rattle.mt_core.specs.Admitted.{OpeningView}
 use Rattle.mt_book.specs.declared.desks.Look.{Look}
@@ -35,9 +34,9 @@ pub record Period : Type 0 where
   pub steps : ℕ
   pub deed : Deed
 
--- the operation of an opening, if there is one, is of this worker, and may be begun
+-- the operation of an opening, if there is one, is of this worker
 abbrev pub IsOfWorker : ℕ → Result OperationView Refusal → Type 0
-IsOfWorker worker (Ok op) = (op.worker ≡ worker) × MayBegin op.command
+IsOfWorker worker (Ok op) = op.worker ≡ worker
 IsOfWorker worker (Err refusal) = Unit {0}
 
 -- fewer steps than the pass saw, or no log of its worker

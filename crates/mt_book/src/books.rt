@@ -5,7 +5,7 @@ ghost use Rattle.std.specs.List.{sum_by};
 ghost use Rattle.mt_rows.specs.Accounts.{account_of};
 ghost use Rattle.mt_batches.specs.Batches.{IsInOrder};
 ghost use Rattle.mt_state.specs.Promises.{Tells};
-ghost use Rattle.mt_state.specs.Begins.{IsWorker, MayBegin};
+ghost use Rattle.mt_state.specs.Begins.{IsWorker};
 ghost use Rattle.mt_core.specs.Tickets.{TellsBegin, TellsTake, TellsCancel, TellsRefusal};
 ghost use Rattle.mt_core.specs.Places.{AddsPlaces};
 ghost use Rattle.mt_core.specs.Admitted.{MayAdmit, TellsAdmitted, RefusesOpening};
@@ -70,8 +70,7 @@ impl<L: Ledger> Book<L> {
 
     /// As the state's.
     pub fn begin(&mut self, worker: u8, tenant: u32, command: Command) -> Result<Ticket, Refusal>
-        requires worker { IsWorker (length self.old.state.logs) worker }
-        requires point { MayBegin command }
+        requires { IsWorker (length self.old.state.logs) worker }
         ensures told { TellsBegin self.old.state self.new.state worker tenant command result }
         ensures refused { TellsRefusal self.old.state tenant command result }
         ensures opened { (self.new.opened ≡ self.old.opened) × (self.new.gathered ≡ self.old.gathered) }

@@ -1,7 +1,6 @@
 //! Calls: a command begun, stepped and answered, period by period, over any desk.
 
 ghost use Rattle.std.specs.Prelude.{◌≡◌, ◌+◌, ◌<◌, max, IfOk, OnErr};
-ghost use Rattle.mt_state.specs.Begins.{MayBegin};
 ghost use Rattle.mt_book.specs.Periods.{IsOfWorker};
 ghost use Rattle.mt_book.specs.Calls.{Asked, IsOpeningOf, Calls, Begins, Ends, Led, IsTaken, asked_by, answers_of};
 
@@ -220,7 +219,7 @@ fn ran<L: Ledger, R: Wait, D: Desk<L>, G: Gate>(
     Ok(answer)
 }
 
-/// Runs a get, a put or a remove to its answer: a begin, its steps and a take, each in a lock period of its own,
+/// Runs a command to its answer: a begin, its steps and a take, each in a lock period of its own,
 /// with the gate called before each step while the lock is free, with the phase that the period before
 /// showed. All that the begin needs of the command is made before the first period, and what the last
 /// one displaces is freed behind it.
@@ -237,7 +236,6 @@ pub fn call<L: Ledger, R: Wait, D: Desk<L>, G: Gate>(
     command: Command,
     gate: &G,
 ) -> Result<Answer, CallFault>
-    requires { MayBegin command }
     ensures periods { Calls D.does desk.old desk.new pass.old.seen (asked_by pass.old.worker tenant command) result }
     ensures command { IfOk result (λ answer. answer.command ≡ command) }
     ensures later { IfOk result (λ answer. pass.old.seen < answer.first) }

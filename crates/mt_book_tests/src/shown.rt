@@ -1,7 +1,6 @@
 //! What a gate is called with, of a get and of a put that nobody disturbs.
 
 ghost use Rattle.std.specs.Prelude.{◌≡◌};
-ghost use Rattle.mt_state.specs.Begins.{MayBegin};
 
 use crate::threads::{get_of, new_store, put_of};
 use mt_book::{Book, Gate, Pass, call, open_pass};
@@ -36,9 +35,7 @@ fn phases_of<L: Ledger, R: Wait + Abort>(
     book: &Mutex<Book<L>>,
     pass: &mut Pass<L>,
     command: Command,
-) -> Vec<Phase>
-    requires { MayBegin command }
-{
+) -> Vec<Phase> {
     let mut desk = book;
     let gate = Recording {
         alloc,

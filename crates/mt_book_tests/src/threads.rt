@@ -1,7 +1,7 @@
 //! Calls by one thread and by four.
 
 ghost use Rattle.std.specs.Prelude.{◌≡◌, IfOk};
-ghost use Rattle.mt_state.specs.Begins.{HaveNoPairs, MayBegin};
+ghost use Rattle.mt_state.specs.Begins.{HaveNoPairs};
 
 use mt_book::{Book, Desk, NoGate, Pass, call, gather, open_pass};
 use mt_core::State;
@@ -34,9 +34,7 @@ fn no_tenants(alloc: Global) -> Tenants
 }
 
 // A put of one byte in column 0.
-pub(crate) fn put_of(alloc: Global, key: u8, value: u8) -> Result<Command, AllocError>
-    ensures { IfOk result MayBegin }
-{
+pub(crate) fn put_of(alloc: Global, key: u8, value: u8) -> Result<Command, AllocError> {
     let key = Key::new(Vec::from_slice(alloc, &[key])?);
     let mut columns = Vec::new(alloc);
     columns.push((0, Column::new(Vec::from_slice(alloc, &[value])?)))?;
@@ -45,9 +43,7 @@ pub(crate) fn put_of(alloc: Global, key: u8, value: u8) -> Result<Command, Alloc
 }
 
 // A get of a whole row.
-pub(crate) fn get_of(alloc: Global, key: u8) -> Result<Command, AllocError>
-    ensures { IfOk result MayBegin }
-{
+pub(crate) fn get_of(alloc: Global, key: u8) -> Result<Command, AllocError> {
     let key = Key::new(Vec::from_slice(alloc, &[key])?);
     let columns = ColumnIndexes::new(Vec::new(alloc));
     Ok(Command::Get { key, columns })
@@ -162,9 +158,7 @@ fn told<L: Ledger, R: Wait + Abort, D: Desk<L>>(
     desk: &mut D,
     pass: &mut Pass<L>,
     command: Command,
-) -> Reply
-    requires { MayBegin command }
-{
+) -> Reply {
     match call(rt, alloc, desk, pass, 7, command, &NoGate {}) {
         Ok(answer) => answer.reply,
         Err(_) => panic!(rt; "the command is refused"),

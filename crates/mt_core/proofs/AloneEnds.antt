@@ -20,6 +20,7 @@ use Rattle.mt_state.specs.declared.moves.Move.{Move}
 use Rattle.mt_state.specs.declared.moves.Move.TheVariants.{Moved, Again, NoMemory as NoMemoryMove, Done as DoneMove, Spent, NoSuch}
 use Rattle.mt_state.specs.Views.{StateView, Core, shown, op_at}
 use Rattle.mt_operation.specs.declared.outcome.Outcome.{Outcome}
+use Rattle.mt_rows.specs.Maps.{is_scan}
 use Rattle.mt_state.specs.KeptOperations.{HasAnswer, IsBound, IsKeptAt, IsOnItsWay}
 use Rattle.mt_state.specs.Invariant.{StateInvariant}
 use Rattle.mt_state.specs.Promises.{HasStep, IsHeldByOther, IsAnswer, IsStep, Tells}
@@ -52,6 +53,7 @@ run_stops old v w o made answer chain other s = record { made = made; mid = v; c
 undisturbed_alone : (v : StateView) (o : ℕ) (op : OperationView) → IsAlone v o op → IsUndisturbed v o op
 undisturbed_alone v o op alone = record {
   there = alone.there;
+  no_scan = alone.no_scan;
   unfinished = ap is_done alone.enters;
   free = λ k q within holds. absurd (no_value (sym (alone.free k within) ∙ holds));
   numbers = alone.numbers;
@@ -164,7 +166,7 @@ alone_goes_on old v w o op made g s = record {
   free = s.nears (live_count old.arena.nodes) made g.free;
 }
 
-module _ (old v : Core) (o : ℕ) (op : OperationView) (made : ℕ) (h : StateInvariant v) (g : GoesAlone old v o op made) where
+module _ (old v : Core) (o : ℕ) (op : OperationView) (made : ℕ) (h : StateInvariant v) (plain : is_scan op.command ≡ false) (g : GoesAlone old v o op made) where
   abbrev inner : Operation
   inner = g.free.op
 
@@ -195,7 +197,7 @@ module _ (old v : Core) (o : ℕ) (op : OperationView) (made : ℕ) (h : StateIn
         ends = ends;
         told = answer.0;
         has = has;
-        outcome = run_outcome (shown old) w o op (made + 1) run answer.0 has right
+        outcome = run_outcome (shown old) w o op (made + 1) run plain answer.0 has right
             (omega (arith, ap (λ (x : OperationView). x.last) is, s.moves.last, s.number));
       }
 
@@ -215,14 +217,14 @@ module _ (old v : Core) (o : ℕ) (op : OperationView) (made : ℕ) (h : StateIn
         ends = grows_here;
         told = answer.outcome;
         has = has;
-        outcome = run_outcome (shown old) (shown v) o op made g.run answer.outcome has right
+        outcome = run_outcome (shown old) (shown v) o op made g.run plain answer.outcome has right
             (omega (arith, ap (λ (x : OperationView). x.last) same, kept.always.made));
       }
 
 -- who alone holds nodes is told of nobody
 never_again : (v : Core) (o holder : ℕ) → IsFreeOfOthers v.arena o → IsHeldByOther (shown v) o holder → ⊥
 never_again v o holder free held =
-    let way = in_the_way v.arena held.op.phase held.op.walk held.op.splits held.op.removal holder held.holds in
+    let way = in_the_way v.arena held.op.phase held.op.walk held.op.splits held.op.removal held.op.scan holder held.holds in
     held.other (free way.0 holder way.1 way.2)
 
 -- each answer but Moved is Done, or that there is no memory
@@ -230,13 +232,13 @@ pub alone_stops : (old v w : Core) (o : ℕ) (op : OperationView) (made : ℕ) (
     → GoesAlone old v o op made
     → answer ≢ Moved → StepsOn v w o answer → EndsAlone (shown old) (shown w) o op answer
 alone_stops old v w o op made Moved h alone g other s = absurd (other refl)
-alone_stops old v w o op made DoneMove h alone g other s = ends_done old v o op made h g (shown w) s.tells
+alone_stops old v w o op made DoneMove h alone g other s = ends_done old v o op made h alone.no_scan g (shown w) s.tells
 alone_stops old v w o op made (Again holder) h alone g other s = absurd (never_again v o holder g.free.free s.tells.2)
-alone_stops old v w o op made Spent h alone g other s = absurd (omega (arith, s.tells.2, g.run.number, alone.numbers, few old v o op made h g))
-alone_stops old v w o op made NoSuch h alone g other s = absurd (s.tells.1 (g.run.after, g.run.there, left old v o op made h g))
+alone_stops old v w o op made Spent h alone g other s = absurd (omega (arith, s.tells.2, g.run.number, alone.numbers, few old v o op made h alone.no_scan g))
+alone_stops old v w o op made NoSuch h alone g other s = absurd (s.tells.1 (g.run.after, g.run.there, left old v o op made h alone.no_scan g))
 alone_stops old v w o op made NoMemoryMove h alone g other s =
     let grow = s.tells.1 in
-    subst (λ (x : StateView). EndsAlone (shown old) x o op NoMemoryMove) (sym s.tells.0) (ends_unmade old v o op made h g grow.op grow.there grow.grows)
+    subst (λ (x : StateView). EndsAlone (shown old) x o op NoMemoryMove) (sym s.tells.0) (ends_unmade old v o op made h alone.no_scan g grow.op grow.there grow.grows)
 
 -- the run so far of an operation that nobody disturbs
 module _ (old v : Core) (o made : ℕ) (h : StateInvariant v) (u : IsUnhindered v o (live_count old.arena.nodes) made) where

@@ -5,7 +5,7 @@ use Rattle.std.proofs.lemmas.Option.{same_Some}
 use Rattle.mt_rows.specs.declared.command.Command.{Command}
 use Rattle.mt_rows.specs.declared.reply.Reply.{Reply}
 use Rattle.mt_rows.specs.declared.reply.Reply.TheVariants.{NoMemory}
-use Rattle.mt_rows.specs.Maps.{reply_of, map_after, is_change, is_no_memory}
+use Rattle.mt_rows.specs.Maps.{reply_of, map_after, is_change, is_no_memory, is_scan}
 use Rattle.mt_rows.specs.Tenants.{Contents, tenant_map}
 use Rattle.mt_rows.proofs.CommandLaws.{same_map_after}
 use Rattle.mt_runs.specs.Placings.{maps_after_one}
@@ -16,7 +16,7 @@ use Rattle.mt_operation.proofs.Tables.{set_is}
 use Rattle.mt_state.specs.Views.{StateView, Shown, contents_of, op_at, map_of, quota_of, KeepsPast}
 use Rattle.mt_state.specs.Steps.{IsSameAsked, change_in, told_change}
 use Rattle.mt_operation.specs.Phases.{MayFollow, is_unplaced}
-use Rattle.mt_operation.specs.declared.phase.Phase.TheVariants.{Search, Load, Confirm, Judge, Store, Publish, SplitStart, SplitMove, MakeLayer, DropKey, Done}
+use Rattle.mt_operation.specs.declared.phase.Phase.TheVariants.{Search, Load, Confirm, Snap, Check, Hop, Judge, Store, Publish, SplitStart, SplitMove, MakeLayer, DropKey, Done}
 use Rattle.mt_state.specs.Notes.{EndsJudging, Keeps, Notes}
 use Rattle.mt_state.proofs.Granted.{quota_stays}
 use Rattle.mt_state.proofs.Moved.{first_is}
@@ -126,6 +126,9 @@ pub stays : (old : StateView) (op : OperationView) (p q : Phase) (told : Option 
 stays old op Search q told outcome is placed follows notes = absurd (cc)
 stays old op Load q told outcome is placed follows notes = absurd (cc)
 stays old op Confirm q told outcome is placed follows notes = absurd (cc)
+stays old op Snap q told outcome is placed follows notes = absurd (cc)
+stays old op Check q told outcome is placed follows notes = absurd (cc)
+stays old op Hop q told outcome is placed follows notes = absurd (cc)
 stays old op Store q told outcome is placed follows notes = absurd (cc)
 stays old op Publish q told outcome is placed follows notes = absurd (cc)
 stays old op SplitStart q told outcome is placed follows notes = absurd (cc)
@@ -241,7 +244,7 @@ module _ (old v w : StateView) (o : ℕ) (op : OperationView) (made : ℕ) (done
   }
 
 -- how a run ends whose operation has a right outcome
-module _ (old v : StateView) (o : ℕ) (op : OperationView) (made : ℕ) (r : IsRunning old v o op made) (told : Outcome) (has : r.after.outcome ≡ Some told) (answer : IsAnswer v r.after told) where
+module _ (old v : StateView) (o : ℕ) (op : OperationView) (made : ℕ) (r : IsRunning old v o op made) (plain : is_scan op.command ≡ false) (told : Outcome) (has : r.after.outcome ≡ Some told) (answer : IsAnswer v r.after told) where
   first_begun : r.after.first ≡ old.steps + 1
   first_begun = elim r.first [
     | inl (_, unbegun) ↦ absurd (omega (arith, unbegun, answer.begun))
@@ -253,7 +256,7 @@ module _ (old v : StateView) (o : ℕ) (op : OperationView) (made : ℕ) (r : Is
   looked u upto real =
       let look : is_change told.reply ≡ false = no_told (is_change told.reply) told.at (sym (ap told_change has) ∙ u.change) in
       let is : told.reply ≡ reply_of (quota_of old op.tenant) op.command (tenant_map op.tenant (contents_of old)) =
-      (answer.placed real).looks look
+      (answer.placed real (ap is_scan r.asked.command ∙ plain)).looks look
       ∙ ap (reply_of (quota_of v r.after.tenant) r.after.command) (u.maps r.after.tenant told.at (omega (arith, answer.since, first_begun)) (omega (arith, answer.upto, upto)))
       ∙ same_reply v old r.after op r.asked (quota_stays old v r.grows) (contents_of old) in
       record {

@@ -1,6 +1,5 @@
 -- Where the account begins of an operation that nobody disturbs any more, at whatever phase it stands: for `Inner::run_alone`.
 use Rattle.std.proofs.Common.{◌≡◌, ◌≢◌, ℕ, ◌+◌, ◌≤◌, inr, List, [], ◌∷◌, Bool, true, false, Option, None, Some, refl, sym, ap, subst, ◌∙◌, arith}
-use Rattle.std.specs.Prelude.{not}
 use Rattle.std.proofs.lemmas.Option.{same_Some}
 use Rattle.mt_arena.specs.Arena.{IsArena, live_count}
 use Rattle.mt_arena.specs.Accesses.{at}
@@ -23,6 +22,8 @@ use Rattle.mt_rows.specs.declared.command.Command.{Command}
 use Rattle.mt_rows.specs.declared.command.Command.TheVariants.{Remove}
 use Rattle.mt_arena.specs.Forests.{layer_of, tree_at}
 use Rattle.mt_arena.proofs.Elsewhere.{layer_is}
+use Rattle.mt_rows.specs.Maps.{is_scan}
+use Rattle.mt_state.proofs.Lawful.{aim_scan, scan_no_remove}
 use Rattle.mt_state.proofs.Bound.{put_no_remove}
 use Rattle.std.proofs.lemmas.Bool.{both_ways}
 use Rattle.mt_state.specs.Views.{Core, shown}
@@ -32,7 +33,6 @@ use Rattle.mt_state.specs.Invariant.{StateInvariant}
 use Rattle.mt_state.proofs.Shown.{inside_of}
 use Rattle.mt_core.specs.Alone.{IsUndisturbed}
 use Rattle.mt_core.specs.Points.{AreBelow, HasMade, HasRemoved, HasRounds, IsSoFar, IsUnhindered, RoundsAt}
-use Rattle.mt_core.proofs.NoScans.{no_scanning}
 use Rattle.mt_core.proofs.RemovalNears.{shallow_layer}
 use Rattle.mt_core.proofs.Astray.{behind_most}
 
@@ -52,46 +52,53 @@ no_read {A = A} op removes reads = by (ask op.task) removes reads
     by (Remove key) removes reads = absurd (cc)
     by _ removes reads = absurd (cc)
 
+-- one that comes to scan is a scan, which removes nothing
+no_scanning : {A : Type 0} (op : Operation) → is_scan (ask op.task) ≡ false → aim_of (ask op.task) ≡ aims.Scan → A
+no_scanning op plain scans = absurd (both_ways _ plain (aim_scan (ask op.task) scans))
+
+no_removing : {A : Type 0} (op : Operation) → is_remove (ask op.task) ≡ true → aim_of (ask op.task) ≡ aims.Scan → A
+no_removing op removes scans = absurd (both_ways _ (scan_no_remove (ask op.task) (aim_scan (ask op.task) scans)) removes)
+
 -- at whatever phase an operation stands, it may find its way again, and has made no step so far
 starts_at : (p : Phase) (c : Core) (o : ℕ) (op : Operation) → StateInvariant c → IsArena c.arena.nodes c.arena.trees → IsOpenOperation c op → IsOfKind p op.walk.aim → is_done p ≡ false
-    → is_remove (ask op.task) ≡ false → IsKeptAt p c o op → HasMade p (live_count c.arena.nodes) 0 c.arena op.walk op.splits
-starts_at Enter c o op h arena always kind left stays kept = inr (omega arith)
-starts_at Pick c o op h arena always kind left stays kept = inr (omega arith)
-starts_at Child c o op h arena always kind left stays kept = inr (omega arith)
-starts_at Verify c o op h arena always kind left stays kept = inr (inr (omega (arith, behind_most c.arena.nodes (at c.arena op.walk.child).low)))
-starts_at Search c o op h arena always kind left stays kept = inr (omega (arith, behind_most c.arena.nodes (at c.arena op.walk.place.node).low))
-starts_at Load c o op h arena always kind left stays kept = inr (omega (arith, behind_most c.arena.nodes (at c.arena op.walk.place.node).low))
-starts_at Confirm c o op h arena always kind left stays kept = inr (omega (arith, behind_most c.arena.nodes (at c.arena op.walk.place.node).low))
-starts_at Forward c o op h arena always kind left stays kept = inr (omega (arith, behind_most c.arena.nodes (at c.arena op.walk.place.node).low))
-starts_at Lock c o op h arena always kind left stays kept = inr (omega (arith, behind_most c.arena.nodes (at c.arena op.walk.place.node).low))
-starts_at Judge c o op h arena always kind left stays kept = omega arith
-starts_at Store c o op h arena always kind left stays kept = omega arith
-starts_at Publish c o op h arena always kind left stays kept = omega arith
-starts_at SplitStart c o op h arena always kind left stays kept = omega arith
-starts_at SplitMove c o op h arena always kind left stays kept = omega arith
-starts_at SplitPrev c o op h arena always kind left stays kept = omega arith
-starts_at LockParent c o op h arena always kind left stays kept = omega arith
-starts_at InsertChild c o op h arena always kind left stays kept = omega arith
-starts_at InteriorSplit c o op h arena always kind left stays kept = omega arith
-starts_at Reparent c o op h arena always kind left stays kept =
+    → is_remove (ask op.task) ≡ false → is_scan (ask op.task) ≡ false → IsKeptAt p c o op → HasMade p (live_count c.arena.nodes) 0 c.arena op.walk op.splits
+starts_at Enter c o op h arena always kind left stays plain kept = inr (omega arith)
+starts_at Pick c o op h arena always kind left stays plain kept = inr (omega arith)
+starts_at Child c o op h arena always kind left stays plain kept = inr (omega arith)
+starts_at Verify c o op h arena always kind left stays plain kept = inr (inr (omega (arith, behind_most c.arena.nodes (at c.arena op.walk.child).low)))
+starts_at Search c o op h arena always kind left stays plain kept = inr (omega (arith, behind_most c.arena.nodes (at c.arena op.walk.place.node).low))
+starts_at Load c o op h arena always kind left stays plain kept = inr (omega (arith, behind_most c.arena.nodes (at c.arena op.walk.place.node).low))
+starts_at Confirm c o op h arena always kind left stays plain kept = inr (omega (arith, behind_most c.arena.nodes (at c.arena op.walk.place.node).low))
+starts_at Forward c o op h arena always kind left stays plain kept = inr (omega (arith, behind_most c.arena.nodes (at c.arena op.walk.place.node).low))
+starts_at Lock c o op h arena always kind left stays plain kept = inr (omega (arith, behind_most c.arena.nodes (at c.arena op.walk.place.node).low))
+starts_at Judge c o op h arena always kind left stays plain kept = omega arith
+starts_at Store c o op h arena always kind left stays plain kept = omega arith
+starts_at Publish c o op h arena always kind left stays plain kept = omega arith
+starts_at SplitStart c o op h arena always kind left stays plain kept = omega arith
+starts_at SplitMove c o op h arena always kind left stays plain kept = omega arith
+starts_at SplitPrev c o op h arena always kind left stays plain kept = omega arith
+starts_at LockParent c o op h arena always kind left stays plain kept = omega arith
+starts_at InsertChild c o op h arena always kind left stays plain kept = omega arith
+starts_at InteriorSplit c o op h arena always kind left stays plain kept = omega arith
+starts_at Reparent c o op h arena always kind left stays plain kept =
     omega (arith, (arena.nodes.each (last_of op.splits).right kept.climbs.splits.parted.right.held.there).children.interior.room)
-starts_at RootGrow c o op h arena always kind left stays kept = omega arith
-starts_at MakeLayer c o op h arena always kind left stays kept = omega arith
-starts_at MarkUnstable c o op h arena always kind left stays kept = omega arith
-starts_at phases.Link c o op h arena always kind left stays kept = omega arith
-starts_at MarkLayer c o op h arena always kind left stays kept = omega arith
-starts_at DropKey c o op h arena always kind left stays kept = no_put op kept.removes stays
-starts_at LockPrev c o op h arena always kind left stays kept = no_put op kept.removes stays
-starts_at LockAbove c o op h arena always kind left stays kept = no_put op kept.removes stays
-starts_at Unlink c o op h arena always kind left stays kept = no_put op kept.removes stays
-starts_at FixNext c o op h arena always kind left stays kept = no_put op kept.removes stays
-starts_at Collapse c o op h arena always kind left stays kept = no_put op kept.removes stays
-starts_at CleanLayer c o op h arena always kind left stays kept = no_put op kept.removes stays
-starts_at Unlock c o op h arena always kind left stays kept = omega arith
-starts_at Snap c o op h arena always kind left stays kept = no_scanning c op always kind
-starts_at Check c o op h arena always kind left stays kept = no_scanning c op always kind
-starts_at Hop c o op h arena always kind left stays kept = no_scanning c op always kind
-starts_at Done c o op h arena always kind left stays kept = absurd (let no = sym left in cc)
+starts_at RootGrow c o op h arena always kind left stays plain kept = omega arith
+starts_at MakeLayer c o op h arena always kind left stays plain kept = omega arith
+starts_at MarkUnstable c o op h arena always kind left stays plain kept = omega arith
+starts_at phases.Link c o op h arena always kind left stays plain kept = omega arith
+starts_at MarkLayer c o op h arena always kind left stays plain kept = omega arith
+starts_at DropKey c o op h arena always kind left stays plain kept = no_put op kept.removes stays
+starts_at LockPrev c o op h arena always kind left stays plain kept = no_put op kept.removes stays
+starts_at LockAbove c o op h arena always kind left stays plain kept = no_put op kept.removes stays
+starts_at Unlink c o op h arena always kind left stays plain kept = no_put op kept.removes stays
+starts_at FixNext c o op h arena always kind left stays plain kept = no_put op kept.removes stays
+starts_at Collapse c o op h arena always kind left stays plain kept = no_put op kept.removes stays
+starts_at CleanLayer c o op h arena always kind left stays plain kept = no_put op kept.removes stays
+starts_at Unlock c o op h arena always kind left stays plain kept = omega arith
+starts_at Snap c o op h arena always kind left stays plain kept = no_scanning op plain (sym always.aim ∙ kind)
+starts_at Check c o op h arena always kind left stays plain kept = no_scanning op plain (sym always.aim ∙ kind)
+starts_at Hop c o op h arena always kind left stays plain kept = no_scanning op plain (sym always.aim ∙ kind)
+starts_at Done c o op h arena always kind left stays plain kept = absurd (let no = sym left in cc)
 
 -- a key goes through 32 layers at most, and so does the way to a link that is to be taken out
 module _ (c : Core) (op : Operation) (stored : IsStoredKey op.task.key) where
@@ -153,18 +160,18 @@ removal_starts FixNext c o op always left removes kind kept = (omega arith, thro
 removal_starts Collapse c o op always left removes kind kept = (omega arith, through_few c op always.stored kept.kept.removes.through)
 removal_starts CleanLayer c o op always left removes kind kept = (omega arith, through_few c op always.stored kept.kept.holds.judged.at_border.through)
 removal_starts Unlock c o op always left removes kind kept = (omega arith, returns_few c op always.stored o removes op.outcome kept)
-removal_starts Snap c o op always left removes kind kept = no_scanning c op always kind
-removal_starts Check c o op always left removes kind kept = no_scanning c op always kind
-removal_starts Hop c o op always left removes kind kept = no_scanning c op always kind
+removal_starts Snap c o op always left removes kind kept = no_removing op removes (sym always.aim ∙ kind)
+removal_starts Check c o op always left removes kind kept = no_removing op removes (sym always.aim ∙ kind)
+removal_starts Hop c o op always left removes kind kept = no_removing op removes (sym always.aim ∙ kind)
 removal_starts Done c o op always left removes kind kept = absurd (let no = sym left in cc)
 
 -- whether it removes or not
-point_first : (c : Core) (o : ℕ) (op : Operation) → StateInvariant c → IsArena c.arena.nodes c.arena.trees → is_done op.walk.phase ≡ false → IsKeptOf c o op
+point_first : (c : Core) (o : ℕ) (op : Operation) → StateInvariant c → IsArena c.arena.nodes c.arena.trees → is_done op.walk.phase ≡ false → is_scan (ask op.task) ≡ false → IsKeptOf c o op
     → (b : Bool) → is_remove (ask op.task) ≡ b → IsSoFar b (live_count c.arena.nodes) 0 c.arena op
-point_first c o op h arena left kept true removes =
+point_first c o op h arena left plain kept true removes =
     let starts = removal_starts op.walk.phase c o op kept.always left removes kept.always.kind kept.kept in
     record { round = 0; most = omega arith; live = omega arith; rounds = starts.1; few = starts.0 }
-point_first c o op h arena left kept false stays = record { below = λ _. nodes_below c h arena; few = starts_at op.walk.phase c o op h arena kept.always kept.always.kind left stays kept.kept }
+point_first c o op h arena left plain kept false stays = record { below = λ _. nodes_below c h arena; few = starts_at op.walk.phase c o op h arena kept.always kept.always.kind left stays plain kept.kept }
 
 -- nobody is in the way of an operation while nobody else holds a node
 pub unhindered_first : (c : Core) (o : ℕ) (op : OperationView) → StateInvariant c → IsArena c.arena.nodes c.arena.trees → IsUndisturbed (shown c) o op
@@ -173,9 +180,11 @@ unhindered_first c o op h arena u =
     let inside = inside_of c.table o op u.there in
     let inner : Operation = inside.0 in
     let left : is_done inner.walk.phase ≡ false = ap (λ (x : OperationView). is_done x.phase) inside.2 ∙ u.unfinished in
+    let plain : is_scan (ask inner.task) ≡ false = ap (λ (x : OperationView). is_scan x.command) inside.2 ∙ u.no_scan in
     record {
       op = inner;
       there = inside.1;
       free = u.free;
-      point = point_first c o inner h arena left (h.ops o inner inside.1) (is_remove (ask inner.task)) refl;
+      no_scan = plain;
+      point = point_first c o inner h arena left plain (h.ops o inner inside.1) (is_remove (ask inner.task)) refl;
     }

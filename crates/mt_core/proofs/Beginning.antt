@@ -19,7 +19,7 @@ use Rattle.mt_operation.specs.Tables as tables
 use Rattle.mt_descent.specs.KeptWalks.{GoesThrough, KeptAt}
 use Rattle.mt_state.specs.Views.{Core, StateView, shown, past_of}
 use Rattle.mt_operation.specs.declared.outcome.Outcome.{Outcome}
-use Rattle.mt_state.specs.KeptOperations.{IsBound, IsKeptAt, IsKeptOf}
+use Rattle.mt_state.specs.KeptOperations.{IsBound, IsKeptAt, IsKeptOf, IsScanKept}
 use Rattle.mt_operation.specs.Phases.{IsOfKind}
 use Rattle.mt_state.specs.Steps.{change_in}
 use Rattle.mt_state.specs.Invariant.{StateInvariant, one_if_prepared}
@@ -57,17 +57,18 @@ module _ (c : Core) (now : StateView) (opening : OpeningView) (op : Operation) (
     kept_begun = record {
       always = record {
         stored = a.stored;
-        owner = a.owner;
+        tenant_is = a.tenant_is;
+        owner = λ plain. a.owner;
         columns = a.columns;
         tenant = known_tenant;
         aim = ap (λ (w : Walk). w.aim) a.walk;
-        no_scan = a.no_scan;
         kind = subst (λ (w : Walk). IsOfKind w.phase w.aim) (sym a.walk) tt;
         order = let first = ap (λ (w : Walk). w.first) a.walk in omega (arith, first);
         made = let last = ap (λ (v : OperationView). v.last) a.is_begun in omega (arith, last);
         floor = λ begun. let first = ap (λ (w : Walk). w.first) a.walk in absurd (omega (arith, first, begun));
         begun = λ other. absurd (other (ap (λ (w : Walk). w.phase) a.walk));
         short = a.short;
+        counts = a.counts;
         light = λ none. ap (λ (v : OperationView). v.removal) a.is_begun;
       };
       kept = subst (λ p. IsKeptAt p (with_table c c.answers table) o op) (sym (ap (λ (w : Walk). w.phase) a.walk)) (record {
@@ -80,10 +81,17 @@ module _ (c : Core) (now : StateView) (opening : OpeningView) (op : Operation) (
       placed = λ m made. absurd (none-some m (sym (ap change_in a.is_begun) ∙ made));
     }
 
+    -- it has scanned nothing
+    scan_begun : IsScanKept (with_table c c.answers table) op
+    scan_begun = record {
+      fresh = λ none. ap (λ (v : OperationView). v.scan) a.is_begun;
+      walked = λ begun. let first = ap (λ (w : Walk). w.first) a.walk in absurd (omega (arith, first, begun));
+    }
+
     -- the invariant with it
     pub begun_keeps : StateInvariant (with_table c c.answers table)
     begun_keeps =
-        begun_sound c o op table h vacant there others (ap (λ (w : Walk). w.first) a.walk) (ap (λ (w : Walk). one_if_prepared (Some (record op { walk = w }))) a.walk) kept_begun
+        begun_sound c o op table h vacant there others (ap (λ (w : Walk). w.first) a.walk) (ap (λ (w : Walk). one_if_prepared (Some (record op { walk = w }))) a.walk) kept_begun scan_begun
 
     -- and what is told of it
     pub begun_tells : (ticket : Ticket) → ticket.id ≡ o → TellsAdmitted now (shown (with_table c c.answers table)) opening (Ok ticket)

@@ -11,7 +11,7 @@ use Rattle.mt_operation.specs.declared.walk.Walk.{Walk}
 use Rattle.mt_operation.specs.declared.splits.Halves.{Halves}
 use Rattle.mt_operation.specs.declared.splits.Splits.{Splits}
 use Rattle.mt_operation.specs.declared.operation.Operation.{Operation}
-use Rattle.mt_operation.specs.Operations.{OperationView, moved, splits_of, view_of, with_splits}
+use Rattle.mt_operation.specs.Operations.{OperationView, moved, splits_of, scan_of, view_of, with_splits}
 use Rattle.mt_operation.specs.Phases.{IsClimb, IsToGrow, is_done}
 use Rattle.mt_operation.specs.Tables.{MayMove, Table, op_at as operation_at}
 use Rattle.mt_operation.proofs.Tables.{set_is, set_there}
@@ -21,7 +21,7 @@ use Rattle.mt_state.specs.declared.moves.Move.{Move}
 use Rattle.mt_state.specs.declared.moves.Move.TheVariants.{Again, Moved, NoMemory}
 use Rattle.mt_state.specs.Views.{Core, Shown, shown}
 use Rattle.mt_state.specs.Promises.{IsAnswer, IsHeldByOther, IsInTheWay}
-use Rattle.mt_state.specs.KeptOperations.{IsClimbing, IsKeptOf}
+use Rattle.mt_state.specs.KeptOperations.{IsClimbing, IsKeptOf, IsScanKept}
 use Rattle.mt_state.specs.Invariant.{HoldsAt, StateInvariant, made_count, one_if_prepared, prepared_count}
 use Rattle.mt_state.proofs.Shown.{shown_set, shown_table, shown_there}
 use Rattle.mt_state.proofs.Telling.{Gives}
@@ -34,8 +34,8 @@ use Rattle.mt_core.specs.declared.climbs.Climbed.TheVariants.{Blocked, NoMemory 
 use Rattle.mt_core.proofs.Climbing.{climb_none}
 use Rattle.mt_core.proofs.Points.{nears_by, point_first}
 use Rattle.mt_core.proofs.Following.{IsOver, Writes, holder_open, made, may_over, next_here, opened, over_first, over_next, set_back}
-use Rattle.mt_core.proofs.Leading.{leads_over}
-use Rattle.mt_core.proofs.Retained.{own_tape, retained}
+use Rattle.mt_core.proofs.Leading.{no_step, leads_over}
+use Rattle.mt_core.proofs.Retained.{own_tape, retained, scan_retained}
 use Rattle.mt_core.proofs.ClimbingNears.{climb_nears}
 
 -- as many operations have all ready where the one that is written has as it had
@@ -148,17 +148,18 @@ module _ (c : Core) (o : ℕ) (op : Operation) (h : StateInvariant c) (there : o
         record {
           always = record {
             stored = a.stored;
+            tenant_is = a.tenant_is;
             owner = a.owner;
             columns = a.columns;
             tenant = a.tenant;
             aim = a.aim;
-            no_scan = a.no_scan;
             kind = a.kind;
             order = a.order;
             made = a.made;
             floor = a.floor;
             begun = a.begun;
             short = a.short;
+            counts = a.counts;
             light = a.light;
           };
           kept = kept_climbing op.walk.phase climbs new o y (record {
@@ -179,6 +180,12 @@ module _ (c : Core) (o : ℕ) (op : Operation) (h : StateInvariant c) (there : o
           };
         }
 
+    own_scan : IsScanKept new y
+    own_scan =
+        let always = (h.ops o op there).always in
+        let s = scan_retained c c.answers c.logs c.tape new.table o op (own_tape c op always) always (h.scans o op there) in
+        record { fresh = s.fresh; walked = s.walked }
+
     same_sound : StateInvariant new
     same_sound = record {
       tape = record { rises = h.tape.rises; made = h.tape.made; legal = h.tape.legal; keys = h.tape.keys; logs = h.tape.logs };
@@ -195,6 +202,12 @@ module _ (c : Core) (o : ℕ) (op : Operation) (h : StateInvariant c) (there : o
       ops = λ q x at_q. elim (cases_eq q o) [
         | inl is ↦ subst (λ n. IsKeptOf new n x) (sym is) (subst (IsKeptOf new o) (same_Some y x (sym here ∙ ap (operation_at new.table) (sym is) ∙ at_q)) own)
         | inr other ↦ let k = h.ops q x (sym (set_there c.table o q (Some y) other) ∙ at_q) in retained c c.answers c.logs c.tape new.table q x (own_tape c x k.always) k.always k
+      ];
+      scans = λ q x at_q. elim (cases_eq q o) [
+        | inl is ↦ subst (IsScanKept new) (same_Some y x (sym here ∙ ap (operation_at new.table) (sym is) ∙ at_q)) own_scan
+        | inr other ↦
+            let here_q = sym (set_there c.table o q (Some y) other) ∙ at_q in
+            let k = h.ops q x here_q in scan_retained c c.answers c.logs c.tape new.table q x (own_tape c x k.always) k.always (h.scans q x here_q)
       ];
       reserved = h.reserved ∙ sym (count_back c.table o op y there refl);
       answered = subst (λ (all : Shown). c.answers + made_count all ≤ c.steps) (sym (ap (λ v. v.table) (same_shown same))) h.answered;
@@ -278,7 +291,7 @@ module _ (c now : Core) (o : ℕ) (is : c ≡ now) (h : StateInvariant c) (next 
                 (climb_nears op.walk.phase at_climb o c.arena arena op.walk w op.splits t refl arena_is.nodes kept.climbs told height n p))
                 (λ removes height n r. absurd (climb_none op.walk.phase at_climb height r.round n c.arena op.walk r.few));
             leads =
-                leads_over c o h op there op.walk.phase refl c refl arena c.tape c.accounts all after over_all w (climb_leads op.walk.phase at_climb o c.arena arena op.walk w op.splits t told (c.steps + 1) op.task.key op.outcome op.removal) refl;
+                leads_over c o h op there op.walk.phase refl c refl arena c.tape c.accounts all after over_all w (climb_leads op.walk.phase at_climb o c.arena arena op.walk w op.splits t told (c.steps + 1) op.task.key op.outcome op.removal (no_step op)) refl refl;
           })
 
         -- it was not made: all is as it was, but for the splits
@@ -310,7 +323,7 @@ module _ (c now : Core) (o : ℕ) (is : c ≡ now) (h : StateInvariant c) (next 
                 op = view_of op;
                 there = shown_there c.table o op there;
                 holds =
-                    subst (λ (p : Phase). IsInTheWay c.arena p op.walk (splits_of op.splits) op.removal holder) (sym held_back.3) (parent, held_back.5, held_back.6, held_back.7);
+                    subst (λ (p : Phase). IsInTheWay c.arena p op.walk (splits_of op.splits) op.removal (scan_of op.task op.scan) holder) (sym held_back.3) (parent, held_back.5, held_back.6, held_back.7);
               }
 
           pub blocked_steps : (answer : Move) → answer ≡ Again holder → StepsOn now stopped o answer

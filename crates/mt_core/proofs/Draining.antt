@@ -18,7 +18,7 @@ use Rattle.mt_tape.proofs.EntryLaws.{floor_upto_last, all_upto_last}
 use Rattle.mt_state.specs.Views.{Core}
 use Rattle.mt_state.specs.Invariant.{StateInvariant}
 use Rattle.mt_core.specs.Drains.{record_of, records_after, IsLeastOf}
-use Rattle.mt_core.proofs.Retained.{retained, own_tape}
+use Rattle.mt_core.proofs.Retained.{retained, scan_retained, own_tape}
 
 -- the steps of a tape's entries are stamps that rise
 rising_stamps : (floor : ℕ) (entries : List Entry) → RisesOver floor entries → IsStrictlyIncreasing (map (λ r. r.stamp) (map record_of entries))
@@ -105,6 +105,7 @@ drained c worker h = record {
   holders = h.holders;
   counts = h.counts;
   ops = λ o op there. let k = h.ops o op there in retained c c.answers (set c.logs worker c.steps) c.tape c.table o op (own_tape c op k.always) k.always k;
+  scans = λ o op there. let k = h.ops o op there in scan_retained c c.answers (set c.logs worker c.steps) c.tape c.table o op (own_tape c op k.always) k.always (h.scans o op there);
   reserved = h.reserved;
   answered = h.answered;
   deleted = h.deleted;

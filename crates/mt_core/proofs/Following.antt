@@ -14,7 +14,7 @@ use Rattle.mt_operation.specs.declared.phase.Phase.TheVariants.{Load, Lock, Lock
 use Rattle.mt_operation.specs.declared.walk.Walk.{Walk}
 use Rattle.mt_operation.specs.declared.outcome.Outcome.{Outcome}
 use Rattle.mt_operation.specs.declared.operation.Operation.{Operation}
-use Rattle.mt_operation.specs.Operations.{SplitsView}
+use Rattle.mt_operation.specs.Operations.{SplitsView, ScanView}
 use Rattle.mt_operation.specs.Phases.{is_done}
 use Rattle.mt_operation.specs.Tables.{Table, op_at as operation_at, MayMove}
 use Rattle.mt_operation.proofs.Tables.{set_is, set_here, set_there}
@@ -105,18 +105,18 @@ holder_open Done op k holds = absurd holds
 holder_open _ op k holds = refl
 
 -- and who is in the way of a step holds one
-pub in_the_way : (v : ArenaView) (p : Phase) (w : Walk) (s : SplitsView) (rem : Removal) (holder : ℕ) → IsInTheWay v p w s rem holder
+pub in_the_way : (v : ArenaView) (p : Phase) (w : Walk) (s : SplitsView) (rem : Removal) (g : ScanView) (holder : ℕ) → IsInTheWay v p w s rem g holder
     → (k : ℕ) × (k < length v.nodes) × ((at v k).holder ≡ Some holder)
-in_the_way v p w s rem holder way = (way.0, way.2, held_by p (at v way.0) way.3)
+in_the_way v p w s rem g holder way = (way.0, way.2, held_by p (at v way.0) way.3)
   where
-    held_by : (q : Phase) (n : NodeView) → Blocks q n w.slot holder → n.holder ≡ Some holder
+    held_by : (q : Phase) (n : NodeView) → Blocks q n w g holder → n.holder ≡ Some holder
     held_by Lock n blocks = blocks
     held_by LockParent n blocks = blocks
     held_by LockPrev n blocks = blocks
     held_by LockAbove n blocks = blocks
     held_by CleanLayer n blocks = blocks
     held_by Load n blocks = blocks.by
-    held_by Snap n blocks = blocks.1.by
+    held_by Snap n blocks = blocks.by
     held_by _ n blocks = blocks.by
 
 -- an outcome of this reply

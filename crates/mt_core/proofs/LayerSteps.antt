@@ -36,7 +36,7 @@ use Rattle.mt_state.proofs.LayerNodes.{LeavesNodes, layer_keeps, layer_goes, lay
 use Rattle.mt_core.specs.Nexts.{IsNext}
 use Rattle.mt_core.specs.Points.{AreBelow, HasMade, HasRemoved, IsRemovalAt, IsAtPoint, IsLiveTree, MayHaveGrown, Nears, StepsOn, above, astray, before_unlock}
 use Rattle.mt_core.proofs.Following.{IsSound, Writes, made, may_move, over_first, phase_is}
-use Rattle.mt_core.proofs.Leading.{leads_over}
+use Rattle.mt_core.proofs.Leading.{no_step, leads_over}
 use Rattle.mt_core.proofs.LookPoints.{next_layer, shallow_below}
 use Rattle.mt_core.proofs.Points.{below_at, few_at, nears_by, rounds_at, point_at, point_first}
 
@@ -128,7 +128,7 @@ module _ (c now : Core) (o : ℕ) (is : c ≡ now) (h : StateInvariant c) (x : O
   steps_on : (arena : ArenaView) (w : Walk) (table : Table) → Writes c.table table o (λ y. moved y (c.steps + 1) w) → Guarantee o c.arena arena
       → ((height n : ℕ) → IsAtPoint height n c.arena x.walk x.splits → IsAtPoint height (n + 1) arena w x.splits)
       → ((height n : ℕ) → IsRemovalAt height n c.arena x.walk x.outcome x.removal → ⊥)
-      → LeadsTo x.walk.phase c.arena arena o (c.steps + 1) x.task.key x.outcome (splits_of x.splits) x.removal x.walk w
+      → LeadsTo x.walk.phase c.arena arena o (c.steps + 1) x.task.key x.outcome (splits_of x.splits) x.removal (no_step x) x.walk w
       → Gives (shown c) (made c arena c.tape c.accounts (set c.table o (Some (moved x (c.steps + 1) w)))) o false
       → IsSound (made c arena c.tape c.accounts table) × StepsOn now (made c arena c.tape c.accounts table) o Moved
   steps_on arena w table writes guarantee brings none leads g =
@@ -141,7 +141,7 @@ module _ (c now : Core) (o : ℕ) (is : c ≡ now) (h : StateInvariant c) (x : O
           tells = told.1;
           nears = subst (λ (v : Core). Nears v new o Moved) is
               (nears_by c new o x after there over.there guarantee refl (λ height n point. point_first height (n + 1) arena w x.splits after.walk.first (brings height n point)) (λ removes height n r. absurd (none height n r)));
-          leads = leads_over c o h x there x.walk.phase refl now is arena c.tape c.accounts table after over w leads refl;
+          leads = leads_over c o h x there x.walk.phase refl now is arena c.tape c.accounts table after over w leads refl refl;
         },
       )
 
@@ -156,7 +156,7 @@ module _ (c now : Core) (o : ℕ) (is : c ≡ now) (h : StateInvariant c) (x : O
       steps_on arena w table writes (layer_keeps p layer o x.task.key c.arena arena x.walk w b).keeps.guarantee
       (λ height n. layer_nears p layer o x.task.key c.arena arena x.walk w x.splits refl (layer_there p layer c.arena o x.task.key x.walk kept) (layer_live p layer c.arena o x.task.key x.walk kept) kept b height n)
       (λ height n r. layer_none p layer height r.round n c.arena x.walk r.few)
-      (layer_leads p layer o x.task.key c.arena arena x.walk w b (c.steps + 1) x.outcome (splits_of x.splits) x.removal)
+      (layer_leads p layer o x.task.key c.arena arena x.walk w b (c.steps + 1) x.outcome (splits_of x.splits) x.removal (no_step x))
       (build_done c o h (steps_few few) x there arena w layer b)
 
   -- no memory for it
@@ -172,7 +172,7 @@ module _ (c now : Core) (o : ℕ) (is : c ≡ now) (h : StateInvariant c) (x : O
       → Writes c.table table o (λ y. noted (moved y (c.steps + 1) w) (Some told))
       → Leads (shown now) (shown (made c arena c.tape c.accounts table)) o
   stop_leads arena w told table at_make t writes =
-      leads_over c o h x there MakeLayer at_make now is arena c.tape c.accounts table _ (over_first c.table table o (λ y. noted (moved y (c.steps + 1) w) (Some told)) x there writes) w (inr t.walk) refl
+      leads_over c o h x there MakeLayer at_make now is arena c.tape c.accounts table _ (over_first c.table table o (λ y. noted (moved y (c.steps + 1) w) (Some told)) x there writes) w (inr t.walk) refl refl
 
   -- one that leaves its layer has split nothing
   unsplit : x.walk.phase ≡ Unlock → x.outcome ≡ None → x.splits.halves.items ≡ []
@@ -195,8 +195,8 @@ module _ (c now : Core) (o : ℕ) (is : c ≡ now) (h : StateInvariant c) (x : O
       at_unlock : x.walk.phase ≡ Unlock
       at_unlock = phase_is c now o (λ q. q ≡ Unlock) is x there next
 
-      leads : LeadsTo x.walk.phase c.arena arena o (c.steps + 1) x.task.key x.outcome (splits_of x.splits) x.removal x.walk w
-      leads = subst (λ (p : Phase). LeadsTo p c.arena arena o (c.steps + 1) x.task.key x.outcome (splits_of x.splits) x.removal x.walk w) (sym at_unlock)
+      leads : LeadsTo x.walk.phase c.arena arena o (c.steps + 1) x.task.key x.outcome (splits_of x.splits) x.removal (no_step x) x.walk w
+      leads = subst (λ (p : Phase). LeadsTo p c.arena arena o (c.steps + 1) x.task.key x.outcome (splits_of x.splits) x.removal (no_step x) x.walk w) (sym at_unlock)
           (subst (λ (told : Option Outcome). GoesFromUnlock told c.arena (splits_of x.splits) x.removal x.walk w) (sym untold) (leaves.tree, leaves.taken, g.walk))
 
       k : ℕ

@@ -32,4 +32,6 @@ pub mod LayerSteps
 pub mod Climbing
 pub mod ClimbingNears
 pub mod ClimbSteps
-pub mod NoScans
+pub mod PhaseTests
+pub mod ScanBodies
+pub mod ScanSteps

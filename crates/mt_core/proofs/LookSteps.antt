@@ -16,14 +16,14 @@ use Rattle.mt_operation.specs.declared.walk.Walk.{Walk}
 use Rattle.mt_operation.specs.declared.outcome.Outcome.{Outcome}
 use Rattle.mt_operation.specs.declared.operation.Operation.{Operation}
 use Rattle.mt_operation.specs.Tasks.{ask}
-use Rattle.mt_operation.specs.Operations.{SplitsView, splits_of}
+use Rattle.mt_operation.specs.Operations.{SplitsView, ScanView, splits_of, scan_of}
 use Rattle.mt_descent.specs.Pasts.{Past}
 use Rattle.mt_descent.specs.Seen.{child_for}
 use Rattle.mt_descent.specs.KeptWalks.{slice_in, KeptAt, IsKept}
 use Rattle.mt_descent.specs.WalkMoves.{IsBlocked, IsBlockedAt, AnswersAgain, Continues, Verifies, Loads, walk_here, after_enter, after_pick, after_child, after_forward}
 use Rattle.mt_state.specs.Notes.{columns_asked}
 use Rattle.mt_state.specs.Promises.{needed_node, Blocks, IsInTheWay}
-use Rattle.mt_state.specs.Phases.{GoesForward, LeadsTo}
+use Rattle.mt_state.specs.Phases.{ScanStep, GoesForward, LeadsTo}
 use Rattle.mt_state.specs.Ways.{Descends, ShowsTaken}
 use Rattle.mt_state.proofs.Descents.{Leads, descends, entered, verified, forwarded, stayed}
 use Rattle.mt_state.proofs.Replies.{get_asks}
@@ -62,107 +62,107 @@ forward_goes (Some holder) slice nodes before after at_forward last is same = tt
 pub enter_leads : (r : Option ℕ) (v : ArenaView) (key : Bytes) (before after : Walk) → before.phase ≡ Enter
     → AnswersAgain (at v (tree_at v.trees before.place.tree).root) before after r
     → IfNone r (after ≡ after_enter (tree_at v.trees before.place.tree).standing before (tree_at v.trees before.place.tree).root (at v (tree_at v.trees before.place.tree).root).version)
-    → (o step : ℕ) (told : Option Outcome) (s : SplitsView) (rem : Removal) → IfNone r (LeadsTo before.phase v v o step key told s rem before after)
-enter_leads None v key before after at_enter again is o step told s rem =
-    subst (λ (p : Phase). LeadsTo p v v o step key told s rem before after) (sym at_enter) (again, is)
-enter_leads (Some holder) v key before after at_enter again is o step told s rem = tt
+    → (o step : ℕ) (told : Option Outcome) (s : SplitsView) (rem : Removal) (g : ScanStep) → IfNone r (LeadsTo before.phase v v o step key told s rem g before after)
+enter_leads None v key before after at_enter again is o step told s rem g =
+    subst (λ (p : Phase). LeadsTo p v v o step key told s rem g before after) (sym at_enter) (again, is)
+enter_leads (Some holder) v key before after at_enter again is o step told s rem g = tt
 
 -- from Pick
 pub pick_leads : (v : ArenaView) (key : Bytes) (before after : Walk) → before.phase ≡ Pick
     → after ≡ after_pick before (child_for (at v before.place.node) (slice_in key before))
-    → (o step : ℕ) (told : Option Outcome) (s : SplitsView) (rem : Removal) → LeadsTo before.phase v v o step key told s rem before after
-pick_leads v key before after at_pick is o step told s rem = subst (λ (p : Phase). LeadsTo p v v o step key told s rem before after) (sym at_pick) is
+    → (o step : ℕ) (told : Option Outcome) (s : SplitsView) (rem : Removal) (g : ScanStep) → LeadsTo before.phase v v o step key told s rem g before after
+pick_leads v key before after at_pick is o step told s rem g = subst (λ (p : Phase). LeadsTo p v v o step key told s rem g before after) (sym at_pick) is
 
 -- from Child
 pub child_leads : (r : Option ℕ) (v : ArenaView) (key : Bytes) (before after : Walk) → before.phase ≡ Child
     → AnswersAgain (at v before.child) before after r → IfNone r (after ≡ after_child before (at v before.child).version)
-    → (o step : ℕ) (told : Option Outcome) (s : SplitsView) (rem : Removal) → IfNone r (LeadsTo before.phase v v o step key told s rem before after)
-child_leads None v key before after at_child again is o step told s rem =
-    subst (λ (p : Phase). LeadsTo p v v o step key told s rem before after) (sym at_child) (again, is)
-child_leads (Some holder) v key before after at_child again is o step told s rem = tt
+    → (o step : ℕ) (told : Option Outcome) (s : SplitsView) (rem : Removal) (g : ScanStep) → IfNone r (LeadsTo before.phase v v o step key told s rem g before after)
+child_leads None v key before after at_child again is o step told s rem g =
+    subst (λ (p : Phase). LeadsTo p v v o step key told s rem g before after) (sym at_child) (again, is)
+child_leads (Some holder) v key before after at_child again is o step told s rem g = tt
 
 -- from Verify
 pub verify_leads : (r : Option ℕ) (v : ArenaView) (key : Bytes) (before after : Walk) → before.phase ≡ Verify
     → AnswersAgain (at v before.place.node) before after r → IfNone r (Verifies (at v before.place.node) before after)
-    → (o step : ℕ) (told : Option Outcome) (s : SplitsView) (rem : Removal) → IfNone r (LeadsTo before.phase v v o step key told s rem before after)
-verify_leads None v key before after at_verify again is o step told s rem =
-    subst (λ (p : Phase). LeadsTo p v v o step key told s rem before after) (sym at_verify) (again, is)
-verify_leads (Some holder) v key before after at_verify again is o step told s rem = tt
+    → (o step : ℕ) (told : Option Outcome) (s : SplitsView) (rem : Removal) (g : ScanStep) → IfNone r (LeadsTo before.phase v v o step key told s rem g before after)
+verify_leads None v key before after at_verify again is o step told s rem g =
+    subst (λ (p : Phase). LeadsTo p v v o step key told s rem g before after) (sym at_verify) (again, is)
+verify_leads (Some holder) v key before after at_verify again is o step told s rem g = tt
 
 -- and from Forward, by the next node
 pub forward_leads : (r : Option ℕ) (v : ArenaView) (key : Bytes) (before after : Walk) → before.phase ≡ Forward
     → ((j : ℕ) → before.next ≡ Some j → AnswersAgain (at v j) before after r)
     → (before.next ≡ None → IsNone r × (after ≡ walk_here before))
     → ((j : ℕ) → before.next ≡ Some j → IfNone r (after ≡ after_forward before (slice_in key before) j (at v j)))
-    → (o step : ℕ) (told : Option Outcome) (s : SplitsView) (rem : Removal) → IfNone r (LeadsTo before.phase v v o step key told s rem before after)
-forward_leads None v key before after at_forward again last is o step told s rem =
-    subst (λ (p : Phase). LeadsTo p v v o step key told s rem before after) (sym at_forward) (by before.next refl)
+    → (o step : ℕ) (told : Option Outcome) (s : SplitsView) (rem : Removal) (g : ScanStep) → IfNone r (LeadsTo before.phase v v o step key told s rem g before after)
+forward_leads None v key before after at_forward again last is o step told s rem g =
+    subst (λ (p : Phase). LeadsTo p v v o step key told s rem g before after) (sym at_forward) (by before.next refl)
   where
     by : (next : Option ℕ) → before.next ≡ next → GoesForward next v key before after
     by None e = (last e).1
     by (Some j) e = (again j e, is j e)
-forward_leads (Some holder) v key before after at_forward again last is o step told s rem = tt
+forward_leads (Some holder) v key before after at_forward again last is o step told s rem g = tt
 
 -- who is in the way of such a step is the holder of the node that it reads
-pub read_way : (v : ArenaView) (p : Phase) (before after : Walk) (s : SplitsView) (rem : Removal) (k : ℕ) (r : Option ℕ) → before.phase ≡ p
-    → needed_node p v before s rem ≡ Some k → k < length v.nodes → ((holder : ℕ) → IsBlocked (at v k) holder → Blocks p (at v k) before.slot holder)
-    → AnswersAgain (at v k) before after r → IfSome r (λ holder. IsInTheWay v before.phase before s rem holder × (after ≡ before))
-read_way v p before after s rem k None at_p needs within blocks again = tt
-read_way v p before after s rem k (Some holder) at_p needs within blocks again =
-    (subst (λ (q : Phase). IsInTheWay v q before s rem holder) (sym at_p) (k, needs, within, blocks holder again.1), again.0)
+pub read_way : (v : ArenaView) (p : Phase) (before after : Walk) (s : SplitsView) (rem : Removal) (g : ScanView) (k : ℕ) (r : Option ℕ) → before.phase ≡ p
+    → needed_node p v before s rem ≡ Some k → k < length v.nodes → ((holder : ℕ) → IsBlocked (at v k) holder → Blocks p (at v k) before g holder)
+    → AnswersAgain (at v k) before after r → IfSome r (λ holder. IsInTheWay v before.phase before s rem g holder × (after ≡ before))
+read_way v p before after s rem g k None at_p needs within blocks again = tt
+read_way v p before after s rem g k (Some holder) at_p needs within blocks again =
+    (subst (λ (q : Phase). IsInTheWay v q before s rem g holder) (sym at_p) (k, needs, within, blocks holder again.1), again.0)
 
 -- so at the root of its tree, at the child, at the interior node, and at the next border node
-module _ (v : ArenaView) (arena : IsArena v.nodes v.trees) (past : Past) (key : Bytes) (w after : Walk) (kept : IsKept v past key None w) (s : SplitsView) (rem : Removal) (r : Option ℕ) where
+module _ (v : ArenaView) (arena : IsArena v.nodes v.trees) (past : Past) (key : Bytes) (w after : Walk) (kept : IsKept v past key None w) (s : SplitsView) (rem : Removal) (g : ScanView) (r : Option ℕ) where
   at_phase : (p : Phase) → w.phase ≡ p → KeptAt p v past key None w
   at_phase p at_p = subst (λ (q : Phase). KeptAt q v past key None w) at_p kept
 
   pub enter_way : w.phase ≡ Enter → AnswersAgain (at v (tree_at v.trees w.place.tree).root) w after r
-      → IfSome r (λ holder. IsInTheWay v w.phase w s rem holder × (after ≡ w))
+      → IfSome r (λ holder. IsInTheWay v w.phase w s rem g holder × (after ≡ w))
   enter_way at_enter =
-      read_way v Enter w after s rem (tree_at v.trees w.place.tree).root r at_enter refl (arena.forest.each w.place.tree (at_phase Enter at_enter).there).root_there (λ holder blocked. blocked)
+      read_way v Enter w after s rem g (tree_at v.trees w.place.tree).root r at_enter refl (arena.forest.each w.place.tree (at_phase Enter at_enter).there).root_there (λ holder blocked. blocked)
 
-  pub child_way : w.phase ≡ Child → AnswersAgain (at v w.child) w after r → IfSome r (λ holder. IsInTheWay v w.phase w s rem holder × (after ≡ w))
-  child_way at_child = read_way v Child w after s rem w.child r at_child refl (at_phase Child at_child).picked.there (λ holder blocked. blocked)
+  pub child_way : w.phase ≡ Child → AnswersAgain (at v w.child) w after r → IfSome r (λ holder. IsInTheWay v w.phase w s rem g holder × (after ≡ w))
+  child_way at_child = read_way v Child w after s rem g w.child r at_child refl (at_phase Child at_child).picked.there (λ holder blocked. blocked)
 
-  pub verify_way : w.phase ≡ Verify → AnswersAgain (at v w.place.node) w after r → IfSome r (λ holder. IsInTheWay v w.phase w s rem holder × (after ≡ w))
+  pub verify_way : w.phase ≡ Verify → AnswersAgain (at v w.place.node) w after r → IfSome r (λ holder. IsInTheWay v w.phase w s rem g holder × (after ≡ w))
   verify_way at_verify =
-      read_way v Verify w after s rem w.place.node r at_verify refl (at_phase Verify at_verify).above.covers.remembered.there (λ holder blocked. blocked)
+      read_way v Verify w after s rem g w.place.node r at_verify refl (at_phase Verify at_verify).above.covers.remembered.there (λ holder blocked. blocked)
 
-  no_way : IsNone r → IfSome r (λ holder. IsInTheWay v w.phase w s rem holder × (after ≡ w))
+  no_way : IsNone r → IfSome r (λ holder. IsInTheWay v w.phase w s rem g holder × (after ≡ w))
   no_way none = by r none
     where
-      by : (q : Option ℕ) → IsNone q → IfSome q (λ holder. IsInTheWay v w.phase w s rem holder × (after ≡ w))
+      by : (q : Option ℕ) → IsNone q → IfSome q (λ holder. IsInTheWay v w.phase w s rem g holder × (after ≡ w))
       by None is = tt
       by (Some holder) is = absurd (cc)
 
   pub forward_way : w.phase ≡ Forward → ((j : ℕ) → w.next ≡ Some j → AnswersAgain (at v j) w after r)
-      → (w.next ≡ None → IsNone r × (after ≡ walk_here w)) → IfSome r (λ holder. IsInTheWay v w.phase w s rem holder × (after ≡ w))
+      → (w.next ≡ None → IsNone r × (after ≡ walk_here w)) → IfSome r (λ holder. IsInTheWay v w.phase w s rem g holder × (after ≡ w))
   forward_way at_forward again last = by w.next refl
     where
-      by : (next : Option ℕ) → w.next ≡ next → IfSome r (λ holder. IsInTheWay v w.phase w s rem holder × (after ≡ w))
+      by : (next : Option ℕ) → w.next ≡ next → IfSome r (λ holder. IsInTheWay v w.phase w s rem g holder × (after ≡ w))
       by None e = no_way (last e).0
-      by (Some j) e = read_way v Forward w after s rem j r at_forward e ((at_phase Forward at_forward).next.there j e) (λ holder blocked. blocked) (again j e)
+      by (Some j) e = read_way v Forward w after s rem g j r at_forward e ((at_phase Forward at_forward).next.there j e) (λ holder blocked. blocked) (again j e)
 
 -- the operation is as it was where its walk is
 same_operation : (op : Operation) (w : Walk) → w ≡ op.walk → record op { walk = w } ≡ op
 same_operation op w same = λ a. record op { walk = same a }
 
 pub blocked_descent : (v : ArenaView) (op : Operation) (w : Walk) (holder : ℕ)
-    → IsInTheWay v op.walk.phase op.walk (splits_of op.splits) op.removal holder × (w ≡ op.walk)
-    → IsInTheWay v op.walk.phase op.walk (splits_of op.splits) op.removal holder × (record op { walk = w } ≡ op)
+    → IsInTheWay v op.walk.phase op.walk (splits_of op.splits) op.removal (scan_of op.task op.scan) holder × (w ≡ op.walk)
+    → IsInTheWay v op.walk.phase op.walk (splits_of op.splits) op.removal (scan_of op.task op.scan) holder × (record op { walk = w } ≡ op)
 blocked_descent v op w holder way = (way.0, same_operation op w way.1)
 
 -- who is in the way of a load, and of a confirmation
 pub blocked_load : (v : ArenaView) (op : Operation) (w : Walk) (holder : ℕ) → MayLoad v op
     → (w ≡ op.walk) × IsBlockedAt (at v op.walk.place.node) op.walk.slot holder
-    → IsInTheWay v op.walk.phase op.walk (splits_of op.splits) op.removal holder × (record op { walk = w } ≡ op)
+    → IsInTheWay v op.walk.phase op.walk (splits_of op.splits) op.removal (scan_of op.task op.scan) holder × (record op { walk = w } ≡ op)
 blocked_load v op w holder may again =
-    (subst (λ (p : Phase). IsInTheWay v p op.walk (splits_of op.splits) op.removal holder) (sym may.phase) (op.walk.place.node, refl, may.kept.at_border.covers.remembered.there, again.1), same_operation op w again.0)
+    (subst (λ (p : Phase). IsInTheWay v p op.walk (splits_of op.splits) op.removal (scan_of op.task op.scan) holder) (sym may.phase) (op.walk.place.node, refl, may.kept.at_border.covers.remembered.there, again.1), same_operation op w again.0)
 
 pub blocked_confirm : (v : ArenaView) (op : Operation) (w : Walk) (holder : ℕ) → MayConfirm v op → (w ≡ op.walk) × IsBlocked (at v op.walk.place.node) holder
-    → IsInTheWay v op.walk.phase op.walk (splits_of op.splits) op.removal holder × (record op { walk = w } ≡ op)
+    → IsInTheWay v op.walk.phase op.walk (splits_of op.splits) op.removal (scan_of op.task op.scan) holder × (record op { walk = w } ≡ op)
 blocked_confirm v op w holder may again =
-    (subst (λ (p : Phase). IsInTheWay v p op.walk (splits_of op.splits) op.removal holder) (sym may.phase) (op.walk.place.node, refl, may.kept.covers.remembered.there, again.1), same_operation op w again.0)
+    (subst (λ (p : Phase). IsInTheWay v p op.walk (splits_of op.splits) op.removal (scan_of op.task op.scan) holder) (sym may.phase) (op.walk.place.node, refl, may.kept.covers.remembered.there, again.1), same_operation op w again.0)
 
 -- the outcome of a reply that is right at a number
 abbrev placed_at : ℕ → Reply → Outcome
@@ -198,7 +198,7 @@ tells_shown f taken reply v op step after told gets loads is says = record {
 
 -- what a step makes of an operation of which it leads the walk down
 pub looks_down : (v : ArenaView) (op : Operation) (w : Walk)
-    → ((o step : ℕ) (told : Option Outcome) (s : SplitsView) (rem : Removal) → LeadsTo op.walk.phase v v o step op.task.key told s rem op.walk w) → Descends op.walk w
+    → ((o step : ℕ) (told : Option Outcome) (s : SplitsView) (rem : Removal) (g : ScanStep) → LeadsTo op.walk.phase v v o step op.task.key told s rem g op.walk w) → Descends op.walk w
     → ((budget : Budget) → IsBudget v budget → (made : ℕ) → WalksBy op.walk.phase budget made v op.walk → WalksBy w.phase budget (made + 1) v w)
     → ((past : Past) → IsKept v past op.task.key None w)
     → TellsDescended v op (led_to op w op.outcome)

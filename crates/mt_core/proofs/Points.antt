@@ -1,6 +1,6 @@
 -- How a step brings an operation on that nobody is in the way of: by the point to which its walk came. For each phase of `Inner`.
-use Rattle.std.proofs.Common.{◌≡◌, ℕ, ◌+◌, inl, inr, Bool, true, false, length, Option, Some, refl, sym, subst, ◌∙◌}
-use Rattle.std.proofs.lemmas.Bool.{cases_lt, cases_eq}
+use Rattle.std.proofs.Common.{◌≡◌, ℕ, ◌+◌, inl, inr, Bool, true, false, length, Option, Some, refl, sym, ap, subst, ◌∙◌}
+use Rattle.std.proofs.lemmas.Bool.{cases_lt, cases_eq, both_ways}
 use Rattle.std.proofs.lemmas.Option.{same_Some}
 use Rattle.mt_arena.specs.Arena.{ArenaView, Guarantee}
 use Rattle.mt_operation.specs.declared.phase.Phase.{Phase}
@@ -14,7 +14,8 @@ use Rattle.mt_operation.specs.declared.operation.Operation.{Operation}
 use Rattle.mt_operation.specs.Tables.{op_at as operation_at}
 use Rattle.mt_state.specs.declared.moves.Move.TheVariants.{Moved}
 use Rattle.mt_state.specs.Views.{Core}
-use Rattle.mt_core.specs.Points.{AreBelow, HasMade, HasRemoved, MayHaveGrown, IsAtPoint, IsFreeOfOthers, IsRemovalAt, IsSoFar, Nears, RoundsAt}
+use Rattle.mt_core.specs.Points.{AreBelow, HasMade, HasRemoved, MayHaveGrown, IsAtPoint, IsFreeOfOthers, IsRemovalAt, IsSoFar, IsUnhindered, Nears, RoundsAt}
+use Rattle.mt_rows.specs.Maps.{is_scan}
 use Rattle.mt_operation.specs.declared.outcome.Outcome.{Outcome}
 use Rattle.mt_operation.specs.declared.removal.Removal.{Removal}
 
@@ -95,6 +96,10 @@ module _ (c new : Core) (o : ℕ) (op after : Operation) (there : operation_at c
     ]
   ]
 
+  -- and it is no scan
+  still_no_scan : {height made : ℕ} → IsUnhindered c o height made → is_scan (ask after.task) ≡ false
+  still_no_scan u = ap (λ (task : Task). is_scan (ask task)) (asked ∙ ap (λ (x : Operation). x.task) (same_Some op u.op (sym there ∙ u.there))) ∙ u.no_scan
+
   -- a step brings the operation on whose walk came to the next point, or which has come further with its removal
   pub nears_by : ((height made : ℕ) → IsAtPoint height made c.arena op.walk op.splits → IsAtPoint height (made + 1) new.arena after.walk after.splits)
       → (is_remove (ask op.task) ≡ true → (height made : ℕ) → IsRemovalAt height made c.arena op.walk op.outcome op.removal
@@ -104,6 +109,7 @@ module _ (c new : Core) (o : ℕ) (op after : Operation) (there : operation_at c
     op = after;
     there = came;
     free = free_after u.free;
+    no_scan = still_no_scan u;
     point = subst (λ (task : Task). IsSoFar (is_remove (ask task)) height (made + 1) new.arena after) (sym asked)
         (so_far (is_remove (ask op.task)) height made c.arena new.arena op after (brings height made) (λ is. removes is height made)
         (subst (λ (x : Operation). IsSoFar (is_remove (ask x.task)) height made c.arena x) (same_Some u.op op (sym u.there ∙ there)) u.point));
@@ -117,8 +123,14 @@ module _ (c new : Core) (o : ℕ) (op after : Operation) (there : operation_at c
     op = after;
     there = came;
     free = free_after u.free;
+    no_scan = still_no_scan u;
     point = subst (λ (task : Task). IsSoFar (is_remove (ask task)) height (made + 1) new.arena after) (sym asked)
         (subst (λ (b : Bool). IsSoFar b height (made + 1) new.arena after) (sym is) (removes height made
         (subst (λ (b : Bool). IsSoFar b height made c.arena op) is
         (subst (λ (x : Operation). IsSoFar (is_remove (ask x.task)) height made c.arena x) (same_Some u.op op (sym u.there ∙ there)) u.point))));
   }
+
+-- and a step of a scan brings on nobody, since such a run is none of a scan's
+pub nears_no_scan : (c new : Core) (o : ℕ) (op : Operation) → operation_at c.table o ≡ Some op → is_scan (ask op.task) ≡ true → Nears c new o Moved
+nears_no_scan c new o op there scans height made u =
+    absurd (both_ways _ (ap (λ (x : Operation). is_scan (ask x.task)) (same_Some op u.op (sym there ∙ u.there)) ∙ u.no_scan) scans)

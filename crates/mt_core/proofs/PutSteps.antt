@@ -1,5 +1,5 @@
 -- The phases of a put by the ensures of the calls that they make: for `Inner::lock`, `judge`, `store`, `publish` and `unlock_one`.
-use Rattle.std.proofs.Common.{Bool, IsSome, None, Option, Some, [], ap, arith, cond, eqb, false, inl, inr, is_some, length, not, refl, set, subst, sym, true, ℕ, ◌+◌, ◌<◌, ◌∙◌, ◌≡◌, ◌≢◌}
+use Rattle.std.proofs.Common.{Bool, IsSome, None, Option, Some, [], ap, arith, cond, eqb, false, inl, inr, is_some, length, refl, set, subst, sym, true, ℕ, ◌+◌, ◌<◌, ◌∙◌, ◌≡◌, ◌≢◌}
 use Rattle.std.specs.Prelude.{List, ◌*◌, ◌^◌, ◌≤◌, ◌⊎◌}
 use Rattle.mt_rows.specs.declared.reply.Reply.{Reply}
 use Rattle.mt_rows.specs.declared.reply.Reply.TheVariants.{Full, New, NoMemory, Replaced}
@@ -32,7 +32,6 @@ use Rattle.mt_remove.specs.Writes.{is_remove}
 use Rattle.mt_operation.specs.declared.task.Request.{Request}
 use Rattle.mt_operation.specs.declared.task.Request.TheVariants.{Get as GetOf, Put as PutOf, Remove as RemoveOf, Scan as ScanOf}
 use Rattle.mt_operation.specs.Tasks.{ask, command_of, aim_of}
-use Rattle.mt_rows.specs.Maps.{is_get}
 use Rattle.mt_version.specs.Parts.{Parts}
 use Rattle.mt_arena.proofs.OneLink.{leads}
 use Rattle.std.proofs.lemmas.Bool.{both_ways}
@@ -268,7 +267,7 @@ module _ (c now : Core) (o : ℕ) (is : c ≡ now) (h : StateInvariant c) where
         (nears_made x after there refl arena c.tape c.accounts table over t.keeps.guarantee
         (λ height n point. point_first height (n + 1) arena w x.splits after.walk.first (lock_brings o c.arena arena w x.walk x.splits t.locks at_lock remembered.there remembered.undeleted height n point))
         (λ removes height n r. removal_first height (n + 1) arena w x.outcome x.removal after.walk.first (lock_removal o c.arena arena x.walk w x.outcome x.removal at_lock remembered.undeleted t.locks height n r)))
-        (leads_over c o h x there Lock at_lock now is arena c.tape c.accounts table after over w (t.free, subst (λ (told : Option Outcome). LocksBy told o c.arena arena x.removal x.walk w) (sym untold) t.locks) refl)
+        (leads_over c o h x there Lock at_lock now is arena c.tape c.accounts table after over w (t.free, subst (λ (told : Option Outcome). LocksBy told o c.arena arena x.removal x.walk w) (sym untold) t.locks) refl refl)
 
     -- a lock that was given back
     pub unlock_made : IsNext now o (λ q. q ≡ Unlock) → (x : Operation) → operation_at c.table o ≡ Some x → is_remove (ask x.task) ≡ false → x.outcome ≢ None
@@ -284,7 +283,7 @@ module _ (c now : Core) (o : ℕ) (is : c ≡ now) (h : StateInvariant c) where
         → Leads (shown now) (shown (made c arena c.tape c.accounts table)) o
     unlock_leads next x there stays told arena w table t writes =
         leads_over c o h x there Unlock (phase_is c now o (λ q. q ≡ Unlock) is x there next) now is arena c.tape c.accounts table _ (over_first c.table table o (λ y. moved y (c.steps + 1) w) x there writes) w
-        (done_from x.outcome c.arena (splits_of x.splits) x.removal x.walk w told (inr ((h.ops o x there).always.light stays)) t.walk) refl
+        (done_from x.outcome c.arena (splits_of x.splits) x.removal x.walk w told (inr ((h.ops o x there).always.light stays)) t.walk) refl refl
 
     -- all that was made ready
     pub ready_made : IsNext now o (λ q. q ≡ Judge) → (x : Operation) → operation_at c.table o ≡ Some x → x.outcome ≡ None → is_put (ask x.task) ≡ true
@@ -303,7 +302,7 @@ module _ (c now : Core) (o : ℕ) (is : c ≡ now) (h : StateInvariant c) where
         (λ height n point. point_first height (n + 1) arena w x.splits after.walk.first
         (subst (λ (v : ArenaView). IsAtPoint height (n + 1) v w x.splits) (sym t.stays) (judge_brings c.arena (at c.arena x.walk.place.node) t.slot w x.walk x.splits t.walk at_judge height n point)))
         (λ removes. absurd (both_ways _ (put_no_remove (ask x.task) put) removes)))
-        (leads_over c o h x there Judge at_judge now is arena tape c.accounts table after over w (judges_none untold (inl (record { slot = t.slot; stands = t.stands; goes = t.walk }))) refl)
+        (leads_over c o h x there Judge at_judge now is arena tape c.accounts table after over w (judges_none untold (inl (record { slot = t.slot; stands = t.stands; goes = t.walk }))) refl refl)
 
     -- another long key in the key's place
     meets_made : IsNext now o (λ q. q ≡ Judge) → (x : Operation) → operation_at c.table o ≡ Some x → x.outcome ≡ None → is_remove (ask x.task) ≡ false
@@ -320,7 +319,7 @@ module _ (c now : Core) (o : ℕ) (is : c ≡ now) (h : StateInvariant c) where
         (λ height n point. point_first height (n + 1) arena w x.splits after.walk.first
         (subst (λ (v : ArenaView). IsAtPoint height (n + 1) v w x.splits) (sym t.stays) (meet_brings c.arena t.slot w x.walk x.splits t.walk at_judge height n point)))
         (λ removes. absurd (both_ways _ stays removes)))
-        (leads_over c o h x there Judge at_judge now is arena tape c.accounts table after over w (judges_none untold (inr (inl (record { slot = t.slot; stands = stands; goes = t.walk })))) refl)
+        (leads_over c o h x there Judge at_judge now is arena tape c.accounts table after over w (judges_none untold (inr (inl (record { slot = t.slot; stands = stands; goes = t.walk })))) refl refl)
       where
         stands : IsInSlot (at c.arena x.walk.place.node) t.slot x.task.key x.walk.layer OtherLong
         stands = subst (λ (y : Walk). IsInSlot (at c.arena y.place.node) y.slot x.task.key y.layer OtherLong) t.walk t.kept.in_slot
@@ -347,7 +346,7 @@ module _ (c now : Core) (o : ℕ) (is : c ≡ now) (h : StateInvariant c) where
         (link_removal c.arena x.task.key t.tree w x.walk x.outcome x.removal t.goes.walk at_judge is_arena through.there (tree_stands c.arena is_arena x.task.key x.walk through judged.held.there judged.at_border.covers.remembered.tree_is judged.stands.live)
         (tree_layer c.arena is_arena x.task.key x.walk through judged.held.there judged.at_border.covers.remembered.tree_is judged.stands.live)
         (shallow_below x.walk.layer x.task.key stored (subst (λ (y : Walk). 8 * y.layer < length x.task.key) t.goes.walk t.kept.begun)) live.live height n r))))
-        (leads_over c o h x there Judge at_judge now is arena tape c.accounts table after over w (judges_link x.outcome (record { slot = t.slot; stands = t.in_slot; tree = t.tree; leads = t.leads; goes = t.goes.walk })) refl)
+        (leads_over c o h x there Judge at_judge now is arena tape c.accounts table after over w (judges_link x.outcome (record { slot = t.slot; stands = t.in_slot; tree = t.tree; leads = t.leads; goes = t.goes.walk })) refl refl)
 
     -- either of them: it goes on
     pub on_made : IsNext now o (λ q. q ≡ Judge) → IsArena c.arena.nodes c.arena.trees → (x : Operation) → operation_at c.table o ≡ Some x → x.outcome ≡ None → is_remove (ask x.task) ≡ false
@@ -372,7 +371,7 @@ module _ (c now : Core) (o : ℕ) (is : c ≡ now) (h : StateInvariant c) where
         → Writes c.table table o (λ y. noted (moved y (c.steps + 1) w) (Some told)) → Leads (shown now) (shown (made c arena tape c.accounts table)) o
     refused_leads next x there untold arena tape w told table t writes =
         leads_over c o h x there Judge (phase_is c now o (λ q. q ≡ Judge) is x there next) now is arena tape c.accounts table _ (over_first c.table table o (λ y. noted (moved y (c.steps + 1) w) (Some told)) x there writes) w
-        (judges_none untold (inr (inr (inr (inr t.walk))))) refl
+        (judges_none untold (inr (inr (inr (inr t.walk))))) refl refl
 
   -- what taking out what an operation has ready ensures
   abbrev TakesOut : Table → Prepared → Type 0
@@ -469,7 +468,7 @@ module _ (c now : Core) (o : ℕ) (is : c ≡ now) (h : StateInvariant c) where
         (store_done c (shown now) o (ap shown is) h few s.0 s.1 (put_at c o h s.0 s.1 Store s.2 tt) s.2 arena tape w prepared.row before is_arena st)))
         (nears_placed Store next table prepared takes (λ height round n v y few. few) arena tape c.accounts w (Some told) last moves st.guarantee st.walk refl (λ grown. grown)
         (levels_stay c.arena arena s.0.walk.place.node _ sk.holds.judged.held.there (st.is sk.pair sk.stable) refl refl) (λ height n point. let few = few_at height n c.arena s.0.walk s.0.splits Store s.2 point in omega (arith, few)))
-        (leads_over c o h s.0 s.1 Store s.2 now is arena tape c.accounts last _ (over_last Store next table prepared takes w (Some told) last moves) w st.walk refl)
+        (leads_over c o h s.0 s.1 Store s.2 now is arena tape c.accounts last _ (over_last Store next table prepared takes w (Some told) last moves) w st.walk refl refl)
 
   module _ (next : IsNext now o (λ q. q ≡ Publish)) (table : Table) (prepared : Prepared) (takes : TakesOut table prepared) (x : Operation) (there_x : operation_at table o ≡ Some x) where
     -- what is kept of it is what `publish` asks
@@ -489,7 +488,7 @@ module _ (c now : Core) (o : ℕ) (is : c ≡ now) (h : StateInvariant c) where
           (subst (λ (all : Table). Gives (shown now) (made c arena tape accounts all) o false) (sym (over_last Publish next table prepared takes w (Some told) last moves).is)
           (subst (λ (r : Outcome). Gives (shown now) (made c arena tape accounts (set c.table o (Some (noted (f (with_nothing_ready s.0)) (Some r))))) o false) (sym says) gives))
           (nears_placed Publish next table prepared takes (λ height round n v y few. few) arena tape accounts w (Some told) last moves guarantee goes refl (λ grown. grown) stays (λ height n point. let few = few_at height n c.arena s.0.walk s.0.splits Publish s.2 point in omega (arith, few)))
-          (leads_over c o h s.0 s.1 Publish s.2 now is arena tape accounts last _ (over_last Publish next table prepared takes w (Some told) last moves) w goes refl)
+          (leads_over c o h s.0 s.1 Publish s.2 now is arena tape accounts last _ (over_last Publish next table prepared takes w (Some told) last moves) w goes refl refl)
 
       -- a pair that was made live
       pub publish_made : IsArena c.arena.nodes c.arena.trees

@@ -1,8 +1,6 @@
 -- What the steps of an operation that holds nothing ask of the invariant, and what they tell: for `Inner::descend`, `search`, `load` and `confirm`.
-use denote.Enum.Bare.{sameb, same_true}
 use Rattle.mt_operation.specs.declared.walk.Aim.TheVariants as aims
-use Rattle.mt_operation.specs.contracts.phase.Phase.{the_type}
-use Rattle.std.proofs.Common.{rules, ◌≡◌, ◌≢◌, ℕ, ◌+◌, ◌<◌, ◌≤◌, ◌⊎◌, inl, inr, Bool, true, false, not, set, Option, Some, None, refl, sym, ap, subst, ◌∙◌, arith}
+use Rattle.std.proofs.Common.{◌≡◌, ◌≢◌, ℕ, ◌+◌, ◌<◌, ◌≤◌, ◌⊎◌, inl, inr, true, false, not, set, Option, Some, None, refl, sym, ap, subst, ◌∙◌, arith}
 use Rattle.std.specs.Prelude.{◌^◌}
 use Rattle.mt_rows.specs.declared.reply.Reply.TheVariants.{Absent, NoMemory}
 use Rattle.mt_rows.specs.Rows.{Columns}
@@ -20,7 +18,7 @@ use Rattle.mt_operation.specs.declared.walk.Walk.{Walk}
 use Rattle.mt_operation.specs.declared.outcome.Outcome.{Outcome}
 use Rattle.mt_operation.specs.declared.operation.Operation.{Operation}
 use Rattle.mt_operation.specs.Tasks.{ask}
-use Rattle.mt_operation.specs.Operations.{view_of, splits_of, is_unfinished, moved, counted, noted}
+use Rattle.mt_operation.specs.Operations.{view_of, splits_of, scan_of, is_unfinished, moved, counted, noted}
 use Rattle.mt_operation.specs.Phases.{is_done, IsDescent, IsOfKind, IsNoLook}
 use Rattle.mt_operation.specs.declared.steps.Made.{Made}
 use Rattle.mt_operation.specs.declared.steps.Made.TheVariants.{Step, Blocked, Nothing}
@@ -36,7 +34,7 @@ use Rattle.mt_state.specs.Views.{Core, shown, past_of}
 use Rattle.mt_state.specs.Promises.{Tells, IsInTheWay}
 use Rattle.mt_state.specs.Phases.{LeadsTo}
 use Rattle.mt_state.specs.Notes.{Says}
-use Rattle.mt_state.specs.Ways.{IsOnWay, Descends, ShowsTaken}
+use Rattle.mt_state.specs.Ways.{Descends, ShowsTaken}
 use Rattle.mt_state.specs.KeptOperations.{IsOnItsWay, IsAtLoad, IsAtConfirm, IsKeptAt}
 use Rattle.mt_state.specs.Invariant.{StateInvariant}
 use Rattle.mt_state.proofs.Shown.{shown_there}
@@ -45,9 +43,8 @@ use Rattle.mt_state.proofs.Still.{IsFree, holds_nothing, nothing_changes}
 use Rattle.mt_state.proofs.Reading.{way_of, descend_done, search_missing, search_found}
 use Rattle.mt_state.proofs.Loading.{load_taken, load_stopped}
 use Rattle.mt_state.proofs.Confirming.{get_of, confirm_done, confirm_back}
-use Rattle.mt_core.proofs.NoScans.{no_scanning}
 use Rattle.mt_core.specs.Nexts.{ending}
-use Rattle.mt_core.specs.Looks.{Looks, LooksAt, MayDescend, MayLook, led_to, TellsDescended, TellsSearched, TellsLoaded, TellsConfirmed}
+use Rattle.mt_core.specs.Looks.{Looks, LooksAt, MayDescend, MayLook, led_to, TellsDescended, TellsSearched, TellsLoaded, TellsConfirmed, TellsSnapped, TellsCompared, TellsHopped, IsStopped}
 use Rattle.mt_core.specs.Points.{IsAtPoint, Nears, StepsOn}
 use Rattle.mt_core.proofs.Points.{point_first, removal_first, nears_by}
 use Rattle.mt_core.proofs.RemovalNears.{descent_removal}
@@ -56,49 +53,10 @@ use Rattle.mt_remove.specs.Writes.{is_remove}
 use Rattle.mt_state.proofs.Bound.{get_no_remove}
 use Rattle.std.proofs.lemmas.Bool.{both_ways}
 use Rattle.mt_core.proofs.Following.{IsSound, IsOver, holder_open, in_the_way}
-use Rattle.mt_core.proofs.Leading.{leads_over}
+use Rattle.mt_core.proofs.Leading.{no_step, leads_over}
+use Rattle.mt_core.proofs.PhaseTests.{free_unfinished, confirm_or, done_or, other_moves, way_moves}
+use Rattle.mt_core.proofs.ScanSteps.{may_snap, may_compare, may_hop, snap_comes, check_comes, hop_comes}
 use Rattle.mt_core.proofs.LookPoints.{search_nears, load_nears, confirm_nears, descent_nears}
-
--- who holds nothing has a step left
-free_unfinished : (p : Phase) → IsFree p → is_done p ≡ false
-free_unfinished Done f = absurd f
-free_unfinished _ f = refl
-
--- phases that a comparison finds to be the same, or not
-pub confirm_if : (p : Phase) → true ≡ sameb the_type p Confirm → p ≡ Confirm
-confirm_if p e = same_true the_type (search rules) _ _ (sym e)
-
-pub confirm_unless : (p : Phase) → false ≡ sameb the_type p Confirm → p ≢ Confirm
-confirm_unless p e is = absurd (let no : false ≡ true = e ∙ ap (λ (q : Phase). sameb the_type q Confirm) is in cc)
-
-pub done_if : (p : Phase) → true ≡ sameb the_type p Done → p ≡ Done
-done_if p e = same_true the_type (search rules) _ _ (sym e)
-
-pub done_unless : (p : Phase) → false ≡ sameb the_type p Done → p ≢ Done
-done_unless p e is = absurd (let no : false ≡ true = e ∙ ap (λ (q : Phase). sameb the_type q Done) is in cc)
-
-confirm_or : (p : Phase) → (p ≡ Confirm) ⊎ (p ≢ Confirm)
-confirm_or p = by (sameb the_type p Confirm) refl
-  where
-    by : (b : Bool) → b ≡ sameb the_type p Confirm → (p ≡ Confirm) ⊎ (p ≢ Confirm)
-    by true e = inl (confirm_if p e)
-    by false e = inr (confirm_unless p e)
-
-done_or : (p : Phase) → (p ≡ Done) ⊎ (p ≢ Done)
-done_or p = by (sameb the_type p Done) refl
-  where
-    by : (b : Bool) → b ≡ sameb the_type p Done → (p ≡ Done) ⊎ (p ≢ Done)
-    by true e = inl (done_if p e)
-    by false e = inr (done_unless p e)
-
--- a step that leads to another phase than the last moves the operation
-other_moves : (p : Phase) → p ≢ Done → ending p ≡ Moved
-other_moves Done other = absurd (other refl)
-other_moves _ other = refl
-
-way_moves : (p : Phase) → IsOnWay p → ending p ≡ Moved
-way_moves Done on = absurd on
-way_moves _ on = refl
 
 -- a state that has made one more step, with this table
 abbrev stepped : Core → Table → Core
@@ -106,10 +64,10 @@ stepped c table = record c { steps = c.steps + 1; table = table }
 
 module _ (c now : Core) (o : ℕ) (is : c ≡ now) (h : StateInvariant c) (room : now.steps < 2 ^ 59) (op : Operation) (there : operation_at c.table o ≡ Some op) where
   -- where another operation is in the way, nothing happens
-  pub blocked : IsFree op.walk.phase → (holder : ℕ) → IsInTheWay c.arena op.walk.phase op.walk (splits_of op.splits) op.removal holder → (answer : Move)
+  pub blocked : IsFree op.walk.phase → (holder : ℕ) → IsInTheWay c.arena op.walk.phase op.walk (splits_of op.splits) op.removal (scan_of op.task op.scan) holder → (answer : Move)
       → answer ≡ Again holder → StepsOn now now o answer
   blocked free holder way answer again =
-      let held = in_the_way c.arena op.walk.phase op.walk (splits_of op.splits) op.removal holder way in
+      let held = in_the_way c.arena op.walk.phase op.walk (splits_of op.splits) op.removal (scan_of op.task op.scan) holder way in
       let by = h.holders held.0 holder held.1 held.2 in
       let tells : Tells (shown c) (shown c) o (Again holder) = (
         refl,
@@ -150,7 +108,7 @@ module _ (c now : Core) (o : ℕ) (is : c ≡ now) (h : StateInvariant c) (room 
 
   -- where the table of phases leads it
   abbrev GoesOn : Phase → Walk → Type 0
-  GoesOn p w = LeadsTo p c.arena c.arena o (c.steps + 1) op.task.key op.outcome (splits_of op.splits) op.removal op.walk w
+  GoesOn p w = LeadsTo p c.arena c.arena o (c.steps + 1) op.task.key op.outcome (splits_of op.splits) op.removal (no_step op) op.walk w
 
   led_over : (w : Walk) (told : Option Outcome) → IsOver c.table (led w told) o (noted (moved op (c.steps + 1) w) told)
   led_over w told = record { is = refl; there = set_is c.table o (noted (moved op (c.steps + 1) w) told) op there }
@@ -162,7 +120,7 @@ module _ (c now : Core) (o : ℕ) (is : c ≡ now) (h : StateInvariant c) (room 
     record {
       tells = g.1;
       nears = subst (λ (x : Core). Nears x (stepped c (led w told)) o Moved) is nears;
-      leads = leads_over c o h op there op.walk.phase refl now is c.arena c.tape c.accounts (led w told) _ (led_over w told) w goes refl;
+      leads = leads_over c o h op there op.walk.phase refl now is c.arena c.tape c.accounts (led w told) _ (led_over w told) w goes refl refl;
     },
   )
     where
@@ -180,7 +138,7 @@ module _ (c now : Core) (o : ℕ) (is : c ≡ now) (h : StateInvariant c) (room 
     record {
       tells = g.1;
       nears = tt;
-      leads = leads_over c o h op there op.walk.phase refl now is c.arena c.tape c.accounts (led w told) _ (led_over w told) w goes refl;
+      leads = leads_over c o h op there op.walk.phase refl now is c.arena c.tape c.accounts (led w told) _ (led_over w told) w goes refl refl;
     },
   )
 
@@ -227,14 +185,14 @@ module _ (c now : Core) (o : ℕ) (is : c ≡ now) (h : StateInvariant c) (room 
 
   -- who is in the way of a load, and of a confirmation
   pub load_way : op.walk.phase ≡ Load → (holder : ℕ) → IsBlockedAt (at c.arena op.walk.place.node) op.walk.slot holder
-      → IsInTheWay c.arena op.walk.phase op.walk (splits_of op.splits) op.removal holder
+      → IsInTheWay c.arena op.walk.phase op.walk (splits_of op.splits) op.removal (scan_of op.task op.scan) holder
   load_way at_load holder way =
-      subst (λ (p : Phase). IsInTheWay c.arena p op.walk (splits_of op.splits) op.removal holder) (sym at_load) (op.walk.place.node, refl, (load_kept at_load).at_border.covers.remembered.there, way)
+      subst (λ (p : Phase). IsInTheWay c.arena p op.walk (splits_of op.splits) op.removal (scan_of op.task op.scan) holder) (sym at_load) (op.walk.place.node, refl, (load_kept at_load).at_border.covers.remembered.there, way)
 
   pub confirm_way : op.walk.phase ≡ Confirm → (holder : ℕ) → IsBlocked (at c.arena op.walk.place.node) holder
-      → IsInTheWay c.arena op.walk.phase op.walk (splits_of op.splits) op.removal holder
+      → IsInTheWay c.arena op.walk.phase op.walk (splits_of op.splits) op.removal (scan_of op.task op.scan) holder
   confirm_way at_confirm holder way =
-      subst (λ (p : Phase). IsInTheWay c.arena p op.walk (splits_of op.splits) op.removal holder) (sym at_confirm) (op.walk.place.node, refl, (confirm_kept at_confirm).covers.remembered.there, way)
+      subst (λ (p : Phase). IsInTheWay c.arena p op.walk (splits_of op.splits) op.removal (scan_of op.task op.scan) holder) (sym at_confirm) (op.walk.place.node, refl, (confirm_kept at_confirm).covers.remembered.there, way)
 
   -- a search that found nothing
   pub search_gives_missing : IsArena c.arena.nodes c.arena.trees → (at_search : op.walk.phase ≡ Search) → (w : Walk)
@@ -332,7 +290,7 @@ module _ (c now : Core) (o : ℕ) (is : c ≡ now) (h : StateInvariant c) (room 
   descent_comes arena descent after t table e answer ends =
       subst (StepGives table) (sym (ends ∙ way_moves after.walk.phase t.goes.on_way))
       (descent_gives after.walk descent t.goes t.kept (descent_nears c.arena op.walk after.walk op.splits arena descent t.nears)
-      (λ removes. descent_removal c.arena op.walk after.walk op.outcome op.removal arena descent t.nears) (t.leads o (c.steps + 1) op.outcome (splits_of op.splits) op.removal) table (led_table after after.walk op.outcome t.others table e))
+      (λ removes. descent_removal c.arena op.walk after.walk op.outcome op.removal arena descent t.nears) (t.leads o (c.steps + 1) op.outcome (splits_of op.splits) op.removal (no_step op)) table (led_table after after.walk op.outcome t.others table e))
 
   -- one that searches
   pub search_comes : IsArena c.arena.nodes c.arena.trees → op.walk.phase ≡ Search → Comes (TellsSearched c.arena (c.steps + 1))
@@ -381,9 +339,9 @@ module _ (c now : Core) (o : ℕ) (is : c ≡ now) (h : StateInvariant c) (room 
   may_look Search e = record { phase = e; kept = search_kept e }
   may_look Load e = record { phase = e; get = load_gets e; columns = asked_columns; kept = load_kept e }
   may_look Confirm e = record { phase = e; kept = confirm_kept e }
-  may_look Snap e = no_scanning c op (h.ops o op there).always (subst (λ (p : Phase). IsOfKind p op.walk.aim) e (h.ops o op there).always.kind)
-  may_look Check e = no_scanning c op (h.ops o op there).always (subst (λ (p : Phase). IsOfKind p op.walk.aim) e (h.ops o op there).always.kind)
-  may_look Hop e = no_scanning c op (h.ops o op there).always (subst (λ (p : Phase). IsOfKind p op.walk.aim) e (h.ops o op there).always.kind)
+  may_look Snap e = may_snap c now o is h room op there e
+  may_look Check e = may_compare c now o is h room op there e
+  may_look Hop e = may_hop c now o is h room op there e
   may_look _ e = tt
 
   -- a look is made by an operation with a step left
@@ -400,6 +358,9 @@ module _ (c now : Core) (o : ℕ) (is : c ≡ now) (h : StateInvariant c) (room 
       walk_first (inl told) = ap (λ (w : Walk). w.first) told.0
       walk_first (inr told) = ap (λ (w : Walk). w.first) told.0
 
+  stopped_first : (step : ℕ) (after : Operation) → IsStopped step op after → after.walk.first ≡ op.walk.first
+  stopped_first step after t = ap (λ (x : Operation). x.walk.first) t.is
+
   pub look_first : (p : Phase) (step : ℕ) (after : Operation) → LooksAt p c.arena step op Step after → after.walk.first ≡ op.walk.first
   look_first Enter step after t = t.goes.same.first
   look_first Pick step after t = t.goes.same.first
@@ -409,9 +370,9 @@ module _ (c now : Core) (o : ℕ) (is : c ≡ now) (h : StateInvariant c) (room 
   look_first Search step after t = t.same.first
   look_first Load step after t = loaded_first step after t
   look_first Confirm step after t = t.same.first
-  look_first Snap step after t = absurd t
-  look_first Check step after t = absurd t
-  look_first Hop step after t = absurd t
+  look_first Snap step after t = elim t [ inl sees ↦ sees.same.first | inr stops ↦ stopped_first step after stops ]
+  look_first Check step after t = elim t [ inl compares ↦ compares.same.first | inr stops ↦ stopped_first step after stops ]
+  look_first Hop step after t = t.same.first
   look_first _ step after t = absurd (let no_step : ◌≡◌ {A = Made} Step Nothing = t.0 in cc)
 
   -- and leaves it as it was where none is made
@@ -429,9 +390,9 @@ module _ (c now : Core) (o : ℕ) (is : c ≡ now) (h : StateInvariant c) (room 
   look_leaves Search step made after other t = looks_leave (TellsSearched c.arena step) made after other t
   look_leaves Load step made after other t = looks_leave (TellsLoaded c.arena step) made after other t
   look_leaves Confirm step made after other t = looks_leave (TellsConfirmed c.arena) made after other t
-  look_leaves Snap step made after other t = absurd t
-  look_leaves Check step made after other t = absurd t
-  look_leaves Hop step made after other t = absurd t
+  look_leaves Snap step made after other t = looks_leave (TellsSnapped c.arena step) made after other t
+  look_leaves Check step made after other t = looks_leave (TellsCompared c.arena step) made after other t
+  look_leaves Hop step made after other t = looks_leave (TellsHopped c.arena) made after other t
   look_leaves _ step made after other t = t.1
 
   -- what a look gives that was made
@@ -444,9 +405,9 @@ module _ (c now : Core) (o : ℕ) (is : c ≡ now) (h : StateInvariant c) (room 
   look_comes arena Search e = search_comes arena e
   look_comes arena Load e = load_comes arena e
   look_comes arena Confirm e = confirm_comes e
-  look_comes arena Snap e = λ after t. absurd t
-  look_comes arena Check e = λ after t. absurd t
-  look_comes arena Hop e = λ after t. absurd t
+  look_comes arena Snap e = snap_comes c now o is h room op there arena e
+  look_comes arena Check e = check_comes c now o is h room op there e
+  look_comes arena Hop e = hop_comes c now o is h room op there arena e
   look_comes arena _ e = λ after t. absurd (let no_step : ◌≡◌ {A = Made} Step Nothing = t.0 in cc)
 
   -- where somebody is in the way, that one is told
@@ -460,9 +421,9 @@ module _ (c now : Core) (o : ℕ) (is : c ≡ now) (h : StateInvariant c) (room 
   look_blocked Search e step holder after t = blocked (subst IsFree (sym e) tt) holder t.0
   look_blocked Load e step holder after t = blocked (subst IsFree (sym e) tt) holder t.0
   look_blocked Confirm e step holder after t = blocked (subst IsFree (sym e) tt) holder t.0
-  look_blocked Snap e step holder after t = absurd t
-  look_blocked Check e step holder after t = absurd t
-  look_blocked Hop e step holder after t = absurd t
+  look_blocked Snap e step holder after t = blocked (subst IsFree (sym e) tt) holder t.0
+  look_blocked Check e step holder after t = blocked (subst IsFree (sym e) tt) holder t.0
+  look_blocked Hop e step holder after t = blocked (subst IsFree (sym e) tt) holder t.0
   look_blocked _ e step holder after t = λ answer again. absurd (let no_block : ◌≡◌ {A = Made} (Blocked holder) Nothing = t.0 in cc)
 
   -- and a step that is left to others is no look

@@ -37,7 +37,7 @@ use Rattle.mt_interior.specs.Places.{place_of}
 use Rattle.mt_remove.specs.RemovalEdits.{GoesOnEmptied, after_unlink, for_rest}
 use Rattle.mt_remove.proofs.GoingOn.{unlinks_or_not}
 use Rattle.mt_operation.specs.Operations.{SplitsView}
-use Rattle.mt_state.specs.Phases.{LeadsTo}
+use Rattle.mt_state.specs.Phases.{LeadsTo, ScanStep}
 use Rattle.mt_state.proofs.RemovalBy.{child_before}
 use Rattle.mt_state.proofs.Decides.{outdated_or_not}
 use Rattle.mt_core.specs.Points.{Budget, HasRemoved, HasRounds, IsBudget, IsLiveTree, IsRemovalAt, RoundsAt, WalksBy, astray, before_round, behind, round_budget, until}
@@ -320,18 +320,18 @@ module _ (o step : ℕ) (key : Bytes) (v u : ArenaView) (x w : Walk) (s : Remova
   at_walk : (phase : Phase) → w ≡ walk_at phase x → w ≡ walk_at w.phase x
   at_walk phase is = is ∙ ap (λ (p : Phase). walk_at p x) (sym (ap (λ (y : Walk). y.phase) is))
 
-  pub taken_walk : (p : Phase) → IsRemovalPhase p → (told : Option Outcome) (splits : SplitsView) → LeadsTo p v u o step key told splits s x w → w ≡ walk_at w.phase x
-  taken_walk LockPrev i told splits l = at_walk LockAbove l.goes
-  taken_walk LockAbove i told splits l =
+  pub taken_walk : (p : Phase) → IsRemovalPhase p → (told : Option Outcome) (splits : SplitsView) (g : ScanStep) → LeadsTo p v u o step key told splits s g x w → w ≡ walk_at w.phase x
+  taken_walk LockPrev i told splits g l = at_walk LockAbove l.goes
+  taken_walk LockAbove i told splits g l =
       let place = place_of (at v l.parent).separators (at v x.place.node).low in
       elim (child_before place s.left (Some (slice_index (at v l.parent).children (place - 1)))) [
         | inl is ↦ at_walk Unlink (l.unlinks is)
         | inr other ↦ at_walk Unlock (l.returns other)
       ]
-  taken_walk Unlink i told splits l = at_walk (after_unlink (at v x.place.node).next (at u l.0)) l.2
-  taken_walk FixNext i told splits l = at_walk (for_rest (at v l.0)) l.2
-  taken_walk Collapse i told splits l = at_walk Unlock l
-  taken_walk CleanLayer i told splits l = elim l.2 [
+  taken_walk Unlink i told splits g l = at_walk (after_unlink (at v x.place.node).next (at u l.0)) l.2
+  taken_walk FixNext i told splits g l = at_walk (for_rest (at v l.0)) l.2
+  taken_walk Collapse i told splits g l = at_walk Unlock l
+  taken_walk CleanLayer i told splits g l = elim l.2 [
     | inl none ↦ at_walk Unlock none.goes
     | inr (inl full) ↦ at_walk Unlock full.goes
     | inr (inr drops) ↦ elim (unlinks_or_not u x.place.node) [
@@ -339,7 +339,7 @@ module _ (o step : ℕ) (key : Bytes) (v u : ArenaView) (x w : Walk) (s : Remova
       | inr other ↦ at_walk Unlock (drops.goes.returns other)
     ]
   ]
-  taken_walk _ i told splits l = absurd i
+  taken_walk _ i told splits g l = absurd i
 
 -- so the number of steps after it, and the rounds
 taken_few : (p q : Phase) → IsRemovalPhase p → MayFollow p q → (height round n : ℕ) (v u : ArenaView) (x w : Walk) → HasRemoved p height round n v x

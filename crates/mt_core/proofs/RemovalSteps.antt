@@ -20,7 +20,7 @@ use Rattle.mt_operation.specs.declared.removal.Removal.{Removal}
 use Rattle.mt_operation.specs.declared.outcome.Outcome.{Outcome}
 use Rattle.mt_operation.specs.declared.prepared.Prepared.{Prepared}
 use Rattle.mt_operation.specs.declared.operation.Operation.{Operation}
-use Rattle.mt_operation.specs.Operations.{SplitsView, made_ready, moved, noted, splits_of, view_of, with_nothing_ready, with_removal}
+use Rattle.mt_operation.specs.Operations.{SplitsView, ScanView, scan_of, made_ready, moved, noted, splits_of, view_of, with_nothing_ready, with_removal}
 use Rattle.mt_operation.specs.Phases.{IsRemovalPhase, is_done}
 use Rattle.mt_operation.specs.Tables.{MayMove, Table, op_at as operation_at}
 use Rattle.mt_operation.specs.Tasks.{ask}
@@ -49,7 +49,7 @@ use Rattle.mt_state.proofs.RemovalSteps.{removed_done, takes_removal, removal_op
 use Rattle.mt_core.specs.Nexts.{IsNext, ending}
 use Rattle.mt_core.specs.Points.{IsRemovalAt, Nears, StepsOn}
 use Rattle.mt_core.proofs.Following.{IsOver, IsSound, Writes, in_the_way, made, may_move, may_over, opened, over_first, over_next, phase_is}
-use Rattle.mt_core.proofs.Leading.{leads_over}
+use Rattle.mt_core.proofs.Leading.{no_step, leads_over}
 use Rattle.mt_arena.proofs.Elsewhere.{layer_is}
 use Rattle.mt_core.proofs.Points.{nears_removal, removal_first, removed_at, rounds_at}
 use Rattle.mt_core.proofs.RemovalNears.{back_lock, back_removal, emptied_removal, live_fewer, live_stays, ready_removal, shallow_layer, taken_removal, taken_walk, tree_layer, tree_stands}
@@ -64,9 +64,9 @@ held_there (n ∷ nodes) (suc k) o held = omega (arith, held_there nodes k o hel
 -- who holds the root of the layer below is in the way of its removal
 pub cleaning_waits : (v : ArenaView) (w : Walk) (r : Removal) → w.phase ≡ CleanLayer → (result : Option ℕ)
     → IfSome result (λ holder. (tree : ℕ) × (r.cleans ≡ Some tree) × ((at v (root_of v tree)).holder ≡ Some holder))
-    → IfSome result (λ holder. (s : SplitsView) → IsInTheWay v w.phase w s r holder)
+    → IfSome result (λ holder. (s : SplitsView) (g : ScanView) → IsInTheWay v w.phase w s r g holder)
 cleaning_waits v w r at_clean None held = tt
-cleaning_waits v w r at_clean (Some holder) held = λ s. subst (λ (p : Phase). IsInTheWay v p w s r holder) (sym at_clean)
+cleaning_waits v w r at_clean (Some holder) held = λ s g. subst (λ (p : Phase). IsInTheWay v p w s r g holder) (sym at_clean)
     (root_of v held.0, ap (option_map (λ tree. root_of v tree)) held.1, held_there v.nodes (root_of v held.0) holder held.2, held.2)
 
 -- what is there is not none
@@ -156,7 +156,7 @@ module _ (c now : Core) (o : ℕ) (is : c ≡ now) (h : StateInvariant c) (few :
         (tree_layer c.arena is_arena x.task.key x.walk through judged.held.there of judged.stands.live) (shallow_layer x.walk.layer x.task.key (h.ops o x there).always.stored through.begun) height n
         (subst (λ (told : Option Outcome). IsRemovalAt height n c.arena x.walk told x.removal) untold point))))))
         (leads_over c o h x there Judge at_judge now is arena tape c.accounts table _ over w
-        (judges_none untold (inr (inr (inr (inl (record { slot = t.slot; stands = t.in_slot; goes = t.walk })))))) refl)
+        (judges_none untold (inr (inr (inr (inl (record { slot = t.slot; stands = t.in_slot; goes = t.walk })))))) refl refl)
 
     pub removal_missing : (arena : ArenaView) (tape : Kept) (w : Walk) (told : Outcome) (table : Table) → tape ≡ c.tape
         → FindsAbsent o x.task c.arena arena x.walk w
@@ -169,7 +169,7 @@ module _ (c now : Core) (o : ℕ) (is : c ≡ now) (h : StateInvariant c) (few :
         (subst (λ (r : Outcome). Gives (shown c) (made c arena c.tape c.accounts (set c.table o (Some (noted (moved x (c.steps + 1) w) (Some r))))) o true) (sym says)
         (drop_missing c o h few_here x there at_judge untold (removal_of c o h x there removes) removes arena w t))))
         (leads_over c o h x there Judge at_judge now is arena tape c.accounts table _ (over_first c.table table o (λ y. noted (moved y (c.steps + 1) w) (Some told)) x there writes) w
-        (judges_none untold (inr (inr (inr (inr t.unlocks.walk))))) refl)
+        (judges_none untold (inr (inr (inr (inr t.unlocks.walk))))) refl refl)
 
   -- Judge on the way back: a link is followed, or there is none
   module _ (next : IsNext now o (λ q. q ≡ Judge)) (told : x.outcome ≢ None) where
@@ -186,7 +186,7 @@ module _ (c now : Core) (o : ℕ) (is : c ≡ now) (h : StateInvariant c) (few :
         (sym (says ∙ ap (λ (y : Walk). ending y.phase) t.unlocks.walk)) (ends_it (made c arena c.tape c.accounts table)
         (subst (λ (all : Table). Gives (shown c) (made c arena c.tape c.accounts all) o true) (sym (writes x there)) (back_ended c o h few_here x there at_judge told arena w t))
         (leads_over c o h x there Judge at_judge now is arena c.tape c.accounts table _ (over_first c.table table o (λ y. moved y (c.steps + 1) w) x there writes) w
-        (judged_none x.outcome told) refl))
+        (judged_none x.outcome told) refl refl))
       where
         judged_none : (had : Option Outcome) → had ≢ None → JudgesBy had (at c.arena x.walk.place.node) x.task.key x.walk w
         judged_none None some = absurd (some refl)
@@ -206,7 +206,7 @@ module _ (c now : Core) (o : ℕ) (is : c ≡ now) (h : StateInvariant c) (few :
         (nears_by_removal (lock_removes c o h x there at_lock told) arena c.tape c.accounts table after over refl t.locks.keeps.guarantee (λ height n point.
         removal_first height (n + 1) arena w x.outcome x.removal after.walk.first (back_lock o x.task.key c.arena arena x.walk w x.outcome x.removal at_lock is_arena (lock_kept c o h x there at_lock) told t height n point)))
         (leads_over c o h x there Lock at_lock now is arena c.tape c.accounts table _ (over_first c.table table o (λ y. moved y (c.steps + 1) w) x there writes) w
-        (t.locks.free, locked_back x.outcome told) refl)
+        (t.locks.free, locked_back x.outcome told) refl refl)
       where
         locked_back : (had : Option Outcome) → had ≢ None → LocksBy had o c.arena arena x.removal x.walk w
         locked_back None some = absurd (some refl)
@@ -271,7 +271,7 @@ module _ (c now : Core) (o : ℕ) (is : c ≡ now) (h : StateInvariant c) (few :
             (subst (λ (v : ArenaView). live_count v.nodes ≤ height) (sym d.is) (live_stays c.arena x.walk.place.node _ refl refl height point.live))
             (rounds_at height n c.arena x.walk x.outcome x.removal DropKey at_drop point)
             (let few = removed_at height n c.arena x.walk x.outcome x.removal DropKey at_drop point in omega (arith, few)))))
-            (leads_over c o h x there DropKey at_drop now is arena tape accounts last _ over w (record { unlinks = d.goes.unlinks; returns = d.goes.returns }) refl)
+            (leads_over c o h x there DropKey at_drop now is arena tape accounts last _ over w (record { unlinks = d.goes.unlinks; returns = d.goes.returns }) refl refl)
 
   -- behind it, till all is given back
   module _ (next : IsNext now o IsRemovalPhase) where
@@ -292,22 +292,22 @@ module _ (c now : Core) (o : ℕ) (is : c ≡ now) (h : StateInvariant c) (few :
         let over = over_next c.table mid last o (λ z. with_removal z r) (moved x (c.steps + 1) w) (over_first c.table mid o (λ y. moved y (c.steps + 1) w) x there moves) remembers in
         let p = x.walk.phase in
         let after = with_removal (moved x (c.steps + 1) w) r in
-        let leads = removal_leads o (c.steps + 1) x.task.key c.arena arena x.walk w x.removal r is_arena h.deleted p at_removal take_kept from x.outcome (splits_of x.splits) in
+        let leads = removal_leads o (c.steps + 1) x.task.key c.arena arena x.walk w x.removal r is_arena h.deleted p at_removal take_kept from x.outcome (splits_of x.splits) (no_step x) in
         let brings = removes_by o (c.steps + 1) x.task.key c.arena arena x.walk w x.removal r is_arena h.deleted p at_removal take_kept from in
         let told = (unlinking_of p at_removal c o x (h.ops o x there).kept).answer.told in
         moves_on (made c arena c.tape c.accounts last)
         (subst (λ (all : Table). Gives (shown c) (made c arena c.tape c.accounts all) o false) (sym over.is) (removed_done c o h few_here x there at_removal is_arena arena w r from))
         (nears_by_removal (take_removes c o h x there at_removal) arena c.tape c.accounts last after over refl brings.keeps.guarantee (λ height n point. removal_first height (n + 1) arena w x.outcome r after.walk.first
         (taken_removal p at_removal c.arena arena x.walk w x.outcome x.removal r refl brings.follows
-        (taken_walk o (c.steps + 1) x.task.key c.arena arena x.walk w x.removal p at_removal x.outcome (splits_of x.splits) leads) (λ none. absurd (let no = sym told ∙ none in cc))
+        (taken_walk o (c.steps + 1) x.task.key c.arena arena x.walk w x.removal p at_removal x.outcome (splits_of x.splits) (no_step x) leads) (λ none. absurd (let no = sym told ∙ none in cc))
         (live_fewer c.arena.nodes arena.nodes brings.leaves.count (λ k lt. (brings.leaves.each k lt).gone)) height n point)))
-        (leads_over c o h x there p refl now is arena c.tape c.accounts last _ over w leads refl)
+        (leads_over c o h x there p refl now is arena c.tape c.accounts last _ over w leads refl refl)
 
     -- another operation holds the node that is to be locked
-    pub take_waits : (arena : ArenaView) → arena ≡ c.arena → (holder : ℕ) → IsInTheWay c.arena x.walk.phase x.walk (splits_of x.splits) x.removal holder
+    pub take_waits : (arena : ArenaView) → arena ≡ c.arena → (holder : ℕ) → IsInTheWay c.arena x.walk.phase x.walk (splits_of x.splits) x.removal (scan_of x.task x.scan) holder
         → (HoldsRemoval c.arena o x.walk x.removal → holder ≢ o) → (answer : Move) → answer ≡ Again holder → StepsOn now (record c { arena = arena }) o answer
     take_waits arena stays holder way another answer says =
-        let held = in_the_way c.arena x.walk.phase x.walk (splits_of x.splits) x.removal holder way in
+        let held = in_the_way c.arena x.walk.phase x.walk (splits_of x.splits) x.removal (scan_of x.task x.scan) holder way in
         let waits : IsHeldByOther (shown c) o holder = record {
           other = another (removal_held_at c o h x there at_removal);
           unfinished = holder_left c o h x there held.0 holder held.1 held.2;
@@ -357,7 +357,7 @@ module _ (c now : Core) (o : ℕ) (is : c ≡ now) (h : StateInvariant c) (few :
         let gives : Gives (shown c) new o (is_done w.phase) = subst (λ (all : Table). Gives (shown c) (made c arena c.tape c.accounts all) o (is_done w.phase)) (sym over.is)
         (removal_returned c o h few_here x there at_unlock removes told none arena w r t) in
         let leads = leads_over c o h x there Unlock at_unlock now is arena c.tape c.accounts last _ over w
-        (returns_from x.outcome told x.splits.halves.items none o c.arena arena x.walk w x.removal r t (splits_of x.splits) refl) refl in
+        (returns_from x.outcome told x.splits.halves.items none o c.arena arena x.walk w x.removal r t (splits_of x.splits) refl) refl refl in
         elim (empties_or_not c o h few_here x there at_unlock removes told none) [
           | inl empties ↦
               let goes = t.cleans empties in

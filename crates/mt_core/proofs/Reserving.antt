@@ -10,7 +10,7 @@ use Rattle.mt_state.specs.Views.{Core, Shown, shown, op_at}
 use Rattle.mt_state.specs.Invariant.{StateInvariant, one_if_made, one_if_prepared, made_count}
 use Rattle.mt_state.proofs.Shown.{shown_table, shown_at}
 use Rattle.mt_core.specs.Places.{open_count, HasPlaces, TakesPlace, AddsPlaces}
-use Rattle.mt_core.proofs.Retained.{retained, own_tape}
+use Rattle.mt_core.proofs.Retained.{retained, scan_retained, own_tape}
 use Rattle.mt_core.proofs.Tabling.{with_table, same_count}
 
 -- two tables have as many operations that have made a step where each id has as many
@@ -69,6 +69,8 @@ module _ (c : Core) (table : Table) where
       counts = h.counts;
       ops =
           λ o op there. let was = h.ops o op (sym (adds.same o) ∙ there) in retained c c.answers c.logs c.tape table o op (own_tape c op was.always) was.always was;
+      scans =
+          λ o op there. let here = sym (adds.same o) ∙ there in let was = h.ops o op here in scan_retained c c.answers c.logs c.tape table o op (own_tape c op was.always) was.always (h.scans o op here);
       reserved = h.reserved ∙ sym (same_count table c.table (λ q. ap one_if_prepared (adds.same q)));
       answered = omega (arith, h.answered, same_made (shown_table table) (shown_table c.table) (λ q. ap one_if_made (shown_same q)));
       deleted = h.deleted;

@@ -15,18 +15,24 @@ use Rattle.mt_arena.specs.Arena.{ArenaView, content_of}
 use Rattle.mt_operation.specs.declared.outcome.Outcome.{Outcome}
 use Rattle.mt_operation.specs.declared.operation.Operation.{Operation}
 use Rattle.mt_operation.specs.declared.phase.Phase.{Phase}
-use Rattle.mt_operation.specs.declared.phase.Phase.TheVariants.{Enter, Load, Confirm, Store, Unlock, Done}
+use Rattle.mt_operation.specs.declared.phase.Phase.TheVariants.{Enter, Load, Confirm, Check, Hop, Store, Unlock, Done}
 use Rattle.mt_operation.specs.declared.walk.Walk.{Walk}
 use Rattle.mt_operation.specs.declared.walk.Taken.{Taken}
 use Rattle.mt_operation.specs.declared.walk.Taken.TheVariants.{Missing, Row, Link, Nothing}
-use Rattle.mt_operation.specs.Operations.{view_of}
+use Rattle.mt_operation.specs.Operations.{view_of, scan_of}
+use Rattle.mt_operation.specs.Tasks.{ask}
+use Rattle.mt_runs.proofs.Lawful.{lawful_by}
+use Rattle.mt_walks.specs.Walked.{IsWithin}
+use Rattle.mt_scan.specs.Snaps.{prefix_in}
+use Rattle.mt_stretches.proofs.Beginning.{seen_stays}
+use Rattle.mt_state.proofs.ScanKept.{scanned_for_stays}
 use Rattle.mt_operation.specs.Tables.{Table}
 use Rattle.mt_descent.specs.Pasts.{Past, ExtendsPast}
 use Rattle.mt_descent.specs.KeptWalks.{IsKept, KeptAt}
 use Rattle.mt_descent.proofs.Rely as descent
 use Rattle.mt_state.specs.Views.{Core, shown, past_of, map_of, quota_of, IsPlaced}
 use Rattle.mt_state.specs.Steps.{change_in, told_change}
-use Rattle.mt_state.specs.KeptOperations.{IsOpenOperation, IsOnItsWay, HasAnswer, TellsTaken, IsLayering, IsReturning, IsKeptOf, IsKeptFor, IsReadingAt, IsWritingAt, IsBound, IsUnlinking}
+use Rattle.mt_state.specs.KeptOperations.{IsOpenOperation, IsOnItsWay, HasAnswer, TellsTaken, IsLayering, IsReturning, IsKeptOf, IsKeptFor, IsReadingAt, IsScanningAt, IsChecking, IsScanKept, IsWritingAt, IsBound, IsUnlinking}
 use Rattle.mt_state.proofs.Still.{nothing_changes}
 use Rattle.mt_operation.specs.Phases.{Kind, row}
 use Rattle.mt_operation.specs.Phases as kinds
@@ -92,6 +98,12 @@ module _ (c : Core) (o : ℕ) (op : Operation) where
   reading Confirm h m is = absurd (taken_none h.row op.walk.taken h.tells m is)
   reading _ h m is = bound_since op.outcome refl h.bound m is
 
+  -- and one that scans
+  scanning : (p : Phase) → IsScanningAt p c op → (m : ℕ) → change_in (view_of op) ≡ Some m → (0 < op.walk.first) × (op.walk.first ≤ m)
+  scanning Check h m is = absurd (no_change h.untold m is)
+  scanning Hop h m is = absurd (no_change h.untold m is)
+  scanning _ h m is = bound_since op.outcome refl h.bound m is
+
   writing : (p : Phase) → IsWritingAt p c o op → (m : ℕ) → change_in (view_of op) ≡ Some m → ⊥
   writing Store h m is = no_change h.untold m is
   writing _ h m is = no_change h.untold m is
@@ -101,7 +113,7 @@ module _ (c : Core) (o : ℕ) (op : Operation) where
   change_since kinds.Descends p h m is = bound_since op.outcome refl h.bound m is
   change_since kinds.Locks p h m is = bound_since op.outcome refl h.bound m is
   change_since kinds.Reads p h m is = reading p h m is
-  change_since kinds.Scans p h m is = bound_since op.outcome refl h.bound m is
+  change_since kinds.Scans p h m is = scanning p h m is
   change_since kinds.Judges p h m is = bound_since op.outcome refl h.bound m is
   change_since kinds.Writes p h m is = absurd (writing p h m is)
   change_since kinds.Begins p h m is = absurd (no_change h.untold m is)
@@ -143,7 +155,9 @@ module _ (c : Core) (answers : ℕ) (logs : List ℕ) (tape : Kept) (table : Tab
       begun = h.right.begun;
       since = h.right.since;
       upto = h.right.upto;
-      placed = λ real. placed_stays h.right.begun (view_of op).tenant (view_of op).command h.outcome.at h.outcome.reply h.right.since (h.right.placed real);
+      placed = λ real plain. placed_stays h.right.begun (view_of op).tenant (view_of op).command h.outcome.at h.outcome.reply h.right.since (h.right.placed real plain);
+      lawful = lawful_by (map_of (shown c) op.task.tenant) (map_of (shown new) op.task.tenant) (IsWithin op.walk.first op.last) (IsWithin op.walk.first op.last)
+          (λ m between. sym (same_map h.right.begun op.task.tenant m (let since = between.0 in omega (arith, since)))) (λ m between. between) (λ m between. between) (ask op.task) h.outcome.reply h.right.lawful;
     };
     unprepared = h.unprepared;
   }
@@ -170,41 +184,64 @@ module _ (c : Core) (answers : ℕ) (logs : List ℕ) (tape : Kept) (table : Tab
   reading_stays Confirm h = record { row = h.row; kept = walk_stays h.row h.kept; tells = h.tells; unprepared = h.unprepared }
   reading_stays _ h = way_stays h
 
+  -- a scan that has seen pairs has made a step
+  checking_stays : op.walk.phase ≡ Check → IsChecking c op → IsChecking new op
+  checking_stays at_check h = record {
+    kept = h.kept;
+    seen = λ stands. seen_stays (past_of c) (past_of new) op.walk.first (past_stays (k.begun (λ enters. absurd (let no : Check ≡ Enter = sym at_check ∙ enters in cc))))
+        (prefix_in c.arena op.walk) (scan_of op.task op.scan) (h.seen stands);
+    untold = h.untold;
+    unprepared = h.unprepared;
+  }
+
+  scanning_stays : (p : Phase) → op.walk.phase ≡ p → IsScanningAt p c op → IsScanningAt p new op
+  scanning_stays Check e h = checking_stays e h
+  scanning_stays Hop e h = record { kept = h.kept; untold = h.untold; unprepared = h.unprepared }
+  scanning_stays _ e h = way_stays h
+
+  -- what a scan has done stays too
+  pub scan_retained : IsScanKept c op → IsScanKept new op
+  scan_retained h = record {
+    fresh = h.fresh;
+    walked = λ begun left. scanned_for_stays (past_of c) (past_of new) op.walk.first (past_stays begun) (ask op.task) (scan_of op.task op.scan) (h.walked begun left);
+  }
+
   writing_stays : (p : Phase) → IsWritingAt p c q op → IsWritingAt p new q op
   writing_stays Store h = record { prepared = h.prepared; has = h.has; stores = h.stores; put = h.put; untold = h.untold }
   writing_stays _ h = record { prepared = h.prepared; has = h.has; publishes = h.publishes; put = h.put; untold = h.untold }
 
-  kept_stays : (of : Kind) (p : Phase) → IsKeptFor of p c q op → IsKeptFor of p new q op
-  kept_stays kinds.Descends p h = way_stays h
-  kept_stays kinds.Locks p h = way_stays h
-  kept_stays kinds.Reads p h = reading_stays p h
-  kept_stays kinds.Scans p h = way_stays h
-  kept_stays kinds.Judges p h = record { judges = h.judges; bound = bound_stays op.outcome h.bound; unprepared = h.unprepared }
-  kept_stays kinds.Writes p h = writing_stays p h
-  kept_stays kinds.Begins p h = record { prepared = h.prepared; has = h.has; starts = h.starts; put = h.put; untold = h.untold }
-  kept_stays kinds.Splits p h = record { prepared = h.prepared; has = h.has; moves = h.moves; put = h.put; untold = h.untold }
-  kept_stays kinds.Climbs p h = record { stays = h.stays; climbs = h.climbs; answer = told_stays h.answer }
-  kept_stays kinds.Layers p h = layering_stays p h
-  kept_stays kinds.Drops p h = record { prepared = h.prepared; has = h.has; drops = h.drops; removes = h.removes; light = h.light; untold = h.untold }
-  kept_stays kinds.Unlinks p h = unlinking_stays p h
-  kept_stays kinds.Cleans p h = unlinking_stays p h
-  kept_stays kinds.Returns p h = returning_stays op.outcome h
-  kept_stays kinds.Ends p h = told_stays h
+  kept_stays : (of : Kind) (p : Phase) → op.walk.phase ≡ p → IsKeptFor of p c q op → IsKeptFor of p new q op
+  kept_stays kinds.Descends p e h = way_stays h
+  kept_stays kinds.Locks p e h = way_stays h
+  kept_stays kinds.Reads p e h = reading_stays p h
+  kept_stays kinds.Scans p e h = scanning_stays p e h
+  kept_stays kinds.Judges p e h = record { judges = h.judges; bound = bound_stays op.outcome h.bound; unprepared = h.unprepared }
+  kept_stays kinds.Writes p e h = writing_stays p h
+  kept_stays kinds.Begins p e h = record { prepared = h.prepared; has = h.has; starts = h.starts; put = h.put; untold = h.untold }
+  kept_stays kinds.Splits p e h = record { prepared = h.prepared; has = h.has; moves = h.moves; put = h.put; untold = h.untold }
+  kept_stays kinds.Climbs p e h = record { stays = h.stays; climbs = h.climbs; answer = told_stays h.answer }
+  kept_stays kinds.Layers p e h = layering_stays p h
+  kept_stays kinds.Drops p e h = record { prepared = h.prepared; has = h.has; drops = h.drops; removes = h.removes; light = h.light; untold = h.untold }
+  kept_stays kinds.Unlinks p e h = unlinking_stays p h
+  kept_stays kinds.Cleans p e h = unlinking_stays p h
+  kept_stays kinds.Returns p e h = returning_stays op.outcome h
+  kept_stays kinds.Ends p e h = told_stays h
 
   open_retained : IsOpenOperation new op
   open_retained = record {
     stored = k.stored;
+    tenant_is = k.tenant_is;
     owner = k.owner;
     columns = k.columns;
     tenant = k.tenant;
     aim = k.aim;
-    no_scan = k.no_scan;
     kind = k.kind;
     order = k.order;
     made = k.made;
     floor = t.floor;
     begun = k.begun;
     short = k.short;
+    counts = k.counts;
     light = k.light;
   }
 
@@ -212,7 +249,7 @@ module _ (c : Core) (answers : ℕ) (logs : List ℕ) (tape : Kept) (table : Tab
   pub retained : IsKeptOf c q op → IsKeptOf new q op
   retained h = record {
     always = open_retained;
-    kept = kept_stays (row op.walk.phase).kind op.walk.phase h.kept;
+    kept = kept_stays (row op.walk.phase).kind op.walk.phase refl h.kept;
     unsplit = h.unsplit;
     placed = λ m is.
         let once = h.placed m is in

@@ -293,7 +293,7 @@ module _ (c now : Core) (o : ℕ) (is : c ≡ now) (h : StateInvariant c) (few :
             let over = over_moved SplitStart next table s takes mid t gives last w moves in
             let of = came n.0 n.1 in
             moves_on (made c arena tape c.accounts last) (start_made c o h few_here n.0 n.1 n.2 arena tape w s t was y opens of starts last over) (start_nears c o h few_here n.0 n.1 n.2 arena tape w s t was y opens of starts last over)
-            (leads_over c o h n.0 n.1 SplitStart n.2 c refl arena tape c.accounts last _ over w (inl (subst (λ (z : Operation). w ≡ walk_at SplitMove z.walk) (sym opens) starts.walk)) refl)
+            (leads_over c o h n.0 n.1 SplitStart n.2 c refl arena tape c.accounts last _ over w (inl (subst (λ (z : Operation). w ≡ walk_at SplitMove z.walk) (sym opens) starts.walk)) refl refl)
 
         -- there was no memory for it
         module _ (bare : Table) (drops : Writes mid bare o with_nothing_ready) where
@@ -314,7 +314,7 @@ module _ (c now : Core) (o : ℕ) (is : c ≡ now) (h : StateInvariant c) (few :
               let opens = opened_after SplitStart next table s takes y there_y in
               let over = over_next c.table bare last o (λ x. noted (moved x (c.steps + 1) w) (Some told)) (with_nothing_ready (with_splits (with_splits n.0 s) t)) over_bare moves in
               ends_it (made c arena tape c.accounts last) (start_stopped c o h few_here n.0 n.1 n.2 arena tape w s t y opens stops told says last over)
-              (leads_over c o h n.0 n.1 SplitStart n.2 c refl arena tape c.accounts last _ over w (inr (subst (λ (z : Operation). w ≡ walk_done z.walk) (sym opens) stops.unlocks.walk)) refl)
+              (leads_over c o h n.0 n.1 SplitStart n.2 c refl arena tape c.accounts last _ over w (inr (subst (λ (z : Operation). w ≡ walk_done z.walk) (sym opens) stops.unlocks.walk)) refl refl)
 
   -- where what it has ready was taken out, to part the keys
   module _ (next : IsNext now o (λ q. q ≡ SplitMove)) where
@@ -355,7 +355,7 @@ module _ (c now : Core) (o : ℕ) (is : c ≡ now) (h : StateInvariant c) (few :
           parts_leads goes =
               let n = standing SplitMove next in
               leads_over c o h n.0 n.1 SplitMove n.2 c refl arena tape accounts last _ over_parted w
-              (subst (λ (z : Operation). w ≡ walk_at (after_parting (at c.arena z.walk.place.node).next) z.walk) (sym opened_move) goes) refl
+              (subst (λ (z : Operation). w ≡ walk_at (after_parting (at c.arena z.walk.place.node).next) z.walk) (sym opened_move) goes) refl refl
 
           -- the keys were parted with the new pair
           pub move_with : IsArena c.arena.nodes c.arena.trees
@@ -403,4 +403,4 @@ module _ (c now : Core) (o : ℕ) (is : c ≡ now) (h : StateInvariant c) (few :
             let opens = opened_after Unlock next table s takes y there_y in
             let over = over_moved Unlock next table s takes mid t gives last w moves in
             ends_it (made c arena c.tape c.accounts last) (returns_made c o h few_here n.0 n.1 n.2 told_here some_here arena w s t was y opens (came n.0 n.1) returns last over)
-            (leads_over c o h n.0 n.1 Unlock n.2 c refl arena c.tape c.accounts last _ over w (done_from n.0.outcome c.arena (splits_of n.0.splits) n.0.removal n.0.walk w told_here (inl some_here) (subst (λ (z : Operation). w ≡ walk_done z.walk) (sym opens) returns.walk)) refl)
+            (leads_over c o h n.0 n.1 Unlock n.2 c refl arena c.tape c.accounts last _ over w (done_from n.0.outcome c.arena (splits_of n.0.splits) n.0.removal n.0.walk w told_here (inl some_here) (subst (λ (z : Operation). w ≡ walk_done z.walk) (sym opens) returns.walk)) refl refl)

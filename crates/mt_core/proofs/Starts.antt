@@ -51,6 +51,7 @@ start_sound logs accounts few none = record {
   holders = holders;
   counts = λ t a there. (none t a there ∙ sym (no_len t), omega (arith, none t a there));
   ops = λ o op there. absurd (cc);
+  scans = λ o op there. absurd (cc);
   reserved = refl;
   answered = omega arith;
   deleted = deleted;

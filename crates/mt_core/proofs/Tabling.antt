@@ -10,12 +10,12 @@ use Rattle.mt_operation.specs.Operations.{view_of}
 use Rattle.mt_operation.specs.Tables.{Table, op_at as operation_at}
 use Rattle.mt_operation.proofs.Tables.{set_there, set_none}
 use Rattle.mt_state.specs.Views.{Core, Shown}
-use Rattle.mt_state.specs.KeptOperations.{IsKeptOf}
+use Rattle.mt_state.specs.KeptOperations.{IsKeptOf, IsScanKept}
 use Rattle.mt_state.specs.Invariant.{HoldsAt, StateInvariant, one_if_prepared, prepared_count, made_count}
 use Rattle.mt_operation.specs.Phases.{is_prepared}
 use Rattle.mt_state.proofs.Shown.{shown_table, shown_at, shown_there, shown_set}
 use Rattle.mt_state.proofs.Answered.{answered_begun}
-use Rattle.mt_core.proofs.Retained.{retained, own_tape}
+use Rattle.mt_core.proofs.Retained.{retained, scan_retained, own_tape}
 
 -- the same state with another count of answers and another table
 abbrev pub with_table : Core → ℕ → Table → Core
@@ -32,9 +32,10 @@ module _ (c : Core) (o answers : ℕ) (table : Table) (h : StateInvariant c) (ot
   -- the invariant stays where it holds of that one operation
   table_sound : ((k : ℕ) → k < length c.arena.nodes → (at c.arena k).holder ≡ Some o → ⊥)
       → ((op : Operation) → operation_at table o ≡ Some op → IsKeptOf (with_table c answers table) o op)
+      → ((op : Operation) → operation_at table o ≡ Some op → IsScanKept (with_table c answers table) op)
       → one_if_prepared (operation_at table o) ≡ one_if_prepared (operation_at c.table o) → answers + made_count (shown_table table) ≤ c.steps
       → StateInvariant (with_table c answers table)
-  table_sound free own weight bound = record {
+  table_sound free own scans weight bound = record {
     tape = record { rises = h.tape.rises; made = h.tape.made; legal = h.tape.legal; keys = h.tape.keys; logs = h.tape.logs };
     stamps = h.stamps;
     versions = h.versions;
@@ -45,6 +46,12 @@ module _ (c : Core) (o answers : ℕ) (table : Table) (h : StateInvariant c) (ot
     ops = λ q op there. elim (cases_eq q o) [
       | inl is ↦ subst (λ n. IsKeptOf (with_table c answers table) n op) (sym is) (own op (ap (operation_at table) (sym is) ∙ there))
       | inr other ↦ let was = h.ops q op (sym (others q other) ∙ there) in retained c answers c.logs c.tape table q op (own_tape c op was.always) was.always was
+    ];
+    scans = λ q op there. elim (cases_eq q o) [
+      | inl is ↦ scans op (ap (operation_at table) (sym is) ∙ there)
+      | inr other ↦
+          let here : operation_at c.table q ≡ Some op = sym (others q other) ∙ there in
+          let was = h.ops q op here in scan_retained c answers c.logs c.tape table q op (own_tape c op was.always) was.always (h.scans q op here)
     ];
     reserved = h.reserved ∙ sym (same_count table c.table (λ q. elim (cases_eq q o) [
       | inl is ↦ ap (λ n. one_if_prepared (operation_at table n)) is ∙ weight ∙ ap (λ n. one_if_prepared (operation_at c.table n)) (sym is)
@@ -77,17 +84,19 @@ removed_sound c o answers op h there free unready bound =
     let same = same_Some w.0 op (sym w.1 ∙ there) in
     free k (subst (λ (x : Operation). HoldsAt x.walk.phase x k) same w.2))
     (λ x is. absurd (none-some x (sym (set_none c.table o) ∙ is)))
+    (λ x is. absurd (none-some x (sym (set_none c.table o) ∙ is)))
     (ap one_if_prepared (set_none c.table o) ∙ sym (ap one_if_prepared there ∙ ap (λ b. if b then 1 else 0) unready))
     bound
 
 -- an operation more
 module _ (c : Core) (o : ℕ) (op : Operation) (table : Table) (h : StateInvariant c) (vacant : operation_at c.table o ≡ None) (there : operation_at table o ≡ Some op) (others : (q : ℕ) → q ≢ o → operation_at table q ≡ operation_at c.table q) where
   -- the invariant with an operation more
-  pub begun_sound : op.walk.first ≡ 0 → one_if_prepared (Some op) ≡ 0 → IsKeptOf (with_table c c.answers table) o op
+  pub begun_sound : op.walk.first ≡ 0 → one_if_prepared (Some op) ≡ 0 → IsKeptOf (with_table c c.answers table) o op → IsScanKept (with_table c c.answers table) op
       → StateInvariant (with_table c c.answers table)
-  begun_sound still unready kept = table_sound c o c.answers table h others
+  begun_sound still unready kept scan = table_sound c o c.answers table h others
       (λ k within held. let w = h.holders k o within held in none-some w.0 (sym vacant ∙ w.1))
       (λ x is. subst (IsKeptOf (with_table c c.answers table) o) (same_Some op x (sym there ∙ is)) kept)
+      (λ x is. subst (IsScanKept (with_table c c.answers table)) (same_Some op x (sym there ∙ is)) scan)
       (ap one_if_prepared there ∙ unready ∙ sym (ap one_if_prepared vacant))
       (answered_begun c.answers c.steps (shown_table c.table) (shown_table table) o (view_of op) (shown_at c.table o ∙ ap (option_map view_of) vacant) (shown_there table o op there) still
       (λ q other. shown_at table q ∙ ap (option_map view_of) (others q other) ∙ sym (shown_at c.table q)) h.answered)

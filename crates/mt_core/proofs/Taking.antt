@@ -2,12 +2,10 @@
 use Rattle.std.proofs.Common.{◌≡◌, ◌≢◌, ℕ, ◌+◌, ◌<◌, true, false, set, None, Some, refl, sym, ap, subst, ◌∙◌, arith}
 use Rattle.std.specs.Prelude.{not}
 use Rattle.std.proofs.lemmas.Option.{same_Some, none-some}
-use Rattle.mt_rows.specs.Commands.{key_of}
 use Rattle.mt_runs.specs.declared.event.Answer.{Answer}
 use Rattle.mt_operation.specs.declared.operation.Operation.{Operation}
 use Rattle.mt_operation.specs.declared.phase.Phase.{Phase}
 use Rattle.mt_operation.specs.declared.phase.Phase.TheVariants.{Enter, Done}
-use Rattle.mt_operation.specs.Tasks.{ask}
 use Rattle.mt_operation.specs.Operations.{OperationView, view_of, is_unfinished}
 use Rattle.mt_operation.specs.Phases.{is_done, has_splits, is_prepared}
 use Rattle.mt_operation.specs.Tables.{Table, op_at as operation_at}
@@ -18,7 +16,7 @@ use Rattle.mt_state.specs.Invariant.{StateInvariant, HoldsAt}
 use Rattle.mt_state.specs.Begins.{IsAnswerOf, Takes, IsEnded}
 use Rattle.mt_state.proofs.Shown.{shown_there, shown_set, inside_of}
 use Rattle.mt_state.proofs.Answered.{answered_out}
-use Rattle.mt_state.proofs.Reading.{key_of_owner}
+use Rattle.mt_state.proofs.ScanNeeds.{key_sought_is}
 use Rattle.mt_core.specs.declared.displaced.Displaced.{Displaced}
 use Rattle.mt_core.specs.Tickets.{IsStill, Cancels}
 use Rattle.mt_core.specs.Tidies.{DisplacesRestOf, HandsOutRest}
@@ -85,9 +83,11 @@ hands_out_by c now o table answer before after is h gave displaces =
       there = ap (λ (v : StateView). op_at v.table o) (sym is) ∙ shown_there c.table o op gave.1;
       rest = record { key = op.task.key; prepared = op.prepared; splits = op.splits; scan = op.scan };
       is = displaced.rest;
-      key = key_of_owner op.task.key op.task.tenant (key_of (ask op.task)) kept.always.stored kept.always.owner;
+      key = key_sought_is c op kept.always;
       unprepared = (done_answer c o op h gave.1 gave.2.finished).unprepared;
       unsplit = kept.unsplit (ap has_splits gave.2.finished);
+      collected = refl;
+      seen = refl;
       writes = displaced.writes;
     }
 

@@ -23,7 +23,7 @@ use Rattle.mt_state.proofs.Shown.{shown_there, inside_of}
 use Rattle.mt_core.specs.declared.displaced.Displaced.{Displaced}
 use Rattle.mt_core.specs.Drains.{IsLeastOf}
 use Rattle.mt_core.specs.Tidies.{Leaves, Tidies, TidiesInto, IsBeforeFirsts as IsBeforeAll, IsFloorNeeded as IsNeeded}
-use Rattle.mt_core.proofs.Retained.{TellsOf, retained}
+use Rattle.mt_core.proofs.Retained.{TellsOf, retained, scan_retained}
 
 -- an entry of a step after a floor is one of those that are kept
 later_has : (floor : ℕ) (entries : List TapeEntry) (e : TapeEntry) → Contains entries e → floor < e.step → Contains (later_entries floor entries) e
@@ -88,6 +88,7 @@ module _ (c : Core) (floor : ℕ) (h : StateInvariant c) (rises : c.tape.floor �
     holders = h.holders;
     counts = h.counts;
     ops = λ o op there. let k = h.ops o op there in retained c c.answers c.logs (trimmed c floor) c.table o op (tells o op there) k.always k;
+    scans = λ o op there. let k = h.ops o op there in scan_retained c c.answers c.logs (trimmed c floor) c.table o op (tells o op there) k.always (h.scans o op there);
     reserved = h.reserved;
     answered = h.answered;
     deleted = h.deleted;

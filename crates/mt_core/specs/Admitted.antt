@@ -1,13 +1,12 @@
 -- What is made of a command before its operation is begun, and which refusals a begin of it answers.
-use Rattle.std.specs.Prelude.{◌≡◌, ◌≢◌, ℕ, ◌^◌, false, length, Option, Some, None, IsSome, Result, Ok, Err, IsOk}
-use Rattle.mt_slices.specs.Keys.{IsStoredKey}
+use Rattle.std.specs.Prelude.{◌≡◌, ◌≢◌, ℕ, ◌^◌, length, Option, Some, None, IsSome, Result, Ok, Err, IsOk}
+use Rattle.mt_slices.specs.Keys.{IsStoredKey, tenant_of}
 use Rattle.mt_rows.specs.declared.command.Command.{Command}
 use Rattle.mt_rows.specs.declared.refusal.Refusal.{Refusal}
 use Rattle.mt_rows.specs.declared.refusal.Refusal.TheVariants.{Memory, NoTenant, Spent}
 use Rattle.mt_rows.specs.declared.tenants.Account.{Account}
 use Rattle.mt_rows.specs.Accounts.{account_of}
-use Rattle.mt_rows.specs.Commands.{key_of, HasColumns, HasShortColumns, IsTaken}
-use Rattle.mt_rows.specs.Maps.{is_scan}
+use Rattle.mt_rows.specs.Commands.{key_of, HasColumns, HasShortColumns, HasCount, IsTaken}
 use Rattle.mt_border.specs.Contents.{owned}
 use Rattle.mt_operation.specs.declared.task.Request.{Request}
 use Rattle.mt_operation.specs.declared.operation.Operation.{Operation}
@@ -15,7 +14,7 @@ use Rattle.mt_operation.specs.Tasks.{command_of, ask, aim_of}
 use Rattle.mt_operation.specs.Operations.{OperationView, view_of, IsUnsplit}
 use Rattle.mt_operation.specs.Walks.{walk_from_top}
 use Rattle.mt_state.specs.Views.{StateView}
-use Rattle.mt_state.specs.Begins.{begun, Begins, IsWorker, MayBegin}
+use Rattle.mt_state.specs.Begins.{begun, Begins, IsWorker}
 use Rattle.mt_core.specs.declared.answers.Ticket.{Ticket}
 use Rattle.mt_core.specs.Places.{HasPlaces}
 
@@ -28,13 +27,14 @@ pub record IsRequest (request : Request) (command : Command) : Type 0 where
 pub record IsAdmitted (op : Operation) : Type 0 where
   pub is_begun : view_of op ≡ begun op.task.worker op.task.tenant (ask op.task)
   pub walk : op.walk ≡ walk_from_top (aim_of (ask op.task)) 0
-  pub no_scan : is_scan (ask op.task) ≡ false
   pub unprepared : op.prepared ≡ None
   pub unsplit : IsUnsplit op.splits
   pub stored : IsStoredKey op.task.key
+  pub tenant_is : tenant_of op.task.key ≡ op.task.tenant
   pub owner : owned op.task.key ≡ (op.task.tenant, key_of (ask op.task))
   pub columns : HasColumns (ask op.task)
   pub short : HasShortColumns (ask op.task)
+  pub counts : HasCount (ask op.task)
 
 -- what a begin would begin, as it is shown, or for which fault it is refused; and for which tenant
 pub record OpeningView : Type 0 where
@@ -55,9 +55,9 @@ abbrev pub IsMadeOf : Result OperationView Refusal → ℕ → ℕ → Command �
 IsMadeOf (Ok op) worker tenant command = op ≡ begun worker tenant command
 IsMadeOf (Err refusal) worker tenant command = Unit {0}
 
--- the operation of an opening is of a worker of the state, and may be begun
+-- the operation of an opening is of a worker of the state
 abbrev pub MayAdmit : StateView → Result OperationView Refusal → Type 0
-MayAdmit v (Ok op) = IsWorker (length v.logs) op.worker × MayBegin op.command
+MayAdmit v (Ok op) = IsWorker (length v.logs) op.worker
 MayAdmit v (Err refusal) = Unit {0}
 
 -- what an opening may answer: a refused one changes nothing

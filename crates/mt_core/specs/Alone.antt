@@ -2,7 +2,7 @@
 use Rattle.std.specs.Prelude.{◌≡◌, ◌≢◌, ℕ, zero, suc, ◌+◌, ◌*◌, ◌^◌, ◌<◌, ◌≤◌, ◌⊎◌, false, Some, None, length}
 use Rattle.mt_rows.specs.declared.reply.Reply.{Reply}
 use Rattle.mt_rows.specs.declared.reply.Reply.TheVariants.{NoMemory}
-use Rattle.mt_rows.specs.Maps.{reply_of}
+use Rattle.mt_rows.specs.Maps.{reply_of, is_scan}
 use Rattle.mt_rows.specs.Tenants.{tenant_map}
 use Rattle.mt_runs.specs.Placings.{maps_after_one}
 use Rattle.mt_arena.specs.Arena.{live_count}
@@ -35,17 +35,19 @@ pub record Runs (old new : StateView) (o : ℕ) (answer : Move) : Type 0 where
 abbrev pub most_steps : StateView → ℕ
 most_steps v = 256 * (live_count v.arena.nodes + 64)
 
--- an operation that has not made a step, in a state in which nobody holds a node and numbers are left for a whole run
+-- a get, a put or a remove that has not made a step, in a state in which nobody holds a node and numbers are left for a whole run
 pub record IsAlone (v : StateView) (o : ℕ) (op : OperationView) : Type 0 where
   pub there : op_at v.table o ≡ Some op
+  pub no_scan : is_scan op.command ≡ false
   pub first : op.first ≡ 0
   pub enters : op.phase ≡ Enter
   pub free : (k : ℕ) → k < length v.arena.nodes → (at v.arena k).holder ≡ None
   pub numbers : v.steps + most_steps v ≤ 2 ^ 59
 
--- an unfinished operation, at whatever phase, also one that was disturbed before, while nobody else holds a node and numbers are left for a whole run
+-- an unfinished get, put or remove, at whatever phase, also one that was disturbed before, while nobody else holds a node and numbers are left for a whole run
 pub record IsUndisturbed (v : StateView) (o : ℕ) (op : OperationView) : Type 0 where
   pub there : op_at v.table o ≡ Some op
+  pub no_scan : is_scan op.command ≡ false
   pub unfinished : is_done op.phase ≡ false
   pub free : (k q : ℕ) → k < length v.arena.nodes → (at v.arena k).holder ≡ Some q → q ≡ o
   pub numbers : v.steps + most_steps v ≤ 2 ^ 59

@@ -20,6 +20,7 @@ use Rattle.mt_state.specs.Phases.{LeadsOn}
 use Rattle.mt_arena.specs.Forests.{layer_of, tree_at}
 use Rattle.mt_arena.specs.declared.tree.Standing.TheVariants.{Live}
 use Rattle.mt_operation.specs.declared.walk.Taken.TheVariants as takens
+use Rattle.mt_rows.specs.Maps.{is_scan}
 use Rattle.mt_operation.specs.Tasks.{ask}
 use Rattle.mt_operation.specs.declared.outcome.Outcome.{Outcome}
 use Rattle.mt_operation.specs.declared.removal.Removal.{Removal}
@@ -211,11 +212,12 @@ IsSoFar false height made v op = IsAtPoint height made v op.walk op.splits
 abbrev pub IsFreeOfOthers : ArenaView → ℕ → Type 0
 IsFreeOfOthers v o = (k q : ℕ) → k < length v.nodes → (at v k).holder ≡ Some q → q ≡ o
 
--- operation o has made so many steps, and nobody else holds a node
+-- operation o, which is no scan, has made so many steps, and nobody else holds a node
 pub record IsUnhindered (c : Core) (o height made : ℕ) : Type 0 where
   pub op : Operation
   pub there : operation_at c.table o ≡ Some op
   pub free : IsFreeOfOthers c.arena o
+  pub no_scan : is_scan (ask op.task) ≡ false
   pub point : IsSoFar (is_remove (ask op.task)) height made c.arena op
 
 -- a step that moves the operation brings it on

@@ -4,12 +4,11 @@ use Rattle.std.specs.List.{All}
 use Rattle.mt_tape.specs.Tapes.{later_entries, HandsOut}
 use Rattle.mt_operation.specs.Operations.{OperationView, IsUnsplit}
 use Rattle.mt_operation.specs.Tables.{Table, op_at as operation_at}
-use Rattle.mt_rows.specs.Commands.{key_of}
-use Rattle.mt_slices.specs.Keys.{stored_key}
 use Rattle.mt_operation.specs.declared.operation.Operation.{Operation}
 use Rattle.mt_core.specs.declared.displaced.Rest.{Rest}
 use Rattle.mt_core.specs.declared.displaced.Displaced.{Displaced}
 use Rattle.mt_state.specs.Views.{StateView, Shown, op_at, map_of, changed_at}
+use Rattle.mt_state.specs.Phases.{key_sought}
 
 -- every operation that has made a step made its first one after this number
 abbrev pub IsBeforeFirsts : Shown → ℕ → Type 0
@@ -53,16 +52,18 @@ pub record TidiesInto (old new : StateView) (before after : Displaced) : Type 0 
   pub hands_out : HandsOut floor old.tape new.tape before.writes.items after.writes.items (vec_capacity before.writes - vec_len before.writes)
   pub rest : after.rest ≡ before.rest
 
--- a take that hands out the rest of its operation, in the place of any other: the stored key of its tenant and its command's key, with nothing ready
--- and nothing split, as a finished operation is
+-- a take that hands out the rest of its operation, in the place of any other: the key that it looked for, and what it has scanned and does not show, with
+-- nothing ready and nothing split, as a finished operation is
 pub record HandsOutRest (table : Shown) (o : ℕ) (before after : Displaced) : Type 0 where
   pub op : OperationView
   pub there : op_at table o ≡ Some op
   pub rest : Rest
   pub is : after.rest ≡ Some rest
-  pub key : rest.key ≡ stored_key op.tenant (key_of op.command)
+  pub key : rest.key ≡ key_sought op
   pub unprepared : rest.prepared ≡ None
   pub unsplit : IsUnsplit rest.splits
+  pub collected : rest.scan.collected.items ≡ op.scan.collected
+  pub seen : rest.scan.seen ≡ op.scan.seen
   pub writes : after.writes ≡ before.writes
 
 -- inside it is all that the operation had of these

@@ -12,7 +12,7 @@ ghost use Rattle.mt_runs.specs.declared.event.Event.TheVariants.{Begin, Step};
 ghost use Rattle.mt_runs.specs.Runs.{story_of};
 ghost use Rattle.mt_runs.specs.Placings.{no_pairs, HasOneOrder};
 ghost use Rattle.mt_state.specs.Views.{quota_in};
-ghost use Rattle.mt_state.specs.Begins.{new_state, HaveNoPairs, IsWorker, MayBegin, IsEnded, Takes};
+ghost use Rattle.mt_state.specs.Begins.{new_state, HaveNoPairs, IsWorker, IsEnded, Takes};
 ghost use Rattle.mt_state.specs.Histories.{Renames, AreNamed, AreHeld, AreById, IsServed, TellsEvent, BringsTo, no_names, Names as AnyNames};
 ghost use Rattle.mt_core.specs.Tickets.{named};
 
@@ -60,8 +60,8 @@ struct Roster {
 /// Lets events happen to a new state, and gives it back with what each answered.
 ///
 /// A begin by a name by which one was begun before, and a step by a name whose operation is not open,
-/// answer `NoSuch`; so does a begin that the state can't take: a scan. A begin that is refused leaves its
-/// name free. The answer of an operation is taken with its last step.
+/// answer `NoSuch`. A begin that is refused leaves its name free. The answer of an operation is taken with
+/// its last step.
 pub fn run_events(
     alloc: Global,
     logs: u8,
@@ -142,7 +142,7 @@ fn begin_by(
     ensures by_id { OnOk result (AreById roster.new.names (named roster.new.tickets)) }
     ensures tells { IfOk result (λ told. TellsEvent (named roster.old.tickets) state.old (named roster.new.tickets) state.new (Begin op worker tenant command.now) told) }
 {
-    if roster.tickets.contains_key(&op) || !may_begin(command) {
+    if roster.tickets.contains_key(&op) {
         return Ok(Told::NoSuch);
     }
     match state.begin(worker, tenant, command.copied()?) {
@@ -153,16 +153,6 @@ fn begin_by(
         }
         Err(refusal) => Ok(Told::Refused(refusal)),
     }
-}
-
-// Whether the state takes the command.
-fn may_begin(command: &Command) -> bool
-    ensures { IsTrue result ↔ MayBegin command.now }
-{
-    matches!(
-        command,
-        Command::Get { .. } | Command::Put { .. } | Command::Remove { .. }
-    )
 }
 
 // Makes one step of the operation of a name, and takes its answer with its last one.

@@ -1,9 +1,12 @@
-//! The steps of an operation that holds nothing: where it goes down, and what a get takes.
+//! The steps of an operation that holds nothing: where it goes down, what a get takes, and what a scan
+//! collects.
 
-ghost use Rattle.std.specs.Prelude.{◌≡◌, ◌+◌, ℕ, List, Option, Some, None, IfOk, IfSome, IfNone};
+ghost use Rattle.std.specs.Prelude.{◌≡◌, ◌≢◌, ◌+◌, ℕ, List, Option, Some, None, IfOk, IfSome, IfNone};
 ghost use Rattle.std.specs.Option.{option_map};
 ghost use Rattle.mt_rows.specs.Rows.{shown as columns_shown};
 ghost use Rattle.mt_rows.specs.Commands.{HasColumns};
+ghost use Rattle.mt_rows.specs.Limits.{ArePairs};
+ghost use Rattle.mt_insert.specs.Unlock.{walk_done};
 ghost use Rattle.mt_arena.specs.Accesses.{at};
 ghost use Rattle.mt_operation.specs.Tasks.{ask, command_of};
 ghost use Rattle.mt_descent.specs.Pasts.{Past};
@@ -14,17 +17,20 @@ ghost use Rattle.mt_state.specs.Ways.{Descends};
 ghost use Rattle.mt_operation.specs.Phases.{IsDescent};
 ghost use Rattle.mt_operation.specs.declared.removal.Removal.{Removal as AnyRemoval};
 ghost use Rattle.mt_operation.specs.declared.outcome.Outcome.{Outcome as AnyOutcome};
-ghost use Rattle.mt_operation.specs.Operations.{SplitsView};
-ghost use Rattle.mt_state.specs.Phases.{LeadsTo};
-ghost use Rattle.mt_core.specs.Looks.{Looks, LooksAt, MayLook, MayDescend, MaySearch, MayLoad, MayConfirm, TellsDescended, TellsSearched, TellsLoaded, TellsConfirmed};
+ghost use Rattle.mt_operation.specs.Operations.{SplitsView, ScanView};
+ghost use Rattle.mt_state.specs.Phases.{ScanStep, LeadsTo};
+ghost use Rattle.mt_core.specs.Looks.{Looks, LooksAt, MayLook, MayDescend, MaySearch, MayLoad, MayConfirm, MaySnap, MayCompare, MayHop};
+ghost use Rattle.mt_core.specs.Looks.{TellsDescended, TellsSearched, TellsLoaded, TellsConfirmed, TellsSnapped, TellsCompared, TellsHopped};
 ghost use Rattle.mt_core.specs.Points.{Budget, IsBudget, WalksBy};
 
 use mt_arena::Arena;
 use mt_descent::{child, confirm, enter, forward, load, pick, search, verify};
 use mt_operation::{Made, Operation, Outcome, Phase, Request, Walk};
-use mt_rows::{Reply, Row};
+use mt_rows::{PairList, Reply, Row};
+use mt_scan::{check, hop, snap};
 use mt_slices::StoredKey;
 use std::alloc::{AllocError, Global};
+use std::mem;
 
 /// Makes the step of this number of an operation that holds nothing, but for a lock; all other steps
 /// it leaves to others.
@@ -42,7 +48,9 @@ pub(crate) fn look(alloc: Global, arena: &Arena, operation: &mut Operation, step
         Phase::Search => search_key(arena, operation, step),
         Phase::Load => load_row(alloc, arena, operation, step),
         Phase::Confirm => confirm_row(arena, operation),
-        Phase::Snap | Phase::Check | Phase::Hop => unreachable!(),
+        Phase::Snap => snap_node(arena, operation, step),
+        Phase::Check => check_node(alloc, arena, operation, step),
+        Phase::Hop => hop_on(arena, operation),
         _ => Made::Nothing,
     }
 }
@@ -67,8 +75,8 @@ fn go_down(arena: &Arena, key: &StoredKey, walk: &mut Walk, phase: Phase) -> Opt
     requires phase { phase ≡ walk.old.phase }
     requires descends { IsDescent phase }
     requires kept { (past : Past) × IsKept arena.now past key.now None walk.old }
-    ensures again { (s : SplitsView) (rem : AnyRemoval) → IfSome result (λ holder. IsInTheWay arena.now walk.old.phase walk.old s rem holder × (walk.new ≡ walk.old)) }
-    ensures leads { (o step : ℕ) (told : Option AnyOutcome) (s : SplitsView) (rem : AnyRemoval) → IfNone result (LeadsTo walk.old.phase arena.now arena.now o step key.now told s rem walk.old walk.new) }
+    ensures again { (s : SplitsView) (rem : AnyRemoval) (g : ScanView) → IfSome result (λ holder. IsInTheWay arena.now walk.old.phase walk.old s rem g holder × (walk.new ≡ walk.old)) }
+    ensures leads { (o step : ℕ) (told : Option AnyOutcome) (s : SplitsView) (rem : AnyRemoval) (g : ScanStep) → IfNone result (LeadsTo walk.old.phase arena.now arena.now o step key.now told s rem g walk.old walk.new) }
     ensures goes { IfNone result (Descends walk.old walk.new) }
     ensures nears { (budget : Budget) → IsBudget arena.now budget → (made : ℕ) → IfNone result (WalksBy walk.old.phase budget made arena.now walk.old → WalksBy walk.new.phase budget (made + 1) arena.now walk.new) }
     ensures kept { (past : Past) → IfNone result (IsKept arena.now past key.now None walk.new) }
@@ -142,6 +150,91 @@ fn confirm_row(arena: &Arena, operation: &mut Operation) -> Made
         operation.outcome = None;
     }
     Made::Step
+}
+
+// Reads the pairs of a scan's border node by the step of this number. Where there is no memory for what
+// it sees, the scan is done.
+#[inline(never)]
+fn snap_node(arena: &Arena, operation: &mut Operation, step: u64) -> Made
+    requires { MaySnap arena.now operation.old }
+    ensures { Looks arena.now (TellsSnapped arena.now step) operation.old result operation.new }
+{
+    match snap(
+        arena,
+        &operation.task,
+        &mut operation.walk,
+        &mut operation.scan,
+    ) {
+        Ok(None) => Made::Step,
+        Ok(Some(holder)) => Made::Blocked(holder),
+        Err(_) => {
+            stop(operation, step);
+            Made::Step
+        }
+    }
+}
+
+// Compares the version of a scan's border node by the step of this number, and keeps what it has seen
+// there. A scan that is done shows what it has collected, or that there was no memory.
+#[inline(never)]
+fn check_node(alloc: Global, arena: &Arena, operation: &mut Operation, step: u64) -> Made
+    requires { MayCompare arena.now operation.old }
+    ensures { Looks arena.now (TellsCompared arena.now step) operation.old result operation.new }
+{
+    match check(
+        alloc,
+        arena,
+        &mut operation.task,
+        &mut operation.walk,
+        &mut operation.scan,
+    ) {
+        Ok(None) => {
+            let _bytes = operation.task.key.as_bytes();
+            show_at_end(alloc, operation, step);
+            Made::Step
+        }
+        Ok(Some(holder)) => Made::Blocked(holder),
+        Err(_) => {
+            stop(operation, step);
+            Made::Step
+        }
+    }
+}
+
+// A scan that is done shows what it has collected; one that goes on stays as it is.
+fn show_at_end(alloc: Global, operation: &mut Operation, step: u64)
+    requires { operation.old.walk.phase ≡ Phase.Done → ArePairs operation.old.scan.collected.items }
+    ensures shows { operation.old.walk.phase ≡ Phase.Done →
+        operation.new ≡ record operation.old { outcome = Some (record { reply = Reply.Pairs operation.old.scan.collected.items; at = step }); scan = operation.new.scan } }
+    ensures goes_on { operation.old.walk.phase ≢ Phase.Done → operation.new ≡ operation.old }
+    ensures walk { operation.new.walk ≡ operation.old.walk }
+{
+    if operation.walk.phase != Phase::Done {
+        return;
+    }
+    let collected = mem::replace(&mut operation.scan.collected, Vec::new(alloc));
+    let reply = Reply::Pairs(PairList::new(collected));
+    operation.outcome = Some(Outcome { reply, at: step });
+}
+
+// Goes on behind what a scan has kept.
+fn hop_on(arena: &Arena, operation: &mut Operation) -> Made
+    requires { MayHop arena.now operation.old }
+    ensures { Looks arena.now (TellsHopped arena.now) operation.old result operation.new }
+{
+    let stop = operation.scan.stop;
+    match hop(arena, &operation.task.key, &mut operation.walk, stop) {
+        Some(holder) => Made::Blocked(holder),
+        None => Made::Step,
+    }
+}
+
+// A scan is done, since there was no memory at this step.
+fn stop(operation: &mut Operation, step: u64)
+    ensures { operation.new ≡ record operation.old { walk = walk_done operation.old.walk; outcome = Some (record { reply = Reply.NoMemory; at = step }) } }
+{
+    operation.walk.phase = Phase::Done;
+    operation.outcome = Some(no_memory(step));
 }
 
 // What a get answers that took this row, if it took one.

@@ -4,7 +4,7 @@ ghost use Rattle.std.specs.Prelude.{◌≡◌, ◌≢◌, ◌<◌, ◌≤◌, �
 ghost use Rattle.mt_operation.specs.declared.operation.Operation.{Operation as AnyOperation};
 ghost use Rattle.mt_operation.specs.Operations.{view_of, is_unfinished};
 ghost use Rattle.mt_operation.specs.Tables.{op_at as operation_at};
-ghost use Rattle.mt_state.specs.Begins.{begun, IsAnswerOf, MayBegin};
+ghost use Rattle.mt_state.specs.Begins.{begun, IsAnswerOf};
 ghost use Rattle.mt_state.specs.Refused.{Makes};
 ghost use Rattle.mt_core.specs.Tidies.{DisplacesRest, DisplacesRestOf};
 ghost use Rattle.mt_core.specs.Admitted.{IsRequest, IsAdmitted, IsMadeOf};
@@ -19,7 +19,6 @@ use std::marker::Model;
 
 // The request of a command without fault, or its first fault.
 fn request_of(command: Command) -> Result<Request, Refusal>
-    requires { MayBegin command }
     ensures request { IfOk result (λ request. IsRequest request command) }
     ensures refused { Makes command result }
 {
@@ -32,10 +31,16 @@ fn request_of(command: Command) -> Result<Request, Refusal>
         }
         Command::Remove { key } => Ok(Request::Remove { key }),
         Command::Scan {
-            from: _from,
-            columns: _columns,
-            ..
-        } => unreachable!(),
+            from,
+            after,
+            count,
+            columns,
+        } => Ok(Request::Scan {
+            from,
+            after,
+            count,
+            columns,
+        }),
     }
 }
 
@@ -63,7 +68,6 @@ impl Model for Opening {
 ///
 /// What refuses the command stays in the opening, and is answered where it is begun.
 pub fn prepare(alloc: Global, worker: u8, tenant: u32, command: Command) -> Opening
-    requires { MayBegin command }
     ensures tenant { result.tenant ≡ tenant }
     ensures made { IsMadeOf result.made worker tenant command }
     ensures refused { Makes command result.made }
@@ -76,7 +80,6 @@ pub fn prepare(alloc: Global, worker: u8, tenant: u32, command: Command) -> Open
 
 // An operation before its first step.
 fn admitted(alloc: Global, worker: u8, tenant: u32, command: Command) -> Result<Operation, Refusal>
-    requires { MayBegin command }
     ensures admitted { IfOk result IsAdmitted }
     ensures is { IfOk result (λ op. view_of op ≡ begun worker tenant command) }
     ensures refused { Makes command result }

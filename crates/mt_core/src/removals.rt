@@ -3,7 +3,7 @@
 
 ghost use Rattle.std.specs.Prelude.{◌≡◌, ◌≢◌, ◌<◌, ◌^◌, IfSome, IfNone, Some, None, [], true};
 ghost use Rattle.mt_operation.specs.declared.operation.Operation.{Operation as AnyOperation};
-ghost use Rattle.mt_operation.specs.Operations.{SplitsView};
+ghost use Rattle.mt_operation.specs.Operations.{SplitsView, ScanView};
 ghost use Rattle.mt_operation.specs.Phases.{IsRemovalPhase};
 ghost use Rattle.mt_operation.specs.Tables.{op_at as operation_at};
 ghost use Rattle.mt_operation.specs.Tasks.{ask};
@@ -213,7 +213,7 @@ fn take_out_by(
 ) -> Option<usize>
     requires phase { IsRemovalPhase walk.old.phase }
     requires kept { KeptRemoval walk.old.phase arena.old operation key.now walk.old removal.old }
-    ensures again { IfSome result (λ holder. (s : SplitsView) → IsInTheWay arena.old walk.old.phase walk.old s removal.old holder) }
+    ensures again { IfSome result (λ holder. (s : SplitsView) (g : ScanView) → IsInTheWay arena.old walk.old.phase walk.old s removal.old g holder) }
     ensures unchanged { IfSome result (λ holder. (arena.new ≡ arena.old) × (walk.new ≡ walk.old) × (removal.new ≡ removal.old)) }
     ensures another { HoldsRemoval arena.old operation walk.old removal.old → IfSome result (λ holder. holder ≢ operation) }
     ensures takes { IfNone result (IsRemovalFrom walk.old.phase operation step key.now arena.old arena.new walk.old walk.new removal.old removal.new) }

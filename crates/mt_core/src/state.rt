@@ -11,7 +11,7 @@ ghost use Rattle.mt_rows.specs.Tenants.{tenant_map};
 ghost use Rattle.mt_state.specs.Views.{op_at, contents_of};
 ghost use Rattle.mt_state.specs.Promises.{Tells};
 ghost use Rattle.mt_state.specs.Phases.{LeadsOn};
-ghost use Rattle.mt_state.specs.Begins.{new_state, HaveNoPairs, IsWorker, MayBegin};
+ghost use Rattle.mt_state.specs.Begins.{new_state, HaveNoPairs, IsWorker};
 ghost use Rattle.mt_core.specs.Tickets.{TellsBegin, TellsTake, TellsCancel, TellsRefusal};
 ghost use Rattle.mt_core.specs.Places.{HasPlaces, TakesPlace, AddsPlaces};
 ghost use Rattle.mt_core.specs.Admitted.{MayAdmit, TellsAdmitted, RefusesOpening};
@@ -66,8 +66,7 @@ impl State {
     /// Errors, the first that holds: `NoTenant`, the command's first fault (`KeyLong`, `Column`,
     /// `ColumnLong`), `Spent`. `Memory` may come in place of the last one, and never of the others.
     pub fn begin(&mut self, worker: u8, tenant: u32, command: Command) -> Result<Ticket, Refusal>
-        requires worker { IsWorker (length self.old.logs) worker }
-        requires point { MayBegin command }
+        requires { IsWorker (length self.old.logs) worker }
         ensures told { TellsBegin self.old self.new worker tenant command result }
         ensures refused { TellsRefusal self.old tenant command result }
     {

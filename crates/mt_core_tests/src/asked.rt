@@ -1,7 +1,7 @@
 //! What tests ask of a store.
 
 ghost use Rattle.std.specs.Prelude.{◌≡◌};
-ghost use Rattle.mt_state.specs.Begins.{HaveNoPairs, MayBegin};
+ghost use Rattle.mt_state.specs.Begins.{HaveNoPairs};
 
 use mt_rows::{Column, ColumnIndexes, Command, Key, NamedColumns, Tenants};
 use std::alloc::Global;
@@ -17,9 +17,7 @@ pub(crate) fn one_tenant(alloc: Global, quota: u32) -> Tenants
 }
 
 /// A put of column 0.
-pub(crate) fn put(rt: &impl Abort, alloc: Global, key: &str, value: &str) -> Command
-    ensures { MayBegin result }
-{
+pub(crate) fn put(rt: &impl Abort, alloc: Global, key: &str, value: &str) -> Command {
     let value = Vec::from_slice(alloc, value.as_bytes()).expect(rt, "memory");
     let mut columns = Vec::new(alloc);
     assert!(rt; columns.push((0, Column::new(value))).is_ok());
@@ -29,9 +27,7 @@ pub(crate) fn put(rt: &impl Abort, alloc: Global, key: &str, value: &str) -> Com
 }
 
 /// A get of these columns, of all where none is named.
-pub(crate) fn get(rt: &impl Abort, alloc: Global, key: &str, columns: &[u8]) -> Command
-    ensures { MayBegin result }
-{
+pub(crate) fn get(rt: &impl Abort, alloc: Global, key: &str, columns: &[u8]) -> Command {
     let key = key_of(rt, alloc, key);
     let columns = Vec::from_slice(alloc, columns).expect(rt, "memory");
     let columns = ColumnIndexes::new(columns);
@@ -39,9 +35,7 @@ pub(crate) fn get(rt: &impl Abort, alloc: Global, key: &str, columns: &[u8]) -> 
 }
 
 /// A remove.
-pub(crate) fn remove(rt: &impl Abort, alloc: Global, key: &str) -> Command
-    ensures { MayBegin result }
-{
+pub(crate) fn remove(rt: &impl Abort, alloc: Global, key: &str) -> Command {
     let key = key_of(rt, alloc, key);
     Command::Remove { key }
 }

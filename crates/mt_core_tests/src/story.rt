@@ -1,7 +1,5 @@
 //! One store, call by call.
 
-ghost use Rattle.mt_state.specs.Begins.{MayBegin};
-
 use crate::asked::{get, one_tenant, put};
 use mt_core::{State, Ticket, prepare};
 use mt_operation::Phase;
@@ -181,9 +179,13 @@ fn operations_are_begun_in_places_that_were_made(rt: HostRuntime) {
 }
 
 // A get of these columns is refused for this cause.
-fn expect_refusal(rt: &impl Abort, state: &mut State, tenant: u32, command: Command, cause: Refusal)
-    requires { MayBegin command }
-{
+fn expect_refusal(
+    rt: &impl Abort,
+    state: &mut State,
+    tenant: u32,
+    command: Command,
+    cause: Refusal,
+) {
     match state.begin(0, tenant, command) {
         Ok(_) => panic!(rt; "the get is begun"),
         Err(refusal) => assert_eq!(rt; refusal, cause),

@@ -1,7 +1,7 @@
 -- The lines of the language: which line, if any, some bytes are.
-use Rattle.std.specs.Prelude.{ℕ, if◌then◌else◌, List, [], ◌∷◌, codes, Option, Some, None}
+use Rattle.std.specs.Prelude.{ℕ, Bool, true, false, if◌then◌else◌, List, [], ◌∷◌, codes, Option, Some, None}
 use Rattle.mt_rows.specs.declared.command.Command.{Command}
-use Rattle.mt_rows.specs.declared.command.Command.TheVariants.{Get, Put, Remove}
+use Rattle.mt_rows.specs.declared.command.Command.TheVariants.{Get, Put, Remove, Scan}
 use Rattle.mt_operation.specs.declared.phase.Phase.{Phase}
 use Rattle.mt_operation.specs.Phases.{name_of, steps}
 use Rattle.mt_lines.specs.declared.line.Line.{Line}
@@ -59,12 +59,30 @@ remove_words words = do
   key ← key_word first.0
   Some (Remove key)
 
+-- whether a scan begins behind its key: it does where `after` stands, and not where nothing more does
+abbrev pub after_words : List (List ℕ) → Option Bool
+after_words [] = Some false
+after_words (word ∷ words) = do
+  end ← no_more words
+  if is_text word (codes "after") then Some true else None
+
+-- scan K count [after], behind its first word: all columns of each row
+unfoldable pub scan_words : List (List ℕ) → Option Command
+scan_words words = do
+  first ← next words
+  second ← next first.1
+  after ← after_words second.1
+  count ← index_word second.0
+  from ← key_word first.0
+  Some (Scan from after count [])
+
 -- the command of a verb
 abbrev pub command_by : List ℕ → List (List ℕ) → Option Command
 command_by verb words =
     if is_text verb (codes "get") then get_words words
     else if is_text verb (codes "put") then put_words words
     else if is_text verb (codes "remove") then remove_words words
+    else if is_text verb (codes "scan") then scan_words words
     else None
 
 -- a command

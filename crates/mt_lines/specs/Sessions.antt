@@ -12,7 +12,7 @@ use Rattle.mt_lines.specs.declared.line.Line.TheVariants as lines
 use Rattle.mt_lines.specs.declared.response.Response.{Response}
 use Rattle.mt_lines.specs.declared.response.Response.TheVariants.{Taken, Refused, Begun, Shape, BadLine}
 use Rattle.mt_lines.specs.Names.{operation_of, TakesName}
-use Rattle.mt_lines.specs.Stores.{StoreView, new_store, TellsStep, TellsWalk, TellsNamed, MayBeginAs}
+use Rattle.mt_lines.specs.Stores.{StoreView, new_store, TellsStep, TellsWalk, TellsNamed, IsFree}
 
 -- a session: its store, and the tenants that are gathered, up to the first begin
 pub record SessionView : Type 0 where
@@ -61,11 +61,11 @@ TellsBegun old new name tenant command (Refused refusal) =
     TellsBegin old.state new.state 0 tenant command (Err refusal) × TellsRefusal old.state tenant command (Err refusal) × (new.named ≡ old.named)
 TellsBegun old new name tenant command _ = ⊥
 
--- what is said of a begin: one that may not stand is a bad line, and nothing changes; after any other no tenants are gathered
+-- what is said of a begin: one by a name in use is a bad line, and nothing changes; after any other no tenants are gathered
 abbrev pub TellsBeginLine : SessionView → SessionView → ℕ → ℕ → Command → Response → Type 0
-TellsBeginLine old new name tenant command BadLine = (new ≡ old) × ¬ MayBeginAs old.store name command
+TellsBeginLine old new name tenant command BadLine = (new ≡ old) × ¬ IsFree old.store name
 TellsBeginLine old new name tenant command response =
-    MayBeginAs old.store name command × (new.gathered ≡ None) × TellsBegun (store_at_begin old.store old.gathered) new.store name tenant command response
+    IsFree old.store name × (new.gathered ≡ None) × TellsBegun (store_at_begin old.store old.gathered) new.store name tenant command response
 
 -- what is said of the trees
 abbrev pub TellsShape : SessionView → Response → Type 0

@@ -1,6 +1,5 @@
 -- What a store with named operations does by the steps of one of them, and what is said of it.
 use Rattle.std.specs.Prelude.{◌≡◌, ℕ, zero, suc, ◌≤◌, ◌^◌, true, false, [], Option, Some, None, is_some}
-use Rattle.mt_rows.specs.declared.command.Command.{Command}
 use Rattle.mt_rows.specs.Accounts.{Accounts}
 use Rattle.mt_runs.specs.declared.event.Answer.{Answer}
 use Rattle.mt_state.specs.declared.moves.Move.{Move}
@@ -9,7 +8,7 @@ use Rattle.mt_operation.specs.declared.phase.Phase.{Phase}
 use Rattle.mt_state.specs.Views.{StateView, Shown, op_at}
 use Rattle.mt_core.specs.Shows.{phase_at}
 use Rattle.mt_state.specs.Promises.{IsStep, Tells}
-use Rattle.mt_state.specs.Begins.{new_state, MayBegin, Takes, IsEnded}
+use Rattle.mt_state.specs.Begins.{new_state, Takes, IsEnded}
 use Rattle.mt_core.specs.Tidies.{Tidies}
 use Rattle.mt_lines.specs.declared.response.Response.{Response}
 use Rattle.mt_lines.specs.declared.response.Response.TheVariants.{At, Moved, Again, NoMemory, Spent, NoSuch, Done}
@@ -104,9 +103,9 @@ abbrev pub TellsNamed : Option ℕ → StoreView → StoreView → Response → 
 TellsNamed None old new response told = (response ≡ NoSuch) × (new ≡ old)
 TellsNamed (Some o) old new response told = told o
 
--- a begin may stand here: its name is free, and the store takes its command
-abbrev pub MayBeginAs : StoreView → ℕ → Command → Type 0
-MayBeginAs store name command = (operation_of store.named name ≡ None) × MayBegin command
+-- a name is free: an operation may be begun by it
+abbrev pub IsFree : StoreView → ℕ → Type 0
+IsFree store name = operation_of store.named name ≡ None
 
 -- the operation that is said of is there: for `done` it has ended, and for `again` its holder is open
 abbrev pub CanSay : StateView → ℕ → Move → Type 0

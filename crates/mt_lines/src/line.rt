@@ -4,7 +4,7 @@
 
 ghost use Rattle.std.specs.Prelude.{◌≡◌, IfOk, codes};
 ghost use Rattle.mt_lines.specs.Words.{Means, words_of, each, column_word};
-ghost use Rattle.mt_lines.specs.Line.{index_word, phase_word, phase_in, tenant_line, get_words, put_words, remove_words, command_words, begin_line, name_alone, step_line, run_line, until_line, shape_line, line_of_words, line_of};
+ghost use Rattle.mt_lines.specs.Line.{index_word, phase_word, phase_in, tenant_line, get_words, put_words, remove_words, after_words, scan_words, command_words, begin_line, name_alone, step_line, run_line, until_line, shape_line, line_of_words, line_of};
 
 use crate::fault::LineFault;
 use crate::words;
@@ -115,6 +115,8 @@ fn command(alloc: Global, rest: &[u8]) -> Result<Command, LineFault>
         put(alloc, rest)
     } else if words::is_text(verb, "remove") {
         remove(alloc, rest)
+    } else if words::is_text(verb, "scan") {
+        scan(alloc, rest)
     } else {
         Err(LineFault::BadLine)
     }
@@ -149,6 +151,39 @@ fn remove(alloc: Global, rest: &[u8]) -> Result<Command, LineFault>
     words::end_of_words(rest)?;
     let key = words::key(alloc, first)?;
     Ok(Command::Remove { key })
+}
+
+#[tactic(auto, unfolding(crate::specs::Line::scan_words))]
+fn scan(alloc: Global, rest: &[u8]) -> Result<Command, LineFault>
+    ensures { Means (λ command. command) result (scan_words (words_of rest.now)) }
+{
+    let (first, rest) = words::next_word(rest)?;
+    let (second, rest) = words::next_word(rest)?;
+    let after = after(rest)?;
+    let count = words::number(second, 255)? as u8;
+    let from = words::key(alloc, first)?;
+    let columns = ColumnIndexes::new(Vec::new(alloc));
+    Ok(Command::Scan {
+        from,
+        after,
+        count,
+        columns,
+    })
+}
+
+// Whether a scan begins behind its key: `after`, or nothing more.
+fn after(rest: &[u8]) -> Result<bool, LineFault>
+    ensures { Means (λ after. after) result (after_words (words_of rest.now)) }
+{
+    let Ok((word, rest)) = words::next_word(rest) else {
+        return Ok(false);
+    };
+    words::end_of_words(rest)?;
+    if words::is_text(word, "after") {
+        Ok(true)
+    } else {
+        Err(LineFault::BadLine)
+    }
 }
 
 // Columns' indexes, up to the end.

@@ -72,8 +72,7 @@ impl Session {
         }
     }
 
-    // A name in use can't be begun, nor what the store doesn't take. The first begin that may stand finds
-    // a new store of the tenants.
+    // A name in use can't be begun. The first begin that may stand finds a new store of the tenants.
     fn begin(
         &mut self,
         alloc: Global,
@@ -83,7 +82,7 @@ impl Session {
     ) -> Result<Response, AllocError>
         ensures { IfOk result (TellsBeginLine self.old self.new name tenant command) }
     {
-        if !self.store.may_begin(name, &command) {
+        if !self.store.is_free(name) {
             return Ok(Response::BadLine);
         }
         self.make_store(alloc)?;

@@ -7,13 +7,13 @@
 ghost use Rattle.std.specs.Prelude.{◌≡◌, ◌↔◌, ℕ, [], IfOk, OnErr, IsTrue, Some, None, Ok, Err, true};
 ghost use Rattle.mt_state.specs.Views.{StateView};
 ghost use Rattle.mt_core.specs.Shows.{phase_at};
-ghost use Rattle.mt_state.specs.Begins.{new_state, HaveNoPairs, MayBegin, IsEnded};
+ghost use Rattle.mt_state.specs.Begins.{new_state, HaveNoPairs, IsEnded};
 ghost use Rattle.mt_core.specs.Tickets.{IsStill, Cancels};
 ghost use Rattle.mt_core.specs.Shapes.{IsShape};
 ghost use Rattle.mt_runs.specs.declared.event.Answer.{Answer as AnyAnswer};
 ghost use Rattle.mt_lines.specs.Names.{operation_of};
 ghost use Rattle.mt_lines.specs.Sessions.{TellsBegun};
-ghost use Rattle.mt_lines.specs.Stores.{IsAsBefore, HaveOneName, StopsAt, IsWalk, TellsStep, TellsWalk, TellsNamed, MayBeginAs, CanSay, GivesUp, SaysMove};
+ghost use Rattle.mt_lines.specs.Stores.{IsAsBefore, HaveOneName, StopsAt, IsWalk, TellsStep, TellsWalk, TellsNamed, IsFree, CanSay, GivesUp, SaysMove};
 
 use crate::names::Names;
 use crate::response::Response;
@@ -54,17 +54,11 @@ impl NamedStore {
         })
     }
 
-    /// Whether a begin may stand here: its name is free, and its command is no scan.
-    pub fn may_begin(&self, name: u32, command: &Command) -> bool
-        ensures { IsTrue result ↔ MayBeginAs self.now name command.now }
+    /// Whether a name is free, so that an operation may be begun by it.
+    pub fn is_free(&self, name: u32) -> bool
+        ensures { IsTrue result ↔ IsFree self.now name }
     {
-        if let Some(_) = self.names.ticket(name) {
-            return false;
-        }
-        matches!(
-            command,
-            Command::Get { .. } | Command::Put { .. } | Command::Remove { .. }
-        )
+        self.names.ticket(name).is_none()
     }
 
     /// Begins an operation by a free name, for worker 0.
@@ -77,7 +71,7 @@ impl NamedStore {
         tenant: u32,
         command: Command,
     ) -> Result<Response, AllocError>
-        requires { MayBeginAs self.old name command }
+        requires { IsFree self.old name }
         ensures told { IfOk result (TellsBegun self.old self.new name tenant command) }
         ensures cancelled { OnErr result (IsAsBefore self.old self.new) }
     {

@@ -87,8 +87,20 @@ const SINGLE_LINES: [(&str, &str); 50] = [
         "ok\nbegun 1\ndone new\nbegun 1\ndone found 0=abcd\n",
     ),
     (
-        "tenant 7 5\nbegin 1 7 remove\nbegin 1 7 remove 61 62\nbegin 1 7 scan - 1\nbegin 1 7 gets 61\n",
+        "tenant 7 5\nbegin 1 7 remove\nbegin 1 7 remove 61 62\nbegin 1 7 scans - 1\nbegin 1 7 gets 61\n",
         "ok\nbad line\nbad line\nbad line\nbad line\n",
+    ),
+    (
+        "tenant 7 5\nbegin 1 7 scan\nbegin 1 7 scan -\nbegin 1 7 scan - 256\nbegin 1 7 scan - 1 behind\nbegin 1 7 scan - 1 after 2\n",
+        "ok\nbad line\nbad line\nbad line\nbad line\nbad line\n",
+    ),
+    (
+        "tenant 7 5\nbegin 1 7 scan - 0\nbegin 1 7 scan - 65\nbegin 1 7 scan - 64 after\nrun 1\n",
+        "ok\nrefused E8\nrefused E8\nbegun 1\ndone pairs 0\n",
+    ),
+    (
+        "tenant 7 5\nbegin 1 7 put Fe 0=76 1=\nrun 1\nbegin 1 7 scan fe 01\nrun 1\nbegin 1 7 scan fe 1 after\nrun 1\n",
+        "ok\nbegun 1\ndone new\nbegun 1\ndone pairs 1 fe:0=76,1=\nbegun 1\ndone pairs 0\n",
     ),
     (
         "tenant 7 5\nbegin 1 7 put 61 0=76\nrun 1\nbegin 1 7 remove 61\nrun 1\nbegin 1 7 remove 61\nrun 1\nbegin 1 7 get 61\nrun 1\n",
@@ -110,7 +122,7 @@ const SINGLE_LINES: [(&str, &str); 50] = [
     ("step 1 # no comment\nrun 1", "bad line\nnone\n"),
     (
         "begin 2 8 get 61\nbegin 2 8 scan - 1\n",
-        "refused E4\nbad line\n",
+        "refused E4\nrefused E4\n",
     ),
 ];
 

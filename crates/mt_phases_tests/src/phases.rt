@@ -67,11 +67,12 @@ pub fn walk_down(rt: &impl Abort, arena: &Arena, key: &StoredKey, phase: Phase) 
     let _bytes = key.as_bytes();
     let aim = match phase {
         Phase::Lock => Aim::Write,
+        Phase::Snap => Aim::Scan,
         _ => Aim::Read,
     };
     let mut walk = Walk::new(aim, 0);
     go_to(rt, arena, key, &mut walk, phase);
-    assert!(rt; matches!(walk.phase, Phase::Search | Phase::Lock));
+    assert!(rt; matches!(walk.phase, Phase::Search | Phase::Lock | Phase::Snap));
     walk
 }
 

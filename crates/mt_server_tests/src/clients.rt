@@ -29,6 +29,10 @@ pub(crate) const REMOVED: &[u8] = b"\x00\x00\x00\x01\x05";
 /// Two pairs from the first key on are asked for.
 pub(crate) const SCAN: &[u8] = b"\x00\x00\x00\x06\x05\x00\x00\x00\x02\x00";
 
+pub(crate) const ONE_PAIR: &[u8] = b"\x00\x00\x00\x09\x06\x01\x00\x01k\x01\x00\x01v";
+
+pub(crate) const NO_PAIRS: &[u8] = b"\x00\x00\x00\x02\x06\x00";
+
 /// No frame of a request.
 pub(crate) const BAD: &[u8] = b"\x00\x00\x80\x01";
 

@@ -3,8 +3,8 @@
 ghost use Rattle.std.specs.Prelude.{◌≡◌};
 
 use crate::clients::{
-    ABSENT, BAD, BAD_FRAME, FOUND, GET, NEW, OPEN, OPENED, PUT, REMOVE, REMOVED, SCAN, connect,
-    is_at_end, is_told, is_told_behind,
+    ABSENT, BAD, BAD_FRAME, FOUND, GET, NEW, NO_PAIRS, ONE_PAIR, OPEN, OPENED, PUT, REMOVE,
+    REMOVED, SCAN, connect, is_at_end, is_told, is_told_behind,
 };
 use crate::words::options_of;
 use mt_options::Options;
@@ -56,7 +56,7 @@ enum Scene {
     MidFrame,
     /// One puts and removes, and the other one finds nothing.
     Removal,
-    /// One asks for a scan, which can't be begun yet.
+    /// One puts a pair and scans it, and removes it again.
     Scan,
 }
 
@@ -83,7 +83,7 @@ fn play(scene: Scene, first: TcpStream, second: TcpStream) -> io::Result<bool> {
         }
         Scene::MidFrame => is_told_behind(&first, OPEN, &PUT[..7], OPENED)?,
         Scene::Removal => is_told(&first, OPEN, OPENED)? && puts_and_removes(&first)?,
-        Scene::Scan => is_told_behind(&first, OPEN, SCAN, OPENED)? && is_at_end(&first)?,
+        Scene::Scan => is_told(&first, OPEN, OPENED)? && puts_and_scans(&first)?,
     };
     drop(first);
     Ok(is_right && is_told(&second, OPEN, OPENED)? && is_told(&second, GET, wanted)?)
@@ -101,6 +101,15 @@ fn puts_and_removes(client: &TcpStream) -> io::Result<bool> {
     )
 }
 
+fn puts_and_scans(client: &TcpStream) -> io::Result<bool> {
+    Ok(
+        is_told(client, PUT, NEW)?
+            && is_told(client, SCAN, ONE_PAIR)?
+            && is_told(client, REMOVE, REMOVED)?
+            && is_told(client, SCAN, NO_PAIRS)?,
+    )
+}
+
 impl Scene {
     // The words of its server, the last line of the output, and how many sessions end otherwise than
     // closed.
@@ -108,9 +117,8 @@ impl Scene {
         match self {
             Scene::InTurn | Scene::AtOnce => (TWO_WORKERS, "sessions 2 answers 3", 0),
             Scene::Removal => (TWO_WORKERS, "sessions 2 answers 4", 0),
-            Scene::BadFrame | Scene::MidFrame | Scene::Scan => {
-                (ONE_WORKER, "sessions 2 answers 1", 1)
-            }
+            Scene::Scan => (TWO_WORKERS, "sessions 2 answers 5", 0),
+            Scene::BadFrame | Scene::MidFrame => (ONE_WORKER, "sessions 2 answers 1", 1),
         }
     }
 }

@@ -1,7 +1,6 @@
 -- What a caller over a desk may answer to a session.
 use Rattle.std.specs.Prelude.{◌≡◌, ℕ, ◌+◌, ◌<◌, List, Option, Some, None, Result, Err, IfOk}
 use Rattle.mt_rows.specs.declared.command.Command.{Command}
-use Rattle.mt_rows.specs.declared.command.Command.TheVariants.{Get, Put, Remove}
 use Rattle.mt_rows.specs.declared.reply.Reply.{Reply}
 use Rattle.mt_rows.specs.declared.refusal.Refusal.{Refusal}
 use Rattle.mt_rows.specs.declared.refusal.Refusal.TheVariants.{NoTenant, NotOpen, NoStore}
@@ -12,7 +11,7 @@ use Rattle.mt_book.specs.declared.calls.CallFault.{CallFault}
 use Rattle.mt_book.specs.Periods.{Period}
 use Rattle.mt_book.specs.Calls.{Calls, asked_by, answers_of}
 use Rattle.mt_session.specs.declared.caller.CallerFault.{CallerFault}
-use Rattle.mt_session.specs.declared.caller.CallerFault.TheVariants.{Refused, Stuck}
+use Rattle.mt_session.specs.declared.caller.CallerFault.TheVariants.{Refused}
 use Rattle.mt_session.specs.Exchanges.{Exchange, Opens, Calls as CallsFor, Settles}
 use Rattle.mt_service.specs.Telling.{told_of, seen_after}
 
@@ -48,16 +47,9 @@ pub record AsksCall {S : Type 0} (does : S → Period → S → Type 0) (old new
   pub tenants : new.tenants ≡ old.tenants
   pub opened : new.opened ≡ old.opened
 
--- a scan can't be begun yet: it ends the session, and nothing changes
-abbrev pub AsksFor : {S : Type 0} → (S → Period → S → Type 0) → Asker S → ℕ → Command → Result Reply CallerFault → Asker S → Type 0
-AsksFor does old tenant (Get key columns) told new = AsksCall does old new tenant (Get key columns) told
-AsksFor does old tenant (Put key change) told new = AsksCall does old new tenant (Put key change) told
-AsksFor does old tenant (Remove key) told new = AsksCall does old new tenant (Remove key) told
-AsksFor does old tenant command told new = (told ≡ Err Stuck) × (new ≡ old)
-
 -- a command is one of the opened tenant; where none is opened, it is refused
 abbrev pub AsksOpened : {S : Type 0} → (S → Period → S → Type 0) → Asker S → Option ℕ → Command → Result Reply CallerFault → Asker S → Type 0
-AsksOpened does old (Some tenant) command told new = AsksFor does old tenant command told new
+AsksOpened does old (Some tenant) command told new = AsksCall does old new tenant command told
 AsksOpened does old None command told new = (told ≡ Err (Refused NotOpen)) × (new ≡ old)
 
 -- what the caller answers: a Settle is refused, since no logs are kept

@@ -1,7 +1,6 @@
 //! Who answers a session's commands: a pass of a book, over any desk.
 
-ghost use Rattle.std.specs.Prelude.{◌≡◌, ◌↔◌, IsTrue, None};
-ghost use Rattle.mt_state.specs.Begins.{MayBegin};
+ghost use Rattle.std.specs.Prelude.{◌≡◌, None};
 ghost use Rattle.mt_service.specs.Telling.{told_of};
 
 use mt_book::{CallFault, Desk, NoGate, Pass, call};
@@ -65,9 +64,6 @@ impl<L: Ledger, R: Wait, D: Desk<L> + Drop> Caller for DeskCaller<'_, L, R, D> {
         let Some(tenant) = self.opened else {
             return Err(CallerFault::Refused(Refusal::NotOpen));
         };
-        if !is_point(&command) {
-            return Err(CallerFault::Stuck);
-        }
         told(call(
             self.rt,
             alloc,
@@ -82,16 +78,6 @@ impl<L: Ledger, R: Wait, D: Desk<L> + Drop> Caller for DeskCaller<'_, L, R, D> {
     fn settle(&mut self) -> Result<u64, Refusal> {
         Err(Refusal::NoStore)
     }
-}
-
-// Whether it is a command that an operation can be begun for.
-fn is_point(command: &Command) -> bool
-    ensures { IsTrue result ↔ MayBegin command.now }
-{
-    matches!(
-        command,
-        Command::Get { .. } | Command::Put { .. } | Command::Remove { .. }
-    )
 }
 
 // What the session is told for a call's result.

@@ -21,9 +21,11 @@ use Rattle.mt_operation.specs.Operations.{view_of}
 use Rattle.mt_insert.specs.Puts.{is_put}
 use Rattle.mt_remove.specs.Writes.{is_remove}
 use Rattle.mt_remove.specs.KeptRemovals.{IsCleaning}
-use Rattle.mt_state.specs.Views.{Core, shown, KeepsPast}
+use Rattle.mt_walks.specs.Walked.{IsWithin}
+use Rattle.mt_state.specs.Views.{Core, shown, map_of, KeepsPast}
 use Rattle.mt_state.specs.Promises.{IsAnswer}
 use Rattle.mt_state.specs.KeptOperations.{IsOpenOperation, HasAnswer, IsBound}
+use Rattle.mt_state.proofs.Lawful.{lawful_more}
 use Rattle.mt_state.proofs.Rely.{answer_stays}
 use Rattle.mt_state.proofs.Moved.{went_on, first_begun, first_same}
 
@@ -91,6 +93,8 @@ module _ (c new : Core) (op : Operation) (k : IsOpenOperation c op) (grows : Kee
         since = omega (arith, first, stays.since);
         upto = omega (arith, stays.upto, k.made);
         placed = stays.placed;
+        lawful = lawful_more (map_of (shown new) op.task.tenant) (IsWithin op.walk.first op.last) (IsWithin after.walk.first after.last)
+            (λ m between. (let since = between.0 in omega (arith, first, since), let upto = between.1 in omega (arith, upto, k.made))) (ask op.task) told.reply stays.lawful;
       }
 
   pub answered_on : prepared ≡ None → HasAnswer c op → HasAnswer new after

@@ -16,7 +16,7 @@ use Rattle.mt_operation.specs.declared.phase.Phase.TheVariants.{InsertChild, Int
 use Rattle.mt_operation.specs.declared.splits.Halves.{Halves}
 use Rattle.mt_operation.specs.declared.splits.Splits.{Splits}
 use Rattle.mt_operation.specs.declared.walk.Walk.{Walk}
-use Rattle.mt_state.specs.Phases.{GoesAbove, LeadsTo}
+use Rattle.mt_state.specs.Phases.{GoesAbove, ScanStep, LeadsTo}
 use Rattle.std.proofs.Common.{Bool, List, None, Option, Some, [], ap, arith, false, inl, inr, length, length-append, refl, set, slice_index, subst, sym, true, ℕ, ◌+◌, ◌<◌, ◌==◌, ◌∙◌, ◌∷◌, ◌≡◌, ◌≢◌}
 use Rattle.std.proofs.lemmas.Bool.{cases_eq}
 use Rattle.std.proofs.lemmas.List.{get_or-set_other, get_or-set_same, length-set}
@@ -238,18 +238,18 @@ climb_some _ i op old new before after s t kept c = absurd i
 
 -- where each leads
 pub climb_leads : (p : Phase) → IsClimb p → (op : ℕ) (old new : ArenaView) (before after : Walk) (s t : Splits) → IsClimbFrom p op old new before after s t
-    → (step : ℕ) (key : Bytes) (told : Option Outcome) (r : Removal) → LeadsTo p old new op step key told (splits_of s) r before after
-climb_leads SplitPrev i op old new before after s t c step key told r = c.walk
-climb_leads LockParent i op old new before after s t c step key told r = by (at old (last_of s).left).parent refl
+    → (step : ℕ) (key : Bytes) (told : Option Outcome) (r : Removal) (g : ScanStep) → LeadsTo p old new op step key told (splits_of s) r g before after
+climb_leads SplitPrev i op old new before after s t c step key told r g = c.walk
+climb_leads LockParent i op old new before after s t c step key told r g = by (at old (last_of s).left).parent refl
   where
     by : (parent : Option ℕ) → (at old (last_of s).left).parent ≡ parent → GoesAbove parent old before after
     by None none = (c.root none).1
     by (Some p) named = ((c.is p named).0, (c.is p named).2)
-climb_leads InsertChild i op old new before after s t c step key told r = c.walk
-climb_leads InteriorSplit i op old new before after s t c step key told r = c.walk
-climb_leads Reparent i op old new before after s t c step key told r = c.walk
-climb_leads RootGrow i op old new before after s t c step key told r = c.walk
-climb_leads _ i op old new before after s t c step key told r = absurd i
+climb_leads InsertChild i op old new before after s t c step key told r g = c.walk
+climb_leads InteriorSplit i op old new before after s t c step key told r g = c.walk
+climb_leads Reparent i op old new before after s t c step key told r g = c.walk
+climb_leads RootGrow i op old new before after s t c step key told r g = c.walk
+climb_leads _ i op old new before after s t c step key told r g = absurd i
 
 -- a walk at this phase may follow one at that
 follows_to : (p q : Phase) (before after : Walk) → after ≡ walk_at q before → MayFollow p q → MayFollow p after.phase

@@ -1,5 +1,5 @@
 -- A get that compares the version with the one that it remembered: it is done with what it took, or goes on its way.
-use Rattle.std.proofs.Common.{◌≡◌, ◌≢◌, ℕ, ◌+◌, ◌<◌, ◌≤◌, ◌⊎◌, inl, inr, Bool, true, false, not, Option, Some, None, refl, sym, ap, subst, ◌∙◌, arith}
+use Rattle.std.proofs.Common.{◌≡◌, ◌≢◌, ℕ, ◌+◌, ◌<◌, ◌≤◌, ◌⊎◌, inl, inr, true, false, Option, Some, None, refl, sym, ap, subst, ◌∙◌, arith}
 use Rattle.std.specs.Prelude.{◌^◌}
 use Rattle.std.specs.FinMap.{get}
 use Rattle.mt_rows.specs.declared.reply.Reply.{Reply}
@@ -43,6 +43,8 @@ use Rattle.mt_state.proofs.Moved.{went, first_same, first_begun}
 use Rattle.mt_state.proofs.Still.{IsFree, IsUnready, still, still_gives}
 use Rattle.mt_state.proofs.Reading.{kept_on_way, on_way_unready, on_way_open}
 use Rattle.mt_state.proofs.Bound.{get_no_remove}
+use Rattle.mt_state.proofs.Lawful.{get_no_scan, scan_free}
+use Rattle.mt_walks.specs.Walked.{IsWithin}
 
 -- what is kept of a walk on its way does not speak of a row
 row_aside : (p : Phase) → IsOnWay p → (v : ArenaView) (past : Past) (key : Bytes) (row : Option Columns) (w : Walk) → KeptAt p v past key row w
@@ -143,7 +145,7 @@ module _ (c : Core) (now : StateView) (o : ℕ) (is : shown c ≡ now) (h : Stat
     map_has : (m : ℕ) (row : Option Columns) → get (contents_at c.tape.entries (content_of c.arena) m) (owned op.task.key) ≡ row
         → get (map_of (shown c) op.task.tenant m) (key_of (ask op.task)) ≡ row
     map_has m row e =
-        get-tenant_map op.task.tenant (contents_at c.tape.entries (content_of c.arena) m) (key_of (ask op.task)) ∙ ap (get (contents_at c.tape.entries (content_of c.arena) m)) (sym always.owner) ∙ e
+        get-tenant_map op.task.tenant (contents_at c.tape.entries (content_of c.arena) m) (key_of (ask op.task)) ∙ ap (get (contents_at c.tape.entries (content_of c.arena) m)) (sym (always.owner (get_no_scan (ask op.task) gets))) ∙ e
 
     abbrev pub the_new : Core
     the_new = still c now o is h room op there confirm_free w op.outcome
@@ -178,7 +180,8 @@ module _ (c : Core) (now : StateView) (o : ℕ) (is : shown c ≡ now) (h : Stat
             begun = first_begun c op always w;
             since = omega (arith, first_is_same, since);
             upto = omega (arith, made);
-            placed = λ real. record {
+            lawful = scan_free (map_of (shown the_new) op.task.tenant) (IsWithin the_after.walk.first the_after.last) (ask op.task) reply (get_no_scan (ask op.task) gets);
+            placed = λ real plain. record {
               changes = λ e. absurd (let no = sym looks ∙ e in cc);
               looks = λ e. is_reply;
             };

@@ -1,10 +1,9 @@
 -- A begin keeps the history of a run, under a name by which nothing was begun: for HistoryEvents.
-use Rattle.std.proofs.Common.{◌≡◌, ◌≢◌, ℕ, arith, inl, inr, false, Option, Some, None, cond, eqb, sym, refl, ap, subst, ◌∙◌}
+use Rattle.std.proofs.Common.{◌≡◌, ◌≢◌, ℕ, arith, inl, inr, Option, Some, None, cond, eqb, sym, refl, ap, subst, ◌∙◌}
 use Rattle.std.specs.Option.{option_map}
 use Rattle.std.proofs.lemmas.Bool.{cases_eq, eq-eqb, ne_eqb}
 use Rattle.std.proofs.lemmas.Option.{same_Some}
 use Rattle.mt_rows.specs.declared.command.Command.{Command}
-use Rattle.mt_rows.specs.Maps.{is_scan}
 use Rattle.mt_runs.specs.Runs.{Story, Asked, Made, owner, first_of, with_begin}
 use Rattle.mt_runs.specs.Placings.{Quotas, Maps}
 use Rattle.mt_runs.proofs.Growth.{right_asked}
@@ -21,7 +20,7 @@ first_none None = refl
 first_none (Some a) = refl
 
 module _ (quotas : Quotas) (first : Maps) (story : Story) (old new : StateView) (names now : Names) (o n worker tenant : ℕ) (command : Command)
-    (h : History quotas first story names old) (b : Begins old new n worker tenant command) (no_scan : is_scan command ≡ false) (unknown : names o ≡ None) (r : Renames names now o (Some n)) where
+    (h : History quotas first story names old) (b : Begins old new n worker tenant command) (unknown : names o ≡ None) (r : Renames names now o (Some n)) where
   abbrev what : Asked
   what = record { tenant = tenant; command = command }
 
@@ -47,7 +46,6 @@ module _ (quotas : Quotas) (first : Maps) (story : Story) (old new : StateView) 
   new_told : StoryTells (with_begin story o what) after o (before_any worker tenant command)
   new_told = record {
     asked_so = asked_here;
-    no_scan = no_scan;
     first = λ lt. absurd (omega (arith, lt));
     last = λ lt. absurd (omega (arith, lt));
     still = λ none m own. unowned m own;
@@ -67,7 +65,6 @@ module _ (quotas : Quotas) (first : Maps) (story : Story) (old new : StateView) 
     changes = k.changes;
     own = k.own;
     placed = k.placed;
-    no_scan = k.no_scan;
   }
 
   begun : History quotas first (with_begin story o what) now after

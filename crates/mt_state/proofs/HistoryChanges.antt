@@ -5,13 +5,13 @@ use Rattle.mt_rows.specs.declared.reply.Reply.{Reply}
 use Rattle.mt_rows.specs.declared.reply.Reply.TheVariants as replies
 use Rattle.mt_rows.specs.Maps.{is_change}
 use Rattle.mt_operation.specs.declared.phase.Phase.{Phase}
-use Rattle.mt_operation.specs.declared.phase.Phase.TheVariants.{Enter, Search, Load, Confirm, Forward, Judge, Store, Publish, SplitStart, SplitMove, SplitPrev, LockParent, MakeLayer, DropKey, LockPrev, Unlock, Done}
+use Rattle.mt_operation.specs.declared.phase.Phase.TheVariants.{Enter, Search, Load, Confirm, Forward, Judge, Store, Publish, SplitStart, SplitMove, SplitPrev, LockParent, MakeLayer, DropKey, LockPrev, Unlock, Snap, Check, Hop, Done}
 use Rattle.mt_operation.specs.declared.outcome.Outcome.{Outcome}
 use Rattle.mt_operation.specs.Operations.{OperationView}
 use Rattle.mt_operation.specs.Phases.{MayFollow, is_unplaced}
 use Rattle.mt_state.specs.Views.{StateView}
 use Rattle.mt_state.specs.Steps.{told_change}
-use Rattle.mt_state.specs.Notes.{Says, Notes, Keeps, EndsJudging}
+use Rattle.mt_state.specs.Notes.{Says, Notes, Keeps, EndsJudging, EndsScan}
 
 -- the change of which an outcome tells, by its number
 pub told_change-of : (reply : Reply) (at : ℕ) → is_change reply ≡ true → told_change (Some (record { reply = reply; at = at })) ≡ Some at
@@ -59,6 +59,10 @@ placed_after old op MakeLayer Done told m follows n e = refl
 placed_after old op DropKey LockPrev told m follows n e = refl
 placed_after old op DropKey Unlock told m follows n e = refl
 placed_after old op DropKey q told m follows n e = absurd follows
+placed_after old op Snap Done told m follows n e = refl
+placed_after old op Check Done told m follows n e = refl
+placed_after old op Check q told m follows n e = absurd (unnoted told m n.0 e)
+placed_after old op Hop q told m follows n e = absurd (unnoted told m n.0 e)
 placed_after old op p q told m follows n e = keeps_placed (is_unplaced q) op.outcome told m n e
 
 -- a judgement that ends an operation which remembers a change, before it or behind it, keeps its outcome
@@ -69,6 +73,11 @@ judged_same old op None told m n (inr e) = absurd (cc)
 judged_same old op None told m (inl stopped) (inl e) = absurd (untold told replies.NoMemory _ m stopped refl e)
 judged_same old op None told m (inr absent) (inl e) = absurd (untold told replies.Absent _ m absent.1 refl e)
 
+-- a scan tells of no change
+scan_untold : (old : StateView) (told : Option Outcome) (m : ℕ) → EndsScan old told → told_change told ≡ Some m → ⊥
+scan_untold old told m (inl stopped) e = untold told replies.NoMemory _ m stopped refl e
+scan_untold old told m (inr (ps, shows)) e = untold told (replies.Pairs ps) _ m shows refl e
+
 -- a step that ends its operation with a change ends it with the one that it remembers
 pub same_at_end : (old : StateView) (op : OperationView) (p : Phase) (told : Option Outcome) (m : ℕ) → MayFollow p Done → Notes old op p Done told
     → told_change told ≡ Some m → told ≡ op.outcome
@@ -78,6 +87,9 @@ same_at_end old op MakeLayer told m follows n e = absurd (untold told replies.No
 same_at_end old op Judge told m follows n e = judged_same old op op.outcome told m n (inl e)
 same_at_end old op SplitMove told m follows n e = absurd follows
 same_at_end old op DropKey told m follows n e = absurd follows
+same_at_end old op Snap told m follows n e = absurd (untold told replies.NoMemory _ m n refl e)
+same_at_end old op Check told m follows n e = absurd (scan_untold old told m n e)
+same_at_end old op Hop told m follows n e = absurd follows
 same_at_end old op _ told m follows n e = n
 
 -- an operation that remembers a change, and has a step left, keeps its outcome
@@ -92,5 +104,8 @@ same_when_placed old op SplitStart q told m placed follows n e = absurd (cc)
 same_when_placed old op SplitMove q told m placed follows n e = absurd (cc)
 same_when_placed old op MakeLayer q told m placed follows n e = absurd (cc)
 same_when_placed old op DropKey q told m placed follows n e = absurd (cc)
+same_when_placed old op Snap q told m placed follows n e = absurd (cc)
+same_when_placed old op Check q told m placed follows n e = absurd (cc)
+same_when_placed old op Hop q told m placed follows n e = absurd (cc)
 same_when_placed old op Judge Done told m placed follows n e = judged_same old op op.outcome told m n (inr e)
 same_when_placed old op p q told m placed follows n e = keeps_same (is_unplaced q) op.outcome told n

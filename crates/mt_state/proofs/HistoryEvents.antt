@@ -11,13 +11,11 @@ use Rattle.mt_runs.specs.declared.event.Told.TheVariants.{Begun, Refused, NoSuch
 use Rattle.mt_runs.specs.Runs.{Run, numbered, asked_by, story_of}
 use Rattle.mt_runs.specs.Placings.{Quotas, Maps}
 use Rattle.mt_runs.proofs.Events.{story_begin, story_moved, story_done, story_quiet}
-use Rattle.mt_rows.specs.declared.command.Command.TheVariants.{Get, Put, Remove}
-use Rattle.mt_rows.specs.Maps.{is_scan}
 use Rattle.mt_operation.specs.Operations.{OperationView}
 use Rattle.mt_operation.proofs.Tables.{set_here}
 use Rattle.mt_state.specs.Views.{StateView, op_at}
 use Rattle.mt_state.specs.Promises.{IsStep}
-use Rattle.mt_state.specs.Begins.{MayBegin, Begins, IsAnswerOf, Takes}
+use Rattle.mt_state.specs.Begins.{Begins, IsAnswerOf, Takes}
 use Rattle.mt_state.specs.Histories.{Names, Renames, History, TellsEvent, BringsTo}
 use Rattle.mt_state.proofs.HistoryBegins.{history_begin}
 use Rattle.mt_state.proofs.HistoryRuns.{history_moved, history_done}
@@ -34,20 +32,13 @@ keeps_quiet names now old new e t no_step no_ask still same = λ quotas first ba
     subst (λ (w : Names). History quotas first (story_of base (run ++ (e, t) ∷ [])) w new) (sym still)
     (subst (λ s. History quotas first s names new) (sym (story_quiet base run (e, t) no_step no_ask)) (subst (History quotas first (story_of base run) names) (sym same) h))
 
--- who may be begun runs no scan
-begins_no_scan : (command : Command) → MayBegin command → is_scan command ≡ false
-begins_no_scan (Get key columns) may = refl
-begins_no_scan (Put key change) may = refl
-begins_no_scan (Remove key) may = refl
-begins_no_scan _ may = absurd (may)
-
 -- a begin
-keeps_begun : (names now : Names) (old new : StateView) (o n worker tenant : ℕ) (command : Command) → MayBegin command
+keeps_begun : (names now : Names) (old new : StateView) (o n worker tenant : ℕ) (command : Command)
     → Begins old new n worker tenant command → names o ≡ None → Renames names now o (Some n)
     → Keeps names old now new (Begin o worker tenant command) Begun
-keeps_begun names now old new o n worker tenant command may b unknown r = λ quotas first base run h.
+keeps_begun names now old new o n worker tenant command b unknown r = λ quotas first base run h.
     subst (λ s. History quotas first s now new) (sym (story_begin base run o worker tenant command))
-    (history_begin quotas first (story_of base run) old new names now o n worker tenant command h b (begins_no_scan command may) unknown r)
+    (history_begin quotas first (story_of base run) old new names now o n worker tenant command h b unknown r)
 
 no_answer : (a : Answer) → ◌≡◌ {A = Option Answer} None (Some a) → ⊥
 no_answer a e = cc
@@ -73,7 +64,7 @@ keeps_done names now old mid new o n a known s t r = λ quotas first base run h.
 
 -- each event keeps the history
 pub keeps_event : (names now : Names) (old new : StateView) (e : Event) (t : Told) → TellsEvent names old now new e t → Keeps names old now new e t
-keeps_event names now old new (Begin o worker tenant command) Begun h = keeps_begun names now old new o h.0 worker tenant command h.3 h.4 h.1 h.2
+keeps_event names now old new (Begin o worker tenant command) Begun h = keeps_begun names now old new o h.0 worker tenant command h.3 h.1 h.2
 keeps_event names now old new (Begin o worker tenant command) (Refused refusal) h = keeps_quiet names now old new _ _ refl (λ q. refl) h.1 h.2
 keeps_event names now old new (Begin o worker tenant command) NoSuch h = keeps_quiet names now old new _ _ refl (λ q. refl) h.1 h.2
 keeps_event names now old new (Step o) Moved h =

@@ -120,7 +120,8 @@ module _ (logs : ℕ) (accounts : Accounts) where
     begun = omega arith;
     since = omega arith;
     upto = omega arith;
-    placed = λ real. record {
+    lawful = tt;
+    placed = λ real plain. record {
       changes = λ e. absurd (cc);
       looks =
           λ e. sym (ap (reply_of (quota_of (reached 3 ended) 7) get_k) (ap (tenant_map 7) content-new ∙ tenant_map-empty 7) ∙ get_absent (quota_of (reached 3 ended) 7) get_k refl);
@@ -168,7 +169,7 @@ module _ (logs : ℕ) (accounts : Accounts) where
   get_told a there = (
     alone (Some 0),
     reached 0 at_first,
-    (0, refl, record { here = refl; others = alone_other (Some 0) }, tt, begins_so, admissible a there),
+    (0, refl, record { here = refl; others = alone_other (Some 0) }, begins_so, admissible a there),
     (
       alone (Some 0),
       reached 1 searching,

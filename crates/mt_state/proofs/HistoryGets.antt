@@ -15,6 +15,7 @@ use Rattle.mt_runs.specs.Runs.{Run, Asked, story_of, last_step, Finished}
 use Rattle.mt_runs.specs.Placings.{Quotas, no_pairs, is_placed}
 use Rattle.mt_runs.specs.Right.{Right, IsAnswered}
 use Rattle.mt_runs.proofs.Steps.{owner_in}
+use Rattle.mt_state.proofs.Lawful.{get_no_scan}
 
 looks_only : (columns : List ℕ) (row : Option Columns) → is_change (told_of_row columns row) ≡ false
 looks_only columns None = refl
@@ -31,10 +32,6 @@ pub get_absent : (quota : ℕ) (command : Command) → is_get command ≡ true �
 unfolding reply_of
 get_absent quota (Get key columns) e = ap (told_of_row columns) (get-empty (slice_cmp nat_cmp) key)
 get_absent quota _ e = absurd (cc)
-
-get_no_scan : (command : Command) → is_get command ≡ true → is_scan command ≡ false
-get_no_scan (Get key columns) e = refl
-get_no_scan _ e = absurd (cc)
 
 stopped : (reply : Reply) → is_no_memory reply ≡ true → reply ≡ NoMemory
 stopped NoMemory e = refl

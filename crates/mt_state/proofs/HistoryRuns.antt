@@ -22,7 +22,7 @@ no_value e = cc
 -- what is told of an operation reads no table, and counts no answers
 told_without : (story : Story) (v : StateView) (answers : ℕ) (table : Shown) (o : ℕ) (op : OperationView) → StoryTells story v o op
     → StoryTells story (record v { answers = answers; table = table }) o op
-told_without story v answers table o op k = record { asked_so = k.asked_so; first = k.first; last = k.last; still = k.still; unfinished = k.unfinished; changes = k.changes; own = k.own; placed = k.placed; no_scan = k.no_scan }
+told_without story v answers table o op k = record { asked_so = k.asked_so; first = k.first; last = k.last; still = k.still; unfinished = k.unfinished; changes = k.changes; own = k.own; placed = k.placed }
 
 module _ (quotas : Quotas) (first : Maps) (story : Story) (names : Names) (old new : StateView) (o n : ℕ) (done : Bool) (answer : Option Answer)
     (h : History quotas first story names old) (known : names o ≡ Some (Some n)) (s : IsStep old new n done)

@@ -5,7 +5,7 @@ use Rattle.std.proofs.lemmas.Bool.{both_ways, eqb-false, eqb-true}
 use Rattle.std.proofs.lemmas.Option.{same_Some}
 use Rattle.mt_rows.specs.declared.reply.Reply.{Reply}
 use Rattle.mt_rows.specs.declared.reply.Reply.TheVariants.{New, Replaced, Removed}
-use Rattle.mt_rows.specs.Maps.{Map, reply_of, is_change, is_scan, is_no_memory}
+use Rattle.mt_rows.specs.Maps.{reply_of, is_change, is_scan, is_no_memory}
 use Rattle.mt_rows.specs.Tenants.{tenant_map}
 use Rattle.mt_runs.specs.declared.event.Answer.{Answer}
 use Rattle.mt_runs.specs.Runs.{Story, Asked, last_step, owner, with_step, IsFirst, IsLast, IsBetween}
@@ -15,7 +15,7 @@ use Rattle.mt_runs.specs.Right.{Right, IsChangeAfter, IsAnswered, IsGrowth, maps
 use Rattle.mt_runs.proofs.Steps.{owner_in, owner_stays, owner_cases, new_owner, finished_cases}
 use Rattle.mt_runs.proofs.Growth.{right_step}
 use Rattle.mt_rows.specs.declared.command.Command.{Command}
-use Rattle.mt_rows.specs.declared.command.Command.TheVariants.{Scan}
+use Rattle.mt_walks.specs.Walked.{IsWithin}
 use Rattle.mt_operation.specs.declared.phase.Phase.{Phase}
 use Rattle.mt_operation.specs.Operations.{OperationView}
 use Rattle.mt_operation.specs.Phases.{is_done, MayFollow}
@@ -26,13 +26,9 @@ use Rattle.mt_state.specs.Promises.{IsQuiet, IsPlacing, IsAnswer, IsStep}
 use Rattle.mt_state.specs.Begins.{IsAnswerOf}
 use Rattle.mt_state.specs.Histories.{StoryTells}
 use Rattle.mt_state.proofs.Granted.{quota_stays}
+use Rattle.mt_state.proofs.Lawful.{change_no_scan, lawful_change, lawful_more}
 use Rattle.mt_state.proofs.HistoryChanges.{told_change-of, told_change-is, placed_after, same_at_end, same_when_placed}
 use Rattle.mt_state.proofs.HistoryMaps.{AreMade, map_of-now, map-quiet, changed-quiet, made-quiet, map-placing, changed-placing, made-placing}
-
--- who runs no scan has no scan's answer to be right
-scan_free : (maps : ℕ → Map) (Between : ℕ → Type 0) (command : Command) (reply : Reply) → is_scan command ≡ false → IsLawfulScan maps Between command reply
-scan_free maps Between (Scan tenant from limit columns) reply e = absurd (cc)
-scan_free maps Between _ reply e = tt
 
 real_change : (reply : Reply) → is_change reply ≡ true → is_no_memory reply ≡ false
 real_change New e = refl
@@ -40,14 +36,18 @@ real_change Replaced e = refl
 real_change Removed e = refl
 real_change _ e = absurd (cc)
 
+both_not : (b d : Bool) → (not b && not d) ≡ true → (b ≡ false) × (d ≡ false)
+both_not true d e = absurd (cc)
+both_not false true e = absurd (cc)
+both_not false false e = (refl, refl)
+
 -- an answer that is placed is one that memory did not stop
 placed_real : (a : Answer) → is_placed a ≡ true → is_no_memory a.reply ≡ false
-placed_real a e = by (is_scan a.command) (is_no_memory a.reply) e
-  where
-    by : (b d : Bool) → (not b && not d) ≡ true → d ≡ false
-    by true d e = absurd (cc)
-    by false true e = absurd (cc)
-    by false false e = refl
+placed_real a e = (both_not (is_scan a.command) (is_no_memory a.reply) e).1
+
+-- and no scan's
+placed_plain : (a : Answer) → is_placed a ≡ true → is_scan a.command ≡ false
+placed_plain a e = (both_not (is_scan a.command) (is_no_memory a.reply) e).0
 
 module _ (quotas : Quotas) (first : Maps) (story : Story) (old new : StateView) (o n : ℕ) (done : Bool) (answer : Option Answer)
     (right : Right quotas first story (map_of old) (changed_at old)) (quota : (t : ℕ) → quota_of old t ≡ quotas t) (count : last_step story ≡ old.steps)
@@ -138,7 +138,7 @@ module _ (quotas : Quotas) (first : Maps) (story : Story) (old new : StateView) 
       own = new_owner story o answer (suc (last_step story)) refl;
       what = what;
       asked_so = k.asked_so;
-      not_scan = k.no_scan;
+      not_scan = change_no_scan (quota_of old s.before.tenant) s.before.command (tenant_map s.before.tenant (contents_of old)) (sym (ap is_change p.told) ∙ p.changes);
       changes =
           ap (λ w. is_change (reply_in quotas what w)) last_maps
           ∙ ap (λ q. is_change (reply_of q (s.before.command) (tenant_map s.before.tenant (contents_of old)))) (sym (quota s.before.tenant))
@@ -164,10 +164,17 @@ module _ (quotas : Quotas) (first : Maps) (story : Story) (old new : StateView) 
       let w = s.answer (s.ends ∙ ap is_done (ends a now).finished) in
       subst (IsAnswer new s.after) (same_Some w.0 _ (sym w.1 ∙ (ends a now).told)) w.2
 
-  right_placed : (a : Answer) → answer ≡ Some a → is_no_memory a.reply ≡ false → IsPlaced new s.before.tenant s.before.command a.at a.reply
-  right_placed a now real =
+  right_placed : (a : Answer) → answer ≡ Some a → is_no_memory a.reply ≡ false → is_scan s.before.command ≡ false
+      → IsPlaced new s.before.tenant s.before.command a.at a.reply
+  right_placed a now real plain =
       subst (λ t. IsPlaced new t s.before.command a.at a.reply) s.moves.asked.tenant
-      (subst (λ (c : Command). IsPlaced new s.after.tenant c a.at a.reply) s.moves.asked.command ((right_answer a now).placed real))
+      (subst (λ (c : Command). IsPlaced new s.after.tenant c a.at a.reply) s.moves.asked.command ((right_answer a now).placed real (ap is_scan s.moves.asked.command ∙ plain)))
+
+  -- a scan's is lawful
+  right_lawful : (a : Answer) → answer ≡ Some a → IsLawfulScan (map_of new s.before.tenant) (IsWithin s.after.first s.after.last) s.before.command a.reply
+  right_lawful a now =
+      subst (λ t. IsLawfulScan (map_of new t) (IsWithin s.after.first s.after.last) s.before.command a.reply) s.moves.asked.tenant
+      (subst (λ (c : Command). IsLawfulScan (map_of new s.after.tenant) (IsWithin s.after.first s.after.last) c a.reply) s.moves.asked.command (right_answer a now).lawful)
 
   -- an answer to the change that the operation made
   told_of_change : (m : ℕ) (a : Answer) → suc m ≤ last_step story → change_in s.before ≡ Some (suc m) → answer ≡ Some a
@@ -177,7 +184,8 @@ module _ (quotas : Quotas) (first : Maps) (story : Story) (old new : StateView) 
     | inl q ↦
         let end = ends a now in
         let both = told_change-is a.reply a.at (suc m) (sym (ap told_change end.told) ∙ q.change ∙ was) in
-        let placed = right_placed a now (real_change a.reply both.0) in (
+        let plain = lawful_change (map_of new s.before.tenant) (IsWithin s.after.first s.after.last) s.before.command a.reply (right_lawful a now) both.0 in
+        let placed = right_placed a now (real_change a.reply both.0) plain in (
           end.command ∙ s.moves.asked.command,
           (placed.changes both.0).1 ∙ ap (λ q. reply_of q (s.before.command) (map_of new s.before.tenant (a.at - 1))) quota_now
               ∙ ap (λ n. reply_of (quotas s.before.tenant) (s.before.command) (map_of new s.before.tenant n)) (omega (arith, both.1))
@@ -191,6 +199,7 @@ module _ (quotas : Quotas) (first : Maps) (story : Story) (old new : StateView) 
   answered a now =
       let end = ends a now in
       let ans = right_answer a now in
+      let plain : is_placed a ≡ true → is_scan s.before.command ≡ false = λ placed. ap is_scan (sym (end.command ∙ s.moves.asked.command)) ∙ placed_plain a placed in
       record {
         what = what;
         asked_so = k.asked_so;
@@ -200,9 +209,9 @@ module _ (quotas : Quotas) (first : Maps) (story : Story) (old new : StateView) 
         since = λ placed. (s.after.first, ans.since, first_number.0);
         upto = λ placed. (old.steps + 1, subst (λ n. a.at ≤ n) s.moves.last ans.upto, new_owner story o answer (old.steps + 1) (sym next));
         looked =
-            λ placed look. (right_placed a now (placed_real a placed)).looks look ∙ ap (λ q. reply_of q (s.before.command) (map_of new s.before.tenant a.at)) quota_now;
+            λ placed look. (right_placed a now (placed_real a placed) (plain placed)).looks look ∙ ap (λ q. reply_of q (s.before.command) (map_of new s.before.tenant a.at)) quota_now;
         changed_so = λ placed is. (
-          ((right_placed a now (placed_real a placed)).changes is).0,
+          ((right_placed a now (placed_real a placed) (plain placed)).changes is).0,
           elim s.effect [
             | inr p ↦ absurd (placing_goes_on a now p)
             | inl q ↦ owner_stays story o answer a.at o (k.own a.at (sym q.change ∙ ap told_change end.told ∙ told_change-of a.reply a.at is))
@@ -232,7 +241,12 @@ module _ (quotas : Quotas) (first : Maps) (story : Story) (old new : StateView) 
     answered = answered;
     scanned = λ a w now asked_w.
         let one : what ≡ w = same_Some what w (sym k.asked_so ∙ asked_w) in
-        subst (λ (x : Asked). IsLawfulScan (map_of new x.tenant) (IsBetween (with_step story o answer) o) x.command a.reply) one (scan_free _ _ s.before.command a.reply k.no_scan);
+        subst (λ (x : Asked). IsLawfulScan (map_of new x.tenant) (IsBetween (with_step story o answer) o) x.command a.reply) one
+        (lawful_more (map_of new s.before.tenant) (IsWithin s.after.first s.after.last) (IsBetween (with_step story o answer) o)
+        (λ m within. (
+          (s.after.first, within.0, first_number.0),
+          (old.steps + 1, subst (λ n. m ≤ n) s.moves.last within.1, new_owner story o answer (old.steps + 1) (sym next)),
+        )) s.before.command a.reply (right_lawful a now));
   }
 
   -- the story with this step is right
@@ -243,7 +257,6 @@ module _ (quotas : Quotas) (first : Maps) (story : Story) (old new : StateView) 
   pub own_told : ((a : Answer) → answer ≡ Some a → ⊥) → StoryTells (with_step story o answer) new o s.after
   own_told goes_on = record {
     asked_so = k.asked_so ∙ same_asked;
-    no_scan = ap is_scan s.moves.asked.command ∙ k.no_scan;
     first = λ lt. first_number;
     last = λ lt. subst (IsLast (with_step story o answer) o) (sym s.moves.last) last_number;
     still = λ none. let inside = owner_in (with_step story o answer) s.after.first o first_number.0 in absurd (omega (arith, inside.0, none));
@@ -281,7 +294,6 @@ module _ (quotas : Quotas) (first : Maps) (story : Story) (old new : StateView) 
   pub other_told : (q : ℕ) (op : OperationView) → q ≢ o → StoryTells story old q op → StoryTells (with_step story o answer) new q op
   other_told q op other h = record {
     asked_so = h.asked_so;
-    no_scan = h.no_scan;
     placed = h.placed;
     first = λ lt. (owner_stays story o answer op.first q (h.first lt).0, λ m own. (h.first lt).1 m (before m own));
     last = λ lt. (owner_stays story o answer op.last q (h.last lt).0, λ m own. (h.last lt).1 m (before m own));

@@ -29,7 +29,7 @@ use Rattle.mt_layer.specs.NewLayers.{KeepsStamps, entry_below, walk_at}
 use Rattle.mt_layer.specs.Builds.{IsLayerFrom, KeepsLayer}
 use Rattle.mt_state.specs.Promises.{HoldsEither, Touches}
 use Rattle.mt_state.specs.Invariant.{IsCountedUpTo, DeletedAreEmpty}
-use Rattle.mt_state.specs.Phases.{LeadsTo}
+use Rattle.mt_state.specs.Phases.{ScanStep, LeadsTo}
 use Rattle.mt_state.specs.Growth.{MakesFew}
 use Rattle.mt_state.proofs.Growing.{makes_same, makes_set}
 use Rattle.mt_state.proofs.Climbing.{each_set, pushed_at}
@@ -182,12 +182,12 @@ layer_goes MarkLayer i o key old new before after b = at_phase before after Unlo
 layer_goes _ i o key old new before after b = absurd i
 
 pub layer_leads : (p : Phase) → IsLayerPhase p → (o : ℕ) (key : Bytes) (old new : ArenaView) (before after : Walk) → IsLayerFrom p o key old new before after
-    → (step : ℕ) (told : Option Outcome) (s : SplitsView) (rem : Removal) → LeadsTo p old new o step key told s rem before after
-layer_leads MakeLayer i o key old new before after b step told s rem = inl b.walk
-layer_leads MarkUnstable i o key old new before after b step told s rem = b.walk
-layer_leads Link i o key old new before after b step told s rem = b.walk
-layer_leads MarkLayer i o key old new before after b step told s rem = b.walk
-layer_leads _ i o key old new before after b step told s rem = absurd i
+    → (step : ℕ) (told : Option Outcome) (s : SplitsView) (rem : Removal) (g : ScanStep) → LeadsTo p old new o step key told s rem g before after
+layer_leads MakeLayer i o key old new before after b step told s rem g = inl b.walk
+layer_leads MarkUnstable i o key old new before after b step told s rem g = b.walk
+layer_leads Link i o key old new before after b step told s rem g = b.walk
+layer_leads MarkLayer i o key old new before after b step told s rem g = b.walk
+layer_leads _ i o key old new before after b step told s rem g = absurd i
 
 -- what is kept then
 kept_next : (p : Phase) → IsLayerPhase p → (o : ℕ) (key : Bytes) (old new : ArenaView) (before after : Walk) → KeptLayer p old o key before

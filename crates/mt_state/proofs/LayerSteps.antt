@@ -30,7 +30,7 @@ use Rattle.mt_descent.specs.KeptWalks.{IsAtEnter, KeptAt}
 use Rattle.mt_insert.specs.KeptPuts.{IsAtMakeLayer, HoldsOnly}
 use Rattle.mt_layer.specs.KeptLayers.{KeptLayer}
 use Rattle.mt_layer.specs.NewLayers.{HasStamp}
-use Rattle.mt_state.specs.Views.{StateView, Core, shown, past_of}
+use Rattle.mt_state.specs.Views.{StateView, Core, shown, past_of, map_of}
 use Rattle.mt_state.specs.Steps.{told_change}
 use Rattle.mt_state.specs.Notes.{Notes, Keeps}
 use Rattle.mt_state.specs.Promises.{Touches}
@@ -49,6 +49,8 @@ use Rattle.mt_layer.specs.Builds.{IsLayerFrom, IsLeave}
 use Rattle.mt_state.proofs.LayerNodes.{BuildsLayer, builds_by}
 use Rattle.mt_operation.specs.Phases as kinds
 use Rattle.mt_state.proofs.Bound.{bound_on}
+use Rattle.mt_state.proofs.Lawful.{stopped_free}
+use Rattle.mt_walks.specs.Walked.{IsWithin}
 
 -- a phase at which an operation makes a layer, or has made it
 abbrev HasLayerBy : Kind → Type 0
@@ -324,7 +326,8 @@ module _ (c : Core) (o : ℕ) (h : StateInvariant c) (few : c.steps < 2 ^ 59) (o
             begun = first_begun c op always w;
             since = first_upto c op always w;
             upto = omega arith;
-            placed = λ real. absurd (cc);
+            placed = λ real plain. absurd (cc);
+            lawful = stopped_free (map_of (shown (quiet c arena c.tape.reserved o after)) op.task.tenant) (IsWithin after.walk.first after.last) (ask op.task);
           };
           unprepared = making.unprepared;
         } in
@@ -417,7 +420,8 @@ module _ (c : Core) (o : ℕ) (h : StateInvariant c) (few : c.steps < 2 ^ 59) (o
         (record {
           there = there;
           unfinished = layer_open op.walk.phase layer;
-          task = refl;
+          asked = refl;
+          scan = inl (refl, refl);
           table = refl;
           number = refl;
           answers = refl;

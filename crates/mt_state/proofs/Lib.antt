@@ -1,5 +1,7 @@
 pub mod Shown
 pub mod Granted
+pub mod Lawful
+pub mod ScanKept
 pub mod Rely
 pub mod Answered
 pub mod Growing
@@ -17,6 +19,10 @@ pub mod Descents
 pub mod Reading
 pub mod Confirming
 pub mod LiveTrees
+pub mod Scanning
+pub mod ScanLooks
+pub mod ScanNeeds
+pub mod ScanChecks
 pub mod Loading
 pub mod HistoryMaps
 pub mod HistoryStart

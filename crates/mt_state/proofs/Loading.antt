@@ -52,7 +52,7 @@ use Rattle.mt_operation.specs.Tables.{op_at as operation_at}
 use Rattle.mt_descent.specs.Pasts.{Past, AreStamped}
 use Rattle.mt_descent.specs.KeptWalks.{IsInSlot, IsAtLoad as WalksLoad, KeptAt, IsKept}
 use Rattle.mt_descent.specs.WalkMoves.{Continues, Loads, TakesOut}
-use Rattle.mt_state.specs.Views.{StateView, Core, shown, past_of}
+use Rattle.mt_state.specs.Views.{StateView, Core, shown, past_of, map_of}
 use Rattle.mt_state.specs.Steps.{told_change}
 use Rattle.mt_state.specs.Notes.{Notes, Says, columns_asked, ShowsRow, ShowsNone}
 use Rattle.mt_state.specs.Ways.{ShowsTaken}
@@ -66,6 +66,8 @@ use Rattle.mt_state.proofs.Still.{IsFree, IsUnready, still, still_gives}
 use Rattle.mt_state.proofs.Reading.{key_of_owner, walk_same}
 use Rattle.mt_state.proofs.Confirming.{get_of}
 use Rattle.mt_state.proofs.Bound.{get_untold}
+use Rattle.mt_state.proofs.Lawful.{get_no_scan, stopped_free}
+use Rattle.mt_walks.specs.Walked.{IsWithin}
 
 -- the pairs of live nodes of live trees count
 counts_live : (deleted : Bool) (s : Standing) → deleted ≡ false → s ≡ Live → cond deleted false (is_live s) ≡ true
@@ -127,8 +129,11 @@ module _ (c : Core) (now : StateView) (o : ℕ) (is : shown c ≡ now) (h : Stat
   load_untold : op.outcome ≡ None
   load_untold = get_untold op.outcome c op gets loading.way.bound
 
+  owned_is : owned op.task.key ≡ (op.task.tenant, key_of (ask op.task))
+  owned_is = always.owner (get_no_scan (ask op.task) gets)
+
   key_asked_is : op.task.key ≡ stored_key op.task.tenant (key_of (ask op.task))
-  key_asked_is = key_of_owner op.task.key op.task.tenant (key_of (ask op.task)) always.stored always.owner
+  key_asked_is = key_of_owner op.task.key op.task.tenant (key_of (ask op.task)) always.stored owned_is
 
   walks_load : WalksLoad c.arena op.task.key op.walk
   walks_load = subst (λ (p : Phase). KeptAt p c.arena (past_of c) op.task.key None op.walk) at_load loading.way.kept
@@ -143,7 +148,7 @@ module _ (c : Core) (now : StateView) (o : ℕ) (is : shown c ≡ now) (h : Stat
       let own : HasAnswer new after = record {
         outcome = record { reply = NoMemory; at = c.steps + 1 };
         told = refl;
-        right = record { begun = first_begun c op always w; since = first_upto c op always w; upto = omega arith; placed = λ real. absurd (cc) };
+        right = record { begun = first_begun c op always w; since = first_upto c op always w; upto = omega arith; placed = λ real plain. absurd (cc); lawful = stopped_free (map_of (shown new) op.task.tenant) (IsWithin after.walk.first after.last) (ask op.task) };
         unprepared = loading.way.unprepared;
       } in
       still_gives c now o is h room op there load_free w told
@@ -230,7 +235,7 @@ module _ (c : Core) (now : StateView) (o : ℕ) (is : shown c ≡ now) (h : Stat
           own = λ last.
               sym (owned_at (tree_of c.arena op.walk.place.node).prefix s.1 (slot_at node op.walk.slot) s.0 pair s.2.has held)
               ∙ owned_at (tree_of c.arena op.walk.place.node).prefix op.walk.layer (slot_at node op.walk.slot) op.task.key pair (own_key pair in_range held last) held
-              ∙ always.owner;
+              ∙ owned_is;
         }
 
     -- and of none: a link for the key, or somebody made a step since

@@ -1,7 +1,7 @@
 -- The steps of a put that change no pair: it locks its border node, judges it, finds its quota full, and gives the lock back.
 use Rattle.std.proofs.Common.{◌≡◌, ◌≢◌, ℕ, zero, suc, ◌+◌, ◌-◌, ◌<◌, ◌≤◌, inl, inr, Bool, true, false, cond, eqb, List, [], ◌∷◌, length, Option, Some, None, refl, sym, ap, subst, ◌∙◌, arith}
 use Rattle.std.specs.Prelude.{◌^◌}
-use Rattle.std.proofs.lemmas.Bool.{cases_lt, both_ways}
+use Rattle.std.proofs.lemmas.Bool.{cases_lt}
 use Rattle.std.specs.FinMap.{get, len}
 use Rattle.mt_version.specs.Changes.{CanUnlock}
 use Rattle.mt_rows.specs.declared.reply.Reply.TheVariants.{NoMemory, Full}
@@ -36,7 +36,7 @@ use Rattle.mt_insert.specs.Placing.{released, reserving}
 use Rattle.mt_insert.specs.Judge.{after_judge, IsMadeReady}
 use Rattle.mt_insert.specs.Unlock.{IsUnlock}
 use Rattle.mt_insert.proofs.Looks.{held_here}
-use Rattle.mt_state.specs.Views.{StateView, Core, shown, past_of, quota_of, quota_in}
+use Rattle.mt_state.specs.Views.{StateView, Core, shown, past_of, quota_of, quota_in, map_of}
 use Rattle.mt_state.specs.Steps.{told_change}
 use Rattle.mt_state.specs.Notes.{Notes, EndsJudging}
 use Rattle.mt_state.specs.Promises.{IsAnswer, Touches}
@@ -55,6 +55,8 @@ use Rattle.mt_state.proofs.OneNode.{stepped, returning_told, can_unlock, counted
 use Rattle.mt_insert.specs.Publish.{IsPublishFull}
 use Rattle.mt_state.proofs.Bound.{bound_on, put_no_remove}
 use Rattle.mt_remove.specs.Writes.{is_remove}
+use Rattle.mt_state.proofs.Lawful.{lawful_more, stopped_free, scan_free, put_no_scan}
+use Rattle.mt_walks.specs.Walked.{IsWithin}
 
 -- an operation that has all ready for its write counts once
 pub ready_one : (op : Operation) (p : Phase) → op.walk.phase ≡ p → is_prepared p ≡ true → one_if_prepared (Some op) ≡ 1
@@ -226,6 +228,8 @@ module _ (c : Core) (now : StateView) (o : ℕ) (is : shown c ≡ now) (h : Stat
             since = omega (arith, first, stays.since);
             upto = omega (arith, stays.upto, always.made);
             placed = stays.placed;
+            lawful = lawful_more (map_of (shown new) op.task.tenant) (IsWithin op.walk.first op.last) (IsWithin after.walk.first after.last)
+                (λ m between. (let since = between.0 in omega (arith, first, since), let upto = between.1 in omega (arith, upto, always.made))) (ask op.task) answer.outcome.reply stays.lawful;
           };
           unprepared = answer.unprepared;
         } in
@@ -362,7 +366,8 @@ module _ (c : Core) (now : StateView) (o : ℕ) (is : shown c ≡ now) (h : Stat
             begun = first_begun c op always w;
             since = first_upto c op always w;
             upto = omega arith;
-            placed = λ real. absurd (cc);
+            placed = λ real plain. absurd (cc);
+            lawful = stopped_free (map_of (shown new) op.task.tenant) (IsWithin after.walk.first after.last) (ask op.task);
           };
           unprepared = judging.unprepared;
         } in
@@ -425,7 +430,8 @@ module _ (c : Core) (now : StateView) (o : ℕ) (is : shown c ≡ now) (h : Stat
               begun = first_begun c op always w;
               since = first_upto c op always w;
               upto = omega arith;
-              placed = λ real. record {
+              lawful = scan_free (map_of (shown new) op.task.tenant) (IsWithin after.walk.first after.last) (ask op.task) Full (put_no_scan (ask op.task) put.put_is);
+              placed = λ real plain. record {
                 changes = λ e. absurd (cc);
                 looks =
                     λ e. is_full ∙ ap (reply_of (quota_of (shown c) op.task.tenant) (ask op.task)) (sym (map_now c h.tape op.task.tenant (c.steps + 1) (omega arith)));

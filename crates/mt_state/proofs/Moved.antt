@@ -62,11 +62,11 @@ module _ (c : Core) (op : Operation) (k : IsOpenOperation c op) (w : Walk) where
       → w.aim ≡ op.walk.aim → IsOfKind w.phase w.aim → IsOpenOperation new (went_on op (c.steps + 1) w told prepared s r)
   open_moved_on new told prepared s r light steps floor accounts upto aim kind = record {
     stored = k.stored;
+    tenant_is = k.tenant_is;
     owner = k.owner;
     columns = k.columns;
     tenant = accounts op.task.tenant k.tenant;
     aim = aim ∙ k.aim;
-    no_scan = k.no_scan;
     kind = kind;
     order = first_upto;
     made = omega (arith, steps);
@@ -76,6 +76,7 @@ module _ (c : Core) (op : Operation) (k : IsOpenOperation c op) (w : Walk) where
     ];
     begun = λ other. first_begun;
     short = k.short;
+    counts = k.counts;
     light = light;
   }
 

@@ -1,15 +1,23 @@
 -- A step of one operation: what it has to bring, and that the invariant stays: for all phases.
-use Rattle.std.proofs.Common.{◌≡◌, ◌≢◌, ℕ, zero, suc, ◌+◌, ◌<◌, ◌≤◌, ◌⊎◌, inl, inr, [], ◌∷◌, set, Some, sym, ap, subst, ◌∙◌, arith}
+use Rattle.std.proofs.Common.{false, ◌≡◌, ◌≢◌, ℕ, zero, suc, ◌+◌, ◌<◌, ◌≤◌, ◌⊎◌, inl, inr, [], ◌∷◌, set, Some, sym, ap, subst, ◌∙◌, arith}
 use Rattle.std.specs.Prelude.{◌^◌}
 use Rattle.std.proofs.lemmas.Bool.{cases_eq}
+use Rattle.mt_operation.specs.declared.task.Task.{Task}
+use Rattle.mt_operation.specs.declared.scan.Scan.{Scan}
 use Rattle.mt_operation.specs.declared.operation.Operation.{Operation}
+use Rattle.mt_operation.specs.Operations.{scan_of}
+use Rattle.mt_operation.specs.Tasks.{ask}
+use Rattle.mt_operation.specs.Phases.{is_done}
 use Rattle.mt_operation.specs.Tables.{Table, op_at as operation_at}
 use Rattle.mt_operation.proofs.Tables.{set_is, set_here, set_there}
-use Rattle.mt_state.specs.Views.{Core, shown}
-use Rattle.mt_state.specs.KeptOperations.{IsKeptOf}
-use Rattle.mt_state.specs.Invariant.{AreHolders, StateInvariant, one_if_prepared, prepared_count, made_count}
+use Rattle.mt_descent.specs.Pasts.{ExtendsPast}
+use Rattle.mt_state.specs.Views.{Core, shown, past_of}
+use Rattle.mt_state.specs.KeptOperations.{HasScannedFor, KeepsScan, IsScanKept, IsKeptOf}
+use Rattle.mt_state.specs.Invariant.{AreHolders, AreScansKept, StateInvariant, one_if_prepared, prepared_count, made_count}
 use Rattle.mt_state.specs.Moves.{IsMove, IsTold}
 use Rattle.mt_state.proofs.Rely as rely
+use Rattle.mt_state.proofs.ScanKept.{scanned_for_stays, fresh_scan}
+use Rattle.mt_state.proofs.Moved.{first_is}
 use Rattle.mt_state.proofs.Shown.{shown_table}
 use Rattle.mt_state.proofs.Answered.{made_set}
 use Rattle.mt_state.proofs.Writing.{quotas_stay, written_stays}
@@ -47,6 +55,35 @@ module _ (old new : Core) (o : ℕ) (before after : Operation) (h : StateInvaria
     | inr (other, there) ↦ rely.stays old new o q arena m.leaves other (omega (arith, m.number)) op (h.ops q op there)
   ]
 
+  -- what its scan has done: that was kept, or it hadn't begun; or the step brings it
+  own_scan : is_done after.walk.phase ≡ false → KeepsScan new after
+  own_scan unfinished = elim m.scan [
+    | inr brings ↦ brings unfinished
+    | inl (task, scan) ↦
+        let s = h.scans o before m.there in
+        let past : (first : ℕ) → ExtendsPast first (past_of old) (past_of new) =
+        λ first. record { steps = m.leaves.past.steps; same = λ n from upto. m.leaves.past.same n (omega arith) upto } in
+        let kept : HasScannedFor (ask before.task) (past_of new) after.walk.first (scan_of before.task before.scan) = elim (first_is before.walk.first (old.steps + 1)) [
+          | inl (none, is) ↦ fresh_scan old before (h.ops o before m.there).always (s.fresh none) (past_of new) after.walk.first
+          | inr (some, is) ↦ subst (λ first. HasScannedFor (ask before.task) (past_of new) first (scan_of before.task before.scan)) (sym (t.moves.first ∙ is))
+              (scanned_for_stays (past_of old) (past_of new) before.walk.first (past before.walk.first) (ask before.task) (scan_of before.task before.scan) (s.walked some m.unfinished))
+        ] in
+        subst (λ (x : Task). HasScannedFor (ask x) (past_of new) after.walk.first (scan_of x after.scan)) (sym task)
+        (subst (λ (g : Scan). HasScannedFor (ask before.task) (past_of new) after.walk.first (scan_of before.task g)) (sym scan) kept)
+  ]
+
+  begun_now : 0 < after.walk.first
+  begun_now = elim (first_is before.walk.first (old.steps + 1)) [
+    | inl (none, is) ↦ let first = t.moves.first in omega (arith, first, is)
+    | inr (some, is) ↦ let first = t.moves.first in omega (arith, first, is, some)
+  ]
+
+  scans_stay : AreScansKept new
+  scans_stay q op is = elim (was q op is) [
+    | inl (same, it) ↦ subst (IsScanKept new) it (record { fresh = λ none. absurd (omega (arith, begun_now, none)); walked = λ begun unfinished. own_scan unfinished })
+    | inr (other, there) ↦ rely.scan_stays old new o q arena m.leaves other (omega (arith, m.number)) op (h.scans q op there)
+  ]
+
   holders_stay : AreHolders new
   holders_stay k q within is = elim (cases_eq q o) [
     | inl same ↦ (after, ap (operation_at new.table) same ∙ here_now, m.held k within (is ∙ ap Some same))
@@ -75,6 +112,7 @@ module _ (old new : Core) (o : ℕ) (before after : Operation) (h : StateInvaria
     holders = holders_stay;
     counts = m.counts;
     ops = ops_stay;
+    scans = scans_stay;
     reserved = reserved_stays;
     answered = answered_stays;
     deleted = m.deleted;

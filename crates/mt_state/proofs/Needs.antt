@@ -13,7 +13,7 @@ use Rattle.mt_operation.specs.declared.prepared.Prepared.{Prepared}
 use Rattle.mt_operation.specs.declared.splits.Halves.{Halves}
 use Rattle.mt_operation.specs.declared.operation.Operation.{Operation}
 use Rattle.mt_operation.specs.Tasks.{ask, command_of}
-use Rattle.mt_operation.specs.Operations.{view_of, splits_of}
+use Rattle.mt_operation.specs.Operations.{view_of, splits_of, scan_of}
 use Rattle.mt_operation.specs.Phases.{is_done, IsOfKind, IsLayerPhase, is_prepared, IsLayerKind, Kind, row, IsRemovalPhase}
 use Rattle.mt_operation.specs.Tables.{op_at as operation_at}
 use Rattle.mt_descent.specs.KeptWalks.{IsAtBorder, KeptAt, HoldsNothing}
@@ -48,6 +48,7 @@ use Rattle.mt_remove.specs.KeptRemovals.{IsAtDropKey, IsUnburdened, KeptRemoval,
 use Rattle.mt_state.proofs.Loading.{row_of}
 use Rattle.mt_state.proofs.RemovalSteps.{unlinking_of, removal_holds}
 use Rattle.mt_state.proofs.RemovalLooks.{going_back}
+use Rattle.mt_state.proofs.Lawful.{put_no_scan, remove_no_scan}
 
 -- a phase in which an operation has all ready for a put
 abbrev IsOfPutKind : Kind → Type 0
@@ -108,7 +109,7 @@ module _ (c : Core) (o : ℕ) (h : StateInvariant c) (op : Operation) (there : o
   pub put_at : (p : Phase) → op.walk.phase ≡ p → IsOfPut p → IsPut op.task
   put_at p at_p of_put = record {
     put_is = kept_put (row p).kind p of_put c o op (subst (λ (q : Phase). IsKeptAt q c o op) at_p (h.ops o op there).kept);
-    owner = always.owner;
+    owner = always.owner (put_no_scan (ask op.task) (kept_put (row p).kind p of_put c o op (subst (λ (q : Phase). IsKeptAt q c o op) at_p (h.ops o op there).kept)));
   }
 
   -- the next step is later than all writes
@@ -137,7 +138,7 @@ module _ (c : Core) (o : ℕ) (h : StateInvariant c) (op : Operation) (there : o
         unfinished = (view_of f.0, shown_there c.table holder f.0 f.1, holder_open f.0.walk.phase f.0 op.walk.place.node f.2);
         op = view_of op;
         there = shown_there c.table o op there;
-        holds = subst (λ (p : Phase). IsInTheWay c.arena p op.walk (splits_of op.splits) op.removal holder) (sym at_lock) (op.walk.place.node, refl, within, held);
+        holds = subst (λ (p : Phase). IsInTheWay c.arena p op.walk (splits_of op.splits) op.removal (scan_of op.task op.scan) holder) (sym at_lock) (op.walk.place.node, refl, within, held);
       }
 
   -- it holds its border node
@@ -194,7 +195,7 @@ module _ (c : Core) (o : ℕ) (h : StateInvariant c) (op : Operation) (there : o
 
   -- what an operation that removes asks
   pub removal_of : is_remove (ask op.task) ≡ true → IsRemoval op.task
-  removal_of removes = record { is = request_removes op.task.request removes; owner = always.owner }
+  removal_of removes = record { is = request_removes op.task.request removes; owner = always.owner (remove_no_scan (ask op.task) removes) }
 
   -- what it has made ready is the removal of its key's row
   dropping : op.walk.phase ≡ DropKey → IsDropping c o op
@@ -225,7 +226,7 @@ module _ (c : Core) (o : ℕ) (h : StateInvariant c) (op : Operation) (there : o
       row : get (tenant_map op.task.tenant (content_of c.arena)) (key_of (ask op.task)) ≡ Some k.drops.pair.row
       row =
           let may = may_store c.arena o op.task.key op.walk arena k.drops.holds op.walk.slot k.drops.pair k.drops.in_slot k.drops.stable in
-          get-tenant_map op.task.tenant (content_of c.arena) (key_of (ask op.task)) ∙ ap (get (content_of c.arena)) (sym always.owner)
+          get-tenant_map op.task.tenant (content_of c.arena) (key_of (ask op.task)) ∙ ap (get (content_of c.arena)) (sym (always.owner (remove_no_scan (ask op.task) k.removes)))
           ∙ row_of c h arena op.task.key (layer_of (tree_of c.arena op.walk.place.node).prefix) op.walk.place.node op.walk.slot k.drops.pair may.stands
 
       by : (account : Option Account) → account_of c.accounts op.task.tenant ≡ account → IsSome account → HasPairs account

@@ -259,7 +259,8 @@ module _ (c : Core) (now : StateView) (o : ℕ) (is : shown c ≡ now) (h : Stat
       (quiet_move c o op after arena reserved h leaves (record {
         there = there;
         unfinished = unfinished;
-        task = refl;
+        asked = refl;
+        scan = inl (refl, refl);
         held = held;
         kept = own;
         reserved = reserves;

@@ -65,6 +65,8 @@ use Rattle.mt_state.proofs.Placing.{Counts, next_write, placed, PlacesPair, unto
 use Rattle.mt_state.proofs.Putting.{stamped_apart, room_left, beside_missing, counted_new}
 use Rattle.mt_state.proofs.Bound.{put_no_remove}
 use Rattle.mt_state.proofs.SplitSteps.{HasHalves, halves_kind, halves_open, halves_unready, halves_split, halves_held, halves_kept}
+use Rattle.mt_state.proofs.Lawful.{scan_free, put_no_scan}
+use Rattle.mt_walks.specs.Walked.{IsWithin}
 
 -- once the keys are parted the halves are there, and the quota was judged
 parting_leads : (next : Option ℕ) → HasHalves (after_parting next)
@@ -261,7 +263,8 @@ module _ (c : Core) (o : ℕ) (h : StateInvariant c) (few : c.steps < 2 ^ 59) (o
             begun = first_begun c op always w;
             since = first_upto c op always w;
             upto = omega arith;
-            placed = λ real. record {
+            lawful = scan_free (map_of (shown new_full) op.task.tenant) (IsWithin after_full.walk.first after_full.last) (ask op.task) Full (put_no_scan (ask op.task) put.put_is);
+            placed = λ real plain. record {
               changes = λ e. absurd (cc);
               looks = λ e. is_full ∙ ap (reply_of (quota_of (shown c) op.task.tenant) (ask op.task)) (sym map_is);
             };
@@ -281,7 +284,8 @@ module _ (c : Core) (o : ℕ) (h : StateInvariant c) (few : c.steps < 2 ^ 59) (o
     move_full = record {
       there = at_op;
       unfinished = ap is_done at_move;
-      task = refl;
+      asked = refl;
+      scan = inl (refl, refl);
       table = refl;
       number = refl;
       answers = refl;
@@ -396,6 +400,7 @@ module _ (c : Core) (o : ℕ) (h : StateInvariant c) (few : c.steps < 2 ^ 59) (o
           there = at_op;
           unfinished = ap is_done at_move;
           task = refl;
+          scan = refl;
           held = λ k inside holds. halves_held w.phase leads after_new k some (p.holds held_alone k inside holds);
           kept = own;
           reserved =

@@ -1,5 +1,5 @@
 -- A step that places a change: what it leaves to others, and that the invariant stays: for Store, Publish, SplitMove and DropKey.
-use Rattle.std.proofs.Common.{◌≡◌, ◌≢◌, ℕ, ◌+◌, ◌-◌, ◌<◌, ◌≤◌, Bool, true, false, cond, eqb, [], ◌∷◌, ◌++◌, length, set, Some, IsSome, refl, sym, ap, subst, ◌∙◌, arith}
+use Rattle.std.proofs.Common.{◌≡◌, ◌≢◌, ℕ, ◌+◌, ◌-◌, ◌<◌, ◌≤◌, Bool, true, false, cond, eqb, [], ◌∷◌, ◌++◌, length, set, Some, IsSome, refl, sym, ap, subst, ◌∙◌, arith, inl}
 use Rattle.std.specs.FinMap.{get, len, insert}
 use Rattle.std.proofs.lemmas.Bool.{both_ways, eq-eqb, eqb-true}
 use Rattle.std.proofs.lemmas.List.{length-drop}
@@ -8,7 +8,7 @@ use Rattle.mt_rows.specs.declared.reply.Reply.{Reply}
 use Rattle.mt_rows.specs.declared.tenants.Account.{Account}
 use Rattle.mt_rows.specs.Rows.{Bytes, Columns}
 use Rattle.mt_rows.specs.Commands.{key_of, IsKey}
-use Rattle.mt_rows.specs.Maps.{reply_of, map_after, is_change}
+use Rattle.mt_rows.specs.Maps.{reply_of, map_after, is_change, is_scan}
 use Rattle.mt_rows.specs.Accounts.{Accounts, account_of}
 use Rattle.mt_rows.specs.Tenants.{Contents, tenant_map}
 use Rattle.mt_border.specs.Contents.{owned}
@@ -32,6 +32,8 @@ use Rattle.mt_state.specs.Promises.{IsPlacing, IsAnswer}
 use Rattle.mt_state.specs.KeptOperations.{IsKeptOf, IsPlacedOnce}
 use Rattle.mt_state.specs.Invariant.{IsStampOf, IsTape, AreStamps, IsCountedUpTo, HoldsAt, DeletedAreEmpty, StateInvariant, StateGuarantee, one_if_prepared}
 use Rattle.mt_state.specs.Moves.{IsMove}
+use Rattle.mt_walks.specs.Walked.{IsWithin}
+use Rattle.mt_state.proofs.Lawful.{scan_free, change_no_scan}
 use Rattle.mt_state.proofs.Telling.{logs_later, map_now}
 use Rattle.mt_state.proofs.Granted.{quota_same}
 use Rattle.mt_state.specs.Written.{row_left}
@@ -82,9 +84,14 @@ pub record IsPlacer (c new : Core) (o : ℕ) (before after : Operation) : Type 0
   pub there : operation_at c.table o ≡ Some before
   pub unfinished : is_done before.walk.phase ≡ false
   pub task : after.task ≡ before.task
+  pub scan : after.scan ≡ before.scan
   pub held : (k : ℕ) → k < length new.arena.nodes → (at new.arena k).holder ≡ Some o → HoldsAt after.walk.phase after k
   pub kept : IsKeptOf new o after
   pub reserved : c.tape.reserved - 1 + one_if_prepared (Some before) ≡ c.tape.reserved + one_if_prepared (Some after)
+
+-- a task that is the same is asked the same
+same_asked : (t u : Task) → t ≡ u → t ≡ record u { key = t.key }
+same_asked t u same = ap (λ (x : Task). record x { key = t.key }) same
 
 -- the write of a step that places a change, and the tape with it
 module _ (c : Core) (before : Operation) (h : StateInvariant c) (write : Write) (is : IsWriteOf c before write) where
@@ -159,7 +166,8 @@ module _ (c : Core) (o : ℕ) (before after : Operation) (arena : ArenaView) (ac
   wrote_move own = record {
     there = own.there;
     unfinished = own.unfinished;
-    task = own.task;
+    asked = same_asked after.task before.task own.task;
+    scan = inl (own.task, own.scan);
     table = refl;
     number = refl;
     answers = refl;
@@ -192,7 +200,10 @@ module _ (c : Core) (o : ℕ) (before after : Operation) (arena : ArenaView) (ac
       begun = begun;
       since = since;
       upto = omega (arith, last);
-      placed = λ real. record {
+      lawful = scan_free (map_of (shown new) after.task.tenant) (IsWithin after.walk.first after.last) (ask after.task) reply
+          (ap (λ (t : Task). is_scan (ask t)) task
+          ∙ change_no_scan (quota_of (shown c) before.task.tenant) (ask before.task) (tenant_map before.task.tenant (content_of c.arena)) (sym (ap is_change told) ∙ changes));
+      placed = λ real plain. record {
         changes = λ e. (
           ap (is_changed (c.tape.entries ++ wrote ∷ [])) (sym is.step) ∙ is_changed-push c.tape.entries wrote,
           told

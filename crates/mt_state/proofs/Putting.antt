@@ -294,6 +294,7 @@ module _ (c : Core) (now : StateView) (o : ℕ) (is : shown c ≡ now) (h : Stat
             there = there;
             unfinished = ap is_done at_p ∙ left;
             task = refl;
+            scan = refl;
             held = λ j inside holds. subst (λ (q : Phase). HoldsAt q the_after j) (sym ends)
                 (subst (λ (halves : List Halves). HoldsLast halves the_after j) (sym unsplit.halves) (inl (elim (replaced_holds c.arena k within y o j inside holds) [
                   | inl same ↦ same.0 ∙ sym place

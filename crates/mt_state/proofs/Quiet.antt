@@ -19,7 +19,7 @@ use Rattle.mt_state.specs.Steps.{change_in}
 use Rattle.mt_state.specs.Promises.{IsQuiet}
 use Rattle.mt_state.specs.KeptOperations.{IsKeptOf}
 use Rattle.mt_state.specs.Invariant.{IsTape, AreStamps, IsStampOf, IsCountedUpTo, HoldsAt, DeletedAreEmpty, StateInvariant, StateGuarantee, one_if_prepared}
-use Rattle.mt_state.specs.Moves.{IsMove}
+use Rattle.mt_state.specs.Moves.{IsMove, IsStillAsked, BringsScan}
 use Rattle.mt_state.specs.Growth.{MakesFew}
 use Rattle.mt_state.proofs.Telling.{logs_later}
 use Rattle.std.proofs.lemmas.List.Elements.{All-from_get_or}
@@ -67,7 +67,8 @@ pub record LeavesPairs (c : Core) (o : ℕ) (arena : ArenaView) : Type 0 where
 pub record IsOwn (c new : Core) (o : ℕ) (before after : Operation) : Type 0 where
   pub there : operation_at c.table o ≡ Some before
   pub unfinished : is_done before.walk.phase ≡ false
-  pub task : after.task ≡ before.task
+  pub asked : IsStillAsked before after
+  pub scan : BringsScan new before after
   pub held : (k : ℕ) → k < length new.arena.nodes → (at new.arena k).holder ≡ Some o → HoldsAt after.walk.phase after k
   pub kept : IsKeptOf new o after
   pub reserved : new.tape.reserved + one_if_prepared (Some before) ≡ c.tape.reserved + one_if_prepared (Some after)
@@ -116,7 +117,8 @@ module _ (c : Core) (o : ℕ) (before after : Operation) (arena : ArenaView) (re
   quiet_move own = record {
     there = own.there;
     unfinished = own.unfinished;
-    task = own.task;
+    asked = own.asked;
+    scan = own.scan;
     table = refl;
     number = refl;
     answers = refl;

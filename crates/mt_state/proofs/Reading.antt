@@ -1,5 +1,5 @@
 -- The steps of an operation that holds nothing: for `State::descend`, `search`, `load` and `confirm`.
-use Rattle.std.proofs.Common.{◌≡◌, ◌≢◌, ℕ, ◌+◌, ◌<◌, ◌≤◌, false, List, length, set, Option, Some, None, refl, sym, ap, subst, ◌∙◌, arith, Bool, true, not}
+use Rattle.std.proofs.Common.{◌≡◌, ◌≢◌, ℕ, ◌+◌, ◌<◌, ◌≤◌, false, List, length, set, Option, Some, None, refl, sym, ap, subst, ◌∙◌, arith}
 use Rattle.std.specs.Prelude.{◌^◌}
 use Rattle.mt_slices.specs.Keys.{IsStoredKey, stored_key}
 use Rattle.mt_slices.proofs.Tenants.{stored_key-again}
@@ -53,7 +53,7 @@ use Rattle.mt_state.proofs.Moved.{went, first_same}
 use Rattle.mt_state.proofs.Still.{IsFree, IsUnready, still, still_gives}
 use Rattle.mt_state.proofs.Bound.{bound_on, look_untold}
 use Rattle.mt_state.proofs.OneNode.{quiet_grows}
-use Rattle.mt_rows.specs.Maps.{is_get}
+use Rattle.mt_state.proofs.Lawful.{owner_of}
 
 -- an operation that is on its way, by its phase
 pub way_of : (p : Phase) → IsDescent p → (c : Core) (o : ℕ) (op : Operation) → IsKeptAt p c o op → IsOnItsWay c op
@@ -229,7 +229,8 @@ module _ (c : Core) (now : StateView) (o : ℕ) (is : shown c ≡ now) (h : Stat
 
   -- its stored key is the one that it is asked for
   key_asked_is : op.task.key ≡ stored_key op.task.tenant (key_of (ask op.task))
-  key_asked_is = let k = (h.ops o op there).always in key_of_owner op.task.key op.task.tenant (key_of (ask op.task)) k.stored k.owner
+  key_asked_is = let k = (h.ops o op there).always in key_of_owner op.task.key op.task.tenant (key_of (ask op.task)) k.stored
+      (owner_of c op k aims.Read (subst (λ (p : Phase). IsOfKind p op.walk.aim) at_search k.kind) (λ e. absurd (cc)))
 
   module _ (w : Walk) (found : Find) (has_found : FindsIn (at c.arena op.walk.place.node) op.task.key op.walk.layer found) (is_after : w ≡ after_search found op.walk (c.steps + 1))
       (kept : (past : Past) (row : Option Columns) → IsNow past (c.steps + 1) c.arena → op.walk.first ≤ c.steps + 1 → IsKept c.arena past op.task.key row w) where

@@ -3,19 +3,26 @@ use Rattle.std.proofs.Common.{◌≡◌, ◌≢◌, ℕ, ◌-◌, ◌<◌, ◌�
 use Rattle.std.proofs.lemmas.Bool.{cases_lt}
 use Rattle.mt_rows.specs.declared.command.Command.{Command}
 use Rattle.mt_rows.specs.declared.reply.Reply.{Reply}
-use Rattle.mt_rows.specs.Rows.{Columns}
+use Rattle.mt_rows.specs.Rows.{Bytes, Columns}
 use Rattle.mt_rows.specs.Maps.{reply_of}
+use Rattle.mt_runs.proofs.Lawful.{lawful_by}
+use Rattle.mt_walks.specs.Walked.{IsWithin}
 use Rattle.mt_arena.specs.Arena.{ArenaView, Guarantee, IsArena}
 use Rattle.mt_arena.specs.Accesses.{at}
 use Rattle.mt_operation.specs.declared.outcome.Outcome.{Outcome}
 use Rattle.mt_operation.specs.declared.operation.Operation.{Operation}
 use Rattle.mt_operation.specs.declared.phase.Phase.{Phase}
-use Rattle.mt_operation.specs.declared.phase.Phase.TheVariants.{Load, Confirm, Store, Unlock}
+use Rattle.mt_operation.specs.declared.phase.Phase.TheVariants.{Load, Confirm, Store, Unlock, Check, Hop}
 use Rattle.mt_operation.specs.declared.splits.Halves.{Halves}
-use Rattle.mt_operation.specs.Operations.{OperationView, view_of}
+use Rattle.mt_operation.specs.Operations.{OperationView, view_of, scan_of}
 use Rattle.mt_descent.specs.Pasts.{ExtendsPast}
-use Rattle.mt_descent.specs.KeptWalks.{IsKept}
+use Rattle.mt_descent.specs.KeptWalks.{IsKept, IsAtBorder}
 use Rattle.mt_descent.proofs.Rely as descent
+use Rattle.mt_scan.specs.Snaps.{prefix_in}
+use Rattle.mt_stretches.specs.Scanned.{HasSeen}
+use Rattle.mt_stretches.proofs.Beginning.{seen_stays}
+use Rattle.mt_state.proofs.ScanKept.{scanned_for_stays}
+use Rattle.mt_scan.proofs.Staying.{check_stays, kept_hop_stays}
 use Rattle.mt_insert.proofs.Rely as insert
 use Rattle.mt_insert.proofs.SplitRely as splits
 use Rattle.mt_layer.proofs.Rely as layers
@@ -24,7 +31,7 @@ use Rattle.mt_remove.proofs.Rely as removals
 use Rattle.mt_operation.specs.Tasks.{ask}
 use Rattle.mt_state.specs.Views.{StateView, Core, shown, past_of, map_of, quota_of, KeepsPast, IsPlaced}
 use Rattle.mt_state.specs.Promises.{IsAnswer}
-use Rattle.mt_state.specs.KeptOperations.{IsOpenOperation, IsOnItsWay, HasAnswer, IsBound, MayUnlock, MayUnlockUnsplit, IsUnlinking, IsClimbing, IsLayering, IsReturning, IsKeptAt, IsPlacedOnce, IsKeptOf, IsKeptFor, IsReadingAt, IsWritingAt}
+use Rattle.mt_state.specs.KeptOperations.{IsOpenOperation, IsOnItsWay, HasAnswer, IsBound, MayUnlock, MayUnlockUnsplit, IsUnlinking, IsClimbing, IsLayering, IsReturning, IsKeptAt, IsPlacedOnce, IsKeptOf, IsKeptFor, IsReadingAt, IsChecking, IsScanningAt, IsWritingAt, IsScanKept}
 use Rattle.mt_state.specs.Invariant.{StateGuarantee}
 use Rattle.mt_state.proofs.Granted.{quota_stays}
 use Rattle.mt_operation.specs.Phases.{IsLayerKind, IsLayerPhase, Kind, row}
@@ -48,7 +55,9 @@ answer_stays old new g op told made h = record {
   begun = h.begun;
   since = h.since;
   upto = h.upto;
-  placed = λ real. placed_stays old new g op.tenant op.command told.at told.reply (omega (arith, h.upto, made)) (h.placed real);
+  placed = λ real plain. placed_stays old new g op.tenant op.command told.at told.reply (omega (arith, h.upto, made)) (h.placed real plain);
+  lawful = lawful_by (map_of old op.tenant) (map_of new op.tenant) (IsWithin op.first op.last) (IsWithin op.first op.last)
+      (λ m between. sym (g.maps op.tenant m (let upto = between.1 in omega (arith, upto, made)))) (λ m between. between) (λ m between. between) op.command told.reply h.lawful;
 }
 
 -- who holds a node after a step of another one held it before
@@ -129,6 +138,32 @@ module _ (old new : Core) (o q : ℕ) (arena : IsArena new.arena.nodes new.arena
   reading_stays Confirm k h = record { row = h.row; kept = walk_stays h.row h.kept; tells = h.tells; unprepared = h.unprepared }
   reading_stays _ k h = way_stays k h
 
+  -- what it scans
+  abbrev node : ℕ
+  node = op.walk.place.node
+
+  prefix_same : IsAtBorder old.arena op.task.key op.walk → prefix_in new.arena op.walk ≡ prefix_in old.arena op.walk
+  prefix_same h = (g.arena.nodes.trees op.walk.place.tree h.through.there).prefix
+
+  checking_stays : IsChecking old op → IsChecking new op
+  checking_stays h =
+      let at_border = h.kept.at_border in
+      let there = at_border.covers.remembered.there in
+      record {
+        kept = check_stays o old.arena new.arena g.arena.nodes op.task.key op.walk op.scan.stop h.kept;
+        seen = λ stands. subst (λ (prefix : Bytes). HasSeen (past_of new) op.walk.first prefix (scan_of op.task op.scan)) (sym (prefix_same at_border))
+            (seen_stays (past_of old) (past_of new) op.walk.first past_stays (prefix_in old.arena op.walk) (scan_of op.task op.scan)
+            (h.seen (descent.range_stood o (at old.arena node) (at new.arena node) (g.arena.nodes.nodes node there) op.walk.place.seen at_border.covers.remembered.was stands)));
+        untold = h.untold;
+        unprepared = h.unprepared;
+      }
+
+  scanning_stays : (p : Phase) → IsOpenOperation old op → IsScanningAt p old op → IsScanningAt p new op
+  scanning_stays Check k h = checking_stays h
+  scanning_stays Hop k h =
+      record { kept = kept_hop_stays o old.arena new.arena g.arena.nodes op.task.key op.walk op.scan.stop h.kept; untold = h.untold; unprepared = h.unprepared }
+  scanning_stays _ k h = way_stays k h
+
   writing_stays : (p : Phase) → IsWritingAt p old q op → IsWritingAt p new q op
   writing_stays Store h = record {
     prepared = h.prepared;
@@ -150,7 +185,7 @@ module _ (old new : Core) (o q : ℕ) (arena : IsArena new.arena.nodes new.arena
   kept_for_stays kinds.Descends p k h = way_stays k h
   kept_for_stays kinds.Locks p k h = way_stays k h
   kept_for_stays kinds.Reads p k h = reading_stays p k h
-  kept_for_stays kinds.Scans p k h = way_stays k h
+  kept_for_stays kinds.Scans p k h = scanning_stays p k h
   kept_for_stays kinds.Judges p k h = record { judges = insert.held o q old.arena new.arena g.arena other op.task.key op.walk h.judges; bound = bound_stays op.outcome k h.bound; unprepared = h.unprepared }
   kept_for_stays kinds.Writes p k h = writing_stays p h
   kept_for_stays kinds.Begins p k h = record {
@@ -189,17 +224,18 @@ module _ (old new : Core) (o q : ℕ) (arena : IsArena new.arena.nodes new.arena
   pub open_stays : IsOpenOperation old op → IsOpenOperation new op
   open_stays h = record {
     stored = h.stored;
+    tenant_is = h.tenant_is;
     owner = h.owner;
     columns = h.columns;
     tenant = g.accounts op.task.tenant h.tenant;
     aim = h.aim;
-    no_scan = h.no_scan;
     kind = h.kind;
     order = h.order;
     made = omega (arith, h.made, later);
     floor = λ begun. subst (λ n. n < op.walk.first) (sym g.floor) (h.floor begun);
     begun = h.begun;
     short = h.short;
+    counts = h.counts;
     light = h.light;
   }
 
@@ -213,6 +249,14 @@ module _ (old new : Core) (o q : ℕ) (arena : IsArena new.arena.nodes new.arena
     key_is = h.key_is;
     makes = h.makes;
     was = h.was;
+  }
+
+  -- what a scan has done
+  pub scan_stays : IsScanKept old op → IsScanKept new op
+  scan_stays h = record {
+    fresh = h.fresh;
+    walked = λ begun unfinished.
+        scanned_for_stays (past_of old) (past_of new) op.walk.first past_stays (ask op.task) (scan_of op.task op.scan) (h.walked begun unfinished);
   }
 
   -- the rely: all that is kept of an operation is stable under any step of another

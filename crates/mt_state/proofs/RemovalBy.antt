@@ -27,7 +27,7 @@ use Rattle.mt_state.specs.Invariant.{DeletedAreEmpty}
 use Rattle.mt_state.proofs.RemovalNodes.{LeavesNodes, none_leaves, lock_leaves, named_leaves, unlink_leaves, collapse_leaves, clean_leaves}
 use Rattle.mt_operation.specs.declared.outcome.Outcome.{Outcome}
 use Rattle.mt_operation.specs.Operations.{SplitsView}
-use Rattle.mt_state.specs.Phases.{LeadsTo}
+use Rattle.mt_state.specs.Phases.{ScanStep, LeadsTo}
 
 -- what a step brings: what is left of all nodes, where it leads, and what is kept then
 pub record Removes (p : Phase) (o : ℕ) (key : Bytes) (v u : ArenaView) (before after : Walk) (s t : Removal) : Type 0 where
@@ -181,16 +181,16 @@ module _ (o step : ℕ) (key : Bytes) (v u : ArenaView) (before after : Walk) (s
 
   -- where it leads, by the table of phases
   pub removal_leads : (p : Phase) → IsRemovalPhase p → KeptRemoval p v o key before s → IsRemovalFrom p o step key v u before after s t
-      → (told : Option Outcome) (splits : SplitsView) → LeadsTo p v u o step key told splits s before after
-  removal_leads LockPrev i k b told splits =
+      → (told : Option Outcome) (splits : SplitsView) (g : ScanStep) → LeadsTo p v u o step key told splits s g before after
+  removal_leads LockPrev i k b told splits g =
       let left = has_previous k.node in record { left = left.0; left_is = left.1; free = (b.is left.0 left.1).0; goes = b.walk }
-  removal_leads LockAbove i k b told splits =
+  removal_leads LockAbove i k b told splits g =
       let parent = has_parent k.node in
       record { parent = parent.0; parent_is = parent.1; free = (b.is parent.0 parent.1).0; unlinks = b.unlinks parent.0 parent.1; returns = b.returns parent.0 parent.1 }
-  removal_leads Unlink i k b told splits = (k.parent, k.parent_is, b.walk k.parent k.parent_is)
-  removal_leads FixNext i k b told splits = (k.parent, k.parent_is, b.walk k.parent k.parent_is)
-  removal_leads Collapse i k b told splits = b.walk
-  removal_leads CleanLayer i k b told splits = (
+  removal_leads Unlink i k b told splits g = (k.parent, k.parent_is, b.walk k.parent k.parent_is)
+  removal_leads FixNext i k b told splits g = (k.parent, k.parent_is, b.walk k.parent k.parent_is)
+  removal_leads Collapse i k b told splits g = b.walk
+  removal_leads CleanLayer i k b told splits g = (
     b.tree,
     b.cleans,
     elim b.is [
@@ -204,4 +204,4 @@ module _ (o step : ℕ) (key : Bytes) (v u : ArenaView) (before after : Walk) (s
       }))
     ],
   )
-  removal_leads _ i k b told splits = absurd i
+  removal_leads _ i k b told splits g = absurd i

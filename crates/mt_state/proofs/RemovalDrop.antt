@@ -11,7 +11,7 @@ use Rattle.mt_rows.specs.declared.reply.Reply.TheVariants.{Removed}
 use Rattle.mt_rows.specs.declared.tenants.Account.{Account}
 use Rattle.mt_rows.specs.Rows.{Bytes, Columns}
 use Rattle.mt_rows.specs.Commands.{key_of}
-use Rattle.mt_rows.specs.Maps.{Map, reply_of, map_after}
+use Rattle.mt_rows.specs.Maps.{Map, reply_of, map_after, is_scan}
 use Rattle.mt_rows.specs.Accounts.{Accounts, account_of, one_less}
 use Rattle.mt_rows.specs.Tenants.{Contents, tenant_map}
 use Rattle.mt_rows.proofs.ContentLaws.{get-tenant_map}
@@ -70,6 +70,7 @@ use Rattle.mt_state.proofs.Putting.{stamped_apart}
 use Rattle.mt_state.proofs.RemovalNodes.{LeavesNodes, one_leaves, slots_removed, stood, versions, removal_touches}
 use Rattle.mt_state.proofs.RemovalSteps.{HasRemoval, has_removal, removal_kept, removal_held, removal_kind, removal_open, removal_unready, IsBehindBy}
 use Rattle.mt_rows.proofs.CommandLaws.{keys_total}
+use Rattle.mt_state.proofs.Lawful.{remove_no_scan}
 
 -- one pair less leaves the quota, and the account there
 quota_less : (a : Option Account) → granted_in (option_map one_less a) ≡ granted_in a
@@ -108,6 +109,9 @@ module _ (c : Core) (o : ℕ) (h : StateInvariant c) (few : c.steps < 2 ^ 59) (o
   dropping : IsDropping c o op
   dropping = subst (λ (p : Phase). IsKeptAt p c o op) at_drop (h.ops o op there).kept
 
+  plain : is_scan (ask op.task) ≡ false
+  plain = remove_no_scan (ask op.task) dropping.removes
+
   unsplit : IsUnsplit op.splits
   unsplit = (h.ops o op there).unsplit (ap has_splits at_drop)
 
@@ -135,7 +139,7 @@ module _ (c : Core) (o : ℕ) (h : StateInvariant c) (few : c.steps < 2 ^ 59) (o
     worker = refl;
     tenant = refl;
     key = refl;
-    owner = always.owner;
+    owner = always.owner plain;
     before = sym t.places.was_there;
     leaves = sym (row_left_remove op.task.request dropping.removes (Some t.row));
     was = λ removes. refl;
@@ -143,7 +147,7 @@ module _ (c : Core) (o : ℕ) (h : StateInvariant c) (few : c.steps < 2 ^ 59) (o
 
   -- no pair is left of the key
   gone : get (content_of arena) key ≡ None
-  gone = ap (λ (all : Contents). get all key) (t.places.contents ∙ ap (λ q. with_row (content_of c.arena) q None) (sym always.owner)) ∙ get-with_row_same (content_of c.arena) key None
+  gone = ap (λ (all : Contents). get all key) (t.places.contents ∙ ap (λ q. with_row (content_of c.arena) q None) (sym (always.owner plain))) ∙ get-with_row_same (content_of c.arena) key None
 
   apart : (j : ℕ) → j < length arena.nodes → counts arena.trees (at arena j) ≡ true → All (IsApart (tree_of arena j).prefix key) (at arena j).slots
   apart j inside counted = All-from_get_or (IsApart (tree_of arena j).prefix key) (at arena j).slots any_entry (λ i in_range pair held same.
@@ -179,7 +183,7 @@ module _ (c : Core) (o : ℕ) (h : StateInvariant c) (few : c.steps < 2 ^ 59) (o
   contents_are = t.places.contents
 
   row_there : get (tenant_map op.task.tenant (content_of c.arena)) (key_of (ask op.task)) ≡ Some t.row
-  row_there = get-tenant_map op.task.tenant (content_of c.arena) (key_of (ask op.task)) ∙ ap (get (content_of c.arena)) (sym always.owner) ∙ t.places.was_there
+  row_there = get-tenant_map op.task.tenant (content_of c.arena) (key_of (ask op.task)) ∙ ap (get (content_of c.arena)) (sym (always.owner plain)) ∙ t.places.was_there
 
   own_less : len (tenant_map op.task.tenant (content_of arena)) ≡ len (tenant_map op.task.tenant (content_of c.arena)) - 1
   own_less = ap (λ all. len (tenant_map op.task.tenant all)) contents_are ∙ ap len (tenant_map-with_row op.task.tenant (content_of c.arena) (key_of (ask op.task)) None)
@@ -272,6 +276,7 @@ module _ (c : Core) (o : ℕ) (h : StateInvariant c) (few : c.steps < 2 ^ 59) (o
         there = there;
         unfinished = ap is_done at_drop;
         task = refl;
+        scan = refl;
         held = λ j inside holds. removal_held w.phase (behind w.phase follows) after j unsplit.halves (inl (t.holds holds_only j inside holds));
         kept = kept;
         reserved =

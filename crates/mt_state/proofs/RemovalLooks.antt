@@ -38,7 +38,7 @@ use Rattle.mt_remove.specs.RemovalEdits.{ReturnsRemoval, root_of}
 use Rattle.mt_remove.specs.Judge.{IsMadeReady, FindsAbsent}
 use Rattle.mt_remove.specs.Unlock.{EmptiesLayer, IsUnlockRemoval}
 use Rattle.mt_remove.specs.Ways.{IsLockWay, FindsEnd}
-use Rattle.mt_state.specs.Views.{StateView, Core, shown, past_of, quota_of}
+use Rattle.mt_state.specs.Views.{StateView, Core, shown, past_of, quota_of, map_of}
 use Rattle.mt_state.specs.Steps.{told_change}
 use Rattle.mt_state.specs.Notes.{Notes, EndsJudging}
 use Rattle.mt_state.specs.KeptOperations.{IsOpenOperation, IsOnItsWay, IsJudging, IsDropping, IsGoingBack, IsBound, HasAnswer, IsUnlocking, MayUnlock, MayUnlockUnsplit, IsKeptAt}
@@ -60,6 +60,8 @@ use Rattle.mt_state.proofs.SplitSteps.{returned_leaves, returned_touches, is_hel
 use Rattle.mt_state.proofs.RemovalSteps.{removal_kept}
 use Rattle.mt_state.specs.Ways.{IsOnWay}
 use Rattle.mt_state.specs.Promises.{Touches}
+use Rattle.mt_state.proofs.Lawful.{remove_no_scan, scan_free}
+use Rattle.mt_walks.specs.Walked.{IsWithin}
 
 -- an operation that was told something goes back
 pub going_back : (told : Option Outcome) → told ≢ None → (c : Core) (op : Operation) → IsBound told c op → IsGoingBack c op
@@ -135,7 +137,7 @@ module _ (c : Core) (o : ℕ) (h : StateInvariant c) (few : c.steps < 2 ^ 59) (o
         let after = went op (c.steps + 1) w told op.prepared in
         let u = t.unlocks in
         let none : get (tenant_map op.task.tenant (content_of c.arena)) (key_of (ask op.task)) ≡ None =
-        get-tenant_map op.task.tenant (content_of c.arena) (key_of (ask op.task)) ∙ ap (get (content_of c.arena)) (sym always.owner) ∙ t.missing in
+        get-tenant_map op.task.tenant (content_of c.arena) (key_of (ask op.task)) ∙ ap (get (content_of c.arena)) (sym (always.owner (remove_no_scan (ask op.task) removes))) ∙ t.missing in
         let now = ap (λ (all : Contents). tenant_map op.task.tenant (contents_at c.tape.entries all (c.steps + 1))) u.keeps.contents ∙ map_now c h.tape op.task.tenant (c.steps + 1) (omega arith) in
         let own : HasAnswer (wrote c arena c.tape c.accounts o op w told op.prepared) after = record {
           outcome = record { reply = Absent; at = c.steps + 1 };
@@ -144,7 +146,8 @@ module _ (c : Core) (o : ℕ) (h : StateInvariant c) (few : c.steps < 2 ^ 59) (o
             begun = first_begun c op always w;
             since = first_upto c op always w;
             upto = omega arith;
-            placed = λ real. record {
+            lawful = scan_free (map_of (shown (wrote c arena c.tape c.accounts o op w told op.prepared)) op.task.tenant) (IsWithin after.walk.first after.last) (ask op.task) Absent (remove_no_scan (ask op.task) removes);
+            placed = λ real plain. record {
               changes = λ e. absurd (cc);
               looks = λ e. remove_missing (quota_of (shown c) op.task.tenant) op.task.request (tenant_map op.task.tenant (content_of c.arena)) removes none
                   ∙ ap (reply_of (quota_of (shown c) op.task.tenant) (ask op.task)) (sym now);

@@ -1,5 +1,5 @@
 -- The steps of a split that move no pair: it starts or stops, its right halves climb, and all locks are given back: for a put whose node is full.
-use Rattle.std.proofs.Common.{◌≡◌, ◌≢◌, ℕ, ◌+◌, ◌-◌, ◌<◌, ◌⊎◌, inl, inr, Bool, true, false, List, [], ◌∷◌, length, Option, Some, None, refl, sym, ap, subst, ◌∙◌, arith}
+use Rattle.std.proofs.Common.{◌≡◌, ◌≢◌, ℕ, ◌+◌, ◌-◌, ◌<◌, ◌⊎◌, inl, inr, true, false, List, [], ◌∷◌, length, Option, Some, None, refl, sym, ap, subst, ◌∙◌, arith}
 use Rattle.std.specs.Prelude.{◌^◌}
 use Rattle.std.proofs.lemmas.Bool.{cases_eq, both_ways}
 use Rattle.std.proofs.lemmas.Option.{same_Some}
@@ -29,7 +29,7 @@ use Rattle.mt_operation.specs.Tables.{op_at as operation_at}
 use Rattle.mt_insert.specs.Placing.{released}
 use Rattle.mt_insert.specs.KeptSplits.{IsAmong, IsAtSplitMove, IsAtUnlockAll, KeptSplit, HoldsSplits}
 use Rattle.mt_insert.specs.Unlock.{Returns, IsUnlockAll}
-use Rattle.mt_state.specs.Views.{StateView, Core, shown}
+use Rattle.mt_state.specs.Views.{StateView, Core, shown, map_of}
 use Rattle.mt_state.specs.Steps.{told_change}
 use Rattle.mt_state.specs.Notes.{Notes, Keeps}
 use Rattle.mt_state.specs.Promises.{IsAnswer, Touches}
@@ -54,6 +54,8 @@ use Rattle.mt_state.proofs.Climbing.{LeavesNodes, MovesNoPair, moves_by}
 use Rattle.mt_state.proofs.ClimbingNodes.{climb_leaves, climb_keeps, climb_follows, climb_some, begun_leaves}
 use Rattle.mt_operation.specs.declared.prepared.Prepared.{Prepared}
 use Rattle.mt_operation.specs.Phases as kinds
+use Rattle.mt_state.proofs.Lawful.{lawful_more, stopped_free}
+use Rattle.mt_walks.specs.Walked.{IsWithin}
 
 -- the right half of the full border node was made
 pub record StartsSplit (c : Core) (o : ℕ) (op : Operation) (arena : ArenaView) (w : Walk) (s : Splits) : Type 0 where
@@ -327,6 +329,8 @@ module _ (c : Core) (o : ℕ) (h : StateInvariant c) (few : c.steps < 2 ^ 59) (o
           since = omega (arith, first, stays.since);
           upto = omega (arith, stays.upto, always.made);
           placed = stays.placed;
+          lawful = lawful_more (map_of (shown new) op.task.tenant) (IsWithin op.walk.first op.last) (IsWithin after.walk.first after.last)
+              (λ m between. (let since = between.0 in omega (arith, first, since), let upto = between.1 in omega (arith, upto, always.made))) (ask op.task) answer.outcome.reply stays.lawful;
         };
         unprepared = answer.unprepared;
       }
@@ -447,7 +451,8 @@ module _ (c : Core) (o : ℕ) (h : StateInvariant c) (few : c.steps < 2 ^ 59) (o
             begun = first_begun c op always w;
             since = first_upto c op always w;
             upto = omega arith;
-            placed = λ real. absurd (cc);
+            placed = λ real plain. absurd (cc);
+            lawful = stopped_free (map_of (shown new) op.task.tenant) (IsWithin after.walk.first after.last) (ask op.task);
           };
           unprepared = refl;
         } in

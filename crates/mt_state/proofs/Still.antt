@@ -55,13 +55,14 @@ leaves_all c o h = record {
 abbrev pub IsFreeBy : Kind → Type 0
 IsFreeBy kinds.Descends = Unit {0}
 IsFreeBy kinds.Reads = Unit {0}
+IsFreeBy kinds.Scans = Unit {0}
 IsFreeBy kinds.Locks = Unit {0}
 IsFreeBy _ = ⊥
 
 abbrev pub IsFree : Phase → Type 0
 IsFree p = IsFreeBy (row p).kind
 
-free_open : (p : Phase) → IsFree p → is_done p ≡ false
+pub free_open : (p : Phase) → IsFree p → is_done p ≡ false
 free_open Done f = absurd f
 free_open _ f = refl
 
@@ -71,15 +72,17 @@ free_holds p op k f holds = by (row p).kind f holds
     by : (of : Kind) → IsFreeBy of → HoldsBy (holds_of of) op k → ⊥
     by kinds.Descends f holds = holds
     by kinds.Reads f holds = holds
+    by kinds.Scans f holds = holds
     by kinds.Locks f holds = holds
     by _ f holds = absurd f
 
-free_unsplit : (p : Phase) → IsFree p → has_splits p ≡ false
+pub free_unsplit : (p : Phase) → IsFree p → has_splits p ≡ false
 free_unsplit p f = by (row p).kind f
   where
     by : (of : Kind) → IsFreeBy of → may_be_parts (holds_of of) ≡ false
     by kinds.Descends f = refl
     by kinds.Reads f = refl
+    by kinds.Scans f = refl
     by kinds.Locks f = refl
     by _ f = absurd f
 
@@ -107,6 +110,7 @@ free_unready p f = by (row p).kind f
     by : (of : Kind) → IsFreeBy of → IsUnreadyBy (change_at of)
     by kinds.Descends f = tt
     by kinds.Reads f = tt
+    by kinds.Scans f = tt
     by kinds.Locks f = tt
     by _ f = absurd f
 
@@ -154,7 +158,8 @@ module _ (c : Core) (now : StateView) (o : ℕ) (is : shown c ≡ now) (h : Stat
       (quiet_move c o op after c.arena c.tape.reserved h leaves (record {
         there = there;
         unfinished = free_open op.walk.phase free;
-        task = refl;
+        asked = refl;
+        scan = inl (refl, refl);
         held = λ k within held. absurd (holds_nothing k within held);
         kept = own;
         reserved =

@@ -1,16 +1,16 @@
 -- A step keeps that all maps since the floor keep their quotas, and that each entry's row is made by a change: for all phases.
-use Rattle.std.proofs.Common.{◌≡◌, ℕ, ◌+◌, ◌≤◌, inl, inr, Bool, true, false, [], ◌∷◌, ◌++◌, Option, Some, None, refl, sym, ap, subst, ◌∙◌, arith, IsSome}
+use Rattle.std.proofs.Common.{◌≡◌, ℕ, ◌+◌, ◌≤◌, inl, inr, true, [], ◌∷◌, ◌++◌, Option, Some, None, refl, sym, ap, subst, ◌∙◌, arith, IsSome}
 use Rattle.std.specs.Prelude.{if◌then◌else◌}
 use Rattle.std.specs.List.{All, Contains}
 use Rattle.std.specs.FinMap.{len}
-use Rattle.std.proofs.lemmas.Bool.{cases_lt, both_ways}
+use Rattle.std.proofs.lemmas.Bool.{cases_lt}
 use Rattle.std.proofs.lemmas.Option.{same_Some}
 use Rattle.std.proofs.lemmas.List.Elements.{All-push, All-contains, Contains-push_cases}
 use Rattle.mt_rows.specs.declared.tenants.Account.{Account}
 use Rattle.mt_rows.specs.Rows.{columns_of, Columns}
 use Rattle.mt_rows.specs.Changes.{changed}
 use Rattle.mt_rows.specs.Commands.{HasColumns, HasShortColumns}
-use Rattle.mt_rows.specs.Maps.{is_get, is_change}
+use Rattle.mt_rows.specs.Maps.{is_change}
 use Rattle.mt_rows.specs.Accounts.{account_of}
 use Rattle.mt_rows.specs.Tenants.{tenant_map}
 use Rattle.mt_tape.specs.declared.entry.Entry.{Entry as TapeEntry}
@@ -102,7 +102,7 @@ module _ (old new : Core) (o : ℕ) (before after : Operation) (h : StateInvaria
         change_writes (quota_of (shown old) before.task.tenant) (ask before.task) (tenant_map before.task.tenant (content_of old.arena)) (sym (ap is_change p.told) ∙ p.changes)
 
     writes_after : aim_of (ask after.task) ≡ aims.Write
-    writes_after = ap (λ (t : Task). aim_of (ask t)) m.task ∙ writes_before
+    writes_after = ap (λ (t : Task). aim_of (ask t)) m.asked ∙ writes_before
 
     entry_made : IsMadeByChange p.entry
     entry_made = subst IsMadeByChange (sym entry_is)

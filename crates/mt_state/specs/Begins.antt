@@ -1,7 +1,6 @@
 -- A new state, and what a begin and a take make of a state.
 use Rattle.std.specs.Prelude.{◌≡◌, ◌≢◌, ℕ, ◌+◌, ◌<◌, max, true, [], replicate, Some, None, slice_set}
 use Rattle.mt_rows.specs.declared.command.Command.{Command}
-use Rattle.mt_rows.specs.declared.command.Command.TheVariants.{Get, Put, Remove}
 use Rattle.mt_rows.specs.declared.tenants.Account.{Account}
 use Rattle.mt_rows.specs.Accounts.{Accounts, account_of}
 use Rattle.mt_rows.specs.Commands.{key_of}
@@ -35,13 +34,6 @@ HaveNoPairs accounts = (t : ℕ) (a : Account) → account_of accounts t ≡ Som
 -- a worker is one of those that so many logs have, or the only one where no logs are kept
 abbrev pub IsWorker : ℕ → ℕ → Type 0
 IsWorker logs worker = worker < max logs 1
-
--- gets, puts and removes may be begun, at any time
-abbrev pub MayBegin : Command → Type 0
-MayBegin (Get key columns) = Unit {0}
-MayBegin (Put key change) = Unit {0}
-MayBegin (Remove key) = Unit {0}
-MayBegin _ = ⊥
 
 -- an operation before its first step
 abbrev pub begun : ℕ → ℕ → Command → OperationView

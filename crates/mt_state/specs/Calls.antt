@@ -1,8 +1,10 @@
--- What the calls of the reading phases ensure of a state's operation, and when a step is lawful.
+-- What the calls of the reading phases and of a scan's ensure of a state's operation, and when a step is lawful.
 use Rattle.std.specs.Prelude.{◌≡◌, ℕ, ◌+◌, ◌≤◌, Bool, Option}
+use Rattle.mt_slices.specs.Keys.{IsStoredKey}
 use Rattle.mt_rows.specs.Rows.{Columns}
 use Rattle.mt_border.specs.declared.entry.Find.{Find}
 use Rattle.mt_arena.specs.Accesses.{at}
+use Rattle.mt_operation.specs.declared.task.Task.{Task}
 use Rattle.mt_operation.specs.declared.walk.Walk.{Walk}
 use Rattle.mt_operation.specs.declared.operation.Operation.{Operation}
 use Rattle.mt_descent.specs.Pasts.{Past, IsNow, AreStamped}
@@ -35,3 +37,8 @@ pub record Compares (c : Core) (op : Operation) (w : Walk) : Type 0 where
   pub same : Continues op.walk w
   pub confirms : Confirms (at c.arena op.walk.place.node) op.walk w
   pub kept : (past : Past) (row : Option Columns) → IsAtConfirm c.arena past op.task.key row op.walk → IsKept c.arena past op.task.key row w
+
+-- a scan is asked the same, from a fence that is a stored key
+pub record IsStillScan (before after : Task) : Type 0 where
+  pub asked : after ≡ record before { key = after.key }
+  pub stored : IsStoredKey after.key

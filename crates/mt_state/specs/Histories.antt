@@ -3,7 +3,6 @@ use Rattle.std.specs.Prelude.{◌≡◌, ◌≢◌, ℕ, ◌<◌, ◌≤◌, ◌
 use Rattle.std.specs.List.{All}
 use Rattle.std.specs.Ordering.{nat_cmp}
 use Rattle.std.specs.BTreeMap.{BTreeMap, get}
-use Rattle.mt_rows.specs.Maps.{is_scan}
 use Rattle.mt_runs.specs.declared.event.Answer.{Answer}
 use Rattle.mt_runs.specs.declared.event.Event.{Event}
 use Rattle.mt_runs.specs.declared.event.Event.TheVariants.{Begin, Step}
@@ -18,7 +17,7 @@ use Rattle.mt_state.specs.Steps.{change_in}
 use Rattle.mt_state.specs.Promises.{IsStep, IsHeldByOther, HasStep, IsPlacedToGrow}
 use Rattle.mt_operation.specs.Phases.{is_unplaced}
 use Rattle.mt_state.specs.Refused.{IsAdmissible, IsRefusal}
-use Rattle.mt_state.specs.Begins.{IsWorker, MayBegin, Begins, Takes}
+use Rattle.mt_state.specs.Begins.{IsWorker, Begins, Takes}
 
 -- for what each name of a run stands: nothing was begun by it, its operation's answer was taken, or its operation has this id
 abbrev pub Names : Type 0
@@ -45,11 +44,10 @@ AreHeld names table = (o n : ℕ) → names o ≡ Some (Some n) → IsSome (op_a
 abbrev pub AreById : BTreeMap ℕ ℕ → Names → Type 0
 AreById ids names = (o n : ℕ) → names o ≡ Some (Some n) → get nat_cmp ids n ≡ Some o
 
--- what a run's story tells of an open operation by its name: its command, which is no scan, its first and its last step, or that it has made none,
+-- what a run's story tells of an open operation by its name: its command, its first and its last step, or that it has made none,
 -- that it is not finished, and that the change which it remembers, if any, is the one that it made; it remembers none as long as it may place one
 pub record StoryTells (story : Story) (v : StateView) (o : ℕ) (op : OperationView) : Type 0 where
   pub asked_so : story.asked o ≡ Some (record { tenant = op.tenant; command = op.command })
-  pub no_scan : is_scan op.command ≡ false
   pub first : 0 < op.first → IsFirst story o op.first
   pub last : 0 < op.last → IsLast story o op.last
   pub still : op.first ≡ 0 → (m : ℕ) → owner story m ≢ Some o
@@ -70,14 +68,14 @@ pub record History (quotas : Quotas) (first : Maps) (story : Story) (names : Nam
   pub free : (o : ℕ) → names o ≡ None → story.asked o ≡ None
   pub owners : (m o : ℕ) → owner story m ≡ Some o → names o ≢ None
 
--- what an event may answer, by the names and the state before and after it; every answer but Begun, Moved and Done changes nothing; a begin succeeds
--- only where it may be begun, and is refused for its first cause alone
+-- what an event may answer, by the names and the state before and after it; every answer but Begun, Moved and Done changes nothing; a begin by a
+-- name that is known is none, and one is refused for its first cause alone
 abbrev pub TellsEvent : Names → StateView → Names → StateView → Event → Told → Type 0
 TellsEvent names old now new (Begin o worker tenant command) Begun =
-    (n : ℕ) × (names o ≡ None) × Renames names now o (Some n) × MayBegin command × Begins old new n worker tenant command × IsAdmissible old tenant command
+    (n : ℕ) × (names o ≡ None) × Renames names now o (Some n) × Begins old new n worker tenant command × IsAdmissible old tenant command
 TellsEvent names old now new (Begin o worker tenant command) (Refused refusal) =
     (names o ≡ None) × (now ≡ names) × (new ≡ old) × IsRefusal old tenant command refusal
-TellsEvent names old now new (Begin o worker tenant command) NoSuch = (names o ≡ None → ¬ MayBegin command) × (now ≡ names) × (new ≡ old)
+TellsEvent names old now new (Begin o worker tenant command) NoSuch = (names o ≢ None) × (now ≡ names) × (new ≡ old)
 TellsEvent names old now new (Step o) Moved = (n : ℕ) × (names o ≡ Some (Some n)) × (now ≡ names) × IsStep old new n false
 TellsEvent names old now new (Step o) (Done answer) =
     (n : ℕ) × (mid : StateView) × (names o ≡ Some (Some n)) × Renames names now o None × IsStep old mid n true × Takes mid new n answer

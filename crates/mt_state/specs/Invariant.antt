@@ -25,7 +25,7 @@ use Rattle.mt_state.specs.Views.{Shown, Core, shown, past_of, KeepsPast}
 use Rattle.mt_operation.specs.Operations.{OperationView}
 use Rattle.mt_insert.specs.KeptSplits.{IsAmong}
 use Rattle.mt_remove.specs.KeptRemovals.{IsAmong as IsOfRemoval}
-use Rattle.mt_state.specs.KeptOperations.{IsKeptOf}
+use Rattle.mt_state.specs.KeptOperations.{IsKeptOf, IsScanKept}
 use Rattle.mt_state.specs.Written.{KeepsQuotas, IsMadeByChange}
 
 -- the logs, at most 64: each was given its worker's changes up to a step that was made, and the tape goes back to that
@@ -108,6 +108,10 @@ AreCounted c = (t : ℕ) (a : Account) → account_of c.accounts t ≡ Some a �
 abbrev pub AreKept : Core → Type 0
 AreKept c = (o : ℕ) (op : Operation) → operation_at c.table o ≡ Some op → IsKeptOf c o op
 
+-- and what the scans have done
+abbrev pub AreScansKept : Core → Type 0
+AreScansKept c = (o : ℕ) (op : Operation) → operation_at c.table o ≡ Some op → IsScanKept c op
+
 -- a node that was taken out has no slots
 abbrev pub DeletedAreEmpty : ArenaView → Type 0
 DeletedAreEmpty v = (k : ℕ) → k < length v.nodes → (at v k).version.deleted ≡ true → (at v k).slots ≡ []
@@ -120,6 +124,7 @@ pub record StateInvariant (c : Core) : Type 0 where
   pub holders : AreHolders c
   pub counts : AreCounted c
   pub ops : AreKept c
+  pub scans : AreScansKept c
   pub reserved : c.tape.reserved ≡ prepared_count c.table
   pub answered : c.answers + made_count (shown c).table ≤ c.steps
   pub deleted : DeletedAreEmpty c.arena

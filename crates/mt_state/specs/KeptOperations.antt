@@ -1,10 +1,12 @@
 -- What a state keeps of each operation, by its phase.
-use Rattle.std.specs.Prelude.{◌≡◌, ◌≢◌, ℕ, ◌≤◌, ◌<◌, not, Bool, true, false, List, [], ◌∷◌, Option, Some, None, IsSome}
+use Rattle.std.specs.Prelude.{◌≡◌, ◌≢◌, ℕ, ◌≤◌, ◌<◌, Bool, true, false, List, [], ◌∷◌, Option, Some, None, IsSome}
 use Rattle.std.specs.List.{Contains}
-use Rattle.mt_slices.specs.Keys.{IsStoredKey}
+use Rattle.mt_slices.specs.Keys.{IsStoredKey, stored_key, tenant_of}
+use Rattle.mt_rows.specs.declared.command.Command.{Command}
+use Rattle.mt_rows.specs.declared.command.Command.TheVariants.{Scan}
 use Rattle.mt_rows.specs.declared.reply.Reply.TheVariants as replies
 use Rattle.mt_rows.specs.Rows.{Columns, shown as columns_shown}
-use Rattle.mt_rows.specs.Commands.{key_of, HasColumns, HasShortColumns}
+use Rattle.mt_rows.specs.Commands.{key_of, HasColumns, HasShortColumns, HasCount}
 use Rattle.mt_rows.specs.Accounts.{account_of}
 use Rattle.mt_rows.specs.Maps.{is_scan}
 use Rattle.mt_border.specs.Contents.{owned}
@@ -12,18 +14,23 @@ use Rattle.mt_tape.specs.declared.entry.Entry.{Entry as TapeEntry}
 use Rattle.mt_arena.specs.Arena.{ArenaView}
 use Rattle.mt_arena.specs.Accesses.{at}
 use Rattle.mt_operation.specs.declared.phase.Phase.{Phase}
-use Rattle.mt_operation.specs.declared.phase.Phase.TheVariants.{Enter, Load, Confirm, Store, Unlock}
+use Rattle.mt_operation.specs.declared.phase.Phase.TheVariants.{Enter, Load, Confirm, Store, Unlock, Check, Hop}
 use Rattle.mt_operation.specs.declared.walk.Taken.{Taken}
 use Rattle.mt_operation.specs.declared.walk.Taken.TheVariants.{Missing, Row, Link, Nothing}
 use Rattle.mt_operation.specs.declared.outcome.Outcome.{Outcome}
 use Rattle.mt_operation.specs.declared.prepared.Prepared.{Prepared}
 use Rattle.mt_operation.specs.declared.operation.Operation.{Operation}
-use Rattle.mt_operation.specs.Phases.{IsOfKind, has_splits, Kind, row}
+use Rattle.mt_operation.specs.Phases.{IsOfKind, has_splits, is_done, Kind, row}
 use Rattle.mt_operation.specs.Tasks.{ask, aim_of}
 use Rattle.mt_operation.specs.declared.splits.Halves.{Halves}
-use Rattle.mt_operation.specs.Operations.{view_of, IsUnsplit, no_removal}
+use Rattle.mt_operation.specs.Operations.{ScanView, view_of, scan_of, no_scan, IsUnsplit, no_removal}
 use Rattle.mt_insert.specs.Puts.{is_put}
+use Rattle.mt_descent.specs.Pasts.{Past}
+use Rattle.mt_descent.specs.Seen.{RangeStands}
 use Rattle.mt_descent.specs.KeptWalks.{HasSlot, IsKept}
+use Rattle.mt_scan.specs.Snaps.{prefix_in}
+use Rattle.mt_scan.specs.Hops.{IsAtCheck, KeptHop}
+use Rattle.mt_stretches.specs.Scanned.{HasScanned, HasSeen}
 use Rattle.mt_insert.specs.KeptPuts.{HoldsBorder, IsAtStore, IsAtPublish, IsAtSplitStart, IsAtUnlock}
 use Rattle.mt_insert.specs.KeptSplits.{IsAtSplitMove, IsAtUnlockAll, KeptSplit}
 use Rattle.mt_layer.specs.KeptLayers.{KeptLayer}
@@ -36,21 +43,22 @@ use Rattle.mt_state.specs.Steps.{change_in}
 use Rattle.mt_state.specs.Promises.{IsAnswer}
 use Rattle.mt_operation.specs.Phases as kinds
 
--- what is kept of every operation: its key is its command's, of a tenant that is there; its numbers are those of steps made; it has made one where it
--- isn't at its beginning; and it remembers nothing of a removal where it removes nothing
+-- what is kept of every operation: its key is one of its tenant's, which is there, and its command's, unless it is a scan, whose key is the fence that it has reached;
+-- its numbers are those of steps made; it has made one where it isn't at its beginning; and it remembers nothing of a removal where it removes nothing
 pub record IsOpenOperation (c : Core) (op : Operation) : Type 0 where
   pub stored : IsStoredKey op.task.key
-  pub owner : owned op.task.key ≡ (op.task.tenant, key_of (ask op.task))
+  pub tenant_is : tenant_of op.task.key ≡ op.task.tenant
+  pub owner : is_scan (ask op.task) ≡ false → owned op.task.key ≡ (op.task.tenant, key_of (ask op.task))
   pub columns : HasColumns (ask op.task)
   pub tenant : IsSome (account_of c.accounts op.task.tenant)
   pub aim : op.walk.aim ≡ aim_of (ask op.task)
-  pub no_scan : is_scan (ask op.task) ≡ false
   pub kind : IsOfKind op.walk.phase op.walk.aim
   pub order : op.walk.first ≤ op.last
   pub made : op.last ≤ c.steps
   pub floor : 0 < op.walk.first → c.tape.floor < op.walk.first
   pub begun : op.walk.phase ≢ Enter → 0 < op.walk.first
   pub short : HasShortColumns (ask op.task)
+  pub counts : HasCount (ask op.task)
   pub light : is_remove (ask op.task) ≡ false → op.removal ≡ no_removal
 
 -- the outcome of a get, by what it took: that the key is missing, or the columns that it asks of the row
@@ -95,6 +103,20 @@ pub record IsAtConfirm (c : Core) (op : Operation) : Type 0 where
   pub row : Option Columns
   pub kept : IsKept c.arena (past_of c) op.task.key row op.walk
   pub tells : TellsTaken op row op.walk.taken
+  pub unprepared : op.prepared ≡ None
+
+-- A scan that has seen the pairs of its border node, from its fence on, and is to compare the node's version: as long as the node's range stands, they were all
+-- that some map of its tenant had on that stretch, after a step since its first one.
+pub record IsChecking (c : Core) (op : Operation) : Type 0 where
+  pub kept : IsAtCheck c.arena op.task.key op.walk op.scan.stop
+  pub seen : RangeStands (at c.arena op.walk.place.node) op.walk.place.seen → HasSeen (past_of c) op.walk.first (prefix_in c.arena op.walk) (scan_of op.task op.scan)
+  pub untold : op.outcome ≡ None
+  pub unprepared : op.prepared ≡ None
+
+-- one that has kept them, and goes on from its next fence
+pub record IsHopping (c : Core) (op : Operation) : Type 0 where
+  pub kept : KeptHop c.arena op.task.key op.walk op.scan.stop
+  pub untold : op.outcome ≡ None
   pub unprepared : op.prepared ≡ None
 
 -- an operation that holds its border node, to judge it
@@ -187,11 +209,16 @@ abbrev pub IsReturning : Option Outcome → Core → ℕ → Operation → Type 
 IsReturning None c o op = IsLeaving c o op
 IsReturning (Some told) c o op = IsUnlocking c o op
 
--- an operation that reads for a get, and one that has all ready to write, by the phase
+-- an operation that reads for a get, one that reads for a scan, and one that has all ready to write, by the phase
 abbrev pub IsReadingAt : Phase → Core → Operation → Type 0
 IsReadingAt Load c op = IsAtLoad c op
 IsReadingAt Confirm c op = IsAtConfirm c op
 IsReadingAt _ c op = IsOnItsWay c op
+
+abbrev pub IsScanningAt : Phase → Core → Operation → Type 0
+IsScanningAt Check c op = IsChecking c op
+IsScanningAt Hop c op = IsHopping c op
+IsScanningAt _ c op = IsOnItsWay c op
 
 abbrev pub IsWritingAt : Phase → Core → ℕ → Operation → Type 0
 IsWritingAt Store c o op = IsStoring c o op
@@ -202,7 +229,7 @@ abbrev pub IsKeptFor : Kind → Phase → Core → ℕ → Operation → Type 0
 IsKeptFor kinds.Descends p c o op = IsOnItsWay c op
 IsKeptFor kinds.Locks p c o op = IsOnItsWay c op
 IsKeptFor kinds.Reads p c o op = IsReadingAt p c op
-IsKeptFor kinds.Scans p c o op = IsOnItsWay c op
+IsKeptFor kinds.Scans p c o op = IsScanningAt p c op
 IsKeptFor kinds.Judges p c o op = IsJudging c o op
 IsKeptFor kinds.Writes p c o op = IsWritingAt p c o op
 IsKeptFor kinds.Begins p c o op = IsSplitStarting c o op
@@ -230,7 +257,20 @@ pub record IsPlacedOnce (c : Core) (op : Operation) (step : ℕ) : Type 0 where
   pub makes : entry.after ≡ row_left (ask op.task) entry.before
   pub was : is_remove (ask op.task) ≡ true → IsSome entry.before
 
--- all that is kept of the operation of an id
+-- what a scan has done so far, by its command: it has walked its tenant's keys up to its fence, from its first step on
+abbrev pub HasScannedFor : Command → Past → ℕ → ScanView → Type 0
+HasScannedFor (Scan from after count columns) past first s = HasScanned past first from after count columns s
+HasScannedFor _ past first s = Unit {0}
+
+abbrev pub KeepsScan : Core → Operation → Type 0
+KeepsScan c op = HasScannedFor (ask op.task) (past_of c) op.walk.first (scan_of op.task op.scan)
+
+-- before its first step an operation has scanned nothing; from then on what a scan has done is kept, as long as it has a step left
+pub record IsScanKept (c : Core) (op : Operation) : Type 0 where
+  pub fresh : op.walk.first ≡ 0 → scan_of op.task op.scan ≡ no_scan (stored_key op.task.tenant (key_of (ask op.task))) (ask op.task)
+  pub walked : 0 < op.walk.first → is_done op.walk.phase ≡ false → KeepsScan c op
+
+-- all that is kept of the operation of an id, but for what it has scanned
 pub record IsKeptOf (c : Core) (o : ℕ) (op : Operation) : Type 0 where
   pub always : IsOpenOperation c op
   pub kept : IsKeptAt op.walk.phase c o op

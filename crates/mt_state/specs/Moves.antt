@@ -9,15 +9,25 @@ use Rattle.mt_state.specs.Views.{Core, shown}
 use Rattle.mt_state.specs.Steps.{HasMoved}
 use Rattle.mt_state.specs.Notes.{Notes}
 use Rattle.mt_state.specs.Promises.{IsQuiet, IsPlacing, Touches}
-use Rattle.mt_state.specs.KeptOperations.{IsKeptOf}
+use Rattle.mt_state.specs.KeptOperations.{IsKeptOf, KeepsScan}
 use Rattle.mt_state.specs.Growth.{MakesFew}
 use Rattle.mt_state.specs.Invariant.{IsTape, AreStamps, AreVersions, HoldsAt, AreCounted, DeletedAreEmpty, StateGuarantee, one_if_prepared}
+
+-- an operation is asked the same: nothing of its task has changed, but for the key of a scan
+abbrev pub IsStillAsked : Operation → Operation → Type 0
+IsStillAsked before after = after.task ≡ record before.task { key = after.task.key }
+
+-- what it has scanned is as it was; or it is kept of it, where a step is left
+abbrev pub BringsScan : Core → Operation → Operation → Type 0
+BringsScan new before after =
+    ((after.task ≡ before.task) × (after.scan ≡ before.scan)) ⊎ (is_done after.walk.phase ≡ false → KeepsScan new after)
 
 -- What a step of operation o brings of its own. The rest of the invariant follows for all others.
 pub record IsMove (old new : Core) (o : ℕ) (before after : Operation) : Type 0 where
   pub there : operation_at old.table o ≡ Some before
   pub unfinished : is_done before.walk.phase ≡ false
-  pub task : after.task ≡ before.task
+  pub asked : IsStillAsked before after
+  pub scan : BringsScan new before after
   pub table : new.table ≡ slice_set old.table o (Some after)
   pub number : new.steps ≡ old.steps + 1
   pub answers : new.answers ≡ old.answers

@@ -7,6 +7,7 @@ use Rattle.mt_rows.specs.declared.command.Command.TheVariants.{Get}
 use Rattle.mt_rows.specs.declared.reply.Reply.{Reply}
 use Rattle.mt_rows.specs.declared.reply.Reply.TheVariants as replies
 use Rattle.mt_rows.specs.Rows.{Bytes, Columns, shown}
+use Rattle.mt_runs.specs.Scans.{Shown as ShownPairs}
 use Rattle.mt_rows.specs.Commands.{key_of}
 use Rattle.mt_slices.specs.Keys.{stored_key}
 use Rattle.mt_slices.specs.Slices.{slice_of}
@@ -17,7 +18,7 @@ use Rattle.mt_arena.specs.Accesses.{at}
 use Rattle.mt_descent.specs.KeptWalks.{GoesThrough, IsInSlot, HasSlot}
 use Rattle.mt_descent.specs.WalkMoves.{TakesOut}
 use Rattle.mt_operation.specs.declared.phase.Phase.{Phase}
-use Rattle.mt_operation.specs.declared.phase.Phase.TheVariants.{Enter, Search, Load, Confirm, Forward, Judge, Store, Publish, SplitStart, SplitMove, MakeLayer, DropKey, Unlock, Done}
+use Rattle.mt_operation.specs.declared.phase.Phase.TheVariants.{Enter, Search, Load, Confirm, Forward, Judge, Store, Publish, SplitStart, SplitMove, MakeLayer, DropKey, Unlock, Snap, Check, Hop, Done}
 use Rattle.mt_operation.specs.declared.walk.Taken.TheVariants.{Row}
 use Rattle.mt_operation.specs.declared.walk.Walk.{Walk}
 use Rattle.mt_operation.specs.declared.outcome.Outcome.{Outcome}
@@ -104,8 +105,12 @@ Keeps false had told = told ≡ had
 abbrev pub IsJudged : StateView → Option Outcome → Type 0
 IsJudged old told = Says told replies.New (old.steps + 1) ⊎ Says told replies.Full (old.steps + 1)
 
--- the outcome after a step, by the phases before and after it: it is set by the step that looks or places; a get that goes on its way again has none; and
--- every other step keeps it
+-- a scan that is done shows pairs, or was stopped
+abbrev pub EndsScan : StateView → Option Outcome → Type 0
+EndsScan old told = IsStopped old told ⊎ ((ps : ShownPairs) × Says told (replies.Pairs ps) (old.steps + 1))
+
+-- the outcome after a step, by the phases before and after it: it is set by the step that looks or places, and by the last one of a scan, which has none before;
+-- a get that goes on its way again has none; and every other step keeps it
 abbrev pub Notes : StateView → OperationView → Phase → Phase → Option Outcome → Type 0
 Notes old op Search Confirm told = NotesAbsent old op told
 Notes old op Load Confirm told = ShowsRow old op told ⊎ ShowsNone old op told
@@ -119,4 +124,8 @@ Notes old op SplitStart Done told = IsStopped old told
 Notes old op SplitMove _ told = IsJudged old told
 Notes old op MakeLayer Done told = IsStopped old told
 Notes old op DropKey _ told = Says told replies.Removed (old.steps + 1)
+Notes old op Snap Done told = IsStopped old told
+Notes old op Check Done told = EndsScan old told
+Notes old op Check _ told = Keeps true op.outcome told
+Notes old op Hop _ told = Keeps true op.outcome told
 Notes old op _ q told = Keeps (is_unplaced q) op.outcome told

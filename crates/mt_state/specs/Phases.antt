@@ -1,9 +1,12 @@
 -- The table of phases: where the step of each phase leads, and under which condition. Each walk is that of before with what the step has changed; a
 -- step that reads a marked node, or locks a locked one, is none (`IsInTheWay` of `Promises`).
-use Rattle.std.specs.Prelude.{◌≡◌, ℕ, ◌+◌, ◌⊎◌, length, Option, Some, None, ◌≢◌, List, [], ◌∷◌}
+use Rattle.std.specs.Prelude.{◌≡◌, ℕ, ◌+◌, ◌⊎◌, false, if◌then◌else◌, length, Option, Some, None, ◌≢◌, List, [], ◌∷◌}
 use Rattle.mt_version.specs.Changes.{IsStable}
 use Rattle.mt_slices.specs.Keys.{stored_key}
+use Rattle.mt_rows.specs.declared.command.Command.{Command}
+use Rattle.mt_rows.specs.declared.command.Command.TheVariants.{Scan}
 use Rattle.mt_rows.specs.Rows.{Bytes, Columns}
+use Rattle.mt_rows.specs.Maps.{is_scan}
 use Rattle.mt_rows.specs.Commands.{key_of}
 use Rattle.mt_border.specs.declared.entry.Find.{Find}
 use Rattle.mt_border.specs.declared.entry.Held.TheVariants as helds
@@ -14,14 +17,19 @@ use Rattle.mt_arena.specs.Layers.{slot_at}
 use Rattle.mt_arena.specs.Arena.{ArenaView}
 use Rattle.mt_arena.specs.Accesses.{at}
 use Rattle.mt_operation.specs.declared.phase.Phase.{Phase}
-use Rattle.mt_operation.specs.declared.phase.Phase.TheVariants.{Enter, Pick, Child, Verify, Search, Load, Confirm, Forward, Lock, Judge, Store, Publish, SplitStart, SplitMove, SplitPrev, LockParent, InsertChild, InteriorSplit, Reparent, RootGrow, MakeLayer, MarkUnstable, Link, MarkLayer, DropKey, LockPrev, LockAbove, Unlink, FixNext, Collapse, CleanLayer, Unlock}
+use Rattle.mt_operation.specs.declared.phase.Phase.TheVariants.{Enter, Pick, Child, Verify, Search, Load, Confirm, Forward, Lock, Judge, Store, Publish, SplitStart, SplitMove, SplitPrev, LockParent, InsertChild, InteriorSplit, Reparent, RootGrow, MakeLayer, MarkUnstable, Link, MarkLayer, DropKey, LockPrev, LockAbove, Unlink, FixNext, Collapse, CleanLayer, Unlock, Snap, Check, Hop}
 use Rattle.mt_operation.specs.declared.walk.Taken.TheVariants as takens
 use Rattle.mt_operation.specs.declared.walk.Walk.{Walk}
 use Rattle.mt_operation.specs.declared.outcome.Outcome.{Outcome}
-use Rattle.mt_operation.specs.Operations.{OperationView, SplitsView}
+use Rattle.mt_operation.specs.Operations.{OperationView, SplitsView, ScanView}
+use Rattle.mt_operation.specs.Phases.{is_done, Kind, row}
+use Rattle.mt_operation.specs.Phases as phase_kinds
 use Rattle.mt_descent.specs.Seen.{child_for}
 use Rattle.mt_descent.specs.KeptWalks.{IsInSlot, slice_in}
 use Rattle.mt_descent.specs.WalkMoves.{Verifies, FindsIn, Loads, Confirms, Locks, walk_into, walk_here, after_enter, after_pick, after_child, after_search, after_forward}
+use Rattle.mt_scan.specs.Snaps.{prefix_in, IsSnap}
+use Rattle.mt_scan.specs.Checks.{IsCheck}
+use Rattle.mt_scan.specs.Hops.{HopsTo}
 use Rattle.mt_insert.specs.Placing.{walk_placed}
 use Rattle.mt_insert.specs.Judge.{StandsIn, after_judge}
 use Rattle.mt_insert.specs.Unlock.{walk_done}
@@ -160,52 +168,83 @@ abbrev pub GoesFromUnlock : Option Outcome → ArenaView → SplitsView → Remo
 GoesFromUnlock (Some told) v s r w x = ReturnsBy s.halves v r w x
 GoesFromUnlock None v s r w x = (tree : ℕ) × (w.taken ≡ takens.Link tree) × (x ≡ walk_into w tree (w.layer + 1))
 
--- Where the step of this number of an operation leads from each phase: of operation o for this key, with this outcome so far, these splits and this removal. Where a
--- phase makes a growth, it may end the operation for want of memory.
-abbrev pub LeadsTo : Phase → ArenaView → ArenaView → ℕ → ℕ → Bytes → Option Outcome → SplitsView → Removal → Walk → Walk → Type 0
-LeadsTo Enter old new o step key told s r w x = IsStable (at old (tree_at old.trees w.place.tree).root).version
+-- what a step makes of what an operation of this command has scanned
+pub record ScanStep : Type 0 where
+  pub command : Command
+  pub was : ScanView
+  pub is : ScanView
+
+-- from Check of a scan that was asked so: where the version is the same but for the lock the pairs that were seen are kept, else they are dropped; a scan that is
+-- done shows those that it has, and remembers them no more
+pub record ChecksPairs (n : NodeView) (prefix : Bytes) (count : ℕ) (columns : List ℕ) (g : ScanStep) (w x : Walk) : Type 0 where
+  pub kept : ScanView
+  pub checks : IsCheck n prefix count columns w x g.was kept
+  pub left : is_done x.phase ≡ false → g.is ≡ kept
+
+abbrev pub ChecksBy : Command → NodeView → Bytes → ScanStep → Walk → Walk → Type 0
+ChecksBy (Scan from after count columns) n prefix g w x = ChecksPairs n prefix count columns g w x
+ChecksBy _ n prefix g w x = ⊥
+
+-- Where the step of this number of an operation leads from each phase: of operation o for this key, with this outcome so far, these splits, this removal and this of
+-- its scan. Where a phase makes a growth, it may end the operation for want of memory.
+abbrev pub LeadsTo : Phase → ArenaView → ArenaView → ℕ → ℕ → Bytes → Option Outcome → SplitsView → Removal → ScanStep → Walk → Walk → Type 0
+LeadsTo Enter old new o step key told s r g w x = IsStable (at old (tree_at old.trees w.place.tree).root).version
     × (x ≡ after_enter (tree_at old.trees w.place.tree).standing w (tree_at old.trees w.place.tree).root (at old (tree_at old.trees w.place.tree).root).version)
-LeadsTo Pick old new o step key told s r w x = x ≡ after_pick w (child_for (at old w.place.node) (slice_in key w))
-LeadsTo Child old new o step key told s r w x = IsStable (at old w.child).version × (x ≡ after_child w (at old w.child).version)
-LeadsTo Verify old new o step key told s r w x = IsStable (at old w.place.node).version × Verifies (at old w.place.node) w x
-LeadsTo Search old new o step key told s r w x = (found : Find) × FindsIn (at old w.place.node) key w.layer found × (x ≡ after_search found w step)
-LeadsTo Load old new o step key told s r w x = GoesFromLoad (at old w.place.node) w x
-LeadsTo Confirm old new o step key told s r w x = IsStable (at old w.place.node).version × Confirms (at old w.place.node) w x
-LeadsTo Forward old new o step key told s r w x = GoesForward w.next old key w x
-LeadsTo Lock old new o step key told s r w x = ((at old w.place.node).holder ≡ None) × LocksBy told o old new r w x
-LeadsTo Judge old new o step key told s r w x = JudgesBy told (at old w.place.node) key w x
-LeadsTo Store old new o step key told s r w x = x ≡ walk_placed w
-LeadsTo Publish old new o step key told s r w x = x ≡ walk_placed w
-LeadsTo SplitStart old new o step key told s r w x = (x ≡ walk_at SplitMove w) ⊎ (x ≡ walk_done w)
-LeadsTo SplitMove old new o step key told s r w x = x ≡ walk_at (after_parting (at old w.place.node).next) w
-LeadsTo SplitPrev old new o step key told s r w x = x ≡ walk_at LockParent w
-LeadsTo LockParent old new o step key told s r w x = GoesAbove (at old (last_half s).left).parent old w x
-LeadsTo InsertChild old new o step key told s r w x = x ≡ walk_at Unlock w
-LeadsTo InteriorSplit old new o step key told s r w x = x ≡ walk_at Reparent w
-LeadsTo Reparent old new o step key told s r w x = x ≡ walk_at (after_reparent (at old (last_half s).right) s.moved) w
-LeadsTo RootGrow old new o step key told s r w x = x ≡ walk_at Unlock w
-LeadsTo MakeLayer old new o step key told s r w x = (x ≡ walk_linked w (length old.trees)) ⊎ (x ≡ walk_done w)
-LeadsTo MarkUnstable old new o step key told s r w x = x ≡ walk_at Link w
-LeadsTo Link old new o step key told s r w x = x ≡ walk_at MarkLayer w
-LeadsTo MarkLayer old new o step key told s r w x = x ≡ walk_at Unlock w
-LeadsTo DropKey old new o step key told s r w x = LeavesSlot new w x
-LeadsTo LockPrev old new o step key told s r w x = LocksBefore old w x
-LeadsTo LockAbove old new o step key told s r w x = LocksParent old r w x
-LeadsTo Unlink old new o step key told s r w x =
+LeadsTo Pick old new o step key told s r g w x = x ≡ after_pick w (child_for (at old w.place.node) (slice_in key w))
+LeadsTo Child old new o step key told s r g w x = IsStable (at old w.child).version × (x ≡ after_child w (at old w.child).version)
+LeadsTo Verify old new o step key told s r g w x = IsStable (at old w.place.node).version × Verifies (at old w.place.node) w x
+LeadsTo Search old new o step key told s r g w x = (found : Find) × FindsIn (at old w.place.node) key w.layer found × (x ≡ after_search found w step)
+LeadsTo Load old new o step key told s r g w x = GoesFromLoad (at old w.place.node) w x
+LeadsTo Confirm old new o step key told s r g w x = IsStable (at old w.place.node).version × Confirms (at old w.place.node) w x
+LeadsTo Forward old new o step key told s r g w x = GoesForward w.next old key w x
+LeadsTo Lock old new o step key told s r g w x = ((at old w.place.node).holder ≡ None) × LocksBy told o old new r w x
+LeadsTo Judge old new o step key told s r g w x = JudgesBy told (at old w.place.node) key w x
+LeadsTo Store old new o step key told s r g w x = x ≡ walk_placed w
+LeadsTo Publish old new o step key told s r g w x = x ≡ walk_placed w
+LeadsTo SplitStart old new o step key told s r g w x = (x ≡ walk_at SplitMove w) ⊎ (x ≡ walk_done w)
+LeadsTo SplitMove old new o step key told s r g w x = x ≡ walk_at (after_parting (at old w.place.node).next) w
+LeadsTo SplitPrev old new o step key told s r g w x = x ≡ walk_at LockParent w
+LeadsTo LockParent old new o step key told s r g w x = GoesAbove (at old (last_half s).left).parent old w x
+LeadsTo InsertChild old new o step key told s r g w x = x ≡ walk_at Unlock w
+LeadsTo InteriorSplit old new o step key told s r g w x = x ≡ walk_at Reparent w
+LeadsTo Reparent old new o step key told s r g w x = x ≡ walk_at (after_reparent (at old (last_half s).right) s.moved) w
+LeadsTo RootGrow old new o step key told s r g w x = x ≡ walk_at Unlock w
+LeadsTo MakeLayer old new o step key told s r g w x = (x ≡ walk_linked w (length old.trees)) ⊎ (x ≡ walk_done w)
+LeadsTo MarkUnstable old new o step key told s r g w x = x ≡ walk_at Link w
+LeadsTo Link old new o step key told s r g w x = x ≡ walk_at MarkLayer w
+LeadsTo MarkLayer old new o step key told s r g w x = x ≡ walk_at Unlock w
+LeadsTo DropKey old new o step key told s r g w x = LeavesSlot new w x
+LeadsTo LockPrev old new o step key told s r g w x = LocksBefore old w x
+LeadsTo LockAbove old new o step key told s r g w x = LocksParent old r w x
+LeadsTo Unlink old new o step key told s r g w x =
     (parent : ℕ) × (r.parent ≡ Some parent) × (x ≡ walk_at (after_unlink (at old w.place.node).next (at new parent)) w)
-LeadsTo FixNext old new o step key told s r w x = (parent : ℕ) × (r.parent ≡ Some parent) × (x ≡ walk_at (for_rest (at old parent)) w)
-LeadsTo Collapse old new o step key told s r w x = x ≡ walk_at Unlock w
-LeadsTo CleanLayer old new o step key told s r w x =
+LeadsTo FixNext old new o step key told s r g w x = (parent : ℕ) × (r.parent ≡ Some parent) × (x ≡ walk_at (for_rest (at old parent)) w)
+LeadsTo Collapse old new o step key told s r g w x = x ≡ walk_at Unlock w
+LeadsTo CleanLayer old new o step key told s r g w x =
     (tree : ℕ) × (r.cleans ≡ Some tree) × (CleansNone old key tree w x ⊎ CleansFull old tree w x ⊎ CleansEmpty old new tree w x)
-LeadsTo Unlock old new o step key told s r w x = GoesFromUnlock told old s r w x
-LeadsTo _ old new o step key told s r w x = ⊥
+LeadsTo Unlock old new o step key told s r g w x = GoesFromUnlock told old s r w x
+LeadsTo Snap old new o step key told s r g w x = IsSnap old w x g.was g.is ⊎ (x ≡ walk_done w)
+LeadsTo Check old new o step key told s r g w x = ChecksBy g.command (at old w.place.node) (prefix_in old w) g w x ⊎ (x ≡ walk_done w)
+LeadsTo Hop old new o step key told s r g w x = HopsTo old g.was.stop w x × (g.is ≡ g.was)
+LeadsTo _ old new o step key told s r g w x = ⊥
+
+-- the key that the walk of an operation looks for: that of its command, or the fence that a scan has reached
+abbrev pub key_sought : OperationView → Bytes
+key_sought op = if is_scan op.command then op.scan.fence else stored_key op.tenant (key_of op.command)
+
+-- the steps of a scan alone change what is scanned
+abbrev pub StaysScanned : Kind → ScanView → ScanView → Type 0
+StaysScanned phase_kinds.Scans was is = Unit {0}
+StaysScanned _ was is = is ≡ was
 
 -- The step of an operation from its phase by the table, as it is shown: but for the number of the first step, which it sets, its walk is the one to which the
 -- table leads.
 pub record GoesBy (old new : ArenaView) (o step : ℕ) (before after : OperationView) : Type 0 where
   pub walk : Walk
-  pub leads : LeadsTo before.phase old new o step (stored_key before.tenant (key_of before.command)) before.outcome before.splits before.removal before.walk walk
+  pub leads : LeadsTo before.phase old new o step (key_sought before) before.outcome before.splits before.removal
+      (record { command = before.command; was = before.scan; is = after.scan }) before.walk walk
   pub is : after.walk ≡ record walk { first = after.first }
+  pub stays : StaysScanned (row before.phase).kind before.scan after.scan
 
 -- the step that operation o has made leads where the table says
 abbrev pub Leads : StateView → StateView → ℕ → Type 0

@@ -5,10 +5,12 @@ use Rattle.std.specs.Option.{option_map}
 use Rattle.mt_rows.specs.declared.reply.Reply.{Reply}
 use Rattle.mt_rows.specs.Commands.{key_of}
 use Rattle.mt_insert.specs.KeptSplits.{last_half}
-use Rattle.mt_rows.specs.Maps.{reply_of, is_change, is_no_memory}
+use Rattle.mt_rows.specs.Maps.{reply_of, is_change, is_no_memory, is_scan}
 use Rattle.mt_rows.specs.Tenants.{tenant_map}
 use Rattle.mt_tape.specs.declared.entry.Entry.{Entry as TapeEntry}
 use Rattle.mt_runs.specs.Placings.{maps_after_one}
+use Rattle.mt_runs.specs.Scans.{IsLawfulScan}
+use Rattle.mt_walks.specs.Walked.{IsWithin}
 use Rattle.mt_arena.specs.NodeView.{NodeView}
 use Rattle.mt_arena.specs.Edits.{pointed}
 use Rattle.mt_arena.specs.Arena.{ArenaView, Guarantee}
@@ -18,8 +20,9 @@ use Rattle.mt_operation.specs.declared.phase.Phase.{Phase}
 use Rattle.mt_operation.specs.declared.walk.Walk.{Walk}
 use Rattle.mt_operation.specs.declared.removal.Removal.{Removal}
 use Rattle.mt_operation.specs.declared.outcome.Outcome.{Outcome}
-use Rattle.mt_operation.specs.Operations.{OperationView, SplitsView}
+use Rattle.mt_operation.specs.Operations.{OperationView, SplitsView, ScanView}
 use Rattle.mt_descent.specs.WalkMoves.{IsBlocked, IsBlockedAt}
+use Rattle.mt_scan.specs.Snaps.{IsBlockedAmong}
 use Rattle.mt_state.specs.declared.moves.Move.{Move}
 use Rattle.mt_state.specs.declared.moves.Move.TheVariants.{Moved, Again, NoMemory as NoMemoryMove, Done as DoneMove, Spent, NoSuch}
 use Rattle.mt_state.specs.Views.{StateView, contents_of, op_at, map_of, quota_of, KeepsPast, IsPlaced}
@@ -52,12 +55,14 @@ pub record IsPlacing (old new : StateView) (before after : OperationView) : Type
   pub tenant : entry.tenant ≡ before.tenant
   pub key_is : entry.key ≡ key_of before.command
 
--- a finished operation's reply is right at a number from the operation's first step to its last, unless memory stopped the operation
+-- A finished operation's reply is right at a number from the operation's first step to its last, unless memory stopped the operation; a scan's pairs are lawful
+-- by the maps that its tenant had from its first step to its last.
 pub record IsAnswer (v : StateView) (op : OperationView) (told : Outcome) : Type 0 where
   pub begun : 0 < op.first
   pub since : op.first ≤ told.at
   pub upto : told.at ≤ op.last
-  pub placed : is_no_memory told.reply ≡ false → IsPlaced v op.tenant op.command told.at told.reply
+  pub placed : is_no_memory told.reply ≡ false → is_scan op.command ≡ false → IsPlaced v op.tenant op.command told.at told.reply
+  pub lawful : IsLawfulScan (map_of v op.tenant) (IsWithin op.first op.last) op.command told.reply
 
 -- an operation held the node before its step, or holds it after
 abbrev pub HoldsEither : ℕ → NodeView → NodeView → Type 0
@@ -122,28 +127,28 @@ is_for_lock _ = false
 abbrev pub locks_next : Phase → Bool
 locks_next p = is_for_lock (row p).waits
 
--- how that node is in the way: by its lock, where it is to be locked; by an unstable slot, where that is to be loaded or read; else by its mark; each is its
--- holder's
-abbrev pub BlocksBy : Waiting → NodeView → ℕ → ℕ → Type 0
-BlocksBy OwnLock n slot holder = n.holder ≡ Some holder
-BlocksBy ParentLock n slot holder = n.holder ≡ Some holder
-BlocksBy BeforeLock n slot holder = n.holder ≡ Some holder
-BlocksBy AboveLock n slot holder = n.holder ≡ Some holder
-BlocksBy BelowLock n slot holder = n.holder ≡ Some holder
-BlocksBy OwnSlot n slot holder = IsBlockedAt n slot holder
-BlocksBy ReadSlot n slot holder = (i : ℕ) × IsBlockedAt n i holder
-BlocksBy _ n slot holder = IsBlocked n holder
+-- how that node is in the way: by its lock, where it is to be locked; by an unstable slot, where that is to be loaded, or is among those that a scan reads;
+-- else by its mark; each is its holder's
+abbrev pub BlocksBy : Waiting → NodeView → Walk → ScanView → ℕ → Type 0
+BlocksBy OwnLock n w g holder = n.holder ≡ Some holder
+BlocksBy ParentLock n w g holder = n.holder ≡ Some holder
+BlocksBy BeforeLock n w g holder = n.holder ≡ Some holder
+BlocksBy AboveLock n w g holder = n.holder ≡ Some holder
+BlocksBy BelowLock n w g holder = n.holder ≡ Some holder
+BlocksBy OwnSlot n w g holder = IsBlockedAt n w.slot holder
+BlocksBy ReadSlot n w g holder = IsBlockedAmong n g w.layer holder
+BlocksBy _ n w g holder = IsBlocked n holder
 
 -- the same of the step of a phase
 abbrev pub needed_node : Phase → ArenaView → Walk → SplitsView → Removal → Option ℕ
 needed_node p v w s r = node_needed (row p).waits v w s r
 
-abbrev pub Blocks : Phase → NodeView → ℕ → ℕ → Type 0
-Blocks p n slot holder = BlocksBy (row p).waits n slot holder
+abbrev pub Blocks : Phase → NodeView → Walk → ScanView → ℕ → Type 0
+Blocks p n w g holder = BlocksBy (row p).waits n w g holder
 
 -- who is in the way of the next step of an operation
-abbrev pub IsInTheWay : ArenaView → Phase → Walk → SplitsView → Removal → ℕ → Type 0
-IsInTheWay v phase w s r holder = (k : ℕ) × (needed_node phase v w s r ≡ Some k) × (k < length v.nodes) × Blocks phase (at v k) w.slot holder
+abbrev pub IsInTheWay : ArenaView → Phase → Walk → SplitsView → Removal → ScanView → ℕ → Type 0
+IsInTheWay v phase w s r g holder = (k : ℕ) × (needed_node phase v w s r ≡ Some k) × (k < length v.nodes) × Blocks phase (at v k) w g holder
 
 -- another operation, which has a step left, is in the way
 pub record IsHeldByOther (v : StateView) (o holder : ℕ) : Type 0 where
@@ -151,7 +156,7 @@ pub record IsHeldByOther (v : StateView) (o holder : ℕ) : Type 0 where
   pub unfinished : HasStep v holder
   pub op : OperationView
   pub there : op_at v.table o ≡ Some op
-  pub holds : IsInTheWay v.arena op.phase op.walk op.splits op.removal holder
+  pub holds : IsInTheWay v.arena op.phase op.walk op.splits op.removal op.scan holder
 
 -- the operation has been placed, or has found its quota full, and is to make a node
 pub record IsPlacedToGrow (v : StateView) (o : ℕ) : Type 0 where

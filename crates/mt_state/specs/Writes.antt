@@ -1,4 +1,4 @@
--- The states that the steps leave of an operation that locks or writes.
+-- The states that the steps leave of an operation that locks or writes, or scans.
 use Rattle.std.specs.Prelude.{Option, Some, slice_set, ℕ, ◌+◌}
 use Rattle.mt_rows.specs.Accounts.{Accounts}
 use Rattle.mt_tape.specs.Tapes.{Kept}
@@ -8,6 +8,8 @@ use Rattle.mt_operation.specs.declared.outcome.Outcome.{Outcome}
 use Rattle.mt_operation.specs.declared.prepared.Prepared.{Prepared}
 use Rattle.mt_operation.specs.declared.operation.Operation.{Operation}
 use Rattle.mt_operation.specs.declared.splits.Splits.{Splits}
+use Rattle.mt_operation.specs.declared.scan.Scan.{Scan}
+use Rattle.mt_operation.specs.declared.task.Task.{Task}
 use Rattle.mt_operation.specs.Operations.{moved}
 use Rattle.mt_state.specs.Views.{Core}
 use Rattle.mt_operation.specs.declared.removal.Removal.{Removal}
@@ -40,4 +42,12 @@ removing c arena tape accounts o op w told prepared removal = record c {
   arena = arena;
   tape = tape;
   table = slice_set c.table o (Some (record (moved op (c.steps + 1) w) { outcome = told; prepared = prepared; removal = removal }));
+}
+
+-- a state in which operation o, a scan, has walked on by one more step with this task, whose key is the fence that it has reached, with this of what it remembers,
+-- and with this outcome or none, and all else is as it was
+abbrev pub scanned : Core → ℕ → Operation → Task → Walk → Scan → Option Outcome → Core
+scanned c o op task w scan told = record c {
+  steps = c.steps + 1;
+  table = slice_set c.table o (Some (record (moved op (c.steps + 1) w) { task = task; scan = scan; outcome = told }));
 }

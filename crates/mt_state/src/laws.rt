@@ -12,11 +12,11 @@ ghost use Rattle.mt_operation.specs.declared.phase.Phase.TheVariants.{Search, Lo
 ghost use Rattle.mt_operation.specs.declared.outcome.Outcome.{Outcome};
 ghost use Rattle.mt_operation.specs.declared.operation.Operation.{Operation};
 ghost use Rattle.mt_operation.specs.declared.removal.Removal.{Removal};
-ghost use Rattle.mt_operation.specs.Operations.{OperationView, SplitsView};
+ghost use Rattle.mt_operation.specs.Operations.{OperationView, SplitsView, ScanView};
 ghost use Rattle.mt_operation.specs.Phases.{is_done, IsDescent};
 ghost use Rattle.mt_state.specs.Views.{StateView, Core, shown, KeepsPast};
 ghost use Rattle.mt_state.specs.Promises.{IsAnswer, IsInTheWay, needed_node, locks_next, Touches, IsStep};
-ghost use Rattle.mt_state.specs.KeptOperations.{IsKeptOf};
+ghost use Rattle.mt_state.specs.KeptOperations.{IsKeptOf, IsScanKept};
 ghost use Rattle.mt_state.specs.Invariant.{StateInvariant, StateGuarantee};
 ghost use Rattle.mt_operation.specs.declared.walk.Walk.{Walk};
 ghost use Rattle.mt_operation.specs.Tables.{op_at as operation_at};
@@ -30,11 +30,13 @@ ghost use Rattle.mt_descent.specs.WalkMoves.{Continues};
 ghost use Rattle.mt_state.specs.Ways.{Descends, walked, ShowsTaken};
 ghost use Rattle.mt_state.specs.Calls.{IsLawful, Searches, Takes, Compares};
 
-/// All that is kept of an operation, at whatever phase it is, each step of another one keeps: what
-/// counts is what that step leaves to others. An answer that was right stays right.
+/// All that is kept of an operation, at whatever phase it is, each step of another one keeps, and what a
+/// scan has done too: what counts is what that step leaves to others. An answer that was right stays right.
 pub fn others_keep_theirs()
     ensures kept { (old new : Core) (o q : ℕ) (op : Operation) → IsArena new.arena.nodes new.arena.trees → StateGuarantee old new o → q ≢ o → old.steps < new.steps →
         IsKeptOf old q op → IsKeptOf new q op }
+    ensures scanned { (old new : Core) (o q : ℕ) (op : Operation) → IsArena new.arena.nodes new.arena.trees → StateGuarantee old new o → q ≢ o → old.steps < new.steps →
+        IsScanKept old op → IsScanKept new op }
     ensures answers { (old new : StateView) (op : OperationView) (told : Outcome) → KeepsPast old new → op.last ≤ old.steps →
         IsAnswer old op told → IsAnswer new op told }
 {}
@@ -52,11 +54,11 @@ pub fn a_step_keeps_the_invariant()
 /// or for a lock where it is only to read; and a step that changes the keys of a node which another
 /// operation holds.
 pub fn wrong_steps_are_refused()
-    ensures for_another_node { (v : ArenaView) (phase : Phase) (w : Walk) (s : SplitsView) (r : Removal) (k holder : ℕ) → needed_node phase v w s r ≡ Some k →
-        (at v k).holder ≢ Some holder → ¬ IsInTheWay v phase w s r holder }
-    ensures for_none { (v : ArenaView) (phase : Phase) (w : Walk) (s : SplitsView) (r : Removal) (holder : ℕ) → needed_node phase v w s r ≡ None → ¬ IsInTheWay v phase w s r holder }
-    ensures lock_alone { (v : ArenaView) (phase : Phase) (w : Walk) (s : SplitsView) (r : Removal) (k holder : ℕ) → locks_next phase ≡ false → phase ≢ Load → phase ≢ Snap →
-        needed_node phase v w s r ≡ Some k → IsStable (at v k).version → ¬ IsInTheWay v phase w s r holder }
+    ensures for_another_node { (v : ArenaView) (phase : Phase) (w : Walk) (s : SplitsView) (r : Removal) (g : ScanView) (k holder : ℕ) → needed_node phase v w s r ≡ Some k →
+        (at v k).holder ≢ Some holder → ¬ IsInTheWay v phase w s r g holder }
+    ensures for_none { (v : ArenaView) (phase : Phase) (w : Walk) (s : SplitsView) (r : Removal) (g : ScanView) (holder : ℕ) → needed_node phase v w s r ≡ None → ¬ IsInTheWay v phase w s r g holder }
+    ensures lock_alone { (v : ArenaView) (phase : Phase) (w : Walk) (s : SplitsView) (r : Removal) (g : ScanView) (k holder : ℕ) → locks_next phase ≡ false → phase ≢ Load → phase ≢ Snap →
+        needed_node phase v w s r ≡ Some k → IsStable (at v k).version → ¬ IsInTheWay v phase w s r g holder }
     ensures of_another { (o q k : ℕ) (old new : ArenaView) → Touches o old new → k < length old.nodes → q ≢ o →
         (at old k).holder ≡ Some q → (at new k).holder ≢ Some o → (at new k).slots ≡ (at old k).slots }
 {}

@@ -11,6 +11,7 @@ pub mod laws;
 pub mod layers;
 pub mod moves;
 pub mod removals;
+pub mod scans;
 pub mod splits;
 pub mod tenants;
 pub mod writes;

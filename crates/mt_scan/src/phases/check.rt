@@ -43,6 +43,7 @@ pub fn check(
         KeptScan walk.new.phase arena.now past task.new.key row walk.new scan.new.stop) }
     ensures same { Continues walk.old walk.new }
     ensures stands_on_err { OnErr result (walk.new ≡ walk.old) }
+    ensures task_on_err { OnErr result (task.new ≡ task.old) }
 {
     arena.facts();
     let node = arena.node(walk.place.node);
@@ -74,6 +75,7 @@ fn keep(
     ensures task { task.new ≡ record task.old { key = task.new.key } }
     ensures same { Continues walk.old walk.new }
     ensures stands_on_err { OnErr result (walk.new ≡ walk.old) }
+    ensures task_on_err { OnErr result (task.new ≡ task.old) }
 {
     if collect(alloc, task, scan)? {
         walk.phase = Phase::Done;
@@ -96,6 +98,7 @@ fn go_behind(
     ensures task { task.new ≡ record task.old { key = task.new.key } }
     ensures same { Continues walk.old walk.new }
     ensures stands_on_err { OnErr result (walk.new ≡ walk.old) }
+    ensures task_on_err { OnErr result (task.new ≡ task.old) }
 {
     let next = next_fence(alloc, prefix, &task.key, scan.stop)?;
     go_to(next, task, walk, scan);

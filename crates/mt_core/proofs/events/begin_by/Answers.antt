@@ -20,7 +20,6 @@ returns-in_ok-insert-in-Ok-2-clause-tells c = (
   c.in-Ok.ticket.id,
   named_none c.args.roster.now.tickets c.args.op (sym c.if-contains_key.ensures),
   renamed c.args.roster.now.tickets c.insert-in-Ok.new.self c.args.op c.in-Ok.ticket c.in_ok-insert-in-Ok-2.ensures.updates,
-  c.if-not-may_begin.ensures.0 refl,
   subst (Begins c.args.state.now c.begin.new.self c.in-Ok.ticket.id c.args.worker c.args.tenant) c.in_ok-copied.ensures c.in-Ok.ensures.told,
   subst (λ command. IsAdmissible c.args.state.now c.args.tenant command) c.in_ok-copied.ensures c.in-Ok.ensures.refused,
 )

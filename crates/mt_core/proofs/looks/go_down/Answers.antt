@@ -44,20 +44,20 @@ returns-in-Forward-clause-leads c =
     forward_leads c.forward.result c.args.arena.now c.args.key.now _ _ (sym c.requires.phase ∙ c.in-Forward.is) c.forward.ensures.again c.forward.ensures.last c.forward.ensures.is
 
 pub returns-in-Enter-clause-again : goal.returns-in-Enter-clause-again
-returns-in-Enter-clause-again c s rem =
-    enter_way c.args.arena.now c.facts.ensures.arena c.requires.kept.0 c.args.key.now _ _ c.requires.kept.1 s rem c.enter.result (sym c.requires.phase ∙ c.in-Enter.is) c.enter.ensures.again
+returns-in-Enter-clause-again c s rem g =
+    enter_way c.args.arena.now c.facts.ensures.arena c.requires.kept.0 c.args.key.now _ _ c.requires.kept.1 s rem g c.enter.result (sym c.requires.phase ∙ c.in-Enter.is) c.enter.ensures.again
 
 pub returns-in-Child-clause-again : goal.returns-in-Child-clause-again
-returns-in-Child-clause-again c s rem =
-    child_way c.args.arena.now c.facts.ensures.arena c.requires.kept.0 c.args.key.now _ _ c.requires.kept.1 s rem c.child.result (sym c.requires.phase ∙ c.in-Child.is) c.child.ensures.again
+returns-in-Child-clause-again c s rem g =
+    child_way c.args.arena.now c.facts.ensures.arena c.requires.kept.0 c.args.key.now _ _ c.requires.kept.1 s rem g c.child.result (sym c.requires.phase ∙ c.in-Child.is) c.child.ensures.again
 
 pub returns-in-Verify-clause-again : goal.returns-in-Verify-clause-again
-returns-in-Verify-clause-again c s rem =
-    verify_way c.args.arena.now c.facts.ensures.arena c.requires.kept.0 c.args.key.now _ _ c.requires.kept.1 s rem c.verify.result (sym c.requires.phase ∙ c.in-Verify.is) c.verify.ensures.again
+returns-in-Verify-clause-again c s rem g =
+    verify_way c.args.arena.now c.facts.ensures.arena c.requires.kept.0 c.args.key.now _ _ c.requires.kept.1 s rem g c.verify.result (sym c.requires.phase ∙ c.in-Verify.is) c.verify.ensures.again
 
 pub returns-in-Forward-clause-again : goal.returns-in-Forward-clause-again
-returns-in-Forward-clause-again c s rem =
-    forward_way c.args.arena.now c.facts.ensures.arena c.requires.kept.0 c.args.key.now _ _ c.requires.kept.1 s rem c.forward.result (sym c.requires.phase ∙ c.in-Forward.is) c.forward.ensures.again c.forward.ensures.last
+returns-in-Forward-clause-again c s rem g =
+    forward_way c.args.arena.now c.facts.ensures.arena c.requires.kept.0 c.args.key.now _ _ c.requires.kept.1 s rem g c.forward.result (sym c.requires.phase ∙ c.in-Forward.is) c.forward.ensures.again c.forward.ensures.last
 
 pub returns-in-Pick-clause-nears : goal.returns-in-Pick-clause-nears
 returns-in-Pick-clause-nears c = pick_nears c.args.arena.now _ _ _ (sym c.requires.phase ∙ c.in-Pick.is) c.pick.ensures.is

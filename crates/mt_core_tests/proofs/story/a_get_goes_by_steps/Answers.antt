@@ -4,14 +4,14 @@ use Rattle.mt_rows.specs.declared.command.Command.{Command}
 use Rattle.mt_rows.specs.declared.refusal.Refusal.{Refusal}
 use Rattle.mt_operation.specs.Operations.{OperationView}
 use Rattle.mt_state.specs.Views.{StateView}
-use Rattle.mt_state.specs.Begins.{IsWorker, MayBegin}
+use Rattle.mt_state.specs.Begins.{IsWorker}
 use Rattle.mt_core.specs.Admitted.{IsMadeOf, MayAdmit}
 use Rattle.mt_core_tests.proofs.story.a_get_goes_by_steps.Goals as goal
 
--- what was made of a command that may be begun may be admitted, for worker 0
-may_admit : (v : StateView) (command : Command) (made : Result OperationView Refusal) → MayBegin command → IsMadeOf made 0 7 command → MayAdmit v made
-may_admit v command (Ok op) may is = subst (λ (x : OperationView). IsWorker (length v.logs) x.worker × MayBegin x.command) (sym is) (omega arith, may)
-may_admit v command (Err refusal) may is = tt
+-- what was made of a command may be admitted, for worker 0
+may_admit : (v : StateView) (command : Command) (made : Result OperationView Refusal) → IsMadeOf made 0 7 command → MayAdmit v made
+may_admit v command (Ok op) is = subst (λ (x : OperationView). IsWorker (length v.logs) x.worker) (sym is) (omega arith)
+may_admit v command (Err refusal) is = tt
 
 pub admit-requires : goal.admit-requires
-admit-requires g c = may_admit c.args.state.now c.get.result c.prepare-opening.result.made c.get.ensures c.prepare-opening.ensures.made
+admit-requires g c = may_admit c.args.state.now c.get.result c.prepare-opening.result.made c.prepare-opening.ensures.made

@@ -5,6 +5,7 @@ use Rattle.mt_remove.specs.Writes.{is_remove}
 use Rattle.mt_operation.specs.declared.phase.Phase.TheVariants.{Judge}
 use Rattle.mt_state.specs.declared.moves.Move.TheVariants.{Moved}
 use Rattle.mt_state.specs.Views.{Core, shown}
+use Rattle.mt_state.proofs.Lawful.{put_no_scan}
 use Rattle.mt_state.proofs.Needs.{judge_kept}
 use Rattle.mt_state.proofs.Telling.{Gives}
 use Rattle.mt_core.specs.States.{core_of}
@@ -15,10 +16,8 @@ use Rattle.mt_core.proofs.inner.Inner.judge_put.Goals as goal
 
 pub judge-judged-requires-clause-put : goal.judge-judged-requires-clause-put
 judge-judged-requires-clause-put c =
-    record {
-      put_is = (judged_put (core_of c.self.inside) c.args.id c.self.invariant _ c.open-operation.ensures (phase_is (core_of c.self.inside) _ c.args.id (λ q. q ≡ Judge) c.self.view_is _ c.open-operation.ensures c.requires.next) (holds_inside (λ (x : Operation). is_remove (ask x.task) ≡ false) (core_of c.self.inside) _ c.args.id c.self.view_is c.requires.stays _ c.open-operation.ensures));
-      owner = (c.self.invariant.ops _ _ c.open-operation.ensures).always.owner;
-    }
+    let put = judged_put (core_of c.self.inside) c.args.id c.self.invariant _ c.open-operation.ensures (phase_is (core_of c.self.inside) _ c.args.id (λ q. q ≡ Judge) c.self.view_is _ c.open-operation.ensures c.requires.next) (holds_inside (λ (x : Operation). is_remove (ask x.task) ≡ false) (core_of c.self.inside) _ c.args.id c.self.view_is c.requires.stays _ c.open-operation.ensures) in
+    record { put_is = put; owner = (c.self.invariant.ops _ _ c.open-operation.ensures).always.owner (put_no_scan _ put) }
 
 pub judge-judged-requires-clause-kept : goal.judge-judged-requires-clause-kept
 judge-judged-requires-clause-kept c =

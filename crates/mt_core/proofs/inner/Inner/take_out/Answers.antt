@@ -16,7 +16,7 @@ take_out_by-requires-clause-kept c = take_kept (core_of c.self.inside) _ c.args.
 
 pub returns-in-Some : goal.returns-in-Some
 returns-in-Some c =
-    take_waits (core_of c.self.inside) _ c.args.id c.self.view_is c.self.invariant c.requires.few _ c.open-operation.ensures c.requires.next _ c.in-Some.ensures.unchanged.0 c.in-Some.holder (c.in-Some.ensures.again _) c.in-Some.ensures.another _ c.again.ensures
+    take_waits (core_of c.self.inside) _ c.args.id c.self.view_is c.self.invariant c.requires.few _ c.open-operation.ensures c.requires.next _ c.in-Some.ensures.unchanged.0 c.in-Some.holder (c.in-Some.ensures.again _ _) c.in-Some.ensures.another _ c.again.ensures
 
 pub go_on-requires : goal.go_on-requires
 go_on-requires c = take_may_go (core_of c.self.inside) _ c.args.id c.self.view_is c.self.invariant c.requires.few _ c.open-operation.ensures c.requires.next
