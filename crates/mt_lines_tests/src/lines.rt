@@ -19,7 +19,7 @@ fn expect_bytes(rt: &impl Abort, what: &str, is_whole: bool, written: &[u8], wan
 }
 
 // A script, and its answers.
-const SINGLE_LINES: [(&str, &str); 50] = [
+const SINGLE_LINES: [(&str, &str); 53] = [
     ("", ""),
     ("\n\r\n# a comment\n", ""),
     (" ", "bad line\n"),
