@@ -1,6 +1,7 @@
 -- What a caller over one state answers, by what the runs of its commands leave: for `Alone` and its private functions.
-use Rattle.std.proofs.Common.{◌≡◌, ◌≢◌, ℕ, ◌+◌, ◌<◌, ◌≤◌, inl, inr, Bool, true, false, cond, eqb, List, [], ◌∷◌, length, Option, Some, None, Result, Ok, Err, is_some, refl, sym, ap, subst, ◌∙◌, arith}
+use Rattle.std.proofs.Common.{◌≡◌, ◌≢◌, ℕ, ◌+◌, ◌*◌, ◌<◌, ◌≤◌, inl, inr, Bool, true, false, cond, eqb, List, [], ◌∷◌, length, Option, Some, None, Result, Ok, Err, is_some, refl, sym, ap, subst, ◌∙◌, arith}
 use mathlib.Core.Path.{fun_ext}
+use Rattle.std.proofs.Math.Nat.{mul-le-mul_left, mul-le-mul_right, mul-add}
 use Rattle.std.specs.Prelude.{◌^◌, IsSome}
 use Rattle.std.proofs.lemmas.Bool.{eqb-true}
 use Rattle.mt_rows.specs.declared.command.Command.{Command}
@@ -14,6 +15,9 @@ use Rattle.mt_rows.specs.Tenants.{Contents, tenant_map}
 use Rattle.mt_runs.specs.Placings.{Maps}
 use Rattle.mt_session.specs.declared.caller.CallerFault.TheVariants.{Refused, Stuck}
 use Rattle.mt_arena.specs.NodeView.{NodeView}
+use Rattle.mt_arena.specs.declared.tree.Standing.{Standing}
+use Rattle.mt_arena.specs.declared.tree.Standing.TheVariants.{Live}
+use Rattle.mt_arena.specs.declared.tree.Tree.{Tree}
 use Rattle.mt_arena.specs.Arena.{ArenaView, live_count}
 use Rattle.mt_arena.specs.Accesses.{at}
 use Rattle.mt_operation.specs.Operations.{OperationView}
@@ -22,7 +26,8 @@ use Rattle.mt_state.specs.Begins.{Begins, begun, new_state}
 use Rattle.mt_state.specs.Refused.{IsFault, IsAdmissible, IsRefusal}
 use Rattle.mt_state.proofs.HistoryStart.{content-new, tenant_map-empty}
 use Rattle.mt_core.specs.declared.answers.Ticket.{Ticket}
-use Rattle.mt_core.specs.Alone.{IsAlone, IsRun, most_steps}
+use Rattle.mt_core.specs.Alone.{IsAlone, IsRun, most_among, most_steps}
+use Rattle.mt_core.specs.ScanPoints.{one_if_standing, live_trees}
 use Rattle.mt_core.specs.Rights.{IsRightState}
 use Rattle.mt_alone.specs.declared.runs.Unfinished.{Unfinished}
 use Rattle.mt_alone.specs.declared.runs.Unfinished.TheVariants as unfinished
@@ -48,9 +53,13 @@ same_maps old new opened k same =
     ap (λ (q : ℕ → Option ℕ). tenant_maps q (λ t. tenant_map t (contents_of new)) opened) (fun_ext k.tenants)
     ∙ ap (λ (x : Contents). tenant_maps (granted old) (λ t. tenant_map t x) opened) same
 
+-- a whole run is a step at least
+one_more : (v : StateView) → 1 ≤ 256 * (length v.arena.nodes + 64) * (length v.arena.trees + 1)
+one_more v = let all = mul-add (256 * (length v.arena.nodes + 64)) (length v.arena.trees) 1 in omega (arith, all)
+
 -- no number is left where all are given
 no_numbers : (v : StateView) → HasNumbers v → v.steps ≡ 2 ^ 59 → ⊥
-no_numbers v has all = omega (arith, has, all)
+no_numbers v has all = let more = one_more v in omega (arith, has, all, more)
 
 -- a command that is stuck is the only one that is open
 still_open : (v : StateView) (o : ℕ) (ticket : Ticket) → ticket.id ≡ o → IsOnly v o → IsSettled v o → AreOpen v (Some ticket)
@@ -78,8 +87,37 @@ live_le (n ∷ nodes) = let rest = live_le nodes in let one = by n.version.delet
     by true = omega arith
     by false = omega arith
 
+live_trees_le : (trees : List Tree) → live_trees trees ≤ length trees
+live_trees_le [] = omega arith
+live_trees_le (t ∷ trees) = let rest = live_trees_le trees in let one = by t.standing in omega (arith, rest, one)
+  where
+    by : (standing : Standing) → one_if_standing standing ≤ 1
+    by Live = omega arith
+    by _ = omega arith
+
+-- more nodes and trees leave no fewer steps to a run
+wider : (n nodes t trees : ℕ) → n ≤ nodes → t ≤ trees → 256 * (n + 64) * (t + 1) ≤ 256 * (nodes + 64) * (trees + 1)
+wider n nodes t trees few less =
+    let rows : 256 * (n + 64) ≤ 256 * (nodes + 64) = omega (arith, few) in
+    let by_rows = mul-le-mul_right (t + 1) rows in
+    let rounds : t + 1 ≤ trees + 1 = omega (arith, less) in
+    let by_rounds = mul-le-mul_left (256 * (nodes + 64)) rounds in
+    omega (arith, by_rows, by_rounds)
+
+most_wider : (scans : Bool) (n nodes t trees : ℕ) → n ≤ nodes → t ≤ trees → most_among scans n t ≤ 256 * (nodes + 64) * (trees + 1)
+most_wider true n nodes t trees few less = wider n nodes t trees few less
+most_wider false n nodes t trees few less = let all = mul-add (256 * (nodes + 64)) trees 1 in omega (arith, few, all)
+
+-- a run of a command has its numbers where they are left after it
+numbers_for : (mid new : StateView) (command : Command) → Keeps mid new → HasNumbers new → mid.steps + most_steps mid command ≤ 2 ^ 59
+numbers_for mid new command k numbers =
+    let nodes : live_count mid.arena.nodes ≤ length new.arena.nodes = let live = live_le mid.arena.nodes in omega (arith, live, k.nodes) in
+    let trees : live_trees mid.arena.trees ≤ length new.arena.trees = let live = live_trees_le mid.arena.trees in omega (arith, live, k.trees) in
+    let most = most_wider (is_scan command) (live_count mid.arena.nodes) (length new.arena.nodes) (live_trees mid.arena.trees) (length new.arena.trees) nodes trees in
+    omega (arith, most, k.steps, numbers)
+
 -- a begin in a state in which no operation is open, as long as a number is left
-module _ (old mid : StateView) (o tenant : ℕ) (command : Command) (right : IsRightState old) (idle : old.steps ≢ 2 ^ 59 → IsIdle old) (point : is_scan command ≡ false) (b : Begins old mid o 0 tenant command) (may : IsAdmissible old tenant command) where
+module _ (old mid : StateView) (o tenant : ℕ) (command : Command) (right : IsRightState old) (idle : old.steps ≢ 2 ^ 59 → IsIdle old) (b : Begins old mid o 0 tenant command) (may : IsAdmissible old tenant command) where
   abbrev op : OperationView
   op = begun 0 tenant command
 
@@ -87,7 +125,7 @@ module _ (old mid : StateView) (o tenant : ℕ) (command : Command) (right : IsR
   arena_stands = ap (λ (v : StateView). v.arena) b.stands
 
   begin_keeps : Keeps old mid
-  begin_keeps = subst (Keeps old) (sym b.stands) (record { steps = omega arith; nodes = omega arith; logs = refl; tenants = λ t. refl })
+  begin_keeps = subst (Keeps old) (sym b.stands) (record { steps = omega arith; nodes = omega arith; trees = omega arith; logs = refl; tenants = λ t. refl })
 
   -- and nobody holds a node
   free_before : (k : ℕ) → k < length old.arena.nodes → (at old.arena k).holder ≡ None
@@ -97,10 +135,9 @@ module _ (old mid : StateView) (o tenant : ℕ) (command : Command) (right : IsR
       known None e = refl
       known (Some q) e = absurd (no_value (sym (idle may.numbered q) ∙ (right.holders k q inside e).1))
 
-  begun_alone : mid.steps + most_steps mid ≤ 2 ^ 59 → IsAlone mid o op
+  begun_alone : mid.steps + most_steps mid command ≤ 2 ^ 59 → IsAlone mid o op
   begun_alone numbers = record {
     there = b.there;
-    no_scan = point;
     first = refl;
     enters = refl;
     free = subst (λ (v : ArenaView). (k : ℕ) → k < length v.nodes → (at v k).holder ≡ None) (sym arena_stands) free_before;
@@ -114,7 +151,7 @@ module _ (old mid : StateView) (o tenant : ℕ) (command : Command) (right : IsR
     told : HasNumbers new → TellsRun (record old { table = mid.table }) new op result
     told numbers =
         subst (λ (v : StateView). TellsRun v new op result) b.stands
-        (f.alone op (begun_alone (let live = live_le mid.arena.nodes in omega (arith, live, f.keeps.steps, f.keeps.nodes, numbers))))
+        (f.alone op (begun_alone (numbers_for mid new command f.keeps numbers)))
 
     there : IsSome (account_of old.accounts tenant)
     there = may.there
@@ -177,22 +214,14 @@ module _ (old mid : StateView) (o tenant : ℕ) (command : Command) (right : IsR
       granted_is new (Err (unfinished.Stuck ticket)) f,
       elim (told new (Err (unfinished.Stuck ticket)) f numbers) [
         | inl none ↦ inr (same_maps old new (Some tenant) (keeps new (Err (unfinished.Stuck ticket)) f) none)
-        | inr run ↦ inl (point, maps_now new (Err (unfinished.Stuck ticket)) f run.0 run.1)
+        | inr run ↦ inl (maps_now new (Err (unfinished.Stuck ticket)) f run.0 run.1)
       ],
     );
   }
 
--- a command that can't be begun: nothing changes
-pub answers_not_begun : (v : StateView) (stuck : Option Ticket) (tenant : ℕ) (command : Command) → AreOpen v stuck → IsSome (account_of v.accounts tenant) → Answers v v tenant command (Err Stuck) stuck
-answers_not_begun v stuck tenant command alone is_there = record {
-  keeps = keeps_same v;
-  alone = alone;
-  by_maps = λ numbers. let q = has_quota v tenant is_there in (q.0, q.1, inr refl);
-}
-
 -- numbers were left before where they are now
 pub numbers_back : (old new : StateView) → Keeps old new → HasNumbers new → HasNumbers old
-numbers_back old new k numbers = omega (arith, k.steps, k.nodes, numbers)
+numbers_back old new k numbers = let less = wider (length old.arena.nodes) (length new.arena.nodes) (length old.arena.trees) (length new.arena.trees) k.nodes k.trees in omega (arith, k.steps, less, numbers)
 
 -- all maps are empty in a new state
 pub maps_new : (accounts : Accounts) → maps_in (new_state 0 accounts) None ≡ fresh_maps (λ t. granted_in (account_of accounts t))

@@ -32,12 +32,13 @@ use Rattle.mt_alone.specs.Runs.{Keeps, IsIdle, IsOnly, IsSettled, TellsRun, Fini
 
 -- a state keeps what it keeps itself, and what two calls keep, both keep
 pub keeps_same : (v : StateView) → Keeps v v
-keeps_same v = record { steps = omega arith; nodes = omega arith; logs = refl; tenants = λ t. refl }
+keeps_same v = record { steps = omega arith; nodes = omega arith; trees = omega arith; logs = refl; tenants = λ t. refl }
 
 pub keeps_on : (u v w : StateView) → Keeps u v → Keeps v w → Keeps u w
 keeps_on u v w h k = record {
   steps = omega (arith, h.steps, k.steps);
   nodes = omega (arith, h.nodes, k.nodes);
+  trees = omega (arith, h.trees, k.trees);
   logs = k.logs ∙ h.logs;
   tenants = λ t. k.tenants t ∙ h.tenants t;
 }
@@ -49,7 +50,7 @@ no_value e = cc
 -- a step keeps what is to be kept
 module _ (v w : StateView) (o : ℕ) (done : Bool) (s : IsStep v w o done) where
   step_keeps : Keeps v w
-  step_keeps = record { steps = omega (arith, s.number); nodes = s.arena.nodes.count; logs = s.logs; tenants = s.grows.quotas }
+  step_keeps = record { steps = omega (arith, s.number); nodes = s.arena.nodes.count; trees = s.arena.nodes.tree_count; logs = s.logs; tenants = s.grows.quotas }
 
   -- and all other operations
   step_beside : (q : ℕ) → q ≢ o → op_at w.table q ≡ op_at v.table q
@@ -127,6 +128,7 @@ module _ (old done taken new : StateView) (o : ℕ) (answer : Answer) (only : Is
   taken_keeps = record {
     steps = omega (arith, tidied.leaves.steps, ap (λ (v : StateView). v.steps) t.gone);
     nodes = let e : length new.arena.nodes ≡ length done.arena.nodes = ap (λ (v : ArenaView). length v.nodes) arena_stands in omega (arith, e);
+    trees = let e : length new.arena.trees ≡ length done.arena.trees = ap (λ (v : ArenaView). length v.trees) arena_stands in omega (arith, e);
     logs = tidied.leaves.logs ∙ ap (λ (v : StateView). v.logs) t.gone;
     tenants = λ n. ap (λ (a : Accounts). granted_in (account_of a n)) (tidied.leaves.accounts ∙ ap (λ (v : StateView). v.accounts) t.gone);
   }

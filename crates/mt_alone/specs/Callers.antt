@@ -44,9 +44,9 @@ pub record IsRightAlone (state : StateView) (opened : Option ℕ) (stuck : Optio
   pub alone : AreOpen state stuck
   pub there : IsThere state opened
 
--- numbers are left for a whole run, however many of the nodes are live
+-- numbers are left for a whole run of any command, however many of the nodes and trees are live
 abbrev pub HasNumbers : StateView → Type 0
-HasNumbers v = v.steps + 256 * (length v.arena.nodes + 64) ≤ 2 ^ 59
+HasNumbers v = v.steps + 256 * (length v.arena.nodes + 64) * (length v.arena.trees + 1) ≤ 2 ^ 59
 
 -- what is answered: as long as numbers are left for a whole run, what the tenants' maps answer
 pub record AloneExchange (old : AloneView) (exchange : Exchange) (new : AloneView) : Type 0 where

@@ -12,10 +12,11 @@ use Rattle.mt_core.specs.Alone.{IsAlone, IsRun}
 use Rattle.mt_alone.specs.declared.runs.Unfinished.{Unfinished}
 use Rattle.mt_alone.specs.declared.runs.Unfinished.TheVariants.{Spent, Stuck}
 
--- what stays of a state: no number falls, no node goes, and logs, tenants and quotas are the same
+-- what stays of a state: no number falls, no node and no tree goes, and logs, tenants and quotas are the same
 pub record Keeps (old new : StateView) : Type 0 where
   pub steps : old.steps ≤ new.steps
   pub nodes : length old.arena.nodes ≤ length new.arena.nodes
+  pub trees : length old.arena.trees ≤ length new.arena.trees
   pub logs : new.logs ≡ old.logs
   pub tenants : (t : ℕ) → granted new t ≡ granted old t
 

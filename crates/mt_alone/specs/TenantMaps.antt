@@ -1,12 +1,12 @@
 -- What a caller answers that keeps a sorted map for each tenant.
-use Rattle.std.specs.Prelude.{◌≡◌, ◌≢◌, ℕ, false, ◌==◌, ◌⊎◌, if◌then◌else◌, Option, Some, None, Result, Ok, Err}
+use Rattle.std.specs.Prelude.{◌≡◌, ◌≢◌, ℕ, ◌==◌, ◌⊎◌, if◌then◌else◌, Option, Some, None, Result, Ok, Err}
 use Rattle.mt_rows.specs.declared.command.Command.{Command}
 use Rattle.mt_rows.specs.declared.reply.Reply.{Reply}
 use Rattle.mt_rows.specs.declared.reply.Reply.TheVariants.{NoMemory}
 use Rattle.mt_rows.specs.declared.refusal.Refusal.{Refusal}
 use Rattle.mt_rows.specs.declared.refusal.Refusal.TheVariants.{Memory, NoTenant, NotOpen, NoStore}
 use Rattle.mt_rows.specs.Commands.{IsTaken}
-use Rattle.mt_rows.specs.Maps.{Map, reply_of, map_after, is_scan}
+use Rattle.mt_rows.specs.Maps.{Map, reply_of, map_after}
 use Rattle.mt_runs.specs.Placings.{Maps, no_pairs}
 use Rattle.mt_wire.specs.declared.message.WireReply.{WireReply}
 use Rattle.mt_wire.specs.declared.message.WireReply.TheVariants.{Told}
@@ -43,11 +43,11 @@ MapsOpen (Some quota) old tenant refusal new = (refusal ≡ None) × (new ≡ re
 MapsOpen None old tenant refusal new = (refusal ≡ Some NoTenant) × (new ≡ old)
 
 -- A command is answered by its tenant's map, which is then the one that it leaves; or it is answered NoMemory, or refused for its first fault or want of
--- memory, and nothing changes. One that is stuck has no answer: it has left that map, if it is no scan, or nothing changed.
+-- memory, and nothing changes. One that is stuck has no answer: it has left that map, or nothing changed.
 abbrev pub MapsAnswer : ℕ → ℕ → TenantMaps → Command → Result Reply CallerFault → TenantMaps → Type 0
 MapsAnswer tenant quota old command (Ok reply) new = IsTaken command × (((reply ≡ reply_of quota command (old.maps tenant)) × (new ≡ after_command tenant quota command old)) ⊎ ((reply ≡ NoMemory) × (new ≡ old)))
 MapsAnswer tenant quota old command (Err (Refused refusal)) new = IsFault command refusal × (new ≡ old)
-MapsAnswer tenant quota old command (Err Stuck) new = ((is_scan command ≡ false) × (new ≡ after_command tenant quota command old)) ⊎ (new ≡ old)
+MapsAnswer tenant quota old command (Err Stuck) new = (new ≡ after_command tenant quota command old) ⊎ (new ≡ old)
 
 -- a command is one of the opened tenant; where none is opened, it is refused
 abbrev pub MapsCall : Option ℕ → TenantMaps → Command → Result Reply CallerFault → TenantMaps → Type 0

@@ -1,8 +1,7 @@
 //! A caller over a state without logs.
 
-ghost use Rattle.std.specs.Prelude.{◌≡◌, ◌≢◌, ◌^◌, [], None, IfOk, IsSome, false};
+ghost use Rattle.std.specs.Prelude.{◌≡◌, ◌≢◌, ◌^◌, [], None, IfOk, IsSome};
 ghost use Rattle.mt_rows.specs.Accounts.{account_of};
-ghost use Rattle.mt_rows.specs.Maps.{is_scan};
 ghost use Rattle.mt_state.specs.Views.{granted_in};
 ghost use Rattle.mt_state.specs.Begins.{HaveNoPairs};
 ghost use Rattle.mt_alone.specs.TenantMaps.{fresh_maps};
@@ -86,13 +85,6 @@ impl Caller for Alone {
     }
 }
 
-// Whether it is a scan.
-fn is_scan(command: &Command) -> bool
-    ensures { result ≡ is_scan command.now }
-{
-    matches!(command, Command::Scan { .. })
-}
-
 // Finishes the command that is stuck, if one is, and then runs this one.
 fn run(
     state: &mut State,
@@ -105,9 +97,6 @@ fn run(
     requires there { IsSome (account_of state.old.accounts tenant) }
     ensures { Answers state.old state.new tenant command result stuck.new }
 {
-    if is_scan(&command) {
-        return Err(CallerFault::Stuck);
-    }
     match finish_stuck(state, stuck) {
         Ok(()) => answer(state, stuck, tenant, command),
         Err(fault) => Err(fault),
@@ -146,7 +135,6 @@ fn answer(
     requires idle { state.old.steps ≢ 2 ^ 59 → IsIdle state.old }
     requires free { stuck.old ≡ None }
     requires there { IsSome (account_of state.old.accounts tenant) }
-    requires point { is_scan command ≡ false }
     ensures { Answers state.old state.new tenant command result stuck.new }
 {
     state.facts();

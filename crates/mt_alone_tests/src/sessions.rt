@@ -11,10 +11,18 @@ use mt_test_streams::{ALL, ROWS, TestServer, Way, bytes_of, many, name_of, strea
 use std::alloc::Global;
 use std::process::Abort;
 
-// A pair is put and removed, and then it is missing; a scan can't be begun yet.
-const MORE_ROWS: [&str; 2] = [
+// A pair is put and removed, and then it is missing. A scan of no pairs; and scans of two tenants, each of which is shown
+// its own pairs alone: all of them, those behind a key, and as many as are asked for.
+const MORE_ROWS: [&str; 3] = [
     "00000005 01 00000007 00000009 03 0001 6b 01 00 0001 76 00000004 04 0001 6b 00000004 04 0001 6b > 00000001 00 00000001 03 00000001 05 00000001 01 > closed",
-    "00000005 01 00000007 00000006 05 00 0000 02 00 00000001 06 > 00000001 00 > memory",
+    "00000005 01 00000007 00000006 05 00 0000 02 00 00000001 06 > 00000001 00 00000002 06 00 00000001 92 > closed",
+    "00000005 01 00000007 00000009 03 0001 6b 01 00 0001 76 00000009 03 0001 6a 01 00 0001 75 \
+    00000005 01 00000008 00000009 03 0001 6a 01 00 0001 77 00000006 05 00 0000 02 00 \
+    00000005 01 00000007 00000006 05 00 0000 02 00 00000007 05 01 0001 6a 02 00 00000006 05 00 0000 01 00 \
+    > 00000001 00 00000001 03 00000001 03 \
+    00000001 00 00000001 03 00000009 06 01 0001 6a 01 0001 77 \
+    00000001 00 00000010 06 02 0001 6a 01 0001 75 0001 6b 01 0001 76 00000009 06 01 0001 6b 01 0001 76 \
+    00000009 06 01 0001 6a 01 0001 75 > closed",
 ];
 
 // Tenant 7, which may have a hundred pairs, and tenant 8, which may have one.

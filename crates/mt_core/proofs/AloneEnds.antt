@@ -25,8 +25,11 @@ use Rattle.mt_state.specs.KeptOperations.{HasAnswer, IsBound, IsKeptAt, IsOnItsW
 use Rattle.mt_state.specs.Invariant.{StateInvariant}
 use Rattle.mt_state.specs.Promises.{HasStep, IsHeldByOther, IsAnswer, IsStep, Tells}
 use Rattle.mt_state.proofs.Shown.{shown_there, inside_of}
-use Rattle.mt_core.specs.Alone.{most_steps, IsChain, Runs, IsAlone, EndsAlone, IsUndisturbed, EndsSoon}
-use Rattle.mt_core.specs.Points.{AreBelow, HasMade, IsFreeOfOthers, IsSoFar, IsUnhindered, MayHaveGrown, StepsOn, above, astray, before_unlock, split_level}
+use Rattle.mt_core.specs.ScanPoints.{live_trees}
+use Rattle.mt_core.proofs.ScanNears.{scan_few, scan_left}
+use Rattle.mt_core.specs.Alone.{most_among, most_steps, IsChain, Runs, IsAlone, EndsAlone, IsUndisturbed, EndsSoon}
+use Rattle.mt_core.specs.Budgets.{AreBelow, above, astray, before_unlock, split_level}
+use Rattle.mt_core.specs.Points.{IsComing, HasMade, IsFreeOfOthers, IsSoFar, IsUnhindered, MayHaveGrown, StepsOn}
 use Rattle.mt_core.proofs.RemovalNears.{few_removal, removal_left}
 use Rattle.mt_core.proofs.Following.{in_the_way}
 use Rattle.mt_core.proofs.AloneStarts.{unhindered_first}
@@ -53,7 +56,6 @@ run_stops old v w o made answer chain other s = record { made = made; mid = v; c
 undisturbed_alone : (v : StateView) (o : ℕ) (op : OperationView) → IsAlone v o op → IsUndisturbed v o op
 undisturbed_alone v o op alone = record {
   there = alone.there;
-  no_scan = alone.no_scan;
   unfinished = ap is_done alone.enters;
   free = λ k q within holds. absurd (no_value (sym (alone.free k within) ∙ holds));
   numbers = alone.numbers;
@@ -125,6 +127,16 @@ so_far_left : (b : Bool) (c : Core) (op : Operation) (height made : ℕ) → IsS
 so_far_left true c op height made point = removal_left op.walk.phase height point.round made c.arena op.walk point.few
 so_far_left false c op height made point = left_at op.walk.phase c op height made point.few
 
+-- whether it scans or not
+coming_few : (b : Bool) (c : Core) (o : ℕ) (op : Operation) (height trees made : ℕ) → IsKeptAt op.walk.phase c o op → IsComing b height trees made c.arena op
+    → made < most_among b height trees
+coming_few true c o op height trees made kept point = scan_few height trees made c.arena op.walk op.scan.stop op.task.key point
+coming_few false c o op height trees made kept point = so_far_few (is_remove (ask op.task)) c o op height made kept point
+
+coming_left : (b : Bool) (c : Core) (op : Operation) (height trees made : ℕ) → IsComing b height trees made c.arena op → is_done op.walk.phase ≡ false
+coming_left true c op height trees made point = scan_left op.walk.phase op.scan.stop height point.round c.arena op.walk point.few
+coming_left false c op height trees made point = so_far_left (is_remove (ask op.task)) c op height made point
+
 -- an operation with no step left is at its end
 done_is : (p : Phase) → is_done p ≡ true → p ≡ Done
 done_is Done e = refl
@@ -139,7 +151,7 @@ answer_to_grow _ c o op kept grows = absurd grows
 -- the run so far of an operation that is alone: nobody is in its way
 pub record GoesAlone (old v : Core) (o : ℕ) (op : OperationView) (made : ℕ) : Type 0 where
   pub run : IsRunning (shown old) (shown v) o op made
-  pub free : IsUnhindered v o (live_count old.arena.nodes) made
+  pub free : IsUnhindered v o (live_count old.arena.nodes) (live_trees old.arena.trees) made
 
 -- one that has made no step was told nothing
 untold_first : (c : Core) (o : ℕ) (op : OperationView) → StateInvariant c → IsAlone (shown c) o op → op.outcome ≡ None
@@ -157,28 +169,29 @@ untold_first c o op h alone = ap (λ (x : OperationView). x.outcome) (sym inside
 
 pub alone_first : (old : Core) (o : ℕ) (op : OperationView) → StateInvariant old → IsArena old.arena.nodes old.arena.trees → IsAlone (shown old) o op
     → GoesAlone old old o op 0
-alone_first old o op h arena alone = record { run = running_first (shown old) o op alone (untold_first old o op h alone); free = unhindered_first old o op h arena (undisturbed_alone (shown old) o op alone) }
+alone_first old o op h arena alone = record { run = running_first (shown old) o op alone (untold_first old o op h alone); free = (unhindered_first old o op h arena (undisturbed_alone (shown old) o op alone)).0 }
 
 -- an operation that moved goes on
 pub alone_goes_on : (old v w : Core) (o : ℕ) (op : OperationView) (made : ℕ) → GoesAlone old v o op made → StepsOn v w o Moved → GoesAlone old w o op (made + 1)
 alone_goes_on old v w o op made g s = record {
   run = running_on (shown old) (shown v) (shown w) o op made false g.run s.tells;
-  free = s.nears (live_count old.arena.nodes) made g.free;
+  free = s.nears (live_count old.arena.nodes) (live_trees old.arena.trees) made g.free;
 }
 
-module _ (old v : Core) (o : ℕ) (op : OperationView) (made : ℕ) (h : StateInvariant v) (plain : is_scan op.command ≡ false) (g : GoesAlone old v o op made) where
+module _ (old v : Core) (o : ℕ) (op : OperationView) (made : ℕ) (h : StateInvariant v) (g : GoesAlone old v o op made) where
   abbrev inner : Operation
   inner = g.free.op
-
-  few : made < most_steps (shown old)
-  few = so_far_few (is_remove (ask inner.task)) v o inner (live_count old.arena.nodes) made (h.ops o inner g.free.there).kept g.free.point
 
   -- what is shown of it
   same : g.run.after ≡ view_of inner
   same = same_Some g.run.after (view_of inner) (sym g.run.there ∙ shown_there v.table o inner g.free.there)
 
+  few : made < most_steps (shown old) op.command
+  few = subst (λ command. made < most_steps (shown old) command) (ap (λ (x : OperationView). x.command) (sym same) ∙ g.run.asked.command)
+      (coming_few (is_scan (ask inner.task)) v o inner (live_count old.arena.nodes) (live_trees old.arena.trees) made (h.ops o inner g.free.there).kept g.free.point)
+
   left : is_done g.run.after.phase ≡ false
-  left = ap (λ (x : OperationView). is_done x.phase) same ∙ so_far_left (is_remove (ask inner.task)) v inner (live_count old.arena.nodes) made g.free.point
+  left = ap (λ (x : OperationView). is_done x.phase) same ∙ coming_left (is_scan (ask inner.task)) v inner (live_count old.arena.nodes) (live_trees old.arena.trees) made g.free.point
 
   -- a step that ends it ends the run
   ends_done : (w : StateView) → IsStep (shown v) w o true → EndsAlone (shown old) w o op DoneMove
@@ -197,7 +210,7 @@ module _ (old v : Core) (o : ℕ) (op : OperationView) (made : ℕ) (h : StateIn
         ends = ends;
         told = answer.0;
         has = has;
-        outcome = run_outcome (shown old) w o op (made + 1) run plain answer.0 has right
+        outcome = run_outcome (shown old) w o op (made + 1) run answer.0 has right
             (omega (arith, ap (λ (x : OperationView). x.last) is, s.moves.last, s.number));
       }
 
@@ -217,7 +230,7 @@ module _ (old v : Core) (o : ℕ) (op : OperationView) (made : ℕ) (h : StateIn
         ends = grows_here;
         told = answer.outcome;
         has = has;
-        outcome = run_outcome (shown old) (shown v) o op made g.run plain answer.outcome has right
+        outcome = run_outcome (shown old) (shown v) o op made g.run answer.outcome has right
             (omega (arith, ap (λ (x : OperationView). x.last) same, kept.always.made));
       }
 
@@ -232,43 +245,61 @@ pub alone_stops : (old v w : Core) (o : ℕ) (op : OperationView) (made : ℕ) (
     → GoesAlone old v o op made
     → answer ≢ Moved → StepsOn v w o answer → EndsAlone (shown old) (shown w) o op answer
 alone_stops old v w o op made Moved h alone g other s = absurd (other refl)
-alone_stops old v w o op made DoneMove h alone g other s = ends_done old v o op made h alone.no_scan g (shown w) s.tells
+alone_stops old v w o op made DoneMove h alone g other s = ends_done old v o op made h g (shown w) s.tells
 alone_stops old v w o op made (Again holder) h alone g other s = absurd (never_again v o holder g.free.free s.tells.2)
-alone_stops old v w o op made Spent h alone g other s = absurd (omega (arith, s.tells.2, g.run.number, alone.numbers, few old v o op made h alone.no_scan g))
-alone_stops old v w o op made NoSuch h alone g other s = absurd (s.tells.1 (g.run.after, g.run.there, left old v o op made h alone.no_scan g))
+alone_stops old v w o op made Spent h alone g other s = absurd (omega (arith, s.tells.2, g.run.number, alone.numbers, few old v o op made h g))
+alone_stops old v w o op made NoSuch h alone g other s = absurd (s.tells.1 (g.run.after, g.run.there, left old v o op made h g))
 alone_stops old v w o op made NoMemoryMove h alone g other s =
     let grow = s.tells.1 in
-    subst (λ (x : StateView). EndsAlone (shown old) x o op NoMemoryMove) (sym s.tells.0) (ends_unmade old v o op made h alone.no_scan g grow.op grow.there grow.grows)
+    subst (λ (x : StateView). EndsAlone (shown old) x o op NoMemoryMove) (sym s.tells.0) (ends_unmade old v o op made h g grow.op grow.there grow.grows)
 
--- the run so far of an operation that nobody disturbs
-module _ (old v : Core) (o made : ℕ) (h : StateInvariant v) (u : IsUnhindered v o (live_count old.arena.nodes) made) where
+-- the run so far of an operation that nobody disturbs: nobody is in its way, and it is asked the same
+pub record GoesUndisturbed (old v : Core) (o : ℕ) (op : OperationView) (made : ℕ) : Type 0 where
+  pub free : IsUnhindered v o (live_count old.arena.nodes) (live_trees old.arena.trees) made
+  pub asked : ask free.op.task ≡ op.command
+
+pub undisturbed_first : (old : Core) (o : ℕ) (op : OperationView) → StateInvariant old → IsArena old.arena.nodes old.arena.trees → IsUndisturbed (shown old) o op
+    → GoesUndisturbed old old o op 0
+undisturbed_first old o op h arena u = let first = unhindered_first old o op h arena u in record { free = first.0; asked = first.1 }
+
+pub undisturbed_goes_on : (old v w : Core) (o : ℕ) (op : OperationView) (made : ℕ) → GoesUndisturbed old v o op made → StepsOn v w o Moved
+    → GoesUndisturbed old w o op (made + 1)
+undisturbed_goes_on old v w o op made g s =
+    let now = s.nears (live_count old.arena.nodes) (live_trees old.arena.trees) made g.free in
+    let after : view_of now.op ≡ s.tells.after =
+    same_Some (view_of now.op) s.tells.after (sym (shown_there w.table o now.op now.there) ∙ stepped (shown v) (shown w) o false s.tells) in
+    let before : view_of g.free.op ≡ s.tells.before = same_Some (view_of g.free.op) s.tells.before (sym (shown_there v.table o g.free.op g.free.there) ∙ s.tells.there) in
+    record { free = now; asked = ap (λ (x : OperationView). x.command) after ∙ s.tells.moves.asked.command ∙ ap (λ (x : OperationView). x.command) (sym before) ∙ g.asked }
+
+module _ (old v : Core) (o : ℕ) (op : OperationView) (made : ℕ) (h : StateInvariant v) (g : GoesUndisturbed old v o op made) where
   abbrev met : Operation
-  met = u.op
+  met = g.free.op
 
-  made_few : made < most_steps (shown old)
-  made_few = so_far_few (is_remove (ask met.task)) v o met (live_count old.arena.nodes) made (h.ops o met u.there).kept u.point
+  made_few : made < most_steps (shown old) op.command
+  made_few = subst (λ command. made < most_steps (shown old) command) g.asked
+      (coming_few (is_scan (ask met.task)) v o met (live_count old.arena.nodes) (live_trees old.arena.trees) made (h.ops o met g.free.there).kept g.free.point)
 
   met_left : HasStep (shown v) o
-  met_left = (view_of met, shown_there v.table o met u.there, so_far_left (is_remove (ask met.task)) v met (live_count old.arena.nodes) made u.point)
+  met_left = (view_of met, shown_there v.table o met g.free.there, coming_left (is_scan (ask met.task)) v met (live_count old.arena.nodes) (live_trees old.arena.trees) made g.free.point)
 
 -- each answer but Moved is Done, or that there is no memory
 pub undisturbed_stops : (old v w : Core) (o : ℕ) (op : OperationView) (made : ℕ) (answer : Move) → StateInvariant v → IsUndisturbed (shown old) o op
     → v.steps ≡ old.steps + made
-    → IsUnhindered v o (live_count old.arena.nodes) made → answer ≢ Moved → StepsOn v w o answer → EndsSoon (shown old) (shown w) o answer
-undisturbed_stops old v w o op made Moved h from number u other s = absurd (other refl)
-undisturbed_stops old v w o op made DoneMove h from number u other s = record {
-  few = omega (arith, number, s.tells.number, made_few old v o made h u);
+    → GoesUndisturbed old v o op made → answer ≢ Moved → StepsOn v w o answer → EndsSoon (shown old) (shown w) o op answer
+undisturbed_stops old v w o op made Moved h from number g other s = absurd (other refl)
+undisturbed_stops old v w o op made DoneMove h from number g other s = record {
+  few = omega (arith, number, s.tells.number, made_few old v o op made h g);
   after = s.tells.after;
   there = stepped (shown v) (shown w) o true s.tells;
   ends = done_is s.tells.after.phase (sym s.tells.ends);
 }
-undisturbed_stops old v w o op made (Again holder) h from number u other s = absurd (never_again v o holder u.free s.tells.2)
-undisturbed_stops old v w o op made Spent h from number u other s = absurd (omega (arith, s.tells.2, number, from.numbers, made_few old v o made h u))
-undisturbed_stops old v w o op made NoSuch h from number u other s = absurd (s.tells.1 (met_left old v o made h u))
-undisturbed_stops old v w o op made NoMemoryMove h from number u other s =
+undisturbed_stops old v w o op made (Again holder) h from number g other s = absurd (never_again v o holder g.free.free s.tells.2)
+undisturbed_stops old v w o op made Spent h from number g other s = absurd (omega (arith, s.tells.2, number, from.numbers, made_few old v o op made h g))
+undisturbed_stops old v w o op made NoSuch h from number g other s = absurd (s.tells.1 (met_left old v o op made h g))
+undisturbed_stops old v w o op made NoMemoryMove h from number g other s =
     let grow = s.tells.1 in
-    subst (λ (x : StateView). EndsSoon (shown old) x o NoMemoryMove) (sym s.tells.0) (record {
-      few = omega (arith, number, made_few old v o made h u);
+    subst (λ (x : StateView). EndsSoon (shown old) x o op NoMemoryMove) (sym s.tells.0) (record {
+      few = omega (arith, number, made_few old v o op made h g);
       after = grow.op;
       there = grow.there;
       ends = grow.grows;

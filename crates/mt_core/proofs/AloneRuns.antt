@@ -4,7 +4,12 @@ use Rattle.std.proofs.lemmas.Bool.{cases_lt, eqb-true}
 use Rattle.std.proofs.lemmas.Option.{same_Some}
 use Rattle.mt_rows.specs.declared.command.Command.{Command}
 use Rattle.mt_rows.specs.declared.reply.Reply.{Reply}
-use Rattle.mt_rows.specs.declared.reply.Reply.TheVariants.{NoMemory}
+use Rattle.mt_rows.specs.declared.command.Command.TheVariants.{Scan}
+use Rattle.mt_rows.specs.declared.reply.Reply.TheVariants.{NoMemory, Pairs}
+use Rattle.mt_rows.specs.Maps.{Map}
+use Rattle.mt_runs.specs.Scans.{IsLawfulScan}
+use Rattle.mt_walks.specs.Walked.{IsWithin}
+use Rattle.mt_walks.proofs.Exact.{exact}
 use Rattle.mt_rows.specs.Maps.{reply_of, map_after, is_change, is_no_memory, is_scan}
 use Rattle.mt_rows.specs.Tenants.{Contents, tenant_map}
 use Rattle.mt_rows.proofs.CommandLaws.{same_map_after}
@@ -243,8 +248,17 @@ module _ (old v w : StateView) (o : ℕ) (op : OperationView) (made : ℕ) (done
     ];
   }
 
+-- what a scan shows of a map that stays is what the map tells
+scan_reply : (quota : ℕ) (maps : ℕ → Map) (Between : ℕ → Type 0) (m : Map) → ((n : ℕ) → Between n → maps n ≡ m) → (command : Command) (reply : Reply)
+    → is_scan command ≡ true → is_no_memory reply ≡ false → IsLawfulScan maps Between command reply → reply ≡ reply_of quota command m
+unfolding reply_of
+scan_reply quota maps Between m still (Scan from after count columns) (Pairs ps) scans real h = ap Pairs (exact maps m Between from after count columns ps still h)
+scan_reply quota maps Between m still (Scan from after count columns) NoMemory scans real h = absurd (cc)
+scan_reply quota maps Between m still (Scan from after count columns) _ scans real h = absurd h
+scan_reply quota maps Between m still _ reply scans real h = absurd (cc)
+
 -- how a run ends whose operation has a right outcome
-module _ (old v : StateView) (o : ℕ) (op : OperationView) (made : ℕ) (r : IsRunning old v o op made) (plain : is_scan op.command ≡ false) (told : Outcome) (has : r.after.outcome ≡ Some told) (answer : IsAnswer v r.after told) where
+module _ (old v : StateView) (o : ℕ) (op : OperationView) (made : ℕ) (r : IsRunning old v o op made) (told : Outcome) (has : r.after.outcome ≡ Some told) (answer : IsAnswer v r.after told) where
   first_begun : r.after.first ≡ old.steps + 1
   first_begun = elim r.first [
     | inl (_, unbegun) ↦ absurd (omega (arith, unbegun, answer.begun))
@@ -256,13 +270,21 @@ module _ (old v : StateView) (o : ℕ) (op : OperationView) (made : ℕ) (r : Is
   looked u upto real =
       let look : is_change told.reply ≡ false = no_told (is_change told.reply) told.at (sym (ap told_change has) ∙ u.change) in
       let is : told.reply ≡ reply_of (quota_of old op.tenant) op.command (tenant_map op.tenant (contents_of old)) =
-      (answer.placed real (ap is_scan r.asked.command ∙ plain)).looks look
-      ∙ ap (reply_of (quota_of v r.after.tenant) r.after.command) (u.maps r.after.tenant told.at (omega (arith, answer.since, first_begun)) (omega (arith, answer.upto, upto)))
-      ∙ same_reply v old r.after op r.asked (quota_stays old v r.grows) (contents_of old) in
+      by u upto real look (is_scan r.after.command) refl ∙ same_reply v old r.after op r.asked (quota_stays old v r.grows) (contents_of old) in
       record {
         told = is;
         makes = λ t. ap (tenant_map t) u.contents ∙ maps_stay old op (ap is_change (sym is) ∙ look) t;
       }
+    where
+      -- a scan shows what its map has, which stayed the same
+      by : (u : HasLeft old v r.after) → r.after.last ≤ v.steps → is_no_memory told.reply ≡ false → is_change told.reply ≡ false → (b : Bool) → is_scan r.after.command ≡ b
+          → told.reply ≡ reply_of (quota_of v r.after.tenant) r.after.command (tenant_map r.after.tenant (contents_of old))
+      by u upto real look false plain =
+          (answer.placed real plain).looks look
+          ∙ ap (reply_of (quota_of v r.after.tenant) r.after.command) (u.maps r.after.tenant told.at (omega (arith, answer.since, first_begun)) (omega (arith, answer.upto, upto)))
+      by u upto real look true scans = scan_reply (quota_of v r.after.tenant) (map_of v r.after.tenant) (IsWithin r.after.first r.after.last) (tenant_map r.after.tenant (contents_of old))
+          (λ n between. u.maps r.after.tenant n (let since = between.0 in omega (arith, since, first_begun)) (let last = between.1 in omega (arith, last, upto)))
+          r.after.command told.reply scans real answer.lawful
 
   -- with the reply of its command, or for want of memory with nothing changed
   pub run_outcome : r.after.last ≤ v.steps → ((told.reply ≡ NoMemory) × (contents_of v ≡ contents_of old)) ⊎ IsRun old v op told.reply

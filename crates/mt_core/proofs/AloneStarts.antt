@@ -32,7 +32,15 @@ use Rattle.mt_state.specs.KeptOperations.{IsBound, IsKeptAt, IsKeptOf, IsOpenOpe
 use Rattle.mt_state.specs.Invariant.{StateInvariant}
 use Rattle.mt_state.proofs.Shown.{inside_of}
 use Rattle.mt_core.specs.Alone.{IsUndisturbed}
-use Rattle.mt_core.specs.Points.{AreBelow, HasMade, HasRemoved, HasRounds, IsSoFar, IsUnhindered, RoundsAt}
+use Rattle.mt_core.specs.Budgets.{AreBelow}
+use Rattle.mt_arena.specs.Arena.{ArenaView}
+use Rattle.mt_operation.specs.declared.walk.Walk.{Walk}
+use Rattle.mt_operation.specs.declared.scan.Stop.{Stop}
+use Rattle.mt_operation.specs.declared.scan.Stop.TheVariants as stops
+use Rattle.mt_core.specs.ScanPoints.{ScansBy, live_trees, trees_ahead, round_of}
+use Rattle.mt_core.proofs.Ahead.{nodes_most, trees_most}
+use Rattle.mt_core.proofs.ScanNears.{scan_aim, rounds_less}
+use Rattle.mt_core.specs.Points.{IsComing, HasMade, HasRemoved, HasRounds, IsSoFar, IsUnhindered, RoundsAt}
 use Rattle.mt_core.proofs.RemovalNears.{shallow_layer}
 use Rattle.mt_core.proofs.Astray.{behind_most}
 
@@ -173,18 +181,51 @@ point_first c o op h arena left plain kept true removes =
     record { round = 0; most = omega arith; live = omega arith; rounds = starts.1; few = starts.0 }
 point_first c o op h arena left plain kept false stays = record { below = λ _. nodes_below c h arena; few = starts_at op.walk.phase c o op h arena kept.always kept.always.kind left stays plain kept.kept }
 
--- nobody is in the way of an operation while nobody else holds a node
+-- a scan at whatever phase may find its way again, and has made no step so far
+scan_starts : (p : Phase) (v : ArenaView) (w : Walk) (stop : Stop) → IsOfKind p w.aim → w.aim ≡ aims.Scan → is_done p ≡ false → ScansBy p stop (live_count v.nodes) 0 v w
+scan_starts Enter v w stop kind scans left = inr (omega arith)
+scan_starts Pick v w stop kind scans left = inr (omega arith)
+scan_starts Child v w stop kind scans left = inr (omega arith)
+scan_starts Verify v w stop kind scans left = inr (inr (omega (arith, behind_most v.nodes (at v w.child).low)))
+scan_starts Forward v w stop kind scans left = inr (omega (arith, behind_most v.nodes (at v w.place.node).low))
+scan_starts Snap v w stop kind scans left = inr (omega (arith, behind_most v.nodes (at v w.place.node).low))
+scan_starts Check v w stop kind scans left = inr (omega (arith, behind_most v.nodes (at v w.place.node).low))
+scan_starts Hop v w (stops.Link slice tree) kind scans left = inr (omega arith)
+scan_starts Hop v w (stops.Next slice) kind scans left = inr (omega arith)
+scan_starts Hop v w stops.Tree kind scans left = omega arith
+scan_starts Hop v w stops.Tenant kind scans left = omega arith
+scan_starts Done v w stop kind scans left = absurd (let no = sym left in cc)
+scan_starts _ v w stop kind scans left = absurd (let both = sym kind ∙ scans in cc)
+
+-- whether it scans or not
+coming_first : (c : Core) (o : ℕ) (op : Operation) → StateInvariant c → IsArena c.arena.nodes c.arena.trees → is_done op.walk.phase ≡ false → IsKeptOf c o op
+    → (b : Bool) → is_scan (ask op.task) ≡ b → IsComing b (live_count c.arena.nodes) (live_trees c.arena.trees) 0 c.arena op
+coming_first c o op h arena left kept false plain = point_first c o op h arena left plain kept (is_remove (ask op.task)) refl
+coming_first c o op h arena left kept true scans = record {
+  live = omega arith;
+  standing = omega arith;
+  below = nodes_below c h arena;
+  round = 0;
+  few = scan_starts op.walk.phase c.arena op.walk op.scan.stop kept.always.kind (kept.always.aim ∙ scan_aim (ask op.task) scans) left;
+  spent = omega (
+    arith,
+    nodes_most c.arena.trees c.arena.nodes op.task.key,
+    rounds_less (round_of (live_count c.arena.nodes)) (trees_ahead c.arena.trees op.task.key) (live_trees c.arena.trees) (trees_most c.arena.trees op.task.key),
+  );
+}
+
+-- nobody is in the way of an operation while nobody else holds a node; it is asked what is shown
 pub unhindered_first : (c : Core) (o : ℕ) (op : OperationView) → StateInvariant c → IsArena c.arena.nodes c.arena.trees → IsUndisturbed (shown c) o op
-    → IsUnhindered c o (live_count c.arena.nodes) 0
+    → (u : IsUnhindered c o (live_count c.arena.nodes) (live_trees c.arena.trees) 0) × (ask u.op.task ≡ op.command)
 unhindered_first c o op h arena u =
     let inside = inside_of c.table o op u.there in
     let inner : Operation = inside.0 in
-    let left : is_done inner.walk.phase ≡ false = ap (λ (x : OperationView). is_done x.phase) inside.2 ∙ u.unfinished in
-    let plain : is_scan (ask inner.task) ≡ false = ap (λ (x : OperationView). is_scan x.command) inside.2 ∙ u.no_scan in
-    record {
-      op = inner;
-      there = inside.1;
-      free = u.free;
-      no_scan = plain;
-      point = point_first c o inner h arena left plain (h.ops o inner inside.1) (is_remove (ask inner.task)) refl;
-    }
+    let left : is_done inner.walk.phase ≡ false = ap (λ (x : OperationView). is_done x.phase) inside.2 ∙ u.unfinished in (
+      record {
+        op = inner;
+        there = inside.1;
+        free = u.free;
+        point = coming_first c o inner h arena left (h.ops o inner inside.1) (is_scan (ask inner.task)) refl;
+      },
+      ap (λ (x : OperationView). x.command) inside.2,
+    )

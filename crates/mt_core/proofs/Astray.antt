@@ -5,7 +5,7 @@ use Rattle.std.specs.Prelude.{if◌then◌else◌, nat_lt}
 use Rattle.std.proofs.lemmas.Bool.{cases_lt, lt-ltb, le-ltb}
 use Rattle.mt_arena.specs.NodeView.{NodeView, node_at}
 use Rattle.mt_arena.specs.Arena.{live_count, one_if_live}
-use Rattle.mt_core.specs.Points.{behind_count, one_if_behind}
+use Rattle.mt_core.specs.Budgets.{behind_count, one_if_behind}
 
 -- behind a node begin no more than behind one that begins before it
 one_less : (low high l one : ℕ) → low < high → (if nat_lt high l then one else 0) ≤ (if nat_lt low l then one else 0)

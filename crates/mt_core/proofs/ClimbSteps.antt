@@ -28,12 +28,14 @@ use Rattle.mt_state.proofs.Telling.{Gives}
 use Rattle.mt_state.proofs.SplitSteps.{climb_among, climb_done, climbing_of, among_climb, kept_climbing}
 use Rattle.mt_state.proofs.ClimbingNodes.{climb_keeps, climb_leads}
 use Rattle.mt_core.specs.Nexts.{IsNext}
-use Rattle.mt_core.specs.Points.{StepsOn, above}
+use Rattle.mt_core.specs.Budgets.{above}
+use Rattle.mt_core.specs.Points.{StepsOn}
 use Rattle.mt_core.specs.Climbs.{TellsClimbed}
 use Rattle.mt_core.specs.declared.climbs.Climbed.TheVariants.{Blocked, NoMemory as NoMemoryClimbed}
-use Rattle.mt_core.proofs.Climbing.{climb_none}
+use Rattle.mt_core.proofs.Climbing.{climb_none, climb_writes}
 use Rattle.mt_core.proofs.Points.{nears_by, point_first}
-use Rattle.mt_core.proofs.Following.{IsOver, Writes, holder_open, made, may_over, next_here, opened, over_first, over_next, set_back}
+use Rattle.mt_core.proofs.Following.{IsOver, Writes, holder_open, made, may_over, next_here, opened, over_first, over_next, set_back, write_no_scan}
+use Rattle.std.proofs.lemmas.Bool.{both_ways}
 use Rattle.mt_core.proofs.Leading.{no_step, leads_over}
 use Rattle.mt_core.proofs.Retained.{own_tape, retained, scan_retained}
 use Rattle.mt_core.proofs.ClimbingNears.{climb_nears}
@@ -289,7 +291,8 @@ module _ (c now : Core) (o : ℕ) (is : c ≡ now) (h : StateInvariant c) (next 
                 nears_by c (made c arena c.tape c.accounts all) o op after there over_all.there (climb_keeps op.walk.phase at_climb o c.arena arena op.walk w op.splits t told).keeps.guarantee refl
                 (λ height n p. point_first height (n + 1) arena w t after.walk.first
                 (climb_nears op.walk.phase at_climb o c.arena arena op.walk w op.splits t refl arena_is.nodes kept.climbs told height n p))
-                (λ removes height n r. absurd (climb_none op.walk.phase at_climb height r.round n c.arena op.walk r.few));
+                (λ removes height n r. absurd (climb_none op.walk.phase at_climb height r.round n c.arena op.walk r.few))
+                (λ scans. absurd (both_ways _ (write_no_scan c o h op there op.walk.phase refl (climb_writes op.walk.phase at_climb)) scans));
             leads =
                 leads_over c o h op there op.walk.phase refl c refl arena c.tape c.accounts all after over_all w (climb_leads op.walk.phase at_climb o c.arena arena op.walk w op.splits t told (c.steps + 1) op.task.key op.outcome op.removal (no_step op)) refl refl;
           })

@@ -9,8 +9,11 @@ use Rattle.mt_operation.specs.declared.walk.Walk.{Walk}
 use Rattle.mt_operation.specs.declared.splits.Halves.{Halves}
 use Rattle.mt_operation.specs.declared.splits.Splits.{Splits}
 use Rattle.mt_insert.specs.SplitEdits.{walk_at}
-use Rattle.mt_operation.specs.Phases.{IsClimb}
-use Rattle.mt_core.specs.Points.{AreBelow, HasMade, HasRemoved, IsAtPoint, MayHaveGrown, before_unlock}
+use Rattle.mt_operation.specs.declared.walk.Aim.{Aim}
+use Rattle.mt_operation.specs.declared.walk.Aim.TheVariants as aims
+use Rattle.mt_operation.specs.Phases.{IsOfKind, IsClimb}
+use Rattle.mt_core.specs.Budgets.{AreBelow, before_unlock}
+use Rattle.mt_core.specs.Points.{HasMade, HasRemoved, IsAtPoint, MayHaveGrown}
 use Rattle.mt_core.proofs.Points.{below_at, few_at, point_at}
 use Rattle.mt_state.proofs.Climbing.{LeavesNodes}
 
@@ -67,3 +70,13 @@ nears_on op old new before after s t p q at_p climb goes leaves levels some coun
     point_at height (made + 1) new after t q at_q
     (λ ungrown. stays_below op old new leaves (levels (λ is. ungrown (subst (λ (x : Phase). MayHaveGrown x t.halves.items) (sym is) (unlock_grown t.halves.items some)))) height below)
     (subst (λ (w : Walk). HasMade q height (made + 1) new w t) (sym goes) (counts_on height made below (few_at height made old before s p at_p point)))
+
+-- and none but a put makes one
+pub climb_writes : (p : Phase) → IsClimb p → (aim : Aim) → IsOfKind p aim → aim ≡ aims.Write
+climb_writes SplitPrev i aim kind = kind
+climb_writes LockParent i aim kind = kind
+climb_writes InsertChild i aim kind = kind
+climb_writes InteriorSplit i aim kind = kind
+climb_writes Reparent i aim kind = kind
+climb_writes RootGrow i aim kind = kind
+climb_writes _ i aim kind = absurd i

@@ -6,7 +6,8 @@ use Rattle.mt_arena.specs.NodeView.{NodeView}
 use Rattle.mt_arena.specs.Nodes.{AreNodes}
 use Rattle.mt_arena.specs.Splits.{with_child}
 use Rattle.mt_core.proofs.Climbing.{AreOnLevels, nears_on, unlock_most}
-use Rattle.mt_core.specs.Points.{AreBelow, HasMade, IsAtPoint, split_level}
+use Rattle.mt_core.specs.Budgets.{AreBelow, split_level}
+use Rattle.mt_core.specs.Points.{HasMade, IsAtPoint}
 use Rattle.mt_insert.proofs.SplittingParents.{last_more}
 use Rattle.mt_insert.specs.SplitEdits.{after_reparent, for_parent, walk_at}
 use Rattle.mt_insert.specs.KeptSplits.{HasSplits, IsAtInsertChild, IsAtInteriorSplit, IsAtLockParent, IsAtReparent, IsAtRootGrow, IsAtSplitPrev, KeptSplit, halves_at, last_of}

@@ -15,7 +15,12 @@ use Rattle.mt_operation.specs.declared.walk.Walk.{Walk}
 use Rattle.mt_operation.specs.declared.outcome.Outcome.{Outcome}
 use Rattle.mt_operation.specs.declared.operation.Operation.{Operation}
 use Rattle.mt_operation.specs.Operations.{SplitsView, ScanView}
-use Rattle.mt_operation.specs.Phases.{is_done}
+use Rattle.mt_operation.specs.Phases.{is_done, IsOfKind}
+use Rattle.mt_operation.specs.declared.walk.Aim.{Aim}
+use Rattle.mt_operation.specs.declared.walk.Aim.TheVariants as aims
+use Rattle.mt_operation.specs.Tasks.{ask}
+use Rattle.mt_rows.specs.Maps.{is_scan}
+use Rattle.mt_state.proofs.Lawful.{aim_no_scan}
 use Rattle.mt_operation.specs.Tables.{Table, op_at as operation_at, MayMove}
 use Rattle.mt_operation.proofs.Tables.{set_is, set_here, set_there}
 use Rattle.mt_state.specs.Views.{Core}
@@ -131,3 +136,11 @@ IsSound new = IsArena new.arena.nodes new.arena.trees → StateInvariant new
 -- the state after the step, by what is left of it
 abbrev pub made : Core → ArenaView → Kept → Accounts → Table → Core
 made c arena tape accounts table = record c { steps = c.steps + 1; accounts = accounts; arena = arena; tape = tape; table = table }
+
+-- an operation at a phase of writes is no scan
+pub write_no_scan : (c : Core) (o : ℕ) → StateInvariant c → (op : Operation) → operation_at c.table o ≡ Some op → (p : Phase) → op.walk.phase ≡ p
+    → ((aim : Aim) → IsOfKind p aim → aim ≡ aims.Write) → is_scan (ask op.task) ≡ false
+write_no_scan c o h op there p at_p writes =
+    let always = (h.ops o op there).always in
+    let aim = writes op.walk.aim (subst (λ (q : Phase). IsOfKind q op.walk.aim) at_p always.kind) in
+    aim_no_scan (ask op.task) (λ scans. let both : aims.Scan ≡ aims.Write = sym scans ∙ sym always.aim ∙ aim in cc)

@@ -18,7 +18,7 @@ use Rattle.mt_operation.specs.declared.splits.Splits.{Splits}
 use Rattle.mt_operation.specs.declared.outcome.Outcome.{Outcome}
 use Rattle.mt_operation.specs.declared.operation.Operation.{Operation}
 use Rattle.mt_operation.specs.Operations.{moved, noted, splits_of}
-use Rattle.mt_operation.specs.Phases.{IsLayerPhase, is_done}
+use Rattle.mt_operation.specs.Phases.{IsLayerPhase, IsOfKind, is_done}
 use Rattle.mt_operation.specs.Tables.{MayMove, Table, op_at as operation_at}
 use Rattle.mt_descent.specs.WalkMoves.{walk_into}
 use Rattle.mt_insert.specs.Unlock.{GoesInto, IsUnlock}
@@ -34,8 +34,12 @@ use Rattle.mt_state.proofs.Telling.{Gives}
 use Rattle.mt_state.proofs.LayerSteps.{build_done, leave_done, make_stopped}
 use Rattle.mt_state.proofs.LayerNodes.{LeavesNodes, layer_keeps, layer_goes, layer_leads, layer_leaves, layer_next}
 use Rattle.mt_core.specs.Nexts.{IsNext}
-use Rattle.mt_core.specs.Points.{AreBelow, HasMade, HasRemoved, IsRemovalAt, IsAtPoint, IsLiveTree, MayHaveGrown, Nears, StepsOn, above, astray, before_unlock}
-use Rattle.mt_core.proofs.Following.{IsSound, Writes, made, may_move, over_first, phase_is}
+use Rattle.mt_core.specs.Budgets.{AreBelow, IsLiveTree, above, astray, before_unlock}
+use Rattle.mt_core.specs.Points.{HasMade, HasRemoved, IsRemovalAt, IsAtPoint, MayHaveGrown, Nears, StepsOn}
+use Rattle.mt_core.proofs.Following.{IsSound, Writes, made, may_move, over_first, phase_is, write_no_scan}
+use Rattle.std.proofs.lemmas.Bool.{both_ways}
+use Rattle.mt_operation.specs.declared.walk.Aim.{Aim}
+use Rattle.mt_operation.specs.declared.walk.Aim.TheVariants as aims
 use Rattle.mt_core.proofs.Leading.{no_step, leads_over}
 use Rattle.mt_core.proofs.LookPoints.{next_layer, shallow_below}
 use Rattle.mt_core.proofs.Points.{below_at, few_at, nears_by, rounds_at, point_at, point_first}
@@ -94,6 +98,14 @@ layer_live MarkLayer i v o key w kept = kept.makes.layer.slot.live
 layer_live _ i v o key w kept = absurd i
 
 -- no removal makes a layer
+-- and none but a put makes one
+layer_writes : (p : Phase) → IsLayerPhase p → (aim : Aim) → IsOfKind p aim → aim ≡ aims.Write
+layer_writes MakeLayer i aim kind = kind
+layer_writes MarkUnstable i aim kind = kind
+layer_writes Link i aim kind = kind
+layer_writes MarkLayer i aim kind = kind
+layer_writes _ i aim kind = absurd i
+
 layer_none : (p : Phase) → IsLayerPhase p → (height round made : ℕ) (v : ArenaView) (w : Walk) → HasRemoved p height round made v w → ⊥
 layer_none MakeLayer i height round made v w few = few
 layer_none MarkUnstable i height round made v w few = few
@@ -128,10 +140,11 @@ module _ (c now : Core) (o : ℕ) (is : c ≡ now) (h : StateInvariant c) (x : O
   steps_on : (arena : ArenaView) (w : Walk) (table : Table) → Writes c.table table o (λ y. moved y (c.steps + 1) w) → Guarantee o c.arena arena
       → ((height n : ℕ) → IsAtPoint height n c.arena x.walk x.splits → IsAtPoint height (n + 1) arena w x.splits)
       → ((height n : ℕ) → IsRemovalAt height n c.arena x.walk x.outcome x.removal → ⊥)
+      → ((aim : Aim) → IsOfKind x.walk.phase aim → aim ≡ aims.Write)
       → LeadsTo x.walk.phase c.arena arena o (c.steps + 1) x.task.key x.outcome (splits_of x.splits) x.removal (no_step x) x.walk w
       → Gives (shown c) (made c arena c.tape c.accounts (set c.table o (Some (moved x (c.steps + 1) w)))) o false
       → IsSound (made c arena c.tape c.accounts table) × StepsOn now (made c arena c.tape c.accounts table) o Moved
-  steps_on arena w table writes guarantee brings none leads g =
+  steps_on arena w table writes guarantee brings none write leads g =
       let after = moved x (c.steps + 1) w in
       let new = made c arena c.tape c.accounts table in
       let over = over_first c.table table o (λ y. moved y (c.steps + 1) w) x there writes in
@@ -140,7 +153,8 @@ module _ (c now : Core) (o : ℕ) (is : c ≡ now) (h : StateInvariant c) (x : O
         record {
           tells = told.1;
           nears = subst (λ (v : Core). Nears v new o Moved) is
-              (nears_by c new o x after there over.there guarantee refl (λ height n point. point_first height (n + 1) arena w x.splits after.walk.first (brings height n point)) (λ removes height n r. absurd (none height n r)));
+              (nears_by c new o x after there over.there guarantee refl (λ height n point. point_first height (n + 1) arena w x.splits after.walk.first (brings height n point)) (λ removes height n r. absurd (none height n r))
+              (λ scans. absurd (both_ways _ (write_no_scan c o h x there x.walk.phase refl write) scans)));
           leads = leads_over c o h x there x.walk.phase refl now is arena c.tape c.accounts table after over w leads refl refl;
         },
       )
@@ -155,7 +169,7 @@ module _ (c now : Core) (o : ℕ) (is : c ≡ now) (h : StateInvariant c) (x : O
       let layer = phase_is c now o IsLayerPhase is x there next in
       steps_on arena w table writes (layer_keeps p layer o x.task.key c.arena arena x.walk w b).keeps.guarantee
       (λ height n. layer_nears p layer o x.task.key c.arena arena x.walk w x.splits refl (layer_there p layer c.arena o x.task.key x.walk kept) (layer_live p layer c.arena o x.task.key x.walk kept) kept b height n)
-      (λ height n r. layer_none p layer height r.round n c.arena x.walk r.few)
+      (λ height n r. layer_none p layer height r.round n c.arena x.walk r.few) (layer_writes p layer)
       (layer_leads p layer o x.task.key c.arena arena x.walk w b (c.steps + 1) x.outcome (splits_of x.splits) x.removal (no_step x))
       (build_done c o h (steps_few few) x there arena w layer b)
 
@@ -186,7 +200,8 @@ module _ (c now : Core) (o : ℕ) (is : c ≡ now) (h : StateInvariant c) (x : O
       → Writes c.table table o (λ y. moved y (c.steps + 1) w)
       → IsSound (made c arena c.tape c.accounts table) × StepsOn now (made c arena c.tape c.accounts table) o Moved
   leave_made few is_arena next untold arena w table leaves t writes = steps_on arena w table writes g.keeps.guarantee brings
-      (λ height n r. (rounds_at height n c.arena x.walk x.outcome x.removal Unlock at_unlock r).1 untold) leads
+      (λ height n r. (rounds_at height n c.arena x.walk x.outcome x.removal Unlock at_unlock r).1 untold)
+      (λ aim. subst (λ (p : Phase). IsOfKind p aim → aim ≡ aims.Write) (sym at_unlock) (λ kind. kind)) leads
       (leave_done c o h (steps_few few) x there at_unlock untold arena w t)
     where
       g : GoesInto o leaves.tree c.arena arena x.walk w

@@ -1,3 +1,5 @@
+pub mod Ahead
+pub mod ScanNears
 pub mod LookSteps
 pub mod Points
 pub mod Following

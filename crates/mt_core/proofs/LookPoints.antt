@@ -35,12 +35,13 @@ use Rattle.mt_descent.proofs.Ways.{same_stands}
 use Rattle.mt_state.proofs.Decides.{same_or_not, outdated_or_not}
 use Rattle.mt_core.proofs.Points.{below_at, few_at}
 use Rattle.mt_core.proofs.Astray.{behind_fewer}
-use Rattle.mt_core.specs.Points.{AreBelow, Budget, HasMade, MayHaveGrown, SeesNow, behind, astray, level_of, above, until, IsAtPoint, IsBudget, IsLiveTree, TookLiveTree, WalksBy, budget_of}
+use Rattle.mt_core.specs.Budgets.{AreBelow, Budget, SeesNow, behind, astray, level_of, above, until, IsBudget, IsLiveTree, TookLiveTree, WalksBy, budget_of}
+use Rattle.mt_core.specs.Points.{HasMade, MayHaveGrown, IsAtPoint}
 use Rattle.mt_arena.proofs.OneLink.{leads}
 use Rattle.mt_operation.specs.declared.walk.Taken.TheVariants as takens
 
 -- a version that the node has now is the same but for the lock
-same_now : (v : ArenaView) (w : Walk) → SeesNow v w → SameButLock (at v w.place.node).version w.place.seen
+pub same_now : (v : ArenaView) (w : Walk) → SeesNow v w → SameButLock (at v w.place.node).version w.place.seen
 same_now v w now = ap (λ (p : Parts). record p { locked = true }) (sym now)
 
 -- links to one tree
@@ -85,7 +86,7 @@ module _ (v : ArenaView) (b : Budget) (law : IsBudget v b) (made : ℕ) where
   few_by true aims.Scan w now few = inl (now, omega (arith, few))
   few_by false aim w now few = inl (now, few)
 
-  comes_onto : (w : Walk) (k : ℕ) (seen : Parts) → seen ≡ (at v k).version → made + 3 * (at v k).level ≤ until b w
+  pub comes_onto : (w : Walk) (k : ℕ) (seen : Parts) → seen ≡ (at v k).version → made + 3 * (at v k).level ≤ until b w
       → WalksBy (walk_onto w k seen).phase b made v (walk_onto w k seen)
   comes_onto w k seen now few = few_by seen.border w.aim (walk_onto w k seen) now few
 

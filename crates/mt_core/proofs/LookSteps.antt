@@ -27,7 +27,7 @@ use Rattle.mt_state.specs.Phases.{ScanStep, GoesForward, LeadsTo}
 use Rattle.mt_state.specs.Ways.{Descends, ShowsTaken}
 use Rattle.mt_state.proofs.Descents.{Leads, descends, entered, verified, forwarded, stayed}
 use Rattle.mt_state.proofs.Replies.{get_asks}
-use Rattle.mt_core.specs.Points.{Budget, IsBudget, WalksBy}
+use Rattle.mt_core.specs.Budgets.{Budget, IsBudget, WalksBy}
 use Rattle.mt_core.specs.Looks.{led_to, MayLoad, MayConfirm, TellsDescended, TellsLoaded}
 use Rattle.mt_operation.specs.declared.removal.Removal.{Removal}
 

@@ -1,20 +1,23 @@
 -- How a step brings an operation on that nobody is in the way of: by the point to which its walk came. For each phase of `Inner`.
-use Rattle.std.proofs.Common.{◌≡◌, ℕ, ◌+◌, inl, inr, Bool, true, false, length, Option, Some, refl, sym, ap, subst, ◌∙◌}
-use Rattle.std.proofs.lemmas.Bool.{cases_lt, cases_eq, both_ways}
+use Rattle.std.proofs.Common.{◌≡◌, ℕ, ◌+◌, inl, inr, Bool, true, false, length, Option, Some, refl, sym, subst, ◌∙◌}
+use Rattle.std.proofs.lemmas.Bool.{cases_lt, cases_eq}
 use Rattle.std.proofs.lemmas.Option.{same_Some}
 use Rattle.mt_arena.specs.Arena.{ArenaView, Guarantee}
 use Rattle.mt_operation.specs.declared.phase.Phase.{Phase}
 use Rattle.mt_operation.specs.declared.phase.Phase.TheVariants.{Enter}
 use Rattle.mt_operation.specs.declared.walk.Walk.{Walk}
 use Rattle.mt_operation.specs.declared.splits.Splits.{Splits}
-use Rattle.mt_operation.specs.declared.task.Task.{Task}
+use Rattle.mt_rows.specs.declared.command.Command.{Command}
+use Rattle.mt_state.proofs.Lawful.{remove_no_scan}
+use Rattle.mt_core.specs.ScanPoints.{IsScanAt}
 use Rattle.mt_operation.specs.Tasks.{ask}
 use Rattle.mt_remove.specs.Writes.{is_remove}
 use Rattle.mt_operation.specs.declared.operation.Operation.{Operation}
 use Rattle.mt_operation.specs.Tables.{op_at as operation_at}
 use Rattle.mt_state.specs.declared.moves.Move.TheVariants.{Moved}
 use Rattle.mt_state.specs.Views.{Core}
-use Rattle.mt_core.specs.Points.{AreBelow, HasMade, HasRemoved, MayHaveGrown, IsAtPoint, IsFreeOfOthers, IsRemovalAt, IsSoFar, IsUnhindered, Nears, RoundsAt}
+use Rattle.mt_core.specs.Budgets.{AreBelow}
+use Rattle.mt_core.specs.Points.{HasMade, HasRemoved, MayHaveGrown, IsAtPoint, IsFreeOfOthers, IsRemovalAt, IsSoFar, IsComing, Nears, RoundsAt}
 use Rattle.mt_rows.specs.Maps.{is_scan}
 use Rattle.mt_operation.specs.declared.outcome.Outcome.{Outcome}
 use Rattle.mt_operation.specs.declared.removal.Removal.{Removal}
@@ -85,7 +88,7 @@ removal_first height made v w told r first p = record {
   few = removed_first w.phase height p.round made v w first p.few;
 }
 
-module _ (c new : Core) (o : ℕ) (op after : Operation) (there : operation_at c.table o ≡ Some op) (came : operation_at new.table o ≡ Some after) (g : Guarantee o c.arena new.arena) (asked : after.task ≡ op.task) where
+module _ (c new : Core) (o : ℕ) (op after : Operation) (there : operation_at c.table o ≡ Some op) (came : operation_at new.table o ≡ Some after) (g : Guarantee o c.arena new.arena) (asked : ask after.task ≡ ask op.task) where
   -- nobody else comes to hold a node
   free_after : IsFreeOfOthers c.arena o → IsFreeOfOthers new.arena o
   free_after free k q within holds = elim (cases_eq q o) [
@@ -96,41 +99,56 @@ module _ (c new : Core) (o : ℕ) (op after : Operation) (there : operation_at c
     ]
   ]
 
-  -- and it is no scan
-  still_no_scan : {height made : ℕ} → IsUnhindered c o height made → is_scan (ask after.task) ≡ false
-  still_no_scan u = ap (λ (task : Task). is_scan (ask task)) (asked ∙ ap (λ (x : Operation). x.task) (same_Some op u.op (sym there ∙ u.there))) ∙ u.no_scan
+  -- a scan that comes to its next point
+  abbrev pub BringsScan : Type 0
+  BringsScan = (height trees made : ℕ) → IsScanAt height trees made c.arena op.walk op.scan.stop op.task.key
+      → IsScanAt height trees (made + 1) new.arena after.walk after.scan.stop after.task.key
 
-  -- a step brings the operation on whose walk came to the next point, or which has come further with its removal
+  -- a step brings the operation on whose walk came to the next point, or which has come further with its removal, or with its scan
   pub nears_by : ((height made : ℕ) → IsAtPoint height made c.arena op.walk op.splits → IsAtPoint height (made + 1) new.arena after.walk after.splits)
       → (is_remove (ask op.task) ≡ true → (height made : ℕ) → IsRemovalAt height made c.arena op.walk op.outcome op.removal
       → IsRemovalAt height (made + 1) new.arena after.walk after.outcome after.removal)
-      → Nears c new o Moved
-  nears_by brings removes height made u = record {
+      → (is_scan (ask op.task) ≡ true → BringsScan) → Nears c new o Moved
+  nears_by brings removes scans height trees made u = record {
     op = after;
     there = came;
     free = free_after u.free;
-    no_scan = still_no_scan u;
-    point = subst (λ (task : Task). IsSoFar (is_remove (ask task)) height (made + 1) new.arena after) (sym asked)
-        (so_far (is_remove (ask op.task)) height made c.arena new.arena op after (brings height made) (λ is. removes is height made)
-        (subst (λ (x : Operation). IsSoFar (is_remove (ask x.task)) height made c.arena x) (same_Some u.op op (sym u.there ∙ there)) u.point));
+    point = subst (λ (command : Command). IsComing (is_scan command) height trees (made + 1) new.arena after) (sym asked)
+        (by (is_scan (ask op.task)) refl (subst (λ (x : Operation). IsComing (is_scan (ask x.task)) height trees made c.arena x) (same_Some u.op op (sym u.there ∙ there)) u.point));
   }
+    where
+      by : (b : Bool) → is_scan (ask op.task) ≡ b → IsComing b height trees made c.arena op → IsComing b height trees (made + 1) new.arena after
+      by true is scan = scans is height trees made scan
+      by false is point = subst (λ (command : Command). IsSoFar (is_remove command) height (made + 1) new.arena after) (sym asked)
+          (so_far (is_remove (ask op.task)) height made c.arena new.arena op after (brings height made) (λ is. removes is height made) point)
 
-  -- and a removal alone, by what brings it on
+  -- a removal alone, by what brings it on
   pub nears_removal : is_remove (ask op.task) ≡ true → ((height made : ℕ) → IsRemovalAt height made c.arena op.walk op.outcome op.removal
       → IsRemovalAt height (made + 1) new.arena after.walk after.outcome after.removal)
       → Nears c new o Moved
-  nears_removal is removes height made u = record {
+  nears_removal is removes height trees made u = record {
     op = after;
     there = came;
     free = free_after u.free;
-    no_scan = still_no_scan u;
-    point = subst (λ (task : Task). IsSoFar (is_remove (ask task)) height (made + 1) new.arena after) (sym asked)
-        (subst (λ (b : Bool). IsSoFar b height (made + 1) new.arena after) (sym is) (removes height made
-        (subst (λ (b : Bool). IsSoFar b height made c.arena op) is
-        (subst (λ (x : Operation). IsSoFar (is_remove (ask x.task)) height made c.arena x) (same_Some u.op op (sym u.there ∙ there)) u.point))));
+    point = subst (λ (command : Command). IsComing (is_scan command) height trees (made + 1) new.arena after) (sym asked)
+        (by (is_scan (ask op.task)) (remove_no_scan (ask op.task) is)
+        (subst (λ (x : Operation). IsComing (is_scan (ask x.task)) height trees made c.arena x) (same_Some u.op op (sym u.there ∙ there)) u.point));
   }
+    where
+      by : (b : Bool) → b ≡ false → IsComing b height trees made c.arena op → IsComing b height trees (made + 1) new.arena after
+      by true plain scan = absurd (cc)
+      by false plain point = subst (λ (command : Command). IsSoFar (is_remove command) height (made + 1) new.arena after) (sym asked)
+          (subst (λ (b : Bool). IsSoFar b height (made + 1) new.arena after) (sym is) (removes height made
+          (subst (λ (b : Bool). IsSoFar b height made c.arena op) is point)))
 
--- and a step of a scan brings on nobody, since such a run is none of a scan's
-pub nears_no_scan : (c new : Core) (o : ℕ) (op : Operation) → operation_at c.table o ≡ Some op → is_scan (ask op.task) ≡ true → Nears c new o Moved
-nears_no_scan c new o op there scans height made u =
-    absurd (both_ways _ (ap (λ (x : Operation). is_scan (ask x.task)) (same_Some op u.op (sym there ∙ u.there)) ∙ u.no_scan) scans)
+  -- and a scan alone
+  pub nears_scan : is_scan (ask op.task) ≡ true → BringsScan → Nears c new o Moved
+  nears_scan is scans height trees made u = record {
+    op = after;
+    there = came;
+    free = free_after u.free;
+    point = subst (λ (command : Command). IsComing (is_scan command) height trees (made + 1) new.arena after) (sym asked)
+        (subst (λ (b : Bool). IsComing b height trees (made + 1) new.arena after) (sym is) (scans height trees made
+        (subst (λ (b : Bool). IsComing b height trees made c.arena op) is
+        (subst (λ (x : Operation). IsComing (is_scan (ask x.task)) height trees made c.arena x) (same_Some u.op op (sym u.there ∙ there)) u.point))));
+  }

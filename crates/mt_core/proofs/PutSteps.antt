@@ -12,7 +12,9 @@ use Rattle.mt_arena.specs.NodeView.{NodeView}
 use Rattle.mt_arena.specs.Edits.{locked, unlocked}
 use Rattle.mt_arena.specs.Arena.{ArenaView, Guarantee, IsArena}
 use Rattle.mt_arena.specs.Accesses.{at, with_node}
+use Rattle.mt_operation.specs.declared.walk.Aim.{Aim}
 use Rattle.mt_operation.specs.declared.walk.Aim.TheVariants as aims
+use Rattle.mt_rows.specs.Maps.{is_scan}
 use Rattle.mt_operation.specs.declared.phase.Phase.{Phase}
 use Rattle.mt_operation.specs.declared.phase.Phase.TheVariants.{Enter, Forward, Judge, Lock, MakeLayer, Publish, SplitStart, Store, Unlock}
 use Rattle.mt_operation.specs.declared.walk.Walk.{Walk}
@@ -56,12 +58,13 @@ use Rattle.mt_state.proofs.LayerSteps.{below_done, meet_done}
 use Rattle.mt_state.proofs.Putting.{publish_done, store_done}
 use Rattle.mt_state.proofs.Needs.{IsOfPut, judge_kept, lock_blocked, lock_kept, publish_kept, publish_ready, put_at, store_kept, store_ready, write_room}
 use Rattle.mt_core.specs.Nexts.{IsNext}
-use Rattle.mt_core.specs.Points.{AreBelow, HasMade, HasRemoved, IsRemovalAt, IsAtPoint, IsLiveTree, MayHaveGrown, Nears, SeesNow, StepsOn, above, astray, before_unlock, behind}
+use Rattle.mt_core.specs.Budgets.{AreBelow, IsLiveTree, SeesNow, above, astray, before_unlock, behind}
+use Rattle.mt_core.specs.Points.{HasMade, HasRemoved, IsRemovalAt, IsAtPoint, MayHaveGrown, Nears, StepsOn}
 use Rattle.mt_core.proofs.Points.{below_at, few_at, nears_by, point_at, point_first, removal_first, removed_at}
 use Rattle.mt_core.proofs.RemovalNears.{link_removal, lock_removal, tree_layer, tree_stands}
 use Rattle.mt_state.proofs.Bound.{put_no_remove}
 use Rattle.mt_core.proofs.LookPoints.{next_layer, shallow_below}
-use Rattle.mt_core.proofs.Following.{IsSound, IsOver, Writes, made, may_move, may_over, next_here, opened, over_first, over_next, phase_is}
+use Rattle.mt_core.proofs.Following.{IsSound, IsOver, Writes, made, may_move, may_over, next_here, opened, over_first, over_next, phase_is, write_no_scan}
 use Rattle.mt_core.proofs.Leading.{done_from, leads_over}
 
 -- the walk of a put that takes its lock, that goes on to the next node, or that begins anew where its own was deleted
@@ -213,9 +216,9 @@ module _ (c now : Core) (o : ℕ) (is : c ≡ now) (h : StateInvariant c) where
       → IsOver c.table table o after → Guarantee o c.arena arena
       → ((height n : ℕ) → IsAtPoint height n c.arena x.walk x.splits → IsAtPoint height (n + 1) arena after.walk after.splits)
       → (is_remove (ask x.task) ≡ true → (height n : ℕ) → IsRemovalAt height n c.arena x.walk x.outcome x.removal → IsRemovalAt height (n + 1) arena after.walk after.outcome after.removal)
-      → Nears now (made c arena tape accounts table) o Moved
-  nears_made x after there asked arena tape accounts table over guarantee brings removes = subst (λ (v : Core). Nears v (made c arena tape accounts table) o Moved) is
-      (nears_by c (made c arena tape accounts table) o x after there over.there guarantee asked brings removes)
+      → is_scan (ask x.task) ≡ false → Nears now (made c arena tape accounts table) o Moved
+  nears_made x after there asked arena tape accounts table over guarantee brings removes plain = subst (λ (v : Core). Nears v (made c arena tape accounts table) o Moved) is
+      (nears_by c (made c arena tape accounts table) o x after there over.there guarantee (ap ask asked) brings removes (λ scans. absurd (both_ways _ plain scans)))
 
   -- what is told of it, and that
   steps_on : (new : Core) → Gives (shown now) new o false → Nears now new o Moved → Leads (shown now) (shown new) o
@@ -266,7 +269,8 @@ module _ (c now : Core) (o : ℕ) (is : c ≡ now) (h : StateInvariant c) where
         (lock_done c (shown now) o (ap shown is) h few x there at_lock arena w t))
         (nears_made x after there refl arena c.tape c.accounts table over t.keeps.guarantee
         (λ height n point. point_first height (n + 1) arena w x.splits after.walk.first (lock_brings o c.arena arena w x.walk x.splits t.locks at_lock remembered.there remembered.undeleted height n point))
-        (λ removes height n r. removal_first height (n + 1) arena w x.outcome x.removal after.walk.first (lock_removal o c.arena arena x.walk w x.outcome x.removal at_lock remembered.undeleted t.locks height n r)))
+        (λ removes height n r. removal_first height (n + 1) arena w x.outcome x.removal after.walk.first (lock_removal o c.arena arena x.walk w x.outcome x.removal at_lock remembered.undeleted t.locks height n r))
+        (write_no_scan c o h x there Lock at_lock (λ aim kind. kind)))
         (leads_over c o h x there Lock at_lock now is arena c.tape c.accounts table after over w (t.free, subst (λ (told : Option Outcome). LocksBy told o c.arena arena x.removal x.walk w) (sym untold) t.locks) refl refl)
 
     -- a lock that was given back
@@ -301,7 +305,7 @@ module _ (c now : Core) (o : ℕ) (is : c ≡ now) (h : StateInvariant c) where
         (nears_made x after there refl arena tape c.accounts table over t.keeps.guarantee
         (λ height n point. point_first height (n + 1) arena w x.splits after.walk.first
         (subst (λ (v : ArenaView). IsAtPoint height (n + 1) v w x.splits) (sym t.stays) (judge_brings c.arena (at c.arena x.walk.place.node) t.slot w x.walk x.splits t.walk at_judge height n point)))
-        (λ removes. absurd (both_ways _ (put_no_remove (ask x.task) put) removes)))
+        (λ removes. absurd (both_ways _ (put_no_remove (ask x.task) put) removes)) (write_no_scan c o h x there Judge at_judge (λ aim kind. kind)))
         (leads_over c o h x there Judge at_judge now is arena tape c.accounts table after over w (judges_none untold (inl (record { slot = t.slot; stands = t.stands; goes = t.walk }))) refl refl)
 
     -- another long key in the key's place
@@ -318,7 +322,7 @@ module _ (c now : Core) (o : ℕ) (is : c ≡ now) (h : StateInvariant c) where
         (nears_made x after there refl arena tape c.accounts table over t.keeps.guarantee
         (λ height n point. point_first height (n + 1) arena w x.splits after.walk.first
         (subst (λ (v : ArenaView). IsAtPoint height (n + 1) v w x.splits) (sym t.stays) (meet_brings c.arena t.slot w x.walk x.splits t.walk at_judge height n point)))
-        (λ removes. absurd (both_ways _ stays removes)))
+        (λ removes. absurd (both_ways _ stays removes)) (write_no_scan c o h x there Judge at_judge (λ aim kind. kind)))
         (leads_over c o h x there Judge at_judge now is arena tape c.accounts table after over w (judges_none untold (inr (inl (record { slot = t.slot; stands = stands; goes = t.walk })))) refl refl)
       where
         stands : IsInSlot (at c.arena x.walk.place.node) t.slot x.task.key x.walk.layer OtherLong
@@ -345,7 +349,8 @@ module _ (c now : Core) (o : ℕ) (is : c ≡ now) (h : StateInvariant c) where
         (λ removes height n r. removal_first height (n + 1) arena w x.outcome x.removal after.walk.first (subst (λ (v : ArenaView). IsRemovalAt height (n + 1) v w x.outcome x.removal) (sym t.goes.is)
         (link_removal c.arena x.task.key t.tree w x.walk x.outcome x.removal t.goes.walk at_judge is_arena through.there (tree_stands c.arena is_arena x.task.key x.walk through judged.held.there judged.at_border.covers.remembered.tree_is judged.stands.live)
         (tree_layer c.arena is_arena x.task.key x.walk through judged.held.there judged.at_border.covers.remembered.tree_is judged.stands.live)
-        (shallow_below x.walk.layer x.task.key stored (subst (λ (y : Walk). 8 * y.layer < length x.task.key) t.goes.walk t.kept.begun)) live.live height n r))))
+        (shallow_below x.walk.layer x.task.key stored (subst (λ (y : Walk). 8 * y.layer < length x.task.key) t.goes.walk t.kept.begun)) live.live height n r)))
+        (write_no_scan c o h x there Judge at_judge (λ aim kind. kind)))
         (leads_over c o h x there Judge at_judge now is arena tape c.accounts table after over w (judges_link x.outcome (record { slot = t.slot; stands = t.in_slot; tree = t.tree; leads = t.leads; goes = t.goes.walk })) refl refl)
 
     -- either of them: it goes on
@@ -421,16 +426,17 @@ module _ (c now : Core) (o : ℕ) (is : c ≡ now) (h : StateInvariant c) where
     unsplit none = ((h.ops o op there).unsplit (ap has_splits (standing p next).2 ∙ none)).halves
 
     -- it comes to give its lock back
-    nears_placed : ((height round n : ℕ) (v : ArenaView) (y : Walk) → HasRemoved p height round n v y → ⊥) → (arena : ArenaView) (tape : Kept) (accounts : Accounts) (w : Walk) (told : Option Outcome) (last : Table)
+    nears_placed : ((aim : Aim) → IsOfKind p aim → aim ≡ aims.Write) → ((height round n : ℕ) (v : ArenaView) (y : Walk) → HasRemoved p height round n v y → ⊥) → (arena : ArenaView) (tape : Kept) (accounts : Accounts) (w : Walk) (told : Option Outcome) (last : Table)
         → Writes table last o (λ y. noted (moved y (c.steps + 1) w) told) → Guarantee o c.arena arena → w ≡ walk_placed op.walk
         → has_splits p ≡ false → ¬ MayHaveGrown p op.splits.halves.items → ((height : ℕ) → AreBelow c.arena height → AreBelow arena height)
         → ((height n : ℕ) → IsAtPoint height n c.arena op.walk op.splits → n < above height op.walk + 3 * height + 3)
         → Nears now (made c arena tape accounts last) o Moved
-    nears_placed none_removes arena tape accounts w told last moves guarantee goes none other stays least =
+    nears_placed write none_removes arena tape accounts w told last moves guarantee goes none other stays least =
         let after = noted (moved (with_nothing_ready op) (c.steps + 1) w) told in
         nears_made op after there refl arena tape accounts last (over_last w told last moves) guarantee
         (λ height n point. point_first height (n + 1) arena w op.splits after.walk.first (place_brings c.arena arena w op.walk op.splits p (standing p next).2 goes (unsplit none) other stays least height n point))
         (λ removes height n r. absurd (none_removes height r.round n c.arena op.walk (removed_at height n c.arena op.walk op.outcome op.removal p (standing p next).2 r)))
+        (write_no_scan c o h op there p (standing p next).2 write)
 
     -- whichever operation is found at the id then
     module _ (x : Operation) (there_x : operation_at table o ≡ Some x) where
@@ -466,7 +472,7 @@ module _ (c now : Core) (o : ℕ) (is : c ≡ now) (h : StateInvariant c) where
         (subst (λ (all : Table). Gives (shown now) (made c arena tape c.accounts all) o false) (sym (over_last Store next table prepared takes w (Some told) last moves).is)
         (subst (λ (r : Outcome). Gives (shown now) (made c arena tape c.accounts (set c.table o (Some (noted (f y) (Some r))))) o false) (sym says)
         (store_done c (shown now) o (ap shown is) h few s.0 s.1 (put_at c o h s.0 s.1 Store s.2 tt) s.2 arena tape w prepared.row before is_arena st)))
-        (nears_placed Store next table prepared takes (λ height round n v y few. few) arena tape c.accounts w (Some told) last moves st.guarantee st.walk refl (λ grown. grown)
+        (nears_placed Store next table prepared takes (λ aim kind. kind) (λ height round n v y few. few) arena tape c.accounts w (Some told) last moves st.guarantee st.walk refl (λ grown. grown)
         (levels_stay c.arena arena s.0.walk.place.node _ sk.holds.judged.held.there (st.is sk.pair sk.stable) refl refl) (λ height n point. let few = few_at height n c.arena s.0.walk s.0.splits Store s.2 point in omega (arith, few)))
         (leads_over c o h s.0 s.1 Store s.2 now is arena tape c.accounts last _ (over_last Store next table prepared takes w (Some told) last moves) w st.walk refl refl)
 
@@ -487,7 +493,7 @@ module _ (c now : Core) (o : ℕ) (is : c ≡ now) (h : StateInvariant c) where
           steps_on (made c arena tape accounts last)
           (subst (λ (all : Table). Gives (shown now) (made c arena tape accounts all) o false) (sym (over_last Publish next table prepared takes w (Some told) last moves).is)
           (subst (λ (r : Outcome). Gives (shown now) (made c arena tape accounts (set c.table o (Some (noted (f (with_nothing_ready s.0)) (Some r))))) o false) (sym says) gives))
-          (nears_placed Publish next table prepared takes (λ height round n v y few. few) arena tape accounts w (Some told) last moves guarantee goes refl (λ grown. grown) stays (λ height n point. let few = few_at height n c.arena s.0.walk s.0.splits Publish s.2 point in omega (arith, few)))
+          (nears_placed Publish next table prepared takes (λ aim kind. kind) (λ height round n v y few. few) arena tape accounts w (Some told) last moves guarantee goes refl (λ grown. grown) stays (λ height n point. let few = few_at height n c.arena s.0.walk s.0.splits Publish s.2 point in omega (arith, few)))
           (leads_over c o h s.0 s.1 Publish s.2 now is arena tape accounts last _ (over_last Publish next table prepared takes w (Some told) last moves) w goes refl refl)
 
       -- a pair that was made live

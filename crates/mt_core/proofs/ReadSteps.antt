@@ -47,6 +47,10 @@ use Rattle.mt_core.specs.Nexts.{ending}
 use Rattle.mt_core.specs.Looks.{Looks, LooksAt, MayDescend, MayLook, led_to, TellsDescended, TellsSearched, TellsLoaded, TellsConfirmed, TellsSnapped, TellsCompared, TellsHopped, IsStopped}
 use Rattle.mt_core.specs.Points.{IsAtPoint, Nears, StepsOn}
 use Rattle.mt_core.proofs.Points.{point_first, removal_first, nears_by}
+use Rattle.mt_rows.specs.Maps.{is_scan}
+use Rattle.mt_state.proofs.Lawful.{get_no_scan}
+use Rattle.mt_core.specs.ScanPoints.{IsScanAt}
+use Rattle.mt_core.proofs.ScanNears.{scan_first, scan_aim, down_nears}
 use Rattle.mt_core.proofs.RemovalNears.{descent_removal}
 use Rattle.mt_core.specs.Points.{IsRemovalAt}
 use Rattle.mt_remove.specs.Writes.{is_remove}
@@ -99,7 +103,18 @@ module _ (c now : Core) (o : ℕ) (is : c ≡ now) (h : StateInvariant c) (room 
   BringsRemoval w told = is_remove (ask op.task) ≡ true → (height made : ℕ) → IsRemovalAt height made c.arena op.walk op.outcome op.removal
       → IsRemovalAt height (made + 1) c.arena w told op.removal
 
-  -- no get removes
+  -- or where it scans
+  abbrev BringsScan : Walk → Type 0
+  BringsScan w = is_scan (ask op.task) ≡ true → (height trees made : ℕ) → IsScanAt height trees made c.arena op.walk op.scan.stop op.task.key
+      → IsScanAt height trees (made + 1) c.arena w op.scan.stop op.task.key
+
+  -- no get scans, and none removes
+  get_scans : (p : Phase) → op.walk.phase ≡ p → (IsOfKind p op.walk.aim → op.walk.aim ≡ aims.Read) → (w : Walk) → BringsScan w
+  get_scans p at_p reads w scans =
+      let always = (h.ops o op there).always in
+      let gets = get_of (ask op.task) op.walk.aim always.aim (reads (subst (λ (q : Phase). IsOfKind q op.walk.aim) at_p always.kind)) in
+      absurd (both_ways _ (get_no_scan (ask op.task) gets) scans)
+
   reads_get : (p : Phase) → op.walk.phase ≡ p → (IsOfKind p op.walk.aim → op.walk.aim ≡ aims.Read) → (w : Walk) (told : Option Outcome) → BringsRemoval w told
   reads_get p at_p reads w told removes =
       let always = (h.ops o op there).always in
@@ -113,9 +128,9 @@ module _ (c now : Core) (o : ℕ) (is : c ≡ now) (h : StateInvariant c) (room 
   led_over : (w : Walk) (told : Option Outcome) → IsOver c.table (led w told) o (noted (moved op (c.steps + 1) w) told)
   led_over w told = record { is = refl; there = set_is c.table o (noted (moved op (c.steps + 1) w) told) op there }
 
-  moved_gives : (w : Walk) (told : Option Outcome) → Gives (shown now) (stepped c (led w told)) o false → BringsOn w → BringsRemoval w told → GoesOn op.walk.phase w
+  moved_gives : (w : Walk) (told : Option Outcome) → Gives (shown now) (stepped c (led w told)) o false → BringsOn w → BringsRemoval w told → BringsScan w → GoesOn op.walk.phase w
       → (table : Table) → table ≡ led w told → StepGives table Moved
-  moved_gives w told g brings removes goes table e = subst (λ (t : Table). StepGives t Moved) (sym e) (
+  moved_gives w told g brings removes scans goes table e = subst (λ (t : Table). StepGives t Moved) (sym e) (
     g.0,
     record {
       tells = g.1;
@@ -130,6 +145,7 @@ module _ (c now : Core) (o : ℕ) (is : c ≡ now) (h : StateInvariant c) (room 
           nears_by c (stepped c (led w told)) o op after there (set_is c.table o after op there) (nothing_changes o c.arena) refl
           (λ height made point. point_first height (made + 1) c.arena w op.splits after.walk.first (brings height made point))
           (λ is height made r. removal_first height (made + 1) c.arena w told op.removal after.walk.first (removes is height made r))
+          (λ is height trees made r. scan_first height trees (made + 1) after.walk.first c.arena w op.scan.stop op.task.key (scans is height trees made r))
 
   done_gives : (w : Walk) (told : Option Outcome) → Gives (shown now) (stepped c (led w told)) o true → GoesOn op.walk.phase w → (table : Table)
       → table ≡ led w told → StepGives table DoneMove
@@ -151,7 +167,7 @@ module _ (c now : Core) (o : ℕ) (is : c ≡ now) (h : StateInvariant c) (room 
 
   -- a step down
   pub descent_gives : (w : Walk) → IsDescent op.walk.phase → Descends op.walk w → ((past : Past) → IsKept c.arena past op.task.key None w)
-      → BringsOn w → BringsRemoval w op.outcome → GoesOn op.walk.phase w → (table : Table) → table ≡ set c.table o (Some (moved op (c.steps + 1) w)) → StepGives table Moved
+      → BringsOn w → BringsRemoval w op.outcome → BringsScan w → GoesOn op.walk.phase w → (table : Table) → table ≡ set c.table o (Some (moved op (c.steps + 1) w)) → StepGives table Moved
   descent_gives w descent goes kept brings = moved_gives w op.outcome (descend_done c (shown now) o (ap shown is) h room op there w descent goes kept) brings
 
   -- what is kept of an operation that is to search
@@ -204,6 +220,7 @@ module _ (c now : Core) (o : ℕ) (is : c ≡ now) (h : StateInvariant c) (room 
       moved_gives w (Some (record { reply = Absent; at = c.steps + 1 })) (search_missing c (shown now) o (ap shown is) h room arena op there at_search w found.0 found.1 found.2 kept confirms)
       (λ height made point. search_nears c.arena op.walk w found.0 (c.steps + 1) at_search found.2 height made op.splits point)
       (reads_get Search at_search (λ kind. kind) w (Some (record { reply = Absent; at = c.steps + 1 })))
+      (get_scans Search at_search (λ kind. kind) w)
       (goes_at Search at_search w found)
       table (e ∙ ap (λ (x : Outcome). led w (Some x)) says)
 
@@ -217,6 +234,7 @@ module _ (c now : Core) (o : ℕ) (is : c ≡ now) (h : StateInvariant c) (room 
       moved_gives w op.outcome (search_found c (shown now) o (ap shown is) h room arena op there at_search w found.0 found.1 found.2 kept (loads found.0 found.2))
       (λ height made point. search_nears c.arena op.walk w found.0 (c.steps + 1) at_search found.2 height made op.splits point)
       (reads_get Search at_search (λ kind. kind) w op.outcome)
+      (get_scans Search at_search (λ kind. kind) w)
       (goes_at Search at_search w found)
     where
       loads : (f : Find) → w ≡ after_search f op.walk (c.steps + 1) → w.phase ≡ Load
@@ -242,6 +260,7 @@ module _ (c now : Core) (o : ℕ) (is : c ≡ now) (h : StateInvariant c) (room 
       moved_gives w None (confirm_back c (shown now) o (ap shown is) h room op there at_confirm w same confirms kept other)
       (λ height made point. let k = confirming at_confirm in confirm_nears c.arena (past_of c) op.task.key k.0 op.walk w (h.ops o op there).always.stored at_confirm k.1 confirms other height made op.splits point)
       (reads_get Confirm at_confirm (λ kind. kind) w None)
+      (get_scans Confirm at_confirm (λ kind. kind) w)
       (goes_at Confirm at_confirm w (stable, confirms))
 
   -- a load
@@ -263,6 +282,7 @@ module _ (c now : Core) (o : ℕ) (is : c ≡ now) (h : StateInvariant c) (room 
           (λ past stamped since. kept_loads c.arena op.task.key op.walk t.walk past t.row arena (load_kept at_load) stamped since t.loads))
           (λ height made point. load_nears c.arena op.task.key op.walk t.walk t.row arena (load_kept at_load).at_border at_load t.loads height made op.splits point)
           (reads_get Load at_load (λ kind. kind) t.walk after.outcome)
+          (get_scans Load at_load (λ kind. kind) t.walk)
           (goes_at Load at_load t.walk (record { row = t.row; taken = t.walk; loads = t.loads; goes = inl refl }))
           table (e ∙ ap (λ (x : Walk). led x after.outcome) same))
 
@@ -290,7 +310,10 @@ module _ (c now : Core) (o : ℕ) (is : c ≡ now) (h : StateInvariant c) (room 
   descent_comes arena descent after t table e answer ends =
       subst (StepGives table) (sym (ends ∙ way_moves after.walk.phase t.goes.on_way))
       (descent_gives after.walk descent t.goes t.kept (descent_nears c.arena op.walk after.walk op.splits arena descent t.nears)
-      (λ removes. descent_removal c.arena op.walk after.walk op.outcome op.removal arena descent t.nears) (t.leads o (c.steps + 1) op.outcome (splits_of op.splits) op.removal (no_step op)) table (led_table after after.walk op.outcome t.others table e))
+      (λ removes. descent_removal c.arena op.walk after.walk op.outcome op.removal arena descent t.nears)
+      (λ scans height trees made r. down_nears c.arena arena height trees made op.walk after.walk op.scan.stop op.task.key descent t.goes.kind
+      (t.goes.same.aim ∙ (h.ops o op there).always.aim ∙ scan_aim (ask op.task) scans) t.nears r)
+      (t.leads o (c.steps + 1) op.outcome (splits_of op.splits) op.removal (no_step op)) table (led_table after after.walk op.outcome t.others table e))
 
   -- one that searches
   pub search_comes : IsArena c.arena.nodes c.arena.trees → op.walk.phase ≡ Search → Comes (TellsSearched c.arena (c.steps + 1))
@@ -406,7 +429,7 @@ module _ (c now : Core) (o : ℕ) (is : c ≡ now) (h : StateInvariant c) (room 
   look_comes arena Load e = load_comes arena e
   look_comes arena Confirm e = confirm_comes e
   look_comes arena Snap e = snap_comes c now o is h room op there arena e
-  look_comes arena Check e = check_comes c now o is h room op there e
+  look_comes arena Check e = check_comes c now o is h room op there e arena
   look_comes arena Hop e = hop_comes c now o is h room op there arena e
   look_comes arena _ e = λ after t. absurd (let no_step : ◌≡◌ {A = Made} Step Nothing = t.0 in cc)
 

@@ -40,7 +40,8 @@ use Rattle.mt_operation.specs.Operations.{SplitsView}
 use Rattle.mt_state.specs.Phases.{LeadsTo, ScanStep}
 use Rattle.mt_state.proofs.RemovalBy.{child_before}
 use Rattle.mt_state.proofs.Decides.{outdated_or_not}
-use Rattle.mt_core.specs.Points.{Budget, HasRemoved, HasRounds, IsBudget, IsLiveTree, IsRemovalAt, RoundsAt, WalksBy, astray, before_round, behind, round_budget, until}
+use Rattle.mt_core.specs.Budgets.{Budget, IsBudget, IsLiveTree, WalksBy, astray, behind, until}
+use Rattle.mt_core.specs.Points.{HasRemoved, HasRounds, IsRemovalAt, RoundsAt, before_round, round_budget}
 use Rattle.mt_core.proofs.Points.{removed_at, rounds_at}
 
 -- nodes of the same levels make the same levels of trees

@@ -123,7 +123,7 @@ module _ (c now : Core) (o : ℕ) (is : c ≡ now) (h : StateInvariant c) (few :
       → ((height n : ℕ) → IsRemovalAt height n c.arena x.walk x.outcome x.removal → IsRemovalAt height (n + 1) arena after.walk after.outcome after.removal)
       → Nears now (made c arena tape accounts table) o Moved
   nears_by_removal removes arena tape accounts table after over asked guarantee brings = subst (λ (v : Core). Nears v (made c arena tape accounts table) o Moved) is
-      (nears_removal c (made c arena tape accounts table) o x after there over.there guarantee asked removes brings)
+      (nears_removal c (made c arena tape accounts table) o x after there over.there guarantee (ap ask asked) removes brings)
 
   -- what is told of one that moves, and of one that ends
   moves_on : (new : Core) → Gives (shown c) new o false → Nears now new o Moved → Leads (shown now) (shown new) o → IsSound new × StepsOn now new o Moved

@@ -1,7 +1,7 @@
 -- What the steps of a scan ask of the invariant, and what they tell: for `Inner::look`.
 use Rattle.std.proofs.Common.{◌≡◌, ◌≢◌, ℕ, ◌+◌, ◌<◌, inl, inr, Bool, true, false, set, Option, Some, None, refl, sym, ap, subst, ◌∙◌}
 use Rattle.std.specs.Prelude.{◌^◌}
-use Rattle.mt_slices.specs.Keys.{IsStoredKey}
+use Rattle.mt_slices.specs.Keys.{IsStoredKey, tenant_of}
 use Rattle.mt_rows.specs.declared.reply.Reply.TheVariants.{NoMemory, Pairs}
 use Rattle.mt_rows.specs.Maps.{is_scan}
 use Rattle.mt_rows.specs.Rows.{Bytes, Columns}
@@ -45,7 +45,14 @@ use Rattle.mt_core.specs.Points.{Nears, StepsOn}
 use Rattle.mt_core.proofs.Following.{IsSound, IsOver}
 use Rattle.mt_core.proofs.Leading.{scan_step, leads_scanned}
 use Rattle.mt_core.proofs.PhaseTests.{done_or, hop_or, other_moves, way_moves}
-use Rattle.mt_core.proofs.Points.{nears_no_scan}
+use Rattle.mt_core.proofs.Points.{nears_scan}
+use Rattle.mt_core.specs.ScanPoints.{IsScanAt}
+use Rattle.mt_core.proofs.ScanNears.{scan_first, scan_aim, snap_nears, check_nears, hop_nears}
+use Rattle.mt_state.proofs.Still.{nothing_changes}
+use Rattle.mt_state.specs.KeptOperations.{IsChecking, IsKeptAt}
+use Rattle.mt_stretches.specs.Scanned.{IsSeenTo, maps_of}
+use Rattle.mt_rows.specs.Maps.{Map}
+use Rattle.mt_descent.specs.Seen.{Stands}
 
 -- on its way a scan keeps what any walk does
 on_way_kept : (p : Phase) → IsOnWay p → (v : ArenaView) (past : Past) (key : Bytes) (row : Option Columns) (w : Walk) (stop : Stop) → KeptScan p v past key row w stop
@@ -87,15 +94,22 @@ module _ (c now : Core) (o : ℕ) (is : c ≡ now) (h : StateInvariant c) (room 
   went_over : (task : Task) (w : Walk) (told : Option Outcome) (scan : Scan) → IsOver c.table (went_table task w told scan) o (went task w told scan)
   went_over task w told scan = record { is = refl; there = set_is c.table o (went task w told scan) op there }
 
+  -- the walk comes to the next point of a scan, with this fence and this end of its stretch
+  abbrev BringsScan : Task → Walk → Scan → Type 0
+  BringsScan task w scan = (height trees made : ℕ) → IsScanAt height trees made c.arena op.walk op.scan.stop op.task.key
+      → IsScanAt height trees (made + 1) c.arena w scan.stop task.key
+
   -- a step of a scan that goes on, and one that ends it
   moves_on : (p : Phase) → op.walk.phase ≡ p → is_scan (ask op.task) ≡ true → (task : Task) (w : Walk) (told : Option Outcome) (scan : Scan)
       → Gives (shown c) (stepped (went_table task w told scan)) o false → GoesOn p w (scan_of task scan) → StaysScanned (row p).kind (scan_of op.task op.scan) (scan_of task scan)
-      → (table : Table) → table ≡ went_table task w told scan → StepGives table Moved
-  moves_on p at_p scans task w told scan g goes stays table e = subst (λ (t : Table). StepGives t Moved) (sym e) (
+      → ask task ≡ ask op.task → BringsScan task w scan → (table : Table) → table ≡ went_table task w told scan → StepGives table Moved
+  moves_on p at_p scans task w told scan g goes stays asked brings table e = subst (λ (t : Table). StepGives t Moved) (sym e) (
     g.0,
     record {
       tells = (gives_now (stepped (went_table task w told scan)) false g).1;
-      nears = subst (λ (x : Core). Nears x (stepped (went_table task w told scan)) o Moved) is (nears_no_scan c (stepped (went_table task w told scan)) o op there scans);
+      nears = subst (λ (x : Core). Nears x (stepped (went_table task w told scan)) o Moved) is
+          (nears_scan c (stepped (went_table task w told scan)) o op (went task w told scan) there (set_is c.table o (went task w told scan) op there) (nothing_changes o c.arena) asked scans
+          (λ height trees made r. scan_first height trees (made + 1) (went task w told scan).walk.first c.arena w scan.stop task.key (brings height trees made r)));
       leads = leads_scanned c o h op there p at_p now is c.arena c.tape c.accounts (went_table task w told scan) _ (went_over task w told scan) w goes stays refl;
     },
   )
@@ -141,7 +155,10 @@ module _ (c now : Core) (o : ℕ) (is : c ≡ now) (h : StateInvariant c) (room 
         let checks : after.walk.phase ≡ Check = ap (λ (x : Walk). x.phase) sees.sees.walk in
         subst (StepGives table) (sym (ends ∙ ap ending checks))
         (moves_on Snap at_snap (scanning Snap at_snap (λ kind. kind)) op.task after.walk op.outcome after.scan
-        (snap_done c o h few op there at_snap arena after.walk after.scan sees.sees sees.kept) (inl sees.sees) tt table
+        (snap_done c o h few op there at_snap arena after.walk after.scan sees.sees sees.kept) (inl sees.sees) tt refl
+        (λ height trees made r. snap_nears c.arena arena height trees made op.walk after.walk op.task.key op.task.key op.scan.stop (scan_of op.task op.scan) (scan_of op.task after.scan) at_snap
+        (snap_kept c o h op there at_snap) sees.sees r)
+        table
         (came_table after op.task after.walk op.outcome after.scan sees.others table e))
     | inr stops ↦
         stop_comes Snap at_snap (λ scan. snap_stopped c o h few op there at_snap op.task.key stored refl (walk_done op.walk) scan refl (record { aim = refl; first = refl }))
@@ -149,7 +166,7 @@ module _ (c now : Core) (o : ℕ) (is : c ≡ now) (h : StateInvariant c) (room 
   ]
 
   -- one that compares its version
-  module _ (at_check : op.walk.phase ≡ Check) where
+  module _ (at_check : op.walk.phase ≡ Check) (arena : IsArena c.arena.nodes c.arena.trees) where
     scans : is_scan (ask op.task) ≡ true
     scans = scanning Check at_check (λ kind. kind)
 
@@ -178,11 +195,21 @@ module _ (c now : Core) (o : ℕ) (is : c ≡ now) (h : StateInvariant c) (room 
           (goes (scan_of t.task after.scan) (λ left. absurd (let is_end = ap is_done ends in let no = sym left ∙ is_end in cc))) tt table
           (came_table after t.task w told after.scan (t.ends ends) table e)
 
+      -- what it has seen was right after some step, where the node stands
+      seen : Stands (at c.arena op.walk.place.node) op.walk.place.seen → (m : Map) × IsSeenTo m (scan_of op.task op.scan) (prefix_in c.arena op.walk) op.scan.stop
+      seen stands =
+          let checking : IsChecking c op = subst (λ (p : Phase). IsKeptAt p c o op) at_check (h.ops o op there).kept in
+          let has = checking.seen stands.in_range in
+          (maps_of (past_of c) (tenant_of op.task.key) has.step, has.seen)
+
       on : w.phase ≢ Done → (table : Table) → table ≡ set c.table o (Some (counted after (c.steps + 1) op.walk.first)) → StepGives table Moved
       on other table e =
           moves_on Check at_check scans t.task w op.outcome t.scan
           (subst (λ (task : Task). Gives (shown c) (stepped (went_table task w op.outcome t.scan)) o false) (sym t.still.asked) gives)
-          (goes (scan_of t.task t.scan) (λ left. refl)) tt table
+          (goes (scan_of t.task t.scan) (λ left. refl)) tt (ap ask t.still.asked)
+          (λ height trees made r. check_nears c.arena arena height trees made op.walk w op.task.key at_check (scan_of op.task op.scan) (scan_of t.task t.scan)
+          (check_kept c o h op there at_check) refl _ _ check other seen r)
+          table
           (came_table after t.task w op.outcome t.scan (t.goes_on other) table e)
         where
           gives : Gives (shown c) (stepped (went_table (record op.task { key = t.task.key }) w op.outcome t.scan)) o false
@@ -209,14 +236,14 @@ module _ (c now : Core) (o : ℕ) (is : c ≡ now) (h : StateInvariant c) (room 
           (λ scan. inr refl) (λ scan. tt) after stops table e answer ends
     ]
 
-    pub may_compare : MayCompare c.arena op
-    may_compare = record {
-      phase = at_check;
-      kept = check_kept c o h op there at_check;
-      asked = may_check c o h op there at_check;
-      shows = λ task w scan count columns asked checks still same ends.
-          check_shows c o h few op there at_check asked.from asked.after count columns asked.is task.key still.stored w scan same checks ends;
-    }
+  pub may_compare : op.walk.phase ≡ Check → MayCompare c.arena op
+  may_compare at_check = record {
+    phase = at_check;
+    kept = check_kept c o h op there at_check;
+    asked = may_check c o h op there at_check;
+    shows = λ task w scan count columns asked checks still same ends.
+        check_shows c o h few op there at_check asked.from asked.after count columns asked.is task.key still.stored w scan same checks ends;
+  }
 
   -- and one that goes on behind what it has kept
   pub hop_comes : IsArena c.arena.nodes c.arena.trees → op.walk.phase ≡ Hop → Comes (TellsHopped c.arena)
@@ -224,7 +251,10 @@ module _ (c now : Core) (o : ℕ) (is : c ≡ now) (h : StateInvariant c) (room 
       let scans = scanning Hop at_hop (λ kind. kind) in
       subst (StepGives table) (sym (ends ∙ way_moves after.walk.phase (hop_leads c o h few op there at_hop arena op.scan.stop (hop_kept c o h op there at_hop) after.walk t.hops).0))
       (moves_on Hop at_hop scans op.task after.walk op.outcome op.scan
-      (hop_done c o h few op there at_hop arena after.walk t.hops t.same t.kept) (t.hops, refl) tt table
+      (hop_done c o h few op there at_hop arena after.walk t.hops t.same t.kept) (t.hops, refl) tt refl
+      (λ height trees made r. hop_nears c.arena arena height trees made op.walk after.walk op.task.key op.scan.stop at_hop stored (hop_kept c o h op there at_hop) t.hops
+      (hop_leads c o h few op there at_hop arena op.scan.stop (hop_kept c o h op there at_hop) after.walk t.hops).2 (t.same.aim ∙ (h.ops o op there).always.aim ∙ scan_aim (ask op.task) scans) op.task.key r)
+      table
       (came_table after op.task after.walk op.outcome op.scan t.others table e))
 
   pub may_snap : op.walk.phase ≡ Snap → MaySnap c.arena op

@@ -50,10 +50,12 @@ use Rattle.mt_state.proofs.Parting.{fill_done, part_done}
 use Rattle.mt_state.proofs.ClimbingNodes.{begun_leaves}
 use Rattle.mt_state.proofs.Climbing.{pushed_at}
 use Rattle.mt_core.specs.Nexts.{IsNext}
-use Rattle.mt_core.specs.Points.{AreBelow, HasMade, Nears, StepsOn, above}
+use Rattle.mt_core.specs.Budgets.{AreBelow, above}
+use Rattle.mt_core.specs.Points.{HasMade, Nears, StepsOn}
 use Rattle.mt_core.proofs.Points.{below_at, few_at, nears_by, removed_at, point_at, point_first}
 use Rattle.mt_core.proofs.Climbing.{stays_below}
-use Rattle.mt_core.proofs.Following.{IsSound, IsOver, Writes, made, may_over, next_here, opened, over_first, over_next}
+use Rattle.mt_core.proofs.Following.{IsSound, IsOver, Writes, made, may_over, next_here, opened, over_first, over_next, write_no_scan}
+use Rattle.std.proofs.lemmas.Bool.{both_ways}
 use Rattle.mt_core.proofs.Leading.{done_from, leads_over}
 
 -- no level is new where a right half is made of a node that the operation holds
@@ -142,6 +144,7 @@ module _ (c : Core) (o : ℕ) (h : StateInvariant c) (few : c.steps < 2 ^ 59) (o
           (half_below o c.arena op.walk.place.node b.is.low starting.starts.holds.judged.held starting.starts.holds.judged.stands.live height (below_at height made c.arena op.walk op.splits SplitStart at_start (λ grown. grown) point)))
           (subst (λ (x : Walk). HasMade SplitMove height (made + 1) arena x t) (sym b.walk) (omega (arith, was)))))
           (λ removes height made r. absurd (removed_at height made c.arena op.walk op.outcome op.removal SplitStart at_start r))
+          (λ scans. absurd (both_ways _ (write_no_scan c o h op there SplitStart at_start (λ aim kind. kind)) scans))
 
     -- there is no memory for it
     start_stopped : (arena : ArenaView) (tape : Kept) (w : Walk) (s t : Splits) (y : Operation) → with_splits op s ≡ y
@@ -208,6 +211,7 @@ module _ (c : Core) (o : ℕ) (h : StateInvariant c) (few : c.steps < 2 ^ 59) (o
           (subst (λ (x : Walk). HasMade (after_parting next) height (made + 1) arena x op.splits) (sym goes)
           (made_parted next height made arena (walk_at (after_parting next) op.walk) op.splits (few_at height made c.arena op.walk op.splits SplitMove at_move point)))))
           (λ removes height made r. absurd (removed_at height made c.arena op.walk op.outcome op.removal SplitMove at_move r))
+          (λ scans. absurd (both_ways _ (write_no_scan c o h op there SplitMove at_move (λ aim kind. kind)) scans))
 
   module _ (at_unlock : op.walk.phase ≡ Unlock) (told : op.outcome ≢ None) (some : op.splits.halves.items ≢ []) where
     unlocking : IsUnlocking c o op

@@ -1,5 +1,6 @@
 -- A run of steps of one operation, and how it ends where no other operation is in its way.
-use Rattle.std.specs.Prelude.{◌≡◌, ◌≢◌, ℕ, zero, suc, ◌+◌, ◌*◌, ◌^◌, ◌<◌, ◌≤◌, ◌⊎◌, false, Some, None, length}
+use Rattle.std.specs.Prelude.{◌≡◌, ◌≢◌, ℕ, zero, suc, ◌+◌, ◌*◌, ◌^◌, ◌<◌, ◌≤◌, ◌⊎◌, Bool, true, false, Some, None, length}
+use Rattle.mt_rows.specs.declared.command.Command.{Command}
 use Rattle.mt_rows.specs.declared.reply.Reply.{Reply}
 use Rattle.mt_rows.specs.declared.reply.Reply.TheVariants.{NoMemory}
 use Rattle.mt_rows.specs.Maps.{reply_of, is_scan}
@@ -17,6 +18,7 @@ use Rattle.mt_state.specs.declared.moves.Move.TheVariants.{Moved, NoMemory as No
 use Rattle.mt_state.specs.Views.{StateView, contents_of, op_at, quota_of}
 use Rattle.mt_state.specs.Steps.{IsSameAsked}
 use Rattle.mt_state.specs.Promises.{IsStep, Tells}
+use Rattle.mt_core.specs.ScanPoints.{live_trees}
 
 -- so many steps of operation o were made, one after the other, none of which was its last
 abbrev pub IsChain : ℕ → StateView → StateView → ℕ → Type 0
@@ -31,26 +33,28 @@ pub record Runs (old new : StateView) (o : ℕ) (answer : Move) : Type 0 where
   pub tells : Tells mid new o answer
   pub ends : answer ≢ Moved
 
--- how many steps an operation makes at most that is alone
-abbrev pub most_steps : StateView → ℕ
-most_steps v = 256 * (live_count v.arena.nodes + 64)
+-- how many steps an operation makes at most that is alone among so many live nodes and trees, by whether it scans; and one of this command
+abbrev pub most_among : Bool → ℕ → ℕ → ℕ
+most_among false nodes trees = 256 * (nodes + 64)
+most_among true nodes trees = 256 * (nodes + 64) * (trees + 1)
 
--- a get, a put or a remove that has not made a step, in a state in which nobody holds a node and numbers are left for a whole run
+abbrev pub most_steps : StateView → Command → ℕ
+most_steps v command = most_among (is_scan command) (live_count v.arena.nodes) (live_trees v.arena.trees)
+
+-- an operation that has not made a step, in a state in which nobody holds a node and numbers are left for a whole run
 pub record IsAlone (v : StateView) (o : ℕ) (op : OperationView) : Type 0 where
   pub there : op_at v.table o ≡ Some op
-  pub no_scan : is_scan op.command ≡ false
   pub first : op.first ≡ 0
   pub enters : op.phase ≡ Enter
   pub free : (k : ℕ) → k < length v.arena.nodes → (at v.arena k).holder ≡ None
-  pub numbers : v.steps + most_steps v ≤ 2 ^ 59
+  pub numbers : v.steps + most_steps v op.command ≤ 2 ^ 59
 
--- an unfinished get, put or remove, at whatever phase, also one that was disturbed before, while nobody else holds a node and numbers are left for a whole run
+-- an unfinished operation, at whatever phase, also one that was disturbed before, while nobody else holds a node and numbers are left for a whole run
 pub record IsUndisturbed (v : StateView) (o : ℕ) (op : OperationView) : Type 0 where
   pub there : op_at v.table o ≡ Some op
-  pub no_scan : is_scan op.command ≡ false
   pub unfinished : is_done op.phase ≡ false
   pub free : (k q : ℕ) → k < length v.arena.nodes → (at v.arena k).holder ≡ Some q → q ≡ o
-  pub numbers : v.steps + most_steps v ≤ 2 ^ 59
+  pub numbers : v.steps + most_steps v op.command ≤ 2 ^ 59
 
 -- the reply is that of the operation's command on its tenant's map, and the maps are those that the command leaves
 pub record IsRun (old new : StateView) (op : OperationView) (reply : Reply) : Type 0 where
@@ -66,7 +70,7 @@ EndsAt answer phase = ⊥
 
 -- how the run ends of an operation that is alone: with what its command answers and makes, or for want of memory with nothing changed
 pub record EndsAlone (old new : StateView) (o : ℕ) (op : OperationView) (answer : Move) : Type 0 where
-  pub few : new.steps ≤ old.steps + most_steps old
+  pub few : new.steps ≤ old.steps + most_steps old op.command
   pub after : OperationView
   pub there : op_at new.table o ≡ Some after
   pub asked : IsSameAsked op after
@@ -76,8 +80,8 @@ pub record EndsAlone (old new : StateView) (o : ℕ) (op : OperationView) (answe
   pub outcome : ((told.reply ≡ NoMemory) × (contents_of new ≡ contents_of old)) ⊎ IsRun old new op told.reply
 
 -- how the run ends of an operation that nobody disturbs from now on: it is done, or there is no memory for a node that its split needs, after so few steps
-pub record EndsSoon (old new : StateView) (o : ℕ) (answer : Move) : Type 0 where
-  pub few : new.steps ≤ old.steps + most_steps old
+pub record EndsSoon (old new : StateView) (o : ℕ) (op : OperationView) (answer : Move) : Type 0 where
+  pub few : new.steps ≤ old.steps + most_steps old op.command
   pub after : OperationView
   pub there : op_at new.table o ≡ Some after
   pub ends : EndsAt answer after.phase

@@ -11,5 +11,7 @@ pub mod Drains
 pub mod Tidies
 pub mod Rights
 pub mod Alone
+pub mod Budgets
 pub mod Points
 pub mod Layers
+pub mod ScanPoints

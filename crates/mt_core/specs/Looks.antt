@@ -34,7 +34,7 @@ use Rattle.mt_state.specs.Notes.{Says}
 use Rattle.mt_state.specs.Ways.{Descends, ShowsTaken}
 use Rattle.mt_operation.specs.Phases.{IsDescent}
 use Rattle.mt_state.specs.Phases.{ScanStep, LeadsTo}
-use Rattle.mt_core.specs.Points.{Budget, IsBudget, WalksBy}
+use Rattle.mt_core.specs.Budgets.{Budget, IsBudget, WalksBy}
 
 -- what a step makes of an operation that holds nothing, where nobody is in its way; else it is as it was
 abbrev pub Looks : ArenaView → (Operation → Operation → Type 0) → Operation → Made → Operation → Type 0

@@ -229,7 +229,7 @@ impl Inner {
     pub(crate) fn run_alone(&mut self, id: usize) -> Move
         ensures runs { Runs (shown self.old) (shown self.new) id result }
         ensures alone { (op : OperationView) → IsAlone (shown self.old) id op → EndsAlone (shown self.old) (shown self.new) id op result }
-        ensures ends { (op : OperationView) → IsUndisturbed (shown self.old) id op → EndsSoon (shown self.old) (shown self.new) id result }
+        ensures ends { (op : OperationView) → IsUndisturbed (shown self.old) id op → EndsSoon (shown self.old) (shown self.new) id op result }
     {
         self.kept();
         for _ in 0..=MAX_STEPS {

@@ -21,7 +21,7 @@ ghost use Rattle.mt_operation.specs.Operations.{SplitsView, ScanView};
 ghost use Rattle.mt_state.specs.Phases.{ScanStep, LeadsTo};
 ghost use Rattle.mt_core.specs.Looks.{Looks, LooksAt, MayLook, MayDescend, MaySearch, MayLoad, MayConfirm, MaySnap, MayCompare, MayHop};
 ghost use Rattle.mt_core.specs.Looks.{TellsDescended, TellsSearched, TellsLoaded, TellsConfirmed, TellsSnapped, TellsCompared, TellsHopped};
-ghost use Rattle.mt_core.specs.Points.{Budget, IsBudget, WalksBy};
+ghost use Rattle.mt_core.specs.Budgets.{Budget, IsBudget, WalksBy};
 
 use mt_arena::Arena;
 use mt_descent::{child, confirm, enter, forward, load, pick, search, verify};

@@ -64,7 +64,8 @@ impl State {
     /// Begins an operation of a worker for a tenant.
     ///
     /// Errors, the first that holds: `NoTenant`, the command's first fault (`KeyLong`, `Column`,
-    /// `ColumnLong`), `Spent`. `Memory` may come in place of the last one, and never of the others.
+    /// `ColumnLong`, `ScanCount`), `Spent`. `Memory` may come in place of the last one, and never of the
+    /// others.
     pub fn begin(&mut self, worker: u8, tenant: u32, command: Command) -> Result<Ticket, Refusal>
         requires { IsWorker (length self.old.logs) worker }
         ensures told { TellsBegin self.old self.new worker tenant command result }
@@ -217,12 +218,13 @@ impl State {
 
     /// Makes steps of an operation as long as it moves, and answers what the last one answered. While
     /// nobody else holds a node and numbers are left, an operation is done after a number of steps that
-    /// the number of live nodes bounds, at whatever phase it stands and whatever others did on its way
-    /// before; unless memory for a node is refused once it has placed its change.
+    /// the number of live nodes bounds, and for a scan that of live trees too, at whatever phase it
+    /// stands and whatever others did on its way before; unless memory for a node is refused once it
+    /// has placed its change.
     pub fn run_alone(&mut self, ticket: &Ticket) -> Move
         ensures runs { Runs self.old self.new ticket.now.id result }
         ensures alone { (op : OperationView) → IsAlone self.old ticket.now.id op → EndsAlone self.old self.new ticket.now.id op result }
-        ensures ends { (op : OperationView) → IsUndisturbed self.old ticket.now.id op → EndsSoon self.old self.new ticket.now.id result }
+        ensures ends { (op : OperationView) → IsUndisturbed self.old ticket.now.id op → EndsSoon self.old self.new ticket.now.id op result }
     {
         self.inner.run_alone(ticket.id)
     }

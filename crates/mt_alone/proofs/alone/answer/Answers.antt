@@ -18,10 +18,10 @@ pub returns-in-Ok-finish : goal.returns-in-Ok-finish
 returns-in-Ok-finish c =
     let o = c.in-Ok.ticket.id in
     subst (Answers c.args.state.now c.finish.new.state c.args.tenant c.args.command (Ok c.in-Ok-finish.reply)) (sym c.requires.free)
-    (answers_done c.args.state.now c.begin.new.self o c.args.tenant c.args.command c.facts.ensures c.requires.idle c.requires.point c.in-Ok.ensures.told c.in-Ok.ensures.refused c.finish.new.state c.in-Ok-finish.reply c.in-Ok-finish.ensures)
+    (answers_done c.args.state.now c.begin.new.self o c.args.tenant c.args.command c.facts.ensures c.requires.idle c.in-Ok.ensures.told c.in-Ok.ensures.refused c.finish.new.state c.in-Ok-finish.reply c.in-Ok-finish.ensures)
 
 pub returns-in-Err-Stuck : goal.returns-in-Err-Stuck
 returns-in-Err-Stuck c =
     let o = c.in-Ok.ticket.id in
-    answers_stuck c.args.state.now c.begin.new.self o c.args.tenant c.args.command c.facts.ensures c.requires.idle c.requires.point c.in-Ok.ensures.told c.in-Ok.ensures.refused c.finish.new.state c.in-Err-Stuck.ticket
+    answers_stuck c.args.state.now c.begin.new.self o c.args.tenant c.args.command c.facts.ensures c.requires.idle c.in-Ok.ensures.told c.in-Ok.ensures.refused c.finish.new.state c.in-Err-Stuck.ticket
     (subst (λ (u : Unfinished). Finishes c.begin.new.self c.finish.new.state o (Err u)) c.in-Err-Stuck.field-0-is c.in-Err-Stuck.ensures)

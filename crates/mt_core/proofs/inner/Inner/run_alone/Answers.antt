@@ -1,10 +1,8 @@
 use Rattle.std.proofs.Common.{refl, arith}
-use Rattle.mt_arena.specs.Arena.{live_count}
 use Rattle.mt_state.specs.Views.{shown}
 use Rattle.mt_state.specs.declared.moves.Move.TheVariants.{Moved}
 use Rattle.mt_core.specs.Points.{StepsOn}
-use Rattle.mt_core.proofs.AloneStarts.{unhindered_first}
-use Rattle.mt_core.proofs.AloneEnds.{chain_more, chain_number, chain_ends, run_stops, alone_first, alone_goes_on, alone_stops, undisturbed_stops}
+use Rattle.mt_core.proofs.AloneEnds.{chain_more, chain_number, chain_ends, run_stops, alone_first, alone_goes_on, alone_stops, undisturbed_first, undisturbed_goes_on, undisturbed_stops}
 use Rattle.mt_core.proofs.inner.Inner.run_alone.Goals as goal
 
 pub loop-init : goal.loop-init
@@ -12,7 +10,7 @@ loop-init c = record {
   kept = c.kept.ensures.invariant;
   chain = refl;
   alone = λ op alone. alone_first c.args.self.now c.args.id op c.kept.ensures.invariant c.kept.ensures.arena alone;
-  undisturbed = λ op undisturbed. unhindered_first c.args.self.now c.args.id op c.kept.ensures.invariant c.kept.ensures.arena undisturbed;
+  undisturbed = λ op undisturbed. undisturbed_first c.args.self.now c.args.id op c.kept.ensures.invariant c.kept.ensures.arena undisturbed;
 }
 
 pub loop-preserved : goal.loop-preserved
@@ -22,7 +20,7 @@ loop-preserved c =
       kept = c.kept-in-Moved.ensures.invariant;
       chain = chain_more (shown c.args.self.now) (shown c.loop.self) (shown c.step.new.self) c.args.id c.loop.counter c.loop.invariant.chain steps.tells;
       alone = λ op alone. alone_goes_on c.args.self.now c.loop.self c.step.new.self c.args.id op c.loop.counter (c.loop.invariant.alone op alone) steps;
-      undisturbed = λ op undisturbed. steps.nears (live_count c.args.self.now.arena.nodes) c.loop.counter (c.loop.invariant.undisturbed op undisturbed);
+      undisturbed = λ op undisturbed. undisturbed_goes_on c.args.self.now c.loop.self c.step.new.self c.args.id op c.loop.counter (c.loop.invariant.undisturbed op undisturbed) steps;
     }
 
 pub returns-in_default : goal.returns-in_default

@@ -1,10 +1,8 @@
-use Rattle.mt_arena.specs.Arena.{live_count}
 use Rattle.mt_operation.specs.Operations.{OperationView}
 use Rattle.mt_state.specs.Views.{shown}
 use Rattle.mt_state.specs.Invariant.{StateInvariant}
 use Rattle.mt_core.specs.Alone.{IsChain, IsAlone, IsUndisturbed}
-use Rattle.mt_core.specs.Points.{IsUnhindered}
-use Rattle.mt_core.proofs.AloneEnds.{GoesAlone}
+use Rattle.mt_core.proofs.AloneEnds.{GoesAlone, GoesUndisturbed}
 use Rattle.mt_core.proofs.inner.Inner.run_alone.Given as goal
 
 -- the steps so far lead here; and nobody is in the way of an operation that is alone, or that nobody disturbs any more, which has made them all
@@ -14,5 +12,5 @@ invariant-loop l = record {
   chain : IsChain l.counter (shown l.initial.self) (shown l.self) l.id;
   alone : (op : OperationView) → IsAlone (shown l.initial.self) l.id op → GoesAlone l.initial.self l.self l.id op l.counter;
   undisturbed : (op : OperationView) → IsUndisturbed (shown l.initial.self) l.id op
-      → IsUnhindered l.self l.id (live_count l.initial.self.arena.nodes) l.counter;
+      → GoesUndisturbed l.initial.self l.self l.id op l.counter;
 }

@@ -11,4 +11,4 @@ returns-clause-alone c =
 
 pub returns-clause-ends : goal.returns-clause-ends
 returns-clause-ends c =
-    subst (λ (v : StateView). (op : OperationView) → IsUndisturbed v c.args.ticket.now.id op → EndsSoon v (shown c.run_alone.new.self) c.args.ticket.now.id c.run_alone.result) c.self.view_is c.run_alone.ensures.ends
+    subst (λ (v : StateView). (op : OperationView) → IsUndisturbed v c.args.ticket.now.id op → EndsSoon v (shown c.run_alone.new.self) c.args.ticket.now.id op c.run_alone.result) c.self.view_is c.run_alone.ensures.ends
