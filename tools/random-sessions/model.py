@@ -11,18 +11,17 @@ KEY_BYTES = 251
 COLUMNS = 16
 COLUMN_BYTES = 1_024
 
-KEY_LONG, NO_TENANT, COLUMN, COLUMN_LONG = 1, 4, 5, 6
+SCAN_PAIRS = 64
+
+KEY_LONG, NO_TENANT, COLUMN, COLUMN_LONG, SCAN_COUNT = 1, 4, 5, 6, 8
 BAD_FRAME, NOT_OPEN, OPEN_TWICE, NO_STORE = 16, 17, 18, 20
 
-OK, ABSENT, FOUND, NEW, REPLACED, FULL = b"\x00", b"\x01", b"\x02", b"\x03", b"\x04", b"\x08"
+OK, ABSENT, FOUND, NEW, REPLACED = b"\x00", b"\x01", b"\x02", b"\x03", b"\x04"
+REMOVED, PAIRS, FULL = b"\x05", b"\x06", b"\x08"
 
 
 class BadBody(Exception):
     """A body that is no request."""
-
-
-class Ends(Exception):
-    """A request that ends its session without a reply."""
 
 
 def refused(number: int) -> bytes:
@@ -71,9 +70,10 @@ def request_of(body: bytes) -> tuple:
     elif kind == 4:
         request = ("remove", fields.text())
     elif kind == 5:
-        if fields.number(1) > 1:
+        behind = fields.number(1)
+        if behind > 1:
             raise BadBody
-        request = ("scan", fields.text(), fields.number(1), fields.asked())
+        request = ("scan", behind == 1, fields.text(), fields.number(1), fields.asked())
     elif kind == 6:
         request = ("settle",)
     else:
@@ -86,6 +86,12 @@ def request_of(body: bytes) -> tuple:
 def rises(indexes: Sequence[int]) -> bool:
     """Whether the indexes are of columns, and rise strictly."""
     return all(a < b for a, b in zip(indexes, indexes[1:])) and all(i < COLUMNS for i in indexes)
+
+
+def shown(row: list[bytes], indexes: bytes) -> bytes:
+    """The asked columns of a row as they are told, or all of them where none are named."""
+    values = [row[i] if i < len(row) else b"" for i in indexes] if indexes else row
+    return bytes([len(values)]) + b"".join(len(value).to_bytes(2, "big") + value for value in values)
 
 
 @dataclass
@@ -109,11 +115,25 @@ class Model:
             return refused(COLUMN)
         self.answers += 1
         row = tenant.rows.get(key)
-        if row is None:
-            return ABSENT
-        shown = [row[i] if i < len(row) else b"" for i in indexes] if indexes else row
-        values = b"".join(len(value).to_bytes(2, "big") + value for value in shown)
-        return FOUND + bytes([len(shown)]) + values
+        return ABSENT if row is None else FOUND + shown(row, indexes)
+
+    def remove(self, tenant: Tenant, key: bytes) -> bytes:
+        if len(key) > KEY_BYTES:
+            return refused(KEY_LONG)
+        self.answers += 1
+        return ABSENT if tenant.rows.pop(key, None) is None else REMOVED
+
+    def scan(self, tenant: Tenant, behind: bool, start: bytes, count: int, indexes: bytes) -> bytes:
+        if len(start) > KEY_BYTES:
+            return refused(KEY_LONG)
+        if not rises(indexes):
+            return refused(COLUMN)
+        if not 1 <= count <= SCAN_PAIRS:
+            return refused(SCAN_COUNT)
+        self.answers += 1
+        keys = sorted(key for key in tenant.rows if key > start or (key == start and not behind))[:count]
+        pairs = b"".join(len(key).to_bytes(2, "big") + key + shown(tenant.rows[key], indexes) for key in keys)
+        return PAIRS + bytes([len(keys)]) + pairs
 
     def put(self, tenant: Tenant, key: bytes, named: list[tuple[int, bytes]]) -> bytes:
         if len(key) > KEY_BYTES:
@@ -157,9 +177,6 @@ class Session:
                 replies += framed(self._counted(self._reply_to(request_of(body))))
             except BadBody:
                 replies += self._refuse_frame()
-            except Ends:
-                self.has_ended = True
-                self._model.replies["none"] += 1
         if not self.has_ended and self._has_bad_length():
             replies += self._refuse_frame()
         return replies
@@ -180,7 +197,7 @@ class Session:
         return framed(self._counted(refused(BAD_FRAME)))
 
     def _counted(self, reply: bytes) -> bytes:
-        names = {0: "ok", 1: "absent", 2: "found", 3: "new", 4: "replaced", 8: "full"}
+        names = {0: "ok", 1: "absent", 2: "found", 3: "new", 4: "replaced", 5: "removed", 6: "pairs", 8: "full"}
         self._model.replies[names.get(reply[0], f"E{reply[0] - 128}")] += 1
         return reply
 
@@ -194,9 +211,11 @@ class Session:
                 return self._model.get(self._opened, key, indexes)
             case "put", key, named:
                 return self._model.put(self._opened, key, named)
-            case "settle",:
-                return refused(NO_STORE)
-        raise Ends
+            case "remove", key:
+                return self._model.remove(self._opened, key)
+            case "scan", behind, start, count, indexes:
+                return self._model.scan(self._opened, behind, start, count, indexes)
+        return refused(NO_STORE)
 
     def _open(self, number: int) -> bytes:
         if self._opened is not None:
