@@ -13,6 +13,7 @@ use Rattle.mt_rows.specs.Accounts.{Accounts, account_of}
 use Rattle.mt_rows.specs.Maps.{reply_of, map_after, is_scan}
 use Rattle.mt_rows.specs.Tenants.{Contents, tenant_map}
 use Rattle.mt_runs.specs.Placings.{Maps}
+use Rattle.mt_session.specs.declared.caller.CallerFault.{CallerFault}
 use Rattle.mt_session.specs.declared.caller.CallerFault.TheVariants.{Refused, Stuck}
 use Rattle.mt_arena.specs.NodeView.{NodeView}
 use Rattle.mt_arena.specs.declared.tree.Standing.{Standing}
@@ -31,9 +32,9 @@ use Rattle.mt_core.specs.ScanPoints.{one_if_standing, live_trees}
 use Rattle.mt_core.specs.Rights.{IsRightState}
 use Rattle.mt_alone.specs.declared.runs.Unfinished.{Unfinished}
 use Rattle.mt_alone.specs.declared.runs.Unfinished.TheVariants as unfinished
-use Rattle.mt_alone.specs.TenantMaps.{TenantMaps, tenant_maps, fresh_maps, with_map, after_command}
+use Rattle.mt_alone.specs.TenantMaps.{TenantMaps, tenant_maps, fresh_maps, with_map, after_command, MapsAnswer}
 use Rattle.mt_alone.specs.Runs.{Keeps, IsIdle, IsOnly, IsSettled, TellsRun, Finishes}
-use Rattle.mt_alone.specs.Callers.{maps_in, AreOpen, HasNumbers, Answers}
+use Rattle.mt_alone.specs.Callers.{maps_in, AreOpen, HasNumbersFor, HasNumbers, ClearsTo, Clears, Answers}
 use Rattle.mt_alone.proofs.RunLemmas.{keeps_same, keeps_on}
 
 no_value : {A : Type 0} {a : A} → ◌≡◌ {A = Option A} None (Some a) → ⊥
@@ -54,21 +55,22 @@ same_maps old new opened k same =
     ∙ ap (λ (x : Contents). tenant_maps (granted old) (λ t. tenant_map t x) opened) same
 
 -- a whole run is a step at least
-one_more : (v : StateView) → 1 ≤ 256 * (length v.arena.nodes + 64) * (length v.arena.trees + 1)
-one_more v = let all = mul-add (256 * (length v.arena.nodes + 64)) (length v.arena.trees) 1 in omega (arith, all)
+one_more : (scans : Bool) (nodes trees : ℕ) → 1 ≤ most_among scans nodes trees
+one_more true nodes trees = let all = mul-add (256 * (nodes + 64)) trees 1 in omega (arith, all)
+one_more false nodes trees = omega arith
 
 -- no number is left where all are given
-no_numbers : (v : StateView) → HasNumbers v → v.steps ≡ 2 ^ 59 → ⊥
-no_numbers v has all = let more = one_more v in omega (arith, has, all, more)
+no_numbers : (v : StateView) (scans : Bool) → HasNumbersFor v scans → v.steps ≡ 2 ^ 59 → ⊥
+no_numbers v scans has all = let more = one_more scans (length v.arena.nodes) (length v.arena.trees) in omega (arith, has, all, more)
 
 -- a command that is stuck is the only one that is open
 still_open : (v : StateView) (o : ℕ) (ticket : Ticket) → ticket.id ≡ o → IsOnly v o → IsSettled v o → AreOpen v (Some ticket)
 still_open v o ticket same only settled = (subst (IsOnly v) (sym same) only, subst (IsSettled v) (sym same) settled)
 
 -- a begin that is refused
-refused_for : (v : StateView) (tenant : ℕ) (command : Command) (refusal : Refusal) → HasNumbers v → IsSome (account_of v.accounts tenant) → IsRefusal v tenant command refusal → IsFault command refusal
+refused_for : (v : StateView) (tenant : ℕ) (command : Command) (refusal : Refusal) → HasNumbersFor v (is_scan command) → IsSome (account_of v.accounts tenant) → IsRefusal v tenant command refusal → IsFault command refusal
 refused_for v tenant command refusals.NoTenant numbers there is = absurd (let none = ap is_some is in cc)
-refused_for v tenant command refusals.Spent numbers there is = absurd (no_numbers v numbers is.2)
+refused_for v tenant command refusals.Spent numbers there is = absurd (no_numbers v (is_scan command) numbers is.2)
 refused_for v tenant command refusals.Memory numbers there is = is.1
 refused_for v tenant command _ numbers there is = is.1
 
@@ -104,12 +106,12 @@ wider n nodes t trees few less =
     let by_rounds = mul-le-mul_left (256 * (nodes + 64)) rounds in
     omega (arith, by_rows, by_rounds)
 
-most_wider : (scans : Bool) (n nodes t trees : ℕ) → n ≤ nodes → t ≤ trees → most_among scans n t ≤ 256 * (nodes + 64) * (trees + 1)
+most_wider : (scans : Bool) (n nodes t trees : ℕ) → n ≤ nodes → t ≤ trees → most_among scans n t ≤ most_among scans nodes trees
 most_wider true n nodes t trees few less = wider n nodes t trees few less
-most_wider false n nodes t trees few less = let all = mul-add (256 * (nodes + 64)) trees 1 in omega (arith, few, all)
+most_wider false n nodes t trees few less = omega (arith, few)
 
 -- a run of a command has its numbers where they are left after it
-numbers_for : (mid new : StateView) (command : Command) → Keeps mid new → HasNumbers new → mid.steps + most_steps mid command ≤ 2 ^ 59
+numbers_for : (mid new : StateView) (command : Command) → Keeps mid new → HasNumbersFor new (is_scan command) → mid.steps + most_steps mid command ≤ 2 ^ 59
 numbers_for mid new command k numbers =
     let nodes : live_count mid.arena.nodes ≤ length new.arena.nodes = let live = live_le mid.arena.nodes in omega (arith, live, k.nodes) in
     let trees : live_trees mid.arena.trees ≤ length new.arena.trees = let live = live_trees_le mid.arena.trees in omega (arith, live, k.trees) in
@@ -148,7 +150,7 @@ module _ (old mid : StateView) (o tenant : ℕ) (command : Command) (right : IsR
     keeps : Keeps old new
     keeps = keeps_on old mid new begin_keeps f.keeps
 
-    told : HasNumbers new → TellsRun (record old { table = mid.table }) new op result
+    told : HasNumbersFor new (is_scan command) → TellsRun (record old { table = mid.table }) new op result
     told numbers =
         subst (λ (v : StateView). TellsRun v new op result) b.stands
         (f.alone op (begun_alone (numbers_for mid new command f.keeps numbers)))
@@ -219,9 +221,29 @@ module _ (old mid : StateView) (o tenant : ℕ) (command : Command) (right : IsR
     );
   }
 
+-- a command behind one that is not finished: its maps stand, and no number is left where that is refused
+pub answers_held : (old new : StateView) (stuck : Option Ticket) (tenant : ℕ) (command : Command) (fault : CallerFault) → Clears old new stuck (Err fault) → IsSome (account_of old.accounts tenant)
+    → Answers old new tenant command (Err fault) stuck
+answers_held old new stuck tenant command fault c is_there = record {
+  keeps = c.keeps;
+  alone = c.alone;
+  by_maps = λ numbers. let q = has_quota old tenant is_there in (q.0, q.1, held q.0 fault c.ends numbers);
+}
+  where
+    held : (quota : ℕ) (fault : CallerFault) → ClearsTo new stuck (Err fault) → HasNumbersFor new (is_scan command)
+        → MapsAnswer tenant quota (maps_in old (Some tenant)) command (Err fault) (maps_in new (Some tenant))
+    held quota (Refused refusal) spent numbers = absurd (no_numbers new (is_scan command) numbers spent)
+    held quota Stuck e numbers = inr (same_maps old new (Some tenant) c.keeps c.stands)
+
 -- numbers were left before where they are now
-pub numbers_back : (old new : StateView) → Keeps old new → HasNumbers new → HasNumbers old
-numbers_back old new k numbers = let less = wider (length old.arena.nodes) (length new.arena.nodes) (length old.arena.trees) (length new.arena.trees) k.nodes k.trees in omega (arith, k.steps, less, numbers)
+pub numbers_back : (old new : StateView) (scans : Bool) → Keeps old new → HasNumbersFor new scans → HasNumbersFor old scans
+numbers_back old new scans k numbers =
+    let less = most_wider scans (length old.arena.nodes) (length new.arena.nodes) (length old.arena.trees) (length new.arena.trees) k.nodes k.trees in omega (arith, k.steps, less, numbers)
+
+-- those of a scan are those of any command
+pub numbers_each : (v : StateView) (scans : Bool) → HasNumbers v → HasNumbersFor v scans
+numbers_each v true numbers = numbers
+numbers_each v false numbers = let all = mul-add (256 * (length v.arena.nodes + 64)) (length v.arena.trees) 1 in omega (arith, numbers, all)
 
 -- all maps are empty in a new state
 pub maps_new : (accounts : Accounts) → maps_in (new_state 0 accounts) None ≡ fresh_maps (λ t. granted_in (account_of accounts t))

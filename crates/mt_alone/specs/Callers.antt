@@ -1,14 +1,16 @@
 -- What a caller over one state shows, keeps and answers.
-use Rattle.std.specs.Prelude.{◌≡◌, ◌≢◌, ℕ, ◌+◌, ◌*◌, ◌^◌, ◌≤◌, [], Option, Some, None, IsSome, Result, Ok, Err, length}
+use Rattle.std.specs.Prelude.{◌≡◌, ◌≢◌, ℕ, ◌+◌, ◌^◌, ◌≤◌, Bool, true, false, [], Option, Some, None, IsSome, Result, Ok, Err, length}
 use Rattle.mt_rows.specs.declared.command.Command.{Command}
 use Rattle.mt_rows.specs.declared.reply.Reply.{Reply}
 use Rattle.mt_rows.specs.Accounts.{account_of}
+use Rattle.mt_rows.specs.Maps.{is_scan}
 use Rattle.mt_rows.specs.Tenants.{tenant_map}
 use Rattle.mt_session.specs.declared.caller.CallerFault.{CallerFault}
 use Rattle.mt_session.specs.declared.caller.CallerFault.TheVariants.{Refused, Stuck}
-use Rattle.mt_session.specs.Exchanges.{Exchange}
+use Rattle.mt_session.specs.Exchanges.{Exchange, Calls}
 use Rattle.mt_state.specs.Views.{StateView, contents_of, granted}
 use Rattle.mt_core.specs.declared.answers.Ticket.{Ticket}
+use Rattle.mt_core.specs.Alone.{most_among}
 use Rattle.mt_alone.specs.TenantMaps.{TenantMaps, tenant_maps, MapsCall, MapsExchange}
 use Rattle.mt_alone.specs.Runs.{Keeps, IsIdle, IsOnly, IsSettled}
 
@@ -44,14 +46,27 @@ pub record IsRightAlone (state : StateView) (opened : Option ℕ) (stuck : Optio
   pub alone : AreOpen state stuck
   pub there : IsThere state opened
 
--- numbers are left for a whole run of any command, however many of the nodes and trees are live
-abbrev pub HasNumbers : StateView → Type 0
-HasNumbers v = v.steps + 256 * (length v.arena.nodes + 64) * (length v.arena.trees + 1) ≤ 2 ^ 59
+-- numbers are left for a whole run, of a scan or of another command, however many of the nodes and trees are live
+abbrev pub HasNumbersFor : StateView → Bool → Type 0
+HasNumbersFor v scans = v.steps + most_among scans (length v.arena.nodes) (length v.arena.trees) ≤ 2 ^ 59
 
--- what is answered: as long as numbers are left for a whole run, what the tenants' maps answer
+-- of any command, since a scan may take the most
+abbrev pub HasNumbers : StateView → Type 0
+HasNumbers v = HasNumbersFor v true
+
+-- whether a scan is asked
+abbrev pub scans_in : Exchange → Bool
+scans_in (Calls command answer) = is_scan command
+scans_in _ = false
+
+-- what the tenants' maps answer to all but scans, of which nothing is said
+abbrev pub MapsPointExchange : TenantMaps → Exchange → TenantMaps → Type 0
+MapsPointExchange old exchange new = scans_in exchange ≡ false → MapsExchange old exchange new
+
+-- what is answered: as long as numbers are left for a whole run of what was asked, what the tenants' maps answer
 pub record AloneExchange (old : AloneView) (exchange : Exchange) (new : AloneView) : Type 0 where
   pub keeps : Keeps old.state new.state
-  pub by_maps : HasNumbers new.state → MapsExchange (maps_of old) exchange (maps_of new)
+  pub by_maps : HasNumbersFor new.state (scans_in exchange) → MapsExchange (maps_of old) exchange (maps_of new)
 
 -- the command that is stuck is done with, or is stuck as before, and its refusal is that no number is left
 abbrev pub ClearsTo : StateView → Option Ticket → Result (Unit {0}) CallerFault → Type 0
@@ -70,4 +85,4 @@ pub record Clears (old new : StateView) (stuck : Option Ticket) (result : Result
 pub record Answers (old new : StateView) (tenant : ℕ) (command : Command) (result : Result Reply CallerFault) (stuck : Option Ticket) : Type 0 where
   pub keeps : Keeps old new
   pub alone : AreOpen new stuck
-  pub by_maps : HasNumbers new → MapsCall (Some tenant) (maps_in old (Some tenant)) command result (maps_in new (Some tenant))
+  pub by_maps : HasNumbersFor new (is_scan command) → MapsCall (Some tenant) (maps_in old (Some tenant)) command result (maps_in new (Some tenant))
