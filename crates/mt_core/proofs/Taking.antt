@@ -6,7 +6,7 @@ use Rattle.mt_runs.specs.declared.event.Answer.{Answer}
 use Rattle.mt_operation.specs.declared.operation.Operation.{Operation}
 use Rattle.mt_operation.specs.declared.phase.Phase.{Phase}
 use Rattle.mt_operation.specs.declared.phase.Phase.TheVariants.{Enter, Done}
-use Rattle.mt_operation.specs.Operations.{OperationView, view_of, is_unfinished}
+use Rattle.mt_operation.specs.Operations.{OperationView, view_of, is_unfinished, IsUnsplit}
 use Rattle.mt_operation.specs.Phases.{is_done, has_splits, is_prepared}
 use Rattle.mt_operation.specs.Tables.{Table, op_at as operation_at}
 use Rattle.mt_state.specs.Views.{Core, StateView, Shown, shown, op_at}
@@ -81,13 +81,14 @@ hands_out_by c now o table answer before after is h gave displaces =
     record {
       op = view_of op;
       there = ap (λ (v : StateView). op_at v.table o) (sym is) ∙ shown_there c.table o op gave.1;
-      rest = record { key = op.task.key; prepared = op.prepared; splits = op.splits; scan = op.scan };
-      is = displaced.rest;
-      key = key_sought_is c op kept.always;
-      unprepared = (done_answer c o op h gave.1 gave.2.finished).unprepared;
-      unsplit = kept.unsplit (ap has_splits gave.2.finished);
-      collected = refl;
-      seen = refl;
+      rest = displaced.rest;
+      is = displaced.is;
+      key = ap (λ (r : Operation). r.task.key) displaced.all ∙ key_sought_is c op kept.always;
+      untold = ap (λ (r : Operation). r.outcome) displaced.all;
+      unprepared = ap (λ (r : Operation). r.prepared) displaced.all ∙ (done_answer c o op h gave.1 gave.2.finished).unprepared;
+      unsplit = subst (λ (r : Operation). IsUnsplit r.splits) (sym displaced.all) (kept.unsplit (ap has_splits gave.2.finished));
+      collected = ap (λ (r : Operation). r.scan.collected.items) displaced.all;
+      seen = ap (λ (r : Operation). r.scan.seen) displaced.all;
       writes = displaced.writes;
     }
 

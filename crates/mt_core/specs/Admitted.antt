@@ -1,5 +1,6 @@
 -- What is made of a command before its operation is begun, and which refusals a begin of it answers.
-use Rattle.std.specs.Prelude.{◌≡◌, ◌≢◌, ℕ, ◌^◌, length, Option, Some, None, IsSome, Result, Ok, Err, IsOk}
+use Rattle.std.specs.Prelude.{◌≡◌, ◌≢◌, ℕ, ◌^◌, Box, length, Option, Some, None, IsSome, Result, Ok, Err, IsOk}
+use Rattle.std.specs.Global.{Global}
 use Rattle.mt_slices.specs.Keys.{IsStoredKey, tenant_of}
 use Rattle.mt_rows.specs.declared.command.Command.{Command}
 use Rattle.mt_rows.specs.declared.refusal.Refusal.{Refusal}
@@ -36,6 +37,10 @@ pub record IsAdmitted (op : Operation) : Type 0 where
   pub short : HasShortColumns (ask op.task)
   pub counts : HasCount (ask op.task)
 
+-- what is shown of the operation in a box
+abbrev pub view_in : Box Operation Global → OperationView
+view_in op = view_of op.value
+
 -- what a begin would begin, as it is shown, or for which fault it is refused; and for which tenant
 pub record OpeningView : Type 0 where
   pub tenant : ℕ
@@ -46,8 +51,8 @@ pub record IsOpening (tenant : ℕ) (op : Operation) : Type 0 where
   pub tenant_is : op.task.tenant ≡ tenant
   pub admitted : IsAdmitted op
 
-abbrev pub IsRightOpening : ℕ → Result Operation Refusal → Type 0
-IsRightOpening tenant (Ok op) = IsOpening tenant op
+abbrev pub IsRightOpening : ℕ → Result (Box Operation Global) Refusal → Type 0
+IsRightOpening tenant (Ok op) = IsOpening tenant op.value
 IsRightOpening tenant (Err refusal) = Unit {0}
 
 -- what is made of a command that has no fault

@@ -1,11 +1,11 @@
 -- What a tidying leaves.
-use Rattle.std.specs.Prelude.{◌≡◌, ℕ, ◌-◌, ◌<◌, ◌≤◌, List, Some, None, vec_len, vec_capacity}
+use Rattle.std.specs.Prelude.{◌≡◌, ℕ, ◌-◌, ◌<◌, ◌≤◌, Box, List, Some, None, vec_len, vec_capacity}
 use Rattle.std.specs.List.{All}
 use Rattle.mt_tape.specs.Tapes.{later_entries, HandsOut}
 use Rattle.mt_operation.specs.Operations.{OperationView, IsUnsplit}
 use Rattle.mt_operation.specs.Tables.{Table, op_at as operation_at}
 use Rattle.mt_operation.specs.declared.operation.Operation.{Operation}
-use Rattle.mt_core.specs.declared.displaced.Rest.{Rest}
+use Rattle.std.specs.Global.{Global}
 use Rattle.mt_core.specs.declared.displaced.Displaced.{Displaced}
 use Rattle.mt_state.specs.Views.{StateView, Shown, op_at, map_of, changed_at}
 use Rattle.mt_state.specs.Phases.{key_sought}
@@ -53,22 +53,29 @@ pub record TidiesInto (old new : StateView) (before after : Displaced) : Type 0 
   pub rest : after.rest ≡ before.rest
 
 -- a take that hands out the rest of its operation, in the place of any other: the key that it looked for, and what it has scanned and does not show, with
--- nothing ready and nothing split, as a finished operation is
+-- nothing ready and nothing split, as a finished operation is, and without the outcome, which is told
 pub record HandsOutRest (table : Shown) (o : ℕ) (before after : Displaced) : Type 0 where
   pub op : OperationView
   pub there : op_at table o ≡ Some op
-  pub rest : Rest
+  pub rest : Box Operation Global
   pub is : after.rest ≡ Some rest
-  pub key : rest.key ≡ key_sought op
-  pub unprepared : rest.prepared ≡ None
-  pub unsplit : IsUnsplit rest.splits
-  pub collected : rest.scan.collected.items ≡ op.scan.collected
-  pub seen : rest.scan.seen ≡ op.scan.seen
+  pub key : rest.value.task.key ≡ key_sought op
+  pub untold : rest.value.outcome ≡ None
+  pub unprepared : rest.value.prepared ≡ None
+  pub unsplit : IsUnsplit rest.value.splits
+  pub collected : rest.value.scan.collected.items ≡ op.scan.collected
+  pub seen : rest.value.scan.seen ≡ op.scan.seen
   pub writes : after.writes ≡ before.writes
 
--- inside it is all that the operation had of these
+-- an operation of which the command and the outcome were taken out
+abbrev pub IsRestOf : Operation → Operation → Type 0
+IsRestOf op rest = rest ≡ record op { task = record op.task { request = rest.task.request }; outcome = None }
+
+-- inside it is all that the operation had but these
 pub record DisplacesRest (op : Operation) (before after : Displaced) : Type 0 where
-  pub rest : after.rest ≡ Some (record { key = op.task.key; prepared = op.prepared; splits = op.splits; scan = op.scan })
+  pub rest : Box Operation Global
+  pub is : after.rest ≡ Some rest
+  pub all : IsRestOf op rest.value
   pub writes : after.writes ≡ before.writes
 
 -- of the operation that is there

@@ -2,27 +2,19 @@
 
 ghost use Rattle.std.specs.Prelude.{◌≡◌, ◌≤◌, [], None, IfOk, vec_capacity};
 
-use mt_operation::{Prepared, Scan, Splits};
-use mt_slices::StoredKey;
+use mt_operation::Operation;
 use mt_tape::Entry;
 use std::alloc::{AllocError, Global};
+use std::boxed::Box;
 
 /// What takes and tidyings gave up of a state, so that it is freed once nobody waits for the state:
-/// writes of the tape, as far as there is room for them, and the rest of the operation that was taken
-/// last. What has no room stays with the state.
+/// writes of the tape, as far as there is room for them, and the operation that was taken last, in the
+/// box in which it was begun: all of it but its command and its outcome, which are its answer's. What
+/// has no room stays with the state.
 #[derive(Drop)]
 pub struct Displaced {
     pub writes: Vec<Entry>,
-    pub rest: Option<Rest>,
-}
-
-/// The rest of an operation that is finished.
-#[derive(Drop)]
-pub struct Rest {
-    pub key: StoredKey,
-    pub prepared: Option<Prepared>,
-    pub splits: Splits,
-    pub scan: Scan,
+    pub rest: Option<Box<Operation>>,
 }
 
 impl Displaced {
@@ -43,5 +35,14 @@ impl Displaced {
             writes: Vec::new(alloc),
             rest: None,
         }
+    }
+
+    /// Frees all of it, and keeps the room.
+    pub fn clear(&mut self)
+        ensures nothing { (self.new.writes.items ≡ []) × (self.new.rest ≡ None) }
+        ensures room { vec_capacity self.new.writes ≡ vec_capacity self.old.writes }
+    {
+        self.writes.clear();
+        self.rest = None;
     }
 }

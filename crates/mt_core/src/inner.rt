@@ -40,6 +40,7 @@ use mt_runs::Answer;
 use mt_state::Move;
 use mt_tape::Tape;
 use std::alloc::{AllocError, Global};
+use std::boxed::Box;
 use std::marker::Model;
 
 /// Steps are numbered up to this.
@@ -103,8 +104,8 @@ impl Inner {
     }
 
     // The operation of an opening, where nothing but memory can refuse it; else the first cause.
-    fn accepted(&self, opening: Opening) -> Result<Operation, Refusal>
-        ensures accepts { IfOk result (λ op. IsAccepted (shown self.now) opening op) }
+    fn accepted(&self, opening: Opening) -> Result<Box<Operation>, Refusal>
+        ensures accepts { IfOk result (λ op. IsAccepted (shown self.now) opening op.value) }
         ensures refused { IfErr result (λ refusal. IsRefusedFor (account_of (shown self.now).accounts opening.tenant) (shown self.now) opening.made refusal) }
     {
         let Opening { tenant, made } = opening;
@@ -135,7 +136,7 @@ impl Inner {
         ensures hands_out { OnOk result (HandsOutRest (shown self.old).table ticket.id displaced.old displaced.new) }
         ensures kept { OnErr result (displaced.new ≡ displaced.old) }
     {
-        match give_up(&mut self.operations, ticket.id, displaced) {
+        match give_up(self.alloc, &mut self.operations, ticket.id, displaced) {
             Some(answer) => {
                 self.answers += 1;
                 Ok(answer)

@@ -6,16 +6,18 @@ ghost use Rattle.mt_operation.specs.Operations.{view_of, is_unfinished};
 ghost use Rattle.mt_operation.specs.Tables.{op_at as operation_at};
 ghost use Rattle.mt_state.specs.Begins.{begun, IsAnswerOf};
 ghost use Rattle.mt_state.specs.Refused.{Makes};
-ghost use Rattle.mt_core.specs.Tidies.{DisplacesRest, DisplacesRestOf};
-ghost use Rattle.mt_core.specs.Admitted.{IsRequest, IsAdmitted, IsMadeOf};
+ghost use Rattle.mt_core.specs.Tidies.{IsRestOf, DisplacesRestOf};
+ghost use Rattle.mt_core.specs.Admitted.{IsRequest, IsAdmitted, IsMadeOf, view_in};
 
-use crate::displaced::{Displaced, Rest};
+use crate::displaced::Displaced;
 use mt_operation::{Operation, Operations, Outcome, Request, Task};
-use mt_rows::{Change, Command, Refusal};
+use mt_rows::{Change, ColumnIndexes, Command, Key, Refusal};
 use mt_runs::Answer;
 use mt_slices::{KeyRefusal, StoredKey};
 use std::alloc::Global;
+use std::boxed::Box;
 use std::marker::Model;
+use std::mem;
 
 // The request of a command without fault, or its first fault.
 fn request_of(command: Command) -> Result<Request, Refusal>
@@ -45,21 +47,21 @@ fn request_of(command: Command) -> Result<Request, Refusal>
 }
 
 /// An operation that was made of a command, with its key and its change, and waits to be begun; or
-/// the refusal of its command. It is made before the state is touched.
+/// the refusal of its command. It is made before the state is touched, in the box in which it stays
+/// until its answer is taken: so to begin it moves no more than the box.
 #[derive(Drop)]
 pub struct Opening {
     pub(crate) tenant: u32,
-    pub(crate) made: Result<Operation, Refusal>,
+    pub(crate) made: Result<Box<Operation>, Refusal>,
 }
 
 impl Model for Opening {
     ghost use Rattle.std.specs.Result.{result_map_both};
-    ghost use Rattle.mt_operation.specs.Operations.{view_of};
-    ghost use Rattle.mt_core.specs.Admitted.{OpeningView, IsRightOpening};
+    ghost use Rattle.mt_core.specs.Admitted.{OpeningView, IsRightOpening, view_in};
 
     ghost Value = { OpeningView };
 
-    ghost view = { λ o. record { tenant = o.tenant; made = result_map_both view_of (λ r. r) o.made } };
+    ghost view = { λ o. record { tenant = o.tenant; made = result_map_both view_in (λ r. r) o.made } };
 
     ghost invariant = { λ o. IsRightOpening o.tenant o.made };
 }
@@ -79,9 +81,14 @@ pub fn prepare(alloc: Global, worker: u8, tenant: u32, command: Command) -> Open
 }
 
 // An operation before its first step.
-fn admitted(alloc: Global, worker: u8, tenant: u32, command: Command) -> Result<Operation, Refusal>
-    ensures admitted { IfOk result IsAdmitted }
-    ensures is { IfOk result (λ op. view_of op ≡ begun worker tenant command) }
+fn admitted(
+    alloc: Global,
+    worker: u8,
+    tenant: u32,
+    command: Command,
+) -> Result<Box<Operation>, Refusal>
+    ensures admitted { IfOk result (λ op. IsAdmitted op.value) }
+    ensures is { IfOk result (λ op. view_in op ≡ begun worker tenant command) }
     ensures refused { Makes command result }
 {
     let request = request_of(command)?;
@@ -96,12 +103,14 @@ fn admitted(alloc: Global, worker: u8, tenant: u32, command: Command) -> Result<
         request,
         key,
     };
-    Ok(Operation::new(alloc, task))
+    let operation = Box::new(alloc, Operation::new(alloc, task))?;
+    Ok(operation)
 }
 
 /// Takes an operation that is finished out of the table, and tells its answer; the rest of it is
 /// displaced.
 pub(crate) fn give_up(
+    alloc: Global,
     operations: &mut Operations,
     id: usize,
     displaced: &mut Displaced,
@@ -116,7 +125,11 @@ pub(crate) fn give_up(
         return None;
     }
     match operations.remove(id) {
-        Some(operation) => Some(answer_of(operation, displaced)),
+        Some(mut operation) => {
+            let answer = answer_of(alloc, operation.as_mut());
+            displaced.rest = Some(operation);
+            Some(answer)
+        }
         None => unreachable!(),
     }
 }
@@ -132,40 +145,35 @@ fn is_ended(operations: &Operations, id: usize) -> bool
     }
 }
 
-// The answer of a finished operation, the rest of which is displaced.
-fn answer_of(operation: Operation, displaced: &mut Displaced) -> Answer
-    requires done { is_unfinished operation ≡ false }
-    requires told { operation.outcome ≢ None }
-    ensures answers { IsAnswerOf (view_of operation) result }
-    ensures rest { DisplacesRest operation displaced.old displaced.new }
+// The answer of a finished operation, which keeps all but its command and its outcome.
+fn answer_of(alloc: Global, operation: &mut Operation) -> Answer
+    requires done { is_unfinished operation.old ≡ false }
+    requires told { operation.old.outcome ≢ None }
+    ensures answers { IsAnswerOf (view_of operation.old) result }
+    ensures rest { IsRestOf operation.old operation.new }
 {
-    let Operation {
-        task,
-        walk,
-        last,
-        outcome,
-        prepared,
-        splits,
-        removal: _,
-        scan,
-    } = operation;
-    let Task { request, key, .. } = task;
-    displaced.rest = Some(Rest {
-        key,
-        prepared,
-        splits,
-        scan,
-    });
-    let Some(Outcome { reply, at }) = outcome else {
+    let Some(Outcome { reply, at }) = operation.outcome.take() else {
         unreachable!()
     };
+    let request = taken_request(alloc, &mut operation.task.request);
     Answer {
         command: request.into_command(),
         reply,
-        first: walk.first,
+        first: operation.walk.first,
         at,
-        last,
+        last: operation.last,
     }
+}
+
+// Takes a request out of its place. What is left there asks for nothing and takes no memory.
+fn taken_request(alloc: Global, request: &mut Request) -> Request
+    ensures { result ≡ request.old }
+{
+    let none = Request::Get {
+        key: Key::new(Vec::new(alloc)),
+        columns: ColumnIndexes::new(Vec::new(alloc)),
+    };
+    mem::replace(request, none)
 }
 
 /// Takes an operation that has made no step out of the table; whether there was one.

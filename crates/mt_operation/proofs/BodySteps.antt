@@ -11,7 +11,7 @@ use Rattle.mt_operation.specs.declared.steps.Stepped.{Stepped}
 use Rattle.mt_operation.specs.declared.steps.Stepped.TheVariants.{To, Blocked, Left, Absent}
 use Rattle.mt_operation.specs.Operations.{counted}
 use Rattle.mt_operation.specs.Tables.{Table, op_at, AreBefore, MayMove}
-use Rattle.mt_operation.specs.Seats.{Seats, seat_at, operation_in, table_of, padded, is_still, IsEndOrSeat}
+use Rattle.mt_operation.specs.Seats.{Seats, seat_at, with_operation, operation_in, table_of, padded, is_still, IsEndOrSeat}
 use Rattle.mt_operation.specs.Queues.{IsTable, LinksLast, Becomes}
 use Rattle.mt_operation.specs.Bodies.{Body, MovesUnfinished, LeavesElse, MovesBy, StaysBy, StepsBy, SeatMovesBy, SeatStaysBy, SeatStepsBy}
 use Rattle.mt_operation.proofs.Tables.{set_same}
@@ -20,26 +20,26 @@ use Rattle.mt_operation.proofs.TableMoves.{became_table, last_new, moved_there, 
 
 module _ (Makes : Body) (n : ℕ) (p0 p1 : Seats) (now : Table) (o : ℕ) (is : padded n (table_of p0) ≡ now) where
   -- the operation of a seat, as the table shows it
-  pub shown_there : (seat : Seat) → seat_at p0 o ≡ Some seat → op_at now o ≡ Some seat.operation
+  pub shown_there : (seat : Seat) → seat_at p0 o ≡ Some seat → op_at now o ≡ Some seat.operation.value
   shown_there seat at = shown_op n p0 now o is ∙ ap operation_in at
 
   module _ (leaves : LeavesElse Makes now o) (is_first : Bool) (made : Made) (other : made ≢ Step) (s : SeatStaysBy Makes p0 p1 o is_first made) where
-    same : s.after ≡ s.seat.operation
-    same = leaves s.seat.operation s.after made other (shown_there s.seat s.there) s.makes
+    same : s.after ≡ s.seat.operation.value
+    same = leaves s.seat.operation.value s.after made other (shown_there s.seat s.there) s.makes
 
     -- where the body makes no step, nothing has changed
     stays_same : p1 ≡ p0
-    stays_same = s.slots ∙ ap (λ (op : Operation). set p0 o (Some (record s.seat { operation = op }))) same ∙ set_same p0 o (Some s.seat) s.there
+    stays_same = s.slots ∙ ap (λ (op : Operation). set p0 o (Some (with_operation s.seat op))) same ∙ set_same p0 o (Some s.seat) s.there
 
     stays_by : StaysBy Makes now o made
-    stays_by = record { op = s.seat.operation; there = shown_there s.seat s.there; makes = subst (λ op. Makes s.seat.operation made op) same s.makes }
+    stays_by = record { op = s.seat.operation.value; there = shown_there s.seat s.there; makes = subst (λ op. Makes s.seat.operation.value made op) same s.makes }
 
   module _ (ends : Ends) (step : ℕ) (h : IsTable p0 ends) (later : AreBefore now step) (moves : MovesUnfinished Makes now o) (is_first : Bool) (phase : Phase) (s : SeatMovesBy Makes p0 p1 o step is_first phase) where
     abbrev to : Operation → Operation
     to op = counted s.after step op.walk.first
 
     becomes : Becomes p0 p1 o to
-    becomes seat at = s.slots ∙ ap (λ (x : Seat). set p0 o (Some (record x { operation = to x.operation }))) (same_Some s.seat seat (sym s.there ∙ at))
+    becomes seat at = s.slots ∙ ap (λ (x : Seat). set p0 o (Some (with_operation x (to x.operation.value)))) (same_Some s.seat seat (sym s.there ∙ at))
 
     still_is : is_still (seat_at p0 o) ≡ is_first
     still_is = ap is_still s.there ∙ sym s.first
@@ -47,7 +47,7 @@ module _ (Makes : Body) (n : ℕ) (p0 p1 : Seats) (now : Table) (o : ℕ) (is : 
     may : MayMove now o step
     may = record {
       later = later;
-      unfinished = λ op there. moves op s.after there (subst (λ (x : Operation). Makes x Step s.after) (same_Some s.seat.operation op (sym (shown_there s.seat s.there) ∙ there)) s.makes);
+      unfinished = λ op there. moves op s.after there (subst (λ (x : Operation). Makes x Step s.after) (same_Some s.seat.operation.value op (sym (shown_there s.seat s.there) ∙ there)) s.makes);
     }
 
     move_there : is_first ≡ true → IsEndOrSeat p1 (Some o)
@@ -72,12 +72,12 @@ module _ (Makes : Body) (n : ℕ) (p0 p1 : Seats) (now : Table) (o : ℕ) (is : 
     -- and shows what the body made
     moves_by : (p2 : Seats) → table_of p2 ≡ table_of p1 → MovesBy Makes now (padded n (table_of p2)) o step phase
     moves_by p2 shows = record {
-      op = s.seat.operation;
+      op = s.seat.operation.value;
       there = shown_there s.seat s.there;
       after = s.after;
       makes = s.makes;
       phase_is = s.phase_is;
-      table = ap (padded n) shows ∙ became_table p0 p1 o to becomes n p0 now s.seat.operation is refl (shown_there s.seat s.there);
+      table = ap (padded n) shows ∙ became_table p0 p1 o to becomes n p0 now s.seat.operation.value is refl (shown_there s.seat s.there);
     }
 
   -- whatever comes of it

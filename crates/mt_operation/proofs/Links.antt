@@ -1,12 +1,12 @@
 -- What one seat that is written over makes of the links and of the table: for the functions of queue.rt, and TableMoves.
-use Rattle.std.proofs.Common.{◌≡◌, ◌≢◌, ℕ, zero, suc, inl, inr, [], ◌∷◌, set, Option, Some, None, is_some, refl, sym, ap, subst, ◌∙◌}
+use Rattle.std.proofs.Common.{◌≡◌, ◌≢◌, ℕ, zero, suc, inl, inr, [], ◌∷◌, set, Box, Global, Option, Some, None, is_some, refl, sym, ap, subst, ◌∙◌}
 use Rattle.std.proofs.lemmas.Bool.{cases_eq}
 use Rattle.std.proofs.lemmas.Option.{same_Some}
 use Rattle.mt_operation.specs.declared.operation.Operation.{Operation}
 use Rattle.mt_operation.specs.declared.queue.Seat.{Seat}
 use Rattle.mt_operation.specs.declared.queue.Ends.{Ends}
 use Rattle.mt_operation.specs.Tables.{op_at}
-use Rattle.mt_operation.specs.Seats.{Seats, seat_at, operation_in, table_of, after_in, before_in, after_of, before_of, IsEndOrSeat}
+use Rattle.mt_operation.specs.Seats.{Seats, seat_at, with_operation, operation_in, table_of, after_in, before_in, after_of, before_of, IsEndOrSeat}
 use Rattle.mt_operation.specs.Queues.{SetsAfter, SetsBefore, CutsOut, LinksLast, Becomes}
 use Rattle.mt_operation.proofs.Tables.{set_is, set_there, set_same}
 
@@ -37,7 +37,7 @@ seat_kept old new (Some o) same there = sym (seat_there new o) ∙ ap (λ t. is_
 
 -- a seat with other links has its operation still
 written_table : (seats : Seats) (o : ℕ) (seat now : Seat) → seat_at seats o ≡ Some seat → now.operation ≡ seat.operation → table_of (set seats o (Some now)) ≡ table_of seats
-written_table seats o seat now at same = table_set seats o (Some now) ∙ set_same (table_of seats) o (Some now.operation) (op_seat seats o ∙ ap operation_in at ∙ ap (λ op. Some op) (sym same))
+written_table seats o seat now at same = table_set seats o (Some now) ∙ set_same (table_of seats) o (Some now.operation.value) (op_seat seats o ∙ ap operation_in at ∙ ap (λ (op : Box Operation Global). Some op.value) (sym same))
 
 -- a seat written over has this of a seat, and every other what it had
 pub written_in : {X : Type 0} (f : Option Seat → X) (seats : Seats) (o q : ℕ) (seat now : Seat) → seat_at seats o ≡ Some seat → f (Some now) ≡ f (Some seat) → f (seat_at (set seats o (Some now)) q) ≡ f (seat_at seats q)
@@ -114,12 +114,11 @@ put_behind_seat seats ends o seat before at =
     )
 
 -- an operation that has become another, by what it was and by what it is
-pub becomes_by : (seats : Seats) (o : ℕ) (seat : Seat) (f : Operation → Operation) (op : Operation) → seat_at seats o ≡ Some seat → op ≡ f seat.operation
-    → Becomes seats (set seats o (Some (record seat { operation = op }))) o f
+pub becomes_by : (seats : Seats) (o : ℕ) (seat : Seat) (f : Operation → Operation) (op : Operation) → seat_at seats o ≡ Some seat → op ≡ f seat.operation.value
+    → Becomes seats (set seats o (Some (with_operation seat op))) o f
 becomes_by seats o seat f op at is x there =
     let same : seat ≡ x = same_Some seat x (sym at ∙ there) in
-    ap (λ w. set seats o (Some (record { operation = w; before = seat.before; after = seat.after }))) is
-    ∙ ap (λ (w : Seat). set seats o (Some (record { operation = f w.operation; before = w.before; after = w.after }))) same
+    ap (λ w. set seats o (Some (with_operation seat w))) is ∙ ap (λ (w : Seat). set seats o (Some (with_operation w (f w.operation.value)))) same
 
 -- where nobody is, nobody becomes another
 pub none_becomes : (seats : Seats) (o : ℕ) (f : Operation → Operation) → seat_at seats o ≡ None → Becomes seats seats o f

@@ -9,7 +9,7 @@ use Rattle.mt_operation.specs.declared.operation.Operation.{Operation}
 use Rattle.mt_operation.specs.declared.queue.Seat.{Seat}
 use Rattle.mt_operation.specs.Operations.{counted, is_unfinished}
 use Rattle.mt_operation.specs.Tables.{Table, op_at}
-use Rattle.mt_operation.specs.Seats.{Seats, seat_at}
+use Rattle.mt_operation.specs.Seats.{Seats, seat_at, with_operation}
 
 -- what a body may make of an operation
 abbrev pub Body : Type 1
@@ -51,26 +51,26 @@ StepsBy Makes old new o step Absent = (op_at old o ≡ None) × (new ≡ old)
 
 -- the same of the operation in a seat
 abbrev pub SeatKeepsFirst : Body → Seats → ℕ → Type 0
-SeatKeepsFirst Makes seats o = (seat : Seat) (after : Operation) → seat_at seats o ≡ Some seat → Makes seat.operation Step after → after.walk.first ≡ seat.operation.walk.first
+SeatKeepsFirst Makes seats o = (seat : Seat) (after : Operation) → seat_at seats o ≡ Some seat → Makes seat.operation.value Step after → after.walk.first ≡ seat.operation.value.walk.first
 
 -- the step of a body in a seat
 pub record SeatMovesBy (Makes : Body) (old new : Seats) (o step : ℕ) (is_first : Bool) (phase : Phase) : Type 0 where
   pub seat : Seat
   pub there : seat_at old o ≡ Some seat
   pub after : Operation
-  pub makes : Makes seat.operation Step after
+  pub makes : Makes seat.operation.value Step after
   pub phase_is : phase ≡ after.walk.phase
-  pub first : is_first ≡ (seat.operation.walk.first == 0)
-  pub slots : new ≡ slice_set old o (Some (record seat { operation = counted after step seat.operation.walk.first }))
+  pub first : is_first ≡ (seat.operation.value.walk.first == 0)
+  pub slots : new ≡ slice_set old o (Some (with_operation seat (counted after step seat.operation.value.walk.first)))
 
 -- what it leaves there where it makes none
 pub record SeatStaysBy (Makes : Body) (old new : Seats) (o : ℕ) (is_first : Bool) (made : Made) : Type 0 where
   pub seat : Seat
   pub there : seat_at old o ≡ Some seat
   pub after : Operation
-  pub makes : Makes seat.operation made after
+  pub makes : Makes seat.operation.value made after
   pub first : is_first ≡ false
-  pub slots : new ≡ slice_set old o (Some (record seat { operation = after }))
+  pub slots : new ≡ slice_set old o (Some (with_operation seat after))
 
 abbrev pub SeatStepsBy : Body → Seats → Seats → ℕ → ℕ → Bool → Stepped → Type 0
 SeatStepsBy Makes old new o step is_first (To phase) = SeatMovesBy Makes old new o step is_first phase

@@ -4,7 +4,7 @@ use Rattle.slab.specs.Slab.{Slab}
 use Rattle.mt_operation.specs.declared.operation.Operation.{Operation}
 use Rattle.mt_operation.specs.declared.queue.Seat.{Seat}
 use Rattle.mt_operation.specs.declared.queue.Ends.{Ends}
-use Rattle.mt_operation.specs.Seats.{Seats, seat_at, table_of, first_at, after_of, before_of}
+use Rattle.mt_operation.specs.Seats.{Seats, seat_at, with_operation, table_of, first_at, after_of, before_of}
 
 -- an operation that has made a step, or none
 abbrev pub IsInQueue : (ℕ → ℕ) → Option ℕ → Type 0
@@ -70,4 +70,4 @@ pub record LinksLast (old : Seats) (old_ends : Ends) (new : Seats) (new_ends : E
 
 -- the operation of an id, where it is there, has become what this makes of it; all links and all other operations are as they were
 abbrev pub Becomes : Seats → Seats → ℕ → (Operation → Operation) → Type 0
-Becomes old new o f = (seat : Seat) → seat_at old o ≡ Some seat → new ≡ slice_set old o (Some (record seat { operation = f seat.operation }))
+Becomes old new o f = (seat : Seat) → seat_at old o ≡ Some seat → new ≡ slice_set old o (Some (with_operation seat (f seat.operation.value)))

@@ -1,5 +1,6 @@
 -- The table of operations as it lies in memory: each operation in a seat, which names its neighbours in the queue.
 use Rattle.std.specs.Prelude.{◌≡◌, ℕ, zero, suc, ◌==◌, Bool, false, List, [], ◌∷◌, length, map, Option, Some, None, IsSome, slice_index_or}
+use Rattle.std.specs.Box.{with_value}
 use Rattle.slab.specs.Slab.{Slab}
 use Rattle.mt_operation.specs.declared.operation.Operation.{Operation}
 use Rattle.mt_operation.specs.declared.queue.Seat.{Seat}
@@ -14,10 +15,14 @@ Seats = List (Option Seat)
 abbrev pub seat_at : Seats → ℕ → Option Seat
 seat_at seats o = slice_index_or seats o None
 
+-- a seat with another operation in its box
+abbrev pub with_operation : Seat → Operation → Seat
+with_operation seat op = record seat { operation = with_value seat.operation op }
+
 -- the operation of a seat
 abbrev pub operation_in : Option Seat → Option Operation
 operation_in None = None
-operation_in (Some seat) = Some seat.operation
+operation_in (Some seat) = Some seat.operation.value
 
 -- the table that seats make
 abbrev pub table_of : Seats → Table
@@ -35,7 +40,7 @@ first_at table o = first_in (op_at table o)
 -- a seat's operation has made no step
 abbrev pub is_still : Option Seat → Bool
 is_still None = false
-is_still (Some seat) = seat.operation.walk.first == 0
+is_still (Some seat) = seat.operation.value.walk.first == 0
 
 -- the neighbours of a seat
 abbrev pub after_in : Option Seat → Option ℕ

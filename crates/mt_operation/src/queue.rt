@@ -22,12 +22,13 @@ use crate::splits::Splits;
 use crate::steps::{Made, Stepped};
 use crate::walk::Walk;
 use slab::Slab;
+use std::boxed::Box;
 use std::mem;
 
-/// An operation, and its neighbours in the queue.
+/// An operation in the box in which it was handed in, and its neighbours in the queue.
 #[derive(Drop)]
 pub(crate) struct Seat {
-    pub operation: Operation,
+    pub operation: Box<Operation>,
     pub before: Option<usize>,
     pub after: Option<usize>,
 }
@@ -107,7 +108,7 @@ pub(crate) fn step_at<F: FnOnce(&mut Operation) -> Made>(
             is_first: false,
         };
     }
-    let operation = &mut seats[id].operation;
+    let operation = seats[id].operation.as_mut();
     let stepped = match makes(operation) {
         Made::Step => {
             let is_first = operation.count(step);
@@ -162,7 +163,7 @@ pub(crate) fn take_prepared_at(seats: &mut Slab<Seat>, id: usize) -> Option<Prep
 
 /// Exchanges the splits of an operation with these.
 pub(crate) fn swap_splits_at(seats: &mut Slab<Seat>, id: usize, splits: &mut Splits)
-    ensures gives { (seat : AnySeat) → seat_at seats.old.slots id ≡ Some seat → splits.new ≡ seat.operation.splits }
+    ensures gives { (seat : AnySeat) → seat_at seats.old.slots id ≡ Some seat → splits.new ≡ seat.operation.value.splits }
     ensures becomes { Becomes seats.old.slots seats.new.slots id (λ op. with_splits op splits.old) }
     ensures none { seat_at seats.old.slots id ≡ None → (seats.new.slots ≡ seats.old.slots) × (splits.new ≡ splits.old) }
     ensures room { KeepsRoom seats.old seats.new }
@@ -174,10 +175,10 @@ pub(crate) fn swap_splits_at(seats: &mut Slab<Seat>, id: usize, splits: &mut Spl
 
 /// Makes neighbours of the two between which a seat was, where its operation has made a step.
 pub(crate) fn cut(seats: &mut Slab<Seat>, ends: &mut Ends, seat: &Seat)
-    requires before { 0 < seat.now.operation.walk.first → IsEndOrSeat seats.old.slots seat.now.before }
-    requires after { 0 < seat.now.operation.walk.first → IsEndOrSeat seats.old.slots seat.now.after }
-    ensures unlinks { 0 < seat.now.operation.walk.first → CutsOut seats.old.slots ends.old seats.new.slots ends.new seat.now.before seat.now.after }
-    ensures same { seat.now.operation.walk.first ≡ 0 → (seats.new.slots ≡ seats.old.slots) × (ends.new ≡ ends.old) }
+    requires before { 0 < seat.now.operation.value.walk.first → IsEndOrSeat seats.old.slots seat.now.before }
+    requires after { 0 < seat.now.operation.value.walk.first → IsEndOrSeat seats.old.slots seat.now.after }
+    ensures unlinks { 0 < seat.now.operation.value.walk.first → CutsOut seats.old.slots ends.old seats.new.slots ends.new seat.now.before seat.now.after }
+    ensures same { seat.now.operation.value.walk.first ≡ 0 → (seats.new.slots ≡ seats.old.slots) × (ends.new ≡ ends.old) }
     ensures room { KeepsRoom seats.old seats.new }
 {
     if seat.operation.walk.first > 0 {

@@ -8,7 +8,8 @@
 //! empty where no operation is.
 
 ghost use Rattle.std.specs.Prelude.{◌≡◌, ◌≢◌, ◌+◌, ◌≤◌, ℕ, [], length, IsOk, IfOk, IfErr, OnOk, OnErr, OnSome, IfNone, Some, None, slice_set, option_copied};
-ghost use Rattle.std.specs.Option.{ForSome};
+ghost use Rattle.std.specs.Option.{ForSome, option_map};
+ghost use Rattle.std.specs.Box.{box_value};
 ghost use Rattle.std.specs.Fn.{FnOnceTakesAtMut, FnOnceReturnsAtMut};
 ghost use Rattle.mt_operation.specs.declared.operation.Operation.{Operation as AnyOperation};
 
@@ -26,6 +27,7 @@ use crate::walk::Walk;
 use mt_rows::Refusal;
 use slab::Slab;
 use std::alloc::{AllocError, Global};
+use std::boxed::Box;
 use std::marker::Model;
 
 /// The operations by their ids: those that were begun and whose answer was not taken.
@@ -79,11 +81,11 @@ impl Operations {
 
     /// Keeps an operation that has made no step, at an id that was free. An error comes where there was no
     /// place for it and memory is refused.
-    pub fn keep(&mut self, operation: Operation) -> Result<usize, Refusal>
-        requires new { operation.walk.first ≡ 0 }
+    pub fn keep(&mut self, operation: Box<Operation>) -> Result<usize, Refusal>
+        requires new { operation.value.walk.first ≡ 0 }
         ensures memory { IfErr result (λ refusal. refusal ≡ Refusal.Memory) }
         ensures vacant { IfOk result (λ id. op_at self.old id ≡ None) }
-        ensures there { IfOk result (λ id. op_at self.new id ≡ Some operation) }
+        ensures there { IfOk result (λ id. op_at self.new id ≡ Some operation.value) }
         ensures others { IfOk result (λ id. (q : ℕ) → q ≢ id → op_at self.new q ≡ op_at self.old q) }
         ensures room { HasPlaces self.old 1 → IsOk result }
         ensures count { OnOk result (open_count self.new ≡ open_count self.old + 1) }
@@ -112,8 +114,8 @@ impl Operations {
     }
 
     /// Takes an operation out.
-    pub fn remove(&mut self, id: usize) -> Option<Operation>
-        ensures value { result ≡ op_at self.old id }
+    pub fn remove(&mut self, id: usize) -> Option<Box<Operation>>
+        ensures value { option_map box_value result ≡ op_at self.old id }
         ensures gone { OnSome result (self.new ≡ slice_set self.old id None) }
         ensures absent { IfNone result (self.new ≡ self.old) }
     {

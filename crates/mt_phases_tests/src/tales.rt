@@ -14,6 +14,7 @@ use mt_operation::{
 use mt_rows::{Command, Reply};
 use mt_slices::StoredKey;
 use std::alloc::Global;
+use std::boxed::Box;
 use std::process::Abort;
 
 // Keys of one byte come from the highest down until there are so many, and the last one climbs so many
@@ -84,13 +85,23 @@ fn a_put_meets_another_one_and_a_get(rt: HostRuntime) {
     tell_of_meetings(&rt, &mut on, &task, &key);
 }
 
+// An operation of this task that has made no step.
+fn boxed(rt: &impl Abort, alloc: Global, task: Task) -> Box<Operation>
+    ensures { result.value.walk.first ≡ 0 }
+{
+    match Box::new(alloc, Operation::new(alloc, task)) {
+        Ok(operation) => operation,
+        Err(_) => panic!(rt; "out of memory"),
+    }
+}
+
 // A table with a put of `k`, and its id.
 fn table_of(rt: &impl Abort, alloc: Global) -> (Operations, usize)
     ensures may { (o : ℕ) → MayMove result.0 o 5 }
     ensures there { IsSome (op_at result.0 result.1) }
 {
     let mut table = Operations::new(alloc);
-    match table.keep(Operation::new(alloc, put_of(rt, alloc, b"k", b"v"))) {
+    match table.keep(boxed(rt, alloc, put_of(rt, alloc, b"k", b"v"))) {
         Ok(id) => (table, id),
         Err(_) => panic!(rt; "out of memory"),
     }
@@ -195,7 +206,8 @@ fn is_named(request: &Request) -> bool {
 }
 
 // Whether it is a put of `k` that was answered, and may go on.
-fn is_answered_put(mut operation: Operation) -> bool {
+fn is_answered_put(operation: Box<Operation>) -> bool {
+    let mut operation = Box::into_inner(operation);
     let (done, more) = (is_answered(&operation), goes_on(&mut operation));
     let request = request_of(operation);
     let named = is_named(&request);

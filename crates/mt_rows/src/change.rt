@@ -127,7 +127,7 @@ fn changed_row(alloc: Global, old: &[Column], change: &[(u8, Column)]) -> Result
     ensures { IfOk result (λ row. row ≡ changed change.now old.now) }
 {
     let len = old.len().max(reach_of(change));
-    let mut columns = Vec::new(alloc);
+    let mut columns = Vec::with_capacity(alloc, len)?;
     for index in 0..len {
         let column = column_after(alloc, old, change, index)?;
         columns.push(column)?;

@@ -201,7 +201,7 @@ pub(crate) fn column_at(
 fn picked(alloc: Global, columns: &[Column], indexes: &[u8]) -> Result<Vec<Column>, AllocError>
     ensures { IfOk result (λ cs. cs.items ≡ map (column columns.now) indexes.now) }
 {
-    let mut picked = Vec::new(alloc);
+    let mut picked = Vec::with_capacity(alloc, indexes.len())?;
     for index in indexes {
         picked.push(column_at(alloc, columns, usize::from(*index))?)?;
     }

@@ -3,14 +3,15 @@ use Rattle.std.proofs.Common.{set, Some, refl, ap, subst, ◌∙◌}
 use Rattle.std.specs.Prelude.{◌==◌}
 use Rattle.std.specs.Fn.{FnOnceReturnsAtMut}
 use Rattle.mt_operation.specs.declared.operation.Operation.{Operation}
+use Rattle.mt_operation.specs.Seats.{with_operation}
 use Rattle.mt_operation.specs.Operations.{counted}
 use Rattle.mt_operation.proofs.Places.{written_room}
 use Rattle.mt_operation.proofs.queue.step_at.Goals as goal
 
 pub returns-in-Step : goal.returns-in-Step
 returns-in-Step g c =
-    let gave : FnOnceReturnsAtMut g.F.FnOnce c.args.makes c.index_mut.result.now.operation c.makes.result c.makes.new.arg2 = record { shown = _; shows = refl; left = _; met = c.makes.ensures; leaves = refl } in
-    let makes = subst (λ r. FnOnceReturnsAtMut g.F.FnOnce c.args.makes c.index_mut.result.now.operation r c.makes.new.arg2) c.in-Step.is gave in
+    let gave : FnOnceReturnsAtMut g.F.FnOnce c.args.makes c.index_mut.result.now.operation.value c.makes.result c.makes.new.arg2 = record { shown = _; shows = c.as_mut-operation.ensures.value; left = _; met = c.makes.ensures; leaves = refl } in
+    let makes = subst (λ r. FnOnceReturnsAtMut g.F.FnOnce c.args.makes c.index_mut.result.now.operation.value r c.makes.new.arg2) c.in-Step.is gave in
     let first = c.requires.first c.index_mut.result.now c.makes.new.arg2 c.index_mut.ensures.value makes in
     record {
       steps = record {
@@ -20,20 +21,20 @@ returns-in-Step g c =
         makes = makes;
         phase_is = ap (λ (op : Operation). op.walk.phase) c.count-is_first.ensures.is;
         first = c.count-is_first.ensures.first ∙ ap (λ n. n == 0) first;
-        slots = ap (λ (op : Operation). set c.args.seats.now.slots c.args.id (Some (record c.index_mut.result.now { operation = op }))) (c.count-is_first.ensures.is ∙ ap (λ n. counted c.makes.new.arg2 c.args.step n) first);
+        slots = ap (λ (op : Operation). set c.args.seats.now.slots c.args.id (Some (with_operation c.index_mut.result.now op))) (c.count-is_first.ensures.is ∙ ap (λ n. counted c.makes.new.arg2 c.args.step n) first);
       };
       room = written_room c.args.seats.now c.args.id _;
     }
 
 pub returns-in-Blocked : goal.returns-in-Blocked
 returns-in-Blocked g c =
-    let gave : FnOnceReturnsAtMut g.F.FnOnce c.args.makes c.index_mut.result.now.operation c.makes.result c.makes.new.arg2 = record { shown = _; shows = refl; left = _; met = c.makes.ensures; leaves = refl } in
+    let gave : FnOnceReturnsAtMut g.F.FnOnce c.args.makes c.index_mut.result.now.operation.value c.makes.result c.makes.new.arg2 = record { shown = _; shows = c.as_mut-operation.ensures.value; left = _; met = c.makes.ensures; leaves = refl } in
     record {
       steps = record {
         seat = c.index_mut.result.now;
         there = c.index_mut.ensures.value;
         after = c.makes.new.arg2;
-        makes = subst (λ r. FnOnceReturnsAtMut g.F.FnOnce c.args.makes c.index_mut.result.now.operation r c.makes.new.arg2) c.in-Blocked.is gave;
+        makes = subst (λ r. FnOnceReturnsAtMut g.F.FnOnce c.args.makes c.index_mut.result.now.operation.value r c.makes.new.arg2) c.in-Blocked.is gave;
         first = refl;
         slots = refl;
       };
@@ -42,14 +43,14 @@ returns-in-Blocked g c =
 
 pub returns-in-Nothing : goal.returns-in-Nothing
 returns-in-Nothing g c =
-    let gave : FnOnceReturnsAtMut g.F.FnOnce c.args.makes c.index_mut.result.now.operation c.makes.result c.makes.new.arg2 = record { shown = _; shows = refl; left = _; met = c.makes.ensures; leaves = refl } in
+    let gave : FnOnceReturnsAtMut g.F.FnOnce c.args.makes c.index_mut.result.now.operation.value c.makes.result c.makes.new.arg2 = record { shown = _; shows = c.as_mut-operation.ensures.value; left = _; met = c.makes.ensures; leaves = refl } in
     record {
       steps = (
         record {
           seat = c.index_mut.result.now;
           there = c.index_mut.ensures.value;
           after = c.makes.new.arg2;
-          makes = subst (λ r. FnOnceReturnsAtMut g.F.FnOnce c.args.makes c.index_mut.result.now.operation r c.makes.new.arg2) c.in-Nothing.is gave;
+          makes = subst (λ r. FnOnceReturnsAtMut g.F.FnOnce c.args.makes c.index_mut.result.now.operation.value r c.makes.new.arg2) c.in-Nothing.is gave;
           first = refl;
           slots = refl;
         },

@@ -8,20 +8,20 @@ use Rattle.mt_core.proofs.inner.Inner.admit.Goals as goal
 
 pub invariant_of-self-2 : goal.invariant_of-self-2
 invariant_of-self-2 c =
-    begun_keeps (core_of c.self.inside) _ _ c.in_ok-operation.operation (ap shown c.self.view_is) c.in_ok-operation.ensures.accepts c.self.invariant c.facts.ensures.arena
+    begun_keeps (core_of c.self.inside) _ _ c.in_ok-operation.operation.value (ap shown c.self.view_is) c.in_ok-operation.ensures.accepts c.self.invariant c.facts.ensures.arena
     c.in_ok-id.id _ c.in_ok-id.ensures.vacant c.in_ok-id.ensures.there c.in_ok-id.ensures.others
 
 pub returns-clause-told : goal.returns-clause-told
 returns-clause-told c =
-    begun_tells (core_of c.self.inside) _ _ c.in_ok-operation.operation (ap shown c.self.view_is) c.in_ok-operation.ensures.accepts c.self.invariant c.facts.ensures.arena
+    begun_tells (core_of c.self.inside) _ _ c.in_ok-operation.operation.value (ap shown c.self.view_is) c.in_ok-operation.ensures.accepts c.self.invariant c.facts.ensures.arena
     c.in_ok-id.id _ c.in_ok-id.ensures.vacant c.in_ok-id.ensures.there c.in_ok-id.ensures.others _ refl
 
 pub returns-in_err-id-clause-refused : goal.returns-in_err-id-clause-refused
 returns-in_err-id-clause-refused c =
     let p = err_from_is_err_and c.from_residual-in_err-id.result c.from_residual-in_err-id.ensures.1 in
-    refused_for_memory (core_of c.self.inside) _ _ c.in_ok-operation.operation (ap shown c.self.view_is) c.in_ok-operation.ensures.accepts _ (p.1 ∙ ap Err (p.2 ∙ c.in_err-id.ensures.memory))
+    refused_for_memory (core_of c.self.inside) _ _ c.in_ok-operation.operation.value (ap shown c.self.view_is) c.in_ok-operation.ensures.accepts _ (p.1 ∙ ap Err (p.2 ∙ c.in_err-id.ensures.memory))
     (λ places. let never : false ≡ true = c.in_err-id.ensures.room places in cc)
 
 pub returns-clause-places : goal.returns-clause-places
 returns-clause-places c =
-    begun_takes (core_of c.self.inside) _ _ c.in_ok-operation.operation (ap shown c.self.view_is) c.in_ok-operation.ensures.accepts _ c.in_ok-id.ensures.count c.in_ok-id.ensures.places
+    begun_takes (core_of c.self.inside) _ _ c.in_ok-operation.operation.value (ap shown c.self.view_is) c.in_ok-operation.ensures.accepts _ c.in_ok-id.ensures.count c.in_ok-id.ensures.places

@@ -32,4 +32,4 @@ returns-clause-value c =
     ap operation_in c.in_ok-seat.ensures.value ∙ sym (shown_op c.self.inside.places c.self.inside.seats.slots _ c.args.id c.self.view_is)
 
 pub returns-in_err-seat-clause-value : goal.returns-in_err-seat-clause-value
-returns-in_err-seat-clause-value c = c.from_residual.ensures ∙ ap operation_in c.in_err-seat.ensures.value ∙ sym (shown_op c.self.inside.places c.self.inside.seats.slots _ c.args.id c.self.view_is)
+returns-in_err-seat-clause-value c = rw c.from_residual.ensures (ap operation_in c.in_err-seat.ensures.value ∙ sym (shown_op c.self.inside.places c.self.inside.seats.slots _ c.args.id c.self.view_is))

@@ -6,7 +6,7 @@ use Rattle.mt_operation.proofs.BodySteps.{shown_there, first_there, first_last, 
 use Rattle.mt_operation.proofs.table.Operations.step_by.Goals as goal
 
 pub step_at-step-requires-clause-first : goal.step_at-step-requires-clause-first
-step_at-step-requires-clause-first g c = λ seat after at makes. c.requires.first seat.operation after (shown_there (FnOnceReturnsAtMut g.F.FnOnce c.args.makes) c.self.inside.places c.self.inside.seats.slots c.self.inside.seats.slots c.args.self.now c.args.id c.self.view_is seat at) makes
+step_at-step-requires-clause-first g c = λ seat after at makes. c.requires.first seat.operation.value after (shown_there (FnOnceReturnsAtMut g.F.FnOnce c.args.makes) c.self.inside.places c.self.inside.seats.slots c.self.inside.seats.slots c.args.self.now c.args.id c.self.view_is seat at) makes
 
 pub link_last-requires-clause-there : goal.link_last-requires-clause-there
 link_last-requires-clause-there g c = first_there (FnOnceReturnsAtMut g.F.FnOnce c.args.makes) c.self.inside.places c.self.inside.seats.slots c.step_at-step.new.seats.slots c.args.self.now c.args.id c.self.view_is c.self.inside.ends c.args.step c.self.invariant.0 c.requires.later c.requires.moves c.requires.leaves c.step_at-step.result.is_first c.step_at-step.result.stepped c.step_at-step.ensures.steps c.if-step.true
