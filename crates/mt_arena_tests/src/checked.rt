@@ -48,9 +48,8 @@ impl Model for Checked {
 // A row of one empty column.
 fn row_of(rt: &impl Abort, alloc: Global) -> Row {
     let mut columns = Vec::new(alloc);
-    columns
-        .push(Column::new(Vec::new(alloc)))
-        .expect(rt, "memory");
+    let column = Column::new(alloc, Vec::new(alloc)).expect(rt, "memory");
+    columns.push(column).expect(rt, "memory");
     assert!(rt; Row::fits(&columns));
     Row::new(alloc, columns).expect(rt, "memory")
 }

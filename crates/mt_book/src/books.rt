@@ -204,6 +204,7 @@ impl<L: Ledger> Book<L> {
             share,
             worker,
             seen: 0,
+            aside: None,
         })
     }
 

@@ -6,7 +6,7 @@ ghost use Rattle.mt_book.specs.Calls.{Asked, IsOpeningOf, Calls, Begins, Ends, L
 
 use crate::desks::{Admission, Admitted, Desk, Stepping, Taken, Taking};
 use crate::gates::{Gate, passed};
-use crate::passes::Pass;
+use crate::passes::{Aside, Pass};
 use mt_core::{Displaced, Opening, Ticket, prepare};
 use mt_operation::Phase;
 use mt_rows::{Command, Refusal};
@@ -34,23 +34,23 @@ struct Begun {
     shown: u64,
 }
 
-// What a call has beside its operation: the command, to compare its answer with, and room for what its
-// last period displaces.
-#[derive(Drop)]
-struct Aside {
-    command: Command,
-    displaced: Displaced,
-}
-
-// So many writes that its last period displaces are freed behind that.
+// So many writes that the last period of a call displaces are freed behind that.
 const ROOM: usize = 4;
 
-fn set_aside(alloc: Global, command: &Command) -> Result<Aside, AllocError>
+// What a call sets aside, in the memory of the pass's last call, if there is some. An error drops that.
+fn set_aside(alloc: Global, kept: Option<Aside>, command: &Command) -> Result<Aside, AllocError>
     ensures { IfOk result (λ aside. aside.command ≡ command.now) }
 {
-    let command = command.copied()?;
-    let displaced = Displaced::with_room(alloc, ROOM)?;
-    Ok(Aside { command, displaced })
+    match kept {
+        Some(mut aside) => {
+            aside.command.copy_from(command)?;
+            Ok(aside)
+        }
+        None => Ok(Aside {
+            command: command.copied()?,
+            displaced: Displaced::with_room(alloc, ROOM)?,
+        }),
+    }
 }
 
 // Looks again for ever.
@@ -222,7 +222,7 @@ fn ran<L: Ledger, R: Wait, D: Desk<L>, G: Gate>(
 /// Runs a command to its answer: a begin, its steps and a take, each in a lock period of its own,
 /// with the gate called before each step while the lock is free, with the phase that the period before
 /// showed. All that the begin needs of the command is made before the first period, and what the last
-/// one displaces is freed behind it.
+/// one displaces is freed behind it; the memory for what is set aside stays with the pass.
 ///
 /// Errors: the refusal of the begin, or `Memory` before it; `Spent` with the ticket. A desk that shows
 /// fewer steps than the pass saw, or too few logs, is asked again; one that lost the operation, or gives
@@ -244,9 +244,12 @@ pub fn call<L: Ledger, R: Wait, D: Desk<L>, G: Gate>(
     ensures share { pass.new.share.amount ≡ pass.old.share.amount + answers_of result }
     ensures worker { pass.new.worker ≡ pass.old.worker }
 {
-    let Ok(mut aside) = set_aside(alloc, &command) else {
+    let Ok(mut aside) = set_aside(alloc, pass.aside.take(), &command) else {
         return Err(CallFault::Refused(Refusal::Memory));
     };
     let opening = prepare(alloc, pass.worker, tenant, command);
-    ran(rt, desk, pass, opening, gate, &mut aside)
+    let told = ran(rt, desk, pass, opening, gate, &mut aside);
+    aside.displaced.clear();
+    pass.aside = Some(aside);
+    told
 }

@@ -10,17 +10,17 @@ ghost use Rattle.mt_core.specs.Tidies.{IsRestOf, DisplacesRestOf};
 ghost use Rattle.mt_core.specs.Admitted.{IsRequest, IsAdmitted, IsMadeOf, view_in};
 
 use crate::displaced::Displaced;
-use mt_operation::{Operation, Operations, Outcome, Request, Task};
+use mt_operation::{Operation, Operations, Outcome, Request, Spare, Task};
 use mt_rows::{Change, ColumnIndexes, Command, Key, Refusal};
 use mt_runs::Answer;
 use mt_slices::{KeyRefusal, StoredKey};
-use std::alloc::Global;
+use std::alloc::{AllocError, Global};
 use std::boxed::Box;
 use std::marker::Model;
 use std::mem;
 
 // The request of a command without fault, or its first fault.
-fn request_of(command: Command) -> Result<Request, Refusal>
+fn request_of(alloc: Global, command: Command) -> Result<Request, Refusal>
     ensures request { IfOk result (λ request. IsRequest request command) }
     ensures refused { Makes command result }
 {
@@ -28,7 +28,7 @@ fn request_of(command: Command) -> Result<Request, Refusal>
     match command {
         Command::Get { key, columns } => Ok(Request::Get { key, columns }),
         Command::Put { key, change } => {
-            let change = Change::new(change)?;
+            let change = Change::new(change)?.with_row(alloc)?;
             Ok(Request::Put { key, change })
         }
         Command::Remove { key } => Ok(Request::Remove { key }),
@@ -91,20 +91,31 @@ fn admitted(
     ensures is { IfOk result (λ op. view_in op ≡ begun worker tenant command) }
     ensures refused { Makes command result }
 {
-    let request = request_of(command)?;
+    let request = request_of(alloc, command)?;
     let key = match StoredKey::new(alloc, tenant, request.key().as_bytes()) {
         Ok(key) => key,
         Err(KeyRefusal::KeyLong) => return Err(Refusal::KeyLong),
         Err(KeyRefusal::Memory) => return Err(Refusal::Memory),
     };
+    let spare = spare_for(alloc, &request)?;
     let task = Task {
         worker,
         tenant,
         request,
         key,
+        spare,
     };
     let operation = Box::new(alloc, Operation::new(alloc, task))?;
     Ok(operation)
+}
+
+// Memory for what an operation writes on the tape, if it is one that changes something.
+fn spare_for(alloc: Global, request: &Request) -> Result<Spare, AllocError> {
+    match request {
+        Request::Put { key, .. } => Spare::for_row(alloc, key.as_bytes().len()),
+        Request::Remove { key } => Spare::for_key(alloc, key.as_bytes().len()),
+        Request::Get { .. } | Request::Scan { .. } => Ok(Spare::none()),
+    }
 }
 
 /// Takes an operation that is finished out of the table, and tells its answer; the rest of it is

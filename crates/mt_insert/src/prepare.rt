@@ -21,7 +21,7 @@ use mt_arena::Arena;
 use mt_border::laws::suffix_fits_mark;
 use mt_border::{Border, Find, Held, Suffix};
 use mt_operation::{Prepared, Request, Task, Walk};
-use mt_rows::{Change, Row, merge};
+use mt_rows::{Change, Row, merge_in};
 use mt_slices::StoredKey;
 use mt_tape::{Entry, Tape};
 use std::alloc::{AllocError, Global};
@@ -62,12 +62,13 @@ fn prepared(
     ensures suffix { IfOk result (λ prepared. prepared.suffix ≡ suffix) }
     ensures ready { IfOk result (λ prepared. IsReady task.now before prepared) }
 {
-    let row = merge(alloc, before.as_ref(), change_of(&task.request))?;
+    let change = change_of(&task.request);
+    let row = merge_in(alloc, task.spare.row(), before.as_ref(), change)?;
     let write = Entry {
         step: 0,
         worker: task.worker,
         tenant: task.tenant,
-        key: task.request.key().clone()?,
+        key: task.spare.copied(task.request.key())?,
         before,
         after: Some(row.share()?),
     };

@@ -142,7 +142,7 @@ pub fn column(alloc: Global, word: &[u8]) -> Result<(u8, Column), LineFault>
     let (index, text) = parts(word)?;
     let index = number(index, 255)? as u8;
     let bytes = hex_bytes(alloc, text)?;
-    Ok((index, Column::new(bytes)))
+    Ok((index, Column::new(alloc, bytes)?))
 }
 
 // What stands before the first `=`, and what behind it.

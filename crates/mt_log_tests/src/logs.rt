@@ -31,7 +31,7 @@ fn put_batch(alloc: Global, from: u64, to: u64, stamp: u64) -> Result<Batch, All
     ensures { IfOk result IsBatch }
 {
     let mut columns = Vec::new(alloc);
-    columns.push(Column::new(b"v".to_vec(alloc)?))?;
+    columns.push(Column::new(alloc, b"v".to_vec(alloc)?)?)?;
     if !Row::fits(&columns) {
         return Err(AllocError);
     }

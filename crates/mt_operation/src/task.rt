@@ -5,6 +5,7 @@ ghost use Rattle.std.specs.Prelude.{◌≡◌};
 ghost use Rattle.mt_rows.specs.Commands.{key_of};
 ghost use Rattle.mt_operation.specs.Tasks.{command_of, aim_of, begins_after};
 
+use crate::spare::Spare;
 use crate::walk::Aim;
 use mt_rows::{Change, ColumnIndexes, Command, Key};
 use mt_slices::StoredKey;
@@ -37,13 +38,14 @@ pub enum Request {
 }
 
 /// The request of a worker for a tenant, and the request's key as it is stored; that of a scan is the
-/// fence that it has reached.
+/// fence that it has reached. With it comes the memory that it was given for what it writes.
 #[derive(Drop)]
 pub struct Task {
     pub worker: u8,
     pub tenant: u32,
     pub request: Request,
     pub key: StoredKey,
+    pub spare: Spare,
 }
 
 impl Request {

@@ -15,7 +15,7 @@ use mt_descent::laws::{kept_stays, walks_begin};
 use mt_descent::{child, confirm, enter, forward, load, lock, pick, search, verify};
 use mt_insert::laws::holds_once_locked;
 use mt_insert::*;
-use mt_operation::{Aim, Phase, Prepared, Request, Splits, Task, Walk};
+use mt_operation::{Aim, Phase, Prepared, Request, Spare, Splits, Task, Walk};
 use mt_rows::{Change, Column, Key, NamedColumns, Row, Tenants};
 use mt_slices::StoredKey;
 use mt_tape::Tape;
@@ -145,7 +145,8 @@ pub fn put_of(rt: &impl Abort, alloc: Global, name: &[u8], value: &[u8]) -> Task
     ensures { IsPut result }
 {
     let mut columns = Vec::new(alloc);
-    let column = Column::new(Vec::from_slice(alloc, value).expect(rt, "memory"));
+    let value = Vec::from_slice(alloc, value).expect(rt, "memory");
+    let column = Column::new(alloc, value).expect(rt, "memory");
     columns.push((0, column)).expect(rt, "memory");
     let change = Change::new(NamedColumns::new(columns)).expect(rt, "a change");
     let key = Key::new(Vec::from_slice(alloc, name).expect(rt, "memory"));
@@ -154,6 +155,7 @@ pub fn put_of(rt: &impl Abort, alloc: Global, name: &[u8], value: &[u8]) -> Task
         tenant: 7,
         request: Request::Put { key, change },
         key: StoredKey::new(alloc, 7, name).expect(rt, "memory"),
+        spare: Spare::for_row(alloc, name.len()).expect(rt, "memory"),
     }
 }
 

@@ -11,7 +11,7 @@ use crate::layers::note;
 use crate::phases::{Store, assert_may_count, go_to, next_step};
 use mt_arena::Arena;
 use mt_descent::laws::walks_begin;
-use mt_operation::{Operation, Phase, Removal, Request, Task, Walk};
+use mt_operation::{Operation, Phase, Removal, Request, Spare, Task, Walk};
 use mt_remove::*;
 use mt_rows::{Key, Tenants};
 use mt_slices::StoredKey;
@@ -32,6 +32,7 @@ pub fn remover(rt: &impl Abort, on: &Store, name: &[u8], id: usize) -> Operation
         tenant: 7,
         request: Request::Remove { key },
         key: stored,
+        spare: Spare::for_key(on.alloc, name.len()).expect(rt, "memory"),
     };
     Operation::new(on.alloc, task)
 }

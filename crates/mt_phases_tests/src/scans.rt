@@ -8,7 +8,7 @@ ghost use Rattle.mt_phases_tests.specs.Ways.{unmoved, IsComing};
 
 use crate::phases::{Store, empty_store, put, walk_down};
 use mt_arena::Arena;
-use mt_operation::{Phase, Request, Scan, Stop, Task, Walk};
+use mt_operation::{Phase, Request, Scan, Spare, Stop, Task, Walk};
 use mt_rows::{ColumnIndexes, Key};
 use mt_scan::{check, hop, snap};
 use mt_slices::StoredKey;
@@ -29,6 +29,7 @@ fn scan_from(rt: &impl Abort, alloc: Global, name: &[u8], count: u8) -> Task {
             columns,
         },
         key: StoredKey::new(alloc, 7, name).expect(rt, "memory"),
+        spare: Spare::none(),
     }
 }
 

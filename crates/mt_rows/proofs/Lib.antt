@@ -5,3 +5,4 @@ pub mod Limits
 pub mod RowLaws
 pub mod SameColumns
 pub mod Sorted
+pub mod WholeRows

@@ -1,5 +1,5 @@
 -- What a put writes: columns by index.
-use Rattle.std.specs.Prelude.{ℕ, ◌+◌, ◌≤◌, ◌==◌, List, [], ◌∷◌, map, length, max, Option}
+use Rattle.std.specs.Prelude.{◌≡◌, ℕ, ◌+◌, ◌<◌, ◌≤◌, ◌==◌, List, [], ◌∷◌, map, length, max, Option, Some, None, IsSome}
 use Rattle.std.specs.Option.{unwrap_or}
 use Rattle.std.specs.List.{All, range_with_len}
 use Rattle.std.specs.Map.{lookup}
@@ -36,6 +36,15 @@ abbrev pub reach : Named → ℕ
 reach [] = 0
 reach (c ∷ change) = max (c.0 + 1) (reach change)
 
+-- it names each of so many columns from the first on
+abbrev pub AreNamed : Named → ℕ → Type 0
+AreNamed change count = (i : ℕ) → i < count → IsSome (named change i)
+
 -- a row with the named columns replaced, the others kept and gaps empty
 abbrev pub changed : Named → Columns → Columns
 changed change row = map (λ i. unwrap_or (named change i) (column row i)) (range_with_len 0 (max (length row) (reach change)))
+
+-- a row that a change makes of every row of no more columns, or none
+abbrev pub IsWholeRow : Named → Option Columns → Type 0
+IsWholeRow change None = Unit {0}
+IsWholeRow change (Some row) = (old : Columns) → length old ≤ length row → row ≡ changed change old

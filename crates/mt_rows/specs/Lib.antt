@@ -1,4 +1,5 @@
 pub mod Rows
+pub mod HeldColumns
 pub mod Changes
 pub mod Commands
 pub mod Limits

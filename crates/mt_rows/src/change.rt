@@ -1,13 +1,13 @@
 //! What a put writes, and the row that it makes.
 
-ghost use Rattle.std.specs.Prelude.{◌≡◌, ◌<◌, ◌≤◌, ◌↔◌, IsTrue, IfOk, IfErr, IsOk, length, map};
+ghost use Rattle.std.specs.Prelude.{◌≡◌, ◌<◌, ◌≤◌, ◌↔◌, [], ◌++◌, IsTrue, IfOk, IfErr, IfSome, IsOk, OnOk, length, map};
 ghost use Rattle.std.specs.Option.{option_map, unwrap_or};
 ghost use Rattle.mt_rows.specs.Rows.{rise_from, column, columns_of};
-ghost use Rattle.std.specs.List.{All};
-ghost use Rattle.mt_rows.specs.Changes.{indexes_of, named, reach, changed, NamesColumns, AreShort, IsChange};
+ghost use Rattle.std.specs.List.{All, range_with_len};
+ghost use Rattle.mt_rows.specs.Changes.{indexes_of, named, reach, changed, NamesColumns, AreShort, AreNamed, IsChange, IsWholeRow};
 
 use crate::refusal::Refusal;
-use crate::row::{COLUMN_BYTES, Column, ROW_COLUMNS, Row, column_at};
+use crate::row::{COLUMN_BYTES, Column, ROW_COLUMNS, Row, RowRoom, column_at};
 use std::alloc::{AllocError, Global};
 use std::marker::Model;
 
@@ -38,6 +38,15 @@ impl NamedColumns {
         &self.columns
     }
 
+    /// Becomes the same columns as the other ones, which it shares, in the memory that it has. An
+    /// error leaves some columns here.
+    pub fn copy_from(&mut self, other: &NamedColumns) -> Result<(), AllocError>
+        ensures { OnOk result (self.new ≡ other.now) }
+    {
+        self.columns.clear();
+        share_each(&mut self.columns, &other.columns)
+    }
+
     /// Whether there is a column, and each index is below 16 and above the one before it.
     pub fn may_be_put(&self) -> bool
         ensures { IsTrue result ↔ NamesColumns self.now }
@@ -56,21 +65,23 @@ impl NamedColumns {
 }
 
 /// What a put writes: one or more columns, by indexes that rise and are below 16, each of at most
-/// 1,024 bytes.
+/// 1,024 bytes. Where it names several columns from the first on, it may have the row ready that it
+/// makes of every row of no more columns.
 #[derive(Debug, Drop)]
 pub struct Change {
     list: NamedColumns,
+    row: Option<Row>,
 }
 
 impl Model for Change {
     ghost use Rattle.std.specs.Prelude.{List, ℕ};
-    ghost use Rattle.mt_rows.specs.Changes.{IsChange};
+    ghost use Rattle.mt_rows.specs.Changes.{IsChange, IsWholeRow};
 
     ghost Value = { List (ℕ × List ℕ) };
 
     ghost view = { λ c. c.list };
 
-    ghost invariant = { λ c. IsChange c.list };
+    ghost invariant = { λ c. IsChange c.list × IsWholeRow c.list c.row };
 }
 
 impl Change {
@@ -88,7 +99,17 @@ impl Change {
         if !list.are_short() {
             return Err(Refusal::ColumnLong);
         }
-        Ok(Change { list })
+        Ok(Change { list, row: None })
+    }
+
+    /// The same change with its row ready, if it makes one whatever was there: so `merge` takes no
+    /// memory for it. An error drops the change.
+    pub fn with_row(self, alloc: Global) -> Result<Change, AllocError>
+        ensures { IfOk result (λ change. change ≡ self) }
+    {
+        let Change { list, .. } = self;
+        let row = whole_row(alloc, list.as_slice())?;
+        Ok(Change { list, row })
     }
 
     /// The columns that it writes, as they were asked for.
@@ -97,6 +118,18 @@ impl Change {
         ensures change { IsChange self }
     {
         self.list
+    }
+
+    // The row that it makes of these columns: the one that is ready, where it is that.
+    fn over(&self, alloc: Global, room: &RowRoom, old: &[Column]) -> Result<Row, AllocError>
+        requires few { length old.now ≤ 16 }
+        requires short { All (λ column. length column ≤ 1024) old.now }
+        ensures { IfOk result (λ row. row ≡ changed self.now old.now) }
+    {
+        match &self.row {
+            Some(row) if old.len() <= row.columns().len() => row.share(),
+            _ => changed_row(alloc, room, old, self.list.as_slice()),
+        }
     }
 
     /// The columns that it writes, by index.
@@ -109,30 +142,93 @@ impl Change {
 }
 
 /// The row after a change of another one, or of none: the named columns are replaced, the others
-/// kept, and gaps are empty. An error leaves both as they were.
+/// kept, and gaps are empty. It shares the columns of both, and copies no bytes. An error leaves both
+/// as they were.
 pub fn merge(alloc: Global, old: Option<&Row>, change: &Change) -> Result<Row, AllocError>
     ensures { IfOk result (λ row. row ≡ changed change.now (columns_of (option_map (λ r. r.now) old.entry))) }
 {
+    merge_in(alloc, &RowRoom::none(), old, change)
+}
+
+/// The same, where the row may be made in this room.
+pub fn merge_in(
+    alloc: Global,
+    room: &RowRoom,
+    old: Option<&Row>,
+    change: &Change,
+) -> Result<Row, AllocError>
+    ensures { IfOk result (λ row. row ≡ changed change.now (columns_of (option_map (λ r. r.now) old.entry))) }
+{
     match old {
-        Some(row) => changed_row(alloc, row.columns(), change.columns()),
-        None => changed_row(alloc, &[], change.columns()),
+        Some(row) => change.over(alloc, room, row.columns()),
+        None => change.over(alloc, room, &[]),
     }
 }
 
-// The row that a change makes of these columns.
-fn changed_row(alloc: Global, old: &[Column], change: &[(u8, Column)]) -> Result<Row, AllocError>
+// The row that a change makes whatever was there, where it names several columns from the first on.
+fn whole_row(alloc: Global, change: &[(u8, Column)]) -> Result<Option<Row>, AllocError>
+    requires { IsChange change.now }
+    ensures { IfOk result (λ row. IsWholeRow change.now row) }
+{
+    let reach = reach_of(change);
+    if reach < 2 || !are_named(change, reach) {
+        return Ok(None);
+    }
+    let row = changed_row(alloc, &RowRoom::none(), &[], change)?;
+    Ok(Some(row))
+}
+
+// Whether each of the first columns is named.
+fn are_named(change: &[(u8, Column)], count: usize) -> bool
+    ensures { IsTrue result → AreNamed change.now count }
+{
+    for index in 0..count {
+        if named_at(change, index).is_none() {
+            return false;
+        }
+    }
+    true
+}
+
+// The row that a change makes of these columns. One column is no list of its own.
+fn changed_row(
+    alloc: Global,
+    room: &RowRoom,
+    old: &[Column],
+    change: &[(u8, Column)],
+) -> Result<Row, AllocError>
     requires change { IsChange change.now }
     requires few { length old.now ≤ 16 }
     requires short { All (λ column. length column ≤ 1024) old.now }
     ensures { IfOk result (λ row. row ≡ changed change.now old.now) }
 {
     let len = old.len().max(reach_of(change));
+    if len == 1 {
+        let column = column_after(alloc, old, change, 0, &mut None)?;
+        return Ok(Row::of_one(column));
+    }
+    let columns = changed_columns(alloc, old, change, len)?;
+    Row::new_in(alloc, room, columns)
+}
+
+// The first columns after a change of these. It is kept apart, so that a row of one column pays
+// nothing for it.
+#[inline(never)]
+fn changed_columns(
+    alloc: Global,
+    old: &[Column],
+    change: &[(u8, Column)],
+    len: usize,
+) -> Result<Vec<Column>, AllocError>
+    ensures { IfOk result (λ cs. cs.items ≡ map (λ i. unwrap_or (named change.now i) (column old.now i)) (range_with_len 0 len)) }
+{
+    let mut gap = None;
     let mut columns = Vec::with_capacity(alloc, len)?;
     for index in 0..len {
-        let column = column_after(alloc, old, change, index)?;
+        let column = column_after(alloc, old, change, index, &mut gap)?;
         columns.push(column)?;
     }
-    Row::new(alloc, columns)
+    Ok(columns)
 }
 
 // The column at an index after a change of these columns.
@@ -141,13 +237,26 @@ fn column_after(
     old: &[Column],
     change: &[(u8, Column)],
     index: usize,
+    gap: &mut Option<Column>,
 ) -> Result<Column, AllocError>
-    ensures { IfOk result (λ c. c ≡ unwrap_or (named change.now index) (column old.now index)) }
+    requires { IfSome gap.old (λ c. c ≡ []) }
+    ensures column { IfOk result (λ c. c ≡ unwrap_or (named change.now index) (column old.now index)) }
+    ensures gap { IfSome gap.new (λ c. c ≡ []) }
 {
     match named_at(change, index) {
-        Some(column) => column.clone(),
-        None => column_at(alloc, old, index),
+        Some(column) => column.share(),
+        None => column_at(alloc, old, index, gap),
     }
+}
+
+// Puts these columns behind the ones that are there, shared.
+fn share_each(columns: &mut Vec<(u8, Column)>, others: &[(u8, Column)]) -> Result<(), AllocError>
+    ensures { OnOk result (columns.new.items ≡ columns.old.items ++ others.now) }
+{
+    for pair in others {
+        columns.push((pair.0, pair.1.share()?))?;
+    }
+    Ok(())
 }
 
 // Whether each index is below 16 and above the one before it.

@@ -1,13 +1,13 @@
 //! What a tenant asks.
 
-ghost use Rattle.std.specs.Prelude.{◌≡◌, ◌↔◌, IsTrue, IfOk, IfErr, IsOk};
+ghost use Rattle.std.specs.Prelude.{◌≡◌, ◌↔◌, [], IsTrue, IfOk, IfErr, IsOk, OnOk};
 ghost use Rattle.mt_rows.specs.Commands.{key_of, IsTaken, IsFirstFault};
 
 use crate::change::NamedColumns;
 use crate::key::{Key, USER_KEY_BYTES};
 use crate::refusal::Refusal;
 use crate::row::ColumnIndexes;
-use std::alloc::AllocError;
+use std::alloc::{AllocError, Global};
 
 /// The most pairs that one scan shows.
 pub const SCAN_PAIRS: u8 = 64;
@@ -40,6 +40,16 @@ pub enum Command {
 }
 
 impl Command {
+    /// The command that asks for least: what stands where there is none to compare with.
+    pub fn empty(alloc: Global) -> Command
+        ensures { result ≡ Command.Get [] [] }
+    {
+        Command::Get {
+            key: Key::new(Vec::new(alloc)),
+            columns: ColumnIndexes::new(Vec::new(alloc)),
+        }
+    }
+
     /// Whether the command is taken, or the first of its faults: `KeyLong`, `Column`, `ColumnLong`,
     /// `ScanCount`, in this order.
     pub fn check(&self) -> Result<(), Refusal>
@@ -144,6 +154,60 @@ impl Command {
                 count: *count,
                 columns: columns.clone()?,
             }),
+        }
+    }
+    /// Becomes the same command as another one, in the memory that it has where both are of one
+    /// kind. An error leaves some command here.
+    pub fn copy_from(&mut self, other: &Command) -> Result<(), AllocError>
+        ensures { OnOk result (self.new ≡ other.now) }
+    {
+        match (&mut *self, other) {
+            (
+                Command::Get { key, columns },
+                Command::Get {
+                    key: other_key,
+                    columns: other_columns,
+                },
+            ) => {
+                key.copy_from(other_key)?;
+                columns.copy_from(other_columns)
+            }
+            (
+                Command::Put { key, change },
+                Command::Put {
+                    key: other_key,
+                    change: other_change,
+                },
+            ) => {
+                key.copy_from(other_key)?;
+                change.copy_from(other_change)
+            }
+            (Command::Remove { key }, Command::Remove { key: other_key }) => {
+                key.copy_from(other_key)
+            }
+            (
+                Command::Scan {
+                    from,
+                    after,
+                    count,
+                    columns,
+                },
+                Command::Scan {
+                    from: other_from,
+                    after: other_after,
+                    count: other_count,
+                    columns: other_columns,
+                },
+            ) => {
+                *after = *other_after;
+                *count = *other_count;
+                from.copy_from(other_from)?;
+                columns.copy_from(other_columns)
+            }
+            _ => {
+                *self = other.copied()?;
+                Ok(())
+            }
         }
     }
 }

@@ -16,12 +16,12 @@ pub mod reply;
 pub mod row;
 pub mod tenants;
 
-pub use change::{Change, NamedColumns, merge};
+pub use change::{Change, NamedColumns, merge, merge_in};
 pub use command::Command;
 pub use key::Key;
 pub use plain::PlainMap;
 pub use record::{Batch, Record, Records};
 pub use refusal::Refusal;
 pub use reply::{PairList, Reply};
-pub use row::{Column, ColumnIndexes, Row};
+pub use row::{Column, ColumnIndexes, Row, RowRoom};
 pub use tenants::{Account, Tenants};

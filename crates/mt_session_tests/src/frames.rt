@@ -158,7 +158,8 @@ fn a_message_is_read_up_to_its_limits(rt: HostRuntime) {
 
 // Calls that get this many columns, remove a key of this many bytes, and put a column of so many.
 fn requests(rt: &impl Abort, alloc: Global, columns: u32, key: u32, column: u32) -> [Request; 3] {
-    let column = Column::new(many(alloc, "76", column).expect(rt, "bytes"));
+    let column = many(alloc, "76", column).expect(rt, "bytes");
+    let column = Column::new(alloc, column).expect(rt, "memory");
     let mut change = Vec::new(alloc);
     assert!(rt; change.push((0, column)).is_ok());
     let change = NamedColumns::new(change);

@@ -3,7 +3,7 @@
 use self::Asked::{Get, Put, Remove, Scan};
 use mt_rows::{
     Change, Column, ColumnIndexes, Command, Key, NamedColumns, PlainMap, Refusal, Reply, Row,
-    Tenants, merge,
+    RowRoom, Tenants, merge, merge_in,
 };
 use std::alloc::{AllocError, Global};
 use std::fmt::Write;
@@ -12,8 +12,9 @@ use std::process::Abort;
 /// A row of one column.
 pub fn row_of(rt: &impl Abort, alloc: Global, column: &[u8]) -> Row {
     let column = Vec::from_slice(alloc, column).expect(rt, "memory");
+    let column = Column::new(alloc, column).expect(rt, "memory");
     let mut columns = Vec::new(alloc);
-    columns.push(Column::new(column)).expect(rt, "memory");
+    columns.push(column).expect(rt, "memory");
     assert!(rt; Row::fits(&columns));
     Row::new(alloc, columns).expect(rt, "memory")
 }
@@ -38,7 +39,8 @@ type Case = (u32, &'static [u8], Asked, &'static str);
 fn named(alloc: Global, columns: &[(u8, &[u8])]) -> Result<NamedColumns, AllocError> {
     let mut list = Vec::new(alloc);
     for (index, bytes) in columns {
-        list.push((*index, Column::new(Vec::from_slice(alloc, bytes)?)))?;
+        let bytes = Vec::from_slice(alloc, bytes)?;
+        list.push((*index, Column::new(alloc, bytes)?))?;
     }
     Ok(NamedColumns::new(list))
 }
@@ -94,8 +96,10 @@ fn run(map: &mut PlainMap, alloc: Global, quota: u32, command: Command) -> Resul
     Ok(map.apply(alloc, quota, command)?)
 }
 
-// A copy of the command, which is the same.
-fn copy_of(rt: &impl Abort, command: &Command) -> Command {
+// A copy of the command, which is the same, as is the one that is kept in the memory of others.
+fn copy_of(rt: &impl Abort, kept: &mut Command, command: &Command) -> Command {
+    kept.copy_from(command).expect(rt, "memory");
+    assert!(rt; kept.is_same(command));
     let copy = command.copied().expect(rt, "memory");
     assert!(rt; copy.is_same(command) && copy.key() == command.key());
     copy
@@ -112,10 +116,10 @@ fn is_told(rt: &impl Abort, alloc: Global, answer: &Result<Reply, Refusal>, want
 }
 
 // A copy of the command tells this reply or refusal.
-fn tells(rt: &impl Abort, alloc: Global, map: &mut PlainMap, case: Case) {
+fn tells(rt: &impl Abort, alloc: Global, map: &mut PlainMap, kept: &mut Command, case: Case) {
     let (quota, key, asked, wanted) = case;
     let command = command_of(alloc, key_of(rt, alloc, key), asked).expect(rt, "memory");
-    let answer = run(map, alloc, quota, copy_of(rt, &command));
+    let answer = run(map, alloc, quota, copy_of(rt, kept, &command));
     is_told(rt, alloc, &answer, wanted);
 }
 
@@ -144,8 +148,9 @@ const CASES: [Case; 16] = [
 #[test]
 fn commands_are_answered_or_refused(rt: HostRuntime) {
     let mut map = PlainMap::new(rt.alloc());
+    let mut kept = Command::empty(rt.alloc());
     for case in CASES {
-        tells(&rt, rt.alloc(), &mut map, case);
+        tells(&rt, rt.alloc(), &mut map, &mut kept, case);
     }
     assert!(rt; map.len() == 3 && Refusal::NoStore.number() == 20);
 }
@@ -202,4 +207,45 @@ fn a_change_merges_and_a_row_is_shared(rt: HostRuntime) {
     is_merged(&rt, &merged, &row, &change);
     tells_changes(&rt, &Reply::Found(row.share().expect(&rt, "memory")));
     assert!(rt; change.into_list().as_slice().len() == 1);
+}
+
+// Columns by index.
+type List = &'static [(u8, &'static [u8])];
+
+// A row by its columns, or none; those that a change names; and the row that it makes.
+const MERGES: [(List, List, &str); 5] = [
+    (&[], &[(0, b"a"), (1, b"b")], "|a|b"),
+    (&[(0, b"x")], &[(0, b"a"), (1, b"b")], "|a|b"),
+    (
+        &[(0, b"x"), (1, b"y"), (2, b"z")],
+        &[(0, b"a"), (1, b"b")],
+        "|a|b|z",
+    ),
+    (&[(0, b"x"), (1, b"y")], &[(0, b"a")], "|a|y"),
+    (&[(0, b"x")], &[(3, b"c")], "|x|||c"),
+];
+
+// The row that a change makes with all ready for it.
+fn merged(rt: &impl Abort, alloc: Global, old: Option<&Row>, list: List) -> Row {
+    let list = named(alloc, list).expect(rt, "memory");
+    let change = Change::new(list).expect(rt, "a change");
+    let change = change.with_row(alloc).expect(rt, "memory");
+    let room = RowRoom::new(alloc).expect(rt, "memory");
+    merge_in(alloc, &room, old, &change).expect(rt, "memory")
+}
+
+#[test]
+fn a_row_that_is_ready_serves_rows_that_are_no_longer(rt: HostRuntime) {
+    for (old, list, wanted) in MERGES {
+        let old = match old {
+            [] => None,
+            old => Some(merged(&rt, rt.alloc(), None, old)),
+        };
+        let row = merged(&rt, rt.alloc(), old.as_ref(), list);
+        let mut told = String::new(rt.alloc());
+        assert!(rt;
+            push_row(&mut told, &row).is_ok() && told.as_str() == wanted,
+            "{wanted}"
+        );
+    }
 }

@@ -178,7 +178,7 @@ fn column_of(alloc: Global, bytes: &[u8]) -> Result<(Column, &[u8]), DecodeFault
     ensures { Gives (λ x. (x.0, x.1.now)) result (string_at bytes.now) }
 {
     let (text, rest) = string_of(alloc, bytes)?;
-    Ok((Column::new(text), rest))
+    Ok((Column::new(alloc, text)?, rest))
 }
 
 fn columns_of(alloc: Global, count: u8, bytes: &[u8]) -> Result<(Vec<Column>, &[u8]), DecodeFault>

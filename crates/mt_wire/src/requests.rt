@@ -95,7 +95,7 @@ fn named_column_of(alloc: Global, bytes: &[u8]) -> Result<((u8, Column), &[u8]),
 {
     let (index, rest) = u8_at(bytes)?;
     let (text, rest) = string_of(alloc, rest)?;
-    Ok(((index, Column::new(text)), rest))
+    Ok(((index, Column::new(alloc, text)?), rest))
 }
 
 fn columns_of(

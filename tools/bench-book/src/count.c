@@ -1,11 +1,13 @@
 // Counts calls of malloc, calloc and realloc and calls of free, and tells on standard error how many there were, and how many
 // of them between the second reading of the clock and the third, the fourth and the fifth and so on: the first one begins a timed run,
 // and each pair behind it stands around a period of the lock. What comes behind the last pair counts as none. One thread alone.
+// The last number is the most memory that the process had at once, in kilobytes.
 #define _GNU_SOURCE
 #include <stdatomic.h>
 #include <stdbool.h>
 #include <stdio.h>
 #include <stdlib.h>
+#include <sys/resource.h>
 #include <sys/syscall.h>
 #include <time.h>
 #include <unistd.h>
@@ -38,7 +40,9 @@ int clock_gettime(clockid_t clock, struct timespec *time)
 
 void _exit(int status)
 {
-    fprintf(stderr, "%lu %lu %lu\n", (unsigned long)count, (unsigned long)count_held, (unsigned long)frees_held);
+    struct rusage used;
+    getrusage(RUSAGE_SELF, &used);
+    fprintf(stderr, "%lu %lu %lu %ld\n", (unsigned long)count, (unsigned long)count_held, (unsigned long)frees_held, used.ru_maxrss);
     syscall(SYS_exit_group, status);
     __builtin_unreachable();
 }

@@ -138,7 +138,7 @@ fn prepared(
         step: 0,
         worker: task.worker,
         tenant: task.tenant,
-        key: task.request.key().clone()?,
+        key: task.spare.copied(task.request.key())?,
         before: Some(row.share()?),
         after: None,
     };

@@ -3,5 +3,5 @@ use Rattle.mt_book.specs.Calls.{asked_by}
 use Rattle.mt_book.proofs.calls.call.Goals as goal
 
 pub returns-clause-periods : goal.returns-clause-periods
-returns-clause-periods g c = c.ran.ensures.periods (asked_by c.args.pass.now.worker c.args.tenant c.args.command) refl
+returns-clause-periods g c = c.ran-told.ensures.periods (asked_by c.args.pass.now.worker c.args.tenant c.args.command) refl
     (record { tenant_is = c.prepare-opening.ensures.tenant; made = c.prepare-opening.ensures.made; refused = c.prepare-opening.ensures.refused })
