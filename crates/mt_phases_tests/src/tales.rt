@@ -3,6 +3,8 @@
 ghost use Rattle.std.specs.Prelude.{◌≡◌, ℕ, IsSome};
 ghost use Rattle.mt_descent.specs.KeptWalks.{IsAtBorder};
 ghost use Rattle.mt_operation.specs.Tables.{MayMove, op_at};
+ghost use Rattle.mt_operation.specs.Tasks.{ask, aim_of};
+ghost use Rattle.mt_operation.specs.Walks.{walk_from_top};
 ghost use Rattle.mt_insert.specs.Puts.{IsPut};
 
 use crate::phases::{Store, answer, begin, empty_store, get, place, put, put_of, walk_down};
@@ -87,7 +89,7 @@ fn a_put_meets_another_one_and_a_get(rt: HostRuntime) {
 
 // An operation of this task that has made no step.
 fn boxed(rt: &impl Abort, alloc: Global, task: Task) -> Box<Operation>
-    ensures { result.value.walk.first ≡ 0 }
+    ensures { result.value.walk ≡ walk_from_top (aim_of (ask task)) 0 }
 {
     match Box::new(alloc, Operation::new(alloc, task)) {
         Ok(operation) => operation,
