@@ -148,7 +148,9 @@ const CASES: [Case; 16] = [
 #[test]
 fn commands_are_answered_or_refused(rt: HostRuntime) {
     let mut map = PlainMap::new(rt.alloc());
-    let mut kept = Command::empty(rt.alloc());
+    let mut kept = Command::Remove {
+        key: key_of(&rt, rt.alloc(), b""),
+    };
     for case in CASES {
         tells(&rt, rt.alloc(), &mut map, &mut kept, case);
     }
