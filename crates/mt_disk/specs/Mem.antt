@@ -1,5 +1,5 @@
 -- What a `MemDisk` shows: the state of an honest disk, and the plan by which its calls fail.
-use Rattle.std.specs.Prelude.{ℕ, List, [], ◌∷◌, ◌++◌, map, Vec}
+use Rattle.std.specs.Prelude.{ℕ, List, [], ◌∷◌, ◌++◌, map, Vec, Option, Some, None, nat_lt, if◌then◌else◌}
 use Rattle.std.specs.declared.alloc.Global.{Global}
 use Rattle.mt_disk.specs.Disk.{Range, Moment, DiskState, Plan}
 use Rattle.mt_disk.specs.declared.mem.MemDisk.{MemDisk}
@@ -19,3 +19,12 @@ mem_state m = record { image = m.image.items; now = record { durable = m.durable
 -- the plan of a `MemDisk`
 abbrev pub plan_of : MemDisk → Plan
 plan_of m = record { calls = m.calls; fail = m.fail; stop = m.stop }
+
+-- the call at which a disk is to stop, unless it has stopped there already
+abbrev pub still_to_come : Option ℕ → ℕ → Option ℕ
+still_to_come None calls = None
+still_to_come (Some first) calls = if nat_lt calls first then Some first else None
+
+-- the plan behind a crash: its calls count on, and a stop that has come is over
+abbrev pub plan_found : Plan → Plan
+plan_found p = record { calls = p.calls; fail = p.fail; stop = still_to_come p.stop p.calls }

@@ -10,7 +10,7 @@
 ghost use Rattle.std.specs.Prelude.{ℕ, map, ◌≡◌, ◌+◌, ◌<◌, ◌≤◌, ◌↔◌, [], ◌∷◌, ◌++◌, true, false, length, take, drop, IsTrue, IfOk, OnOk, OnErr, is_ok, None, Some};
 ghost use Rattle.std.specs.List.{slice_get};
 ghost use Rattle.mt_disk.specs.Disk.{MayLeave, Reads, IsToldToFail, found_with, is_dirty, overwritten, CountsFailure, GoesUp};
-ghost use Rattle.mt_disk.specs.Mem.{moment_of, moments_and};
+ghost use Rattle.mt_disk.specs.Mem.{moment_of, moments_and, still_to_come};
 
 use crate::disk::{DeviceFailed, Disk, count_failure};
 use std::alloc::{AllocError, Global};
@@ -31,7 +31,7 @@ pub struct MemDisk {
 
 impl MemDisk {
     ghost use Rattle.std.specs.Prelude.{[]};
-    ghost use Rattle.mt_disk.specs.Mem.{mem_state, plan_of};
+    ghost use Rattle.mt_disk.specs.Mem.{mem_state, plan_of, plan_found};
 
     /// An empty disk.
     pub fn new(alloc: Global, fail: Option<u64>, stop: Option<u64>) -> Self
@@ -75,6 +75,23 @@ impl MemDisk {
             stop,
             failures: 0,
         })
+    }
+
+    /// Crashes: it is found again with this image, all of it durable, and with no moment before. Its
+    /// calls count on, and a `stop` that has come is over. An error leaves it as it was.
+    pub fn crash(&mut self, image: Vec<u8>) -> Result<(), AllocError>
+        requires { MayLeave (mem_state self.old).now image.items }
+        ensures state { OnOk result (mem_state self.new ≡ found_with image.items) }
+        ensures plan { OnOk result (plan_of self.new ≡ plan_found (plan_of self.old)) }
+        ensures failures { self.new.failures ≡ self.old.failures }
+        ensures err { OnErr result (self.new ≡ self.old) }
+    {
+        self.durable = image.to_vec(self.alloc)?;
+        self.image = image;
+        self.dirty = Vec::new(self.alloc);
+        self.past = Vec::new(self.alloc);
+        self.stop = still_to_come(self.stop, self.calls);
+        Ok(())
     }
 
     /// Whether a crash now may leave this image.
@@ -132,6 +149,16 @@ fn next_call(calls: &mut u64, fail: Option<u64>, stop: Option<u64>) -> Result<()
     match stop {
         Some(first) if first <= *calls => Err(AllocError),
         _ => Ok(()),
+    }
+}
+
+// The call at which a disk is to stop, unless it has stopped there already.
+fn still_to_come(stop: Option<u64>, calls: u64) -> Option<u64>
+    ensures { result ≡ still_to_come stop calls }
+{
+    match stop {
+        Some(first) if first <= calls => None,
+        _ => stop,
     }
 }
 

@@ -179,7 +179,7 @@ kind_takes kind bytes x fits e =
     choose (eqb kind 1) _ _ _ e1 (λ t h. at 1 t (resume_takes bytes x fits h)) (λ _ h. absurd cc))
 
 -- what is read as a body is spelled so
-body_takes : (bytes : Bytes) (b : LogBatch) → IsBytes bytes → batch_in bytes ≡ Some b → (bytes ≡ body b) × (length (body b) < 2 ^ 32 → IsLogBatch b)
+pub body_takes : (bytes : Bytes) (b : LogBatch) → IsBytes bytes → batch_in bytes ≡ Some b → (bytes ≡ body b) × (length (body b) < 2 ^ 32 → IsLogBatch b)
 unfolding batch_in
 body_takes bytes b fits e =
     let k = bind_some (byte_at bytes) (λ kind. batch_kind_at kind.0 kind.1 >>= λ x. cond (eqb (length x.1) 0) (Some x.0) None) b e in

@@ -1,28 +1,32 @@
 -- What is read of a log from gate to gate, and what an opening made of it.
-use Rattle.std.proofs.Common.{◌≡◌, inr, ℕ, zero, suc, ◌+◌, ◌-◌, ◌<◌, ◌≤◌, Bool, true, IsTrue, ◌↔◌, ◌^◌, Some, None, List, [], ◌∷◌, ◌++◌, length, take, drop, get_or, Vec, refl, sym, ◌∙◌, ap, subst, arith, append_assoc, length-append, Result, Ok, Err, OnOk, OnErr}
-use Rattle.std.specs.declared.alloc.Global.{Global}
+use Rattle.std.proofs.Common.{◌≡◌, ⊎_elim, inl, inr, ℕ, zero, suc, ◌+◌, ◌-◌, ◌<◌, ◌≤◌, Bool, true, false, IsTrue, ◌↔◌, ◌^◌, Some, None, List, [], ◌∷◌, ◌++◌, length, take, drop, get_or, refl, sym, ◌∙◌, ap, subst, arith, append_assoc, length-append, Result, Ok, Err, OnOk, OnErr, IfOk, IfErr, MatchResult}
 use Rattle.std.specs.List.{flat_map, All}
 use Rattle.std.specs.Prelude.{nat_lt}
-use Rattle.std.specs.Int.{w32, to_be_bytes}
-use Rattle.std.proofs.lemmas.Bool.{ltb-true}
-use Rattle.std.proofs.lemmas.List.{drop_at, drop-drop, length-drop, flat_map_more, append-nil}
+use Rattle.std.specs.Int.{w32, to_be_bytes, from_be_bytes}
+use Rattle.std.proofs.lemmas.Bool.{ltb-true, le-ltb}
+use Rattle.std.proofs.lemmas.List.{take-append-drop, take-append-le, take_all, drop-take, length-take, length-take-le, drop-drop, length-drop, flat_map_more, append-nil}
 use Rattle.mt_rows.specs.Rows.{Bytes}
-use Rattle.mt_disk.specs.Disk.{DiskState, IsDurable, LeavesOnly, GoesUp}
+use Rattle.mt_disk.specs.Disk.{DiskState, IsDurable, LeavesOnly, GoesUp, synced}
 use Rattle.mt_rows.specs.declared.record.Batch.{Batch}
 use Rattle.mt_batches.specs.Batches.{IsRecord}
+use Rattle.mt_fields.proofs.FieldLaws.{IsBytes, IsBytes-rest, IsBytes-take, wide32, number_again}
 use Rattle.mt_log.specs.declared.batch.LogBatch.{LogBatch}
 use Rattle.mt_log.specs.declared.batch.LogBatch.TheVariants.{Records}
 use Rattle.mt_log.specs.declared.fault.ReadFault.{ReadFault}
 use Rattle.mt_log.specs.declared.fault.ReadFault.TheVariants as reads
-use Rattle.mt_log.specs.declared.reader.Found.{Found}
+use Rattle.mt_log.specs.declared.reader.Head.{Head}
+use Rattle.mt_log.specs.declared.reader.Head.TheVariants as heads
+use Rattle.mt_log.specs.declared.reader.Start.{Start}
+use Rattle.mt_log.specs.declared.windows.Stop.{Stop}
+use Rattle.mt_log.specs.declared.windows.Found.{Found}
 use Rattle.mt_log.specs.Format.{header, record_bytes, body, told_body, batch_bytes}
 use Rattle.mt_log.specs.Contents.{Contents, IsContents, IsBatch, IsLogBatch, to_of, log_bytes, with_batch, contents_of}
-use Rattle.mt_log.specs.Fronts.{IsBadGate, IsBadLog, IsShut, IsTorn, IsBeforeOrAfter, IsLeft, IsOldOrNew, IsFound, IsAtRest}
-use Rattle.mt_log.specs.Reading.{batch_at, are_steps, rise_within}
-use Rattle.mt_log.specs.Stops.{IsOpenBatch, StandBefore, IsRead, IsBadRead}
-use Rattle.mt_log.specs.Logs.{ReadsSynced, FailsToRead, Opened, GivesDiskBack, fault_with}
+use Rattle.mt_log.specs.Fronts.{HasNoBatch, IsBadGate, IsBadLog, IsShut, IsTorn, IsBeforeOrAfter, IsLeft, IsOldOrNew, IsFound, IsAtRest}
+use Rattle.mt_log.specs.Reading.{batch_in, batch_at, are_steps, rise_within}
+use Rattle.mt_log.specs.Stops.{IsOpenGate, IsNoHead, IsHead, IsHeader, IsStart, IsBadStart, IsBody, IsOpenBatch, AreBatches, StandBefore, IsStop, IsFoundAt, IsRead, IsBadRead, CountsFault, CountsReads, OfImage, IsStartOf, IsStopOf, IsFrontOf, IsFaultOf}
+use Rattle.mt_log.specs.Logs.{IsSyncedOf, FailsToSync, Opened, GivesDiskBack, fault_with}
 use Rattle.mt_log.proofs.Tests.{below, steps_from_test, records_from_test, test_of_batch}
-use Rattle.mt_log.proofs.BatchLaws.{batch_again}
+use Rattle.mt_log.proofs.BatchLaws.{body_takes, batch_again}
 use Rattle.mt_log.proofs.FrontLaws.{each_more, end_more, opening, only_synced}
 
 -- what holds at Ok, or at an error, whatever the result
@@ -83,127 +87,326 @@ batch_rises b is = test_of_batch b.from b.to b.records is.records.limits is.reco
 
 -- ---- gates
 
--- a batch that was read behind an open gate
-pub open_batch_is : (gate : ℕ) (behind rest : Bytes) (b : LogBatch) (len : ℕ) → gate ≡ 1 → behind ≡ told_body (body b) ++ rest → IsLogBatch b
-    → len ≡ 1 + (length behind - length rest) → IsOpenBatch (gate ∷ behind) b len
-open_batch_is gate behind rest b len is_open parts is len_is =
-    let whole : gate ∷ behind ≡ batch_bytes b ++ rest = ap (λ (g : ℕ). g ∷ behind) is_open ∙ ap (λ (l : Bytes). 1 ∷ l) parts in
-    let sum : length behind ≡ length (told_body (body b)) + length rest = ap length parts ∙ length-append (told_body (body b)) rest in
-    let size : length (batch_bytes b) ≡ len = omega arith in
+-- what stands at the front of the first five bytes stands at the front of them all
+pub head_longer : (bytes : Bytes) (head : Head) → IsHead (take 5 bytes) head → IsHead bytes head
+head_longer bytes (heads.Shut gate) is =
+    record { is_shut = is.is_shut; behind = is.behind ++ drop 5 bytes; whole = sym (take-append-drop 5 bytes) ∙ ap (λ (l : Bytes). l ++ drop 5 bytes) is.whole }
+head_longer bytes (heads.Open size) is =
+    record { fits = is.fits; behind = is.behind ++ drop 5 bytes; whole = sym (take-append-drop 5 bytes) ∙ ap (λ (l : Bytes). l ++ drop 5 bytes) is.whole }
+head_longer bytes heads.Bad is =
+    let short = is.short in
+    let few : length bytes ≤ 5 = omega (arith, length-take 5 bytes) in
+    subst IsNoHead (take_all 5 bytes few) is
+
+-- a length of four bytes
+four_bytes : (bytes : Bytes) (size : ℕ) → IsBytes bytes → 4 ≤ length bytes
+    → size ≡ from_be_bytes w32 (get_or bytes 0 0 ∷ get_or bytes 1 0 ∷ get_or bytes 2 0 ∷ get_or bytes 3 0 ∷ [])
+    → (size < 2 ^ 32) × (bytes ≡ to_be_bytes w32 size ++ drop 4 bytes)
+four_bytes (a ∷ b ∷ d ∷ e ∷ rest) size fits long is =
+    let text : Bytes = a ∷ b ∷ d ∷ e ∷ [] in
+    let each : IsBytes text = IsBytes-take 4 (a ∷ b ∷ d ∷ e ∷ rest) fits in
+    let back : to_be_bytes w32 size ≡ text = ap (to_be_bytes w32) is ∙ wide32.back text refl each in
+    (subst (λ (n : ℕ). n < 2 ^ 32) (sym is) (wide32.below text each), ap (λ (l : Bytes). l ++ rest) (sym back))
+four_bytes [] size fits long is = absurd (omega arith)
+four_bytes (a ∷ []) size fits long is = absurd (omega arith)
+four_bytes (a ∷ b ∷ []) size fits long is = absurd (omega arith)
+four_bytes (a ∷ b ∷ d ∷ []) size fits long is = absurd (omega arith)
+
+-- an open gate, and four bytes behind it
+pub open_gate_is : (bytes behind : Bytes) (size : ℕ) → IsBytes bytes → 1 ≤ length bytes → behind ≡ take (length bytes - 1) (drop 1 bytes) → 4 ≤ length behind
+    → get_or bytes 0 0 ≡ 1 → size ≡ from_be_bytes w32 (get_or behind 0 0 ∷ get_or behind 1 0 ∷ get_or behind 2 0 ∷ get_or behind 3 0 ∷ []) → IsOpenGate bytes size
+open_gate_is [] behind size fits some parts long is_open is = absurd (omega arith)
+open_gate_is (gate ∷ rest) behind size fits some parts long is_open is =
+    let whole : behind ≡ rest = parts ∙ take_all (length (gate ∷ rest) - 1) rest (omega arith) in
+    let text = four_bytes behind size (subst IsBytes (sym whole) (IsBytes-rest gate rest fits)) long is in
+    record { fits = text.0; behind = drop 4 behind; whole = ap (λ (n : ℕ). n ∷ rest) is_open ∙ ap (λ (l : Bytes). 1 ∷ l) (sym whole ∙ text.1) }
+
+-- where no batch was read, none stands
+no_batch : (behind : Bytes) → batch_at behind ≡ None → HasNoBatch behind
+no_batch behind none =
+    λ b more is e. (let made : LogBatch × Bytes = (b, more) in let both : Some made ≡ None = sym (batch_again b more is) ∙ ap batch_at (sym e) ∙ none in absurd cc)
+
+-- no gate, or no whole length behind an open one
+pub no_head_bad : (bytes : Bytes) → IsNoHead bytes → IsBadGate bytes
+no_head_bad bytes is =
+    let short = is.short in
+    ⊎_elim (λ none. inl none) (λ gate. inr (gate.0, gate.1, λ b more fits e. absurd (omega (arith, short, ap length gate.1, ap length e)))) is.gate
+
+-- a length past the end
+pub past_end_bad : (bytes : Bytes) (size : ℕ) → IsOpenGate bytes size → length bytes < 5 + size → IsBadGate bytes
+unfolding batch_at
+past_end_bad bytes size is short =
+    let behind = is.behind in
+    let long : nat_lt (length behind) size ≡ true = below (length behind) size (omega (arith, short, ap length is.whole)) in
+    let none : batch_at (to_be_bytes w32 size ++ behind) ≡ None = rw (number_again w32 (2 ^ 32) wide32 size behind is.fits, long) refl in
+    inr (to_be_bytes w32 size ++ behind, is.whole, no_batch (to_be_bytes w32 size ++ behind) none)
+
+-- the front of a window
+front_of_window : (size more : ℕ) (rest : Bytes) → size ≤ length rest → take size (take (size + more) rest) ≡ take size rest
+front_of_window size more rest fits =
+    sym (take-append-le size (take (size + more) rest) (drop (size + more) rest) (omega (arith, length-take (size + more) rest))) ∙ ap (take size) (take-append-drop (size + more) rest)
+
+-- a body in which no batch was read
+pub no_body_bad : (bytes : Bytes) (size : ℕ) → IsOpenGate bytes size → 5 + size ≤ length bytes → batch_in (take size (take (size + 5) (drop 5 bytes))) ≡ None
+    → IsBadGate bytes
+unfolding batch_at
+no_body_bad bytes size is fits nothing =
+    let behind = is.behind in
+    let rest : drop 5 bytes ≡ behind = ap (drop 5) is.whole in
+    let long : size ≤ length behind = omega (arith, fits, ap length is.whole) in
+    let here : batch_in (take size behind) ≡ None = ap batch_in (sym (front_of_window size 5 behind long) ∙ ap (λ (l : Bytes). take size (take (size + 5) l)) (sym rest)) ∙ nothing in
+    let few : nat_lt (length behind) size ≡ false = le-ltb (length behind) size long in
+    let none : batch_at (to_be_bytes w32 size ++ behind) ≡ None = rw (number_again w32 (2 ^ 32) wide32 size behind is.fits, few, here) refl in
+    inr (to_be_bytes w32 size ++ behind, is.whole, no_batch (to_be_bytes w32 size ++ behind) none)
+
+-- and one in which a batch was read
+pub body_is_batch : (bytes : Bytes) (size : ℕ) (b : LogBatch) (next : Head) → IsOpenGate bytes size → 5 + size ≤ length bytes
+    → IsBody size (take (size + 5) (drop 5 bytes)) b next → IsOpenBatch bytes b (5 + size) next
+body_is_batch bytes size b next is fits read =
+    let behind = is.behind in
+    let rest : drop 5 bytes ≡ behind = ap (drop 5) is.whole in
+    let long : size ≤ length behind = omega (arith, fits, ap length is.whole) in
+    let text : take size behind ≡ body b = sym (front_of_window size 5 behind long) ∙ ap (λ (l : Bytes). take size (take (size + 5) l)) (sym rest) ∙ read.whole in
+    let len : size ≡ length (body b) = sym (length-take-le size behind long) ∙ ap length text in
+    let after : drop size behind ≡ drop (5 + size) bytes = ap (drop size) (sym rest) ∙ drop-drop size 5 bytes in
+    let parts : behind ≡ body b ++ drop (5 + size) bytes = sym (take-append-drop size behind) ∙ ap (λ (l : Bytes). l ++ drop size behind) text ∙ ap (λ (l : Bytes). body b ++ l) after in
     record {
-      batch = is;
-      parts = whole ∙ ap (λ (l : Bytes). batch_bytes b ++ l) (sym (ap (drop len) whole ∙ drop_at (batch_bytes b) rest len size));
-      within = omega arith;
-      some = omega arith;
+      parts =
+          is.whole ∙ ap (λ (l : Bytes). 1 ∷ (to_be_bytes w32 size ++ l)) parts ∙ ap (λ (n : ℕ). 1 ∷ (to_be_bytes w32 n ++ (body b ++ drop (5 + size) bytes))) len;
+      within = fits;
+      next =
+          head_longer (drop (5 + size) bytes) next (subst (λ (l : Bytes). IsHead l next) (drop-take size 5 (drop 5 bytes) ∙ ap (take 5) (drop-drop size 5 bytes)) read.next);
     }
 
--- where none was read, none stands
-pub bad_gate_is : (gate : ℕ) (behind : Bytes) → gate ≡ 1 → batch_at behind ≡ None → IsBadGate (gate ∷ behind)
-bad_gate_is gate behind is_open none =
-    inr (behind, ap (λ (g : ℕ). g ∷ behind) is_open, λ b more is e. (let both : Some (b, more) ≡ None = sym (batch_again b more is) ∙ ap batch_at (sym e) ∙ none in absurd cc))
+-- a batch that was read as a body
+pub body_read : (bytes text behind : Bytes) (size : ℕ) (b : LogBatch) (next : Head) → IsBytes bytes → size < 2 ^ 32 → size ≤ length bytes
+    → text ≡ take size bytes → behind ≡ drop size bytes → batch_in text ≡ Some b → IsHead behind next → IsBody size bytes b next
+body_read bytes text behind size b next fits few long front back read head =
+    let t = body_takes text b (subst IsBytes (sym front) (IsBytes-take size bytes fits)) read in
+    let len : length (body b) ≡ size = ap length (sym t.0 ∙ front) ∙ length-take-le size bytes long in
+    record { batch = t.1 (omega (arith, len, few)); whole = sym front ∙ t.0; next = subst (λ (l : Bytes). IsHead l next) back head }
 
--- before the first gate
-pub stand_none : (bytes : Bytes) → StandBefore 0 0 bytes []
-stand_none bytes = record { each = tt; last = refl; parts = refl; len = refl; within = omega arith }
+-- what was read behind a gate and its length
+module _ (image w : Bytes) (place size : ℕ) (is : IsOpenGate (drop place image) size) (long : place + (5 + size) ≤ length image)
+    (read : w ≡ take (size + 5) (drop (place + 5) image)) where
+  within : 5 + size ≤ length (drop place image)
+  within = omega (arith, long, length-drop place image)
+
+  window : w ≡ take (size + 5) (drop 5 (drop place image))
+  window = read ∙ ap (take (size + 5)) (sym (drop-drop 5 place image))
+
+  pub none_in_window : batch_in (take size w) ≡ None → IsBadGate (drop place image)
+  none_in_window none = no_body_bad (drop place image) size is within (subst (λ (l : Bytes). batch_in (take size l) ≡ None) window none)
+
+  pub batch_in_window : (b : LogBatch) (next : Head) → IsBody size w b next → IsOpenBatch (drop place image) b (5 + size) next
+  batch_in_window b next has = body_is_batch (drop place image) size b next is within (subst (λ (l : Bytes). IsBody size l b next) window has)
 
 -- one batch more
-pub stand_more : (place mark : ℕ) (bytes : Bytes) (bs : List LogBatch) (b : LogBatch) (len : ℕ) → StandBefore place mark bytes bs
-    → IsOpenBatch (drop place bytes) b len → StandBefore (place + len) (to_of b) bytes (bs ++ b ∷ [])
-stand_more place mark bytes bs b len stand is =
+pub stand_more : (place : ℕ) (image : Bytes) (bs : List LogBatch) (b : LogBatch) (len : ℕ) (next : Head) → StandBefore place image bs
+    → IsOpenBatch (drop place image) b len next → StandBefore (place + len) image (bs ++ b ∷ [])
+stand_more place image bs b len next stand is =
     let front = flat_map batch_bytes bs in
-    let here = stand.within in
     let fits = is.within in
     let at = stand.len in
-    let left : length (drop place bytes) ≡ length bytes - place = length-drop place bytes in
-    let after : length (drop len (drop place bytes)) ≡ length (drop place bytes) - len = length-drop len (drop place bytes) in
-    let sum : length (drop place bytes) ≡ length (batch_bytes b) + length (drop len (drop place bytes)) = ap length is.parts ∙ length-append (batch_bytes b) (drop len (drop place bytes)) in
+    let after : length (drop len (drop place image)) ≡ length (drop place image) - len = length-drop len (drop place image) in
+    let sum : length (drop place image) ≡ length (batch_bytes b) + length (drop len (drop place image)) = ap length is.parts ∙ length-append (batch_bytes b) (drop len (drop place image)) in
     let more : front ++ batch_bytes b ≡ flat_map batch_bytes (bs ++ b ∷ []) = flat_map_more batch_bytes [] bs b in
     let total : length front + length (batch_bytes b) ≡ length (flat_map batch_bytes (bs ++ b ∷ [])) = sym (length-append front (batch_bytes b)) ∙ ap length more in
     record {
-      each = each_more bs b stand.each is.batch;
-      last = sym (end_more 0 bs b);
       parts =
-          stand.parts ∙ ap (λ (l : Bytes). front ++ l) (is.parts ∙ ap (λ (l : Bytes). batch_bytes b ++ l) (drop-drop len place bytes)) ∙ sym (append_assoc front (batch_bytes b) (drop (place + len) bytes)) ∙ ap (λ (l : Bytes). l ++ drop (place + len) bytes) more;
+          stand.parts ∙ ap (λ (l : Bytes). front ++ l) (is.parts ∙ ap (λ (l : Bytes). batch_bytes b ++ l) (drop-drop len place image)) ∙ sym (append_assoc front (batch_bytes b) (drop (place + len) image)) ∙ ap (λ (l : Bytes). l ++ drop (place + len) image) more;
       len = omega arith;
-      within = omega arith;
     }
 
+-- and in the format
+pub batches_more : (mark : ℕ) (bs : List LogBatch) (b : LogBatch) → AreBatches mark bs → IsLogBatch b → AreBatches (to_of b) (bs ++ b ∷ [])
+batches_more mark bs b are is = record { each = each_more bs b are.each is; last = sym (end_more 0 bs b) }
+
+-- ---- fronts
+
+-- a log's bytes that begin so
+abbrev whole_log : ℕ → ℕ → List LogBatch → Contents
+whole_log worker logs bs = record { worker = worker; logs = logs; batches = bs }
+
+whole_image : (image : Bytes) (worker logs place : ℕ) (bs : List LogBatch) → image ≡ header worker logs ++ drop 8 image → StandBefore place image bs
+    → image ≡ log_bytes (whole_log worker logs bs) ++ drop place image
+whole_image image worker logs place bs head stand = head ∙ ap (λ (l : Bytes). header worker logs ++ l) stand.parts
+
 -- the batches of a log stop at what isn't in the format
-pub stopped_bad : (image rest : Bytes) (worker logs place mark : ℕ) (bs : List LogBatch) → worker < logs → logs ≤ 64
-    → image ≡ header worker logs ++ rest → StandBefore place mark rest bs → IsBadGate (drop place rest) → IsBadLog image worker (8 + place)
-stopped_bad image rest worker logs place mark bs below most head stand bad =
-    let c : Contents = record { worker = worker; logs = logs; batches = bs } in
+pub stopped_bad : (image : Bytes) (worker logs place mark : ℕ) (bs : List LogBatch) → worker < logs → logs ≤ 64 → AreBatches mark bs
+    → image ≡ header worker logs ++ drop 8 image → StandBefore place image bs → IsBadGate (drop place image) → IsBadLog image worker place
+stopped_bad image worker logs place mark bs under most are head stand bad =
     let at = stand.len in
     inr (
-      c,
+      whole_log worker logs bs,
       record {
-        contents = record { worker = below; logs = most; batches = stand.each };
-        rest = drop place rest;
-        whole = head ∙ ap (λ (l : Bytes). header worker logs ++ l) stand.parts;
+        contents = record { worker = under; logs = most; batches = are.each };
+        rest = drop place image;
+        whole = whole_image image worker logs place bs head stand;
         bad = bad;
       },
       refl,
       omega arith,
     )
 
+-- ---- beginnings
+
+-- what the first bytes of an image begin with, it does
+pub start_longer : (image : Bytes) (start : Start) → IsStart (take 13 image) start → IsStart image start
+start_longer image start is =
+    let w = start.worker in
+    let n = start.logs in
+    let whole : image ≡ header w n ++ (drop 8 (take 13 image) ++ drop 13 image) = sym (take-append-drop 13 image) ∙ ap (λ (l : Bytes). l ++ drop 13 image) is.header in
+    record {
+      worker = is.worker;
+      logs = is.logs;
+      header = whole ∙ ap (λ (l : Bytes). header w n ++ l) (sym (ap (drop 8) whole));
+      head = head_longer (drop 8 image) start.head (subst (λ (l : Bytes). IsHead l start.head) (drop-take 8 5 image) is.head);
+    }
+
+-- and where these are no log's beginning, it isn't one
+pub bad_start_longer : (image : Bytes) (number offset : ℕ) → IsBadStart (take 13 image) (reads.Bad number offset) → IsBadLog image number offset
+bad_start_longer image number offset bad =
+    inl (
+      ⊎_elim
+          (λ none. inl ((λ worker logs more e. none.0 worker logs (take 5 more) (ap (take 13) e)), none.1))
+          (λ strange. inr (record { logs = strange.logs; more = strange.more ++ drop 13 image; whole = sym (take-append-drop 13 image) ∙ ap (λ (l : Bytes). l ++ drop 13 image) strange.whole; wrong = strange.wrong }))
+          bad.0,
+      bad.1,
+    )
+
+-- ---- disks
+
+module _ {D : Type 0} (is_honest : D → Bool) (state : D → DiskState) (old : D) (len : ℕ) where
+  -- what was read of a beginning
+  pub start_of_image : (w : Bytes) (start : Start) → OfImage is_honest state old len (λ image. w ≡ take 13 image) → IsStart w start
+      → OfImage is_honest state old len (λ image. IsStart image start)
+  start_of_image w start told is honest has = start_longer (state old).image start (subst (λ (l : Bytes). IsStart l start) (told honest has) is)
+
+  pub fault_of_start : (w : Bytes) (e : ReadFault) → OfImage is_honest state old len (λ image. w ≡ take 13 image) → IsBadStart w e
+      → IsFaultOf is_honest state old len e
+  fault_of_start w reads.Device told bad = tt
+  fault_of_start w reads.Memory told bad = tt
+  fault_of_start w (reads.Bad number offset) told bad =
+      λ honest has. bad_start_longer (state old).image number offset (subst (λ (l : Bytes). IsBadStart l (reads.Bad number offset)) (told honest has) bad)
+
+  module _ (new : D) (same : IsTrue (is_honest old) → state new ≡ state old) (kept : is_honest new ≡ is_honest old) where
+    -- the image of a disk that was only read
+    pub of_same : (P : Bytes → Type 0) → OfImage is_honest state new len P → OfImage is_honest state old len P
+    of_same P told honest has =
+        let image : (state new).image ≡ (state old).image = ap (λ (t : DiskState). t.image) (same honest) in
+        subst P image (told (subst IsTrue (sym kept) honest) (has ∙ ap length (sym image)))
+
+    -- the batches behind a beginning, and where they stop
+    module _ (start : Start) (bs : List LogBatch) (stop : Stop) (begins : IsStartOf is_honest state old len start) (stops : IsStopOf is_honest state new len start.head bs stop) where
+      stopped : IsTrue (is_honest old) → len ≡ length (state old).image → IsStop (state old).image bs stop
+      stopped honest has =
+          of_same (λ (image : Bytes). IsHead (drop 8 image) start.head → IsStop image bs stop) stops.told honest has (begins.told honest has).head
+
+      module _ (r : Result Found ReadFault)
+          (told : (image : Bytes) → IsHeader image start → IsStop image bs stop → MatchResult r (IsRead image) (IsBadRead image)) where
+        of_image : IsTrue (is_honest old) → len ≡ length (state old).image → MatchResult r (IsRead (state old).image) (IsBadRead (state old).image)
+        of_image honest has = told (state old).image (begins.told honest has).header (stopped honest has)
+
+      pub front_found : (r : Result Found ReadFault)
+          → ((image : Bytes) → IsHeader image start → IsStop image bs stop → MatchResult r (IsRead image) (IsBadRead image)) → IfOk r (IsFoundAt stop.place)
+          → IfOk r (IsFrontOf is_honest state old len)
+      front_found (Ok found) told ok =
+          record { contents = ok.contents; mark = ok.mark; within = subst (λ n. n ≤ len) (sym ok.end) stops.within; told = λ h e. of_image (Ok found) told h e }
+      front_found (Err e) told ok = tt
+
+      pub fault_found : (r : Result Found ReadFault)
+          → ((image : Bytes) → IsHeader image start → IsStop image bs stop → MatchResult r (IsRead image) (IsBadRead image))
+          → IfErr r (IsFaultOf is_honest state old len)
+      fault_found (Ok found) told = tt
+      fault_found (Err reads.Device) told = tt
+      fault_found (Err reads.Memory) told = tt
+      fault_found (Err (reads.Bad number offset)) told = λ h e. of_image (Err (reads.Bad number offset)) told h e
+
+-- a front that was found, or a bad log, counts no failure
+pub no_failure : (r : Result Found ReadFault) (worker place old new : ℕ) → IfErr r (λ e. e ≡ reads.Bad worker place) → new ≡ old → CountsReads r old new
+no_failure (Ok found) worker place old new err same = same
+no_failure (Err e) worker place old new err same = subst (λ (x : ReadFault). CountsFault x old new) (sym err) same
+
 -- ---- openings
 
 module _ {D : Type 0} (is_honest : D → Bool) (state : D → DiskState) (failures : D → ℕ) (old : D) where
   -- a disk that was not read
-  pub not_read : (new : D) (e : ReadFault) → FailsToRead is_honest state failures old new e → GivesDiskBack is_honest state failures old (fault_with new e)
-  not_read new reads.Device f = (λ honest c b first is before. only_synced c b first (state old) (state new) before (f.moves honest), f.count, f.honest)
-  not_read new reads.Memory f = (λ honest c b first is before. only_synced c b first (state old) (state new) before (f.moves honest), f.count, f.honest)
-  not_read new (reads.Bad number offset) f = absurd f.count
+  pub not_synced : (new : D) (e : ReadFault) → FailsToSync is_honest state failures old new e → GivesDiskBack is_honest state failures old (fault_with new e)
+  not_synced new reads.Device f = (λ honest c b first is before. only_synced c b first (state old) (state new) before (f.moves honest), f.count, f.honest)
+  not_synced new reads.Memory f = (λ honest c b first is before. only_synced c b first (state old) (state new) before (f.moves honest), f.count, f.honest)
+  not_synced new (reads.Bad number offset) f = absurd f.count
 
-  module _ (mid : D) (bytes : Vec ℕ Global) (r : ReadsSynced is_honest state failures old mid bytes) where
-    -- bytes that are no log, or for which there was no memory
-    pub not_log : (e : ReadFault) → IsBadRead bytes.items e → GivesDiskBack is_honest state failures old (fault_with mid e)
-    not_log reads.Device bad = absurd bad
-    not_log reads.Memory bad = (λ honest c b first is before. only_synced c b first (state old) (state mid) before (inr (r.moves honest)), r.count, r.honest)
-    not_log (reads.Bad number offset) bad = record { bad = λ honest. subst (λ (l : Bytes). IsBadLog l number offset) (r.image honest) bad; moves = r.moves; count = r.count; honest = r.honest }
+  -- it was synced, and then read
+  module _ (synced_at mid : D) (len : ℕ) (s : IsSyncedOf is_honest state failures old synced_at len)
+      (same : IsTrue (is_honest synced_at) → state mid ≡ state synced_at) (kept : is_honest mid ≡ is_honest synced_at) where
+    still : IsTrue (is_honest old) → IsTrue (is_honest synced_at)
+    still h = subst IsTrue (sym s.honest) h
 
-    -- the log that was read, on its disk
-    pub found_at : (found : Found) → (i : IsRead bytes.items found) → IsTrue (is_honest old)
-        → IsFound (log_bytes (contents_of found.front)) found.gate found.end (state mid)
-    found_at found i honest =
-        let done = r.moves honest in
-        record {
-          behind = i.behind;
-          image = ap (λ (s : DiskState). s.image) done ∙ sym (r.image honest) ∙ i.whole;
-          durable = subst IsDurable (sym done) refl;
-          end = i.end;
+    done : IsTrue (is_honest old) → state mid ≡ synced (state old)
+    done h = same (still h) ∙ s.moves h
+
+    image_is : IsTrue (is_honest old) → (state synced_at).image ≡ (state old).image
+    image_is h = ap (λ (t : DiskState). t.image) (s.moves h)
+
+    of_synced : (P : Bytes → Type 0) → OfImage is_honest state synced_at len P → IsTrue (is_honest old) → P (state old).image
+    of_synced P told h = subst P (image_is h) (told (still h) (s.told h ∙ ap length (sym (image_is h))))
+
+    -- it failed, there was no memory, or the image is no log
+    pub not_log : (e : ReadFault) → IsFaultOf is_honest state synced_at len e → CountsFault e (failures synced_at) (failures mid)
+        → GivesDiskBack is_honest state failures old (fault_with mid e)
+    not_log reads.Device bad up =
+        (λ honest c b first is before. only_synced c b first (state old) (state mid) before (inr (done honest)), subst (λ n. GoesUp n (failures mid)) s.count up, kept ∙ s.honest)
+    not_log reads.Memory bad count = (λ honest c b first is before. only_synced c b first (state old) (state mid) before (inr (done honest)), count ∙ s.count, kept ∙ s.honest)
+    not_log (reads.Bad number offset) bad count =
+        record { bad = of_synced (λ (l : Bytes). IsBadLog l number offset) bad; moves = done; count = count ∙ s.count; honest = kept ∙ s.honest }
+
+    module _ (found : Found) (i : IsFrontOf is_honest state synced_at len found) where
+      is_read : IsTrue (is_honest old) → IsRead (state old).image found
+      is_read h = of_synced (λ (l : Bytes). IsRead l found) i.told h
+
+      -- the log that was read, on its disk
+      found_at : IsTrue (is_honest old) → IsFound (log_bytes (contents_of found.front)) found.gate found.end (state mid)
+      found_at h =
+          let r = is_read h in
+          record {
+            behind = r.behind;
+            image = ap (λ (t : DiskState). t.image) (done h) ∙ r.whole;
+            durable = subst IsDurable (sym (done h)) refl;
+            end = r.end;
+          }
+
+      module _ (new : D)
+          (shut : IsTrue (is_honest mid) → (front : Bytes) → IsFound front found.gate found.end (state mid) → found.gate ≡ 0 → LeavesOnly (IsShut front) (state mid) (state new))
+          (torn : IsTrue (is_honest mid) → (front text : Bytes) → IsFound front found.gate found.end (state mid) → IsTorn front text (state mid).image → LeavesOnly (IsBeforeOrAfter front text) (state mid) (state new)) where
+        -- what its opening leaves, and which front it is
+        leaves : IsTrue (is_honest old) → (c : Contents) (b : LogBatch) (first : DiskState) → IsContents (with_batch b c)
+            → LeavesOnly (IsLeft c b) first (state old)
+            → LeavesOnly (IsLeft c b) first (state new) × IsOldOrNew c b (contents_of found.front)
+        leaves h c b first is before =
+            let f = contents_of found.front in
+            let here = subst IsTrue (sym kept) (still h) in
+            let at = found_at h in
+            opening c b f found.gate found.end first (state old) (state mid) (state new) is i.contents (is_read h).is_shut at before (done h) (shut here (log_bytes f) at) (λ text. torn here (log_bytes f) text at)
+
+        -- its end was set right, but for a failure
+        pub failed_right : failures mid ≡ failures synced_at → GoesUp (failures mid) (failures new) → is_honest new ≡ is_honest mid
+            → GivesDiskBack is_honest state failures old (fault_with new reads.Device)
+        failed_right count up honest =
+            (λ h c b first is before. (leaves h c b first is before).0, subst (λ n. GoesUp n (failures new)) (count ∙ s.count) up, honest ∙ kept ∙ s.honest)
+
+        -- its end was set right
+        pub opened_right : (IsTrue (is_honest mid) → (front : Bytes) → IsFound front found.gate found.end (state mid) → IsAtRest front found.end (state new))
+            → failures mid ≡ failures synced_at → failures new ≡ failures mid → is_honest new ≡ is_honest mid
+            → Opened is_honest state failures old (record { disk = new; end = found.end; mark = found.mark }) found.front
+        opened_right rest read count honest = record {
+          contents = i.contents;
+          mark = i.mark;
+          read = λ h. (let r = is_read h in record { contents = i.contents; gate = found.gate; behind = r.behind; is_shut = r.is_shut; whole = r.whole });
+          has =
+              λ h. record { contents = i.contents; rest = rest (subst IsTrue (sym kept) (still h)) (log_bytes (contents_of found.front)) (found_at h); mark = i.mark };
+          reads = λ h c b first is before. (leaves h c b first is before).1;
+          leaves = λ h c b first is before. (leaves h c b first is before).0;
+          count = count ∙ read ∙ s.count;
+          honest = honest ∙ kept ∙ s.honest;
         }
-
-    module _ (found : Found) (new : D) (i : IsRead bytes.items found)
-        (shut : IsTrue (is_honest mid) → (front : Bytes) → IsFound front found.gate found.end (state mid) → found.gate ≡ 0 → LeavesOnly (IsShut front) (state mid) (state new))
-        (torn : IsTrue (is_honest mid) → (front text : Bytes) → IsFound front found.gate found.end (state mid) → IsTorn front text (state mid).image → LeavesOnly (IsBeforeOrAfter front text) (state mid) (state new)) where
-      -- what its opening leaves, and which front it is
-      leaves : IsTrue (is_honest old) → (c : Contents) (b : LogBatch) (first : DiskState) → IsContents (with_batch b c)
-          → LeavesOnly (IsLeft c b) first (state old)
-          → LeavesOnly (IsLeft c b) first (state new) × IsOldOrNew c b (contents_of found.front)
-      leaves honest c b first is before =
-          let f = contents_of found.front in
-          let still = subst IsTrue (sym r.honest) honest in
-          let at = found_at found i honest in
-          opening c b f found.gate found.end first (state old) (state mid) (state new) is i.contents i.is_shut at before (r.moves honest) (shut still (log_bytes f) at) (λ text. torn still (log_bytes f) text at)
-
-      -- its end was set right, but for a failure
-      pub failed_right : GoesUp (failures mid) (failures new) → is_honest new ≡ is_honest mid
-          → GivesDiskBack is_honest state failures old (fault_with new reads.Device)
-      failed_right up honest = (λ h c b first is before. (leaves h c b first is before).0, subst (λ n. GoesUp n (failures new)) r.count up, honest ∙ r.honest)
-
-      -- its end was set right
-      pub opened_right : (IsTrue (is_honest mid) → (front : Bytes) → IsFound front found.gate found.end (state mid) → IsAtRest front found.end (state new))
-          → failures new ≡ failures mid → is_honest new ≡ is_honest mid
-          → Opened is_honest state failures old (record { disk = new; end = found.end; mark = found.mark }) found.front
-      opened_right rest count honest = record {
-        contents = i.contents;
-        mark = i.mark;
-        read = λ h. record { contents = i.contents; gate = found.gate; behind = i.behind; is_shut = i.is_shut; whole = sym (r.image h) ∙ i.whole };
-        has =
-            λ h. record { contents = i.contents; rest = rest (subst IsTrue (sym r.honest) h) (log_bytes (contents_of found.front)) (found_at found i h); mark = i.mark };
-        reads = λ h c b first is before. (leaves h c b first is before).1;
-        leaves = λ h c b first is before. (leaves h c b first is before).0;
-        count = count ∙ r.count;
-        honest = honest ∙ r.honest;
-      }

@@ -1,17 +1,26 @@
 -- What the functions say that read a log: for those that call them, whose callers see fronts alone.
-use Rattle.std.specs.Prelude.{◌≡◌, ◌≢◌, ℕ, ◌<◌, ◌≤◌, List, ◌∷◌, ◌++◌, length, drop, Option, Some, None}
+use Rattle.std.specs.Prelude.{◌≡◌, ◌≢◌, ◌⊎◌, ℕ, ◌+◌, ◌-◌, ◌^◌, ◌<◌, ◌≤◌, min, Bool, IsTrue, List, [], ◌∷◌, ◌++◌, length, take, drop, Option, Some, None, Result, MatchResult, Vec}
+use Rattle.std.specs.Int.{w32, to_be_bytes}
 use Rattle.std.specs.List.{flat_map, AllByRecursion}
+use Rattle.std.specs.declared.alloc.Global.{Global}
 use Rattle.mt_rows.specs.Rows.{Bytes}
+use Rattle.mt_disk.specs.Disk.{DiskState, GoesUp}
 use Rattle.mt_log.specs.declared.batch.LogBatch.{LogBatch}
 use Rattle.mt_log.specs.declared.fault.ReadFault.{ReadFault}
 use Rattle.mt_log.specs.declared.fault.ReadFault.TheVariants as faults
-use Rattle.mt_log.specs.declared.reader.AtGate.{AtGate}
-use Rattle.mt_log.specs.declared.reader.AtGate.TheVariants.{Shut, Open, Bad}
-use Rattle.mt_log.specs.declared.reader.Stop.{Stop}
-use Rattle.mt_log.specs.declared.reader.Found.{Found}
-use Rattle.mt_log.specs.Format.{batch_bytes}
+use Rattle.mt_log.specs.declared.reader.Head.{Head}
+use Rattle.mt_log.specs.declared.reader.Head.TheVariants as heads
+use Rattle.mt_log.specs.declared.reader.Start.{Start}
+use Rattle.mt_log.specs.declared.windows.AtGate.{AtGate}
+use Rattle.mt_log.specs.declared.windows.AtGate.TheVariants as gates
+use Rattle.mt_log.specs.declared.windows.Stop.{Stop}
+use Rattle.mt_log.specs.declared.windows.Found.{Found}
+use Rattle.mt_log.specs.Format.{header, body, batch_bytes}
 use Rattle.mt_log.specs.Contents.{IsLogBatch, end_of, IsContents, mark_of, log_bytes, contents_of}
-use Rattle.mt_log.specs.Fronts.{IsBadGate, IsBadLog}
+use Rattle.mt_log.specs.Fronts.{HasNoHeader, IsOfNoLogs, IsBadGate, IsBadLog}
+use Rattle.mt_log.specs.Reading.{batch_in}
+
+-- ---- bytes
 
 -- a gate that isn't open
 pub record IsShutGate (bytes : Bytes) (gate : ℕ) : Type 0 where
@@ -19,48 +28,162 @@ pub record IsShutGate (bytes : Bytes) (gate : ℕ) : Type 0 where
   pub behind : Bytes
   pub whole : bytes ≡ gate ∷ behind
 
--- an open gate and a batch, of so many bytes
-pub record IsOpenBatch (bytes : Bytes) (b : LogBatch) (len : ℕ) : Type 0 where
+-- an open gate, and the length of a body behind it
+pub record IsOpenGate (bytes : Bytes) (size : ℕ) : Type 0 where
+  pub fits : size < 2 ^ 32
+  pub behind : Bytes
+  pub whole : bytes ≡ 1 ∷ (to_be_bytes w32 size ++ behind)
+
+-- no gate, or an open one without a whole length behind it
+pub record IsNoHead (bytes : Bytes) : Type 0 where
+  pub short : length bytes < 5
+  pub gate : (bytes ≡ []) ⊎ ((behind : Bytes) × (bytes ≡ 1 ∷ behind))
+
+-- what the first bytes at a gate are
+abbrev pub IsHead : Bytes → Head → Type 0
+IsHead bytes (heads.Shut gate) = IsShutGate bytes gate
+IsHead bytes (heads.Open size) = IsOpenGate bytes size
+IsHead bytes heads.Bad = IsNoHead bytes
+
+-- the header that these bytes begin with
+abbrev pub IsHeader : Bytes → Start → Type 0
+IsHeader bytes start = bytes ≡ header start.worker start.logs ++ drop 8 bytes
+
+-- what a log's bytes begin with
+pub record IsStart (bytes : Bytes) (start : Start) : Type 0 where
+  pub worker : start.worker < start.logs
+  pub logs : start.logs ≤ 64
+  pub header : IsHeader bytes start
+  pub head : IsHead (drop 8 bytes) start.head
+
+-- why bytes are no log's beginning
+abbrev pub IsBadStart : Bytes → ReadFault → Type 0
+IsBadStart bytes faults.Device = ⊥
+IsBadStart bytes faults.Memory = ⊥
+IsBadStart bytes (faults.Bad number offset) = ((HasNoHeader bytes × (number ≡ 0)) ⊎ IsOfNoLogs bytes number) × (offset ≡ 0)
+
+-- the first bytes, so many, are the body of a batch, and behind them is a gate
+pub record IsBody (size : ℕ) (bytes : Bytes) (b : LogBatch) (head : Head) : Type 0 where
   pub batch : IsLogBatch b
+  pub whole : take size bytes ≡ body b
+  pub next : IsHead (drop size bytes) head
+
+-- what is read behind an open gate and a length
+abbrev pub IsBehind : ℕ → Bytes → Option (LogBatch × Head) → Type 0
+IsBehind size bytes (Some x) = IsBody size bytes x.0 x.1
+IsBehind size bytes None = batch_in (take size bytes) ≡ None
+
+-- an open gate and a batch, of so many bytes, and what stands at the gate behind them
+pub record IsOpenBatch (bytes : Bytes) (b : LogBatch) (len : ℕ) (head : Head) : Type 0 where
   pub parts : bytes ≡ batch_bytes b ++ drop len bytes
   pub within : len ≤ length bytes
-  pub some : 0 < len
+  pub next : IsHead (drop len bytes) head
 
 -- what stands at a gate
 abbrev pub IsAtGate : Bytes → AtGate → Type 0
-IsAtGate bytes (Shut gate) = IsShutGate bytes gate
-IsAtGate bytes (Open b len) = IsOpenBatch bytes b len
-IsAtGate bytes Bad = IsBadGate bytes
+IsAtGate bytes (gates.Shut gate) = IsShutGate bytes gate
+IsAtGate bytes (gates.Open b len next) = IsOpenBatch bytes b len next
+IsAtGate bytes gates.Bad = IsBadGate bytes
+
+-- a batch in the format, of so many bytes, which there are
+pub record FitsBatch (left : ℕ) (b : LogBatch) (len : ℕ) : Type 0 where
+  pub batch : IsLogBatch b
+  pub within : len ≤ left
+  pub some : 0 < len
+
+-- what was read at a gate of any disk, where the file has so many bytes left
+abbrev pub FitsGate : ℕ → AtGate → Type 0
+FitsGate left (gates.Shut gate) = Unit {0}
+FitsGate left (gates.Open b len next) = FitsBatch left b len
+FitsGate left gates.Bad = Unit {0}
 
 -- at which gate batches stop, or that they stop at what isn't in the format
 abbrev pub StopsAt : Bytes → Option ℕ → Type 0
 StopsAt bytes None = IsBadGate bytes
 StopsAt bytes (Some gate) = IsShutGate bytes gate
 
--- these batches stand before a place, are in the format, and end at the mark
-pub record StandBefore (place mark : ℕ) (bytes : Bytes) (batches : List LogBatch) : Type 0 where
+-- batches in the format, the last of which ends at the mark
+pub record AreBatches (mark : ℕ) (batches : List LogBatch) : Type 0 where
   pub each : AllByRecursion IsLogBatch batches
   pub last : mark ≡ end_of 0 batches
-  pub parts : bytes ≡ flat_map batch_bytes batches ++ drop place bytes
-  pub len : place ≡ length (flat_map batch_bytes batches)
-  pub within : place ≤ length bytes
 
--- the batches at the front of these bytes, and where they stop
-pub record IsStop (bytes : Bytes) (batches : List LogBatch) (stop : Stop) : Type 0 where
-  pub stand : StandBefore stop.place stop.mark bytes batches
-  pub stops : StopsAt (drop stop.place bytes) stop.gate
+-- these batches stand before a place, behind the header
+pub record StandBefore (place : ℕ) (image : Bytes) (batches : List LogBatch) : Type 0 where
+  pub parts : drop 8 image ≡ flat_map batch_bytes batches ++ drop place image
+  pub len : place ≡ 8 + length (flat_map batch_bytes batches)
+
+-- the batches of an image, and where they stop
+pub record IsStop (image : Bytes) (batches : List LogBatch) (stop : Stop) : Type 0 where
+  pub stand : StandBefore stop.place image batches
+  pub stops : StopsAt (drop stop.place image) stop.gate
+
+-- a front in the format, that ends at a place
+pub record IsFoundAt (place : ℕ) (found : Found) : Type 0 where
+  pub contents : IsContents (contents_of found.front)
+  pub mark : found.mark ≡ mark_of (contents_of found.front)
+  pub end : found.end ≡ place
 
 -- the front of an image, and where it ends
 pub record IsRead (image : Bytes) (found : Found) : Type 0 where
-  pub contents : IsContents (contents_of found.front)
   pub is_shut : found.gate ≢ 1
   pub behind : Bytes
   pub whole : image ≡ log_bytes (contents_of found.front) ++ (found.gate ∷ behind)
   pub end : found.end ≡ length (log_bytes (contents_of found.front))
-  pub mark : found.mark ≡ mark_of (contents_of found.front)
 
 -- why an image was not read
 abbrev pub IsBadRead : Bytes → ReadFault → Type 0
 IsBadRead image faults.Device = ⊥
-IsBadRead image faults.Memory = Unit {0}
+IsBadRead image faults.Memory = ⊥
 IsBadRead image (faults.Bad number offset) = IsBadLog image number offset
+
+-- ---- disks
+
+-- the count of failures goes up where the disk failed, and nowhere else
+abbrev pub CountsFault : ReadFault → ℕ → ℕ → Type 0
+CountsFault faults.Device old new = GoesUp old new
+CountsFault faults.Memory old new = new ≡ old
+CountsFault (faults.Bad number offset) old new = new ≡ old
+
+abbrev pub CountsReads : {T : Type 0} → Result T ReadFault → ℕ → ℕ → Type 0
+CountsReads result old new = MatchResult result (λ _. new ≡ old) (λ e. CountsFault e old new)
+
+-- a fault that says nothing of the file
+abbrev pub IsNotBad : ReadFault → Type 0
+IsNotBad faults.Device = Unit {0}
+IsNotBad faults.Memory = Unit {0}
+IsNotBad (faults.Bad number offset) = ⊥
+
+-- over an honest disk with a file of this length: its image has P
+abbrev pub OfImage : {D : Type 0} → (D → Bool) → (D → DiskState) → D → ℕ → (Bytes → Type 0) → Type 0
+OfImage is_honest state disk len P = IsTrue (is_honest disk) → len ≡ length (state disk).image → P (state disk).image
+
+-- what was read from a place on, up to so many bytes
+pub record IsWindow {D : Type 0} (is_honest : D → Bool) (state : D → DiskState) (disk : D) (len place count : ℕ) (bytes : Vec ℕ Global) : Type 0 where
+  pub size : length bytes.items ≡ min count (len - place)
+  pub told : OfImage is_honest state disk len (λ image. bytes.items ≡ take count (drop place image))
+
+-- what a log begins with
+pub record IsStartOf {D : Type 0} (is_honest : D → Bool) (state : D → DiskState) (disk : D) (len : ℕ) (start : Start) : Type 0 where
+  pub worker : start.worker < start.logs
+  pub logs : start.logs ≤ 64
+  pub whole : 8 ≤ len
+  pub told : OfImage is_honest state disk len (λ image. IsStart image start)
+
+-- the batches behind a first gate, and where they stop
+pub record IsStopOf {D : Type 0} (is_honest : D → Bool) (state : D → DiskState) (disk : D) (len : ℕ) (first : Head) (bs : List LogBatch) (stop : Stop) : Type 0 where
+  pub batches : AreBatches stop.mark bs
+  pub within : stop.place ≤ len
+  pub told : OfImage is_honest state disk len (λ image. IsHead (drop 8 image) first → IsStop image bs stop)
+
+-- the front of a file
+pub record IsFrontOf {D : Type 0} (is_honest : D → Bool) (state : D → DiskState) (disk : D) (len : ℕ) (found : Found) : Type 0 where
+  pub contents : IsContents (contents_of found.front)
+  pub mark : found.mark ≡ mark_of (contents_of found.front)
+  pub within : found.end ≤ len
+  pub told : OfImage is_honest state disk len (λ image. IsRead image found)
+
+-- why a file has none
+abbrev pub IsFaultOf : {D : Type 0} → (D → Bool) → (D → DiskState) → D → ℕ → ReadFault → Type 0
+IsFaultOf is_honest state disk len faults.Device = Unit {0}
+IsFaultOf is_honest state disk len faults.Memory = Unit {0}
+IsFaultOf is_honest state disk len (faults.Bad number offset) = OfImage is_honest state disk len (λ image. IsBadLog image number offset)

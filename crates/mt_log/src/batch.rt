@@ -58,6 +58,13 @@ impl LoggedBatch {
     {
         &self.records
     }
+
+    /// Its records, as its own list.
+    pub fn into_records(self) -> Vec<Record>
+        ensures { result.items ≡ self.records }
+    {
+        self.records
+    }
 }
 
 /// A batch as it stands in a log: in the format, whatever its steps and its stamps say.

@@ -6,13 +6,14 @@ ghost use Rattle.mt_log.specs.declared.batch.LogBatch.{LogBatch};
 ghost use Rattle.mt_log.specs.Format.{body, told_body};
 ghost use Rattle.mt_log.specs.Contents.{IsBatch, IsLogBatch, Rises, from_of, to_of, log_bytes, no_batches};
 ghost use Rattle.mt_log.specs.Fronts.{IsAtRest};
-ghost use Rattle.mt_log.specs.Logs.{Created, Appended, FailedIn, GivesBack, GivesLogBack, Opened, GivesDiskBack, ReadsSynced, FailsToRead, fault_with};
+ghost use Rattle.mt_log.specs.Logs.{Created, Appended, FailedIn, GivesBack, GivesLogBack, Opened, GivesDiskBack, IsSyncedOf, FailsToSync, fault_with};
 
 use crate::batch::{Front, MAX_STEP};
 use crate::fault::{AppendFault, OpenFault, ReadFault, ResumeFault};
 use crate::gate::add;
 use crate::opening::set_right;
-use crate::reader::{Found, HEADER_BYTES, front_of, header};
+use crate::reader::{HEADER_BYTES, header};
+use crate::windows::{Found, read_front};
 use crate::writer::{batch_block, resume_block};
 use mt_disk::{DeviceFailed, Disk};
 use mt_rows::Batch;
@@ -21,8 +22,12 @@ use std::alloc::{AllocError, Global};
 // The longest file that is appended to.
 const MAX_END: usize = 1 << 60;
 
+// A file of so many bytes is not read.
+const LENGTH_LIMIT: usize = 1 << 63;
+
 /// A log whose end gate stands closed at `end`, with nothing behind it; its last batch goes up to step
 /// `mark`.
+#[derive(Drop)]
 pub struct LogFile<D: Disk> {
     disk: D,
     end: usize,
@@ -168,20 +173,18 @@ fn write_new<D: Disk>(disk: &mut D, worker: u8, logs: u8) -> Result<(), DeviceFa
     disk.sync()
 }
 
-// Syncs a file and reads it whole. What was left by an append that failed is durable before it is read:
+// Syncs a file, and tells its length. What was left by an append that failed is durable before it is read:
 // of a gate that was torn open, a crash could else still leave either.
-fn read_synced<D: Disk>(alloc: Global, disk: &mut D) -> Result<Vec<u8>, ReadFault>
-    ensures ok { IfOk result (ReadsSynced D.is_honest D.state D.failures disk.old disk.new) }
-    ensures err { IfErr result (FailsToRead D.is_honest D.state D.failures disk.old disk.new) }
+fn synced_len<D: Disk>(disk: &mut D) -> Result<usize, ReadFault>
+    ensures ok { IfOk result (IsSyncedOf D.is_honest D.state D.failures disk.old disk.new) }
+    ensures err { IfErr result (FailsToSync D.is_honest D.state D.failures disk.old disk.new) }
 {
     disk.sync()?;
     let len = disk.len()?;
-    let mut bytes = match Vec::from_elem(alloc, 0, len) {
-        Ok(bytes) => bytes,
-        Err(_) => return Err(ReadFault::Memory),
-    };
-    disk.read(0, &mut bytes)?;
-    Ok(bytes)
+    if len >= LENGTH_LIMIT {
+        return Err(ReadFault::Memory);
+    }
+    Ok(len)
 }
 
 // Opens a log on its disk.
@@ -189,8 +192,8 @@ fn open_file<D: Disk>(alloc: Global, disk: &mut D) -> Result<Found, ReadFault>
     ensures ok { IfOk result (λ found. Opened D.is_honest D.state D.failures disk.old (record { disk = disk.new; end = found.end; mark = found.mark }) found.front) }
     ensures err { IfErr result (λ e. GivesDiskBack D.is_honest D.state D.failures disk.old (fault_with disk.new e)) }
 {
-    let bytes = read_synced(alloc, disk)?;
-    let found = front_of(alloc, &bytes)?;
+    let len = synced_len(disk)?;
+    let found = read_front(alloc, disk, len)?;
     set_right(disk, found.end, found.gate)?;
     Ok(found)
 }

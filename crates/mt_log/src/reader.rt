@@ -1,17 +1,17 @@
-//! A log's bytes as its front. Each byte is read once, and nothing is made by a number that was read:
-//! a list grows with the records that stand there.
+//! A log's bytes as its header, its gates and its batches. Each byte is read once, and nothing is made by
+//! a number that was read: a list grows with the records that stand there.
 
 ghost use Rattle.std.specs.Prelude.{◌≡◌, ◌<◌, ◌≤◌, ◌^◌, [], ◌∷◌, ◌++◌, length, drop, IfSome, IfNone, IfOk, IfErr};
 ghost use Rattle.mt_fields.specs.Reading.{Gives, each_at, string_at};
 ghost use Rattle.mt_log.specs.Format.{header};
 ghost use Rattle.mt_log.specs.Fronts.{HasNoHeader};
-ghost use Rattle.mt_log.specs.Reading.{row_at, written_at, change_kind_at, change_at, key_at, record_at, records_at, resume_at, batch_kind_at, batch_in, batch_at};
-ghost use Rattle.mt_log.specs.Stops.{IsAtGate, IsStop, IsRead, IsBadRead};
+ghost use Rattle.mt_log.specs.Reading.{row_at, written_at, change_kind_at, change_at, key_at, record_at, records_at, resume_at, batch_kind_at, batch_in};
+ghost use Rattle.mt_log.specs.Stops.{IsHead, IsStart, IsBadStart, IsBehind};
 
-use crate::batch::{Front, LogBatch, LoggedBatch, is_step};
+use crate::batch::{LogBatch, LoggedBatch, is_step};
 use crate::fault::{DecodeFault, ReadFault};
 use crate::gate::OPEN;
-use mt_fields::{slice_of, string_of, u8_at, u32_at, u64_at};
+use mt_fields::{string_of, u8_at, u32_at, u64_at};
 use mt_rows::key::USER_KEY_BYTES;
 use mt_rows::{Column, Key, Record, Row};
 use std::alloc::{AllocError, Global};
@@ -22,32 +22,23 @@ pub const HEADER_BYTES: usize = 8;
 // The greatest number of logs.
 const MAX_LOGS: u8 = 64;
 
-/// A log's front as it was read: the gate at `end` is its first that isn't open.
-#[derive(Drop)]
-pub struct Found {
-    pub front: Front,
-    pub end: usize,
-    pub gate: u8,
-    pub mark: u64,
-}
-
-/// What stands at a gate.
-#[derive(Drop)]
-pub enum AtGate {
+/// What stands at a gate, by its first bytes alone.
+#[derive(Clone, Copy)]
+pub enum Head {
     /// A gate that isn't open.
     Shut(u8),
-    /// An open gate and a batch, of this many bytes together.
-    Open(LogBatch, usize),
-    /// Neither.
+    /// An open gate before a body of so many bytes.
+    Open(u32),
+    /// No gate, or an open one without a whole length.
     Bad,
 }
 
-/// Where batches stop: at the gate at this place, or at what isn't in the format.
-#[derive(Drop)]
-pub struct Stop {
-    pub place: usize,
-    pub gate: Option<u8>,
-    pub mark: u64,
+/// What a log begins with: whose it is, of how many, and what stands at its first gate.
+#[derive(Clone, Copy)]
+pub struct Start {
+    pub worker: u8,
+    pub logs: u8,
+    pub head: Head,
 }
 
 /// The header of one of so many logs, in format 1.
@@ -57,10 +48,10 @@ pub fn header(worker: u8, logs: u8) -> [u8; 8]
     [b'M', b'T', b'L', b'O', b'G', 1, worker, logs]
 }
 
-/// The front of a log.
-pub fn front_of(alloc: Global, bytes: &[u8]) -> Result<Found, ReadFault>
-    ensures ok { IfOk result (IsRead bytes.now) }
-    ensures err { IfErr result (IsBadRead bytes.now) }
+/// What a log begins with, by its first bytes.
+pub fn start_of(bytes: &[u8]) -> Result<Start, ReadFault>
+    ensures ok { IfOk result (IsStart bytes.now) }
+    ensures err { IfErr result (IsBadStart bytes.now) }
 {
     let Some((worker, logs)) = header_of(bytes) else {
         return Err(ReadFault::Bad {
@@ -74,29 +65,9 @@ pub fn front_of(alloc: Global, bytes: &[u8]) -> Result<Found, ReadFault>
             offset: 0,
         });
     }
-    let (_, rest) = bytes.split_at(HEADER_BYTES);
-    let mut batches = Vec::new(alloc);
-    let stop = match batches_of(alloc, rest, &mut batches) {
-        Ok(stop) => stop,
-        Err(_) => return Err(ReadFault::Memory),
-    };
-    let end = HEADER_BYTES + stop.place;
-    match stop.gate {
-        Some(gate) => Ok(Found {
-            front: Front {
-                worker,
-                logs,
-                batches,
-            },
-            end,
-            gate,
-            mark: stop.mark,
-        }),
-        None => Err(ReadFault::Bad {
-            number: worker,
-            offset: end as u64,
-        }),
-    }
+    let (_, behind) = bytes.split_at(HEADER_BYTES);
+    let head = head_of(behind);
+    Ok(Start { worker, logs, head })
 }
 
 // The worker and the number of logs that a header names.
@@ -116,72 +87,39 @@ fn header_of(bytes: &[u8]) -> Option<(u8, u8)>
     }
 }
 
-// Batches one behind the other, up to the first gate that isn't open.
-fn batches_of(alloc: Global, bytes: &[u8], batches: &mut Vec<LogBatch>) -> Result<Stop, AllocError>
-    requires { batches.old.items ≡ [] }
-    ensures { IfOk result (IsStop bytes.now batches.new.items) }
+// A gate, and where it is open the length behind it.
+fn head_of(bytes: &[u8]) -> Head
+    ensures { IsHead bytes.now result }
 {
-    let mut place = 0;
-    let mut mark = 0;
-    loop {
-        let (_, rest) = bytes.split_at(place);
-        match at_gate(alloc, rest)? {
-            AtGate::Shut(gate) => {
-                return Ok(Stop {
-                    place,
-                    gate: Some(gate),
-                    mark,
-                });
-            }
-            AtGate::Bad => {
-                return Ok(Stop {
-                    place,
-                    gate: None,
-                    mark,
-                });
-            }
-            AtGate::Open(batch, len) => {
-                place += len;
-                mark = batch.to();
-                batches.push(batch)?;
-            }
-        }
+    let [gate, behind @ ..] = bytes else {
+        return Head::Bad;
+    };
+    if *gate != OPEN {
+        return Head::Shut(*gate);
+    }
+    match behind {
+        [a, b, c, d, ..] => Head::Open(u32::from_be_bytes([*a, *b, *c, *d])),
+        _ => Head::Bad,
     }
 }
 
-// What stands at a gate.
-fn at_gate(alloc: Global, bytes: &[u8]) -> Result<AtGate, AllocError>
-    ensures { IfOk result (IsAtGate bytes.now) }
+/// The batch whose body the first so many bytes are, and what stands at the gate behind it. None where they
+/// are no batch's body.
+pub fn batch_of(
+    alloc: Global,
+    size: usize,
+    bytes: &[u8],
+) -> Result<Option<(LogBatch, Head)>, AllocError>
+    requires few { size < 2 ^ 32 }
+    requires within { size ≤ length bytes.now }
+    ensures { IfOk result (IsBehind size bytes.now) }
 {
-    match bytes {
-        [] => Ok(AtGate::Bad),
-        [gate, behind @ ..] => behind_gate(alloc, *gate, behind),
-    }
-}
-
-// What stands at this gate, by what stands behind it.
-fn behind_gate(alloc: Global, gate: u8, behind: &[u8]) -> Result<AtGate, AllocError>
-    requires { length behind.now < 2 ^ 63 }
-    ensures { IfOk result (IsAtGate (gate ∷ behind.now)) }
-{
-    if gate != OPEN {
-        return Ok(AtGate::Shut(gate));
-    }
-    match batch_of(alloc, behind) {
-        Ok((batch, rest)) => Ok(AtGate::Open(batch, 1 + (behind.len() - rest.len()))),
-        Err(DecodeFault::Bad) => Ok(AtGate::Bad),
+    let (body, behind) = bytes.split_at(size);
+    match body_of(alloc, body) {
+        Ok(batch) => Ok(Some((batch, head_of(behind)))),
+        Err(DecodeFault::Bad) => Ok(None),
         Err(DecodeFault::Memory) => Err(AllocError),
     }
-}
-
-// A batch behind its length.
-#[tactic(auto, unfolding(crate::specs::Reading::batch_at))]
-fn batch_of(alloc: Global, bytes: &[u8]) -> Result<(LogBatch, &[u8]), DecodeFault>
-    ensures { Gives (λ x. (x.0, x.1.now)) result (batch_at bytes.now) }
-{
-    let (len, rest) = u32_at(bytes)?;
-    let (body, rest) = slice_of(len as usize, rest)?;
-    Ok((body_of(alloc, body)?, rest))
 }
 
 // A batch that takes all of the bytes.

@@ -65,7 +65,7 @@ fn goes_on(alloc: Global, whole: &[u8], fail: u64) -> Result<bool, AllocError> {
     Ok(mark == 3 && disk.image() == whole)
 }
 
-// An opening makes five calls, an append four.
+// The opening of a log without batches makes five calls, an append four.
 #[test]
 fn a_crash_or_a_failure_at_any_call_leaves_whole_batches(rt: HostRuntime) -> Result<(), Fail> {
     let alloc = rt.alloc();

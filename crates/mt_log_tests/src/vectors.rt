@@ -2,7 +2,7 @@
 
 use crate::logs::{EMPTY, Told, append, append_none, disk_with, not_opened, opened, opened_on};
 use mt_disk::MemDisk;
-use mt_log::{LogFile, ResumeFault};
+use mt_log::{Front, LogBatch, LogFile, ResumeFault};
 use std::alloc::{AllocError, Global};
 use std::test::Fail;
 
@@ -29,6 +29,27 @@ fn front_of(alloc: Global, disk: MemDisk) -> Result<String, AllocError> {
             drop(not_opened(fault).0);
             Err(AllocError)
         }
+    }
+}
+
+// The stamps of what a front's batches hold. The records are moved out of it.
+fn stamps_of(alloc: Global, front: Front) -> Result<Vec<u64>, AllocError> {
+    let mut stamps = Vec::new(alloc);
+    for batch in front.batches {
+        if let LogBatch::Records(batch) = batch {
+            for record in batch.into_records() {
+                stamps.push(record.stamp)?;
+            }
+        }
+    }
+    Ok(stamps)
+}
+
+// Whether these are the stamps in the front of a disk.
+fn has_stamps(alloc: Global, disk: MemDisk, stamps: &[u64]) -> Result<bool, AllocError> {
+    match LogFile::open(alloc, disk) {
+        Ok((_log, front)) => Ok(stamps_of(alloc, front)?.as_slice() == stamps),
+        Err(_) => Ok(false),
     }
 }
 
@@ -61,17 +82,18 @@ fn the_vector_is_written_and_read(rt: HostRuntime) -> Result<(), Fail> {
     let (disk, told) = made(alloc, MemDisk::new(alloc, None, None), 0);
     assert!(rt; told == Told::Front(9, 2) && disk.image() == VECTOR.as_slice());
     assert_eq!(rt; front_of(alloc, disk)?.as_str(), FRONT);
+    assert!(rt; has_stamps(alloc, disk_with(alloc, &VECTOR, 0, 99)?, &[5])?);
     let (_disk, told) = made(alloc, MemDisk::new(alloc, None, None), 2);
     assert!(rt; told == Told::Turn(2, 0));
     Ok(())
 }
 
-// A creation makes three calls, an append four, an opening five. What one wrote before it failed is found
-// by a later opening, where all of it was written.
+// A creation makes three calls, an append four, an opening five and one for each batch. What one wrote
+// before it failed is found by a later opening, where all of it was written.
 #[test]
 fn a_call_that_fails_gives_the_disk_back(rt: HostRuntime) {
     let alloc = rt.alloc();
-    for fail in 1..17 {
+    for fail in 1..19 {
         let (disk, told) = made(alloc, MemDisk::new(alloc, Some(fail), None), 0);
         assert!(rt; told == Told::Device, "{fail} failing: {told:?}");
         let (_disk, told) = opened_on(alloc, disk);
@@ -123,6 +145,12 @@ fn each_prefix_and_changed_byte_is_told_for_what_it_is(rt: HostRuntime) -> Resul
         (54, 7, Told::Front(6, 1)),
         (84, 7, Told::Front(9, 2)),
         (84, 1, Told::Bad(0, 84)),
+        // A length past the end of the file, one that is too short, and one that takes in the next gate.
+        (9, 255, Told::Bad(0, 8)),
+        (12, 40, Told::Bad(0, 8)),
+        (55, 255, Told::Bad(0, 54)),
+        (58, 26, Told::Bad(0, 54)),
+        (58, 27, Told::Bad(0, 54)),
         // The kind of a batch, and an end past the greatest step.
         (13, 1, Told::Bad(0, 8)),
         (13, 2, Told::Bad(0, 8)),

@@ -1,0 +1,27 @@
+-- What the first bytes of a file begin with, the file does.
+use Rattle.std.proofs.Common.{◌∙◌, length, ap, arith}
+use Rattle.std.proofs.lemmas.Result.{IfOk-weaker, IfErr-weaker}
+use Rattle.mt_log.specs.Stops.{IsStart, IsBadStart, IsStartOf, IsFaultOf}
+use Rattle.mt_log.proofs.ReadLaws.{start_of_image, fault_of_start}
+use Rattle.mt_log.proofs.windows.read_start.Goals as goal
+
+pub returns-clause-ok : goal.returns-clause-ok
+returns-clause-ok g c =
+    let w = c.deref.result.now in
+    let size = c.in_ok-bytes.ensures.ok.size in
+    IfOk-weaker c.start_of.result (IsStart w) (IsStartOf g.D.Disk.is_honest g.D.Disk.state c.args.disk.now c.args.len)
+    (λ start is. record {
+      worker = is.worker;
+      logs = is.logs;
+      whole = omega (arith, size, ap length c.deref.ensures.value, ap length is.header);
+      told =
+          start_of_image g.D.Disk.is_honest g.D.Disk.state c.args.disk.now c.args.len w start (λ honest has. c.deref.ensures.value ∙ c.in_ok-bytes.ensures.ok.told honest has) is;
+    })
+    c.start_of.ensures.ok
+
+pub returns-clause-err : goal.returns-clause-err
+returns-clause-err g c =
+    let w = c.deref.result.now in
+    IfErr-weaker c.start_of.result (IsBadStart w) (IsFaultOf g.D.Disk.is_honest g.D.Disk.state c.args.disk.now c.args.len)
+    (λ e bad. fault_of_start g.D.Disk.is_honest g.D.Disk.state c.args.disk.now c.args.len w e (λ honest has. c.deref.ensures.value ∙ c.in_ok-bytes.ensures.ok.told honest has) bad)
+    c.start_of.ensures.err

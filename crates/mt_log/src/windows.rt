@@ -1,0 +1,225 @@
+//! A log's front, read from its disk a batch at a time.
+//!
+//! Of the file no more is held than one body, with the gate and the length behind it. A length counts only
+//! where as many bytes follow in the file, so that no more is allocated than the file has.
+
+ghost use Rattle.std.specs.Prelude.{◌≡◌, ◌<◌, ◌≤◌, ◌+◌, ◌-◌, ◌^◌, [], drop, IsTrue, IfOk, IfErr, MatchResult};
+ghost use Rattle.mt_rows.specs.Rows.{Bytes};
+ghost use Rattle.mt_log.specs.declared.fault.ReadFault.TheVariants.{Bad};
+ghost use Rattle.mt_log.specs.Stops.{CountsReads, IsWindow, OfImage, IsHead, IsOpenGate, IsAtGate, FitsGate, AreBatches, IsHeader, IsStop, IsFoundAt, IsRead, IsBadRead, IsNotBad, IsStartOf, IsStopOf, IsFrontOf, IsFaultOf};
+
+use crate::batch::{Front, LogBatch};
+use crate::fault::ReadFault;
+use crate::reader::{HEADER_BYTES, Head, Start, batch_of, start_of};
+use mt_disk::Disk;
+use std::alloc::Global;
+
+// The bytes of a gate and of the length behind it.
+const HEAD_BYTES: usize = 5;
+
+/// A log's front as it was read: the gate at `end` is its first that isn't open.
+#[derive(Drop)]
+pub struct Found {
+    pub front: Front,
+    pub end: usize,
+    pub gate: u8,
+    pub mark: u64,
+}
+
+/// What stands at a gate.
+#[derive(Drop)]
+pub enum AtGate {
+    /// A gate that isn't open.
+    Shut(u8),
+    /// An open gate and a batch, of this many bytes together; and what stands at the gate behind them.
+    Open(LogBatch, usize, Head),
+    /// Neither.
+    Bad,
+}
+
+/// Where batches stop: at the gate at this place, or at what isn't in the format.
+#[derive(Drop)]
+pub struct Stop {
+    pub place: usize,
+    pub gate: Option<u8>,
+    pub mark: u64,
+}
+
+/// The front of a log, from a file of this length.
+pub(crate) fn read_front<D: Disk>(
+    alloc: Global,
+    disk: &mut D,
+    len: usize,
+) -> Result<Found, ReadFault>
+    requires { len < 2 ^ 63 }
+    ensures ok { IfOk result (IsFrontOf D.is_honest D.state disk.old len) }
+    ensures err { IfErr result (IsFaultOf D.is_honest D.state disk.old len) }
+    ensures same { IsTrue (D.is_honest disk.old) → D.state disk.new ≡ D.state disk.old }
+    ensures honest { D.is_honest disk.new ≡ D.is_honest disk.old }
+    ensures count { CountsReads result (D.failures disk.old) (D.failures disk.new) }
+{
+    let start = read_start(alloc, disk, len)?;
+    let mut batches = Vec::new(alloc);
+    let stop = read_batches(alloc, disk, len, start.head, &mut batches)?;
+    found_of(start, batches, &stop)
+}
+
+// The front that begins so, and whose batches stop there.
+fn found_of(start: Start, batches: Vec<LogBatch>, stop: &Stop) -> Result<Found, ReadFault>
+    requires worker { start.worker < start.logs }
+    requires logs { start.logs ≤ 64 }
+    requires batches { AreBatches stop.now.mark batches.items }
+    ensures ok { IfOk result (IsFoundAt stop.now.place) }
+    ensures err { IfErr result (λ e. e ≡ Bad start.worker stop.now.place) }
+    ensures told { (image : Bytes) → IsHeader image start → IsStop image batches.items stop.now → MatchResult result (IsRead image) (IsBadRead image) }
+{
+    let Start { worker, logs, .. } = start;
+    match stop.gate {
+        Some(gate) => Ok(Found {
+            front: Front {
+                worker,
+                logs,
+                batches,
+            },
+            end: stop.place,
+            gate,
+            mark: stop.mark,
+        }),
+        None => Err(ReadFault::Bad {
+            number: worker,
+            offset: stop.place as u64,
+        }),
+    }
+}
+
+// What a log begins with, from a file of this length.
+fn read_start<D: Disk>(alloc: Global, disk: &mut D, len: usize) -> Result<Start, ReadFault>
+    ensures ok { IfOk result (IsStartOf D.is_honest D.state disk.old len) }
+    ensures err { IfErr result (IsFaultOf D.is_honest D.state disk.old len) }
+    ensures same { IsTrue (D.is_honest disk.old) → D.state disk.new ≡ D.state disk.old }
+    ensures honest { D.is_honest disk.new ≡ D.is_honest disk.old }
+    ensures count { CountsReads result (D.failures disk.old) (D.failures disk.new) }
+{
+    let bytes = read_window(alloc, disk, len, 0, HEADER_BYTES + HEAD_BYTES)?;
+    start_of(&bytes)
+}
+
+// Batches one behind the other, up to the first gate that isn't open; this stands at the first one.
+fn read_batches<D: Disk>(
+    alloc: Global,
+    disk: &mut D,
+    len: usize,
+    first: Head,
+    batches: &mut Vec<LogBatch>,
+) -> Result<Stop, ReadFault>
+    requires none { batches.old.items ≡ [] }
+    requires header { 8 ≤ len }
+    requires short { len < 2 ^ 63 }
+    ensures ok { IfOk result (IsStopOf D.is_honest D.state disk.old len first batches.new.items) }
+    ensures err { IfErr result IsNotBad }
+    ensures same { IsTrue (D.is_honest disk.old) → D.state disk.new ≡ D.state disk.old }
+    ensures honest { D.is_honest disk.new ≡ D.is_honest disk.old }
+    ensures count { CountsReads result (D.failures disk.old) (D.failures disk.new) }
+{
+    let mut place = HEADER_BYTES;
+    let mut mark = 0;
+    let mut head = first;
+    loop {
+        match at_gate(alloc, disk, len, place, head)? {
+            AtGate::Shut(gate) => {
+                return Ok(Stop {
+                    place,
+                    gate: Some(gate),
+                    mark,
+                });
+            }
+            AtGate::Bad => {
+                return Ok(Stop {
+                    place,
+                    gate: None,
+                    mark,
+                });
+            }
+            AtGate::Open(batch, size, next) => {
+                place += size;
+                mark = batch.to();
+                head = next;
+                batches.push(batch)?;
+            }
+        }
+    }
+}
+
+// What stands at a gate, where this stands by its first bytes.
+fn at_gate<D: Disk>(
+    alloc: Global,
+    disk: &mut D,
+    len: usize,
+    place: usize,
+    head: Head,
+) -> Result<AtGate, ReadFault>
+    requires within { place ≤ len }
+    requires short { len < 2 ^ 63 }
+    ensures fits { IfOk result (FitsGate (len - place)) }
+    ensures told { IfOk result (λ at. OfImage D.is_honest D.state disk.old len (λ image. IsHead (drop place image) head → IsAtGate (drop place image) at)) }
+    ensures err { IfErr result IsNotBad }
+    ensures same { IsTrue (D.is_honest disk.old) → D.state disk.new ≡ D.state disk.old }
+    ensures honest { D.is_honest disk.new ≡ D.is_honest disk.old }
+    ensures count { CountsReads result (D.failures disk.old) (D.failures disk.new) }
+{
+    let size = match head {
+        Head::Shut(gate) => return Ok(AtGate::Shut(gate)),
+        Head::Bad => return Ok(AtGate::Bad),
+        Head::Open(size) => size as usize,
+    };
+    if len - place < HEAD_BYTES + size {
+        return Ok(AtGate::Bad);
+    }
+    read_batch(alloc, disk, len, place, size)
+}
+
+// What stands at an open gate before a body of so many bytes, which the file has.
+fn read_batch<D: Disk>(
+    alloc: Global,
+    disk: &mut D,
+    len: usize,
+    place: usize,
+    size: usize,
+) -> Result<AtGate, ReadFault>
+    requires few { size < 2 ^ 32 }
+    requires within { place + (5 + size) ≤ len }
+    requires short { len < 2 ^ 63 }
+    ensures fits { IfOk result (FitsGate (len - place)) }
+    ensures told { IfOk result (λ at. OfImage D.is_honest D.state disk.old len (λ image. IsOpenGate (drop place image) size → IsAtGate (drop place image) at)) }
+    ensures err { IfErr result IsNotBad }
+    ensures same { IsTrue (D.is_honest disk.old) → D.state disk.new ≡ D.state disk.old }
+    ensures honest { D.is_honest disk.new ≡ D.is_honest disk.old }
+    ensures count { CountsReads result (D.failures disk.old) (D.failures disk.new) }
+{
+    let bytes = read_window(alloc, disk, len, place + HEAD_BYTES, size + HEAD_BYTES)?;
+    match batch_of(alloc, size, &bytes)? {
+        Some((batch, next)) => Ok(AtGate::Open(batch, HEAD_BYTES + size, next)),
+        None => Ok(AtGate::Bad),
+    }
+}
+
+// Up to so many bytes of a file of this length, from a place in it on: as many as it has.
+fn read_window<D: Disk>(
+    alloc: Global,
+    disk: &mut D,
+    len: usize,
+    place: usize,
+    count: usize,
+) -> Result<Vec<u8>, ReadFault>
+    requires { place ≤ len }
+    ensures ok { IfOk result (IsWindow D.is_honest D.state disk.old len place count) }
+    ensures err { IfErr result IsNotBad }
+    ensures same { IsTrue (D.is_honest disk.old) → D.state disk.new ≡ D.state disk.old }
+    ensures honest { D.is_honest disk.new ≡ D.is_honest disk.old }
+    ensures count { CountsReads result (D.failures disk.old) (D.failures disk.new) }
+{
+    let size = count.min(len - place);
+    let mut bytes = Vec::from_elem(alloc, 0, size)?;
+    disk.read(place, &mut bytes)?;
+    Ok(bytes)
+}
