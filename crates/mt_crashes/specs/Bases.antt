@@ -1,0 +1,37 @@
+-- The pairs from which a recovery replays: what a checkpoint that was written while the store ran has to be for that.
+use Rattle.std.specs.Prelude.{◌≡◌, ◌≢◌, ◌⊎◌, ℕ, ◌<◌, ◌≤◌, true, nat_lt, List, Option}
+use Rattle.std.specs.List.{filter}
+use Rattle.std.specs.FinMap as pairs
+use Rattle.mt_rows.specs.Rows.{Bytes}
+use Rattle.mt_rows.specs.Tenants.{Contents as Pairs}
+use Rattle.mt_crashes.specs.Fronts.{Numbers, In, is_void, key_of}
+use Rattle.mt_crashes.specs.Histories.{Placed, pairs_upto}
+
+-- the changes with a number over n
+abbrev pub over : ℕ → List Placed → List Placed
+over n history = filter (λ p. nat_lt n p.change.stamp) history
+
+-- no change over one number and up to another is of this tenant's key
+abbrev pub Stays : ℕ × Bytes → ℕ → ℕ → List Placed → Type 0
+Stays key from to history = (p : Placed) → In p history → from < p.change.stamp → p.change.stamp ≤ to → key_of p.change ≢ key
+
+-- Pairs that were walked between two numbers: each key that stayed throughout, present or absent, is there as it was. Of the others nothing is
+-- asked: each has a change after the first number, whose record holds the full row.
+abbrev pub IsBase : ℕ → ℕ → List Placed → Pairs → Type 0
+IsBase from to history base = (key : ℕ × Bytes) → Stays key from to history → pairs.get base key ≡ pairs.get (pairs_upto from history) key
+
+-- a checkpoint: walked from one number to another, with these pairs
+pub record CheckpointView : Type 0 where
+  pub from : ℕ
+  pub to : ℕ
+  pub pairs : Pairs
+
+-- what was read of the slots, in their order
+abbrev pub Slots : Type 0
+Slots = List (Option CheckpointView)
+
+-- A checkpoint of a store: its walk has ended, and it is a base of the history; or a recovery made it void as a whole.
+pub record IsCheckpointOf (steps : ℕ) (voids : List Numbers) (history : List Placed) (c : CheckpointView) : Type 0 where
+  pub order : c.from ≤ c.to
+  pub made : c.to ≤ steps
+  pub base : (is_void voids c.to ≡ true) ⊎ IsBase c.from c.to history c.pairs

@@ -1,0 +1,98 @@
+-- What the fronts of all logs tell together: where they end, which numbers are void, and what is replayed.
+use Rattle.std.specs.Prelude.{◌≡◌, ◌⊎◌, ℕ, ◌<◌, min, max, Bool, true, not, ◌&&◌, nat_lt, List, [], ◌∷◌, map, Option, Some, None}
+use Rattle.std.specs.List.{filter, filter_map, flat_map, list_any}
+use Rattle.std.specs.List.Sorted.{IsPermutation}
+use Rattle.mt_rows.specs.Rows.{Bytes}
+use Rattle.mt_rows.specs.Tenants.{Contents as Pairs}
+use Rattle.mt_rows.specs.declared.record.Record.{Record}
+use Rattle.mt_log.specs.declared.batch.LogBatch.{LogBatch}
+use Rattle.mt_log.specs.declared.batch.LogBatch.TheVariants.{Records, Resume}
+use Rattle.mt_log.specs.Contents.{Contents, mark_of}
+use Rattle.mt_tape.specs.Histories.{with_row}
+
+-- the least of some numbers, 0 of none
+abbrev pub least : List ℕ → ℕ
+least [] = 0
+least (n ∷ []) = n
+least (n ∷ m ∷ ms) = min n (least (m ∷ ms))
+
+-- the greatest of some numbers, 0 of none
+abbrev pub greatest : List ℕ → ℕ
+greatest [] = 0
+greatest (n ∷ ns) = max n (greatest ns)
+
+-- The cutoff: the least end over the fronts of all logs. Each log has its worker's changes up to there.
+abbrev pub cutoff_of : List Contents → ℕ
+cutoff_of fronts = least (map mark_of fronts)
+
+-- the greatest end
+abbrev pub last_end : List Contents → ℕ
+last_end fronts = greatest (map mark_of fronts)
+
+-- the numbers over one and up to another
+abbrev pub Numbers : Type 0
+Numbers = ℕ × ℕ
+
+-- the numbers that a batch makes void: those over what a recovery kept, up to the number from which the store then went on
+abbrev pub voids_in : LogBatch → Option Numbers
+voids_in (Records b) = None
+voids_in (Resume from to kept) = Some (kept, to)
+
+-- whether a number is void
+abbrev pub is_void : List Numbers → ℕ → Bool
+is_void voids n = list_any (λ v. nat_lt v.0 n && not (nat_lt v.1 n)) voids
+
+-- what one log makes void, and what all do
+abbrev pub voids_of : Contents → List Numbers
+voids_of front = filter_map voids_in front.batches
+
+abbrev pub all_voids : List Contents → List Numbers
+all_voids fronts = flat_map voids_of fronts
+
+-- the records of a batch, of a log, and of all logs
+abbrev pub records_in : LogBatch → List Record
+records_in (Records b) = b.records
+records_in (Resume from to kept) = []
+
+abbrev pub records_of : Contents → List Record
+records_of front = flat_map records_in front.batches
+
+abbrev pub all_records : List Contents → List Record
+all_records fronts = flat_map records_of fronts
+
+-- whether a record is replayed: its stamp is over the base, at most the cutoff, and not void
+abbrev pub is_replayed : List Numbers → ℕ → ℕ → Record → Bool
+is_replayed voids base cutoff r = nat_lt base r.stamp && not (nat_lt cutoff r.stamp) && not (is_void voids r.stamp)
+
+-- x stands in a list
+abbrev pub In : {X : Type 0} → X → List X → Type 0
+In x [] = ⊥
+In x (y ∷ ys) = (x ≡ y) ⊎ In x ys
+
+-- stamps rise strictly over a number
+abbrev pub Rise : ℕ → List Record → Type 0
+Rise over [] = Unit {0}
+Rise over (r ∷ rs) = (over < r.stamp) × Rise r.stamp rs
+
+-- whether they do
+abbrev pub rises : ℕ → List Record → Bool
+rises over [] = true
+rises over (r ∷ rs) = nat_lt over r.stamp && rises r.stamp rs
+
+-- what is replayed over a base: all such records of all logs, in the order of their stamps
+pub record IsReplay (base : ℕ) (fronts : List Contents) (rs : List Record) : Type 0 where
+  pub same : IsPermutation (filter (is_replayed (all_voids fronts) base (cutoff_of fronts)) (all_records fronts)) rs
+  pub rises : Rise base rs
+
+-- the key of a record, with its tenant
+abbrev pub key_of : Record → ℕ × Bytes
+key_of r = (r.tenant, r.key)
+
+-- the pairs after a change: its key has the row that the record tells, or none
+abbrev pub with_change : Pairs → Record → Pairs
+with_change m r = with_row m (key_of r) r.row
+
+-- the pairs after changes, one after the other
+abbrev pub after_changes : Pairs → List Record → Pairs
+after_changes m [] = m
+after_changes m (r ∷ rs) = after_changes (with_change m r) rs

@@ -1,0 +1,36 @@
+-- How scans that ran beside changes make a base: the pages of a tenant, from its first key on.
+use Rattle.std.specs.Prelude.{◌≡◌, ℕ, ◌<◌, ◌≤◌, Bool, true, false, List, [], ◌∷◌, map, length}
+use Rattle.std.specs.List.{Contains, flat_map}
+use Rattle.std.specs.FinMap as pairs
+use Rattle.mt_rows.specs.Rows.{Bytes, Columns}
+use Rattle.mt_rows.specs.Maps.{Map}
+use Rattle.mt_rows.specs.Tenants.{Contents as Pairs, tenant_map}
+use Rattle.mt_runs.specs.Scans.{IsLawful}
+use Rattle.mt_crashes.specs.Histories.{Placed, map_upto}
+
+-- what one scan showed
+abbrev pub Page : Type 0
+Page = List (Bytes × Columns)
+
+-- from one step to another
+abbrev pub IsFromTo : ℕ → ℕ → ℕ → Type 0
+IsFromTo from to m = (from ≤ m) × (m ≤ to)
+
+-- Pages of scans of all columns, each lawful by a tenant's maps from one step to another, up to `count` pairs a page: the first from a
+-- key on or after it, each later one after a key of the one before it. All are full but the last.
+abbrev pub Walks : (ℕ → Map) → ℕ → ℕ → ℕ → Bytes → Bool → List Page → Type 0
+Walks maps from to count start after [] = ⊥
+Walks maps from to count start after (page ∷ []) = IsLawful maps (IsFromTo from to) start after count [] page × (length page < count)
+Walks maps from to count start after (page ∷ next ∷ pages) =
+    (last : Bytes) × IsLawful maps (IsFromTo from to) start after count [] page × Contains (map (λ p. p.0) page) last
+    × Walks maps from to count last true (next ∷ pages)
+
+-- pages one behind the other
+abbrev pub joined : List Page → Page
+joined pages = flat_map (λ page. page) pages
+
+-- every tenant's part of some pairs is what its pages showed
+abbrev pub AreWalked : ℕ → ℕ → ℕ → List Placed → Pairs → Type 0
+AreWalked from to count history base =
+    (t : ℕ) → (pages : List Page) × Walks (λ m. map_upto m history t) from to count [] false pages
+    × (tenant_map t base ≡ pairs.from_entries (joined pages))

@@ -1,0 +1,124 @@
+//! Laws of crashes and recoveries, each the contract of a function that does nothing.
+
+ghost use Rattle.std.specs.Prelude.{◌≡◌, ◌≢◌, ◌⊎◌, ◌<◌, ◌≤◌, ℕ, true, false, List, [], ◌∷◌, length, Option, Some, None, slice_get};
+ghost use Rattle.std.specs.FinMap as pairs;
+ghost use Rattle.mt_rows.specs.Tenants.{Contents as Pairs};
+ghost use Rattle.mt_rows.specs.Rows.{Bytes};
+ghost use Rattle.mt_rows.specs.declared.record.Record.{Record};
+ghost use Rattle.mt_disk.specs.Disk.{DiskState, MayLeave, LeavesOnly, found_with};
+ghost use Rattle.mt_log.specs.declared.batch.LogBatch.{LogBatch};
+ghost use Rattle.mt_log.specs.Contents.{Contents, IsContents, JoinsAndRises, mark_of, log_bytes, with_batch};
+ghost use Rattle.mt_log.specs.Fronts.{HasFront, IsLeft, IsAtRest};
+ghost use Rattle.mt_crashes.specs.Fronts.{In, cutoff_of, is_void, all_voids, all_records, key_of, after_changes};
+ghost use Rattle.mt_crashes.specs.Histories.{pairs_upto};
+ghost use Rattle.mt_crashes.specs.Bases.{CheckpointView, Slots, IsBase};
+ghost use Rattle.mt_crashes.specs.Walks.{AreWalked};
+ghost use Rattle.mt_crashes.specs.Recoveries.{MayUse, HasSlot, IsRecovered, AreSet, StandsTwice, HasTenants, KeepsQuotas};
+ghost use Rattle.mt_crashes.specs.Examples.{change, fronts_of_two};
+ghost use Rattle.mt_crashes.specs.Stores.{Store, new_store, Leads, MayLeaveFronts, MayLeaveSlots, ReachesAt, AllReach};
+
+/// Whatever has happened to a store of 1 to 64 logs, and whatever a crash then leaves of each and of the
+/// checkpoints: a recovery gives the pairs of its history up to the cutoff.
+pub fn a_crash_leaves_what_is_recovered()
+    ensures { (count n : ℕ) (s : Store) (fronts : List Contents) (read : Slots) (cutoff resume : ℕ) (used : Option ℕ) (found : Pairs) →
+        0 < count → count ≤ 64 → Leads n (new_store count) s → MayLeaveFronts s.logs fronts → MayLeaveSlots s.slots read →
+        IsRecovered fronts read cutoff resume used found → found ≡ pairs_upto cutoff s.history }
+{}
+
+/// A log never goes back, whatever crashes leave of it; and what all logs reach is at most the cutoff. So
+/// the least of what each log was seen to reach, at whatever time, is at most every later cutoff.
+pub fn a_settled_number_is_kept()
+    ensures never_back { (count m n k worker : ℕ) (s t : Store) →
+        0 < count → count ≤ 64 → Leads m (new_store count) s → ReachesAt k s worker → Leads n s t → ReachesAt k t worker }
+    ensures settled { (count n k : ℕ) (s : Store) (fronts : List Contents) →
+        0 < count → count ≤ 64 → Leads n (new_store count) s → AllReach k s → MayLeaveFronts s.logs fronts → k ≤ cutoff_of fronts }
+{}
+
+/// Whatever a crash leaves: the logs are a set, each of them its worker's, in the format, with batches that
+/// join and rise; and no stamp stands in two of them. So a recovery refuses none of them for any of these.
+pub fn a_crash_leaves_a_set()
+    ensures set { (count n : ℕ) (s : Store) (fronts : List Contents) →
+        0 < count → count ≤ 64 → Leads n (new_store count) s → MayLeaveFronts s.logs fronts → AreSet fronts }
+    ensures own { (count n k : ℕ) (s : Store) (fronts : List Contents) (f : Contents) →
+        0 < count → count ≤ 64 → Leads n (new_store count) s → MayLeaveFronts s.logs fronts →
+        slice_get fronts k ≡ Some f → IsContents f × (f.worker ≡ k) }
+    ensures joins { (count n k : ℕ) (s : Store) (fronts : List Contents) (f : Contents) →
+        0 < count → count ≤ 64 → Leads n (new_store count) s → MayLeaveFronts s.logs fronts →
+        slice_get fronts k ≡ Some f → JoinsAndRises f }
+    ensures apart { (count n stamp i j : ℕ) (s : Store) (fronts : List Contents) →
+        0 < count → count ≤ 64 → Leads n (new_store count) s → MayLeaveFronts s.logs fronts → ¬ StandsTwice fronts stamp i j }
+{}
+
+/// Where every map of the history keeps the quotas, so does what is recovered: a recovery of the store's own
+/// files is refused for no tenant that has no quota, and for none that has too many pairs.
+pub fn own_pairs_keep_quotas()
+    ensures { (quota : ℕ → Option ℕ) (count n : ℕ) (s : Store) (fronts : List Contents) (read : Slots) (cutoff resume : ℕ) (used : Option ℕ)
+        (found : Pairs) →
+        0 < count → count ≤ 64 → Leads n (new_store count) s → MayLeaveFronts s.logs fronts → MayLeaveSlots s.slots read →
+        IsRecovered fronts read cutoff resume used found →
+        ((m : ℕ) → HasTenants quota (pairs_upto m s.history) × KeepsQuotas quota (pairs_upto m s.history)) →
+        HasTenants quota found × KeepsQuotas quota found }
+{}
+
+/// Lawful scans of all tenants between two steps, page after page, make a base.
+pub fn lawful_scans_make_a_base()
+    ensures { (count n from to page : ℕ) (s : Store) (base : Pairs) →
+        0 < count → count ≤ 64 → Leads n (new_store count) s → from ≤ to → AreWalked from to page s.history base → IsBase from to s.history base }
+{}
+
+/// What a crash leaves of a disk is what the store's log may leave: of a log at rest its front; of one to
+/// which a batch was being appended the front with it or without, and the file is such a one again.
+pub fn a_disk_leaves_a_front()
+    ensures rest { (c : Contents) (place : ℕ) (disk : DiskState) (image : Bytes) →
+        IsContents c → IsAtRest (log_bytes c) place disk → MayLeave disk.now image → HasFront c image }
+    ensures doubt { (c : Contents) (b : LogBatch) (first disk : DiskState) (image : Bytes) →
+        IsContents (with_batch b c) → LeavesOnly (IsLeft c b) first disk → MayLeave disk.now image →
+        (HasFront c image ⊎ HasFront (with_batch b c) image) × LeavesOnly (IsLeft c b) (found_with image) (found_with image) }
+    ensures found { (c : Contents) (b : LogBatch) (image : Bytes) → HasFront c image →
+        (place : ℕ) (disk : DiskState) → IsAtRest (log_bytes c) place disk → MayLeave disk.now image →
+        LeavesOnly (IsLeft c b) (found_with image) (found_with image) }
+{}
+
+/// What may happen can happen: a store of one log is recovered, and serves again.
+pub fn a_store_serves_again()
+    ensures { (s : Store) × Leads 4 (new_store 1) s × (s.serving ≡ true) × (length s.voids ≡ 1) }
+{}
+
+/// A recovery of two logs, the second of which ends first: the records at 1 and 3 count, the one at 2 is void,
+/// and the one at 4 is over the cutoff.
+pub fn a_recovery_takes_what_counts()
+    ensures { IsRecovered fronts_of_two (None ∷ None ∷ []) 3 4 None (after_changes pairs.empty (change 1 ∷ change 3 ∷ [])) }
+{}
+
+/// What no recovery answers: a cutoff that some log doesn't reach, or one that all logs pass; to go on from before
+/// the end of a log, or of a checkpoint; a checkpoint that is void, or that ended after the cutoff, or none where one
+/// may be used. And over no checkpoint: a pair of a key whose records are all void or over the cutoff; anything but
+/// what a key's last record tells that is neither, such as the one at the cutoff.
+pub fn wrong_recoveries_are_refused()
+    ensures cutoff_past_a_log { (k cutoff resume : ℕ) (fronts : List Contents) (f : Contents) (read : Slots) (used : Option ℕ) (found : Pairs) →
+        slice_get fronts k ≡ Some f → mark_of f < cutoff → ¬ IsRecovered fronts read cutoff resume used found }
+    ensures cutoff_before_all_logs { (cutoff resume : ℕ) (fronts : List Contents) (read : Slots) (used : Option ℕ) (found : Pairs) →
+        0 < length fronts → ((k : ℕ) (f : Contents) → slice_get fronts k ≡ Some f → cutoff < mark_of f) → ¬ IsRecovered fronts read cutoff resume used found }
+    ensures resume_before_a_log { (k cutoff resume : ℕ) (fronts : List Contents) (f : Contents) (read : Slots) (used : Option ℕ) (found : Pairs) →
+        slice_get fronts k ≡ Some f → resume < mark_of f → ¬ IsRecovered fronts read cutoff resume used found }
+    ensures resume_before_a_checkpoint { (k cutoff resume : ℕ) (fronts : List Contents) (c : CheckpointView) (read : Slots) (used : Option ℕ)
+        (found : Pairs) →
+        HasSlot read k c → resume < c.to → ¬ IsRecovered fronts read cutoff resume used found }
+    ensures over_a_void_checkpoint { (k cutoff resume : ℕ) (fronts : List Contents) (c : CheckpointView) (read : Slots) (found : Pairs) →
+        HasSlot read k c → is_void (all_voids fronts) c.to ≡ true → ¬ IsRecovered fronts read cutoff resume (Some k) found }
+    ensures over_a_late_checkpoint { (k cutoff resume : ℕ) (fronts : List Contents) (c : CheckpointView) (read : Slots) (found : Pairs) →
+        HasSlot read k c → cutoff < c.to → ¬ IsRecovered fronts read cutoff resume (Some k) found }
+    ensures over_no_checkpoint { (k cutoff resume : ℕ) (fronts : List Contents) (c : CheckpointView) (read : Slots) (found : Pairs) →
+        HasSlot read k c → MayUse fronts c → ¬ IsRecovered fronts read cutoff resume None found }
+    ensures with_what_does_not_count { (key : ℕ × Bytes) (cutoff resume : ℕ) (fronts : List Contents) (read : Slots) (found : Pairs) →
+        ((r : Record) → In r (all_records fronts) → key_of r ≡ key → (is_void (all_voids fronts) r.stamp ≡ true) ⊎ (cutoff < r.stamp)) →
+        pairs.get found key ≢ None → ¬ IsRecovered fronts read cutoff resume None found }
+    ensures without_the_last_record { (r : Record) (cutoff resume : ℕ) (fronts : List Contents) (read : Slots) (found : Pairs) →
+        In r (all_records fronts) → 0 < r.stamp → r.stamp ≤ cutoff → is_void (all_voids fronts) r.stamp ≡ false →
+        ((q : Record) → In q (all_records fronts) → key_of q ≡ key_of r → r.stamp < q.stamp →
+        (is_void (all_voids fronts) q.stamp ≡ true) ⊎ (cutoff < q.stamp)) →
+        pairs.get found (key_of r) ≢ r.row → ¬ IsRecovered fronts read cutoff resume None found }
+    ensures without_the_record_at_the_cutoff { (r : Record) (resume : ℕ) (fronts : List Contents) (read : Slots) (found : Pairs) →
+        In r (all_records fronts) → 0 < r.stamp → is_void (all_voids fronts) r.stamp ≡ false →
+        pairs.get found (key_of r) ≢ r.row → ¬ IsRecovered fronts read r.stamp resume None found }
+{}
