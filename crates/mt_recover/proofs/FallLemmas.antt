@@ -1,0 +1,58 @@
+-- A log in which nothing falls rises: for `first_twice`, and the law that nothing falls just where logs join and rise.
+use Rattle.std.proofs.Common.{◌≡◌, inl, inr, subst, ℕ, ◌≤◌, Bool, true, false, cond, List, [], ◌∷◌, ◌++◌, refl, sym, arith, Option, Some, None}
+use Rattle.std.specs.List.{flat_map}
+use Rattle.std.proofs.lemmas.Bool.{and_parts, eqb-true, ltb-true, ltb-false, not-true}
+use Rattle.mt_rows.specs.declared.record.Record.{Record}
+use Rattle.mt_log.specs.declared.batch.LogBatch.{LogBatch}
+use Rattle.mt_log.specs.declared.batch.LogBatch.TheVariants.{Records, Resume}
+use Rattle.mt_log.specs.Contents.{Contents}
+use Rattle.mt_crashes.specs.Fronts.{In, Rise, records_in, records_of}
+use Rattle.mt_crashes.proofs.Members.{no_some}
+use Rattle.mt_recover.specs.Falls.{first_of, fall_in, fall_behind, with_worker, first_fall}
+
+-- neither of two is there where the first that is there is none
+pub none_first : {X : Type 0} (one other : Option X) → first_of one other ≡ None → (one ≡ None) × (other ≡ None)
+none_first None other h = (refl, h)
+none_first (Some x) other h = absurd (no_some x (sym h))
+
+-- where the choice is none, the test held
+pub tested : (b : Bool) (x : Option ℕ) (n : ℕ) → cond b x (Some n) ≡ None → (b ≡ true) × (x ≡ None)
+tested true x n h = (refl, h)
+tested false x n h = absurd (no_some n (sym h))
+
+rise_lower : (low over : ℕ) (rs : List Record) → low ≤ over → Rise over rs → Rise low rs
+rise_lower low over [] le h = tt
+rise_lower low over (r ∷ rs) le h = (omega (arith, le, h.0), h.1)
+
+-- stamps up to a number, and then stamps over it
+rise_on : (last to : ℕ) (rs qs : List Record) → last ≤ to → fall_in last to rs ≡ None → Rise to qs → Rise last (rs ++ qs)
+rise_on last to [] qs le h over = rise_lower last to qs le over
+rise_on last to (r ∷ rs) qs le h over =
+    let is = tested _ _ _ h in
+    let tests = and_parts _ _ is.0 in
+    (ltb-true last r.stamp tests.0, rise_on r.stamp to rs qs (omega (arith, ltb-false to r.stamp (not-true _ tests.1))) is.1 over)
+
+-- batches behind a mark in which nothing falls rise over it
+risen : (mark : ℕ) (bs : List LogBatch) → fall_behind mark bs ≡ None → Rise mark (flat_map records_in bs)
+risen mark [] h = tt
+risen mark (Records b ∷ bs) h =
+    let both = none_first _ _ h in
+    let is = tested _ _ _ both.0 in
+    let tests = and_parts _ _ is.0 in
+    rise_lower mark b.from _ (omega (arith, eqb-true b.from mark tests.0))
+    (rise_on b.from b.to b.records (flat_map records_in bs) (omega (arith, ltb-false b.to b.from (not-true _ tests.1))) is.1 (risen b.to bs both.1))
+risen mark (Resume from to kept ∷ bs) h =
+    let both = none_first _ _ h in
+    let is = tested _ _ _ both.0 in
+    let tests = and_parts _ _ is.0 in
+    rise_lower mark to _ (omega (arith, eqb-true from mark tests.0, ltb-false to from (not-true _ (and_parts _ _ tests.1).0))) (risen to bs both.1)
+
+with_none : (worker : ℕ) (fall : Option ℕ) → with_worker worker fall ≡ None → fall ≡ None
+with_none worker None h = refl
+with_none worker (Some stamp) h = absurd (no_some (worker, stamp) (sym h))
+
+-- in logs of which none falls each rises
+pub front_rises : (fronts : List Contents) (f : Contents) → first_fall fronts ≡ None → In f fronts → Rise 0 (records_of f)
+front_rises [] f h at = absurd at
+front_rises (c ∷ cs) f h (inl e) = subst (λ (x : Contents). Rise 0 (records_of x)) (sym e) (risen 0 c.batches (with_none c.worker _ (none_first _ _ h).0))
+front_rises (c ∷ cs) f h (inr at) = front_rises cs f (none_first _ _ h).1 at

@@ -1,0 +1,11 @@
+pub mod Loops
+pub mod Orders
+pub mod Walks
+pub mod PairMaps
+pub mod SetLemmas
+pub mod FallLemmas
+pub mod TwiceLemmas
+pub mod QuotaLemmas
+pub mod Gathering
+pub mod FallLaws
+pub mod OwnFiles

@@ -1,0 +1,22 @@
+-- The steps to what is replayed: which records a recovery reaches, and one walk over the ranges of void numbers for all of these.
+use Rattle.std.specs.Prelude.{◌≡◌, ℕ, ◌≤◌, Bool, not, ◌&&◌, ◌||◌, nat_lt, List, drop}
+use Rattle.mt_rows.specs.declared.record.Record.{Record}
+use Rattle.mt_crashes.specs.Fronts.{Numbers, is_void}
+use Rattle.mt_recover.specs.declared.voids.Walk.{Walk}
+
+-- whether a record's stamp is over the base and at most the cutoff
+abbrev pub is_reached : ℕ → ℕ → Record → Bool
+is_reached base cutoff r = nat_lt base r.stamp && not (nat_lt cutoff r.stamp)
+
+-- whether its stamp is not void
+abbrev pub is_live : List Numbers → Record → Bool
+is_live voids r = not (is_void voids r.stamp)
+
+-- Whether a number is void, as a walk knows it: the ranges behind it count as if they held all numbers up to where they reach, and those that are left are
+-- looked at. Of a walk that has not begun this is `is_void`.
+abbrev pub is_void_behind : List Numbers → Walk → ℕ → Bool
+is_void_behind voids walk n = (nat_lt 0 n && not (nat_lt walk.reach n)) || is_void (drop walk.next voids) n
+
+-- two tests agree on a number and all over it
+abbrev pub AgreeFrom : ℕ → (ℕ → Bool) → (ℕ → Bool) → Type 0
+AgreeFrom from p q = (n : ℕ) → from ≤ n → p n ≡ q n

@@ -1,0 +1,135 @@
+//! The records that a recovery replays.
+
+ghost use Rattle.std.specs.Prelude.{◌≡◌, [], ◌∷◌, ◌++◌, map, if◌then◌else◌, IfOk, OnOk, IsPermutation};
+ghost use Rattle.std.specs.List.{filter};
+ghost use Rattle.mt_log.specs.Contents.{contents_of};
+ghost use Rattle.mt_crashes.specs.Fronts.{Numbers, is_replayed, records_in, records_of, all_records};
+ghost use Rattle.mt_rows.specs.declared.record.Record.{Record as AnyRecord};
+ghost use Rattle.mt_recover.specs.Orders.{DontFall};
+ghost use Rattle.mt_recover.specs.Replays.{is_reached, is_live, is_void_behind, AgreeFrom};
+
+use crate::voids::{Walk, by_first, is_next_void};
+use mt_log::{Front, LogBatch};
+use mt_rows::Record;
+use std::alloc::{AllocError, Global};
+
+/// The records of all logs that are replayed, the least stamp first: those with a stamp over `base`, at
+/// most `cutoff`, and not void.
+pub(crate) fn replayed(
+    alloc: Global,
+    fronts: Vec<Front>,
+    voids: Vec<(u64, u64)>,
+    base: u64,
+    cutoff: u64,
+) -> Result<Vec<Record>, AllocError>
+    ensures moved { IfOk result (λ rs. IsPermutation (filter (is_replayed voids.items base cutoff) (all_records (map contents_of fronts.items))) rs.items) }
+    ensures sorted { IfOk result (λ rs. DontFall (λ (r : AnyRecord). r.stamp) 0 rs.items) }
+{
+    let reached = by_stamp(reached(alloc, fronts, base, cutoff)?);
+    live(alloc, reached, &by_first(voids))
+}
+
+// The records of all logs with a stamp over `base` and at most `cutoff`.
+fn reached(
+    alloc: Global,
+    fronts: Vec<Front>,
+    base: u64,
+    cutoff: u64,
+) -> Result<Vec<Record>, AllocError>
+    ensures { IfOk result (λ rs. rs.items ≡ filter (is_reached base cutoff) (all_records (map contents_of fronts.items))) }
+{
+    let mut out = Vec::new(alloc);
+    for front in fronts {
+        take_front(&mut out, front, base, cutoff)?;
+    }
+    Ok(out)
+}
+
+// Those of a log.
+fn take_front(out: &mut Vec<Record>, front: Front, base: u64, cutoff: u64) -> Result<(), AllocError>
+    ensures { OnOk result (out.new.items ≡ out.old.items ++ filter (is_reached base cutoff) (records_of (contents_of front))) }
+{
+    for batch in front.batches {
+        take_batch(out, batch, base, cutoff)?;
+    }
+    Ok(())
+}
+
+// Those of a batch.
+fn take_batch(
+    out: &mut Vec<Record>,
+    batch: LogBatch,
+    base: u64,
+    cutoff: u64,
+) -> Result<(), AllocError>
+    ensures { OnOk result (out.new.items ≡ out.old.items ++ filter (is_reached base cutoff) (records_in batch)) }
+{
+    match batch {
+        LogBatch::Records(batch) => take_records(out, batch.into_records(), base, cutoff),
+        LogBatch::Resume { .. } => Ok(()),
+    }
+}
+
+// Those of some records.
+fn take_records(
+    out: &mut Vec<Record>,
+    records: Vec<Record>,
+    base: u64,
+    cutoff: u64,
+) -> Result<(), AllocError>
+    ensures { OnOk result (out.new.items ≡ out.old.items ++ filter (is_reached base cutoff) records.items) }
+{
+    for record in records {
+        if base < record.stamp && record.stamp <= cutoff {
+            out.push(record)?;
+        }
+    }
+    Ok(())
+}
+
+// The least stamp first.
+fn by_stamp(records: Vec<Record>) -> Vec<Record>
+    ensures moved { IsPermutation records.items result.items }
+    ensures sorted { DontFall (λ (r : AnyRecord). r.stamp) 0 result.items }
+{
+    let mut records = records;
+    records.sort_unstable_by_key(|record| record.stamp);
+    records
+}
+
+// Of records in the order of their stamps those that are not void. One walk over the ranges, in the order
+// of their first numbers, serves all records.
+fn live(
+    alloc: Global,
+    records: Vec<Record>,
+    voids: &[(u64, u64)],
+) -> Result<Vec<Record>, AllocError>
+    requires by_stamp { DontFall (λ (r : AnyRecord). r.stamp) 0 records.items }
+    requires by_first { DontFall (λ (v : Numbers). v.0) 0 voids.now }
+    ensures { IfOk result (λ rs. rs.items ≡ filter (is_live voids.now) records.items) }
+{
+    let mut out = Vec::new(alloc);
+    let mut walk = Walk { next: 0, reach: 0 };
+    for record in records {
+        take_live(&mut out, record, voids, &mut walk)?;
+    }
+    Ok(out)
+}
+
+// Takes a record, unless a walk finds that it is void.
+fn take_live(
+    out: &mut Vec<Record>,
+    change: Record,
+    voids: &[(u64, u64)],
+    walk: &mut Walk,
+) -> Result<(), AllocError>
+    requires { DontFall (λ (v : Numbers). v.0) 0 voids.now }
+    ensures taken { OnOk result (out.new.items ≡ (if is_void_behind voids.now walk.old change.stamp then out.old.items else out.old.items ++ change ∷ [])) }
+    ensures walk { OnOk result (AgreeFrom change.stamp (is_void_behind voids.now walk.new) (is_void_behind voids.now walk.old)) }
+{
+    if is_next_void(voids, walk, change.stamp) {
+        return Ok(());
+    }
+    out.push(change)?;
+    Ok(())
+}
