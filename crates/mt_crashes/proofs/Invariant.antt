@@ -2,14 +2,13 @@
 use Rattle.std.proofs.Common.{◌≡◌, ◌⊎◌, inl, inr, ⊎_elim, ℕ, zero, suc, ◌+◌, ◌<◌, ◌≤◌, Bool, true, false, cond, List, [], ◌∷◌, ◌++◌, map, length, refl, sym, ◌∙◌, ap, subst, arith, Some}
 use Rattle.std.specs.Prelude.{slice_get, slice_set}
 use Rattle.std.specs.List.{filter, flat_map, AllZip}
-use Rattle.std.proofs.lemmas.Bool.{and_parts, ltb-true}
 use Rattle.std.proofs.lemmas.List.Elements.{recursion_from_All}
 use Rattle.std.proofs.lemmas.Option.{same_Some}
 use Rattle.mt_rows.specs.declared.record.Record.{Record}
 use Rattle.mt_log.specs.declared.batch.LogBatch.{LogBatch}
 use Rattle.mt_log.specs.declared.batch.LogBatch.TheVariants.{Records, Resume}
 use Rattle.mt_log.specs.Contents.{Contents, Rises, Join, end_of, from_of, to_of, mark_of, with_batch, no_batches}
-use Rattle.mt_crashes.specs.Fronts.{records_in, In, Rise, rises}
+use Rattle.mt_crashes.specs.Fronts.{records_in, In, Rise}
 use Rattle.mt_crashes.specs.Histories.{Placed, changes_of}
 use Rattle.mt_crashes.specs.Stores.{LogNow, at_rest, MayLeaveFront, new_logs, Reaches}
 use Rattle.mt_crashes.specs.Invariants.{RisePlaced}
@@ -105,11 +104,6 @@ same_stamp over (x ∷ ps) p q h (inr a) (inr b) e = same_stamp x.change.stamp p
 pub rise_changes : (over : ℕ) (ps : List Placed) → RisePlaced over ps → Rise over (changes_of ps)
 rise_changes over [] h = tt
 rise_changes over (p ∷ ps) h = (h.0, rise_changes p.change.stamp ps h.1)
-
--- stamps that rise by the test do
-pub rise_of : (over : ℕ) (rs : List Record) → rises over rs ≡ true → Rise over rs
-rise_of over [] h = tt
-rise_of over (r ∷ rs) h = let two = and_parts _ _ h in (ltb-true over r.stamp two.0, rise_of r.stamp rs two.1)
 
 -- two lists that rise and have the same members are one
 pub rise_in : (over : ℕ) (rs : List Record) (r : Record) → Rise over rs → In r rs → over < r.stamp

@@ -1,5 +1,5 @@
 -- What the fronts of all logs tell together: where they end, which numbers are void, and what is replayed.
-use Rattle.std.specs.Prelude.{◌≡◌, ◌⊎◌, ℕ, ◌<◌, min, max, Bool, true, not, ◌&&◌, nat_lt, List, [], ◌∷◌, map, Option, Some, None}
+use Rattle.std.specs.Prelude.{◌≡◌, ◌⊎◌, ℕ, ◌<◌, min, max, Bool, not, ◌&&◌, nat_lt, List, [], ◌∷◌, map, Option, Some, None}
 use Rattle.std.specs.List.{filter, filter_map, flat_map, list_any}
 use Rattle.std.specs.List.Sorted.{IsPermutation}
 use Rattle.mt_rows.specs.Rows.{Bytes}
@@ -73,11 +73,6 @@ In x (y ∷ ys) = (x ≡ y) ⊎ In x ys
 abbrev pub Rise : ℕ → List Record → Type 0
 Rise over [] = Unit {0}
 Rise over (r ∷ rs) = (over < r.stamp) × Rise r.stamp rs
-
--- whether they do
-abbrev pub rises : ℕ → List Record → Bool
-rises over [] = true
-rises over (r ∷ rs) = nat_lt over r.stamp && rises r.stamp rs
 
 -- what is replayed over a base: all such records of all logs, in the order of their stamps
 pub record IsReplay (base : ℕ) (fronts : List Contents) (rs : List Record) : Type 0 where

@@ -81,20 +81,23 @@ test_from_at_most a b h = at_most a b h
 
 -- ---- stamps
 
-abbrev stamps : List Record → List ℕ
+abbrev pub stamps : List Record → List ℕ
 stamps records = map (λ r. r.stamp) records
 
-suc_more : (k : ℕ) → suc (k + 1) ≡ suc k + 1
+-- a place and the next one, in a list with one more at its front
+pub suc_more : (k : ℕ) → suc (k + 1) ≡ suc k + 1
 suc_more k = omega arith
 
-rising_more : (x : ℕ) (xs : List ℕ) → (0 < length xs → x < get_or xs 0 0) → IsStrictlyIncreasing xs → IsStrictlyIncreasing (x ∷ xs)
+-- a rising list with a lesser number at its front rises
+pub rising_more : (x : ℕ) (xs : List ℕ) → (0 < length xs → x < get_or xs 0 0) → IsStrictlyIncreasing xs → IsStrictlyIncreasing (x ∷ xs)
 rising_more x xs h rest zero lt = omega (arith, h (omega arith))
 rising_more x xs h rest (suc k) lt = subst (λ j. get_or (x ∷ xs) (suc k) 0 < get_or (x ∷ xs) j 0) (suc_more k) (rest k (omega arith))
 
-abbrev Within : ℕ → ℕ → Record → Type 0
+abbrev pub Within : ℕ → ℕ → Record → Type 0
 Within last to r = (last < r.stamp) × (r.stamp ≤ to)
 
-first_within : (last to : ℕ) (records : List Record) → All (Within last to) records → 0 < length (stamps records) → last < get_or (stamps records) 0 0
+-- the first stamp of records that lie over a step is over it
+pub first_within : (last to : ℕ) (records : List Record) → All (Within last to) records → 0 < length (stamps records) → last < get_or (stamps records) 0 0
 first_within last to [] h lt = absurd (omega arith)
 first_within last to (r ∷ records) h lt = (All-head (Within last to) r records h).0
 

@@ -1,5 +1,5 @@
 -- Nothing falls in a log just where its batches join and its stamps rise: for the laws.
-use Rattle.std.proofs.Common.{◌≡◌, ℕ, zero, suc, ◌+◌, ◌<◌, ◌≤◌, Bool, true, cond, get_or, List, [], ◌∷◌, map, length, refl, sym, ◌∙◌, ap, subst, arith, Option, Some, None}
+use Rattle.std.proofs.Common.{◌≡◌, ℕ, suc, ◌<◌, ◌≤◌, Bool, true, cond, get_or, List, [], ◌∷◌, length, refl, sym, ◌∙◌, ap, subst, arith, Option, Some, None}
 use Rattle.std.specs.List.{All}
 use Rattle.std.specs.List.Sorted.{IsStrictlyIncreasing}
 use Rattle.std.proofs.lemmas.Bool.{and_parts, and_from, eqb-true, eq-eqb, ltb-true, ltb-false, lt-ltb, le-ltb, not-true, not_from_false}
@@ -8,27 +8,11 @@ use Rattle.mt_rows.specs.declared.record.Record.{Record}
 use Rattle.mt_log.specs.declared.batch.LogBatch.{LogBatch}
 use Rattle.mt_log.specs.declared.batch.LogBatch.TheVariants.{Records, Resume}
 use Rattle.mt_log.specs.Contents.{Contents, Rises, Join, JoinsAndRises, from_of, to_of}
+use Rattle.mt_log.proofs.Tests.{stamps, Within, suc_more, rising_more, first_within}
 use Rattle.mt_recover.specs.Falls.{first_of, fall_in, goes_on, stamp_fall, fall_behind, fall_of}
 use Rattle.mt_recover.proofs.FallLemmas.{none_first, tested}
 
-abbrev stamps : List Record → List ℕ
-stamps rs = map (λ (r : Record). r.stamp) rs
-
-abbrev Within : ℕ → ℕ → Record → Type 0
-Within last to r = (last < r.stamp) × (r.stamp ≤ to)
-
 -- ---- records in order
-
-suc_more : (k : ℕ) → suc (k + 1) ≡ suc k + 1
-suc_more k = omega arith
-
-rising_more : (x : ℕ) (xs : List ℕ) → (0 < length xs → x < get_or xs 0 0) → IsStrictlyIncreasing xs → IsStrictlyIncreasing (x ∷ xs)
-rising_more x xs h rest zero lt = omega (arith, h (omega arith))
-rising_more x xs h rest (suc k) lt = subst (λ j. get_or (x ∷ xs) (suc k) 0 < get_or (x ∷ xs) j 0) (suc_more k) (rest k (omega arith))
-
-first_within : (last to : ℕ) (rs : List Record) → All (Within last to) rs → 0 < length (stamps rs) → last < get_or (stamps rs) 0 0
-first_within last to [] h lt = absurd (omega arith)
-first_within last to (r ∷ rs) h lt = (All-head (Within last to) r rs h).0
 
 in_order : (last to : ℕ) (rs : List Record) → fall_in last to rs ≡ None → IsStrictlyIncreasing (stamps rs) × All (Within last to) rs
 in_order last to [] h = (λ k lt. absurd (omega arith), All-nil (Within last to))
