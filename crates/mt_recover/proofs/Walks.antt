@@ -7,12 +7,14 @@ use Rattle.std.proofs.lemmas.List.{append-nil}
 use Rattle.std.proofs.lemmas.List.Elements.{filter-append}
 use Rattle.std.proofs.lemmas.List.Sorted.{list_any-IsPermutation}
 use Rattle.mt_rows.specs.declared.record.Record.{Record}
-use Rattle.mt_crashes.specs.Fronts.{Numbers, is_void, is_replayed}
+use Rattle.mt_rows.specs.Tenants.{Contents as Pairs}
+use Rattle.mt_crashes.specs.Fronts.{Numbers, is_void, is_replayed, with_change, after_changes}
 use Rattle.mt_crashes.proofs.Members.{filter_filter, filter_same}
 use Rattle.mt_recover.specs.Orders.{DontFall}
 use Rattle.mt_recover.specs.Replays.{is_reached, is_live, is_void_behind, AgreeFrom}
 use Rattle.mt_recover.specs.declared.voids.Walk.{Walk}
 use Rattle.mt_recover.proofs.Orders.{lower, filter_moved}
+use Rattle.mt_recover.proofs.PairMaps.{after_push}
 
 abbrev first : Numbers → ℕ
 first v = v.0
@@ -72,30 +74,30 @@ keeps : (vs : List Numbers) (old new : Walk) (from : ℕ) (rs : List Record) →
 keeps vs old new from [] order same knows = tt
 keeps vs old new from (r ∷ rs) order same knows = (same r.stamp order.0 ∙ knows.0, keeps vs old new r.stamp rs order.1 (λ n le. same n (omega (arith, le, order.0))) knows.1)
 
--- what was taken is live of the records so far, and the walk knows those that are left
-pub record IsLiveSoFar (vs : List Numbers) (walk : Walk) (left yielded taken : List Record) : Type 0 where
-  pub same : taken ≡ filter (is_live vs) yielded
+-- the changes that are live of the records so far are made, and the walk knows those that are left
+pub record AreMadeSoFar (vs : List Numbers) (walk : Walk) (left yielded : List Record) (start now : Pairs) : Type 0 where
+  pub made : now ≡ after_changes start (filter (is_live vs) yielded)
   pub order : DontFall stamp 0 left
   pub knows : Knows vs walk left
 
-pub none_so_far : (vs : List Numbers) (rs left taken : List Record) → left ≡ rs → taken ≡ [] → DontFall stamp 0 rs → IsLiveSoFar vs (record { next = 0; reach = 0 }) left [] taken
-none_so_far vs rs left taken all none order = record { same = none; order = subst (DontFall stamp 0) (sym all) order; knows = knows_all vs left }
+pub none_so_far : (vs : List Numbers) (rs left : List Record) (start : Pairs) → left ≡ rs → DontFall stamp 0 rs → AreMadeSoFar vs (record { next = 0; reach = 0 }) left [] start start
+none_so_far vs rs left start all order = record { made = refl; order = subst (DontFall stamp 0) (sym all) order; knows = knows_all vs left }
 
--- and one record more, which is void or is taken
-pub one_more : (vs : List Numbers) (old new : Walk) (r : Record) (was left yielded taken more : List Record) → was ≡ r ∷ left → IsLiveSoFar vs old was yielded taken
-    → more ≡ cond (is_void_behind vs old r.stamp) taken (taken ++ r ∷ []) → AgreeFrom r.stamp (is_void_behind vs new) (is_void_behind vs old) → IsLiveSoFar vs new left (yielded ++ r ∷ []) more
-one_more vs old new r was left yielded taken more is so_far more_is same =
+-- and one record more, which is void or is made
+pub one_more : (vs : List Numbers) (old new : Walk) (r : Record) (was left yielded : List Record) (start now next : Pairs) → was ≡ r ∷ left → AreMadeSoFar vs old was yielded start now
+    → next ≡ cond (is_void_behind vs old r.stamp) now (with_change now r) → AgreeFrom r.stamp (is_void_behind vs new) (is_void_behind vs old) → AreMadeSoFar vs new left (yielded ++ r ∷ []) start next
+one_more vs old new r was left yielded start now next is so_far next_is same =
     let knows = subst (Knows vs old) is so_far.knows in
     let order = subst (DontFall stamp 0) is so_far.order in
     record {
-      same = more_is ∙ ap (λ (b : Bool). cond b taken (taken ++ r ∷ [])) knows.0 ∙ by (is_void vs r.stamp) ∙ ap (λ (l : List Record). l ++ filter (is_live vs) (r ∷ [])) so_far.same ∙ sym (filter-append (is_live vs) yielded (r ∷ []));
+      made = next_is ∙ ap (λ (b : Bool). cond b now (with_change now r)) knows.0 ∙ by (is_void vs r.stamp) ∙ ap (after_changes start) (sym (filter-append (is_live vs) yielded (r ∷ [])));
       order = lower stamp 0 r.stamp left (omega arith) order.1;
       knows = keeps vs old new r.stamp left order.1 same knows.1;
     }
   where
-    by : (b : Bool) → cond b taken (taken ++ r ∷ []) ≡ taken ++ cond (not b) (r ∷ []) []
-    by true = sym (append-nil taken)
-    by false = refl
+    by : (b : Bool) → cond b now (with_change now r) ≡ after_changes start (filter (is_live vs) yielded ++ cond (not b) (r ∷ []) [])
+    by true = so_far.made ∙ ap (after_changes start) (sym (append-nil (filter (is_live vs) yielded)))
+    by false = ap (λ (m : Pairs). with_change m r) so_far.made ∙ sym (after_push start (filter (is_live vs) yielded) r)
 
 -- ---- what is replayed
 

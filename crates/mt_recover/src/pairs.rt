@@ -2,7 +2,7 @@
 
 ghost use Rattle.std.specs.Prelude.{◌≡◌, map, OnOk, IfOk};
 ghost use Rattle.std.specs.FinMap as fin;
-ghost use Rattle.mt_crashes.specs.Fronts.{with_change, after_changes};
+ghost use Rattle.mt_crashes.specs.Fronts.{with_change};
 ghost use Rattle.mt_recover.specs.Pairs.{entry_of, pairs_of, pairs_in, Ascend};
 
 use mt_rows::{Key, Record, Row, TenantPair};
@@ -24,18 +24,8 @@ pub(crate) fn filled(alloc: Global, pairs: Vec<TenantPair>) -> Result<PairMap, A
     Ok(map)
 }
 
-/// Makes changes, one after the other.
-pub(crate) fn replay(map: &mut PairMap, records: Vec<Record>) -> Result<(), AllocError>
-    ensures { OnOk result (pairs_in map.new ≡ after_changes (pairs_in map.old) records.items) }
-{
-    for record in records {
-        make(map, record)?;
-    }
-    Ok(())
-}
-
-// Makes one change.
-fn make(map: &mut PairMap, change: Record) -> Result<(), AllocError>
+/// Makes a change.
+pub(crate) fn make(map: &mut PairMap, change: Record) -> Result<(), AllocError>
     ensures { OnOk result (pairs_in map.new ≡ with_change (pairs_in map.old) change) }
 {
     let owner = (change.tenant, change.key);

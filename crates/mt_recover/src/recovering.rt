@@ -11,9 +11,9 @@ ghost use Rattle.mt_recover.specs.Refusals.{AreSound, MayRecover, MayServe, IsRe
 use crate::checkpoint::{Checkpoint, Chosen, choose, last_of};
 use crate::cutoffs::{cutoff, greatest_end};
 use crate::falls::first_fall;
-use crate::pairs::{PairMap, filled, listed, replay};
+use crate::pairs::{PairMap, filled, listed};
 use crate::quotas::{first_over, have_tenants};
-use crate::replay::replayed;
+use crate::replay::replay;
 use crate::sets::is_set;
 use crate::stamps::first_twice;
 use crate::voids::voids;
@@ -124,7 +124,7 @@ fn gathered_of(
         checkpoint,
     } = choose(first, second, &voids, cutoff);
     let (base, mut map) = base_of(alloc, checkpoint)?;
-    replay(&mut map, replayed(alloc, fronts, voids, base, cutoff)?)?;
+    replay(alloc, &mut map, fronts, voids, base, cutoff)?;
     let pairs = listed(alloc, map)?;
     Ok(Recovered {
         cutoff,

@@ -1,32 +1,34 @@
 //! The records that a recovery replays.
 
-ghost use Rattle.std.specs.Prelude.{◌≡◌, [], ◌∷◌, ◌++◌, map, if◌then◌else◌, IfOk, OnOk, IsPermutation};
+ghost use Rattle.std.specs.Prelude.{◌≡◌, ◌++◌, map, if◌then◌else◌, IfOk, OnOk, IsPermutation};
 ghost use Rattle.std.specs.List.{filter};
 ghost use Rattle.mt_log.specs.Contents.{contents_of};
-ghost use Rattle.mt_crashes.specs.Fronts.{Numbers, is_replayed, records_in, records_of, all_records};
+ghost use Rattle.mt_crashes.specs.Fronts.{Numbers, records_in, records_of, all_records, with_change, after_changes};
 ghost use Rattle.mt_rows.specs.declared.record.Record.{Record as AnyRecord};
 ghost use Rattle.mt_recover.specs.Orders.{DontFall};
-ghost use Rattle.mt_recover.specs.Replays.{is_reached, is_live, is_void_behind, AgreeFrom};
+ghost use Rattle.mt_recover.specs.Pairs.{pairs_in};
+ghost use Rattle.mt_recover.specs.Replays.{is_reached, is_live, is_void_behind, AgreeFrom, HasReplayed};
 
+use crate::pairs::{PairMap, make};
 use crate::voids::{Walk, by_first, is_next_void};
 use mt_log::{Front, LogBatch};
 use mt_rows::Record;
 use std::alloc::{AllocError, Global};
 
-/// The records of all logs that are replayed, the least stamp first: those with a stamp over `base`, at
-/// most `cutoff`, and not void.
-pub(crate) fn replayed(
+/// Replays the records of all logs with a stamp over `base`, at most `cutoff`, and not void, the least stamp
+/// first. An error leaves some of them made.
+pub(crate) fn replay(
     alloc: Global,
+    pairs: &mut PairMap,
     fronts: Vec<Front>,
     voids: Vec<(u64, u64)>,
     base: u64,
     cutoff: u64,
-) -> Result<Vec<Record>, AllocError>
-    ensures moved { IfOk result (λ rs. IsPermutation (filter (is_replayed voids.items base cutoff) (all_records (map contents_of fronts.items))) rs.items) }
-    ensures sorted { IfOk result (λ rs. DontFall (λ (r : AnyRecord). r.stamp) 0 rs.items) }
+) -> Result<(), AllocError>
+    ensures { OnOk result (HasReplayed voids.items base cutoff (map contents_of fronts.items) (pairs_in pairs.old) (pairs_in pairs.new)) }
 {
     let reached = by_stamp(reached(alloc, fronts, base, cutoff)?);
-    live(alloc, reached, &by_first(voids))
+    make_live(pairs, reached, &by_first(voids))
 }
 
 // The records of all logs with a stamp over `base` and at most `cutoff`.
@@ -97,39 +99,37 @@ fn by_stamp(records: Vec<Record>) -> Vec<Record>
     records
 }
 
-// Of records in the order of their stamps those that are not void. One walk over the ranges, in the order
-// of their first numbers, serves all records.
-fn live(
-    alloc: Global,
+// Makes the changes that are not void, of records in the order of their stamps. One walk over the ranges, in
+// the order of their first numbers, serves all of them.
+fn make_live(
+    pairs: &mut PairMap,
     records: Vec<Record>,
     voids: &[(u64, u64)],
-) -> Result<Vec<Record>, AllocError>
+) -> Result<(), AllocError>
     requires by_stamp { DontFall (λ (r : AnyRecord). r.stamp) 0 records.items }
     requires by_first { DontFall (λ (v : Numbers). v.0) 0 voids.now }
-    ensures { IfOk result (λ rs. rs.items ≡ filter (is_live voids.now) records.items) }
+    ensures { OnOk result (pairs_in pairs.new ≡ after_changes (pairs_in pairs.old) (filter (is_live voids.now) records.items)) }
 {
-    let mut out = Vec::new(alloc);
     let mut walk = Walk { next: 0, reach: 0 };
     for record in records {
-        take_live(&mut out, record, voids, &mut walk)?;
+        make_unless_void(pairs, record, voids, &mut walk)?;
     }
-    Ok(out)
+    Ok(())
 }
 
-// Takes a record, unless a walk finds that it is void.
-fn take_live(
-    out: &mut Vec<Record>,
+// Makes a change, unless a walk finds that it is void.
+fn make_unless_void(
+    pairs: &mut PairMap,
     change: Record,
     voids: &[(u64, u64)],
     walk: &mut Walk,
 ) -> Result<(), AllocError>
     requires { DontFall (λ (v : Numbers). v.0) 0 voids.now }
-    ensures taken { OnOk result (out.new.items ≡ (if is_void_behind voids.now walk.old change.stamp then out.old.items else out.old.items ++ change ∷ [])) }
+    ensures made { OnOk result (pairs_in pairs.new ≡ (if is_void_behind voids.now walk.old change.stamp then pairs_in pairs.old else with_change (pairs_in pairs.old) change)) }
     ensures walk { OnOk result (AgreeFrom change.stamp (is_void_behind voids.now walk.new) (is_void_behind voids.now walk.old)) }
 {
     if is_next_void(voids, walk, change.stamp) {
         return Ok(());
     }
-    out.push(change)?;
-    Ok(())
+    make(pairs, change)
 }

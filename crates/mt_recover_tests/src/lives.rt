@@ -6,12 +6,12 @@ use std::test::Fail;
 #[test]
 fn random_stores_recover_their_history(rt: HostRuntime) -> Result<(), Fail> {
     let mut counts = Counts::default();
-    for seed in 0..60 {
+    for seed in 0..300 {
         live(rt.alloc(), seed, &mut counts)?;
         assert!(rt; counts.differences == 0, "with seed {seed}");
     }
-    let happened = counts.crashes > 200 && counts.torn > 20 && counts.partial > 20;
-    let went_on = counts.served > 100 && counts.checkpoints > 20 && counts.settled > 20;
-    assert!(rt; happened && went_on, "{counts:?}");
+    let stopped = counts.crashes > 1_000 && counts.torn > 100 && counts.stopped > 100;
+    let went_on = counts.served > 1_000 && counts.checkpoints > 100 && counts.settled > 100;
+    assert!(rt; stopped && went_on, "{counts:?}");
     Ok(())
 }

@@ -17,8 +17,9 @@ pub struct Counts {
     pub crashes: u64,
     /// Disks on which a crash left other bytes than a read gave.
     pub torn: u64,
-    /// Recoveries that a failing disk, or a crash, stopped before all logs had their resume batch.
+    /// Recoveries after which some log had no resume batch; and of these, the ones that a disk stopped.
     pub partial: u64,
+    pub stopped: u64,
     /// Recoveries after which the store served again.
     pub served: u64,
     /// Recoveries over a checkpoint.
@@ -194,7 +195,7 @@ impl Store {
             let answer = recover_over(self.alloc, &mut self.logs, self.walks, 8);
             if let Some(recovered) = unless_device(answer)? {
                 self.compare(&recovered, counts);
-                if self.resume(&recovered)? {
+                if self.resume(&recovered, counts)? {
                     return Ok(true);
                 }
                 count(&mut counts.partial);
@@ -226,7 +227,7 @@ impl Store {
     }
 
     // Appends resume batches, sometimes not to all logs. Whether all have theirs.
-    fn resume(&mut self, recovered: &Recovered) -> Result<bool, Refusal> {
+    fn resume(&mut self, recovered: &Recovered, counts: &mut Counts) -> Result<bool, Refusal> {
         let all = self.logs.len();
         let some = if self.chance.is_one_of(4) {
             all.min(self.chance.up_to(2) as usize)
@@ -238,7 +239,11 @@ impl Store {
         for (log, mark) in self.logs.iter().zip(&mut self.marks) {
             *mark = mark_of(log).unwrap_or(*mark);
         }
-        Ok(unless_device(answer)?.is_some() && some == all)
+        let is_done = unless_device(answer)?.is_some();
+        if !is_done {
+            count(&mut counts.stopped);
+        }
+        Ok(is_done && some == all)
     }
 }
 
