@@ -16,6 +16,10 @@ pub record AreSound (fronts : List Contents) : Type 0 where
   pub rise : first_fall fronts ≡ None
   pub apart : AreApart fronts
 
+-- the logs are a set, and each of them rises and joins
+abbrev pub AreSingly : List Contents → Type 0
+AreSingly fronts = AreSet fronts × (first_fall fronts ≡ None)
+
 -- which number falls, and in which log: the first of a single log, or else the least that stands in two
 abbrev pub Falls : List Contents → ℕ → ℕ → Type 0
 Falls fronts worker stamp = (first_fall fronts ≡ Some (worker, stamp)) ⊎ ((first_fall fronts ≡ None) × IsFirstTwice fronts worker stamp)
@@ -32,13 +36,13 @@ abbrev pub Recovers : List Contents → Slots → Pairs → Type 0
 Recovers fronts slots found = (cutoff resume : ℕ) × (used : Option ℕ) × IsRecovered fronts slots cutoff resume used found
 
 -- Why a recovery is refused: the logs are no set; a number falls; a pair is of no tenant in the list; a tenant has too many. Each where none before it
--- is the cause. Memory may be wanting at any time.
+-- is the cause. Memory may be wanting once the logs are known for a set, each of which rises and joins.
 abbrev pub IsRefusal : List Contents → Slots → (ℕ → Option ℕ) → Refusal → Type 0
 IsRefusal fronts slots quota refusals.LogCount = ¬ AreSet fronts
 IsRefusal fronts slots quota (refusals.StampsFall worker stamp) = AreSet fronts × Falls fronts worker stamp
 IsRefusal fronts slots quota refusals.NoTenant = AreSound fronts × ((found : Pairs) × Recovers fronts slots found × ¬ HasTenants quota found)
 IsRefusal fronts slots quota (refusals.OverQuota tenant) = AreSound fronts × ((found : Pairs) × Recovers fronts slots found × HasTenants quota found × IsFirstOver quota found tenant)
-IsRefusal fronts slots quota refusals.Memory = Unit {0}
+IsRefusal fronts slots quota refusals.Memory = AreSingly fronts
 IsRefusal fronts slots quota _ = ⊥
 
 -- logs from which a store is recovered, or the first cause why not
@@ -46,7 +50,7 @@ abbrev pub MayRecover : List Contents → Result Unit Refusal → Type 0
 MayRecover fronts (Ok done) = AreSound fronts
 MayRecover fronts (Err refusals.LogCount) = ¬ AreSet fronts
 MayRecover fronts (Err (refusals.StampsFall worker stamp)) = AreSet fronts × Falls fronts worker stamp
-MayRecover fronts (Err refusals.Memory) = Unit {0}
+MayRecover fronts (Err refusals.Memory) = AreSingly fronts
 MayRecover fronts (Err other) = ⊥
 
 -- pairs with which a store serves, or the first cause why not

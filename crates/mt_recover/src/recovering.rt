@@ -40,7 +40,7 @@ pub struct Recovered {
 /// than they end at (with where the batch begins), where its stamps don't rise within their batch, or where
 /// a stamp stands in two logs (with the least such stamp and the highest of these logs); `NoTenant` where a
 /// pair is of no tenant in the list; `OverQuota` where a tenant has too many, the least of these. `Memory`
-/// may come in place of any but `LogCount`.
+/// may come in place of any cause but that the logs are no set, or that a single log falls.
 pub fn recover(
     alloc: Global,
     fronts: Vec<Front>,
