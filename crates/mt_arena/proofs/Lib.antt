@@ -72,3 +72,4 @@ pub mod LayerStays
 pub mod SettledBut
 pub mod Separators
 pub mod NextBegins
+pub mod Renumbering

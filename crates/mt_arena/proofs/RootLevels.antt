@@ -8,8 +8,7 @@ use Rattle.mt_arena.specs.declared.tree.Tree.{Tree}
 use Rattle.mt_arena.specs.declared.tree.Standing.{Standing}
 use Rattle.mt_arena.specs.declared.tree.Standing.TheVariants.{Dead, Live}
 use Rattle.mt_arena.specs.NodeView.{NodeView, node_at}
-use Rattle.mt_arena.specs.Nodes.{AreNodes, IsChild, HasRange}
-use Rattle.mt_arena.specs.Ranges.{AreRanged}
+use Rattle.mt_arena.specs.Nodes.{IsChild, HasRange}
 use Rattle.mt_arena.specs.Contents.{is_live}
 use Rattle.mt_arena.specs.Forests.{IsRoot, layer_of, tree_at}
 use Rattle.mt_arena.specs.Arena.{IsArena, live_count}

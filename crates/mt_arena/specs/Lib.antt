@@ -21,3 +21,4 @@ pub mod Removals
 pub mod Lags
 pub mod Several
 pub mod Layering
+pub mod Renumbers

@@ -27,7 +27,8 @@ ghost use Rattle.mt_arena.specs.Settled.{IsSettled};
 ghost use Rattle.mt_arena.specs.Nodes.{HasRange};
 ghost use Rattle.mt_arena.specs.Ranges.{Waits};
 ghost use Rattle.mt_arena.specs.Edits.{locked, unlocked, with_slots, pointed, fresh_root, Points};
-ghost use Rattle.mt_arena.specs.Arena.{IsArena, AreRetired, content_of, Guarantee};
+ghost use Rattle.mt_arena.specs.Arena.{IsArena, AreRetired, content_of, Guarantee, live_count};
+ghost use Rattle.mt_arena.specs.Renumbers.{all_renumbered, arena_renumbered};
 ghost use Rattle.mt_slices.specs.Marks.{IsMark};
 ghost use Rattle.mt_border.specs.Split.{IsParted, IsSeparator, slices_with};
 ghost use Rattle.mt_interior.specs.Places.{IsNew};
@@ -316,6 +317,24 @@ impl Arena {
         Ok(top)
     }
 
+    /// Begins the counting of changes anew: no node's version counts any, and each pair was placed by the
+    /// step `stamp`. Only where no operation is open may a caller do this, since an operation may
+    /// remember a version that a node has left.
+    pub fn renumber(&mut self, stamp: u64)
+        ensures is { self.new ≡ arena_renumbered stamp self.old }
+        ensures contents { content_of self.new ≡ content_of self.old }
+    {
+        renumber_all(&mut self.nodes, stamp);
+    }
+
+    /// How many nodes there are.
+    pub fn node_count(&self) -> usize
+        ensures count { result ≡ length self.now.nodes }
+        ensures live { live_count self.now.nodes ≤ result }
+    {
+        self.nodes.len()
+    }
+
     /// Puts a right half into its parent, behind the left one, and marks the parent for readers of its
     /// children. The range of the left half in it ends at its fence from now on.
     pub fn insert_child(&mut self, parent: usize, left: usize, right: usize, operation: usize)
@@ -348,6 +367,22 @@ impl Arena {
         let number = self.nodes.len();
         part_parent(&mut self.nodes, parent, left, right, operation);
         Ok(number)
+    }
+}
+
+// Sets the counters of all nodes to 0, and the stamp of each pair.
+fn renumber_all(nodes: &mut Vec<Node>, stamp: u64)
+    ensures { nodes.new.items ≡ all_renumbered stamp nodes.old.items }
+{
+    renumber_each(nodes.as_mut_slice(), stamp);
+}
+
+// The same of those of a slice.
+fn renumber_each(nodes: &mut [Node], stamp: u64)
+    ensures { nodes.new ≡ all_renumbered stamp nodes.old }
+{
+    for node in nodes.iter_mut() {
+        node.renumber(stamp);
     }
 }
 

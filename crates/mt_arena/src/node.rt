@@ -60,6 +60,7 @@ impl Node {
     ghost use Rattle.mt_border.specs.Split.{IsParted, IsSeparator, slices_with};
     ghost use Rattle.mt_arena.specs.Splits.{with_some, left_half, right_half, with_child, exact, inner_left, inner_right};
     ghost use Rattle.mt_arena.specs.Growth.{fresh_top, below_top, left_below};
+    ghost use Rattle.mt_arena.specs.Renumbers.{renumbered};
 
     /// The first node of a tree.
     pub(crate) fn root(alloc: Global, tree: usize) -> Self
@@ -236,6 +237,17 @@ impl Node {
         ensures { self.new ≡ retired self.old }
     {
         self.set_version(self.version().deleted());
+    }
+
+    /// Sets the counters of its version to 0, and the stamp of each pair.
+    pub(crate) fn renumber(&mut self, stamp: u64)
+        ensures { self.new ≡ renumbered stamp self.old }
+    {
+        self.set_version(self.version().uncounted());
+        match &mut self.kind {
+            NodeKind::Leaf(border) => border.restamp(stamp),
+            NodeKind::Inner(_) => {}
+        }
     }
 
     pub(crate) fn set_parent(&mut self, parent: Option<usize>)

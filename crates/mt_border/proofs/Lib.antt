@@ -12,3 +12,5 @@ pub mod ContentsKeys
 pub mod ContentsFinds
 pub mod ContentsEdits
 pub mod ContentsStamps
+pub mod Restamping
+pub mod Sweeps

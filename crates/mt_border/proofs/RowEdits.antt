@@ -1,12 +1,14 @@
 -- The entries of three rows are read and edited as the rows are: for the slots of a node.
 use Rattle.std.proofs.Common.{◌≡◌, ℕ, zero, suc, ◌<◌, List, [], ◌∷◌, ◌++◌, length, get_or, set, take, drop, refl, sym, ap, ◌∙◌, arith}
 use Rattle.std.specs.List.{insert, remove}
+use Rattle.std.specs.Prelude.{map}
 use Rattle.std.proofs.lemmas.List.{length-take}
 use Rattle.mt_slices.specs.declared.mark.Mark.{Mark}
 use Rattle.mt_border.specs.declared.entry.Entry.{Entry}
 use Rattle.mt_border.specs.declared.entry.Held.{Held}
 use Rattle.mt_border.specs.Entries.{slices, marks}
 use Rattle.mt_border.specs.Rows.{entries_in, AreRows}
+use Rattle.mt_border.specs.Restamps.{stamped, restamped}
 
 -- as many entries as slices
 pub length-rows : (ss : List ℕ) (ms : List Mark) (hs : List Held) → length ms ≡ length ss → length hs ≡ length ss
@@ -129,3 +131,10 @@ none-rows ss ms hs es rows view_is empty =
     let size = sizes-rows ss ms hs es rows view_is in
     let zero_is = ap length empty in
     (none ss (omega (arith, size.0, zero_is)), none ms (omega (arith, size.1, zero_is)), none hs (omega (arith, size.2, zero_is)))
+
+-- what is held is stamped anew row by row
+pub stamp-rows : (s : ℕ) (ss : List ℕ) (ms : List Mark) (hs : List Held) → entries_in ss ms (map (stamped s) hs) ≡ map (restamped s) (entries_in ss ms hs)
+stamp-rows s [] ms hs = refl
+stamp-rows s (x ∷ ss) [] hs = refl
+stamp-rows s (x ∷ ss) (m ∷ ms) [] = refl
+stamp-rows s (x ∷ ss) (m ∷ ms) (h ∷ hs) = ap (λ xs. record { slice = x; mark = m; held = stamped s h } ∷ xs) (stamp-rows s ss ms hs)

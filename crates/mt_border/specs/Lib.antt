@@ -4,3 +4,4 @@ pub mod Rows
 pub mod Node
 pub mod Split
 pub mod Contents
+pub mod Restamps

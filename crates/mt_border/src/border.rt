@@ -63,6 +63,7 @@ impl Model for Border {
 }
 
 impl Border {
+    ghost use Rattle.mt_border.specs.Restamps.{all_restamped};
     ghost use Rattle.mt_border.specs.declared.entry.Pair.{Pair};
     ghost use Rattle.mt_border.specs.Entry.{IsEntry, IsRest, IsStablePair, IsUnlinked, IsLinked};
     ghost use Rattle.mt_border.specs.Rows.{entry_seen};
@@ -175,6 +176,13 @@ impl Border {
     {
         let slots = &mut self.slots;
         slots.helds[slot].put_row(row, stamp)
+    }
+
+    /// Writes the stamp of each pair.
+    pub fn restamp(&mut self, stamp: u64)
+        ensures { self.new ≡ record self.old { slots = all_restamped stamp self.old.slots } }
+    {
+        self.slots.restamp(stamp);
     }
 
     /// Makes the pair of a longer key unstable, for which a tree of its own is made.

@@ -165,6 +165,7 @@ impl<'a> EntryRef<'a> {
 }
 
 impl Held {
+    ghost use Rattle.mt_border.specs.Restamps.{stamped};
     ghost use Rattle.mt_slices.specs.declared.mark.Mark.{Mark};
     ghost use Rattle.mt_border.specs.declared.entry.Pair.{Pair};
     ghost use Rattle.mt_border.specs.declared.entry.Entry.{Entry};
@@ -202,6 +203,17 @@ impl Held {
                 mem::replace(&mut pair.row, row)
             }
             _ => unreachable!(),
+        }
+    }
+
+    /// Writes the stamp of a pair; a link has none.
+    pub(crate) fn restamp(&mut self, stamp: u64)
+        ensures { self.new ≡ stamped stamp self.old }
+    {
+        match self {
+            Held::Stable(pair) => pair.stamp = stamp,
+            Held::Unstable(pair, _) => pair.stamp = stamp,
+            Held::Link(_) => {}
         }
     }
 

@@ -4,10 +4,11 @@
 //!
 //! Invariant: the rows have one length, and the entry of a slot is what stands at its place in each.
 
-ghost use Rattle.std.specs.Prelude.{◌≡◌, ◌<◌, ◌≤◌, [], length, take, drop, insert, remove, slice_get, slice_index_or, count_by, nat_lt};
+ghost use Rattle.std.specs.Prelude.{◌≡◌, ◌<◌, ◌≤◌, [], length, take, drop, insert, remove, slice_get, slice_index_or, count_by, nat_lt, map};
 ghost use Rattle.mt_lists.specs.Rising.{NeverFalls};
 ghost use Rattle.std.specs.Option.{option_map};
 ghost use Rattle.arrayvec.specs.ArrayVec.{array_vec_len};
+ghost use Rattle.mt_border.specs.Restamps.{stamped};
 
 use crate::border::SLOTS;
 use crate::entry::{Entry, EntryRef, Held, SlotMark};
@@ -39,6 +40,7 @@ impl Model for Slots {
 }
 
 impl Slots {
+    ghost use Rattle.mt_border.specs.Restamps.{all_restamped};
     ghost use Rattle.mt_border.specs.Entries.{slices, marks};
     ghost use Rattle.mt_border.specs.Rows.{entry_seen};
 
@@ -134,6 +136,13 @@ impl Slots {
         }
     }
 
+    /// Writes the stamp of each pair.
+    pub(crate) fn restamp(&mut self, stamp: u64)
+        ensures { self.new ≡ all_restamped stamp self.old }
+    {
+        restamp_row(&mut self.helds, stamp);
+    }
+
     /// Moves the entries from place `keep` on into slots that have none.
     pub(crate) fn move_tail(&mut self, keep: usize, right: &mut Slots)
         requires within { keep ≤ length self.old }
@@ -161,5 +170,21 @@ fn move_row_tail<T: MadeWith<Global> + Drop>(
     let end = left.len();
     for moved in left.drain(keep..end) {
         right.push(moved);
+    }
+}
+
+// Writes the stamp of each pair of a row.
+fn restamp_row(helds: &mut ArrayVec<Held, SLOTS, Global>, stamp: u64)
+    ensures { helds.new.items ≡ map (stamped stamp) helds.old.items }
+{
+    restamp_each(helds.as_mut_slice(), stamp);
+}
+
+// Writes the stamp of each pair.
+fn restamp_each(helds: &mut [Held], stamp: u64)
+    ensures { helds.new ≡ map (stamped stamp) helds.old }
+{
+    for held in helds.iter_mut() {
+        held.restamp(stamp);
     }
 }

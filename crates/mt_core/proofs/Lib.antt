@@ -37,3 +37,6 @@ pub mod ClimbSteps
 pub mod PhaseTests
 pub mod ScanBodies
 pub mod ScanSteps
+pub mod Renumbering
+pub mod Restoring
+pub mod Filling

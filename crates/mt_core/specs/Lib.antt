@@ -15,3 +15,5 @@ pub mod Budgets
 pub mod Points
 pub mod Layers
 pub mod ScanPoints
+pub mod Renumbers
+pub mod Restores

@@ -1,6 +1,6 @@
 //! What the log of a worker is given of the tape, and up to which step the logs were given all.
 
-ghost use Rattle.std.specs.Prelude.{◌≡◌, IfOk, replicate};
+ghost use Rattle.std.specs.Prelude.{◌≡◌, IfOk, replicate, length};
 ghost use Rattle.std.specs.List.{All};
 ghost use Rattle.mt_rows.specs.Commands.{IsKey};
 ghost use Rattle.mt_batches.specs.Batches.{IsRecord, IsRowOrNone};
@@ -19,6 +19,22 @@ pub(crate) fn none_given(alloc: Global, logs: u8) -> Result<Vec<u64>, AllocError
         given.push(0)?;
     }
     Ok(given)
+}
+
+/// Each log was given all up to a step.
+pub(crate) fn give_all(logs: &mut Vec<u64>, step: u64)
+    ensures { logs.new.items ≡ replicate (length logs.old.items) step }
+{
+    give_each(logs.as_mut_slice(), step);
+}
+
+// The same of those of a slice.
+fn give_each(logs: &mut [u64], step: u64)
+    ensures { logs.new ≡ replicate (length logs.old) step }
+{
+    for given in logs.iter_mut() {
+        *given = step;
+    }
 }
 
 /// The least of these numbers and a bound.

@@ -49,12 +49,25 @@ impl ToldList {
     }
 }
 
-// The names of a run: the ticket that each stands for, till its answer is taken; and by the id of each
-// operation that is open, its name.
+/// The names of a run: the ticket that each stands for, till its answer is taken; and by the id of each
+/// operation that is open, its name.
 #[derive(Drop)]
-struct Roster {
-    tickets: BTreeMap<u64, Option<Ticket>>,
-    names: BTreeMap<u64, u64>,
+pub struct Roster {
+    pub tickets: BTreeMap<u64, Option<Ticket>>,
+    pub names: BTreeMap<u64, u64>,
+}
+
+impl Roster {
+    /// No names.
+    pub fn new(alloc: Global) -> Self
+        ensures tickets { result.tickets.entries ≡ [] }
+        ensures names { result.names.entries ≡ [] }
+    {
+        Roster {
+            tickets: BTreeMap::new(alloc),
+            names: BTreeMap::new(alloc),
+        }
+    }
 }
 
 /// Lets events happen to a new state, and gives it back with what each answered.
@@ -76,10 +89,7 @@ pub fn run_events(
     ensures run { IfOk result (λ r. (names : AnyNames) × BringsTo no_names (new_state logs tenants) (zip events.now r.1) names r.0) }
 {
     let mut state = State::new(alloc, logs, tenants)?;
-    let mut roster = Roster {
-        tickets: BTreeMap::new(alloc),
-        names: BTreeMap::new(alloc),
-    };
+    let mut roster = Roster::new(alloc);
     let told = tell_all(alloc, &mut state, &mut roster, events)?;
     Ok((state, ToldList { told }))
 }
@@ -105,8 +115,9 @@ fn tell_all(
     Ok(told)
 }
 
-// Lets one event happen.
-fn tell(state: &mut State, roster: &mut Roster, event: &Event) -> Result<Told, AllocError>
+/// Lets one event happen to a state, by the names of its run. An error comes where memory is refused; the
+/// run cannot go on then.
+pub fn tell(state: &mut State, roster: &mut Roster, event: &Event) -> Result<Told, AllocError>
     requires worker { IsServed (length state.old.logs) event.now }
     requires named { AreNamed (named roster.old.tickets) state.old.table }
     requires held { AreHeld (named roster.old.tickets) state.old.table }

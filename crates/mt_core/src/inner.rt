@@ -4,7 +4,7 @@
 //! operation is shown whole, with what it remembers on its way; `State` shows its steps and its reply
 //! alone. Units: steps by their numbers, which begin at 1.
 
-ghost use Rattle.std.specs.Prelude.{◌≡◌, ◌≢◌, ◌+◌, ◌<◌, ◌≤◌, ◌^◌, ◌↔◌, IsTrue, IsSome, IfOk, IfErr, OnOk, OnErr, length, Some, None};
+ghost use Rattle.std.specs.Prelude.{ℕ, ◌≡◌, ◌≢◌, ◌+◌, ◌<◌, ◌≤◌, ◌^◌, ◌↔◌, IsTrue, IsSome, IfOk, IfErr, OnOk, OnErr, length, Some, None};
 ghost use Rattle.std.specs.Option.{option_map};
 ghost use Rattle.mt_rows.specs.Accounts.{account_of};
 ghost use Rattle.mt_batches.specs.Batches.{IsInOrder};
@@ -22,6 +22,7 @@ ghost use Rattle.mt_core.specs.Shows.{phase_at, phase_in, noted_at};
 ghost use Rattle.mt_core.specs.Alone.{Runs, IsAlone, EndsAlone, IsUndisturbed, EndsSoon};
 ghost use Rattle.mt_core.specs.Points.{StepsOn};
 ghost use Rattle.mt_core.specs.Drains.{Drains};
+ghost use Rattle.mt_core.specs.Renumbers.{core_renumbered};
 ghost use Rattle.mt_core.specs.Tidies.{Tidies, TidiesInto, DisplacesRestOf, HandsOutRest};
 ghost use Rattle.mt_core.specs.Nexts.{IsNext, ending};
 ghost use Rattle.mt_operation.specs.declared.operation.Operation.{Operation as AnyOperation};
@@ -30,7 +31,7 @@ ghost use Rattle.mt_operation.specs.Tables.{op_at as operation_at};
 
 use crate::answers::Ticket;
 use crate::displaced::Displaced;
-use crate::drains::{least_of, none_given, records_after};
+use crate::drains::{give_all, least_of, none_given, records_after};
 use crate::looks::look;
 use crate::openings::{Opening, give_back, give_up};
 use mt_arena::Arena;
@@ -203,6 +204,22 @@ impl Inner {
         let needed = self.operations.floor_needed(self.steps);
         let floor = least_of(&self.logs, needed);
         self.tape.trim_into(floor, &mut displaced.writes);
+    }
+
+    /// Begins the counting anew at a number of steps, where no operation is open: nobody remembers a
+    /// node's version, a step or an answer.
+    pub(crate) fn renumber(&mut self, steps: u64)
+        requires idle { (o : ℕ) → operation_at self.old.table o ≡ None }
+        requires few { steps ≤ 2 ^ 59 }
+        ensures { self.new ≡ core_renumbered steps self.old }
+    {
+        self.arena.facts();
+        self.arena.renumber(steps);
+        self.tape = Tape::new(self.alloc, steps);
+        self.operations = Operations::new(self.alloc);
+        give_all(&mut self.logs, steps);
+        self.answers = 0;
+        self.steps = steps;
     }
 
     /// How many logs are served.

@@ -16,13 +16,14 @@ mod layers;
 mod looks;
 pub mod openings;
 mod removals;
+mod restore;
 pub mod shape;
 pub mod state;
 mod writes;
 
 pub use answers::Ticket;
 pub use displaced::Displaced;
-pub use events::{ToldList, run_events};
+pub use events::{Roster, ToldList, run_events, tell};
 pub use inner::MAX_STEPS;
 pub use openings::{Opening, prepare};
 pub use shape::{Edge, Separators, ShapeLine};

@@ -3,11 +3,13 @@
 //! It owns its nodes, its tape and its operations. Errors: refusals of `begin`, which change nothing.
 //! Units: steps by their numbers, which begin at 1.
 
-ghost use Rattle.std.specs.Prelude.{◌≡◌, ◌≢◌, ◌<◌, ◌≤◌, ◌↔◌, ℕ, IfOk, OnOk, OnErr, IsTrue, IsSome, length, Some};
+ghost use Rattle.std.specs.Prelude.{◌^◌, ◌≡◌, ◌≢◌, ◌<◌, ◌≤◌, ◌↔◌, ℕ, IfOk, OnOk, OnErr, IsTrue, IsSome, length, Some};
 ghost use Rattle.std.specs.Option.{option_map};
+ghost use Rattle.std.specs.List.{All};
 ghost use Rattle.mt_batches.specs.Batches.{IsInOrder};
 ghost use Rattle.mt_rows.specs.Accounts.{account_of};
 ghost use Rattle.mt_rows.specs.Tenants.{tenant_map};
+ghost use Rattle.mt_rows.specs.TenantPairs.{pairs_of, quota_in, IsTenantPair, AreDistinct, HasTenants, KeepsQuotas};
 ghost use Rattle.mt_state.specs.Views.{op_at, contents_of};
 ghost use Rattle.mt_state.specs.Promises.{Tells};
 ghost use Rattle.mt_state.specs.Phases.{LeadsOn};
@@ -21,15 +23,17 @@ ghost use Rattle.mt_core.specs.Shows.{phase_at, noted_at};
 ghost use Rattle.mt_core.specs.Alone.{Runs, IsAlone, EndsAlone, IsUndisturbed, EndsSoon};
 ghost use Rattle.mt_core.specs.Drains.{Drains};
 ghost use Rattle.mt_core.specs.Tidies.{Tidies, TidiesInto, HandsOutRest};
+ghost use Rattle.mt_core.specs.Restores.{IsRestored};
 ghost use Rattle.mt_operation.specs.Operations.{OperationView};
 
 use crate::answers::Ticket;
 use crate::displaced::Displaced;
 use crate::inner::Inner;
 use crate::openings::{Opening, prepare};
+use crate::restore::restored;
 use crate::shape::{ShapeLine, shape_of};
 use mt_operation::Phase;
-use mt_rows::{Batch, Command, Refusal, Reply, Tenants};
+use mt_rows::{Batch, Command, Refusal, Reply, TenantPair, Tenants};
 use mt_runs::Answer;
 use mt_state::Move;
 use std::alloc::{AllocError, Global};
@@ -58,6 +62,29 @@ impl State {
         ensures { IfOk result (λ state. state ≡ new_state logs tenants) }
     {
         let inner = Inner::new(alloc, logs, tenants)?;
+        Ok(State { inner })
+    }
+
+    /// A store as a recovery leaves it: a state that has made so many steps and has these pairs, each
+    /// placed by the last of these steps, and no others. Counting goes on from there, and so do the logs
+    /// of so many workers. An error comes where memory is refused.
+    pub fn restore(
+        alloc: Global,
+        steps: u64,
+        logs: u8,
+        tenants: Tenants,
+        pairs: &[TenantPair],
+    ) -> Result<State, AllocError>
+        requires steps { steps ≤ 2 ^ 59 }
+        requires logs { logs ≤ 64 }
+        requires empty { HaveNoPairs tenants }
+        requires limits { All IsTenantPair pairs.now }
+        requires distinct { AreDistinct pairs.now }
+        requires tenants { HasTenants (quota_in tenants) (pairs_of pairs.now) }
+        requires quotas { KeepsQuotas (quota_in tenants) (pairs_of pairs.now) }
+        ensures { IfOk result (λ s. IsRestored steps logs tenants pairs.now s) }
+    {
+        let inner = restored(alloc, steps, logs, tenants, pairs)?;
         Ok(State { inner })
     }
 

@@ -9,7 +9,8 @@ use Rattle.mt_log.specs.Contents.{Contents, IsContents, JoinsAndRises}
 use Rattle.mt_crashes.specs.Fronts.{cutoff_of, is_void, all_voids, records_of, all_records, is_replayed, In, Rise, IsReplay, after_changes}
 use Rattle.mt_crashes.specs.Histories.{Placed, upto, changes_of, pairs_upto}
 use Rattle.mt_rows.specs.Tenants.{Contents as Pairs}
-use Rattle.mt_crashes.specs.Recoveries.{IsUsed, IsBaseOf, IsRecovered, AreSet, StandsTwice, HasTenants, KeepsQuotas}
+use Rattle.mt_crashes.specs.Recoveries.{IsUsed, IsBaseOf, IsRecovered, AreSet, StandsTwice}
+use Rattle.mt_rows.specs.TenantPairs.{HasTenants, KeepsQuotas}
 use Rattle.mt_crashes.specs.Bases.{over, CheckpointView, Slots, IsBase}
 use Rattle.mt_crashes.proofs.Bases.{over_base, empty_base}
 use Rattle.mt_crashes.specs.Walks.{AreWalked}

@@ -2,7 +2,7 @@
 use Rattle.std.specs.Prelude.{◌≡◌, ◌≢◌, ◌⊎◌, ℕ, ◌<◌, ◌≤◌, max, false, List, [], ◌∷◌, length, Option, Some, None, slice_get}
 use Rattle.std.specs.FinMap as pairs
 use Rattle.mt_rows.specs.Rows.{Bytes}
-use Rattle.mt_rows.specs.Tenants.{Contents as Pairs, tenant_map}
+use Rattle.mt_rows.specs.Tenants.{Contents as Pairs}
 use Rattle.mt_rows.specs.declared.record.Record.{Record}
 use Rattle.mt_log.specs.Contents.{Contents}
 use Rattle.mt_crashes.specs.Bases.{CheckpointView, Slots}
@@ -60,11 +60,3 @@ pub record StandsTwice (fronts : List Contents) (stamp : ℕ) (i j : ℕ) : Type
   pub other : i ≢ j
   pub one : (f : Contents) × (r : Record) × (slice_get fronts i ≡ Some f) × In r (records_of f) × (r.stamp ≡ stamp)
   pub two : (g : Contents) × (q : Record) × (slice_get fronts j ≡ Some g) × In q (records_of g) × (q.stamp ≡ stamp)
-
--- each key is of a tenant that has a quota
-abbrev pub HasTenants : (ℕ → Option ℕ) → Pairs → Type 0
-HasTenants quota found = (key : ℕ × Bytes) → pairs.get found key ≢ None → quota key.0 ≢ None
-
--- no tenant has more pairs than its quota
-abbrev pub KeepsQuotas : (ℕ → Option ℕ) → Pairs → Type 0
-KeepsQuotas quota found = (t most : ℕ) → quota t ≡ Some most → pairs.len (tenant_map t found) ≤ most

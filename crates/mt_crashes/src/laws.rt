@@ -13,7 +13,8 @@ ghost use Rattle.mt_crashes.specs.Fronts.{In, cutoff_of, is_void, all_voids, all
 ghost use Rattle.mt_crashes.specs.Histories.{pairs_upto};
 ghost use Rattle.mt_crashes.specs.Bases.{CheckpointView, Slots, IsBase};
 ghost use Rattle.mt_crashes.specs.Walks.{AreWalked};
-ghost use Rattle.mt_crashes.specs.Recoveries.{MayUse, HasSlot, IsRecovered, AreSet, StandsTwice, HasTenants, KeepsQuotas};
+ghost use Rattle.mt_crashes.specs.Recoveries.{MayUse, HasSlot, IsRecovered, AreSet, StandsTwice};
+ghost use Rattle.mt_rows.specs.TenantPairs.{HasTenants, KeepsQuotas};
 ghost use Rattle.mt_crashes.specs.Examples.{change, fronts_of_two};
 ghost use Rattle.mt_crashes.specs.Stores.{Store, new_store, Leads, MayLeaveFronts, MayLeaveSlots, ReachesAt, AllReach};
 

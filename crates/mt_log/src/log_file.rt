@@ -85,6 +85,13 @@ impl<D: Disk> LogFile<D> {
         self.mark
     }
 
+    /// Its disk, to be looked at.
+    pub fn disk(&self) -> &D
+        ensures { result.now ≡ self.now.disk }
+    {
+        &self.disk
+    }
+
     /// Its disk.
     pub fn into_disk(self) -> D
         ensures { result ≡ self.disk }

@@ -12,7 +12,7 @@ use Rattle.mt_rows.proofs.ContentLaws.{owned_total, same_contents}
 use Rattle.mt_rows.specs.declared.record.TenantPair.{TenantPair}
 use Rattle.mt_tape.specs.Histories.{with_row}
 use Rattle.mt_crashes.specs.Fronts.{after_changes}
-use Rattle.mt_recover.specs.Pairs.{owner_of, entry_of}
+use Rattle.mt_rows.specs.TenantPairs.{owner_of, entry_of}
 
 abbrev pub Owner : Type 0
 Owner = ℕ × Bytes

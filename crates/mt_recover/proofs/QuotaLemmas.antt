@@ -18,9 +18,10 @@ use Rattle.mt_rows.specs.Tenants.{owned_cmp, tenant_map}
 use Rattle.mt_rows.specs.declared.record.TenantPair.{TenantPair}
 use Rattle.mt_rows.proofs.CommandLaws.{keys_total, keys_exact}
 use Rattle.mt_rows.proofs.ContentLaws.{owned_total, owned_exact, same_owner, tied_owner}
-use Rattle.mt_crashes.specs.Recoveries.{HasTenants, KeepsQuotas}
+use Rattle.mt_rows.specs.TenantPairs.{HasTenants, KeepsQuotas}
 use Rattle.mt_crashes.proofs.Members.{no_some}
-use Rattle.mt_recover.specs.Pairs.{owner_of, entry_of, pairs_of, Ascend}
+use Rattle.mt_recover.specs.Pairs.{Ascend}
+use Rattle.mt_rows.specs.TenantPairs.{owner_of, entry_of, pairs_of}
 use Rattle.mt_recover.specs.Orders.{DontFall}
 use Rattle.mt_recover.specs.Quotas.{have_tenants, has_room, over_behind, first_over}
 use Rattle.mt_recover.specs.Refusals.{IsFirstOver}

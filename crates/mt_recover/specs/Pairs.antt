@@ -1,27 +1,14 @@
 -- Pairs as lists and maps of the code: what a checkpoint holds, and what a recovery gives.
-use Rattle.std.specs.Prelude.{ℕ, List, map, Option}
-use Rattle.std.specs.Option.{option_map}
+use Rattle.std.specs.Prelude.{ℕ, List, map}
 use Rattle.std.specs.BTreeMap.{BTreeMap}
 use Rattle.std.specs.List.Sorted.{IsStrictlySortedBy}
 use Rattle.std.specs.FinMap as pairs
 use Rattle.mt_rows.specs.Rows.{Bytes, Columns}
 use Rattle.mt_rows.specs.Tenants.{Contents as Pairs, owned_cmp}
-use Rattle.mt_rows.specs.Accounts.{Accounts, account_of}
+use Rattle.mt_rows.specs.TenantPairs.{owner_of, pairs_of}
 use Rattle.mt_rows.specs.declared.record.TenantPair.{TenantPair}
 use Rattle.mt_crashes.specs.Bases.{CheckpointView}
 use Rattle.mt_recover.specs.declared.checkpoint.Checkpoint.{Checkpoint}
-
--- whose key a pair has
-abbrev pub owner_of : TenantPair → ℕ × Bytes
-owner_of p = (p.tenant, p.key)
-
--- a pair by its owner
-abbrev pub entry_of : TenantPair → (ℕ × Bytes) × Columns
-entry_of p = (owner_of p, p.row)
-
--- the pairs of a list
-abbrev pub pairs_of : List TenantPair → Pairs
-pairs_of ps = pairs.from_entries (map entry_of ps)
 
 -- by tenant, and then by key: they rise strictly
 abbrev pub Ascend : List TenantPair → Type 0
@@ -34,7 +21,3 @@ pairs_in m = pairs.from_entries m.entries
 -- a checkpoint, without where it lies in memory
 abbrev pub view_of : Checkpoint → CheckpointView
 view_of c = record { from = c.first; to = c.last; pairs = pairs_of c.pairs.items }
-
--- a tenant's quota, if it is in the list
-abbrev pub quota_in : Accounts → ℕ → Option ℕ
-quota_in accounts tenant = option_map (λ a. a.quota) (account_of accounts tenant)

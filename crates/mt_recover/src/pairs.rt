@@ -3,7 +3,8 @@
 ghost use Rattle.std.specs.Prelude.{◌≡◌, map, OnOk, IfOk};
 ghost use Rattle.std.specs.FinMap as fin;
 ghost use Rattle.mt_crashes.specs.Fronts.{with_change};
-ghost use Rattle.mt_recover.specs.Pairs.{entry_of, pairs_of, pairs_in, Ascend};
+ghost use Rattle.mt_recover.specs.Pairs.{pairs_in, Ascend};
+ghost use Rattle.mt_rows.specs.TenantPairs.{entry_of, pairs_of};
 
 use mt_rows::{Key, Record, Row, TenantPair};
 use std::alloc::{AllocError, Global};

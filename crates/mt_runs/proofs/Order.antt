@@ -10,7 +10,7 @@ use Rattle.mt_rows.specs.Maps.{Map, is_change, is_scan, is_no_memory, reply_of, 
 use Rattle.mt_rows.proofs.CommandLaws.{same_map_after}
 use Rattle.mt_runs.specs.declared.event.Answer.{Answer}
 use Rattle.mt_runs.specs.Runs.{Story, Asked, last_step, Finished, IsSinceFirst, IsUpToLast, IsBetween}
-use Rattle.mt_runs.specs.Placings.{Quotas, Maps, is_placed, reply_in, maps_after_one, maps_after, Along, MayStand, Fits, HasReply, map_upto, HasOneOrder}
+use Rattle.mt_runs.specs.Placings.{Quotas, Maps, is_placed, reply_in, maps_after_one, maps_after, Placing, Along, MayStand, Fits, HasReply, IsLegal, AreScansLawful, map_upto, HasOneOrder}
 use Rattle.mt_runs.specs.Right.{maps_at, IsChangeAfter, Right}
 use Rattle.mt_runs.proofs.Walks.{last_number, last_number-append, maps_after-append, Along-append, LeavesMaps, maps_after-leaves, last_number-leaves, Along-leaves}
 use Rattle.mt_runs.proofs.Steps.{owner_in}
@@ -201,9 +201,11 @@ module _ (quotas : Quotas) (first : Maps) (story : Story) (map_at : ℕ → ℕ 
       by true e = inl ((r.answers o answer done).changed_so placed e)
       by false e = inr (answer, done, and_from _ _ placed (and_from _ _ (not_from_false _ e) (eq-eqb _ _ refl)))
 
--- one order explains a run that is right
-pub one_order : (quotas : Quotas) (first : Maps) (story : Story) (map_at : ℕ → ℕ → Map) (changed : ℕ → Bool) → Right quotas first story map_at changed → HasOneOrder quotas first story
-one_order quotas first story map_at changed r =
+-- one order explains a run that is right; each map that the run went through is the one after the order's changes up to its number
+pub order_with_maps : (quotas : Quotas) (first : Maps) (story : Story) (map_at : ℕ → ℕ → Map) (changed : ℕ → Bool) → Right quotas first story map_at changed
+    → (placing : Placing) × Fits quotas first story placing × IsLegal quotas first story placing × AreScansLawful quotas first story placing
+    × ((t m : ℕ) → story.base ≤ m → m ≤ last_step story → map_at t m ≡ map_upto quotas first story placing t m)
+order_with_maps quotas first story map_at changed r =
     let n = last_step story in
     let placing = placed_upto story changed n in
     let from : story.base ≤ n = omega arith in
@@ -218,12 +220,19 @@ one_order quotas first story map_at changed r =
       ends = r.last_end;
     } in
     let legal = (upto_along quotas first story map_at changed r (HasReply quotas story) (change_has_reply quotas first story map_at changed r) (look_has_reply quotas first story map_at changed r) n from (omega arith)).0 in
+    let maps : (t m : ℕ) → story.base ≤ m → m ≤ last_step story → map_at t m ≡ map_upto quotas first story placing t m = λ t m above le.
+    sym (ap (λ ps. maps_after quotas story first ps t) (part_upto story changed m n le) ∙ ap (λ w. w t) (upto_maps quotas first story map_at changed r m above le)) in
     let scans = λ (o : ℕ) (answer : Answer) (a : Asked) (done : Finished story o answer) (asked_a : story.asked o ≡ Some a).
     lawful_by (map_at a.tenant) (map_upto quotas first story placing a.tenant) (IsBetween story o) (IsBetween story o) (λ m between.
     let k = between.0 in
     let l = between.1 in
     let since = (owner_in story k.0 o k.2).0 in
     let le : m ≤ n = omega (arith, l.1, (owner_in story l.0 o l.2).1) in
-    sym (ap (λ ps. maps_after quotas story first ps a.tenant) (part_upto story changed m n le) ∙ ap (λ w. w a.tenant) (upto_maps quotas first story map_at changed r m (omega (arith, k.1, since)) le)))
+    maps a.tenant m (omega (arith, k.1, since)) le)
     (λ m between. between) (λ m between. between) a.command answer.reply (r.scans o answer a done asked_a) in
-    (placing, fits, legal, scans)
+    (placing, fits, legal, scans, maps)
+
+pub one_order : (quotas : Quotas) (first : Maps) (story : Story) (map_at : ℕ → ℕ → Map) (changed : ℕ → Bool) → Right quotas first story map_at changed → HasOneOrder quotas first story
+one_order quotas first story map_at changed r =
+    let order = order_with_maps quotas first story map_at changed r in
+    (order.0, order.1, order.2, order.3)

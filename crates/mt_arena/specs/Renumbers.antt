@@ -1,0 +1,18 @@
+-- All nodes with counters at 0 and one stamp for all pairs: what is left where nobody remembers a version.
+use Rattle.std.specs.Prelude.{ℕ, List, map}
+use Rattle.mt_version.specs.Parts.{uncounted}
+use Rattle.mt_border.specs.Restamps.{all_restamped}
+use Rattle.mt_arena.specs.NodeView.{NodeView}
+use Rattle.mt_arena.specs.Arena.{ArenaView}
+
+-- a node whose version counts no change, and all whose pairs were placed by the step of this number
+abbrev pub renumbered : ℕ → NodeView → NodeView
+renumbered stamp n = record n { slots = all_restamped stamp n.slots; version = uncounted n.version }
+
+-- all nodes
+abbrev pub all_renumbered : ℕ → List NodeView → List NodeView
+all_renumbered stamp nodes = map (renumbered stamp) nodes
+
+-- an arena with these nodes
+abbrev pub arena_renumbered : ℕ → ArenaView → ArenaView
+arena_renumbered stamp v = record v { nodes = all_renumbered stamp v.nodes }

@@ -1,0 +1,146 @@
+-- A list of pairs, put one after the other: each key is missing when its pair comes, and its tenant has room: for `put_all`.
+use Rattle.std.proofs.Common.{◌≡◌, ◌≢◌, ℕ, zero, suc, ◌+◌, ◌-◌, ◌<◌, ◌≤◌, inl, inr, Bool, true, false, cond, List, [], ◌∷◌, ◌++◌, map, length, take, Option, Some, None, refl, sym, ap, subst, ◌∙◌, arith}
+use Rattle.std.specs.Prelude.{slice_get, is_some}
+use Rattle.std.specs.List.{All}
+use Rattle.std.specs.Ordering.{eq_by_cmp}
+use Rattle.std.specs.FinMap as pairs
+use Rattle.std.specs.FinMap.{find, get-from_entries, from_entries_push, len-insert}
+use Rattle.std.proofs.lemmas.Bool.{cases_eq}
+use Rattle.std.proofs.lemmas.List.{map-append, take_all, take_more}
+use Rattle.std.proofs.lemmas.Option.{same_Some, none-some, slice_get_within, get_or_from_slice_get}
+use Rattle.mt_rows.specs.declared.record.TenantPair.{TenantPair}
+use Rattle.mt_rows.specs.Rows.{Bytes}
+use Rattle.mt_rows.specs.Tenants.{owned_cmp, Contents, tenant_map}
+use Rattle.mt_rows.specs.TenantPairs.{owner_of, entry_of, pairs_of, IsTenantPair, AreDistinct, HasTenants, KeepsQuotas}
+use Rattle.mt_rows.proofs.CommandLaws.{keys_total}
+use Rattle.mt_rows.proofs.ContentLaws.{owned_total, owned_exact, same_owner, other_owner, get-tenant_map, tenant_map-insert, tenant_map-insert_other}
+use Rattle.mt_state.specs.Views.{StateView, contents_of, granted}
+use Rattle.mt_core.specs.Restores.{IsIdle, MayPut, HasPut, with_pair}
+
+-- a key of no pair has no entry, and each pair's key has one
+no_entry : (qs : List TenantPair) (key : ℕ × Bytes) → ((j : ℕ) (q : TenantPair) → slice_get qs j ≡ Some q → owner_of q ≢ key) → find owned_cmp key (map entry_of qs) ≡ None
+no_entry [] key none = refl
+no_entry (q ∷ qs) key none =
+    ap (λ b. cond b (Some q.row) (find owned_cmp key (map entry_of qs))) (other_owner key (owner_of q) (λ is. none 0 q refl (sym is)))
+    ∙ no_entry qs key (λ j r there. none (suc j) r there)
+
+has_entry : (qs : List TenantPair) (j : ℕ) (q : TenantPair) → slice_get qs j ≡ Some q → find owned_cmp (owner_of q) (map entry_of qs) ≢ None
+has_entry [] j q there is = none-some q there
+has_entry (p ∷ qs) zero q there is =
+    let same : p ≡ q = same_Some p q there in
+    let ties = ap (λ (x : TenantPair). eq_by_cmp owned_cmp (owner_of q) (owner_of x)) same ∙ same_owner (owner_of q) in
+    none-some p.row (sym is ∙ ap (λ b. cond b (Some p.row) (find owned_cmp (owner_of q) (map entry_of qs))) ties)
+has_entry (p ∷ qs) (suc j) q there is = by (eq_by_cmp owned_cmp (owner_of q) (owner_of p)) is (has_entry qs j q there)
+  where
+    by : (b : Bool) → cond b (Some p.row) (find owned_cmp (owner_of q) (map entry_of qs)) ≡ None → find owned_cmp (owner_of q) (map entry_of qs) ≢ None → ⊥
+    by true e rest = none-some p.row (sym e)
+    by false e rest = rest e
+
+-- what is in the front of a list stands there in the list
+in_front : (ps : List TenantPair) (i j : ℕ) (q : TenantPair) → slice_get (take i ps) j ≡ Some q → (j < i) × (slice_get ps j ≡ Some q)
+in_front ps zero j q there = absurd (none-some q there)
+in_front [] (suc i) j q there = absurd (none-some q there)
+in_front (p ∷ ps) (suc i) zero q there = (omega arith, there)
+in_front (p ∷ ps) (suc i) (suc j) q there = let h = in_front ps i j q there in (omega (arith, h.0), h.1)
+
+-- inside a list there is an element
+not_past : (qs : List TenantPair) (j : ℕ) → j < length qs → slice_get qs j ≢ None
+not_past [] j lt e = omega (arith, lt)
+not_past (q ∷ qs) zero lt e = none-some q (sym e)
+not_past (q ∷ qs) (suc j) lt e = not_past qs j (omega (arith, lt)) e
+
+-- a pair more of a missing key: its tenant has one more, and no tenant has fewer
+count_here : (c : Contents) (p : TenantPair) → pairs.get c (owner_of p) ≡ None → pairs.len (tenant_map p.tenant (with_pair p c)) ≡ pairs.len (tenant_map p.tenant c) + 1
+count_here c p missing =
+    let none : pairs.get (tenant_map p.tenant c) p.key ≡ None = get-tenant_map p.tenant c p.key ∙ missing in
+    ap pairs.len (tenant_map-insert p.tenant c p.key p.row) ∙ len-insert keys_total (tenant_map p.tenant c) p.key p.row
+    ∙ ap (λ o. cond (is_some o) (pairs.len (tenant_map p.tenant c)) (pairs.len (tenant_map p.tenant c) + 1)) none
+
+count_grows : (c : Contents) (p : TenantPair) (t : ℕ) → pairs.get c (owner_of p) ≡ None → pairs.len (tenant_map t c) ≤ pairs.len (tenant_map t (with_pair p c))
+count_grows c p t missing = elim (cases_eq p.tenant t) [
+  | inl is ↦
+      subst (λ u. pairs.len (tenant_map u c) ≤ pairs.len (tenant_map u (with_pair p c))) is (omega (arith, count_here c p missing))
+  | inr other ↦ let same = ap pairs.len (tenant_map-insert_other t p.tenant c p.key p.row other) in omega (arith, same)
+]
+
+module _ (ps : List TenantPair) (distinct : AreDistinct ps) where
+  -- the key of a pair is missing in those before it
+  missing_entry : (i : ℕ) (p : TenantPair) → slice_get ps i ≡ Some p → find owned_cmp (owner_of p) (map entry_of (take i ps)) ≡ None
+  missing_entry i p at = no_entry (take i ps) (owner_of p) (λ j q there is.
+      let front = in_front ps i j q there in
+      let same = distinct j i q p front.1 at is in absurd (omega (arith, front.0, same)))
+
+  pub missing_so_far : (i : ℕ) (p : TenantPair) → slice_get ps i ≡ Some p → pairs.get (pairs_of (take i ps)) (owner_of p) ≡ None
+  missing_so_far i p at = get-from_entries owned_total (map entry_of (take i ps)) (owner_of p) ∙ missing_entry i p at
+
+  -- with it they are one pair more
+  pub one_pair_more : (i : ℕ) (p : TenantPair) → slice_get ps i ≡ Some p → pairs_of (take (i + 1) ps) ≡ with_pair p (pairs_of (take i ps))
+  one_pair_more i p at =
+      ap pairs_of (take_more ps i p (slice_get_within ps i p at) ∙ ap (λ x. take i ps ++ x ∷ []) (get_or_from_slice_get ps i p p at))
+      ∙ ap pairs.from_entries (map-append entry_of (take i ps) (p ∷ []))
+      ∙ from_entries_push owned_total owned_exact (map entry_of (take i ps)) (owner_of p) p.row (missing_entry i p at)
+
+  -- no tenant has more pairs in the front than in all
+  fewer : (n i t : ℕ) → i + n ≡ length ps → pairs.len (tenant_map t (pairs_of (take i ps))) ≤ pairs.len (tenant_map t (pairs_of ps))
+  fewer zero i t is = let same = ap (λ qs. pairs.len (tenant_map t (pairs_of qs))) (take_all i ps (omega arith)) in omega (arith, same)
+  fewer (suc n) i t is = by (slice_get ps i) refl (fewer n (i + 1) t (omega (arith, is)))
+    where
+      by : (x : Option TenantPair) → slice_get ps i ≡ x → pairs.len (tenant_map t (pairs_of (take (i + 1) ps))) ≤ pairs.len (tenant_map t (pairs_of ps))
+          → pairs.len (tenant_map t (pairs_of (take i ps))) ≤ pairs.len (tenant_map t (pairs_of ps))
+      by (Some p) at rest =
+          let more = ap (λ c. pairs.len (tenant_map t c)) (one_pair_more i p at) in
+          let grown = count_grows (pairs_of (take i ps)) p t (missing_so_far i p at) in
+          omega (arith, more, grown, rest)
+      by None at rest = absurd (not_past ps i (omega (arith, is)) at)
+
+  -- so each tenant has room as long as a pair of it is to come
+  room_so_far : (i : ℕ) (p : TenantPair) → slice_get ps i ≡ Some p → pairs.len (tenant_map p.tenant (pairs_of (take i ps))) < pairs.len (tenant_map p.tenant (pairs_of ps))
+  room_so_far i p at =
+      let inside : i < length ps = slice_get_within ps i p at in
+      let more = ap (λ c. pairs.len (tenant_map p.tenant c)) (one_pair_more i p at) in
+      let here = count_here (pairs_of (take i ps)) p (missing_so_far i p at) in
+      let rest = fewer (length ps - (i + 1)) (i + 1) p.tenant (omega arith) in
+      omega (arith, more, here, rest)
+
+  -- a state with the front of the pairs may be given the next one
+  module _ (start now : StateView) (i : ℕ) (p : TenantPair) (at : slice_get ps i ≡ Some p) (has : HasPut start now (pairs_of (take i ps))) where
+    pub may_put : All IsTenantPair ps → HasTenants (granted start) (pairs_of ps) → KeepsQuotas (granted start) (pairs_of ps) → MayPut now p
+    may_put limits tenants quotas = by (granted start p.tenant) refl
+      where
+        there : granted start p.tenant ≢ None
+        there = tenants (owner_of p) (λ none. has_entry ps i p at (sym (get-from_entries owned_total (map entry_of ps) (owner_of p)) ∙ none))
+
+        by : (x : Option ℕ) → granted start p.tenant ≡ x → MayPut now p
+        by None e = absurd (there e)
+        by (Some most) e = record {
+          limits = subst IsTenantPair (get_or_from_slice_get ps i p p at) (limits i p (slice_get_within ps i p at));
+          missing = ap (λ c. pairs.get c (owner_of p)) has.contents ∙ missing_so_far i p at;
+          most = most;
+          there = has.granted_so p.tenant ∙ e;
+          room =
+              let same = ap (λ c. pairs.len (tenant_map p.tenant c)) has.contents in
+              let fewer = room_so_far i p at in
+              let few = quotas p.tenant most e in
+              omega (arith, same, fewer, few);
+        }
+
+    -- with it it has one more
+    pub has_more : (next : StateView) → HasPut now next (with_pair p (contents_of now)) → HasPut start next (pairs_of (take (i + 1) ps))
+    has_more next put = record {
+      idle = put.idle;
+      logs = put.logs ∙ has.logs;
+      granted_so = λ t. put.granted_so t ∙ has.granted_so t;
+      contents = put.contents ∙ ap (with_pair p) has.contents ∙ sym (one_pair_more i p at);
+    }
+
+-- at first there is none, and at the end there are all
+pub none_put : (v : StateView) → IsIdle v → contents_of v ≡ pairs.empty → HasPut v v (pairs_of [])
+none_put v idle fresh = record {
+  idle = idle;
+  logs = refl;
+  granted_so = λ t. refl;
+  contents = fresh;
+}
+
+pub all_put : (ps : List TenantPair) (start now : StateView) (i : ℕ) → length ps ≤ i → HasPut start now (pairs_of (take i ps)) → HasPut start now (pairs_of ps)
+all_put ps start now i end has = subst (λ qs. HasPut start now (pairs_of qs)) (take_all i ps end) has

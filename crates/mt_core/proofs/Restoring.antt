@@ -1,0 +1,319 @@
+-- What a put leaves that runs alone in a state without other operations, and what counting anew leaves then: for `restored`.
+use Rattle.std.proofs.Common.{◌≡◌, ◌≢◌, ℕ, zero, suc, ◌+◌, ◌*◌, ◌^◌, ◌<◌, ◌≤◌, ◌⊎◌, inl, inr, Bool, true, false, cond, eqb, List, [], ◌∷◌, length, Option, Some, None, Result, Ok, Err, sym, refl, ap, subst, ◌∙◌, arith}
+use Rattle.std.specs.Prelude.{if◌then◌else◌, OnOk, replicate, slice_set}
+use Rattle.std.specs.FinMap as pairs
+use Rattle.std.specs.Option.{option_map}
+use Rattle.std.proofs.lemmas.Bool.{cases_eq, eqb-true, eqb-false}
+use Rattle.std.proofs.lemmas.List.{get_or-set_other, length-replicate}
+use Rattle.std.proofs.lemmas.Option.{same_Some, none-some}
+use Rattle.mt_rows.specs.declared.command.Command.TheVariants.{Put}
+use Rattle.mt_rows.specs.declared.record.TenantPair.{TenantPair}
+use Rattle.mt_rows.specs.declared.refusal.Refusal.{Refusal}
+use Rattle.mt_rows.specs.declared.refusal.Refusal.TheVariants as refusals
+use Rattle.mt_rows.specs.declared.reply.Reply.{Reply}
+use Rattle.mt_rows.specs.declared.reply.Reply.TheVariants.{New, NoMemory}
+use Rattle.mt_rows.specs.declared.tenants.Account.{Account}
+use Rattle.mt_rows.specs.Accounts.{Accounts, account_of}
+use Rattle.mt_rows.specs.Changes.{Named, changed, indexed}
+use Rattle.mt_rows.specs.Commands.{IsTaken}
+use Rattle.mt_rows.specs.Maps.{Map, reply_of, map_after, map_after_put, told_of_put}
+use Rattle.mt_rows.specs.Tenants.{Contents, tenant_map}
+use Rattle.mt_rows.specs.TenantPairs.{owner_of, pairs_of, IsTenantPair}
+use Rattle.mt_rows.proofs.Indexed.{is_change, changed_indexed}
+use Rattle.mt_rows.proofs.ContentLaws.{same_contents, get-tenant_map, tenant_map-insert, tenant_map-insert_other}
+use Rattle.mt_border.specs.Contents.{AllStamped}
+use Rattle.mt_border.proofs.Restamping.{all-restamped}
+use Rattle.mt_runs.specs.declared.event.Answer.{Answer}
+use Rattle.mt_arena.specs.NodeView.{NodeView}
+use Rattle.mt_arena.specs.Accesses.{at}
+use Rattle.mt_arena.specs.Arena.{live_count}
+use Rattle.mt_arena.specs.Forests.{tree_at}
+use Rattle.mt_arena.specs.Renumbers.{all_renumbered}
+use Rattle.mt_arena.proofs.Renumbering.{at-renumbered, content-renumbered}
+use Rattle.mt_operation.specs.declared.operation.Operation.{Operation}
+use Rattle.mt_operation.specs.declared.outcome.Outcome.{Outcome}
+use Rattle.mt_operation.specs.declared.phase.Phase.{Phase}
+use Rattle.mt_operation.specs.Operations.{OperationView, view_of}
+use Rattle.mt_operation.specs.Tables.{Table, op_at as operation_at}
+use Rattle.mt_state.specs.declared.moves.Move.{Move}
+use Rattle.mt_state.specs.declared.moves.Move.TheVariants.{NoMemory as NoMemoryMove, Done as DoneMove}
+use Rattle.mt_state.specs.Views.{Core, StateView, Shown, shown, contents_of, op_at, granted, granted_in, quota_in as quota_of_account, quota_of}
+use Rattle.mt_state.specs.Promises.{IsStep}
+use Rattle.mt_state.specs.Begins.{Begins, Takes, begun, new_state}
+use Rattle.mt_state.specs.Invariant.{StateInvariant, HoldsAt}
+use Rattle.mt_state.specs.Refused.{Makes, IsFault}
+use Rattle.mt_state.proofs.Shown.{shown_table, shown_at, shown_there}
+use Rattle.mt_core.specs.Admitted.{IsRefusedFor, IsRefusalMade}
+use Rattle.mt_core.specs.Alone.{IsChain, Runs, IsAlone, EndsAlone, EndsAt, IsRun}
+use Rattle.mt_core.specs.Renumbers.{core_renumbered}
+use Rattle.mt_core.specs.Restores.{IsIdle, MayPut, HasPut, put_of, with_pair, counting, IsUncounted, IsRestored}
+
+-- no operation is shown where none is inside
+none_inside : (x : Option Operation) → option_map view_of x ≡ None → x ≡ None
+none_inside None e = refl
+none_inside (Some op) e = absurd (none-some (view_of op) (sym e))
+
+pub idle_inside : (table : Table) → ((o : ℕ) → op_at (shown_table table) o ≡ None) → (o : ℕ) → operation_at table o ≡ None
+idle_inside table idle o = none_inside (operation_at table o) (sym (shown_at table o) ∙ idle o)
+
+-- ---- the numbers
+
+-- a state whose counting began anew at 0 has the same contents, and numbers for a put where nodes are few
+live-renumbered : (s : ℕ) (nodes : List NodeView) → live_count (all_renumbered s nodes) ≡ live_count nodes
+live-renumbered s [] = refl
+live-renumbered s (n ∷ nodes) = ap (λ c. (if n.version.deleted then 0 else 1) + c) (live-renumbered s nodes)
+
+pub anew_has : (s : ℕ) (c d : Core) → IsIdle (shown c) → d ≡ core_renumbered s c → HasPut (shown c) (shown d) (contents_of (shown c))
+anew_has s c d idle is = subst (λ e. HasPut (shown c) (shown e) (contents_of (shown c))) (sym is) (record {
+  idle = λ o. refl;
+  logs = length-replicate (length c.logs) s;
+  granted_so = λ t. refl;
+  contents = content-renumbered s c.arena.trees c.arena.nodes;
+})
+
+pub anew_numbers : (c d : Core) (n : ℕ) → live_count c.arena.nodes ≤ n → n < 2 ^ 50 → d ≡ core_renumbered 0 c → d.steps + 256 * (live_count d.arena.nodes + 64) ≤ 2 ^ 59
+anew_numbers c d n few less is = subst (λ (e : Core). e.steps + 256 * (live_count e.arena.nodes + 64) ≤ 2 ^ 59) (sym is)
+    (let live = live-renumbered 0 c.arena.nodes in omega (arith, few, less, live))
+
+-- a pair may be put after that which might be before, and what was put then was put
+pub may_still : (v w : StateView) (p : TenantPair) → HasPut v w (contents_of v) → MayPut v p → MayPut w p
+may_still v w p has may = record {
+  limits = may.limits;
+  missing = ap (λ c. pairs.get c (owner_of p)) has.contents ∙ may.missing;
+  most = may.most;
+  there = has.granted_so p.tenant ∙ may.there;
+  room = let same = ap (λ c. pairs.len (tenant_map p.tenant c)) has.contents in let room = may.room in omega (arith, same, room);
+}
+
+pub put_after : (v w x : StateView) (p : TenantPair) → HasPut v w (contents_of v) → HasPut w x (with_pair p (contents_of w)) → HasPut v x (with_pair p (contents_of v))
+put_after v w x p has put = record {
+  idle = put.idle;
+  logs = put.logs ∙ has.logs;
+  granted_so = λ t. put.granted_so t ∙ has.granted_so t;
+  contents = put.contents ∙ ap (with_pair p) has.contents;
+}
+
+-- what follows holds where a call went well
+pub on_ok : {T E : Type 0} (P Q : Type 0) (r : Result T E) → (P → Q) → OnOk r P → OnOk r Q
+on_ok P Q (Ok x) so holds = so holds
+on_ok P Q (Err e) so holds = tt
+
+-- ---- the begin
+
+-- the tenant of a pair that may be put is there
+pub has_account : (v : StateView) (p : TenantPair) → MayPut v p → account_of v.accounts p.tenant ≢ None
+has_account v p may none = none-some may.most (sym (ap granted_in none) ∙ may.there)
+
+-- its put is taken
+pub put_taken : (p : TenantPair) → IsTenantPair p → IsTaken (put_of p)
+put_taken p h = let change = is_change p.row h.1 in record { key = h.0; columns = change.names; short = change.short; count = tt }
+
+-- a begin is refused for memory alone whose tenant is there, whose command has no fault, and for which there is a number
+pub refused_for_memory : (v : StateView) (p : TenantPair) (tenant : ℕ) (made : Result OperationView Refusal) (refusal : Refusal) → account_of v.accounts p.tenant ≢ None → IsTaken (put_of p) → v.steps < 2 ^ 59
+    → tenant ≡ p.tenant → Makes (put_of p) made → IsRefusedFor (account_of v.accounts tenant) v made refusal → refusal ≡ refusals.Memory
+refused_for_memory v p tenant made refusal there taken few same makes is =
+    by (account_of v.accounts p.tenant) there (subst (λ t. IsRefusedFor (account_of v.accounts t) v made refusal) same is)
+  where
+    fault : (e : Refusal) → IsFault (put_of p) e → e ≡ refusals.Memory
+    fault refusals.Memory f = refl
+    fault refusals.KeyLong f = absurd (f taken.key)
+    fault refusals.Column f = absurd (f.1 taken.columns)
+    fault refusals.ColumnLong f = absurd (f.2 taken.short)
+    fault refusals.ScanCount f = absurd (f.3 taken.count)
+    fault _ f = absurd f
+
+    cause : (m : Result OperationView Refusal) (e : Refusal) → Makes (put_of p) m → IsRefusalMade v m e → e ≡ refusals.Memory
+    cause (Err e) r makes is = is ∙ fault e makes
+    cause (Ok op) refusals.Memory makes is = refl
+    cause (Ok op) refusals.Spent makes is = absurd (omega (arith, few, is))
+    cause (Ok op) _ makes is = absurd is
+
+    by : (account : Option Account) → account ≢ None → IsRefusedFor account v made refusal → refusal ≡ refusals.Memory
+    by None none is = absurd (none refl)
+    by (Some account) some is = cause made refusal makes is
+
+-- ---- the run
+
+-- an operation that ran alone is done, or there was no memory
+pub ends_so : (answer : Move) (phase : Phase) → EndsAt answer phase → (answer ≡ DoneMove → ⊥) → (answer ≡ NoMemoryMove → ⊥) → ⊥
+ends_so DoneMove phase ends other none = other refl
+ends_so NoMemoryMove phase ends other none = none refl
+ends_so _ phase ends other none = absurd ends
+
+-- what steps of one operation leave
+record Along (old new : StateView) (o : ℕ) : Type 0 where
+  pub logs : new.logs ≡ old.logs
+  pub granted_so : (t : ℕ) → granted new t ≡ granted old t
+  pub others : (q : ℕ) → q ≢ o → op_at new.table q ≡ op_at old.table q
+
+along_none : (v : StateView) (o : ℕ) → Along v v o
+along_none v o = record { logs = refl; granted_so = λ t. refl; others = λ q differ. refl }
+
+along_more : (u v w : StateView) (o : ℕ) → Along u v o → Along v w o → Along u w o
+along_more u v w o a b = record { logs = b.logs ∙ a.logs; granted_so = λ t. b.granted_so t ∙ a.granted_so t; others = λ q differ. b.others q differ ∙ a.others q differ }
+
+along_step : (old new : StateView) (o : ℕ) (done : Bool) → IsStep old new o done → Along old new o
+along_step old new o done s = record {
+  logs = s.logs;
+  granted_so = s.grows.quotas;
+  others = λ q differ. ap (λ t. op_at t q) s.table ∙ get_or-set_other old.table o q (Some s.after) None differ;
+}
+
+along_chain : (made : ℕ) (old new : StateView) (o : ℕ) → IsChain made old new o → Along old new o
+along_chain zero old new o same = subst (λ v. Along old v o) (sym same) (along_none old o)
+along_chain (suc made) old new o c = along_more old c.0 new o (along_chain made old c.0 o c.1) (along_step c.0 new o false c.2)
+
+along_runs : (old new : StateView) (o : ℕ) → Runs old new o DoneMove → Along old new o
+along_runs old new o r = along_more old r.mid new o (along_chain r.made old r.mid o r.chain) (along_step r.mid new o true r.tells)
+
+-- a put of a missing key with room in its quota makes its pair, and is told so
+after_put : (quota : ℕ) (key : _) (change : Named) (m : Map) → pairs.get m key ≡ None → pairs.len m < quota → map_after quota (Put key change) m ≡ pairs.insert m key (changed change [])
+unfolding map_after
+after_put quota key change m missing room =
+    let some : map_after_put quota key change m None ≡ pairs.insert m key (changed change []) = grind (arith, room) in
+    ap (map_after_put quota key change m) missing ∙ some
+
+told_put : (quota : ℕ) (key : _) (change : Named) (m : Map) → pairs.get m key ≡ None → pairs.len m < quota → reply_of quota (Put key change) m ≡ New
+unfolding reply_of
+told_put quota key change m missing room = ap (told_of_put quota (pairs.len m)) missing ∙ grind (arith, room)
+
+-- contents in which each tenant has the same map are one
+by_tenants : (a b : Contents) → ((t : ℕ) → tenant_map t a ≡ tenant_map t b) → a ≡ b
+by_tenants a b same = same_contents a b (λ q. sym (get-tenant_map q.0 a q.1) ∙ ap (λ m. pairs.get m q.1) (same q.0) ∙ get-tenant_map q.0 b q.1)
+
+-- the quota of a pair that may be put has room
+quota_is : (v : StateView) (p : TenantPair) (may : MayPut v p) → quota_of v p.tenant ≡ may.most
+quota_is v p may = by (account_of v.accounts p.tenant) may.there
+  where
+    by : (x : Option Account) → granted_in x ≡ Some may.most → quota_of_account x ≡ may.most
+    by None e = absurd (none-some may.most e)
+    by (Some a) e = same_Some a.quota may.most e
+
+-- a put of a pair that was begun where no other operation is
+module _ (v0 : StateView) (p : TenantPair) (idle : IsIdle v0) (may : MayPut v0 p) (v1 : StateView) (o : ℕ) (begins : Begins v0 v1 o 0 p.tenant (put_of p)) where
+  maps_begun : (t : ℕ) → tenant_map t (contents_of v1) ≡ tenant_map t (contents_of v0)
+  maps_begun t = ap (λ (v : StateView). tenant_map t (contents_of v)) begins.stands
+
+  quotas_begun : (t : ℕ) → quota_of v1 t ≡ quota_of v0 t
+  quotas_begun t = ap (λ (v : StateView). quota_of v t) begins.stands
+
+  missing_now : pairs.get (tenant_map p.tenant (contents_of v1)) p.key ≡ None
+  missing_now = ap (λ m. pairs.get m p.key) (maps_begun p.tenant) ∙ get-tenant_map p.tenant (contents_of v0) p.key ∙ may.missing
+
+  room_now : pairs.len (tenant_map p.tenant (contents_of v1)) < quota_of v1 p.tenant
+  room_now =
+      let maps = ap pairs.len (maps_begun p.tenant) in
+      let quotas = quotas_begun p.tenant in
+      let most = quota_is v0 p may in
+      omega (arith, maps, quotas, most, may.room)
+
+  -- it is alone, so that it runs to its end
+  pub is_alone : (c : Core) → shown c ≡ v1 → StateInvariant c → v1.steps + 256 * (live_count v1.arena.nodes + 64) ≤ 2 ^ 59 → IsAlone v1 o (begun 0 p.tenant (put_of p))
+  is_alone c is sound numbers = record {
+    there = begins.there;
+    first = refl;
+    enters = refl;
+    free = λ k within. by k (subst (λ (v : StateView). k < length v.arena.nodes) (sym is) within) ((at v1.arena k).holder) refl;
+    numbers = numbers;
+  }
+    where
+      held_by_none : (k q : ℕ) → k < length c.arena.nodes → (at c.arena k).holder ≡ Some q → ⊥
+      held_by_none k q within held =
+          let h = sound.holders k q within held in
+          let here : op_at v1.table q ≡ Some (view_of h.0) = ap (λ (v : StateView). op_at v.table q) (sym is) ∙ shown_there c.table q h.0 h.1 in
+          elim (cases_eq q o) [
+            | inl same ↦
+                let only = same_Some _ _ (sym here ∙ ap (op_at v1.table) same ∙ begins.there) in
+                subst (λ phase. HoldsAt phase h.0 k) (ap (λ (x : OperationView). x.phase) only) h.2
+            | inr other ↦ none-some (view_of h.0) (sym (begins.others q other ∙ idle q) ∙ here)
+          ]
+
+      by : (k : ℕ) → k < length c.arena.nodes → (x : Option ℕ) → (at v1.arena k).holder ≡ x → (at v1.arena k).holder ≡ None
+      by k within None e = e
+      by k within (Some q) e = absurd (held_by_none k q within (ap (λ (v : StateView). (at v.arena k).holder) is ∙ e))
+
+  -- once it has run to its end, and was told something else than that there was no memory
+  module _ (v2 v3 : StateView) (answer : Answer) (runs : Runs v1 v2 o DoneMove) (ends : EndsAlone v1 v2 o (begun 0 p.tenant (put_of p)) DoneMove) (takes : Takes v2 v3 o answer) where
+    told : answer.reply ≡ ends.told.reply
+    told =
+        let same : takes.op ≡ ends.after = same_Some _ _ (sym takes.there ∙ ends.there) in
+        ap (λ (t : Outcome). t.reply) (same_Some _ _ (sym takes.told.told ∙ ap (λ (op : OperationView). op.outcome) same ∙ ends.has))
+
+    -- it was told that its pair is new
+    pub told_new : (answer.reply ≡ NoMemory) ⊎ (answer.reply ≡ New)
+    told_new = elim ends.outcome [
+      | inl none ↦ inl (told ∙ none.0)
+      | inr run ↦ inr (told ∙ run.told ∙ told_put (quota_of v1 p.tenant) p.key (indexed 0 p.row) (tenant_map p.tenant (contents_of v1)) missing_now room_now)
+    ]
+
+    -- the maps have the pair then
+    made : IsRun v1 v2 (begun 0 p.tenant (put_of p)) ends.told.reply → (t : ℕ) → tenant_map t (contents_of v2) ≡ tenant_map t (with_pair p (contents_of v0))
+    made run t = run.makes t ∙ here (eqb t p.tenant) refl
+      where
+        here : (b : Bool) → eqb t p.tenant ≡ b
+            → cond b (map_after (quota_of v1 t) (put_of p) (tenant_map t (contents_of v1))) (tenant_map t (contents_of v1)) ≡ tenant_map t (with_pair p (contents_of v0))
+        here true e = subst (λ u. map_after (quota_of v1 u) (put_of p) (tenant_map u (contents_of v1)) ≡ tenant_map u (with_pair p (contents_of v0))) (sym (eqb-true t p.tenant e))
+            (after_put (quota_of v1 p.tenant) p.key (indexed 0 p.row) (tenant_map p.tenant (contents_of v1)) missing_now room_now
+            ∙ ap (pairs.insert (tenant_map p.tenant (contents_of v1)) p.key) (changed_indexed p.row may.limits.1)
+            ∙ ap (λ m. pairs.insert m p.key p.row) (maps_begun p.tenant)
+            ∙ sym (tenant_map-insert p.tenant (contents_of v0) p.key p.row))
+        here false e = maps_begun t ∙ sym (tenant_map-insert_other t p.tenant (contents_of v0) p.key p.row (λ is. eqb-false t p.tenant e (sym is)))
+
+    -- all is as it was but for the pair
+    pub has_put : answer.reply ≡ New → HasPut v0 v3 (with_pair p (contents_of v0))
+    has_put new = elim ends.outcome [
+      | inl none ↦ absurd (other (sym new ∙ told ∙ none.0))
+      | inr run ↦
+          let along = along_runs v1 v2 o runs in
+          record {
+            idle = gone;
+            logs = ap (λ (v : StateView). length v.logs) takes.gone ∙ ap length along.logs ∙ ap (λ (v : StateView). length v.logs) begins.stands;
+            granted_so = λ t. ap (λ (v : StateView). granted v t) takes.gone ∙ along.granted_so t ∙ ap (λ (v : StateView). granted v t) begins.stands;
+            contents = ap contents_of takes.gone ∙ by_tenants (contents_of v2) (with_pair p (contents_of v0)) (made run);
+          }
+    ]
+      where
+        other : ◌≡◌ {A = Reply} New NoMemory → ⊥
+        other e = cc
+
+        gone : IsIdle v3
+        gone q = elim (cases_eq q o) [
+          | inl is ↦ ap (λ (v : StateView). op_at v.table q) takes.gone ∙ ap (λ r. op_at (slice_set v2.table o None) r) is ∙ none_there v2.table o
+          | inr differ ↦ ap (λ (v : StateView). op_at v.table q) takes.gone ∙ get_or-set_other v2.table o q None None differ ∙ (along_runs v1 v2 o runs).others q differ ∙ begins.others q differ ∙ idle q
+        ]
+          where
+            none_there : (table : Shown) (r : ℕ) → op_at (slice_set table r None) r ≡ None
+            none_there [] r = refl
+            none_there (x ∷ table) zero = refl
+            none_there (x ∷ table) (suc r) = none_there table r
+
+-- ---- the whole
+
+-- an account with the same quota is one that counts what it counts
+counts_so : (n : ℕ) (x y : Option Account) → granted_in x ≡ granted_in y → ((a : Account) → x ≡ Some a → a.count ≡ n) → x ≡ option_map (counting n) y
+counts_so n None None same count = refl
+counts_so n (Some a) (Some b) same count = λ i. Some (record { quota = same_Some a.quota b.quota same i; count = count a refl i })
+counts_so n None (Some b) same count = absurd (none-some b.quota same)
+counts_so n (Some a) None same count = absurd (none-some a.quota (sym same))
+
+-- a new state that was put the pairs is restored once it counts anew
+pub is_restored : (steps logs : ℕ) (accounts : Accounts) (ps : List TenantPair) (start : StateView) (inside c d : Core) → start ≡ new_state logs accounts → HasPut start (shown c) (pairs_of ps)
+    → inside ≡ c → StateInvariant inside → d ≡ core_renumbered steps c → IsRestored steps logs accounts ps (shown d)
+is_restored steps logs accounts ps start inside c d new put same sound is =
+    subst (λ e. IsRestored steps logs accounts ps (shown e)) (sym is) (record {
+      steps_are = refl;
+      answers_are = refl;
+      logs_are = ap (λ n. replicate n steps) (put.logs ∙ ap (λ (v : StateView). length v.logs) new ∙ length-replicate logs 0);
+      tape_is = refl;
+      table_is = refl;
+      contents_are = content-renumbered steps c.arena.trees c.arena.nodes ∙ put.contents;
+      accounts_are = λ t. counts_so (pairs.len (tenant_map t (pairs_of ps))) (account_of c.accounts t) (account_of accounts t) (put.granted_so t ∙ ap (λ (v : StateView). granted v t) new)
+          (λ a there. ((kept same sound).counts t a there).0 ∙ ap (λ x. pairs.len (tenant_map t x)) put.contents);
+      stamps = λ k within counted.
+          subst (λ (n : NodeView). AllStamped (λ q s. s ≡ steps) (tree_at c.arena.trees n.tree).prefix n.slots) (sym (at-renumbered steps c.arena.nodes k))
+          (all-restamped (λ q s. s ≡ steps) steps (tree_at c.arena.trees (at c.arena k).tree).prefix (at c.arena k).slots (λ q. refl));
+      versions = λ k within. subst IsUncounted (sym (at-renumbered steps c.arena.nodes k)) (record { inserts = refl; splits = refl });
+    })
+  where
+    kept : inside ≡ c → StateInvariant inside → StateInvariant c
+    kept e h = subst (λ (x : Core). StateInvariant x) e h

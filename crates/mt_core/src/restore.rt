@@ -1,0 +1,132 @@
+//! A state that begins with pairs, as a recovery leaves them.
+//!
+//! The pairs are put one after the other, each by an operation that runs alone, and numbered by its own
+//! steps; then all counting begins anew at the number that was asked for. Where these steps come near
+//! the last number, it begins anew at 0 in between. Errors: `AllocError`; nothing else is refused.
+
+ghost use Rattle.std.specs.Prelude.{◌≡◌, ◌≢◌, ◌+◌, ◌*◌, ◌<◌, ◌≤◌, ◌^◌, ℕ, None, Some, IfOk, OnOk};
+ghost use Rattle.std.specs.List.{All};
+ghost use Rattle.std.specs.FinMap as fin;
+ghost use Rattle.mt_rows.specs.Accounts.{account_of};
+ghost use Rattle.mt_rows.specs.TenantPairs.{pairs_of, quota_in, IsTenantPair, AreDistinct, HasTenants, KeepsQuotas};
+ghost use Rattle.mt_arena.specs.Arena.{live_count};
+ghost use Rattle.mt_state.specs.Views.{StateView, shown, contents_of, granted};
+ghost use Rattle.mt_state.specs.Begins.{HaveNoPairs, Begins};
+ghost use Rattle.mt_core.specs.Restores.{put_of, with_pair, IsIdle, MayPut, HasPut, IsRestored};
+ghost use Rattle.mt_rows.specs.declared.record.TenantPair.{TenantPair as AnyPair};
+
+use crate::answers::Ticket;
+use crate::displaced::Displaced;
+use crate::inner::{Inner, MAX_STEPS};
+use crate::openings::prepare;
+use mt_rows::{Command, NamedColumns, Refusal, Reply, TenantPair, Tenants};
+use mt_state::Move;
+use std::alloc::{AllocError, Global};
+
+/// What is inside a state that has made so many steps, and has these pairs.
+pub(crate) fn restored(
+    alloc: Global,
+    steps: u64,
+    logs: u8,
+    tenants: Tenants,
+    pairs: &[TenantPair],
+) -> Result<Inner, AllocError>
+    requires steps { steps ≤ 2 ^ 59 }
+    requires logs { logs ≤ 64 }
+    requires empty { HaveNoPairs tenants }
+    requires limits { All IsTenantPair pairs.now }
+    requires distinct { AreDistinct pairs.now }
+    requires tenants { HasTenants (quota_in tenants) (pairs_of pairs.now) }
+    requires quotas { KeepsQuotas (quota_in tenants) (pairs_of pairs.now) }
+    ensures { IfOk result (λ inner. IsRestored steps logs tenants pairs.now (shown inner)) }
+{
+    let mut inner = Inner::new(alloc, logs, tenants)?;
+    put_all(&mut inner, pairs)?;
+    inner.renumber(steps);
+    Ok(inner)
+}
+
+// Puts the pairs one after the other, where there are none.
+fn put_all(inner: &mut Inner, pairs: &[TenantPair]) -> Result<(), AllocError>
+    requires idle { IsIdle (shown inner.old) }
+    requires fresh { contents_of (shown inner.old) ≡ fin.empty }
+    requires limits { All IsTenantPair pairs.now }
+    requires distinct { AreDistinct pairs.now }
+    requires tenants { HasTenants (granted (shown inner.old)) (pairs_of pairs.now) }
+    requires quotas { KeepsQuotas (granted (shown inner.old)) (pairs_of pairs.now) }
+    ensures { OnOk result (HasPut (shown inner.old) (shown inner.new) (pairs_of pairs.now)) }
+{
+    for pair in pairs {
+        put_alone(inner, pair)?;
+    }
+    Ok(())
+}
+
+// Puts a pair of a missing key, where no operation is open.
+fn put_alone(inner: &mut Inner, pair: &TenantPair) -> Result<(), AllocError>
+    requires idle { IsIdle (shown inner.old) }
+    requires pair { MayPut (shown inner.old) pair.now }
+    ensures { OnOk result (HasPut (shown inner.old) (shown inner.new) (with_pair pair.now (contents_of (shown inner.old)))) }
+{
+    make_numbers(inner)?;
+    let ticket = begin(inner, pair)?;
+    run(inner, ticket)
+}
+
+// Begins the put of a pair whose tenant is there.
+fn begin(inner: &mut Inner, pair: &TenantPair) -> Result<Ticket, AllocError>
+    requires limits { IsTenantPair pair.now }
+    requires tenant { account_of inner.old.accounts pair.now.tenant ≢ None }
+    requires numbers { inner.old.steps < 2 ^ 59 }
+    ensures { IfOk result (λ ticket. Begins (shown inner.old) (shown inner.new) ticket.id 0 pair.now.tenant (put_of pair.now)) }
+{
+    let change = NamedColumns::of_row(inner.alloc, &pair.row)?;
+    let key = pair.key.clone()?;
+    let opening = prepare(inner.alloc, 0, pair.tenant, Command::Put { key, change });
+    match inner.admit(opening) {
+        Ok(ticket) => Ok(ticket),
+        Err(Refusal::Memory) => Err(AllocError),
+        Err(_) => unreachable!(),
+    }
+}
+
+// Runs the put of a pair of a missing key to its end.
+fn run(inner: &mut Inner, ticket: Ticket) -> Result<(), AllocError>
+    requires begun { (v : StateView) × (p : AnyPair) × IsIdle v × MayPut v p × Begins v (shown inner.old) ticket.id 0 p.tenant (put_of p) }
+    requires numbers { inner.old.steps + 256 * (live_count inner.old.arena.nodes + 64) ≤ 2 ^ 59 }
+    ensures { (v : StateView) (p : AnyPair) → IsIdle v → MayPut v p → Begins v (shown inner.old) ticket.id 0 p.tenant (put_of p) →
+        OnOk result (HasPut v (shown inner.new) (with_pair p (contents_of v))) }
+{
+    inner.kept();
+    match inner.run_alone(ticket.id) {
+        Move::Done => {}
+        Move::NoMemory => return Err(AllocError),
+        _ => unreachable!(),
+    }
+    let mut displaced = Displaced::new(inner.alloc);
+    match inner.take(ticket, &mut displaced) {
+        Ok(answer) => match answer.reply {
+            Reply::New => Ok(()),
+            Reply::NoMemory => Err(AllocError),
+            _ => unreachable!(),
+        },
+        Err(_) => unreachable!(),
+    }
+}
+
+// Begins the counting anew where the numbers that are left may not do for a put; where they never do,
+// there is no memory for so many nodes.
+fn make_numbers(inner: &mut Inner) -> Result<(), AllocError>
+    requires { IsIdle (shown inner.old) }
+    ensures put { HasPut (shown inner.old) (shown inner.new) (contents_of (shown inner.old)) }
+    ensures numbers { OnOk result (inner.new.steps + 256 * (live_count inner.new.arena.nodes + 64) ≤ 2 ^ 59) }
+{
+    let nodes = inner.arena.node_count();
+    if nodes >= 1 << 50 {
+        return Err(AllocError);
+    }
+    if inner.steps > MAX_STEPS - 256 * (nodes as u64 + 64) {
+        inner.renumber(0);
+    }
+    Ok(())
+}

@@ -1,0 +1,12 @@
+//! Tests of `State::restore`: what it restores is there, at the number that was asked for, and counting
+//! goes on.
+//!
+//! They stand in a crate of their own, since a crate with tests is proved twice.
+#![tactic(auto)]
+
+#[cfg(test)]
+mod asked;
+#[cfg(test)]
+mod recovered;
+#[cfg(test)]
+mod restored;

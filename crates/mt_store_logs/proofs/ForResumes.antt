@@ -1,0 +1,105 @@
+-- What a recovery may ask of the logs that were opened for it.
+use Rattle.std.proofs.Common.{◌≡◌, ℕ, zero, suc, ◌≤◌, ◌<◌, ◌^◌, max, Bool, List, [], ◌∷◌, map, length, refl, sym, ◌∙◌, ap, subst, arith, Option, Some, None}
+use Rattle.std.specs.Prelude.{slice_get, slice_index_or}
+use Rattle.std.specs.List.{AllByRecursion}
+use native.Mathlib.Numerals.{unary_clauses}
+use Rattle.mt_disk.specs.Disk.{DiskState}
+use Rattle.mt_log.specs.declared.batch.Front.{Front}
+use Rattle.mt_log.specs.declared.batch.LogBatch.{LogBatch}
+use Rattle.mt_log.specs.declared.batch.LogBatch.TheVariants.{Records, Resume}
+use Rattle.mt_log.specs.Contents.{Contents, IsContents, IsLogBatch, to_of, end_of, mark_of, contents_of}
+use Rattle.mt_rows.specs.Tenants.{Contents as Pairs}
+use Rattle.mt_crashes.specs.Fronts.{In, last_end}
+use Rattle.mt_crashes.specs.Recoveries.{IsRecovered}
+use Rattle.mt_crashes.proofs.Members.{in_map, map_in, in_place, place_in}
+use Rattle.mt_crashes.proofs.FrontLaws.{greatest_below, upto_last, cutoff_upto_last}
+use Rattle.mt_crashes.proofs.Invariant.{within_place, one_there}
+use Rattle.mt_recover.specs.declared.resuming.LogSlot.{LogSlot}
+use Rattle.mt_recover.specs.declared.resuming.LogSlot.TheVariants.{Open, Closed, Away}
+use Rattle.mt_recover.specs.Resumes.{IsOpenUpto}
+use Rattle.mt_store_logs.specs.declared.store_log.StoreLog.{StoreLog}
+use Rattle.mt_store_logs.specs.Places.{disk_in, Opens, OpensAs, OpensAll}
+use Rattle.mt_store_logs.specs.Recovers.{no_checkpoints}
+use Rattle.mt_store_logs.proofs.Loops.{read_or, get_within}
+
+-- ---- a log's mark is a step
+
+to_within : (b : LogBatch) → IsLogBatch b → to_of b ≤ 2 ^ 59
+to_within (Records b) is = is.last
+to_within (Resume from to kept) is = is.last
+
+end_within : (mark : ℕ) (bs : List LogBatch) → mark ≤ 2 ^ 59 → AllByRecursion IsLogBatch bs → end_of mark bs ≤ 2 ^ 59
+end_within mark [] within each = within
+end_within mark (b ∷ bs) within each = end_within (to_of b) bs (to_within b each.0) each.1
+
+max_zero : (n : ℕ) → max n 0 ≡ n
+max_zero zero = refl
+max_zero (suc n) = simp unary_clauses refl
+
+module _ {D : Type 0} (is_honest : D → Bool) (state : D → DiskState) (failures : D → ℕ) where
+  is_contents : (disk : Option D) (slot : LogSlot D) (front : Front) → Opens is_honest state failures disk slot front → IsContents (contents_of front)
+  is_contents (Some disk) (Open log) front opened = opened.contents
+  is_contents (Some disk) (Closed other) front opened = absurd opened
+  is_contents (Some disk) Away front opened = absurd opened
+  is_contents None slot front opened = absurd opened
+
+  open_upto : (to : ℕ) (disk : Option D) (slot : LogSlot D) (front : Front) → Opens is_honest state failures disk slot front
+      → mark_of (contents_of front) ≤ to → IsOpenUpto to slot
+  open_upto to (Some disk) (Open log) front opened within = let mark = opened.mark in omega (arith, mark, within)
+  open_upto to (Some disk) (Closed other) front opened within = absurd opened
+  open_upto to (Some disk) Away front opened within = absurd opened
+  open_upto to None slot front opened within = absurd opened
+
+  -- the log at a place was opened, and its front is there
+  there : (old mid : List (StoreLog D)) (fronts : List Front) → OpensAll is_honest state failures old mid fronts → (k : ℕ) (is : StoreLog D)
+      → slice_get mid k ≡ Some is → (was : StoreLog D) × OpensAs is_honest state failures fronts k was is
+  there old mid fronts opens k is at =
+      let below = get_within mid k is at in
+      let len = opens.each.len in
+      let within : k < length old = omega (arith, below, len) in
+      let was = within_place old k within in
+      (was.0, opens.each.each k was.0 is within was.1 at)
+
+  in_format : (old mid : List (StoreLog D)) (fronts : List Front) → OpensAll is_honest state failures old mid fronts → (c : Contents)
+      → In c (map contents_of fronts) → IsContents c
+  in_format old mid fronts opens c at =
+      let from = map_in contents_of c fronts at in
+      let place = in_place from.0 fronts from.1 in
+      let below = get_within fronts place.0 from.0 place.1 in
+      let count = opens.count in
+      let len = opens.each.len in
+      let is = within_place mid place.0 (omega (arith, below, count, len)) in
+      let opened = there old mid fronts opens place.0 is.0 is.1 in
+      let same = one_there fronts place.0 opened.1.0 from.0 opened.1.1 place.1 in
+      subst IsContents (ap contents_of same ∙ sym from.2) (is_contents (disk_in opened.0.slot) is.0.slot opened.1.0 opened.1.2.0)
+
+  pub last_within : (old mid : List (StoreLog D)) (fronts : List Front) → OpensAll is_honest state failures old mid fronts
+      → last_end (map contents_of fronts) ≤ 2 ^ 59
+  last_within old mid fronts opens =
+      greatest_below (2 ^ 59) (map mark_of (map contents_of fronts)) (λ k at.
+      let from = map_in mark_of k (map contents_of fronts) at in
+      let is = in_format old mid fronts opens from.0 from.1 in
+      let within = end_within 0 from.0.batches (omega arith) is.batches in
+      let same = from.2 in
+      omega (arith, within, same))
+
+  pub are_open_upto : (old mid : List (StoreLog D)) (fronts : List Front) (to : ℕ) → OpensAll is_honest state failures old mid fronts
+      → last_end (map contents_of fronts) ≤ to → (k : ℕ) (d : StoreLog D) → k < length mid → IsOpenUpto to (slice_index_or mid k d).slot
+  are_open_upto old mid fronts to opens last k d below =
+      let is = slice_index_or mid k d in
+      let opened = there old mid fronts opens k is (read_or mid k d below) in
+      let upto = upto_last (contents_of opened.1.0) (map contents_of fronts) (in_map contents_of opened.1.0 fronts (place_in opened.1.0 k fronts opened.1.1)) in
+      open_upto to (disk_in opened.0.slot) is.slot opened.1.0 opened.1.2.0 (omega (arith, upto, last))
+
+-- a recovery without checkpoints goes on from where the last log ends
+pub resumes_last : (fronts : List Contents) (cutoff resume : ℕ) (used : Option ℕ) (found : Pairs) → IsRecovered fronts no_checkpoints cutoff resume used found
+    → resume ≡ last_end fronts
+resumes_last fronts cutoff resume used found is = is.resume_is ∙ max_zero (last_end fronts)
+
+pub cutoff_within : (fronts : List Contents) (cutoff resume : ℕ) (used : Option ℕ) (found : Pairs) → IsRecovered fronts no_checkpoints cutoff resume used found
+    → cutoff ≤ resume
+cutoff_within fronts cutoff resume used found is =
+    let least = is.cutoff_is in
+    let last = resumes_last fronts cutoff resume used found is in
+    let below = cutoff_upto_last fronts in
+    omega (arith, least, last, below)

@@ -1,0 +1,4 @@
+pub mod CallerLemmas
+pub mod Loops
+pub mod ForResumes
+pub mod Reopening

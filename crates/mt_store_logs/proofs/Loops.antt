@@ -1,0 +1,130 @@
+-- One more in a walk over a list whose elements are written one by one, and its end.
+use Rattle.std.proofs.Common.{◌≡◌, ◌≢◌, ◌⊎◌, inl, inr, ⊎_elim, ℕ, zero, suc, ◌+◌, ◌<◌, ◌≤◌, List, [], ◌∷◌, length, refl, sym, ◌∙◌, ap, subst, arith, Some}
+use Rattle.std.specs.Prelude.{◌++◌, slice_get, slice_set, slice_index_or, Result, Ok, Err, OnErr}
+use Rattle.std.proofs.lemmas.List.{length-set}
+use Rattle.std.proofs.lemmas.Option.{same_Some}
+use Rattle.mt_crashes.proofs.Members.{no_some}
+use Rattle.mt_crashes.proofs.Invariant.{within_place}
+use Rattle.mt_store_logs.specs.Lists.{EachBefore, Each, StopsAt}
+
+-- what stands in a list in which one element was written
+set_cases : {X : Type 0} (xs : List X) (i k : ℕ) (y z : X) → slice_get (slice_set xs i y) k ≡ Some z
+    → ((k ≡ i) × (z ≡ y)) ⊎ ((k ≢ i) × (slice_get xs k ≡ Some z))
+set_cases [] i k y z h = absurd (no_some z h)
+set_cases (x ∷ xs) zero zero y z h = inl (refl, sym (same_Some y z h))
+set_cases (x ∷ xs) zero (suc k) y z h = inr (λ e. omega (arith, e), h)
+set_cases (x ∷ xs) (suc i) zero y z h = inr (λ e. omega (arith, e), h)
+set_cases (x ∷ xs) (suc i) (suc k) y z h = ⊎_elim (λ l. inl (ap suc l.0, l.1)) (λ r. inr (λ e. r.0 (omega (arith, e)), r.1)) (set_cases xs i k y z h)
+
+set_there : {X : Type 0} (xs : List X) (i : ℕ) (y : X) → i < length xs → slice_get (slice_set xs i y) i ≡ Some y
+set_there [] i y h = absurd (omega (arith, h))
+set_there (x ∷ xs) zero y h = refl
+set_there (x ∷ xs) (suc i) y h = set_there xs i y (omega (arith, h))
+
+set_other : {X : Type 0} (xs : List X) (i k : ℕ) (y : X) → k ≢ i → slice_get (slice_set xs i y) k ≡ slice_get xs k
+set_other [] i k y h = refl
+set_other (x ∷ xs) zero zero y h = absurd (h refl)
+set_other (x ∷ xs) zero (suc k) y h = refl
+set_other (x ∷ xs) (suc i) zero y h = refl
+set_other (x ∷ xs) (suc i) (suc k) y h = set_other xs i k y (λ e. h (ap suc e))
+
+-- those before the next place are in the relation
+pub one_more : {X : Type 0} (R : ℕ → X → X → Type 0) (place : ℕ) (old now : List X) (new : X) → EachBefore R place old now
+    → ((was : X) → slice_get old place ≡ Some was → R place was new) → EachBefore R (place + 1) old (slice_set now place new)
+one_more R place old now new before at k was is below there then =
+    ⊎_elim
+    (λ l. subst (λ (n : ℕ). R n was is) (sym l.0) (subst (R place was) (sym l.1) (at was (subst (λ (n : ℕ). slice_get old n ≡ Some was) l.0 there))))
+    (λ r. let other = r.0 in before k was is (omega (arith, below, other)) there r.1)
+    (set_cases now place k new is then)
+
+-- those behind it are as they were
+pub still_left : {X : Type 0} (place : ℕ) (old now : List X) (new : X) → ((k : ℕ) → place ≤ k → slice_get now k ≡ slice_get old k)
+    → (k : ℕ) → place + 1 ≤ k → slice_get (slice_set now place new) k ≡ slice_get old k
+still_left place old now new left k h = set_other now place k new (λ e. omega (arith, h, e)) ∙ left k (omega (arith, h))
+
+pub same_len : {X : Type 0} (place : ℕ) (old now : List X) (new : X) → length now ≡ length old → length (slice_set now place new) ≡ length old
+same_len place old now new len = length-set now place new ∙ len
+
+-- all of them are
+pub walked : {X : Type 0} (R : ℕ → X → X → Type 0) (place : ℕ) (old now : List X) → length now ≡ length old → EachBefore R place old now
+    → length old ≤ place → Each R old now
+walked R place old now len before all = record { len = len; each = λ k was is below. before k was is (omega (arith, below, all)) }
+
+-- the one there has failed
+pub stopped : {X : Type 0} (R : ℕ → X → X → Type 0) (Fails : X → X → Type 0) (place : ℕ) (old now : List X) (new : X) → place < length old
+    → length now ≡ length old → EachBefore R place old now → ((k : ℕ) → place ≤ k → slice_get now k ≡ slice_get old k)
+    → ((was : X) → slice_get old place ≡ Some was → Fails was new) → StopsAt R Fails place old (slice_set now place new)
+stopped R Fails place old now new within len before left at =
+    let there = within_place old place within in
+    record {
+      len = same_len place old now new len;
+      before = λ k was is below there_then then. before k was is below there_then (sym (set_other now place k new (λ e. omega (arith, below, e))) ∙ then);
+      was = there.0;
+      was_there = there.1;
+      is = new;
+      is_there = set_there now place new (omega (arith, within, len));
+      fails = at there.0 there.1;
+      behind = λ k h. still_left place old now new left k (omega (arith, h));
+    }
+
+-- what is found at the next place is what was there
+pub found : {X : Type 0} (place : ℕ) (old now : List X) (x was : X) → ((k : ℕ) → place ≤ k → slice_get now k ≡ slice_get old k)
+    → slice_get now place ≡ Some x → slice_get old place ≡ Some was → was ≡ x
+found place old now x was left at there = same_Some was x (sym there ∙ sym (left place (omega arith)) ∙ at)
+
+at_or : {X : Type 0} (xs : List X) (i : ℕ) (d x : X) → slice_get xs i ≡ Some x → slice_index_or xs i d ≡ x
+at_or [] i d x h = absurd (no_some x h)
+at_or (y ∷ xs) zero d x h = same_Some y x h
+at_or (y ∷ xs) (suc i) d x h = at_or xs i d x h
+
+-- what a call at the next place is given is what was there
+pub next_was : {X : Type 0} (place : ℕ) (old now : List X) (d was : X) → ((k : ℕ) → place ≤ k → slice_get now k ≡ slice_get old k)
+    → slice_get old place ≡ Some was → slice_index_or now place d ≡ was
+next_was place old now d was left there = at_or now place d was (left place (omega arith) ∙ there)
+
+pub read_or : {X : Type 0} (xs : List X) (i : ℕ) (d : X) → i < length xs → slice_get xs i ≡ Some (slice_index_or xs i d)
+read_or [] i d h = absurd (omega (arith, h))
+read_or (x ∷ xs) zero d h = refl
+read_or (x ∷ xs) (suc i) d h = read_or xs i d (omega (arith, h))
+
+pub get_within : {X : Type 0} (xs : List X) (i : ℕ) (x : X) → slice_get xs i ≡ Some x → i < length xs
+get_within [] i x h = absurd (no_some x h)
+get_within (y ∷ xs) zero x h = omega arith
+get_within (y ∷ xs) (suc i) x h = let below = get_within xs i x h in omega (arith, below)
+
+pub get_more : {X : Type 0} (xs ys : List X) (i : ℕ) (x : X) → slice_get xs i ≡ Some x → slice_get (xs ++ ys) i ≡ Some x
+get_more [] ys i x h = absurd (no_some x h)
+get_more (y ∷ xs) ys zero x h = h
+get_more (y ∷ xs) ys (suc i) x h = get_more xs ys i x h
+
+pub get_last : {X : Type 0} (xs : List X) (i : ℕ) (x : X) → length xs ≡ i → slice_get (xs ++ x ∷ []) i ≡ Some x
+get_last [] i x h = subst (λ (n : ℕ). slice_get (x ∷ []) n ≡ Some x) h refl
+get_last (y ∷ xs) zero x h = absurd (omega (arith, h))
+get_last (y ∷ xs) (suc i) x h = get_last xs i x (omega (arith, h))
+
+below_or_not : (m n : ℕ) → (m < n) ⊎ (n ≤ m)
+below_or_not zero zero = inr (omega arith)
+below_or_not zero (suc n) = inl (omega arith)
+below_or_not (suc m) zero = inr (omega arith)
+below_or_not (suc m) (suc n) = ⊎_elim (λ l. inl (omega (arith, l))) (λ r. inr (omega (arith, r))) (below_or_not m n)
+
+-- those before a place are in the relation, and all others in another one that each thing has to itself
+pub so_far : {X : Type 0} (R : ℕ → X → X → Type 0) (S : X → X → Type 0) (place : ℕ) (old now : List X) (new : X) → ((x : X) → S x x)
+    → length now ≡ length old → EachBefore R place old now → ((k : ℕ) → place ≤ k → slice_get now k ≡ slice_get old k)
+    → ((was : X) → slice_get old place ≡ Some was → S was new) → Each (λ k was is. S was is ⊎ R k was is) old (slice_set now place new)
+so_far R S place old now new same len before left at = record {
+  len = same_len place old now new len;
+  each = λ k was is below there then.
+      ⊎_elim
+      (λ l. inl (subst (S was) (sym l.1) (at was (subst (λ (n : ℕ). slice_get old n ≡ Some was) l.0 there))))
+      (λ r.
+      ⊎_elim
+      (λ earlier. inr (before k was is earlier there r.1))
+      (λ later. inl (subst (S was) (same_Some was is (sym there ∙ sym (left k later) ∙ r.1)) (same was)))
+      (below_or_not k place))
+      (set_cases now place k new is then);
+}
+
+pub on_err : {A E P : Type 0} (r : Result A E) → P → OnErr r P
+on_err (Ok x) p = tt
+on_err (Err e) p = p

@@ -1,0 +1,43 @@
+-- One log more is made, or was not.
+use Rattle.std.proofs.Common.{length, sym, subst}
+use Rattle.std.specs.Prelude.{slice_set}
+use Rattle.mt_store_logs.specs.Places.{MakesLog, FailsToMakeLog, StopsMaking}
+use Rattle.mt_store_logs.proofs.Loops.{one_more, still_left, same_len, walked, stopped, next_was}
+use Rattle.mt_store_logs.proofs.opening.create_logs.Goals as goal
+
+pub returns-in-Err-clause-err : goal.returns-in-Err-clause-err
+returns-in-Err-clause-err g c =
+    let is_honest = g.D.Disk.is_honest in
+    let state = g.D.Disk.state in
+    let failures = g.D.Disk.failures in
+    let old = c.args.logs.now in
+    let now = c.loop-place.logs in
+    let place = c.loop-place.place in
+    let new = c.create_log.new.log in
+    let i = c.loop-place.invariant in
+    subst (λ e. StopsMaking is_honest state failures e old (slice_set now place new)) (sym c.at.ensures)
+    (stopped (λ k was is. MakesLog is_honest state failures k (length old) was is) (FailsToMakeLog is_honest state failures) place old now new c.loop-place-test.true i.len i.before i.left
+    (λ was there. subst (λ x. FailsToMakeLog is_honest state failures x new) (next_was place old now c.index-logs-place.result was i.left there) c.in-Err.ensures.err))
+
+pub loop-place-preserved : goal.loop-place-preserved
+loop-place-preserved g c =
+    let is_honest = g.D.Disk.is_honest in
+    let state = g.D.Disk.state in
+    let failures = g.D.Disk.failures in
+    let old = c.args.logs.now in
+    let now = c.loop-place.logs in
+    let place = c.loop-place.place in
+    let new = c.create_log.new.log in
+    let i = c.loop-place.invariant in
+    record {
+      len = same_len place old now new i.len;
+      before =
+          one_more (λ k was is. MakesLog is_honest state failures k (length old) was is) place old now new i.before (λ was there.
+          subst (λ x. MakesLog is_honest state failures place (length old) x new) (next_was place old now c.index-logs-place.result was i.left there) c.in_default.ensures.ok);
+      left = still_left place old now new i.left;
+    }
+
+pub returns-clause-ok : goal.returns-clause-ok
+returns-clause-ok g c =
+    let i = c.loop-place.invariant in
+    walked (λ k was is. MakesLog g.D.Disk.is_honest g.D.Disk.state g.D.Disk.failures k (length c.args.logs.now) was is) c.loop-place.place c.args.logs.now c.loop-place.logs i.len i.before c.loop-place-test.false

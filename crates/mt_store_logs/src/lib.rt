@@ -1,0 +1,26 @@
+//! What a running store does with the logs of its workers.
+//!
+//! A `StoreLog` is a log's place: open or closed, and the batch that waits for it. `flush` drains a worker
+//! into its log; `reopen` opens a log again whose disk failed; `recover_logs` brings a store's logs up
+//! again, and `crash_logs` lets those in memory crash. `specs/Waits.antt` says what each does to the batch
+//! that waits, and `specs/Shows.antt` what a crash may leave of a log.
+//!
+//! Units: steps, as records are stamped with them.
+#![tactic(auto)]
+
+mod crashing;
+mod fault;
+mod flushing;
+pub mod laws;
+mod opening;
+mod recovering;
+mod source;
+mod store_log;
+
+pub use crashing::crash_logs;
+pub use fault::{FlushFault, LogRefusal};
+pub use flushing::flush;
+pub use opening::{create_logs, open_logs};
+pub use recovering::recover_logs;
+pub use source::Source;
+pub use store_log::StoreLog;
