@@ -60,6 +60,20 @@ impl<L: Ledger> Book<L> {
         }
     }
 
+    /// The state, with all that was done to it. The total is given up.
+    pub fn into_state(self) -> State
+        ensures { result ≡ self.state }
+    {
+        let Book {
+            state,
+            total: _,
+            rest: _,
+            opened: _,
+            gathered: _,
+        } = self;
+        state
+    }
+
     /// What holds of every book, so whenever its lock is free: all that holds of a state, and the total
     /// is the number of answers that were taken of it.
     pub fn facts(&self)

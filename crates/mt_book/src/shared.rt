@@ -2,6 +2,7 @@
 
 ghost use Rattle.std.specs.Prelude.{◌≡◌, IfSome, IfOk, IfErr};
 ghost use Rattle.std.specs.List.{sum_by};
+ghost use Rattle.mt_batches.specs.Batches.{IsInOrder};
 ghost use Rattle.mt_book.specs.declared.passes.Pass.{Pass};
 ghost use Rattle.mt_book.specs.Books.{IsRightBook};
 
@@ -10,6 +11,8 @@ use crate::desks::{Admission, Admitted, Desk, Look, Stepping, Taken, Taking};
 use crate::gates::Turned;
 use crate::passes::Pass;
 use mt_core::{Displaced, Opening, Ticket};
+use mt_rows::Batch;
+use std::alloc::AllocError;
 use std::sync::ledger::Ledger;
 use std::sync::{Mutex, MutexGuard, Wait};
 use std::{hint, thread};
@@ -162,6 +165,39 @@ pub fn open_pass<L: Ledger, R: Wait>(rt: &R, book: &Mutex<Book<L>>, worker: u8) 
     ensures { IfSome result (λ pass. (pass.worker ≡ worker) × (pass.seen ≡ 0) × (pass.share.amount ≡ 0)) }
 {
     locked(rt, book).open_pass(worker)
+}
+
+/// What a worker's log is to be given, in a period of its own, as the book's. A book without a log of this
+/// worker is looked at for ever.
+pub fn drain<L: Ledger, R: Wait>(
+    rt: &R,
+    book: &Mutex<Book<L>>,
+    worker: u8,
+) -> Result<Batch, AllocError>
+    ensures in_order { IfOk result IsInOrder }
+{
+    for _ in rt.forever() {
+        if let Some(drained) = drained(rt, book, worker) {
+            return drained;
+        }
+        thread::yield_now();
+    }
+    unreachable!()
+}
+
+// The same, unless there is no such log.
+fn drained<L: Ledger, R: Wait>(
+    rt: &R,
+    book: &Mutex<Book<L>>,
+    worker: u8,
+) -> Option<Result<Batch, AllocError>>
+    ensures in_order { IfSome result (λ drained. IfOk drained IsInOrder) }
+{
+    let mut guard = locked(rt, book);
+    if worker >= guard.logs() {
+        return None;
+    }
+    Some(guard.drain(worker))
 }
 
 /// The total, once, where the passes are all that were opened; else they come back.

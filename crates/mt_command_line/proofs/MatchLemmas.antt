@@ -1,12 +1,12 @@
 -- What the getters of clap's matches give, by what the command line has.
-use Rattle.std.proofs.Common.{◌≡◌, ℕ, ◌≤◌, ◌<◌, ◌^◌, List, [], Bor, Option, Some, None, Result, Ok, Err, map, option_map, codes, MatchResult, IfOk, IfErr, Vec, Global, unwrap_or, refl, ap, sym, subst, ◌∙◌, arith}
+use Rattle.std.proofs.Common.{◌≡◌, ℕ, ◌≤◌, ◌<◌, ◌^◌, Bool, true, false, List, [], Bor, Option, Some, None, Result, Ok, Err, map, option_map, codes, MatchResult, IfOk, IfErr, Vec, Global, unwrap_or, refl, ap, sym, subst, ◌∙◌, arith}
 use Rattle.std.specs.Str.Parse.{ParsesUnsigned}
-use Rattle.clap.specs.Words.{without_minus, ReadsOne, Text, matched_of, one_of, one_text, raw_values, rows_of}
+use Rattle.clap.specs.Words.{without_minus, first_value, ReadsOne, Text, matched_of, one_of, one_text, raw_values, rows_of}
 use Rattle.clap.specs.declared.parser.matches.Found.{Found}
 use Rattle.clap.proofs.CallerReads.{signed_reads}
-use Rattle.clap.proofs.WalkLemmas.{one_text-rows, raw_values-rows}
-use Rattle.mt_command_line.specs.CommandLine.{found_in, given_for, tenant_words}
-use Rattle.mt_command_line.specs.Reads.{HasNumber, IsGiven, Names}
+use Rattle.clap.proofs.WalkLemmas.{first_value-rows, one_text-rows, raw_values-rows}
+use Rattle.mt_command_line.specs.CommandLine.{folder_in, found_in, given_for, tenant_words}
+use Rattle.mt_command_line.specs.Reads.{HasNumber, IsFlag, IsGiven, Names}
 use Rattle.mt_options.specs.Tenants.{AreTenants, IsFirstFault}
 use Rattle.mt_options.specs.declared.tenants.TenantQuota.{TenantQuota}
 use Rattle.mt_options.specs.declared.tenants.TenantsFault.{TenantsFault}
@@ -53,3 +53,16 @@ number_is E G k least most d f name words o only fits got has rows =
 pub parted : {T E : Type 0} (r : Result T E) (P : T → Type 0) (Q : E → Type 0) → MatchResult r P Q → IfOk r P × IfErr r Q
 parted (Ok x) P Q h = (h, tt)
 parted (Err e) P Q h = (tt, h)
+
+-- a flag, as `get_flag` reads it
+pub flag_is : (f : Found) (name : Text) (b : Bool) → (one_text f name ≡ None → b ≡ false) → (one_text f name ≡ Some (codes "true") → b ≡ true)
+    → (one_text f name ≡ Some (codes "false") → b ≡ false) → IsFlag name (rows_of f) b
+flag_is f name b none value other = record {
+  set = λ e. value (one_text-rows f name ∙ e);
+  other = λ e. other (one_text-rows f name ∙ e);
+  none = λ e. none (one_text-rows f name ∙ e);
+}
+
+-- the folder, as `get_str` reads it
+pub folder_is : (f : Found) (o : Option (Bor Text)) → option_map (λ s. s.now) o ≡ first_value f (codes "store") → folder_in (rows_of f) ≡ option_map (λ s. s.now) o
+folder_is f o got = sym (got ∙ first_value-rows f (codes "store"))

@@ -16,13 +16,13 @@ use Rattle.clap.specs.declared.builder.command.Command.TheViews.{out-Command}
 use Rattle.clap.specs.declared.builder.value_parser.ValueParser.TheVariants.{Signed}
 use Rattle.clap.proofs.SimpleLemmas.{is_false, is_nil}
 use Rattle.clap.proofs.WalkLemmas.{both}
-use Rattle.mt_command_line.specs.CommandLine.{number_rule, port_rule, server, sessions_rule, tenants_rule, workers_rule}
+use Rattle.mt_command_line.specs.CommandLine.{number_rule, create_rule, port_rule, server, sessions_rule, store_rule, tenants_rule, workers_rule}
 use Rattle.mt_command_line.proofs.OptionLemmas.{IsOption, option_value}
 use Rattle.mt_command_line.specs.Reads.{HasNumber}
 use Rattle.clap.specs.declared.parser.matches.ArgMatches.{ArgMatches}
 
 abbrev pub rules : List Rule
-rules = port_rule ∷ workers_rule ∷ sessions_rule ∷ tenants_rule ∷ []
+rules = port_rule ∷ workers_rule ∷ sessions_rule ∷ store_rule ∷ create_rule ∷ tenants_rule ∷ []
 
 abbrev pub rule : ℕ → Rule
 rule j = slice_index_or rules j port_rule
@@ -33,17 +33,21 @@ simple_at zero = refl
 simple_at (suc zero) = refl
 simple_at (suc (suc zero)) = refl
 simple_at (suc (suc (suc zero))) = refl
-simple_at (suc (suc (suc (suc j)))) = refl
+simple_at (suc (suc (suc (suc zero)))) = refl
+simple_at (suc (suc (suc (suc (suc zero))))) = refl
+simple_at (suc (suc (suc (suc (suc (suc j)))))) = refl
 
 abbrev place : Text → Option ℕ
 place id = position (λ (r : Rule). bytes_eq r.id id) rules
 
-placed : (j : ℕ) → j < 4 → place (rule j).id ≡ Some j
+placed : (j : ℕ) → j < 6 → place (rule j).id ≡ Some j
 placed zero lt = refl
 placed (suc zero) lt = refl
 placed (suc (suc zero)) lt = refl
 placed (suc (suc (suc zero))) lt = refl
-placed (suc (suc (suc (suc j)))) lt = absurd (omega arith)
+placed (suc (suc (suc (suc zero)))) lt = refl
+placed (suc (suc (suc (suc (suc zero))))) lt = refl
+placed (suc (suc (suc (suc (suc (suc j)))))) lt = absurd (omega arith)
 
 none_of : {X : Type 0} (o : Option X) → not (is_some o) ≡ true → o ≡ None
 none_of None e = refl
@@ -84,7 +88,7 @@ module _ (old : Command) (is : app_of old ≡ server) where
   unfolding server
   plain = ap (λ (x : App). x.top.is_plain) is
 
-  count : length (args_of old) ≡ 4
+  count : length (args_of old) ≡ 6
   count = sym (length-map (args_of old) rule_of) ∙ ap (λ (rs : List Rule). length rs) rules_are
 
   rule_at : (j : ℕ) (d : Arg) → j < length (args_of old) → rule_of (slice_index_or (args_of old) j d) ≡ rule j
@@ -97,7 +101,7 @@ module _ (old : Command) (is : app_of old ≡ server) where
   facts j d lt = unconditional (slice_index_or (args_of old) j d) (ap (λ (r : Rule). r.is_simple) (rule_at j d lt) ∙ simple_at j)
 
   -- an argument whose rule is that of a number option is one
-  option : (k least most : ℕ) (name value : Text) (d : Arg) → k < 4 → rule k ≡ number_rule name least most value → IsOwn name
+  option : (k least most : ℕ) (name value : Text) (d : Arg) → k < 6 → rule k ≡ number_rule name least most value → IsOwn name
       → IsOption old k d (Signed (pos least) (pos most)) × ((slice_index_or (args_of old) k d).id.now ≡ name)
   option k least most name value d lt of own =
       let within : k < length (args_of old) = omega (arith, count) in
@@ -129,7 +133,7 @@ module _ (old : Command) (is : app_of old ≡ server) where
       )
 
   -- the text of such an option is one that clap takes for a number within its bounds
-  pub number_found : (m : ArgMatches) → IsParsedFrom old m → (k least most : ℕ) (name value : Text) → k < 4
+  pub number_found : (m : ArgMatches) → IsParsedFrom old m → (k least most : ℕ) (name value : Text) → k < 6
       → rule k ≡ number_rule name least most value → IsOwn name → HasNumber (found_of m) name least most
   number_found m p k least most name value lt of own =
       let d : Arg = first_of_some (args_of old) (omega (arith, count)) in

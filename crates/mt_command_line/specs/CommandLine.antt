@@ -1,9 +1,9 @@
--- What the program takes: three options with defaults, and one word or more that name tenants. The words of clap say
--- what a parse of a command line makes of such rules (`Rattle.clap.specs.Words`).
+-- What the program takes: three numbers with defaults, a folder, a flag, and one word or more that name tenants. The words
+-- of clap say what a parse of a command line makes of such rules (`Rattle.clap.specs.Words`).
 use Rattle.std.specs.Prelude.{ℕ, List, [], ◌∷◌, Option, Some, codes, unwrap_or, pos, true}
 use Rattle.clap.specs.Lexer.{usize_max}
-use Rattle.clap.specs.Words.{App, Kinds, Row, Rule, Text, all_of, fault_of, matches_of, new_app, new_rule, one_of, with_rule}
-use Rattle.clap.specs.declared.builder.ArgAction.TheVariants.{Append, Set}
+use Rattle.clap.specs.Words.{App, Kinds, Row, Rule, Text, all_of, fault_of, first_of, matches_of, new_app, new_rule, one_of, with_rule}
+use Rattle.clap.specs.declared.builder.ArgAction.TheVariants.{Append, Set, SetTrue}
 use Rattle.clap.specs.declared.builder.value_parser.ValueParser.TheVariants.{Signed}
 
 -- an option `--NAME N`, with a number from `least` to `most`, and with its default
@@ -28,6 +28,14 @@ workers_rule = number_rule (codes "workers") 1 64 (codes "4")
 abbrev pub sessions_rule : Rule
 sessions_rule = number_rule (codes "sessions") 0 4294967295 (codes "0")
 
+-- `--store DIR`, which may be left out
+abbrev pub store_rule : Rule
+store_rule = record (new_rule (codes "store")) { long = Some (codes "store"); value_names = 1; action = Some Set }
+
+-- `--create`, a flag
+abbrev pub create_rule : Rule
+create_rule = record (new_rule (codes "create")) { long = Some (codes "create"); action = Some SetTrue }
+
 -- all other words, of which there has to be one
 abbrev pub tenants_rule : Rule
 tenants_rule = record (new_rule (codes "tenants")) {
@@ -39,7 +47,9 @@ tenants_rule = record (new_rule (codes "tenants")) {
 
 -- what the program takes
 unfoldable pub server : App
-server = with_rule (with_rule (with_rule (with_rule (new_app (codes "mt_server")) port_rule) workers_rule) sessions_rule) tenants_rule
+server =
+    with_rule (with_rule (with_rule (with_rule (with_rule (with_rule (new_app (codes "mt_server")) port_rule) workers_rule) sessions_rule)
+    store_rule) create_rule) tenants_rule
 
 -- what clap finds in a command line, rule by rule; its first word is the program's name
 unfoldable pub found_in : List Text → List Row
@@ -53,6 +63,10 @@ faults_in words = fault_of server words
 abbrev pub tenant_words : List Row → List Text
 tenant_words rows = unwrap_or (all_of (codes "tenants") rows) []
 
--- what is found for an option, or its default
+-- what is found for an option, or its default; nothing where it is left out and has none
 abbrev pub given_for : Text → List Row → Option Text
 given_for name rows = one_of name rows
+
+-- the folder that is found for `--store`, as it is written
+abbrev pub folder_in : List Row → Option Text
+folder_in rows = first_of (codes "store") rows

@@ -4,7 +4,7 @@ use Rattle.clap.specs.Words.{kind_of}
 use Rattle.clap.specs.declared.error.kind.ErrorKind.{ErrorKind}
 use Rattle.clap.specs.declared.error.kind.ErrorKind.TheVariants.{DisplayHelp, DisplayVersion}
 use Rattle.mt_command_line.specs.declared.faults.OptionsFault.{OptionsFault}
-use Rattle.mt_command_line.specs.declared.faults.OptionsFault.TheVariants.{Words, Malformed, Refused, Memory}
+use Rattle.mt_command_line.specs.declared.faults.OptionsFault.TheVariants.{Words, CreateAlone, Malformed, Refused, Memory}
 
 -- the words ask for help or for a version, and are no fault
 abbrev pub AsksForHelp : ErrorKind → Type 0
@@ -13,6 +13,7 @@ AsksForHelp kind = (kind ≡ DisplayHelp) ⊎ (kind ≡ DisplayVersion)
 -- the program ends with this status: 0 for help, 1 where memory is short, 2 for every other fault
 abbrev pub HasStatus : OptionsFault → ℕ → Type 0
 HasStatus (Words error) status = (AsksForHelp (kind_of error) → status ≡ 0) × (¬ AsksForHelp (kind_of error) → status ≡ 2)
+HasStatus CreateAlone status = status ≡ 2
 HasStatus (Malformed before) status = status ≡ 2
 HasStatus (Refused before refusal) status = status ≡ 2
 HasStatus Memory status = status ≡ 1

@@ -1,24 +1,43 @@
 -- What is read from the words of a command line: options, or a fault.
-use Rattle.std.specs.Prelude.{◌≡◌, ℕ, ◌≤◌, List, [], Some, Result, Ok, Err, Vec, codes, pos}
+use Rattle.std.specs.Prelude.{◌≡◌, ℕ, ◌≤◌, Bool, true, false, List, [], Option, Some, None, Result, Ok, Err, Vec, codes, pos}
 use Rattle.std.specs.Global.{Global}
 use Rattle.std.specs.Str.Parse.{IsNumeral, digits_value, without_leading_plus}
 use Rattle.clap.specs.Words.{IsAmong, IsSignedIn, Row, Text, found_of, kind_of, one_text, rows_of, without_minus}
 use Rattle.clap.specs.declared.parser.matches.ArgMatches.{ArgMatches}
 use Rattle.clap.specs.declared.parser.matches.Found.{Found}
 use Rattle.mt_options.specs.declared.options.Options.{Options}
+use Rattle.mt_options.specs.declared.options.StorePlace.{StorePlace}
 use Rattle.mt_options.specs.declared.tenants.TenantQuota.{TenantQuota}
 use Rattle.mt_options.specs.declared.tenants.TenantsFault.{TenantsFault}
 use Rattle.mt_options.specs.declared.tenants.TenantsFault.TheVariants as tenants_fault
 use Rattle.mt_options.specs.Tenants.{AreTenants, IsFirstFault}
 use Rattle.mt_command_line.specs.declared.faults.OptionsFault.{OptionsFault}
-use Rattle.mt_command_line.specs.declared.faults.OptionsFault.TheVariants.{Words, Malformed, Refused, Memory}
-use Rattle.mt_command_line.specs.CommandLine.{faults_in, found_in, given_for, tenant_words}
+use Rattle.mt_command_line.specs.declared.faults.OptionsFault.TheVariants.{Words, CreateAlone, Malformed, Refused, Memory}
+use Rattle.mt_command_line.specs.CommandLine.{faults_in, folder_in, found_in, given_for, tenant_words}
 
 -- the number is the one that is found for the option, in decimal digits, and lies from `least` to `most`
 abbrev pub IsGiven : Text → ℕ → ℕ → List Row → ℕ → Type 0
 IsGiven name least most rows number =
     (text : Text) × (given_for name rows ≡ Some text) × IsNumeral 10 (without_leading_plus text)
     × (number ≡ digits_value 10 (without_leading_plus text)) × (least ≤ number) × (number ≤ most)
+
+-- a flag is set where `true` is found for it, and isn't where `false` is, or nothing
+pub record IsFlag (name : Text) (rows : List Row) (is_set : Bool) : Type 0 where
+  pub set : given_for name rows ≡ Some (codes "true") → is_set ≡ true
+  pub other : given_for name rows ≡ Some (codes "false") → is_set ≡ false
+  pub none : given_for name rows ≡ None → is_set ≡ false
+
+-- The place of a store is the folder that is found for `--store`, with the flag `--create`; where no folder is found there is none, and `--create` isn't
+-- set either.
+abbrev pub NamesStore : List Row → Option StorePlace → Type 0
+NamesStore rows (Some place) = (folder_in rows ≡ Some place.folder.bytes.items) × IsFlag (codes "create") rows place.create
+NamesStore rows None = (folder_in rows ≡ None) × IsFlag (codes "create") rows false
+
+-- why no store's place is made: `--create` is set and no folder is found, or memory is short
+abbrev pub IsStoreFault : List Row → OptionsFault → Type 0
+IsStoreFault rows CreateAlone = (folder_in rows ≡ None) × IsFlag (codes "create") rows true
+IsStoreFault rows Memory = Unit {0}
+IsStoreFault rows fault = ⊥
 
 -- the words that are found for tenants name these, or the first of them with a fault has this one
 abbrev pub Names : List Row → Result (Vec TenantQuota Global) TenantsFault → Type 0
@@ -31,11 +50,13 @@ pub record AsksFor (words : List Text) (options : Options) : Type 0 where
   pub port : IsGiven (codes "port") 0 65535 (found_in words) options.port
   pub workers : IsGiven (codes "workers") 1 64 (found_in words) options.workers
   pub sessions : IsGiven (codes "sessions") 0 4294967295 (found_in words) options.sessions
+  pub store : NamesStore (found_in words) options.store
   pub tenants : AreTenants (tenant_words (found_in words)) options.tenants.items
 
--- the fault is one that the command line has: one of its options, or else the first of its tenants' words
+-- the fault is one that the command line has: one of its options, a `--create` without a folder, or else the first of its tenants' words
 abbrev pub IsTold : List Text → OptionsFault → Type 0
 IsTold words (Words error) = IsAmong (kind_of error) (faults_in words)
+IsTold words CreateAlone = (faults_in words ≡ []) × (folder_in (found_in words) ≡ None) × IsFlag (codes "create") (found_in words) true
 IsTold words (Malformed before) = (faults_in words ≡ []) × IsFirstFault (tenant_words (found_in words)) (tenants_fault.Malformed before)
 IsTold words (Refused before refusal) = (faults_in words ≡ []) × IsFirstFault (tenant_words (found_in words)) (tenants_fault.Refused before refusal)
 IsTold words Memory = Unit {0}

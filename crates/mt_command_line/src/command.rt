@@ -2,7 +2,7 @@
 
 ghost use Rattle.std.specs.Prelude.{◌≡◌, IfOk, false};
 ghost use Rattle.clap.specs.Words.{app_of, rule_of};
-ghost use Rattle.mt_command_line.specs.CommandLine.{port_rule, workers_rule, sessions_rule, tenants_rule, server};
+ghost use Rattle.mt_command_line.specs.CommandLine.{port_rule, workers_rule, sessions_rule, store_rule, create_rule, tenants_rule, server};
 
 use clap::{Arg, ArgAction, Command, value_parser};
 use std::alloc::{AllocError, Global};
@@ -49,6 +49,29 @@ fn sessions_arg<'a>(alloc: Global) -> Arg<'a>
         .help("How many connections to accept before it ends; 0: no end")
 }
 
+// `--store`.
+fn store_arg<'a>(alloc: Global) -> Arg<'a>
+    ensures rule { rule_of result ≡ store_rule }
+    ensures local { result.global ≡ false }
+{
+    Arg::new(alloc, "store")
+        .long("store")
+        .value_name("DIR")
+        .action(ArgAction::Set)
+        .help("The folder of the logs, which are recovered first; without it none are kept")
+}
+
+// `--create`.
+fn create_arg<'a>(alloc: Global) -> Arg<'a>
+    ensures rule { rule_of result ≡ create_rule }
+    ensures local { result.global ≡ false }
+{
+    Arg::new(alloc, "create")
+        .long("create")
+        .action(ArgAction::SetTrue)
+        .help("Makes the logs of the folder anew; what they held is lost")
+}
+
 // The words that name tenants.
 fn tenants_arg<'a>(alloc: Global) -> Arg<'a>
     ensures rule { rule_of result ≡ tenants_rule }
@@ -72,5 +95,7 @@ pub(crate) fn command_of<'a>(alloc: Global) -> Result<Command<'a>, AllocError>
         .arg(port_arg(alloc))?
         .arg(workers_arg(alloc))?
         .arg(sessions_arg(alloc))?
+        .arg(store_arg(alloc))?
+        .arg(create_arg(alloc))?
         .arg(tenants_arg(alloc))
 }

@@ -14,6 +14,8 @@ use std::fmt;
 pub enum OptionsFault {
     /// The words are no options of the program's, or ask for help.
     Words(WordsError),
+    /// `--create` is given without `--store`.
+    CreateAlone,
     /// A word isn't `T:Q`; how many such words stand before it.
     Malformed(usize),
     /// The tenant of a word was refused, `TenantThere` or `Quota`; how many such words stand before it.
@@ -29,7 +31,8 @@ impl OptionsFault {
     {
         match self {
             OptionsFault::Words(error) => { if error.use_stderr() { 2 } else { 0 } }
-            OptionsFault::Malformed(_) | OptionsFault::Refused(_, _) => 2,
+            OptionsFault::CreateAlone | OptionsFault::Malformed(_) | OptionsFault::Refused(_, _) =>
+                2,
             OptionsFault::Memory => 1,
         }
     }
@@ -66,6 +69,10 @@ impl fmt::Display for OptionsFault {
     fn fmt<W: fmt::Write>(&self, f: &mut fmt::Formatter<W>) -> fmt::Result {
         match self {
             OptionsFault::Words(error) => write!(f, "{error}"),
+            OptionsFault::CreateAlone => write!(
+                f,
+                "--create makes the logs of a folder anew, and --store DIR names none"
+            ),
             OptionsFault::Malformed(before) => {
                 let place = before.saturating_add(1);
                 write!(

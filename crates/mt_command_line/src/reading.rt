@@ -2,13 +2,13 @@
 
 ghost use Rattle.std.specs.Prelude.{List, IfOk, IfErr, MatchResult, map};
 ghost use Rattle.clap.specs.Words.{Text, found_of, rows_of};
-ghost use Rattle.mt_command_line.specs.Reads.{AreMatches, AsksFor, IsTold, Names};
+ghost use Rattle.mt_command_line.specs.Reads.{AreMatches, AsksFor, IsStoreFault, IsTold, Names, NamesStore};
 
 use crate::command::command_of;
 use crate::faults::OptionsFault;
 use clap::ArgMatches;
 use clap::error::ErrorKind;
-use mt_options::{MAX_WORKERS, Options, TenantQuota, TenantsFault, read_tenants};
+use mt_options::{MAX_WORKERS, Options, StorePlace, TenantQuota, TenantsFault, read_tenants};
 use mt_rows::Refusal;
 use std::alloc::Global;
 
@@ -19,10 +19,27 @@ fn tenants_of(alloc: Global, matches: &ArgMatches<'_>) -> Result<Vec<TenantQuota
     read_tenants(alloc, matches.get_strs("tenants").unwrap_or(&[]))
 }
 
+// The folder that the matches name for a store, and whether it is made anew.
+fn store_of(alloc: Global, matches: &ArgMatches<'_>) -> Result<Option<StorePlace>, OptionsFault>
+    ensures ok { IfOk result (NamesStore (rows_of (found_of matches.now))) }
+    ensures err { IfErr result (IsStoreFault (rows_of (found_of matches.now))) }
+{
+    let create = matches.get_flag("create");
+    match matches.get_str("store") {
+        Some(folder) => Ok(Some(StorePlace {
+            folder: String::from_str(alloc, folder)?,
+            create,
+        })),
+        None if create => Err(OptionsFault::CreateAlone),
+        None => Ok(None),
+    }
+}
+
 // What the matches ask for.
 fn options_of(alloc: Global, matches: &ArgMatches<'_>) -> Result<Options, OptionsFault>
     ensures { (words : List Text) → AreMatches words matches.now → MatchResult result (AsksFor words) (IsTold words) }
 {
+    let store = store_of(alloc, matches)?;
     let tenants = match tenants_of(alloc, matches) {
         Ok(tenants) => tenants,
         Err(TenantsFault::Malformed(at)) => return Err(OptionsFault::Malformed(at)),
@@ -36,6 +53,7 @@ fn options_of(alloc: Global, matches: &ArgMatches<'_>) -> Result<Options, Option
             .unwrap_or(4)
             .clamp(1, MAX_WORKERS),
         sessions: matches.get_one::<u32>("sessions").unwrap_or(0),
+        store,
         tenants,
     })
 }

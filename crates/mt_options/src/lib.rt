@@ -1,10 +1,10 @@
-//! What a server is asked to do: where it listens, how many connections it serves, and which tenants
-//! it has, each by a word `T:Q` of a tenant's number and its quota in pairs.
+//! What a server is asked to do: where it listens, how many connections it serves, where it keeps its
+//! logs, and which tenants it has, each by a word `T:Q` of a tenant's number and its quota in pairs.
 #![tactic(auto)]
 
 pub mod options;
 pub mod tenants;
 mod words;
 
-pub use options::{MAX_WORKERS, Options};
+pub use options::{MAX_WORKERS, Options, StorePlace};
 pub use tenants::{TenantQuota, TenantsFault, is_listed, read_tenants};

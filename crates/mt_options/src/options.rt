@@ -7,7 +7,16 @@ use crate::tenants::TenantQuota;
 /// The greatest number of connections that are served at a time.
 pub const MAX_WORKERS: u8 = 64;
 
-/// Where a server listens, how much it serves before it ends, and whom.
+/// Where a server keeps its logs.
+#[derive(Drop)]
+pub struct StorePlace {
+    /// The folder of the store's files.
+    pub folder: String,
+    /// Whether these are made anew; else what is there is recovered.
+    pub create: bool,
+}
+
+/// Where a server listens, how much it serves before it ends, what it keeps, and whom it serves.
 #[derive(Drop)]
 pub struct Options {
     /// The port of 127.0.0.1; 0 takes a free one.
@@ -16,6 +25,8 @@ pub struct Options {
     pub workers: u8,
     /// How many connections are accepted before it ends; 0: it doesn't end.
     pub sessions: u32,
+    /// Where it keeps its logs; none are kept without it.
+    pub store: Option<StorePlace>,
     /// The tenants, each with its quota.
     pub tenants: Vec<TenantQuota>,
 

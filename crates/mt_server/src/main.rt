@@ -1,14 +1,14 @@
 //! Serves the maps of many tenants over 127.0.0.1.
 //!
 //! The exit status is 0 at the end of its sessions, and for `--help`; 1 where a socket, a device, memory
-//! or the output failed; 2 where an option or a tenant is refused. With 1 and 2 it says on standard error
-//! what failed.
+//! or the output failed; 2 where an option or a tenant is refused; 3 where the store is. With 1 to 3 it
+//! says on standard error what failed, and what to do.
 #![tactic(auto)]
 
 use log::sink::Console;
 use log::{Level, Logged, warn};
 use mt_command_line::{OptionsFault, read_options, remedy};
-use mt_service::{ServerFault, run_server};
+use mt_service::{OpenStore, ServerFault, open_store, run_server};
 use std::env;
 use std::io::{self, ErrorKind};
 use std::marker::Brand;
@@ -31,13 +31,29 @@ fn main(rt: HostRuntime) -> ExitCode {
         Ok(options) => options,
         Err(fault) => return ExitCode::from(fault.tell(&rt)),
     };
+    // The folder stays locked up to the end.
+    let OpenStore {
+        store,
+        folder: _folder,
+    } = match open_store(&rt, rt.alloc(), &options) {
+        Ok(opened) => opened,
+        Err(fault) => return ended(&rt, Err(fault)),
+    };
     let listener = match TcpListener::bind(&rt, ("127.0.0.1", options.port)) {
         Ok(listener) => listener,
         Err(error) => return ended(&rt, Err(ServerFault::Socket(error))),
     };
     let (blank, mut out) = (Blank::new(65_536), io::writer(&rt));
-    let end = run_server::<Brand, _, _>(&rt, rt.alloc(), blank, listener, &options, &mut out);
-    ended(&rt, end)
+    let end = run_server::<Brand, _, _, _>(
+        &rt,
+        rt.alloc(),
+        blank,
+        listener,
+        &options,
+        store,
+        &mut out,
+    );
+    ended(&rt, end.map(|ending| ending.others))
 }
 
 // All words of the command line. Words that are no text are an error.

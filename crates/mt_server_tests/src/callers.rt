@@ -3,13 +3,15 @@
 ghost use Rattle.std.specs.Prelude.{◌≡◌, IfOk};
 ghost use Rattle.mt_state.specs.Begins.{HaveNoPairs};
 
-use crate::clients::{FOUND, GET, NEW, OPEN, OPENED, PUT};
+use crate::clients::{FOUND, GET, NEW, OPEN, OPENED, PUT, SETTLE};
 use mt_book::Book;
 use mt_core::State;
+use mt_disk::MemDisk;
 use mt_options::TenantQuota;
 use mt_rows::Tenants;
 use mt_service::DeskCaller;
 use mt_session::{Ended, serve};
+use mt_stored::{Keeper, Store};
 use std::alloc::{AllocError, Global};
 use std::marker::Brand;
 use std::process::Abort;
@@ -39,8 +41,6 @@ const NO_TENANT: &[u8] = b"\x00\x00\x00\x01\x84";
 
 const NOT_OPEN: &[u8] = b"\x00\x00\x00\x01\x91";
 
-const SETTLE: &[u8] = b"\x00\x00\x00\x01\x06";
-
 const NO_STORE: &[u8] = b"\x00\x00\x00\x01\x94";
 
 // A session from bytes to bytes.
@@ -59,7 +59,9 @@ fn serve_alone<L: Ledger, R: Wait + Abort>(
         tenant: 7,
         quota: 100,
     }];
-    let mut caller = DeskCaller::new(rt, book, pass, &tenants);
+    let logs = Store::<MemDisk>::without_logs(alloc, no_tenants(alloc)).expect(rt, "memory");
+    let keeper = Keeper::new(alloc, logs, 0);
+    let mut caller = DeskCaller::new(rt, book, pass, keeper, &tenants);
     let mut reader = requests;
     let mut written = Vec::new(alloc);
     let ended = serve(alloc, &mut reader, &mut written, &mut caller);

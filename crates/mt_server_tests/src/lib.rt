@@ -9,6 +9,10 @@ mod callers;
 #[cfg(test)]
 mod clients;
 #[cfg(test)]
+mod folders;
+#[cfg(test)]
 mod servers;
+#[cfg(test)]
+mod stores;
 #[cfg(test)]
 mod words;

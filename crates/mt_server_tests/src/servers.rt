@@ -6,9 +6,12 @@ use crate::clients::{
     ABSENT, BAD, BAD_FRAME, FOUND, GET, NEW, NO_PAIRS, ONE_PAIR, OPEN, OPENED, PUT, REMOVE,
     REMOVED, SCAN, connect, is_at_end, is_told, is_told_behind,
 };
+use crate::stores::store_without_logs;
 use crate::words::options_of;
+use mt_disk::MemDisk;
 use mt_options::Options;
 use mt_service::run_server;
+use mt_stored::Store;
 use std::alloc::Global;
 use std::marker::{Brand, Send, Sync};
 use std::net::{Net, TcpListener, TcpStream};
@@ -26,13 +29,17 @@ fn serve_all<L: Ledger + Send + Sync, R: Threads + Wait + Clock + Sync>(
     blank: Blank,
     listener: TcpListener,
     options: &Options,
+    store: Store<MemDisk>,
 ) -> Option<(Vec<u8>, u64)>
     requires name { blank.name ≡ L.name }
     requires parts { (blank.parts ≡ L.parts) × (L.parts ≡ 65536) }
+    requires untaken { store.source.state.answers ≡ 0 }
 {
     let mut out = Vec::new(alloc);
-    match run_server::<L, R, Vec<u8>>(rt, alloc, blank, listener, options, &mut out) {
-        Ok(others) => Some((out, others)),
+    match run_server::<L, R, Vec<u8>, MemDisk>(
+        rt, alloc, blank, listener, options, store, &mut out,
+    ) {
+        Ok(ending) => Some((out, ending.others)),
         Err(_) => None,
     }
 }
@@ -136,13 +143,15 @@ where
 {
     let (line, last, others) = scene.ends();
     let options = options_of(rt, alloc, line);
+    let store = store_without_logs(rt, alloc);
     let (listener, port, first, second) = connected(rt).expect(rt, "a socket");
     let (served, played) = thread::join(
         rt,
         move ||
             requires name { blank.name ≡ L.name }
             requires parts { (blank.parts ≡ L.parts) × (L.parts ≡ 65536) }
-        { serve_all::<L, R>(rt, alloc, blank, listener, &options) },
+            requires untaken { store.source.state.answers ≡ 0 }
+        { serve_all::<L, R>(rt, alloc, blank, listener, &options, store) },
         move || play(scene, first, second),
     );
     assert!(rt; played.expect(rt, "a socket"), "{last}");

@@ -57,7 +57,33 @@ fn words_are_read(rt: HostRuntime) -> Result<(), Fail> {
         (options.port, options.workers, options.sessions),
         (7411, 4, 0)
     );
+    assert!(rt; options.store.is_none());
     Ok(())
+}
+
+// The folder of a line's store, and whether it is made anew.
+fn expect_store<R: Abort>(rt: &R, alloc: Global, line: &str, folder: &str, create: bool) {
+    let options = options_of(rt, alloc, line);
+    match &options.store {
+        Some(place) => {
+            assert_eq!(rt; place.folder.as_str(), folder, "{line}");
+            assert_eq!(rt; place.create, create, "{line}");
+        }
+        None => panic!(rt; "{line}: no store"),
+    }
+}
+
+#[test]
+fn stores_are_named(rt: HostRuntime) {
+    let alloc = rt.alloc();
+    expect_store(&rt, alloc, "mt_server --store here 7:1", "here", false);
+    expect_store(
+        &rt,
+        alloc,
+        "mt_server 7:1 --create --store=a/b",
+        "a/b",
+        true,
+    );
 }
 
 #[test]
@@ -75,7 +101,13 @@ fn words_are_refused(rt: HostRuntime) -> Result<(), Fail> {
         ("mt_server --workers 0 7:1", 2, None),
         ("mt_server --workers 65 7:1", 2, None),
         ("mt_server --port 65536 7:1", 2, None),
-        ("mt_server --store here 7:0", 2, None),
+        ("mt_server --store here 7:0", 2, Some(Refusal::Quota)),
+        ("mt_server --create 7:1", 2, None),
+        ("mt_server --create 7:0", 2, None),
+        ("mt_server --store 7:1", 2, None),
+        ("mt_server --store here --store there 7:1", 2, None),
+        ("mt_server --create=1 --store here 7:1", 2, None),
+        ("mt_server --store here --checkpoint 1 7:1", 2, None),
         ("mt_server --help", 0, None),
     ];
     for (line, status, refusal) in lines {

@@ -1,41 +1,60 @@
 -- What a caller over a desk may answer to a session.
-use Rattle.std.specs.Prelude.{◌≡◌, ℕ, ◌+◌, ◌<◌, List, Option, Some, None, Result, Err, IfOk}
+use Rattle.std.specs.Prelude.{◌≡◌, ℕ, ◌+◌, ◌<◌, List, Option, Some, None, Result, Ok, Err, IfOk}
 use Rattle.mt_rows.specs.declared.command.Command.{Command}
 use Rattle.mt_rows.specs.declared.reply.Reply.{Reply}
 use Rattle.mt_rows.specs.declared.refusal.Refusal.{Refusal}
-use Rattle.mt_rows.specs.declared.refusal.Refusal.TheVariants.{NoTenant, NotOpen, NoStore}
+use Rattle.mt_rows.specs.declared.refusal.Refusal.TheVariants.{NoTenant, NotOpen}
 use Rattle.mt_runs.specs.declared.event.Answer.{Answer}
 use Rattle.mt_options.specs.declared.tenants.TenantQuota.{TenantQuota}
 use Rattle.mt_options.specs.Tenants.{IsListed}
 use Rattle.mt_book.specs.declared.calls.CallFault.{CallFault}
 use Rattle.mt_book.specs.Periods.{Period}
 use Rattle.mt_book.specs.Calls.{Calls, asked_by, answers_of}
+use Rattle.mt_settle.specs.Turns.{Turn}
+use Rattle.mt_settle.specs.Settles.{Settles}
+use Rattle.mt_stored.specs.Keeping.{Counts}
 use Rattle.mt_session.specs.declared.caller.CallerFault.{CallerFault}
 use Rattle.mt_session.specs.declared.caller.CallerFault.TheVariants.{Refused}
-use Rattle.mt_session.specs.Exchanges.{Exchange, Opens, Calls as CallsFor, Settles}
+use Rattle.mt_session.specs.Exchanges.{Exchange, Opens, Calls as CallsFor, Settles as SettlesFor}
 use Rattle.mt_service.specs.Telling.{told_of, seen_after}
 
+-- what answers are kept in: the logs, the worker whose own log is flushed for their number, and how many there were since it last was
+pub record Kept (K : Type 0) : Type 0 where
+  pub logs : K
+  pub worker : ℕ
+  pub since : ℕ
+
+abbrev pub keeping : {K : Type 0} → K → ℕ → ℕ → Kept K
+keeping logs worker since = record { logs = logs; worker = worker; since = since }
+
 -- a caller between two exchanges: its desk, its pass with the last step that it knows of and the answers that it counts, the tenants that are
--- served, and the one that is opened
-pub record Asker (S : Type 0) : Type 0 where
+-- served, the one that is opened, and what its answers are kept in
+pub record Asker (S K : Type 0) : Type 0 where
   pub desk : S
   pub worker : ℕ
   pub seen : ℕ
   pub counted : ℕ
   pub tenants : List TenantQuota
   pub opened : Option ℕ
+  pub kept : Kept K
 
-abbrev pub asker : {S : Type 0} → S → ℕ → ℕ → ℕ → List TenantQuota → Option ℕ → Asker S
-asker desk worker seen counted tenants opened = record { desk = desk; worker = worker; seen = seen; counted = counted; tenants = tenants; opened = opened }
+abbrev pub asker : {S K : Type 0} → S → ℕ → ℕ → ℕ → List TenantQuota → Option ℕ → Kept K → Asker S K
+asker desk worker seen counted tenants opened kept =
+    record { desk = desk; worker = worker; seen = seen; counted = counted; tenants = tenants; opened = opened; kept = kept }
 
 -- A tenant is opened exactly where it is served; of another one NoTenant is told, and nothing changes.
-abbrev pub OpensTenant : {S : Type 0} → Asker S → ℕ → Option Refusal → Asker S → Type 0
+abbrev pub OpensTenant : {S K : Type 0} → Asker S K → ℕ → Option Refusal → Asker S K → Type 0
 OpensTenant old tenant None new = IsListed old.tenants tenant × (new ≡ record old { opened = Some tenant })
 OpensTenant old tenant (Some refusal) new = (refusal ≡ NoTenant) × (¬ IsListed old.tenants tenant) × (new ≡ old)
 
+-- what a call makes of what its answers are kept in: an answer is counted, and with each 1,024th the worker's log is flushed
+abbrev pub KeepsAnswer : {K : Type 0} → (K → Turn → K → Type 0) → (K → ℕ) → Kept K → Result Answer CallFault → Kept K → Type 0
+KeepsAnswer keeps logs old (Ok answer) new = (new.worker ≡ old.worker) × Counts keeps logs old.worker old.logs old.since new.logs new.since
+KeepsAnswer keeps logs old (Err fault) new = new ≡ old
+
 -- The command is asked of the desk by one call, of the pass's worker and for the opened tenant; the session is told what came of it. An answer is one
 -- to this command, begun behind all steps that the pass knew of, and it is counted.
-pub record AsksCall {S : Type 0} (does : S → Period → S → Type 0) (old new : Asker S) (tenant : ℕ) (command : Command) (told : Result Reply CallerFault) : Type 0 where
+pub record AsksCall {S K : Type 0} (does : S → Period → S → Type 0) (keeps : K → Turn → K → Type 0) (logs : K → ℕ) (old new : Asker S K) (tenant : ℕ) (command : Command) (told : Result Reply CallerFault) : Type 0 where
   pub result : Result Answer CallFault
   pub calls : Calls does old.desk new.desk old.seen (asked_by old.worker tenant command) result
   pub told_is : told ≡ told_of result
@@ -46,14 +65,20 @@ pub record AsksCall {S : Type 0} (does : S → Period → S → Type 0) (old new
   pub worker : new.worker ≡ old.worker
   pub tenants : new.tenants ≡ old.tenants
   pub opened : new.opened ≡ old.opened
+  pub kept : KeepsAnswer keeps logs old.kept result new.kept
 
 -- a command is one of the opened tenant; where none is opened, it is refused
-abbrev pub AsksOpened : {S : Type 0} → (S → Period → S → Type 0) → Asker S → Option ℕ → Command → Result Reply CallerFault → Asker S → Type 0
-AsksOpened does old (Some tenant) command told new = AsksCall does old new tenant command told
-AsksOpened does old None command told new = (told ≡ Err (Refused NotOpen)) × (new ≡ old)
+abbrev pub AsksOpened : {S K : Type 0} → (S → Period → S → Type 0) → (K → Turn → K → Type 0) → (K → ℕ) → Asker S K → Option ℕ → Command → Result Reply CallerFault → Asker S K → Type 0
+AsksOpened does keeps logs old (Some tenant) command told new = AsksCall does keeps logs old new tenant command told
+AsksOpened does keeps logs old None command told new = (told ≡ Err (Refused NotOpen)) × (new ≡ old)
 
--- what the caller answers: a Settle is refused, since no logs are kept
-abbrev pub AsksDesk : {S : Type 0} → (S → Period → S → Type 0) → Asker S → Exchange → Asker S → Type 0
-AsksDesk does old (Opens tenant refusal) new = OpensTenant old tenant refusal new
-AsksDesk does old (CallsFor command told) new = AsksOpened does old old.opened command told new
-AsksDesk does old (Settles told) new = (told ≡ Err NoStore) × (new ≡ old)
+-- a Settle is told what a Settle of all logs tells, and changes these alone; where there are no logs it is refused
+pub record AsksSettle {S K : Type 0} (keeps : K → Turn → K → Type 0) (logs : K → ℕ) (old : Asker S K) (told : Result ℕ Refusal) (new : Asker S K) : Type 0 where
+  pub settles : Settles keeps (logs old.kept.logs) old.kept.logs new.kept.logs told
+  pub same : new ≡ record old { kept = record old.kept { logs = new.kept.logs } }
+
+-- what the caller answers
+abbrev pub AsksDesk : {S K : Type 0} → (S → Period → S → Type 0) → (K → Turn → K → Type 0) → (K → ℕ) → Asker S K → Exchange → Asker S K → Type 0
+AsksDesk does keeps logs old (Opens tenant refusal) new = OpensTenant old tenant refusal new
+AsksDesk does keeps logs old (CallsFor command told) new = AsksOpened does keeps logs old old.opened command told new
+AsksDesk does keeps logs old (SettlesFor told) new = AsksSettle keeps logs old told new

@@ -1,4 +1,4 @@
-//! Who answers a session's commands: a pass of a book, over any desk.
+//! Who answers a session's commands: a pass of a book, over any desk, and over any logs.
 
 ghost use Rattle.std.specs.Prelude.{◌≡◌, None};
 ghost use Rattle.mt_service.specs.Telling.{told_of};
@@ -8,25 +8,36 @@ use mt_options::{TenantQuota, is_listed};
 use mt_rows::{Command, Refusal, Reply};
 use mt_runs::Answer;
 use mt_session::{Caller, CallerFault};
+use mt_settle::Logs;
+use mt_stored::Keeper;
 use std::alloc::Global;
 use std::sync::Wait;
 use std::sync::ledger::Ledger;
 
-/// A caller that asks a desk through a pass, for the tenant that its session opened.
+/// A caller that asks a desk through a pass, for the tenant that its session opened, and keeps what it
+/// answers in logs, if there are some.
 #[derive(Drop)]
-pub struct DeskCaller<'a, L: Ledger, R: Wait, D: Desk<L> + Drop> {
+pub struct DeskCaller<'a, L: Ledger, R: Wait, D: Desk<L> + Drop, S: Logs + Drop> {
     rt: &'a R,
     desk: D,
     pass: Pass<L>,
+    keeper: Keeper<S>,
     tenants: &'a [TenantQuota],
     opened: Option<u32>,
 }
 
-impl<'a, L: Ledger, R: Wait, D: Desk<L> + Drop> DeskCaller<'a, L, R, D> {
+impl<'a, L: Ledger, R: Wait, D: Desk<L> + Drop, S: Logs + Drop> DeskCaller<'a, L, R, D, S> {
     /// A caller with this pass, of which no tenant is opened.
-    pub fn new(rt: &'a R, desk: D, pass: Pass<L>, tenants: &'a [TenantQuota]) -> Self
+    pub fn new(
+        rt: &'a R,
+        desk: D,
+        pass: Pass<L>,
+        keeper: Keeper<S>,
+        tenants: &'a [TenantQuota],
+    ) -> Self
         ensures desk { result.desk ≡ desk }
         ensures pass { result.pass ≡ pass }
+        ensures keeper { result.keeper ≡ keeper }
         ensures tenants { result.tenants.now ≡ tenants.now }
         ensures opened { result.opened ≡ None }
     {
@@ -34,6 +45,7 @@ impl<'a, L: Ledger, R: Wait, D: Desk<L> + Drop> DeskCaller<'a, L, R, D> {
             rt,
             desk,
             pass,
+            keeper,
             tenants,
             opened: None,
         }
@@ -47,10 +59,11 @@ impl<'a, L: Ledger, R: Wait, D: Desk<L> + Drop> DeskCaller<'a, L, R, D> {
     }
 }
 
-impl<L: Ledger, R: Wait, D: Desk<L> + Drop> Caller for DeskCaller<'_, L, R, D> {
-    ghost use Rattle.mt_service.specs.Asking.{AsksDesk, asker};
+impl<L: Ledger, R: Wait, D: Desk<L> + Drop, S: Logs + Drop> Caller for DeskCaller<'_, L, R, D, S> {
+    ghost use Rattle.mt_service.specs.Asking.{AsksDesk, asker, keeping};
 
-    ghost exchanges = { λ old e new. AsksDesk D.does (asker old.desk old.pass.worker old.pass.seen old.pass.share.amount old.tenants.now old.opened) e (asker new.desk new.pass.worker new.pass.seen new.pass.share.amount new.tenants.now new.opened) };
+    ghost exchanges = { λ old e new. AsksDesk D.does S.does S.logs (asker old.desk old.pass.worker old.pass.seen old.pass.share.amount old.tenants.now old.opened (keeping old.keeper.logs old.keeper.worker old.keeper.since.answers)) e
+        (asker new.desk new.pass.worker new.pass.seen new.pass.share.amount new.tenants.now new.opened (keeping new.keeper.logs new.keeper.worker new.keeper.since.answers)) };
 
     fn open(&mut self, tenant: u32) -> Result<(), Refusal> {
         if !is_listed(self.tenants, tenant) {
@@ -64,7 +77,7 @@ impl<L: Ledger, R: Wait, D: Desk<L> + Drop> Caller for DeskCaller<'_, L, R, D> {
         let Some(tenant) = self.opened else {
             return Err(CallerFault::Refused(Refusal::NotOpen));
         };
-        told(call(
+        let called = call(
             self.rt,
             alloc,
             &mut self.desk,
@@ -72,11 +85,15 @@ impl<L: Ledger, R: Wait, D: Desk<L> + Drop> Caller for DeskCaller<'_, L, R, D> {
             tenant,
             command,
             &NoGate {},
-        ))
+        );
+        if called.is_ok() {
+            self.keeper.count_answer(self.rt);
+        }
+        told(called)
     }
 
     fn settle(&mut self) -> Result<u64, Refusal> {
-        Err(Refusal::NoStore)
+        self.keeper.settle(self.rt)
     }
 }
 

@@ -2,8 +2,10 @@
 
 ghost use Rattle.mt_service.specs.declared.faults.ServerFault.TheVariants.{Memory as MemoryFault};
 ghost use Rattle.std.specs.Prelude.{◌≡◌};
+ghost use Rattle.mt_service.specs.Faults.{status_of};
 
 use mt_rows::Refusal;
+use mt_store_files::StoreFault;
 use std::alloc::{AllocError, AllocFailed};
 use std::io;
 use thiserror::Error;
@@ -17,6 +19,12 @@ pub enum ServerFault {
     /// A growth of its own was refused.
     #[error("E2: out of memory")]
     Memory,
+    /// The store isn't served.
+    #[error("{0}")]
+    Store(StoreFault),
+    /// The last settle was refused: the logs may lack the last changes.
+    #[error("{0}: the last settle failed, so the logs may lack the last changes")]
+    Unsettled(Refusal),
     /// The listener failed.
     #[error("the socket failed: {0}")]
     Socket(io::Error),
@@ -29,11 +37,15 @@ pub enum ServerFault {
 }
 
 impl ServerFault {
-    /// The exit status: 2 where a tenant is refused, else 1.
-    pub fn status(&self) -> u8 {
+    /// The exit status: 2 where a tenant is refused, 3 where the store is, else 1.
+    pub fn status(&self) -> u8
+        ensures { result ≡ status_of self.now }
+    {
         match self {
             ServerFault::Refused(_) => 2,
+            ServerFault::Store(fault) => fault.status(),
             ServerFault::Memory
+            | ServerFault::Unsettled(_)
             | ServerFault::Socket(_)
             | ServerFault::Output(_)
             | ServerFault::Passes => 1,

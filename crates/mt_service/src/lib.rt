@@ -1,18 +1,21 @@
 //! The server as a library: a listener's sessions, answered by a crew of workers over one book.
 //!
-//! `run_server` makes the book, gives each worker a pass, lets the crew serve, and tells the sum of the
-//! answers. A worker answers a stream's session by `serve` of `mt_session`, with a caller that asks the
-//! book through its pass. `specs/Asking.antt` says what such a caller may answer.
+//! `open_store` opens the store that the options name. `run_server` makes its book, gives each worker a pass,
+//! lets the crew serve, settles at the end, and tells the sum of the answers. A worker answers a stream's
+//! session by `serve` of `mt_session`, with a caller that asks the book through its pass, and keeps the answers
+//! in the store's logs. `specs/Asking.antt` says what such a caller may answer.
 #![tactic(auto)]
 
 mod accounts;
 pub mod callers;
 mod connections;
 pub mod faults;
+pub mod opening;
 pub mod running;
 pub mod workers;
 
 pub use callers::DeskCaller;
 pub use faults::ServerFault;
-pub use running::{Totals, run_server, totals_of};
+pub use opening::{OpenStore, open_store};
+pub use running::{Ending, Totals, run_server, totals_of};
 pub use workers::SessionWorker;

@@ -8,16 +8,18 @@ ghost use Rattle.mt_crew.specs.declared.crew.Served.{Served};
 ghost use Rattle.mt_streams.specs.Failures.{Failed, NoFewer};
 ghost use Rattle.mt_service.specs.declared.workers.SessionWorker.{SessionWorker};
 ghost use Rattle.mt_service.specs.Faults.{IsOfWriting, IsOfServing, HasCause};
+ghost use Rattle.mt_stored.specs.Stores.{IsSettled};
 ghost use Rattle.mt_service.specs.Lines.{first_line, last_line, Begins, SaysAll, SaysPart};
 
-use crate::accounts::accounts_of;
 use crate::callers::DeskCaller;
 use crate::faults::ServerFault;
 use crate::workers::SessionWorker;
 use mt_book::{Book, Pass, gather, open_pass};
-use mt_core::State;
 use mt_crew::{Crew, CrewFault, Served, others_of, run_crew};
+use mt_disk::Disk;
 use mt_options::Options;
+use mt_store_logs::StoreLog;
+use mt_stored::{Keeper, SharedLogs, Store, locked_logs, unlocked_logs};
 use mt_streams::{Sink, write_whole};
 use std::alloc::{AllocError, Global};
 use std::marker::{Send, Sync};
@@ -35,35 +37,93 @@ pub struct Totals {
     pub others: u64,
 }
 
-/// Serves the connections of a listener, as many as the options say, and writes where it listens and,
-/// at the end, how many sessions and answers there were. It answers the number of sessions that ended
-/// otherwise than `Closed`.
+/// A server's end: how many sessions ended otherwise than `Closed`, and the store, which is settled.
+#[derive(Drop)]
+pub struct Ending<D: Disk + Drop> {
+    pub others: u64,
+    pub store: Store<D>,
+}
+
+/// Serves the connections of a listener from a store, as many as the options say, and writes where it
+/// listens and, at the end, how many sessions and answers there were. Behind the last session the store is
+/// settled once more, also where the listener failed.
 ///
 /// After an error the output has a beginning of these two lines.
-pub fn run_server<L: Ledger + Send + Sync, R: Threads + Wait + Clock + Sync, W: Sink>(
+pub fn run_server<L, R, W, D>(
     rt: &R,
     alloc: Global,
     blank: Blank,
     listener: TcpListener,
     options: &Options,
+    store: Store<D>,
     out: &mut W,
-) -> Result<u64, ServerFault>
+) -> Result<Ending<D>, ServerFault>
+where
+    L: Ledger + Send + Sync,
+    R: Threads + Wait + Clock + Sync,
+    W: Sink,
+    D: Disk + Drop + Send,
     requires name { blank.name ≡ L.name }
     requires parts { (blank.parts ≡ L.parts) × (L.parts ≡ 65536) }
+    requires untaken { store.source.state.answers ≡ 0 }
     ensures ok { OnOk result (SaysAll (W.contents out.old) (W.contents out.new) options.now.sessions) }
+    ensures settled { IfOk result (λ ending. IsSettled ending.store.source.state ending.store.logs.items) }
     ensures err { OnErr result (SaysPart (W.contents out.old) (W.contents out.new) options.now.sessions) }
-    ensures cause { IfErr result (HasCause options.now.tenants.items (Failed (W.failures out.old) (W.failures out.new))) }
+    ensures cause { IfErr result (HasCause (Failed (W.failures out.old) (W.failures out.new))) }
 {
-    let tenants = accounts_of(alloc, options.tenants.as_slice())?;
     let port = match listener.local_addr() {
         Ok(addr) => addr.port(),
         Err(error) => return Err(ServerFault::Socket(error)),
     };
-    let book = Mutex::new(Book::<L>::new(blank, State::new(alloc, 0, tenants)?));
     say_first(alloc, out, port)?;
-    let Totals { answers, others } = serve_all(rt, alloc, &book, &listener, options)?;
+    let (Totals { answers, others }, store) = serve_store::<L, R, D>(
+        rt, alloc, blank, &listener, options, store,
+    )?;
     say_last(alloc, out, options.sessions, answers)?;
-    Ok(others)
+    Ok(Ending { others, store })
+}
+
+// Serves the listener's connections from a store, and settles it.
+fn serve_store<L: Ledger + Send + Sync, R: Threads + Wait + Clock + Sync, D: Disk + Drop + Send>(
+    rt: &R,
+    alloc: Global,
+    blank: Blank,
+    listener: &TcpListener,
+    options: &Options,
+    store: Store<D>,
+) -> Result<(Totals, Store<D>), ServerFault>
+    requires name { blank.name ≡ L.name }
+    requires parts { (blank.parts ≡ L.parts) × (L.parts ≡ 65536) }
+    requires untaken { store.source.state.answers ≡ 0 }
+    ensures settled { IfOk result (λ served. IsSettled served.1.source.state served.1.logs.items) }
+    ensures fault { IfErr result IsOfServing }
+{
+    let (state, logs) = store.into_parts();
+    let logs = locked_logs(alloc, logs)?;
+    let book = Mutex::new(Book::<L>::new(blank, state));
+    let served = serve_all(rt, alloc, &book, &logs, listener, options);
+    let store = settled(rt, alloc, book, logs)?;
+    Ok((served?, store))
+}
+
+// The store, of which nobody holds a lock any more, settled for the last time.
+fn settled<L: Ledger, R: Wait, D: Disk + Drop>(
+    rt: &R,
+    alloc: Global,
+    book: Mutex<Book<L>>,
+    logs: Vec<Mutex<StoreLog<D>>>,
+) -> Result<Store<D>, ServerFault>
+    ensures settled { IfOk result (λ store. IsSettled store.source.state store.logs.items) }
+    ensures fault { IfErr result IsOfServing }
+{
+    let logs = unlocked_logs(alloc, logs)?;
+    let Some(mut store) = Store::joined(book.into_inner().into_state(), logs) else {
+        return Err(ServerFault::Passes);
+    };
+    match store.settle_last(rt, alloc) {
+        Ok(()) => Ok(store),
+        Err(refusal) => Err(ServerFault::Unsettled(refusal)),
+    }
 }
 
 // Writes where the server listens.
@@ -111,17 +171,18 @@ fn say<W: Sink>(out: &mut W, line: &str) -> Result<(), ServerFault>
 }
 
 // Serves the listener's connections by a crew, and adds up what its workers come back with.
-fn serve_all<L: Ledger + Send + Sync, R: Threads + Wait + Clock + Sync>(
+fn serve_all<L: Ledger + Send + Sync, R: Threads + Wait + Clock + Sync, D: Disk + Drop + Send>(
     rt: &R,
     alloc: Global,
     book: &Mutex<Book<L>>,
+    logs: &[Mutex<StoreLog<D>>],
     listener: &TcpListener,
     options: &Options,
 ) -> Result<Totals, ServerFault>
     requires { L.parts ≡ 65536 }
     ensures { IfErr result IsOfServing }
 {
-    let workers = workers_of(rt, alloc, book, options)?;
+    let workers = workers_of(rt, alloc, book, logs, options)?;
     match run_crew(rt, alloc, listener, options.sessions, workers) {
         Ok(
             Crew {
@@ -134,22 +195,25 @@ fn serve_all<L: Ledger + Send + Sync, R: Threads + Wait + Clock + Sync>(
     }
 }
 
-// So many workers as the options say, each with a pass.
-fn workers_of<'a, L: Ledger, R: Wait + Clock>(
+// So many workers as the options say, each with a pass, and with a log of its own, where logs are kept.
+fn workers_of<'a, L: Ledger, R: Wait + Clock, D: Disk + Drop>(
     rt: &'a R,
     alloc: Global,
     book: &'a Mutex<Book<L>>,
+    logs: &'a [Mutex<StoreLog<D>>],
     options: &'a Options,
-) -> Result<Vec<SessionWorker<'a, L, R>>, ServerFault>
+) -> Result<Vec<SessionWorker<'a, L, R, D>>, ServerFault>
     ensures workers { IfOk result (λ workers. vec_len workers ≡ options.now.workers) }
     ensures fault { IfErr result IsOfServing }
 {
     let mut workers = Vec::new(alloc);
-    for _ in 0..options.workers {
-        let Some(pass) = open_pass(rt, book, 0) else {
+    for number in 0..options.workers {
+        let worker = if logs.is_empty() { 0 } else { number };
+        let Some(pass) = open_pass(rt, book, worker) else {
             return Err(ServerFault::Passes);
         };
-        let caller = DeskCaller::new(rt, book, pass, options.tenants.as_slice());
+        let keeper = Keeper::new(alloc, SharedLogs::new(book, logs), worker);
+        let caller = DeskCaller::new(rt, book, pass, keeper, options.tenants.as_slice());
         workers.push(SessionWorker { rt, caller })?;
     }
     Ok(workers)
@@ -158,16 +222,16 @@ fn workers_of<'a, L: Ledger, R: Wait + Clock>(
 /// What the workers come to, whose passes are given back to the book: the sum of the passes' shares, and
 /// that of the workers' counts. `Memory` and `Passes` (where these are not all passes that were opened)
 /// are the only errors; after either the passes are lost.
-pub fn totals_of<L: Ledger, R: Wait + Clock>(
+pub fn totals_of<L: Ledger, R: Wait + Clock, D: Disk + Drop>(
     rt: &R,
     alloc: Global,
     book: &Mutex<Book<L>>,
-    served: Vec<Served<SessionWorker<'_, L, R>>>,
+    served: Vec<Served<SessionWorker<'_, L, R, D>>>,
 ) -> Result<Totals, ServerFault>
     requires parts { L.parts ≡ 65536 }
     requires few { vec_len served < 2 ^ 32 }
-    ensures answers { IfOk result (λ totals. totals.answers ≡ sum_by (λ (one : Served (SessionWorker L R)). one.worker.caller.pass.share.amount) served.entry.items) }
-    ensures others { IfOk result (λ totals. totals.others ≡ sum_by (λ (one : Served (SessionWorker L R)). one.others) served.entry.items) }
+    ensures answers { IfOk result (λ totals. totals.answers ≡ sum_by (λ (one : Served (SessionWorker L R D)). one.worker.caller.pass.share.amount) served.entry.items) }
+    ensures others { IfOk result (λ totals. totals.others ≡ sum_by (λ (one : Served (SessionWorker L R D)). one.others) served.entry.items) }
     ensures fault { IfErr result IsOfServing }
 {
     let others = others_of(served.as_slice());
@@ -179,11 +243,11 @@ pub fn totals_of<L: Ledger, R: Wait + Clock>(
 }
 
 // The passes that the workers hold.
-fn passes_of<L: Ledger, R: Wait + Clock>(
+fn passes_of<L: Ledger, R: Wait + Clock, D: Disk + Drop>(
     alloc: Global,
-    served: Vec<Served<SessionWorker<'_, L, R>>>,
+    served: Vec<Served<SessionWorker<'_, L, R, D>>>,
 ) -> Result<Vec<Pass<L>>, AllocError>
-    ensures { IfOk result (λ passes. sum_by (λ (pass : Pass L). pass.share.amount) passes.items ≡ sum_by (λ (one : Served (SessionWorker L R)). one.worker.caller.pass.share.amount) served.entry.items) }
+    ensures { IfOk result (λ passes. sum_by (λ (pass : Pass L). pass.share.amount) passes.items ≡ sum_by (λ (one : Served (SessionWorker L R D)). one.worker.caller.pass.share.amount) served.entry.items) }
 {
     let mut passes = Vec::new(alloc);
     for one in served {

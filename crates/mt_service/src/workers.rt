@@ -4,7 +4,9 @@ use crate::callers::DeskCaller;
 use crate::connections::{linger, set_up};
 use mt_book::Book;
 use mt_crew::Worker;
+use mt_disk::Disk;
 use mt_session::{Ended, serve};
+use mt_stored::SharedLogs;
 use std::alloc::Global;
 use std::net::TcpStream;
 use std::sync::ledger::Ledger;
@@ -14,12 +16,12 @@ use std::time::Clock;
 /// A worker with a caller of its own, which it lends to one session after the other. A session asks it
 /// for nothing before its own Open was answered.
 #[derive(Drop)]
-pub struct SessionWorker<'a, L: Ledger, R: Wait + Clock> {
+pub struct SessionWorker<'a, L: Ledger, R: Wait + Clock, D: Disk + Drop> {
     pub rt: &'a R,
-    pub caller: DeskCaller<'a, L, R, &'a Mutex<Book<L>>>,
+    pub caller: DeskCaller<'a, L, R, &'a Mutex<Book<L>>, SharedLogs<'a, L, D>>,
 }
 
-impl<L: Ledger, R: Wait + Clock> Worker for SessionWorker<'_, L, R> {
+impl<L: Ledger, R: Wait + Clock, D: Disk + Drop> Worker for SessionWorker<'_, L, R, D> {
     fn serve(&mut self, alloc: Global, stream: &TcpStream) -> bool {
         set_up(stream);
         let mut reader = stream;

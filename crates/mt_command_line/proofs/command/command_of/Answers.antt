@@ -12,4 +12,6 @@ returns c =
     let one = c.in_ok-arg.ensures.shape c.port_arg.ensures.local ∙ ap₂ with_rule empty c.port_arg.ensures.rule in
     let two = c.in_ok-arg-2.ensures.shape c.workers_arg.ensures.local ∙ ap₂ with_rule one c.workers_arg.ensures.rule in
     let three = c.in_ok-arg-3.ensures.shape c.sessions_arg.ensures.local ∙ ap₂ with_rule two c.sessions_arg.ensures.rule in
-    IfOk-weaker c.arg-4.result _ _ (λ command added. added.shape c.tenants_arg.ensures.local ∙ ap₂ with_rule three c.tenants_arg.ensures.rule) c.arg-4.ensures
+    let four = c.in_ok-arg-4.ensures.shape c.store_arg.ensures.local ∙ ap₂ with_rule three c.store_arg.ensures.rule in
+    let five = c.in_ok-arg-5.ensures.shape c.create_arg.ensures.local ∙ ap₂ with_rule four c.create_arg.ensures.rule in
+    IfOk-weaker c.arg-6.result _ _ (λ command added. added.shape c.tenants_arg.ensures.local ∙ ap₂ with_rule five c.tenants_arg.ensures.rule) c.arg-6.ensures

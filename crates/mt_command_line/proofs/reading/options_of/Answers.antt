@@ -3,7 +3,7 @@ use Rattle.std.specs.Str.Parse.{ParsesUnsigned, ExplainsUnsignedError, HasUnsign
 use Rattle.clap.specs.Words.{found_of}
 use Rattle.mt_options.specs.Tenants.{AreTenants}
 use Rattle.mt_command_line.specs.CommandLine.{found_in, tenant_words}
-use Rattle.mt_command_line.specs.Reads.{IsGiven}
+use Rattle.mt_command_line.specs.Reads.{IsGiven, NamesStore}
 use Rattle.mt_command_line.proofs.MatchLemmas.{number_is}
 use Rattle.mt_command_line.proofs.reading.options_of.Goals as goal
 
@@ -23,5 +23,6 @@ returns c = λ words are.
       port = rw c.unwrap_or.ensures port;
       workers = rw same given;
       sessions = rw c.unwrap_or-3.ensures sessions;
+      store = subst (λ rows. NamesStore rows c.in_ok-store.store) are.rows c.in_ok-store.ensures.ok;
       tenants = subst (λ rows. AreTenants (tenant_words rows) c.in-Ok.tenants.items) are.rows (search rules);
     }

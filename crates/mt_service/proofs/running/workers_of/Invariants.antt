@@ -2,5 +2,5 @@ use Rattle.std.proofs.Common.{◌≡◌, vec_len}
 use Rattle.mt_service.proofs.running.workers_of.Given as goal
 
 -- one worker a turn
-abbrev pub invariant-loop : goal.invariant-loop
-invariant-loop g l = vec_len l.workers ≡ l.counter
+abbrev pub invariant-loop-number : goal.invariant-loop-number
+invariant-loop-number g l = vec_len l.workers ≡ l.number

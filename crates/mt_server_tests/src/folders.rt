@@ -1,0 +1,143 @@
+//! Stores in folders: made, opened again, served from, and refused.
+
+ghost use Rattle.std.specs.Prelude.{◌≡◌};
+
+use crate::stores::{LOG, RESUME, Scene, serve_scene};
+use crate::words::options_of;
+use mt_service::{OpenStore, open_store};
+use std::alloc::Global;
+use std::fs::{self, File};
+use std::marker::Brand;
+use std::process::Abort;
+use std::rt::Files;
+use std::sync::ledger::Blank;
+use std::test::Fail;
+
+// How the opening that a line names ends: nothing said, or the status and what is said.
+fn told_of<R: Files<File = File> + Abort>(rt: &R, alloc: Global, line: &str) -> (u8, String) {
+    let options = options_of(rt, alloc, line);
+    match open_store(rt, alloc, &options) {
+        Ok(OpenStore { store: _, folder }) => {
+            assert!(rt; folder.is_some(), "{line}");
+            (0, String::new(alloc))
+        }
+        Err(fault) => (
+            fault.status(),
+            format!(in alloc; "{fault}").expect(rt, "memory"),
+        ),
+    }
+}
+
+fn expect_told<R: Files<File = File> + Abort>(
+    rt: &R,
+    alloc: Global,
+    line: &str,
+    status: u8,
+    beginning: &str,
+) {
+    let (is_status, told) = told_of(rt, alloc, line);
+    assert_eq!(rt; is_status, status, "{line}: {told}");
+    assert!(rt; told.starts_with(beginning), "{line}: {told}");
+}
+
+#[test]
+fn stores_are_opened_and_refused(rt: HostRuntime) -> Result<(), Fail> {
+    let alloc = rt.alloc();
+    let _ = fs::remove_dir_all(&rt, "mt_server_tests_store");
+    let lines = [
+        (
+            "mt_server --workers 2 --store mt_server_tests_store 7:1",
+            3,
+            "E15: there is no such folder",
+        ),
+        (
+            "mt_server --workers 2 --store mt_server_tests_store/a --create 7:1",
+            1,
+            "E10: the folder: ",
+        ),
+        (
+            "mt_server --workers 2 --store mt_server_tests_store --create 7:1",
+            0,
+            "",
+        ),
+        (
+            "mt_server --workers 2 --store mt_server_tests_store 7:1",
+            0,
+            "",
+        ),
+        (
+            "mt_server --workers 1 --store mt_server_tests_store 7:1",
+            3,
+            "E15: these logs",
+        ),
+        (
+            "mt_server --workers 3 --store mt_server_tests_store 7:1",
+            3,
+            "E15: wal-02 is missing",
+        ),
+        (
+            "mt_server --workers 1 --store mt_server_tests_store --create 7:1",
+            0,
+            "",
+        ),
+        (
+            "mt_server --workers 2 --store mt_server_tests_store 7:1",
+            3,
+            "E15: wal-01 is missing",
+        ),
+    ];
+    for (line, status, beginning) in lines {
+        expect_told(&rt, alloc, line, status, beginning);
+    }
+    // While a store is open nobody else opens it.
+    let line = "mt_server --workers 1 --store mt_server_tests_store 7:1";
+    match open_store(&rt, alloc, &options_of(&rt, alloc, line)) {
+        Ok(opened) => {
+            expect_told(&rt, alloc, line, 3, "E10: another server");
+            drop(opened);
+        }
+        Err(_) => panic!(rt; "not opened"),
+    }
+    // A file that is no log.
+    fs::write(&rt, "mt_server_tests_store/wal-00", "MTLOG")?;
+    expect_told(&rt, alloc, line, 3, "E12: wal-00 is no log from byte 0 on");
+    fs::remove_dir_all(&rt, "mt_server_tests_store")?;
+    Ok(())
+}
+
+// The store that a line names.
+fn opened<R: Files<File = File> + Abort>(rt: &R, alloc: Global, line: &str) -> OpenStore
+    ensures { result.store.source.state.answers ≡ 0 }
+{
+    match open_store(rt, alloc, &options_of(rt, alloc, line)) {
+        Ok(opened) => opened,
+        Err(_) => panic!(rt; "{line}: not opened"),
+    }
+}
+
+// A settled put is in the file, in the bytes of the format. At the next start its log has grown by the batch
+// with which a recovery ends before anybody is served, and then the put is found.
+#[test]
+fn a_store_comes_back_from_its_files(rt: HostRuntime) {
+    let alloc = rt.alloc();
+    let _ = fs::remove_dir_all(&rt, "mt_server_tests_files");
+    let new = "mt_server --workers 1 --store mt_server_tests_files --create 7:100";
+    let OpenStore { store, folder } = opened(&rt, alloc, new);
+    let left = serve_scene::<Brand, _, _>(&rt, alloc, Blank::new(65_536), store, Scene::Settles);
+    drop(left);
+    drop(folder);
+    let bytes = fs::read(&rt, "mt_server_tests_files/wal-00").expect(&rt, "a file");
+    assert_eq!(rt; bytes.as_slice(), LOG);
+    let grown = [&LOG[..54], RESUME]
+        .as_slice()
+        .concat(alloc)
+        .expect(&rt, "memory");
+    let again = "mt_server --workers 1 --store mt_server_tests_files 7:100";
+    let OpenStore { store, folder } = opened(&rt, alloc, again);
+    let bytes = fs::read(&rt, "mt_server_tests_files/wal-00").expect(&rt, "a file");
+    assert_eq!(rt; bytes.as_slice(), grown.as_slice());
+    let left = serve_scene::<Brand, _, _>(&rt, alloc, Blank::new(65_536), store, Scene::Reads);
+    drop(left);
+    drop(folder);
+    let _ = fs::remove_dir_all(&rt, "mt_server_tests_files");
+}

@@ -1,0 +1,206 @@
+//! Servers whose stores lie on disks in memory, with a client each.
+
+ghost use Rattle.std.specs.Prelude.{◌≡◌, ◌<◌, ◌≤◌, vec_len};
+ghost use Rattle.mt_state.specs.Begins.{HaveNoPairs};
+
+use crate::clients::{
+    DEVICE, FOUND, GET, NEW, OPEN, OPENED, PUT, SETTLE, SETTLED_5, connect, is_told,
+};
+use crate::words::options_of;
+use mt_disk::{Disk, MemDisk};
+use mt_options::Options;
+use mt_recover::LogSlot;
+use mt_rows::Tenants;
+use mt_service::run_server;
+use mt_stored::Store;
+use std::alloc::Global;
+use std::marker::{Brand, Send, Sync};
+use std::net::{Net, TcpListener, TcpStream};
+use std::process::Abort;
+use std::sync::Wait;
+use std::sync::ledger::{Blank, Ledger};
+use std::thread::Threads;
+use std::time::Clock;
+use std::{io, thread};
+
+// Nobody may have pairs.
+fn no_tenants(alloc: Global) -> Tenants
+    ensures { HaveNoPairs result }
+{
+    Tenants::new(alloc)
+}
+
+/// A store of tenant 7, which may have 100 pairs, that keeps nothing.
+pub(crate) fn store_without_logs(rt: &impl Abort, alloc: Global) -> Store<MemDisk>
+    ensures { result.source.state.answers ≡ 0 }
+{
+    let mut tenants = no_tenants(alloc);
+    assert!(rt; tenants.add(7, 100).is_ok());
+    Store::without_logs(alloc, tenants).expect(rt, "memory")
+}
+
+// A new store on this disk.
+fn new_store(rt: &impl Abort, alloc: Global, disk: MemDisk) -> Store<MemDisk>
+    ensures { result.source.state.answers ≡ 0 }
+{
+    let mut tenants = no_tenants(alloc);
+    assert!(rt; tenants.add(7, 100).is_ok());
+    let mut disks = Vec::new(alloc);
+    assert!(rt; disks.push(disk).is_ok());
+    match Store::create(alloc, disks, tenants) {
+        Ok(store) => store,
+        Err(_) => panic!(rt; "no store is made"),
+    }
+}
+
+// The store that a disk holds.
+fn recovered(rt: &impl Abort, alloc: Global, image: &[u8]) -> Store<MemDisk>
+    ensures { result.source.state.answers ≡ 0 }
+{
+    let mut tenants = no_tenants(alloc);
+    assert!(rt; tenants.add(7, 100).is_ok());
+    let image = image.to_vec(alloc).expect(rt, "memory");
+    let disk = MemDisk::with_image(alloc, image, None, None).expect(rt, "memory");
+    let mut disks = Vec::new(alloc);
+    assert!(rt; disks.push(disk).is_ok());
+    match Store::recover(alloc, disks, tenants) {
+        Ok(store) => store,
+        Err(_) => panic!(rt; "no store is recovered"),
+    }
+}
+
+// What the only log of a store has on its disk.
+fn image_of(rt: &impl Abort, alloc: Global, store: Store<MemDisk>) -> Vec<u8> {
+    let (_, logs) = store.into_parts();
+    assert_eq!(rt; logs.len(), 1);
+    match logs[0].slot() {
+        LogSlot::Open(log) => log.disk().image().to_vec(alloc).expect(rt, "memory"),
+        LogSlot::Closed(_) | LogSlot::Away => panic!(rt; "the log is closed"),
+    }
+}
+
+// Log 0 of 1: one batch from 0 to 5, with the put of tenant 7, key `k`, column `v`, by step 4.
+pub(crate) const LOG: &[u8] =
+    b"MTLOG\x01\x00\x01\x01\x00\x00\x00\x29\x00\x00\x00\x00\x00\x00\x00\x00\x00\x00\x00\x00\x00\x00\x00\x00\x05\x00\x00\x00\x01\x00\x00\x00\x00\x00\x00\x00\x04\x00\x00\x00\x07\x00\x01k\x01\x01\x00\x01v\x00";
+
+// The batch with which a recovery ends: from 5 to 5, all up to 5 kept. It opens the gate that was closed.
+pub(crate) const RESUME: &[u8] =
+    b"\x01\x00\x00\x00\x19\x01\x00\x00\x00\x00\x00\x00\x00\x05\x00\x00\x00\x00\x00\x00\x00\x05\x00\x00\x00\x00\x00\x00\x00\x05\x00";
+
+// What the client of a server does.
+#[derive(Clone, Copy)]
+pub(crate) enum Scene {
+    /// It puts and settles.
+    Settles,
+    /// It puts and leaves.
+    Leaves,
+    /// It puts, and the disk fails when it settles first.
+    SettlesTwice,
+    /// It reads what was put before.
+    Reads,
+}
+
+// Plays a scene; whether the client was told what it should be.
+fn play(scene: Scene, client: TcpStream) -> io::Result<bool> {
+    if !is_told(&client, OPEN, OPENED)? {
+        return Ok(false);
+    }
+    match scene {
+        Scene::Settles => Ok(is_told(&client, PUT, NEW)? && is_told(&client, SETTLE, SETTLED_5)?),
+        Scene::Leaves => is_told(&client, PUT, NEW),
+        Scene::SettlesTwice => Ok(
+            is_told(&client, PUT, NEW)?
+                && is_told(&client, SETTLE, DEVICE)?
+                && is_told(&client, SETTLE, SETTLED_5)?,
+        ),
+        Scene::Reads => is_told(&client, GET, FOUND),
+    }
+}
+
+// Serves to the end; the store that is left.
+fn serve_all<L: Ledger + Send + Sync, R: Threads + Wait + Clock + Sync, D: Disk + Drop + Send>(
+    rt: &R,
+    alloc: Global,
+    blank: Blank,
+    listener: TcpListener,
+    options: &Options,
+    store: Store<D>,
+) -> Option<Store<D>>
+    requires name { blank.name ≡ L.name }
+    requires parts { (blank.parts ≡ L.parts) × (L.parts ≡ 65536) }
+    requires untaken { store.source.state.answers ≡ 0 }
+{
+    let mut out = Vec::new(alloc);
+    match run_server::<L, R, Vec<u8>, D>(rt, alloc, blank, listener, options, store, &mut out) {
+        Ok(ending) => Some(ending.store),
+        Err(_) => None,
+    }
+}
+
+// A server over a store, and its client, who is told what it should be; the store that is left.
+pub(crate) fn serve_scene<L: Ledger + Send + Sync, R, D: Disk + Drop + Send>(
+    rt: &R,
+    alloc: Global,
+    blank: Blank,
+    store: Store<D>,
+    scene: Scene,
+) -> Store<D>
+where
+    R: Net<Listener = TcpListener, Stream = TcpStream> + Threads + Wait + Clock + Abort + Sync,
+    requires name { blank.name ≡ L.name }
+    requires parts { (blank.parts ≡ L.parts) × (L.parts ≡ 65536) }
+    requires untaken { store.source.state.answers ≡ 0 }
+{
+    let options = options_of(
+        rt,
+        alloc,
+        "mt_server --port 0 --workers 1 --sessions 1 7:100",
+    );
+    let listener = TcpListener::bind(rt, ("127.0.0.1", 0u16)).expect(rt, "a socket");
+    let port = listener.local_addr().expect(rt, "a socket").port();
+    let client = connect(rt, port).expect(rt, "a socket");
+    let (served, played) = thread::join(
+        rt,
+        move ||
+            requires name { blank.name ≡ L.name }
+            requires parts { (blank.parts ≡ L.parts) × (L.parts ≡ 65536) }
+            requires untaken { store.source.state.answers ≡ 0 }
+        { serve_all::<L, R, D>(rt, alloc, blank, listener, &options, store) },
+        move || play(scene, client),
+    );
+    assert!(rt; played.expect(rt, "a socket"));
+    served.expect(rt, "the server ends well")
+}
+
+// A settled put is in the log, also one that nobody settled: the server settles at its end. A disk that
+// fails once loses nothing.
+#[test]
+fn what_was_put_is_in_the_log(rt: HostRuntime) {
+    let alloc = rt.alloc();
+    let scenes = [
+        (Scene::Settles, None),
+        (Scene::Leaves, None),
+        (Scene::SettlesTwice, Some(4)),
+        (Scene::SettlesTwice, Some(5)),
+        (Scene::SettlesTwice, Some(6)),
+        (Scene::SettlesTwice, Some(7)),
+    ];
+    for (scene, fail) in scenes {
+        let store = new_store(&rt, alloc, MemDisk::new(alloc, fail, None));
+        let left = serve_scene::<Brand, _, _>(&rt, alloc, Blank::new(65_536), store, scene);
+        assert_eq!(rt; image_of(&rt, alloc, left).as_slice(), LOG, "{fail:?}");
+    }
+}
+
+#[test]
+fn what_was_put_is_there_again(rt: HostRuntime) {
+    let alloc = rt.alloc();
+    let store = recovered(&rt, alloc, LOG);
+    let left = serve_scene::<Brand, _, _>(&rt, alloc, Blank::new(65_536), store, Scene::Reads);
+    let image = image_of(&rt, alloc, left);
+    let grown = [&LOG[..54], &RESUME[..30]]
+        .as_slice()
+        .concat(alloc)
+        .expect(&rt, "memory");
+    assert!(rt; image.as_slice().starts_with(grown.as_slice()));
+}

@@ -1,0 +1,78 @@
+-- What is opened for a server, and why nothing is.
+use Rattle.std.specs.Prelude.{◌≡◌, ◌⊎◌, ℕ, Bool, true, false, List, [], Option, Some, None, length}
+use Rattle.mt_rows.specs.Accounts.{Accounts}
+use Rattle.mt_disk.specs.Disk.{DiskState, found_with}
+use Rattle.mt_disk.specs.declared.file.FileDisk.{FileDisk}
+use Rattle.mt_state.specs.Views.{StateView}
+use Rattle.mt_state.specs.Begins.{new_state}
+use Rattle.mt_options.specs.declared.options.Options.{Options}
+use Rattle.mt_options.specs.declared.options.StorePlace.{StorePlace}
+use Rattle.mt_options.specs.declared.tenants.TenantQuota.{TenantQuota}
+use Rattle.mt_store_files.specs.declared.fault.StoreFault.{StoreFault}
+use Rattle.mt_store_files.specs.declared.fault.StoreFault.TheVariants.{Refused as RefusedStore}
+use Rattle.mt_store_files.specs.Faults.{IsOfFolder, IsOfFiles}
+use Rattle.mt_store_logs.specs.declared.store_log.StoreLog.{StoreLog}
+use Rattle.mt_stored.specs.Stores.{IsNewStore, IsNotMade, IsRecoveredStore, IsNotRecoveredStore}
+use Rattle.mt_service.specs.declared.opening.OpenStore.{OpenStore}
+use Rattle.mt_service.specs.declared.faults.ServerFault.{ServerFault}
+use Rattle.mt_service.specs.declared.faults.ServerFault.TheVariants.{Refused, Memory, Store as StoreFaulty}
+use Rattle.mt_service.specs.Accounts.{AreServable, AreAccountsOf}
+
+-- what is claimed of a real file: how often its calls failed, and nothing of what it holds
+abbrev pub is_honest : FileDisk → Bool
+is_honest file = false
+
+abbrev pub holds : FileDisk → DiskState
+holds file = found_with []
+
+abbrev pub failures : FileDisk → ℕ
+failures file = file.failures
+
+-- a store that was made anew on so many files, or recovered from them: its state and its logs
+abbrev pub IsMadeOn : ℕ → Accounts → StateView → List (StoreLog FileDisk) → Type 0
+IsMadeOn workers accounts v logs = (files : List FileDisk) × (length files ≡ workers) × IsNewStore is_honest holds failures files accounts v logs
+
+abbrev pub IsRecoveredFrom : ℕ → Accounts → StateView → List (StoreLog FileDisk) → Type 0
+IsRecoveredFrom workers accounts v logs = (files : List FileDisk) × (length files ≡ workers) × IsRecoveredStore is_honest holds failures files accounts v logs
+
+abbrev pub IsAtPlace : Bool → ℕ → Accounts → StateView → List (StoreLog FileDisk) → Type 0
+IsAtPlace true workers accounts v logs = IsMadeOn workers accounts v logs
+IsAtPlace false workers accounts v logs = IsRecoveredFrom workers accounts v logs
+
+-- the store that the options name: none, so that the state is new and has no logs; one made anew; or one recovered
+abbrev pub IsNamed : Option StorePlace → ℕ → Accounts → StateView → List (StoreLog FileDisk) → Type 0
+IsNamed None workers accounts v logs = v ≡ new_state 0 accounts
+IsNamed (Some place) workers accounts v logs = IsAtPlace place.create workers accounts v logs
+
+-- It is that store, for the tenants that are named, and no answer was taken of it.
+pub record IsOpened (options : Options) (open_store : OpenStore) : Type 0 where
+  pub accounts : Accounts
+  pub tenants : AreAccountsOf (length options.tenants.items) options.tenants.items accounts
+  pub named : IsNamed options.store options.workers accounts open_store.store.source.state open_store.store.logs.items
+  pub untaken : open_store.store.source.state.answers ≡ 0
+
+-- why a store is not made on its files, or not recovered from them
+abbrev pub IsOfMaking : ℕ → StoreFault → Type 0
+IsOfMaking workers (RefusedStore log refusal) = IsNotMade workers (record { log = log; refusal = refusal })
+IsOfMaking workers fault = ⊥
+
+abbrev pub IsOfRecovery : ℕ → Accounts → StoreFault → Type 0
+IsOfRecovery workers accounts (RefusedStore log refusal) =
+    (files : List FileDisk) × (length files ≡ workers) × IsNotRecoveredStore is_honest holds failures files accounts (record { log = log; refusal = refusal })
+IsOfRecovery workers accounts fault = ⊥
+
+-- why the store at a place is not opened: its folder, its files, or what they hold
+abbrev pub IsOfPlace : Bool → ℕ → Accounts → StoreFault → Type 0
+IsOfPlace true workers accounts fault = IsOfFolder fault ⊎ IsOfFiles 64 fault ⊎ IsOfMaking workers fault
+IsOfPlace false workers accounts fault = IsOfFolder fault ⊎ IsOfFiles workers fault ⊎ IsOfRecovery workers accounts fault
+
+abbrev pub IsOfStore : Option StorePlace → ℕ → List TenantQuota → StoreFault → Type 0
+IsOfStore None workers tenants fault = ⊥
+IsOfStore (Some place) workers tenants fault = (accounts : Accounts) × AreAccountsOf (length tenants) tenants accounts × IsOfPlace place.create workers accounts fault
+
+-- why: memory; one of the tenants, which can't be served; or the store that is named
+abbrev pub IsOfOpening : Options → ServerFault → Type 0
+IsOfOpening options Memory = Unit {0}
+IsOfOpening options (Refused refusal) = ¬ AreServable options.tenants.items
+IsOfOpening options (StoreFaulty fault) = IsOfStore options.store options.workers options.tenants.items fault
+IsOfOpening options fault = ⊥

@@ -1,0 +1,133 @@
+//! The store that a server serves from: none, a new one, or one that is recovered.
+
+ghost use Rattle.std.specs.Prelude.{◌≡◌, ◌≤◌, true, false, IfOk, IfErr};
+ghost use Rattle.mt_state.specs.Begins.{HaveNoPairs};
+ghost use Rattle.mt_store_files.specs.declared.fault.StoreFault.TheVariants.{Refused as RefusedStore};
+ghost use Rattle.mt_service.specs.Opening.{IsOpened, IsOfOpening, IsMadeOn, IsRecoveredFrom, IsOfPlace, IsAtPlace};
+
+use crate::accounts::accounts_of;
+use crate::faults::ServerFault;
+use mt_disk::FileDisk;
+use mt_options::{Options, StorePlace};
+use mt_rows::Tenants;
+use mt_store_files::{StoreFault, StoreFolder};
+use mt_store_logs::LogRefusal;
+use mt_stored::Store;
+use std::alloc::Global;
+use std::fs::File;
+use std::rt::Files;
+
+/// A store, and its folder, if it has one. No other server has that open while this lives.
+#[derive(Drop)]
+pub struct OpenStore {
+    pub store: Store<FileDisk>,
+    pub folder: Option<StoreFolder>,
+}
+
+/// Opens the store that the options name: makes it anew, or recovers it. Without one nothing is kept.
+///
+/// Errors: the refusal of the first tenant that can't be served; `Memory`; why the store isn't served.
+pub fn open_store<R: Files<File = File>>(
+    rt: &R,
+    alloc: Global,
+    options: &Options,
+) -> Result<OpenStore, ServerFault>
+    ensures ok { IfOk result (IsOpened options.now) }
+    ensures fault { IfErr result (IsOfOpening options.now) }
+{
+    let tenants = accounts_of(alloc, options.tenants.as_slice())?;
+    match &options.store {
+        None => {
+            let store = Store::without_logs(alloc, tenants)?;
+            Ok(OpenStore {
+                store,
+                folder: None,
+            })
+        }
+        Some(place) => match open_place(rt, alloc, place, options.workers, tenants) {
+            Ok(opened) => Ok(opened),
+            Err(fault) => Err(ServerFault::Store(fault)),
+        },
+    }
+}
+
+// The store of so many workers at a place.
+fn open_place<R: Files<File = File>>(
+    rt: &R,
+    alloc: Global,
+    place: &StorePlace,
+    workers: u8,
+    tenants: Tenants,
+) -> Result<OpenStore, StoreFault>
+    requires some { 1 ≤ workers }
+    requires few { workers ≤ 64 }
+    requires empty { HaveNoPairs tenants }
+    ensures ok { IfOk result (λ opened. IsAtPlace place.now.create workers tenants opened.store.source.state opened.store.logs.items) }
+    ensures untaken { IfOk result (λ opened. opened.store.source.state.answers ≡ 0) }
+    ensures err { IfErr result (IsOfPlace place.now.create workers tenants) }
+{
+    let folder = place.folder.as_str();
+    if place.create {
+        make(rt, alloc, folder, workers, tenants)
+    } else {
+        recover(rt, alloc, folder, workers, tenants)
+    }
+}
+
+// A store made anew in a folder.
+fn make<R: Files<File = File>>(
+    rt: &R,
+    alloc: Global,
+    folder: &str,
+    workers: u8,
+    tenants: Tenants,
+) -> Result<OpenStore, StoreFault>
+    requires some { 1 ≤ workers }
+    requires few { workers ≤ 64 }
+    requires empty { HaveNoPairs tenants }
+    ensures ok { IfOk result (λ opened. IsMadeOn workers tenants opened.store.source.state opened.store.logs.items) }
+    ensures untaken { IfOk result (λ opened. opened.store.source.state.answers ≡ 0) }
+    ensures err { IfErr result (IsOfPlace true workers tenants) }
+{
+    let folder = StoreFolder::make(rt, alloc, folder)?;
+    let files = folder.create_logs(rt, alloc, workers)?;
+    match Store::create(alloc, files, tenants) {
+        Ok(store) => Ok(OpenStore {
+            store,
+            folder: Some(folder),
+        }),
+        Err(refusal) => Err(refused(refusal)),
+    }
+}
+
+// The store of a folder, recovered.
+fn recover<R: Files<File = File>>(
+    rt: &R,
+    alloc: Global,
+    folder: &str,
+    workers: u8,
+    tenants: Tenants,
+) -> Result<OpenStore, StoreFault>
+    requires few { workers ≤ 64 }
+    requires empty { HaveNoPairs tenants }
+    ensures ok { IfOk result (λ opened. IsRecoveredFrom workers tenants opened.store.source.state opened.store.logs.items) }
+    ensures untaken { IfOk result (λ opened. opened.store.source.state.answers ≡ 0) }
+    ensures err { IfErr result (IsOfPlace false workers tenants) }
+{
+    let folder = StoreFolder::open(rt, alloc, folder)?;
+    let files = folder.open_logs(rt, alloc, workers)?;
+    match Store::recover(alloc, files, tenants) {
+        Ok(store) => Ok(OpenStore {
+            store,
+            folder: Some(folder),
+        }),
+        Err(refusal) => Err(refused(refusal)),
+    }
+}
+
+// What a refusal of a store's logs is told as.
+fn refused(why: LogRefusal) -> StoreFault
+    ensures { result ≡ RefusedStore why.log why.refusal }
+{
+    StoreFault::Refused(why.log, why.refusal)
+}

@@ -1,0 +1,35 @@
+//! Logs of a store, of which one is brought up to date in a turn.
+
+ghost use Rattle.std.specs.Prelude.{◌≡◌, ◌<◌, ℕ};
+ghost use Rattle.mt_settle.specs.Turns.{Turn, Flushed, BroughtUp};
+
+use mt_rows::Refusal;
+use std::alloc::Global;
+use std::sync::Wait;
+
+/// The logs of a store, one for each worker. `does` is what they say of a turn, and may say nothing.
+pub trait Logs {
+    /// How many there are.
+    ghost logs: { Self → ℕ };
+
+    /// What a turn made of them.
+    ghost does: { Self → Turn → Self → Type 0 };
+
+    /// How many there are, 0 where no logs are kept.
+    fn count(&self) -> u8
+        ensures { result ≡ logs self.now };
+
+    /// Gives an open log what its worker has changed since the last time. Answers the step up to which the
+    /// log then has all of the worker's changes. An error loses nothing: what the log lacks goes into it
+    /// before anything else.
+    fn flush<R: Wait>(&mut self, rt: &R, alloc: Global, log: u8) -> Result<u64, Refusal>
+        requires { log < logs self.old }
+        ensures does { does self.old (Flushed log result) self.new }
+        ensures same { logs self.new ≡ logs self.old };
+
+    /// The same, of a log that is opened again first where its disk failed.
+    fn bring_up<R: Wait>(&mut self, rt: &R, alloc: Global, log: u8) -> Result<u64, Refusal>
+        requires { log < logs self.old }
+        ensures does { does self.old (BroughtUp log result) self.new }
+        ensures same { logs self.new ≡ logs self.old };
+}

@@ -1,0 +1,227 @@
+-- What a flush makes of a store that serves a life.
+use Rattle.std.proofs.Common.{◌≡◌, ◌≢◌, ◌⊎◌, ℕ, zero, suc, ◌<◌, ◌≤◌, Bool, true, List, [], ◌∷◌, length, Option, Some, None, refl, sym, ap, subst, ◌∙◌, arith, inl, inr, ⊎_elim}
+use Rattle.std.specs.Prelude.{slice_get, slice_set, slice_index_or}
+use Rattle.std.specs.List.{All, filter}
+use Rattle.std.proofs.lemmas.Option.{same_Some}
+use Rattle.std.proofs.lemmas.List.Elements.{All-weaker}
+use Rattle.mt_rows.specs.Accounts.{Accounts}
+use Rattle.mt_rows.specs.declared.record.Batch.{Batch}
+use Rattle.mt_rows.specs.declared.refusal.Refusal.{Refusal}
+use Rattle.mt_rows.specs.declared.refusal.Refusal.TheVariants as refusals
+use Rattle.mt_batches.specs.Batches.{IsInOrder}
+use Rattle.mt_disk.specs.declared.mem.MemDisk.{MemDisk}
+use Rattle.mt_disk.specs.Mem.{mem_state}
+use Rattle.mt_log.specs.Contents.{mark_of}
+use Rattle.mt_tape.specs.declared.entry.Entry.{Entry}
+use Rattle.mt_tape.proofs.EntryLaws.{all_upto_last}
+use Rattle.mt_state.specs.Views.{StateView}
+use Rattle.mt_state.specs.Histories.{Names}
+use Rattle.mt_core.specs.Drains.{Drains}
+use Rattle.mt_crashes.specs.Histories.{changes_of}
+use Rattle.mt_crashes.specs.Stores.{Store, LogNow, Reaches, is_between}
+use Rattle.mt_recover.specs.declared.resuming.LogSlot.{LogSlot}
+use Rattle.mt_recover.specs.declared.resuming.LogSlot.TheVariants.{Open, Closed, Away}
+use Rattle.mt_store_logs.specs.declared.fault.FlushFault.{FlushFault}
+use Rattle.mt_store_logs.specs.declared.fault.FlushFault.TheVariants.{Refused, TooLong}
+use Rattle.mt_store_logs.specs.declared.store_log.StoreLog.{StoreLog}
+use Rattle.mt_store_logs.specs.Places.{mark_in}
+use Rattle.mt_store_logs.specs.Waits.{AppendsKept, FailsToAppend, with_kept}
+use Rattle.mt_store_logs.specs.Shows.{Shows, Stands, WaitsIn, drained_upto, IsInDoubt}
+use Rattle.mt_store_logs.proofs.CallerLemmas.{appends, fails_to_append, drained}
+use Rattle.mt_crashes.proofs.Members.{no_some}
+use Rattle.mt_store.specs.Lives.{Life, IsMemoryOrDevice}
+use Rattle.mt_store.specs.Holds.{HoldsChanges, HoldsKept, IsLogAt, Serves}
+use Rattle.mt_store.proofs.Comes.{set_there, with_log, GoesTo, and_then, is_in, is_in_doubt}
+use Rattle.mt_store.proofs.Tapes.{drained_changes}
+
+-- disks in memory keep the rules
+abbrev pub keeps_rules : MemDisk → Bool
+keeps_rules d = true
+
+abbrev pub failures_of : MemDisk → ℕ
+failures_of d = d.failures
+
+-- a log that rests reaches its mark
+rests_at_mark : (now : LogNow) (n : ℕ) → now.doubt ≡ None → mark_of now.had ≡ n → Reaches n now
+rests_at_mark now n none mark = λ front left. ⊎_elim
+    (λ same. omega (arith, ap mark_of same, mark))
+    (λ more. absurd (no_some more.0 (sym none ∙ more.1)))
+    left
+
+-- the mark of an open log
+open_mark : (now : LogNow) (slot : LogSlot MemDisk) (mark : ℕ) → Shows mem_state now slot → mark_in slot ≡ Some mark → mark ≡ mark_of now.had
+open_mark now (Open log) mark shows is = sym (same_Some log.mark mark is) ∙ shows.1.mark
+open_mark now (Closed disk) mark shows is = absurd (no_some mark is)
+open_mark now Away mark shows is = absurd shows
+
+-- what a drain gave holds the worker's changes
+module _ (accounts : Accounts) (life : Life) (s : Store) (v new : StateView) (names : Names) (h : Serves accounts life s v names) (worker : ℕ) (batch : Batch)
+    (d : Drains v new worker batch) where
+  made : All (λ e. e.step ≤ batch.to) v.tape.entries
+  made = All-weaker (λ (e : Entry). e.step ≤ Rattle.mt_tape.specs.Tapes.last_step_over v.tape.floor v.tape.entries) (λ e. e.step ≤ batch.to)
+      (λ e le. omega (arith, le, h.right.tape.made, d.to)) v.tape.entries (all_upto_last v.tape.floor v.tape.entries h.right.tape.rises)
+
+  pub holds_drained : life.base ≤ batch.from → HoldsChanges s worker batch
+  holds_drained le = record {
+    made = omega (arith, d.to, h.steps);
+    records =
+        d.records
+        ∙ drained_changes worker batch.from batch.to life.base h.before v.tape.entries h.ended le made
+        ∙ ap (λ ps. changes_of (filter (is_between worker batch.from batch.to) ps)) (sym h.holds);
+  }
+
+-- ---- places
+
+got : (xs : List ℕ) (k x d : ℕ) → slice_get xs k ≡ Some x → slice_index_or xs k d ≡ x
+got [] k x d e = absurd (no_some x e)
+got (y ∷ xs) zero x d e = same_Some y x e
+got (y ∷ xs) (suc k) x d e = got xs k x d e
+
+pub within : {X : Type 0} (xs : List X) (k : ℕ) (x : X) → slice_get xs k ≡ Some x → k < length xs
+within [] k x e = absurd (no_some x e)
+within (y ∷ xs) zero x e = omega arith
+within (y ∷ xs) (suc k) x e = omega (arith, within xs k x e)
+
+-- ---- refusals
+
+-- a refusal of a log is of memory or of the device, or its batch fits no log
+abbrev pub IsOfLog : FlushFault → Type 0
+IsOfLog e = (e ≡ TooLong) ⊎ ((r : Refusal) × (e ≡ Refused r) × IsMemoryOrDevice r)
+
+pub of_log : (e : FlushFault) (old new : StoreLog MemDisk) → FailsToAppend keeps_rules mem_state failures_of e old new → ((mark : ℕ) → e ≢ Refused (refusals.WrongTurn mark)) → IsOfLog e
+of_log TooLong old new f turn = inl refl
+of_log (Refused refusals.Device) old new f turn = inr (refusals.Device, refl, inr refl)
+of_log (Refused refusals.Memory) old new f turn = inr (refusals.Memory, refl, inl refl)
+of_log (Refused (refusals.WrongTurn mark)) old new f turn = absurd (turn mark refl)
+of_log e old new f turn = absurd f
+
+-- ---- one log
+
+-- a batch in doubt changes nothing of how far the worker was drained
+pub doubt_drained : (kept now_kept : Option Batch) (now next : LogNow) → IsInDoubt kept now next → now_kept ≡ kept → drained_upto next now_kept ≡ drained_upto now kept
+doubt_drained None now_kept now next same is = ap (drained_upto next) is ∙ ap (λ (l : LogNow). mark_of l.had) same
+doubt_drained (Some b) now_kept now next doubt is = ap (drained_upto next) is
+
+-- a worker's log has come to stand so, and its state gave it so much
+pub record Moves (s : Store) (given : List ℕ) (worker : ℕ) (new : StoreLog MemDisk) : Type 0 where
+  pub next : LogNow
+  pub goes : GoesTo worker next s
+  pub at : IsLogAt (with_log worker next s) given worker next new
+
+module _ (accounts : Accounts) (life : Life) (s : Store) (v : StateView) (names : Names) (h : Serves accounts life s v names) (worker : ℕ) (now : LogNow) (log : StoreLog MemDisk)
+    (there : slice_get s.logs worker ≡ Some now) (at : IsLogAt s v.logs worker now log) where
+  -- the batch that waited is in the log
+  record Kept (mid : StoreLog MemDisk) : Type 0 where
+    next : LogNow
+    goes : GoesTo worker next s
+    stands : Stands keeps_rules mem_state next mid
+    upto : drained_upto next mid.kept ≡ drained_upto now log.kept
+    none : mid.kept ≡ None
+
+  kept_in : (mid : StoreLog MemDisk) → AppendsKept keeps_rules mem_state failures_of log mid → Kept mid
+  kept_in mid a =
+      let r = appends keeps_rules mem_state failures_of now log mid at.stands a in
+      record { next = r.0; goes = is_in worker s now r.0 log.kept h.serving there at.kept r.2; stands = r.1; upto = r.3; none = a.none }
+
+  -- the log was given what the state says
+  given_so : (n : ℕ) → drained_upto now log.kept ≡ n → slice_get v.logs worker ≡ Some n
+  given_so n e = at.given_so ∙ ap Some e
+
+  pub kept_moves : (mid : StoreLog MemDisk) → AppendsKept keeps_rules mem_state failures_of log mid → Moves s v.logs worker mid
+  kept_moves mid a =
+      let k = kept_in mid a in
+      record {
+        next = k.next;
+        goes = k.goes;
+        at = record {
+          stands = k.stands;
+          given_so = given_so (drained_upto k.next mid.kept) (sym k.upto);
+          kept = subst (HoldsKept (with_log worker k.next s) worker) (sym k.none) tt;
+        };
+      }
+
+  holds_same : (next : LogNow) (kept : Option Batch) → HoldsKept s worker kept → HoldsKept (with_log worker next s) worker kept
+  holds_same next None h = h
+  holds_same next (Some b) h = record { made = h.made; records = h.records }
+
+  -- it still waits
+  pub waits_moves : (e : FlushFault) (new : StoreLog MemDisk) → FailsToAppend keeps_rules mem_state failures_of e log new → Moves s v.logs worker new × IsOfLog e
+  waits_moves e new f =
+      let r = fails_to_append keeps_rules mem_state failures_of now e log new at.stands f in (
+        record {
+          next = r.0;
+          goes = is_in_doubt worker s now r.0 log.kept h.serving there at.kept r.2;
+          at = record {
+            stands = r.1;
+            given_so = given_so (drained_upto r.0 new.kept) (sym (doubt_drained log.kept new.kept now r.0 r.2 r.3));
+            kept = holds_same r.0 new.kept (subst (HoldsKept s worker) (sym r.3) at.kept);
+          };
+        },
+        of_log e log new f r.4,
+      )
+
+  -- the worker was drained behind the batch that waited
+  module _ (new : StateView) (batch : Batch) (d : Drains v new worker batch) (order : IsInOrder batch) where
+    from_so : batch.from ≡ drained_upto now log.kept
+    from_so = d.from ∙ got v.logs worker (drained_upto now log.kept) 0 at.given_so
+
+    from_base : life.base ≤ batch.from
+    from_base =
+        let reached = h.right.tape.logs.reached worker 0 (within v.logs worker (drained_upto now log.kept) at.given_so) in
+        omega (arith, reached, h.floor, d.from)
+
+    holds : (next : LogNow) → HoldsChanges (with_log worker next s) worker batch
+    holds next = let k = holds_drained accounts life s v new names h worker batch d from_base in record { made = k.made; records = k.records }
+
+    now_given : slice_get new.logs worker ≡ Some batch.to
+    now_given =
+        ap (λ (w : StateView). slice_get w.logs worker) d.stands
+        ∙ set_there v.logs worker (drained_upto now log.kept) v.steps at.given_so
+        ∙ ap Some (sym d.to)
+
+    stands_drained : (mid : StoreLog MemDisk) (k : Kept mid) → Stands keeps_rules mem_state k.next (with_kept batch mid)
+    stands_drained mid k = drained keeps_rules mem_state k.next mid batch k.stands k.none order (from_so ∙ sym k.upto)
+
+    there_mid : (next : LogNow) → slice_get (slice_set s.logs worker next) worker ≡ Some next
+    there_mid next = set_there s.logs worker now next there
+
+    -- its batch is in the log, which goes up to the last step
+    pub flushed : (mid last : StoreLog MemDisk) (mark : ℕ) → AppendsKept keeps_rules mem_state failures_of log mid
+        → AppendsKept keeps_rules mem_state failures_of (with_kept batch mid) last → mark_in last.slot ≡ Some mark
+        → (m : Moves s new.logs worker last) × (mark ≡ v.steps) × Reaches mark m.next
+    flushed mid last mark a b is =
+        let k = kept_in mid a in
+        let r = appends keeps_rules mem_state failures_of k.next (with_kept batch mid) last (stands_drained mid k) b in
+        let at_end : mark_of r.0.had ≡ batch.to = ap (drained_upto r.0) (sym b.none) ∙ r.3 in
+        let mark_so : mark ≡ batch.to = open_mark r.0 last.slot mark r.1.shows is ∙ at_end in
+        let rests_so : r.0.doubt ≡ None = subst (WaitsIn r.0) b.none r.1.waits in (
+          record {
+            next = r.0;
+            goes = and_then worker s now k.next r.0 there k.goes (is_in worker (with_log worker k.next s) k.next r.0 (Some batch) h.serving (there_mid k.next) (holds k.next) r.2);
+            at = record {
+              stands = r.1;
+              given_so = now_given ∙ ap Some (sym r.3);
+              kept = subst (HoldsKept (with_log worker r.0 s) worker) (sym b.none) tt;
+            };
+          },
+          mark_so ∙ d.to,
+          rests_at_mark r.0 mark rests_so (at_end ∙ sym mark_so),
+        )
+
+    -- its batch waits
+    pub keeps_moves : (mid last : StoreLog MemDisk) (e : FlushFault) → AppendsKept keeps_rules mem_state failures_of log mid
+        → FailsToAppend keeps_rules mem_state failures_of e (with_kept batch mid) last → Moves s new.logs worker last × IsOfLog e
+    keeps_moves mid last e a f =
+        let k = kept_in mid a in
+        let r = fails_to_append keeps_rules mem_state failures_of k.next e (with_kept batch mid) last (stands_drained mid k) f in (
+          record {
+            next = r.0;
+            goes = and_then worker s now k.next r.0 there k.goes (is_in_doubt worker (with_log worker k.next s) k.next r.0 (Some batch) h.serving (there_mid k.next) (holds k.next) r.2);
+            at = record {
+              stands = r.1;
+              given_so = now_given ∙ ap Some (sym (doubt_drained (Some batch) last.kept k.next r.0 r.2 r.3));
+              kept = subst (HoldsKept (with_log worker r.0 s) worker) (sym r.3) (holds r.0);
+            };
+          },
+          of_log e (with_kept batch mid) last f r.4,
+        )

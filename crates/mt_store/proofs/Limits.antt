@@ -1,0 +1,164 @@
+-- What is recovered of logs that were opened keeps the limits of keys and rows, and no key stands twice.
+use Rattle.std.proofs.Common.{◌≡◌, ◌⊎◌, ℕ, zero, suc, ◌<◌, ◌≤◌, ◌^◌, Bool, true, false, cond, List, [], ◌∷◌, map, length, get_or, Option, Some, None, refl, sym, ap, subst, ◌∙◌, arith, inl, inr, ⊎_elim}
+use Rattle.std.specs.Prelude.{slice_get}
+use Rattle.std.specs.List.{All, AllByRecursion}
+use Rattle.std.specs.List.Sorted.{IsStrictlySortedBy}
+use Rattle.std.specs.FinMap.{get, empty, find, get-empty, get-from_entries}
+use Rattle.std.specs.Ordering.{eq_by_cmp, is_eq}
+use Rattle.std.specs.declared.cmp.Ordering.TheVariants.{Less}
+use Rattle.std.proofs.lemmas.List.Elements.{recursion_from_All}
+use Rattle.std.proofs.lemmas.Option.{same_Some, none-some, slice_get-get_or}
+use Rattle.mt_rows.specs.Accounts.{Accounts}
+use Rattle.mt_rows.specs.Rows.{Bytes, Columns}
+use Rattle.mt_rows.specs.Tenants.{Contents as Pairs, owned_cmp}
+use Rattle.mt_rows.specs.TenantPairs.{owner_of, entry_of, pairs_of, IsTenantPair, AreDistinct}
+use Rattle.mt_rows.specs.Commands.{IsKey}
+use Rattle.mt_rows.specs.declared.record.TenantPair.{TenantPair}
+use Rattle.mt_rows.specs.declared.record.Record.{Record}
+use Rattle.mt_rows.proofs.ContentLaws.{owned_total, same_owner, other_owner, tied_owner}
+use Rattle.mt_batches.specs.Batches.{IsRecord, IsRowOrNone}
+use Rattle.mt_disk.specs.declared.mem.MemDisk.{MemDisk}
+use Rattle.mt_disk.specs.Mem.{mem_state}
+use Rattle.mt_log.specs.declared.batch.Front.{Front}
+use Rattle.mt_log.specs.declared.batch.LogBatch.{LogBatch}
+use Rattle.mt_log.specs.declared.batch.LogBatch.TheVariants.{Records, Resume}
+use Rattle.mt_log.specs.Contents.{Contents, IsContents, IsLogBatch, contents_of}
+use Rattle.mt_tape.proofs.RowLaws.{get-with_row}
+use Rattle.mt_crashes.specs.Bases.{CheckpointView}
+use Rattle.mt_crashes.specs.Fronts.{In, all_voids, cutoff_of, is_replayed, records_in, records_of, all_records, key_of, with_change, after_changes}
+use Rattle.mt_crashes.specs.Recoveries.{HasSlot, IsBaseOf, IsRecovered}
+use Rattle.mt_crashes.proofs.Members.{no_some, in_filter, in_flat_map, in_place, map_in, all_at, permuted_in}
+use Rattle.mt_crashes.proofs.Invariant.{within_place}
+use Rattle.mt_recover.specs.Pairs.{Ascend}
+use Rattle.mt_recover.specs.declared.recovering.Recovered.{Recovered}
+use Rattle.mt_recover.specs.declared.resuming.LogSlot.{LogSlot}
+use Rattle.mt_recover.specs.declared.resuming.LogSlot.TheVariants.{Open, Closed, Away}
+use Rattle.mt_store_logs.specs.declared.store_log.StoreLog.{StoreLog}
+use Rattle.mt_store_logs.specs.Places.{disk_in, Opens, OpensAll}
+use Rattle.mt_store_logs.specs.Recovers.{no_checkpoints, ServesAgain}
+use Rattle.mt_store_logs.proofs.ForResumes.{last_within, resumes_last}
+use Rattle.mt_store.proofs.Flushing.{keeps_rules, failures_of, within}
+
+-- ---- keys that ascend
+
+-- no pair behind the first has its owner
+below : (first : ℕ × Bytes) (ps : List TenantPair) → AllByRecursion (λ o. owned_cmp first o ≡ Less) (map owner_of ps) → (j : ℕ) (q : TenantPair) → slice_get ps j ≡ Some q
+    → first ≡ owner_of q → ⊥
+below first [] less j q at same = none-some q at
+below first (p ∷ ps) less zero q at same =
+    let tie = sym (same_owner first) ∙ ap (λ o. is_eq (owned_cmp first o)) (same ∙ ap owner_of (sym (same_Some p q at))) ∙ ap is_eq less.0 in cc
+below first (p ∷ ps) less (suc j) q at same = below first ps less.1 j q at same
+
+pub distinct : (ps : List TenantPair) → Ascend ps → AreDistinct ps
+unfolding IsStrictlySortedBy
+distinct [] h i j p q at_p at_q same = absurd (none-some p at_p)
+distinct (x ∷ ps) h zero zero p q at_p at_q same = refl
+distinct (x ∷ ps) h zero (suc j) p q at_p at_q same = absurd (below (owner_of x) ps h.0 j q at_q (ap owner_of (same_Some x p at_p) ∙ same))
+distinct (x ∷ ps) h (suc i) zero p q at_p at_q same = absurd (below (owner_of x) ps h.0 i p at_p (ap owner_of (same_Some x q at_q) ∙ sym same))
+distinct (x ∷ ps) h (suc i) (suc j) p q at_p at_q same = ap suc (distinct ps h.1 i j p q at_p at_q same)
+
+-- ---- where a pair is from
+
+-- each pair of a list stands in its map
+found_there : (ps : List TenantPair) (i : ℕ) (p : TenantPair) → AreDistinct ps → slice_get ps i ≡ Some p → find owned_cmp (owner_of p) (map entry_of ps) ≡ Some p.row
+found_there [] i p apart at = absurd (none-some p at)
+found_there (x ∷ ps) zero p apart at =
+    let same : x ≡ p = same_Some x p at in
+    ap (λ b. cond b (Some x.row) (find owned_cmp (owner_of p) (map entry_of ps)))
+    (ap (λ (y : TenantPair). eq_by_cmp owned_cmp (owner_of p) (owner_of y)) same ∙ same_owner (owner_of p))
+    ∙ ap (λ (y : TenantPair). Some y.row) same
+found_there (x ∷ ps) (suc i) p apart at =
+    ap (λ b. cond b (Some x.row) (find owned_cmp (owner_of p) (map entry_of ps)))
+    (other_owner (owner_of p) (owner_of x) (λ same. let never = apart (suc i) 0 p x at refl same in omega (arith, never)))
+    ∙ found_there ps i p (λ j k q r at_q at_r same. let both = apart (suc j) (suc k) q r at_q at_r same in omega (arith, both)) at
+
+pair_there : (ps : List TenantPair) (i : ℕ) (p : TenantPair) → AreDistinct ps → slice_get ps i ≡ Some p → get (pairs_of ps) (owner_of p) ≡ Some p.row
+pair_there ps i p apart at = get-from_entries owned_total (map entry_of ps) (owner_of p) ∙ found_there ps i p apart at
+
+-- a row after changes was there, or one of them made it
+abbrev IsMadeBy : List Record → ℕ × Bytes → Columns → Type 0
+IsMadeBy rs q row = (r : Record) × In r rs × (key_of r ≡ q) × (r.row ≡ Some row)
+
+from_change : (rs : List Record) (m : Pairs) (q : ℕ × Bytes) (row : Columns) → get (after_changes m rs) q ≡ Some row → (get m q ≡ Some row) ⊎ IsMadeBy rs q row
+from_change [] m q row is = inl is
+from_change (r ∷ rs) m q row is = ⊎_elim
+    (λ was. by (eq_by_cmp owned_cmp q (key_of r)) refl (sym (get-with_row m (key_of r) r.row q) ∙ was))
+    (λ later. inr (later.0, inr later.1, later.2, later.3))
+    (from_change rs (with_change m r) q row is)
+  where
+    by : (b : Bool) → eq_by_cmp owned_cmp q (key_of r) ≡ b → cond b r.row (get m q) ≡ Some row → (get m q ≡ Some row) ⊎ IsMadeBy (r ∷ rs) q row
+    by true tied was = inr (r, inl refl, sym (tied_owner q (key_of r) tied), was)
+    by false apart was = inl was
+
+-- ---- records of logs in the format
+
+in_batch : (b : LogBatch) (r : Record) → IsLogBatch b → In r (records_in b) → IsRecord r
+in_batch (Records b) r is at = all_at IsRecord r b.records (recursion_from_All IsRecord b.records is.each) at
+in_batch (Resume from to kept) r is at = absurd at
+
+in_logs : (fronts : List Contents) (r : Record) → ((c : Contents) → In c fronts → IsContents c) → In r (all_records fronts) → IsRecord r
+in_logs fronts r all at =
+    let f = in_flat_map records_of r fronts at in
+    let b = in_flat_map records_in r f.0.batches f.2 in
+    in_batch b.0 r (all_at IsLogBatch b.0 f.0.batches (all f.0 f.1).batches b.1) b.2
+
+no_slot : (k : ℕ) (c : CheckpointView) → HasSlot no_checkpoints k c → ⊥
+no_slot zero c h = no_some c (same_Some None (Some c) h)
+no_slot (suc zero) c h = no_some c (same_Some None (Some c) h)
+no_slot (suc (suc k)) c h = no_some (Some c) h
+
+base_empty : (used : Option ℕ) (from : ℕ) (base : Pairs) → IsBaseOf no_checkpoints used from base → base ≡ empty
+base_empty None from base is = is.1
+base_empty (Some k) from base is = absurd (no_slot k is.0 is.1)
+
+-- what is recovered of them keeps the limits
+within_limits : (fronts : List Contents) (cutoff resume : ℕ) (used : Option ℕ) (ps : List TenantPair) → ((c : Contents) → In c fronts → IsContents c)
+    → IsRecovered fronts no_checkpoints cutoff resume used (pairs_of ps) → AreDistinct ps → (i : ℕ) (p : TenantPair) → slice_get ps i ≡ Some p → IsTenantPair p
+within_limits fronts cutoff resume used ps all r apart i p at =
+    let base : r.base ≡ empty = base_empty used r.from r.base r.base_is in
+    let row : get (after_changes empty r.replayed) (owner_of p) ≡ Some p.row =
+    ap (λ (m : Pairs). get (after_changes m r.replayed) (owner_of p)) (sym base)
+    ∙ ap (λ (m : Pairs). get m (owner_of p)) (sym r.pairs_are)
+    ∙ pair_there ps i p apart at in
+    ⊎_elim
+    (λ none. absurd (none-some p.row (sym (get-empty owned_cmp (owner_of p)) ∙ none)))
+    (λ made.
+    let counted = in_filter (is_replayed (all_voids fronts) r.from (cutoff_of fronts)) made.0 (all_records fronts) (permuted_in _ r.replayed made.0 r.replay.same made.1) in
+    let is = in_logs fronts made.0 all counted.0 in
+    let key : made.0.key ≡ p.key = ap (λ (o : ℕ × Bytes). o.1) made.2 in
+    (subst IsKey key is.key, subst IsRowOrNone made.3 is.row))
+    (from_change r.replayed empty (owner_of p) p.row row)
+
+-- ---- logs that were opened
+
+opened_in_format : (disk : Option MemDisk) (slot : LogSlot MemDisk) (front : Front) → Opens keeps_rules mem_state failures_of disk slot front → IsContents (contents_of front)
+opened_in_format (Some disk) (Open log) front opened = opened.contents
+opened_in_format (Some disk) (Closed other) front opened = absurd opened
+opened_in_format (Some disk) Away front opened = absurd opened
+opened_in_format None slot front opened = absurd opened
+
+all_in_format : (old mid : List (StoreLog MemDisk)) (fronts : List Front) → OpensAll keeps_rules mem_state failures_of old mid fronts → (c : Contents)
+    → In c (map contents_of fronts) → IsContents c
+all_in_format old mid fronts opens c at =
+    let from = map_in contents_of c fronts at in
+    let place = in_place from.0 fronts from.1 in
+    let below : place.0 < length old = subst (λ n. place.0 < n) opens.count (within fronts place.0 from.0 place.1) in
+    let was = within_place old place.0 below in
+    let is = within_place mid place.0 (subst (λ n. place.0 < n) (sym opens.each.len) below) in
+    let opened = opens.each.each place.0 was.0 is.0 below was.1 is.1 in
+    let same : opened.0 ≡ from.0 = same_Some opened.0 from.0 (sym opened.1 ∙ place.1) in
+    subst IsContents (ap contents_of same ∙ sym from.2) (opened_in_format (disk_in was.0.slot) is.0.slot opened.0 opened.2.0)
+
+-- what a recovery of such logs gives may be put into a state
+module _ (accounts : Accounts) (r : Recovered) (old new : List (StoreLog MemDisk)) (again : ServesAgain keeps_rules mem_state failures_of accounts r old new) where
+  pub limits_of : All IsTenantPair r.pairs.items
+  limits_of = λ k d lt.
+      let ps = r.pairs.items in
+      within_limits (map contents_of again.fronts) r.cutoff r.resume r.used ps (all_in_format old again.mid again.fronts again.opens) again.recovers.recovered
+      (distinct ps again.recovers.ascend) k (get_or ps k d) (slice_get-get_or ps k d lt)
+
+  pub resumes_within : r.resume ≤ 2 ^ 59
+  resumes_within =
+      let last = last_within keeps_rules mem_state failures_of old again.mid again.fronts again.opens in
+      let resumes = resumes_last (map contents_of again.fronts) r.cutoff r.resume r.used (pairs_of r.pairs.items) again.recovers.recovered in
+      omega (arith, last, resumes)

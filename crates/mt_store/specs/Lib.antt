@@ -1,0 +1,7 @@
+pub mod Serving
+pub mod Lives
+pub mod Holds
+pub mod Steps
+pub mod Returns
+pub mod Beginnings
+pub mod Earlier

@@ -1,0 +1,47 @@
+//! What happens to a store, and what is noted of it.
+
+use mt_recover::Recovered;
+use mt_rows::Refusal;
+use mt_runs::{Event, Told};
+
+/// What happens next. Workers and disks are told by their number, from 0 on, Settles by a number of the
+/// caller's choice.
+#[derive(Debug, Drop)]
+pub enum StoreEvent {
+    /// An operation is begun, or makes a step.
+    Core(Event),
+    /// A worker is drained into its log.
+    Flush { worker: u8 },
+    /// A log whose disk failed is opened again, and given the batch that waits for it.
+    Reopen { worker: u8 },
+    /// A Settle begins.
+    SettleBegin { id: u64 },
+    /// It flushes the next log.
+    SettleNext { id: u64 },
+    /// All disks crash at this moment, each to its image, and the store is recovered.
+    Crash { images: Vec<Vec<u8>> },
+}
+
+/// What is noted of an event.
+#[derive(Debug, Drop)]
+pub enum StoreNote {
+    /// What the operation was answered.
+    Told(Told),
+    /// The log has all of its worker's changes up to this step.
+    Flushed(u64),
+    /// The log is open, and no batch waits for it.
+    Reopened,
+    /// The Settle has begun, after so many steps.
+    Begun(u64),
+    /// The Settle's next log has all of its worker's changes; others are left.
+    Turned,
+    /// So had the last one: all changes up to this step are in the logs.
+    Settled(u64),
+    /// The store serves again, with these pairs.
+    Recovered(Recovered),
+    /// `Device` or `Memory`: after a crash the store does not serve, else the log may have to be opened again.
+    Refused(Refusal),
+    /// Nothing of that name is open, or is open already; nothing has changed, but that a Settle ends where
+    /// no log takes its batch.
+    NoSuch,
+}

@@ -1,0 +1,138 @@
+//! Flushes, reopenings and Settles of a store that serves.
+
+ghost use Rattle.std.specs.Prelude.{◌≡◌, ◌≢◌, ◌<◌, ◌≤◌, List, length, Some, IfOk};
+ghost use Rattle.std.specs.Ordering.{nat_cmp};
+ghost use Rattle.std.specs.BTreeMap.{get};
+ghost use Rattle.mt_rows.specs.Accounts.{Accounts};
+ghost use Rattle.mt_disk.specs.declared.mem.MemDisk.{MemDisk as AnyDisk};
+ghost use Rattle.mt_store_logs.specs.declared.store_log.StoreLog.{StoreLog as AnyLog};
+ghost use Rattle.mt_store.specs.declared.events.StoreEvent.TheVariants.{Flush, Reopen, SettleBegin, SettleNext};
+ghost use Rattle.mt_store.specs.declared.serving.Serving.{Serving as AnyServing};
+ghost use Rattle.mt_store.specs.Steps.{note_of, Turns, IsHeld, GoesOn};
+
+use crate::events::StoreNote;
+use crate::serving::{Serving, Settle};
+use mt_disk::MemDisk;
+use mt_rows::Refusal;
+use mt_store_logs::{FlushFault, StoreLog, flush};
+use std::alloc::{AllocError, Global};
+
+/// Flushes a worker's log, where there is one and it is open.
+pub(crate) fn flush_at(
+    alloc: Global,
+    logs: &mut [StoreLog<MemDisk>],
+    serving: &mut Serving,
+    worker: u8,
+) -> StoreNote
+    requires { IsHeld logs.old (Some serving.old) }
+    ensures count { length logs.new ≡ length logs.old }
+    ensures goes { (accounts : Accounts) → GoesOn accounts (Flush worker) result logs.old (Some serving.old) logs.new (Some serving.new) }
+{
+    let place = usize::from(worker);
+    if place >= logs.len() || logs[place].mark().is_none() {
+        return StoreNote::NoSuch;
+    }
+    let flushed = flush(alloc, &mut logs[place], serving, worker);
+    serving.state.facts();
+    match flushed {
+        Ok(mark) => StoreNote::Flushed(mark),
+        Err(fault) => note_of(fault),
+    }
+}
+
+// What is noted of a fault.
+fn note_of(fault: FlushFault) -> StoreNote
+    ensures { result ≡ note_of fault }
+{
+    match fault {
+        FlushFault::Refused(refusal) => StoreNote::Refused(refusal),
+        FlushFault::TooLong => StoreNote::NoSuch,
+    }
+}
+
+/// Opens a worker's log again, where there is one and it is closed.
+pub(crate) fn reopen_at(alloc: Global, logs: &mut [StoreLog<MemDisk>], worker: u8) -> StoreNote
+    requires { (serving : AnyServing) × IsHeld logs.old (Some serving) }
+    ensures count { length logs.new ≡ length logs.old }
+    ensures goes { (accounts : Accounts) (serving : AnyServing) → GoesOn accounts (Reopen worker) result logs.old (Some serving) logs.new (Some serving) }
+{
+    let place = usize::from(worker);
+    if place >= logs.len() || logs[place].mark().is_some() {
+        return StoreNote::NoSuch;
+    }
+    match logs[place].reopen(alloc) {
+        Ok(()) => StoreNote::Reopened,
+        Err(fault) => note_of(fault),
+    }
+}
+
+/// Begins a Settle, unless one of this number has begun and not ended.
+pub(crate) fn begin_settle(serving: &mut Serving, id: u64) -> Result<StoreNote, AllocError>
+    ensures goes { IfOk result (λ note. (accounts : Accounts) (logs : List (AnyLog AnyDisk)) → GoesOn accounts (SettleBegin id) note logs (Some serving.old) logs (Some serving.new)) }
+{
+    if serving.settles.contains_key(&id) {
+        return Ok(StoreNote::NoSuch);
+    }
+    let begun = serving.state.steps();
+    let settle = Settle {
+        begun,
+        next: 0,
+        least: u64::MAX,
+    };
+    serving.settles.insert(id, settle)?;
+    Ok(StoreNote::Begun(begun))
+}
+
+/// Flushes the log that is next in a Settle.
+pub(crate) fn go_on(
+    alloc: Global,
+    logs: &mut [StoreLog<MemDisk>],
+    serving: &mut Serving,
+    id: u64,
+) -> StoreNote
+    requires { IsHeld logs.old (Some serving.old) }
+    ensures count { length logs.new ≡ length logs.old }
+    ensures goes { (accounts : Accounts) → GoesOn accounts (SettleNext id) result logs.old (Some serving.old) logs.new (Some serving.new) }
+{
+    let Some(settle) = serving.settles.get(&id).copied() else {
+        return StoreNote::NoSuch;
+    };
+    let flushed = flush(
+        alloc,
+        &mut logs[usize::from(settle.next)],
+        serving,
+        settle.next,
+    );
+    serving.state.facts();
+    match flushed {
+        Ok(mark) => turned(serving, id, settle, mark, logs.len()),
+        Err(fault) => {
+            serving.settles.remove(&id);
+            note_of(fault)
+        }
+    }
+}
+
+// One log more goes up to a step.
+fn turned(serving: &mut Serving, id: u64, settle: Settle, mark: u64, count: usize) -> StoreNote
+    requires open { get nat_cmp serving.old.settles id ≡ Some settle }
+    requires next { settle.next < count }
+    requires few { count ≤ 64 }
+    ensures turns { Turns count id settle mark serving.old.settles serving.new.settles result }
+    ensures state { serving.new.state ≡ serving.old.state }
+    ensures roster { serving.new.roster ≡ serving.old.roster }
+{
+    let least = settle.least.min(mark);
+    if usize::from(settle.next) + 1 == count {
+        serving.settles.remove(&id);
+        return StoreNote::Settled(least);
+    }
+    if let Some(kept) = serving.settles.get_mut(&id) {
+        *kept = Settle {
+            begun: settle.begun,
+            next: settle.next + 1,
+            least,
+        };
+    }
+    StoreNote::Turned
+}

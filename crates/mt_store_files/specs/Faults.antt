@@ -1,0 +1,39 @@
+-- Why a store isn't served: the refusal, the exit status, and which calls may tell what.
+use Rattle.std.specs.Prelude.{ℕ, ◌<◌, Some, None}
+use Rattle.mt_rows.specs.declared.refusal.Refusal.{Refusal}
+use Rattle.mt_rows.specs.declared.refusal.Refusal.TheVariants as refusals
+use Rattle.mt_store_files.specs.declared.fault.StoreFault.{StoreFault}
+use Rattle.mt_store_files.specs.declared.fault.StoreFault.TheVariants.{InUse, NoFolder, NoLog, System, Memory, Refused}
+
+-- the refusal by whose number a fault is told
+abbrev pub refusal_of : StoreFault → Refusal
+refusal_of InUse = refusals.Device
+refusal_of NoFolder = refusals.LogCount
+refusal_of (NoLog worker) = refusals.LogCount
+refusal_of (System worker error) = refusals.Device
+refusal_of Memory = refusals.Memory
+refusal_of (Refused worker refusal) = refusal
+
+-- 1 where the device or memory failed, 3 where the store is refused
+abbrev pub status_of : StoreFault → ℕ
+status_of (System worker error) = 1
+status_of Memory = 1
+status_of (Refused worker refusals.Device) = 1
+status_of (Refused worker refusals.Memory) = 1
+status_of fault = 3
+
+-- why a folder isn't opened
+abbrev pub IsOfFolder : StoreFault → Type 0
+IsOfFolder InUse = Unit {0}
+IsOfFolder NoFolder = Unit {0}
+IsOfFolder (System None error) = Unit {0}
+IsOfFolder Memory = Unit {0}
+IsOfFolder fault = ⊥
+
+-- why the files of so many logs aren't opened or made
+abbrev pub IsOfFiles : ℕ → StoreFault → Type 0
+IsOfFiles logs (NoLog worker) = worker < logs
+IsOfFiles logs (System (Some worker) error) = worker < logs
+IsOfFiles logs (System None error) = Unit {0}
+IsOfFiles logs Memory = Unit {0}
+IsOfFiles logs fault = ⊥

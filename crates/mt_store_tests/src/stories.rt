@@ -1,0 +1,53 @@
+//! Stories with what is noted of each row.
+
+use crate::asked::Row;
+use crate::runs::{AMPLE, Noted, run};
+use std::test::Fail;
+
+// Two workers; a Settle between whose turns a change falls; a crash with an operation in mid-step and a change that is
+// in no log; a Settle that a crash ends; a name that is free again in the next life; and a second crash.
+const STORY: [(Row, Noted); 31] = [
+    (Row::Put(1, 0, "a", "1"), ("new", 5)),
+    (Row::Put(2, 1, "b", "1"), ("new", 10)),
+    (Row::Settle, ("begun", 10)),
+    (Row::Settle, ("no such", 0)),
+    (Row::Next, ("turned", 0)),
+    (Row::Put(3, 0, "c", "1"), ("new", 15)),
+    (Row::Next, ("settled", 10)),
+    (Row::Next, ("no such", 0)),
+    (Row::Put(4, 1, "b", "2"), ("replaced", 20)),
+    (Row::Flush(1), ("flushed", 20)),
+    (Row::Flush(2), ("no such", 0)),
+    (Row::Reopen(0), ("no such", 0)),
+    (Row::Open(5, 0, "d", "1", 2), ("moved", 0)),
+    (Row::Settle, ("begun", 22)),
+    (Row::Next, ("turned", 0)),
+    (Row::Crash, ("recovered", 20)),
+    (Row::Next, ("no such", 0)),
+    (Row::End(5), ("nothing", 0)),
+    (Row::Get(1, "a"), ("found", 26)),
+    (Row::Get(2, "c"), ("found", 30)),
+    (Row::Get(3, "d"), ("absent", 33)),
+    (Row::Put(4, 1, "e", "1"), ("new", 38)),
+    (Row::Put(5, 0, "f", "1"), ("new", 43)),
+    (Row::Flush(0), ("flushed", 43)),
+    (Row::Crash, ("recovered", 22)),
+    (Row::Get(1, "b"), ("found", 47)),
+    (Row::Get(2, "e"), ("absent", 50)),
+    (Row::Get(3, "f"), ("absent", 53)),
+    (Row::Settle, ("begun", 53)),
+    (Row::Next, ("turned", 0)),
+    (Row::Next, ("settled", 53)),
+];
+
+#[test]
+fn each_event_is_noted_as_its_row_says(rt: HostRuntime) -> Result<(), Fail> {
+    let alloc = rt.alloc();
+    let rows = STORY.map(|row| row.0);
+    let noted = run(&rt, alloc, AMPLE, &rows).expect(&rt, "logs");
+    for (place, row) in STORY.iter().enumerate() {
+        let told = noted.get(place).copied();
+        assert!(rt; told == Some(row.1), "{place}: {:?}, {told:?}", row.0);
+    }
+    Ok(())
+}

@@ -1,0 +1,3 @@
+pub mod Limits
+pub mod Slices
+pub mod StoreTurns

@@ -1,0 +1,148 @@
+-- What turns make of a store that is owned alone: no step is made, and a log that was brought up goes up to all that were; for the store's calls and the law of its Settle.
+use Rattle.std.proofs.Common.{◌≡◌, ◌≢◌, ⊎_elim, inl, inr, ℕ, zero, suc, ◌+◌, ◌<◌, ◌≤◌, Bool, List, [], ◌∷◌, ◌++◌, length, Some, Result, Ok, Err, refl, sym, ap, ◌∙◌, arith}
+use Rattle.std.specs.Prelude.{slice_get, slice_set, slice_index_or}
+use Rattle.std.proofs.lemmas.List.{length-set}
+use Rattle.std.proofs.lemmas.Option.{same_Some, slice_get_within}
+use Rattle.std.proofs.Math.Nat.{eq-or-lt_of_le}
+use Rattle.mt_rows.specs.declared.record.Batch.{Batch}
+use Rattle.mt_rows.specs.declared.refusal.Refusal.{Refusal}
+use Rattle.mt_disk.specs.Disk.{DiskState}
+use Rattle.mt_state.specs.Views.{StateView}
+use Rattle.mt_recover.specs.declared.resuming.LogSlot.{LogSlot}
+use Rattle.mt_recover.specs.declared.resuming.LogSlot.TheVariants.{Open, Closed, Away}
+use Rattle.mt_store_logs.specs.declared.store_log.StoreLog.{StoreLog}
+use Rattle.mt_store_logs.specs.Places.{mark_in}
+use Rattle.mt_store_logs.specs.Waits.{TakesIn}
+use Rattle.mt_store_logs.specs.Flushes.{Flushes}
+use Rattle.mt_settle.specs.Turns.{Turn, Flushed, BroughtUp, Chain}
+use Rattle.mt_settle.specs.Settles.{turns_from, Settles}
+use Rattle.mt_stored.specs.declared.source.OwnState.{OwnState}
+use Rattle.mt_stored.specs.LogTurns.{FailsInFlush, FailsToBringUp}
+use Rattle.mt_stored.specs.Stores.{gives_own, DoesStore, IsSettled}
+
+-- no step was made, and there are as many logs
+abbrev pub Stays : OwnState → OwnState → Type 0
+Stays was is = (is.state.steps ≡ was.state.steps) × (length is.state.logs ≡ length was.state.logs)
+
+same : (was is : OwnState) → is ≡ was → Stays was is
+same was is e = (ap (λ (s : OwnState). s.state.steps) e, ap (λ (s : OwnState). length s.state.logs) e)
+
+drained : (was is : OwnState) (worker : ℕ) (batch : Batch) → gives_own was is worker batch → Stays was is
+drained was is worker batch d =
+    (ap (λ (v : StateView). v.steps) d.stands, ap (λ (v : StateView). length v.logs) d.stands ∙ length-set was.state.logs worker was.state.steps)
+
+set_there : {X : Type 0} (xs : List X) (i : ℕ) (y : X) → i < length xs → slice_get (slice_set xs i y) i ≡ Some y
+set_there [] i y h = absurd (omega (arith, h))
+set_there (x ∷ xs) zero y h = refl
+set_there (x ∷ xs) (suc i) y h = set_there xs i y (omega (arith, h))
+
+set_other : {X : Type 0} (xs : List X) (i k : ℕ) (y : X) → k ≢ i → slice_get (slice_set xs i y) k ≡ slice_get xs k
+set_other [] i k y h = refl
+set_other (x ∷ xs) zero zero y h = absurd (h refl)
+set_other (x ∷ xs) zero (suc k) y h = refl
+set_other (x ∷ xs) (suc i) zero y h = refl
+set_other (x ∷ xs) (suc i) (suc k) y h = set_other xs i k y (λ e. h (ap suc e))
+
+-- each of some marks is the same number, with one more
+told_more : (m steps : ℕ) (ms : List ℕ) → m ≡ steps → ((k d : ℕ) → k < length ms → slice_index_or ms k d ≡ steps)
+    → (k d : ℕ) → k < length (m ∷ ms) → slice_index_or (m ∷ ms) k d ≡ steps
+told_more m steps ms is all zero d less = is
+told_more m steps ms is all (suc k) d less = all k d (omega (arith, less))
+
+module _ {D : Type 0} (is_honest : D → Bool) (state : D → DiskState) (failures : D → ℕ) where
+  in_flush : (worker : ℕ) (refusal : Refusal) (old new : StoreLog D) (was is : OwnState)
+      → FailsInFlush is_honest state failures gives_own worker refusal old new was is → Stays was is
+  in_flush worker refusal old new was is f =
+      ⊎_elim (λ waits. same was is waits.same) (λ rest. ⊎_elim (λ none. same was is none.same) (λ keeps. drained was is worker keeps.batch keeps.given) rest) f.2
+
+  in_bring_up : (worker : ℕ) (refusal : Refusal) (old new : StoreLog D) (was is : OwnState)
+      → FailsToBringUp is_honest state failures gives_own worker refusal old new was is → Stays was is
+  in_bring_up worker refusal old new was is f =
+      ⊎_elim (λ closed. same was is closed.same) (λ not. in_flush worker refusal not.mid new was is not.fails) f
+
+  turn_stays : (turn : Turn) (was : OwnState) (old : List (StoreLog D)) (is : OwnState) (new : List (StoreLog D)) → DoesStore is_honest state failures turn was old is new → Stays was is
+  turn_stays (Flushed log (Ok mark)) was old is new t = drained was is log t.turns.batch t.turns.given
+  turn_stays (Flushed log (Err e)) was old is new t = in_flush log e t.before t.after was is t.turns
+  turn_stays (BroughtUp log (Ok mark)) was old is new t = drained was is log t.turns.flushes.batch t.turns.flushes.given
+  turn_stays (BroughtUp log (Err e)) was old is new t = in_bring_up log e t.before t.after was is t.turns
+
+  -- a log that has taken a batch in goes up to its end
+  taken_up : (b : Batch) (old new : LogSlot D) → TakesIn is_honest state failures (Some b) old new → mark_in new ≡ Some b.to
+  taken_up b old new (inl there) = ap mark_in there.1 ∙ there.0
+  taken_up b (Open old) (Open new) (inr has) = ap Some has.2.mark
+  taken_up b (Open old) (Closed disk) (inr has) = absurd has
+  taken_up b (Open old) Away (inr has) = absurd has
+  taken_up b (Closed old) new (inr has) = absurd has
+  taken_up b Away new (inr has) = absurd has
+
+  -- what a flush tells is the last step that was made
+  told_is : (worker mark : ℕ) (old new : StoreLog D) (was is : OwnState) → Flushes is_honest state failures gives_own worker mark old new was is → mark ≡ was.state.steps
+  told_is worker mark old new was is f =
+      same_Some mark f.batch.to (sym f.told ∙ taken_up f.batch f.mid.slot new.slot f.appended.takes) ∙ f.given.to
+
+  module _ {S : Type 0} (source : S → OwnState) (logs : S → List (StoreLog D)) where
+    abbrev does : S → Turn → S → Type 0
+    does old turn new = DoesStore is_honest state failures turn (source old) (logs old) (source new) (logs new)
+
+    chain_stays : (turns : List Turn) (old new : S) → Chain does old turns new → (source new).state.steps ≡ (source old).state.steps
+    chain_stays [] old new chain = ap (λ (s : S). (source s).state.steps) chain
+    chain_stays (t ∷ ts) old new (mid, d, rest) =
+        let first = turn_stays t (source old) (logs old) (source mid) (logs mid) d in
+        chain_stays ts mid new rest ∙ first.0
+
+    -- a Settle makes no step
+    pub no_step : (r : Result ℕ Refusal) (count : ℕ) (old new : S) → Settles does count old new r → (source new).state.steps ≡ (source old).state.steps
+    no_step (Ok n) count old new s = chain_stays (turns_from 0 s.marks) old new s.turns
+    no_step (Err e) count old new s = ⊎_elim
+        (λ none. ap (λ (s : S). (source s).state.steps) none.2)
+        (λ stops. chain_stays (turns_from 0 stops.marks ++ BroughtUp (length stops.marks) (Err e) ∷ []) old new stops.turns)
+        s
+
+    -- the logs from one on were brought up: each goes up to the last step, which was told of it
+    record AreUp (log : ℕ) (marks : List ℕ) (old new : S) : Type 0 where
+      steps : (source new).state.steps ≡ (source old).state.steps
+      count : length (logs new) ≡ length (logs old)
+      before : (k : ℕ) → k < log → slice_get (logs new) k ≡ slice_get (logs old) k
+      up : (k : ℕ) (l : StoreLog D) → log ≤ k → k < log + length marks → slice_get (logs new) k ≡ Some l → mark_in l.slot ≡ Some (source old).state.steps
+      told : (k d : ℕ) → k < length marks → slice_index_or marks k d ≡ (source old).state.steps
+
+    all_up : (log : ℕ) (marks : List ℕ) (old new : S) → Chain does old (turns_from log marks) new → AreUp log marks old new
+    all_up log [] old new chain = record {
+      steps = ap (λ (s : S). (source s).state.steps) chain;
+      count = ap (λ (s : S). length (logs s)) chain;
+      before = λ k less. ap (λ (s : S). slice_get (logs s) k) chain;
+      up = λ k l from to there. absurd (omega (arith, from, to));
+      told = λ k d less. absurd (omega (arith, less));
+    }
+    all_up log (m ∷ ms) old new (mid, d, rest) =
+        let h = all_up (log + 1) ms mid new rest in
+        let first : Stays (source old) (source mid) = drained (source old) (source mid) log d.turns.flushes.batch d.turns.flushes.given in
+        let mark : m ≡ (source old).state.steps = told_is log m d.turns.mid d.after (source old) (source mid) d.turns.flushes in
+        let there : slice_get (logs new) log ≡ Some d.after =
+        h.before log (omega arith) ∙ ap (λ (ls : List (StoreLog D)). slice_get ls log) d.stands
+        ∙ set_there (logs old) log d.after (slice_get_within (logs old) log d.before d.there) in
+        record {
+          steps = h.steps ∙ first.0;
+          count = h.count ∙ ap (λ (ls : List (StoreLog D)). length ls) d.stands ∙ length-set (logs old) log d.after;
+          before = λ k less.
+              h.before k (omega (arith, less)) ∙ ap (λ (ls : List (StoreLog D)). slice_get ls k) d.stands
+              ∙ set_other (logs old) log k d.after (λ e. omega (arith, e, less));
+          up = λ k l from to is. ⊎_elim
+              (λ (e : log ≡ k).
+              let own : d.after ≡ l = same_Some d.after l (sym there ∙ ap (slice_get (logs new)) e ∙ is) in
+              ap (λ (x : StoreLog D). mark_in x.slot) (sym own) ∙ d.turns.flushes.told ∙ ap Some mark)
+              (λ (less : log < k). h.up k l (omega (arith, less)) (omega (arith, to)) is ∙ ap Some first.0)
+              (eq-or-lt_of_le from);
+          told = told_more m (source old).state.steps ms mark (λ k d less. h.told k d less ∙ first.0);
+        }
+
+    -- a settled number is that of all steps, and each log goes up to it
+    pub settled : (n count : ℕ) (old new : S) → length (logs old) ≤ count → Settles does count old new (Ok n) → (n ≡ (source old).state.steps) × IsSettled (source new).state (logs new)
+    settled n count old new all s =
+        let up = all_up 0 s.marks old new s.turns in
+        let among = s.least.among in (
+          sym among.2 ∙ up.told among.0 n among.1,
+          λ k l there.
+              let within = slice_get_within (logs new) k l there in
+              up.up k l (omega arith) (omega (arith, within, up.count, all, s.all)) there ∙ ap Some (sym up.steps),
+        )

@@ -1,0 +1,21 @@
+use Rattle.std.proofs.Common.{◌≡◌, ◌∙◌, map, length, sym, ap, subst, arith}
+use Rattle.std.proofs.lemmas.List.{length-map}
+use Rattle.mt_state.specs.Begins.{new_state}
+use Rattle.mt_store_logs.specs.Places.{MakesAll}
+use Rattle.mt_stored.specs.Places.{closed_on}
+use Rattle.mt_stored.proofs.Slices.{whole}
+use Rattle.mt_stored.proofs.stores.Store.create.Goals as goal
+
+pub returns-in-Ok-clause-ok : goal.returns-in-Ok-clause-ok
+returns-in-Ok-clause-ok g c =
+    let disks = c.args.disks.items in
+    let logs = c.in_ok-logs.logs in
+    let new = c.create_logs.new.logs in
+    let old = c.deref_mut.ensures.value ∙ c.in_ok-logs.ensures.ok in
+    let makes = subst (λ was. MakesAll g.D.Disk.is_honest g.D.Disk.state g.D.Disk.failures was new) old c.in_ok-create_logs.ensures.ok in
+    let count : logs.len ≡ length disks = omega (arith, logs.ok.0, ap length c.in_ok-logs.ensures.ok, length-map disks closed_on) in
+    let same : logs.len ≡ length new = omega (arith, count, makes.len, length-map disks closed_on) in
+    record {
+      state_is = c.in-Ok.ensures ∙ ap (λ n. new_state n c.args.tenants) (omega (arith, c.len.ensures, count, same));
+      logs_are = subst (MakesAll g.D.Disk.is_honest g.D.Disk.state g.D.Disk.failures (map closed_on disks)) (sym (whole logs.len new _ same)) makes;
+    }

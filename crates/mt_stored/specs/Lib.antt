@@ -1,0 +1,4 @@
+pub mod Keeping
+pub mod LogTurns
+pub mod Places
+pub mod Stores

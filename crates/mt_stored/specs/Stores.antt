@@ -1,0 +1,67 @@
+-- A store that is owned alone: how it is made and recovered, what a turn of one of its logs makes of it, and when it is settled.
+use Rattle.std.specs.Prelude.{◌≡◌, ◌⊎◌, ℕ, ◌<◌, Bool, List, map, length, slice_get, slice_set, Some, None, Ok, Err}
+use Rattle.mt_rows.specs.Accounts.{Accounts}
+use Rattle.mt_rows.specs.declared.record.Batch.{Batch}
+use Rattle.mt_rows.specs.declared.refusal.Refusal.TheVariants.{Memory, Device}
+use Rattle.mt_disk.specs.Disk.{DiskState}
+use Rattle.mt_state.specs.Views.{StateView}
+use Rattle.mt_state.specs.Begins.{new_state}
+use Rattle.mt_core.specs.Drains.{Drains}
+use Rattle.mt_core.specs.Restores.{IsRestored}
+use Rattle.mt_recover.specs.declared.recovering.Recovered.{Recovered}
+use Rattle.mt_store_logs.specs.declared.fault.LogRefusal.{LogRefusal}
+use Rattle.mt_store_logs.specs.declared.store_log.StoreLog.{StoreLog}
+use Rattle.mt_store_logs.specs.Places.{mark_in, MakesAll}
+use Rattle.mt_store_logs.specs.Recovers.{ServesAgain, IsNotRecovered}
+use Rattle.mt_store_logs.specs.Flushes.{Flushes}
+use Rattle.mt_settle.specs.Turns.{Turn, Flushed, BroughtUp}
+use Rattle.mt_stored.specs.declared.source.OwnState.{OwnState}
+use Rattle.mt_stored.specs.Places.{closed_on}
+use Rattle.mt_stored.specs.LogTurns.{FailsInFlush, BringsUp, FailsToBringUp}
+
+-- each log is open, and goes up to the last step that was made
+abbrev pub IsSettled : {D : Type 0} → StateView → List (StoreLog D) → Type 0
+IsSettled {D} v logs = (k : ℕ) (log : StoreLog D) → slice_get logs k ≡ Some log → mark_in log.slot ≡ Some v.steps
+
+-- memory was refused, and no log is the cause
+abbrev pub no_memory : LogRefusal
+no_memory = record { log = None; refusal = Memory }
+
+-- why no store of so many logs was made: the disk of one failed, or memory was refused
+abbrev pub IsNotMade : ℕ → LogRefusal → Type 0
+IsNotMade logs e = (e ≡ no_memory) ⊎ ((place : ℕ) × (place < logs) × (e ≡ record { log = Some place; refusal = Device }))
+
+-- what a drain of a worker does to a state that is owned alone
+abbrev pub gives_own : OwnState → OwnState → ℕ → Batch → Type 0
+gives_own old new worker batch = Drains old.state new.state worker batch
+
+module _ {D : Type 0} (is_honest : D → Bool) (state : D → DiskState) (failures : D → ℕ) where
+  -- a new store over these disks: its state and its logs
+  pub record IsNewStore (disks : List D) (accounts : Accounts) (v : StateView) (logs : List (StoreLog D)) : Type 0 where
+    pub state_is : v ≡ new_state (length disks) accounts
+    pub logs_are : MakesAll is_honest state failures (map closed_on disks) logs
+
+  -- a store that was recovered from these disks: its logs have what a recovery gives them, and its state has the pairs of the recovery, and goes on from there
+  pub record IsRecoveredStore (disks : List D) (accounts : Accounts) (v : StateView) (logs : List (StoreLog D)) : Type 0 where
+    pub recovered : Recovered
+    pub serves : ServesAgain is_honest state failures accounts recovered (map closed_on disks) logs
+    pub restored : IsRestored recovered.resume (length disks) accounts recovered.pairs.items v
+
+  -- why none was recovered: for the cause of a recovery, or memory was refused
+  abbrev pub IsNotRecoveredStore : List D → Accounts → LogRefusal → Type 0
+  IsNotRecoveredStore disks accounts e = (e ≡ no_memory) ⊎ ((left : List (StoreLog D)) × IsNotRecovered is_honest state failures accounts e (map closed_on disks) left)
+
+  -- one log had a turn, with the state, and all others are as they were
+  pub record TurnsLog (Turns : StoreLog D → StoreLog D → OwnState → OwnState → Type 0) (log : ℕ) (was : OwnState) (old : List (StoreLog D)) (is : OwnState) (new : List (StoreLog D)) : Type 0 where
+    pub before : StoreLog D
+    pub there : slice_get old log ≡ Some before
+    pub after : StoreLog D
+    pub stands : new ≡ slice_set old log after
+    pub turns : Turns before after was is
+
+  -- a turn of a store that is owned alone
+  abbrev pub DoesStore : Turn → OwnState → List (StoreLog D) → OwnState → List (StoreLog D) → Type 0
+  DoesStore (Flushed log (Ok mark)) was old is new = TurnsLog (Flushes is_honest state failures gives_own log mark) log was old is new
+  DoesStore (Flushed log (Err refusal)) was old is new = TurnsLog (FailsInFlush is_honest state failures gives_own log refusal) log was old is new
+  DoesStore (BroughtUp log (Ok mark)) was old is new = TurnsLog (BringsUp is_honest state failures gives_own log mark) log was old is new
+  DoesStore (BroughtUp log (Err refusal)) was old is new = TurnsLog (FailsToBringUp is_honest state failures gives_own log refusal) log was old is new

@@ -1,0 +1,18 @@
+//! What a settled number of a store says that is owned alone; the contract of a function that does nothing.
+
+ghost use Rattle.std.specs.Prelude.{◌≡◌, ℕ, List, Ok, length};
+ghost use Rattle.mt_settle.specs.Turns.{Turn};
+ghost use Rattle.mt_settle.specs.Settles.{Settles};
+ghost use Rattle.mt_store_logs.specs.declared.store_log.StoreLog.{StoreLog};
+ghost use Rattle.mt_stored.specs.declared.source.OwnState.{OwnState};
+ghost use Rattle.mt_stored.specs.Stores.{DoesStore, IsSettled};
+
+use mt_disk::Disk;
+
+/// Of whatever has a state and its logs as `Store` has: it is the number of steps that were made when the
+/// Settle began, and so at its end, and every log goes up to it.
+pub fn a_settled_number_is_reached_by_all_logs<D: Disk, S>()
+    ensures { (source : S → OwnState) (logs : S → List (StoreLog D)) (n : ℕ) (old new : S) →
+        Settles (λ (s : S) (turn : Turn) (t : S). DoesStore D.is_honest D.state D.failures turn (source s) (logs s) (source t) (logs t)) (length (logs old)) old new (Ok n)
+        → (n ≡ (source old).state.steps) × IsSettled (source new).state (logs new) }
+{}

@@ -1,0 +1,77 @@
+//! A store's logs behind locks: one for each log, which is taken before the book's.
+
+ghost use Rattle.std.specs.Prelude.{◌≡◌, vec_len, IfOk};
+
+use crate::source::SharedBook;
+use crate::turns::{bring_up_log, flush_log};
+use mt_book::Book;
+use mt_disk::Disk;
+use mt_rows::Refusal;
+use mt_settle::Logs;
+use mt_store_logs::StoreLog;
+use std::alloc::{AllocError, Global};
+use std::sync::ledger::Ledger;
+use std::sync::{Mutex, Wait};
+
+/// The logs of a book, at most 255, of which others give turns too: a turn says nothing of the next one.
+#[derive(Drop)]
+pub struct SharedLogs<'a, L: Ledger, D: Disk + Drop> {
+    book: &'a Mutex<Book<L>>,
+    logs: &'a [Mutex<StoreLog<D>>],
+}
+
+impl<'a, L: Ledger, D: Disk + Drop> SharedLogs<'a, L, D> {
+    pub fn new(book: &'a Mutex<Book<L>>, logs: &'a [Mutex<StoreLog<D>>]) -> Self {
+        SharedLogs { book, logs }
+    }
+}
+
+impl<L: Ledger, D: Disk + Drop> Logs for SharedLogs<'_, L, D> {
+    ghost use Rattle.std.specs.Prelude.{length, min};
+
+    ghost logs = { λ s. min (length s.logs.now) 255 };
+
+    ghost does = { λ old turn new. Unit {0} };
+
+    fn count(&self) -> u8 {
+        self.logs.len().min(255) as u8
+    }
+
+    fn flush<R: Wait>(&mut self, rt: &R, alloc: Global, log: u8) -> Result<u64, Refusal> {
+        let mut guard = self.logs[usize::from(log)].lock(rt);
+        flush_log(alloc, &mut *guard, &mut SharedBook::new(rt, self.book), log)
+    }
+
+    fn bring_up<R: Wait>(&mut self, rt: &R, alloc: Global, log: u8) -> Result<u64, Refusal> {
+        let mut guard = self.logs[usize::from(log)].lock(rt);
+        bring_up_log(alloc, &mut *guard, &mut SharedBook::new(rt, self.book), log)
+    }
+}
+
+/// Each log behind a lock of its own.
+pub fn locked_logs<D: Disk + Drop>(
+    alloc: Global,
+    logs: Vec<StoreLog<D>>,
+) -> Result<Vec<Mutex<StoreLog<D>>>, AllocError>
+    ensures { IfOk result (λ locks. vec_len locks ≡ vec_len logs) }
+{
+    let mut locks = Vec::new(alloc);
+    for log in logs {
+        locks.push(Mutex::new(log))?;
+    }
+    Ok(locks)
+}
+
+/// The logs, of which nobody holds a lock any more.
+pub fn unlocked_logs<D: Disk + Drop>(
+    alloc: Global,
+    locks: Vec<Mutex<StoreLog<D>>>,
+) -> Result<Vec<StoreLog<D>>, AllocError>
+    ensures { IfOk result (λ logs. vec_len logs ≡ vec_len locks) }
+{
+    let mut logs = Vec::new(alloc);
+    for lock in locks {
+        logs.push(lock.into_inner())?;
+    }
+    Ok(logs)
+}

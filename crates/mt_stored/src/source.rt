@@ -1,0 +1,53 @@
+//! What drains workers: a state that is owned alone, and a book behind its lock.
+
+ghost use Rattle.std.specs.Prelude.{◌≡◌};
+
+use mt_book::{Book, drain};
+use mt_core::State;
+use mt_rows::Batch;
+use mt_store_logs::Source;
+use std::alloc::AllocError;
+use std::sync::ledger::Ledger;
+use std::sync::{Mutex, Wait};
+
+/// A state that is owned alone. It says all that a drain did to it.
+#[derive(Drop)]
+pub(crate) struct OwnState {
+    pub state: State,
+}
+
+impl Source for OwnState {
+    ghost use Rattle.std.specs.Prelude.{◌<◌, length};
+    ghost use Rattle.mt_core.specs.Drains.{Drains};
+
+    ghost serves = { λ s worker. worker < length s.state.logs };
+
+    ghost gives = { λ old new worker batch. Drains old.state new.state worker batch };
+
+    fn drain(&mut self, worker: u8) -> Result<Batch, AllocError> {
+        self.state.drain(worker)
+    }
+}
+
+/// A book behind its lock, which others use too: a drain says of it that its batch is in order.
+#[derive(Drop)]
+pub struct SharedBook<'a, L: Ledger, R: Wait> {
+    rt: &'a R,
+    book: &'a Mutex<Book<L>>,
+}
+
+impl<'a, L: Ledger, R: Wait> SharedBook<'a, L, R> {
+    pub fn new(rt: &'a R, book: &'a Mutex<Book<L>>) -> Self {
+        SharedBook { rt, book }
+    }
+}
+
+impl<L: Ledger, R: Wait> Source for SharedBook<'_, L, R> {
+    ghost serves = { λ s worker. Unit {0} };
+
+    ghost gives = { λ old new worker batch. Unit {0} };
+
+    fn drain(&mut self, worker: u8) -> Result<Batch, AllocError> {
+        drain(self.rt, self.book, worker)
+    }
+}

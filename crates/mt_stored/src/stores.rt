@@ -1,0 +1,171 @@
+//! A store that is owned alone: a state, and a log for each of its workers.
+
+ghost use Rattle.std.specs.Prelude.{◌≡◌, ◌<◌, ◌≤◌, None, length, map, vec_len, IfOk, IfErr, IfSome, OnOk};
+ghost use Rattle.mt_rows.specs.declared.refusal.Refusal.TheVariants.{Memory};
+ghost use Rattle.mt_state.specs.Begins.{HaveNoPairs, new_state};
+ghost use Rattle.mt_stored.specs.Places.{closed_on};
+
+use crate::source::OwnState;
+use crate::turns::{bring_up_log, flush_log};
+use mt_core::State;
+use mt_disk::Disk;
+use mt_rows::{Refusal, Tenants};
+use mt_settle::{Logs, settle};
+use mt_store_logs::{LogRefusal, StoreLog, create_logs, recover_logs};
+use std::alloc::{AllocError, Global};
+use std::sync::Wait;
+
+/// A state, and as many logs as it has. One without logs keeps nothing.
+#[derive(Drop)]
+pub struct Store<D: Disk + Drop> {
+    source: OwnState,
+    logs: Vec<StoreLog<D>>,
+    ghost all: { length source.state.logs ≡ vec_len logs },
+}
+
+// No memory, for none of the logs.
+const NO_MEMORY: LogRefusal = LogRefusal {
+    log: None,
+    refusal: Refusal::Memory,
+};
+
+impl<D: Disk + Drop> Store<D> {
+    ghost use Rattle.mt_stored.specs.Stores.{IsNewStore, IsNotMade, IsRecoveredStore, IsNotRecoveredStore, IsSettled};
+
+    /// A store that keeps nothing: a new state without logs.
+    pub fn without_logs(alloc: Global, tenants: Tenants) -> Result<Store<D>, AllocError>
+        requires { HaveNoPairs tenants }
+        ensures { IfOk result (λ store. store.source.state ≡ new_state 0 tenants) }
+    {
+        let state = State::new(alloc, 0, tenants)?;
+        Ok(Store {
+            source: OwnState { state },
+            logs: Vec::new(alloc),
+        })
+    }
+
+    /// A new store over 1 to 64 disks, whatever they held, with the log of a worker on each, in their order.
+    ///
+    /// An error tells the log whose disk failed, or, of none, that memory was refused. The disks are gone
+    /// then, and may hold anything.
+    pub fn create(alloc: Global, disks: Vec<D>, tenants: Tenants) -> Result<Store<D>, LogRefusal>
+        requires some { 0 < vec_len disks }
+        requires few { vec_len disks ≤ 64 }
+        requires empty { HaveNoPairs tenants }
+        ensures ok { IfOk result (λ store. IsNewStore D.is_honest D.state D.failures disks.items tenants store.source.state store.logs.items) }
+        ensures err { IfErr result (IsNotMade (vec_len disks)) }
+    {
+        let mut logs = closed_logs(alloc, disks)?;
+        create_logs(&mut logs)?;
+        match State::new(alloc, logs.len() as u8, tenants) {
+            Ok(state) => Ok(Store {
+                source: OwnState { state },
+                logs,
+            }),
+            Err(_) => Err(NO_MEMORY),
+        }
+    }
+
+    /// The store that 1 to 64 disks hold, recovered from its logs, and each of these with the batch with
+    /// which a recovery ends.
+    ///
+    /// An error tells the log that was not opened or got no such batch, or, of none, why there is no recovery.
+    /// The disks are gone then, and can be recovered again.
+    pub fn recover(alloc: Global, disks: Vec<D>, tenants: Tenants) -> Result<Store<D>, LogRefusal>
+        requires few { vec_len disks ≤ 64 }
+        requires empty { HaveNoPairs tenants }
+        ensures ok { IfOk result (λ store. IsRecoveredStore D.is_honest D.state D.failures disks.items tenants store.source.state store.logs.items) }
+        ensures err { IfErr result (IsNotRecoveredStore D.is_honest D.state D.failures disks.items tenants) }
+    {
+        let mut logs = closed_logs(alloc, disks)?;
+        let recovered = recover_logs(alloc, &mut logs, &tenants)?;
+        let count = logs.len() as u8;
+        match State::restore(alloc, recovered.resume, count, tenants, &recovered.pairs) {
+            Ok(state) => Ok(Store {
+                source: OwnState { state },
+                logs,
+            }),
+            Err(_) => Err(NO_MEMORY),
+        }
+    }
+
+    /// The state and its logs, if these are as many as it has.
+    pub fn joined(state: State, logs: Vec<StoreLog<D>>) -> Option<Store<D>>
+        ensures { IfSome result (λ store. (store.source.state ≡ state) × (store.logs ≡ logs)) }
+    {
+        if usize::from(state.logs()) != logs.len() {
+            return None;
+        }
+        Some(Store {
+            source: OwnState { state },
+            logs,
+        })
+    }
+
+    /// The state and its logs.
+    pub fn into_parts(self) -> (State, Vec<StoreLog<D>>)
+        ensures state { result.0 ≡ self.source.state }
+        ensures logs { result.1 ≡ self.logs }
+    {
+        let Store { source, logs } = self;
+        (source.state, logs)
+    }
+
+    /// Settles for the last time: with Ok every log goes up to the last step that was made. A store without
+    /// logs has nothing to settle. An error is that of the first log that was not brought up to date.
+    pub fn settle_last<R: Wait>(&mut self, rt: &R, alloc: Global) -> Result<(), Refusal>
+        ensures settled { OnOk result (IsSettled self.new.source.state self.new.logs.items) }
+        ensures state { self.new.source.state.steps ≡ self.old.source.state.steps }
+    {
+        if self.logs.is_empty() {
+            return Ok(());
+        }
+        let _ = settle(rt, alloc, self)?;
+        Ok(())
+    }
+}
+
+impl<D: Disk + Drop> Logs for Store<D> {
+    ghost use Rattle.mt_stored.specs.Stores.{DoesStore};
+    ghost use Rattle.std.specs.Prelude.{vec_len};
+
+    ghost logs = { λ s. vec_len s.logs };
+
+    ghost does = { λ old turn new. DoesStore D.is_honest D.state D.failures turn old.source old.logs.items new.source new.logs.items };
+
+    fn count(&self) -> u8 {
+        self.source.state.logs()
+    }
+
+    fn flush<R: Wait>(&mut self, _rt: &R, alloc: Global, log: u8) -> Result<u64, Refusal> {
+        flush_log(
+            alloc,
+            &mut self.logs[usize::from(log)],
+            &mut self.source,
+            log,
+        )
+    }
+
+    fn bring_up<R: Wait>(&mut self, _rt: &R, alloc: Global, log: u8) -> Result<u64, Refusal> {
+        bring_up_log(
+            alloc,
+            &mut self.logs[usize::from(log)],
+            &mut self.source,
+            log,
+        )
+    }
+}
+
+// Closed logs on these disks.
+fn closed_logs<D: Disk + Drop>(alloc: Global, disks: Vec<D>) -> Result<Vec<StoreLog<D>>, LogRefusal>
+    ensures ok { IfOk result (λ logs. logs.items ≡ map closed_on disks.items) }
+    ensures err { IfErr result (λ e. e ≡ record { log = None; refusal = Memory }) }
+{
+    let mut logs = Vec::new(alloc);
+    for disk in disks {
+        if logs.push(StoreLog::closed(disk)).is_err() {
+            return Err(NO_MEMORY);
+        }
+    }
+    Ok(logs)
+}
