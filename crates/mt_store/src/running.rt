@@ -1,8 +1,7 @@
 //! A run of many events on a new store, with what is noted of each.
 
-ghost use Rattle.std.specs.Prelude.{◌≡◌, ◌<◌, ◌≤◌, List, length, Some, IfOk, OnOk};
+ghost use Rattle.std.specs.Prelude.{◌≡◌, ◌<◌, ◌≤◌, List, length, Some, IfOk, IfErr, OnOk};
 ghost use Rattle.std.specs.List.{All, zip};
-ghost use Rattle.std.specs.declared.alloc.Global.{Global as AnyAlloc};
 ghost use Rattle.mt_rows.specs.Accounts.{Accounts};
 ghost use Rattle.mt_disk.specs.declared.mem.MemDisk.{MemDisk as AnyDisk};
 ghost use Rattle.mt_state.specs.Begins.{HaveNoPairs};
@@ -10,7 +9,7 @@ ghost use Rattle.mt_state.specs.Histories.{IsServed};
 ghost use Rattle.mt_store_logs.specs.declared.store_log.StoreLog.{StoreLog as AnyLog};
 ghost use Rattle.mt_store.specs.declared.events.StoreEvent.TheVariants.{Core, Crash};
 ghost use Rattle.mt_store.specs.declared.events.StoreNote.TheVariants.{Told as Answered};
-ghost use Rattle.mt_store.specs.Lives.{Standing, HasLives, NotesLead};
+ghost use Rattle.mt_store.specs.Lives.{Standing, HasLives, IsMemoryOrDevice};
 ghost use Rattle.mt_store.specs.Holds.{quotas_of, Holds};
 ghost use Rattle.mt_store.specs.Steps.{IsHeld, IsNoCrash, IsServedBy, GoesOn, NotesGoOn};
 
@@ -74,6 +73,7 @@ pub fn run_store_events(
     requires workers { All (IsServedBy (length disks.items)) events.now }
     ensures lives { IfOk result (λ r. HasLives (quotas_of tenants.now) (zip events.now r.1)) }
     ensures count { IfOk result (λ r. length r.1 ≡ length events.now) }
+    ensures err { IfErr result IsMemoryOrDevice }
 {
     let mut store = created(alloc, tenants, disks)?;
     let notes = note_all(alloc, tenants, &mut store, events)?;
