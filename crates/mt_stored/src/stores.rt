@@ -1,6 +1,6 @@
 //! A store that is owned alone: a state, and a log for each of its workers.
 
-ghost use Rattle.std.specs.Prelude.{◌≡◌, ◌<◌, ◌≤◌, None, length, map, vec_len, IfOk, IfErr, IfSome, OnOk};
+ghost use Rattle.std.specs.Prelude.{◌≡◌, ◌≢◌, ◌<◌, ◌≤◌, None, length, map, vec_len, IfOk, IfErr, IfSome, IfNone, OnOk};
 ghost use Rattle.mt_rows.specs.declared.refusal.Refusal.TheVariants.{Memory};
 ghost use Rattle.mt_state.specs.Begins.{HaveNoPairs, new_state};
 ghost use Rattle.mt_stored.specs.Places.{closed_on};
@@ -30,7 +30,8 @@ const NO_MEMORY: LogRefusal = LogRefusal {
 };
 
 impl<D: Disk + Drop> Store<D> {
-    ghost use Rattle.mt_stored.specs.Stores.{IsNewStore, IsNotMade, IsRecoveredStore, IsNotRecoveredStore, IsSettled};
+    ghost use Rattle.mt_settle.specs.Settles.{StopsSettling};
+    ghost use Rattle.mt_stored.specs.Stores.{IsNewStore, IsNotMade, IsRecoveredStore, IsNotRecoveredStore, IsSettled, DoesStore};
 
     /// A store that keeps nothing: a new state without logs.
     pub fn without_logs(alloc: Global, tenants: Tenants) -> Result<Store<D>, AllocError>
@@ -91,7 +92,8 @@ impl<D: Disk + Drop> Store<D> {
 
     /// The state and its logs, if these are as many as it has.
     pub fn joined(state: State, logs: Vec<StoreLog<D>>) -> Option<Store<D>>
-        ensures { IfSome result (λ store. (store.source.state ≡ state) × (store.logs ≡ logs)) }
+        ensures some { IfSome result (λ store. (store.source.state ≡ state) × (store.logs ≡ logs)) }
+        ensures none { IfNone result (length state.logs ≢ vec_len logs) }
     {
         if usize::from(state.logs()) != logs.len() {
             return None;
@@ -116,6 +118,7 @@ impl<D: Disk + Drop> Store<D> {
     pub fn settle_last<R: Wait>(&mut self, rt: &R, alloc: Global) -> Result<(), Refusal>
         ensures settled { OnOk result (IsSettled self.new.source.state self.new.logs.items) }
         ensures state { self.new.source.state.steps ≡ self.old.source.state.steps }
+        ensures err { IfErr result (StopsSettling (λ old turn new. DoesStore D.is_honest D.state D.failures turn old.source old.logs.items new.source new.logs.items) (vec_len self.old.logs) self.old self.new) }
     {
         if self.logs.is_empty() {
             return Ok(());

@@ -1,4 +1,4 @@
-use Rattle.std.proofs.Common.{Ok, Err, arith}
+use Rattle.std.proofs.Common.{◌≡◌, Ok, Err, arith, rules, ⊎_elim}
 use Rattle.mt_stored.proofs.StoreTurns.{no_step, settled}
 use Rattle.mt_stored.proofs.stores.Store.settle_last.Goals as goal
 
@@ -17,3 +17,8 @@ pub returns-clause-state : goal.returns-clause-state
 returns-clause-state g c =
     let old = c.args.self.now in
     no_step g.D.Disk.is_honest g.D.Disk.state g.D.Disk.failures (λ s. s.source) (λ s. s.logs.items) (Ok c.in_ok-settle.field-0) old.logs.len old c.settle.new.logs c.in_ok-settle.ensures.settles
+
+pub returns-in_err-settle-clause-err : goal.returns-in_err-settle-clause-err
+returns-in_err-settle-clause-err g c =
+    let is : c.from_residual.result ≡ Err c.in_err-settle.field-0.0 = search rules in
+    rw is (⊎_elim (λ none. absurd (search (arith, none.0, rules))) (λ stops. stops) c.in_err-settle.ensures.settles)
