@@ -1,2 +1,3 @@
 pub mod CrashLaws
 mod Images
+mod EditLaws

@@ -1,2 +1,4 @@
 pub mod Disk
 pub mod Mem
+pub mod Files
+pub mod MemFiles

@@ -1,73 +1,86 @@
-//! A real file. Of it nothing is claimed but the count of its failures.
+//! A file of the operating system. Nothing is proved of it: that it keeps the rules of a `SystemFile` is
+//! the premise on which a store on a real disk rests.
 
-ghost use Rattle.std.specs.Prelude.{◌≡◌, [], false, None};
-ghost use Rattle.mt_disk.specs.Disk.{CountsFailure, found_with};
+ghost use Rattle.std.specs.Prelude.{[], false};
+ghost use Rattle.mt_disk.specs.Disk.{found_with};
+ghost use Rattle.mt_disk.specs.Files.{at_rest};
 
-use crate::disk::{DeviceFailed, Disk, count_failure};
+use crate::cached::CachedDisk;
+use crate::system::{FileFault, SystemFile};
 use std::fs::File;
 use std::io;
+use std::os::fd::AsRawFd;
 use std::os::unix::fs::FileExt;
 
-/// A file of the system, opened for reading and writing. No code can tell whether the device under it
-/// keeps the rules of a disk, so contracts see no state of it.
+/// A file of the system, opened for reading and writing. No code can tell whether the system and the
+/// device under it keep their rules, so contracts see no state of it.
 #[derive(Drop)]
-pub struct FileDisk {
+pub struct OsFile {
     file: File,
-    failures: u64,
+    is_doubtful: bool,
 }
 
-impl FileDisk {
-    pub fn new(file: File) -> Self
-        ensures { result.failures ≡ 0 }
-    {
-        FileDisk { file, failures: 0 }
-    }
+/// A disk on a file of the system.
+pub type FileDisk = CachedDisk<OsFile>;
 
-    // Counts an error.
-    fn counted<T>(&mut self, answer: io::Result<T>) -> Result<T, DeviceFailed>
-        ensures { CountsFailure result self.old.failures self.new.failures }
-    {
-        match answer {
-            Ok(value) => Ok(value),
-            Err(_) => {
-                count_failure(&mut self.failures);
-                Err(DeviceFailed)
-            }
+impl OsFile {
+    pub fn new(file: File) -> Self {
+        OsFile {
+            file,
+            is_doubtful: false,
         }
     }
 }
 
-impl Disk for FileDisk {
+// What the system answered.
+fn told<T>(answer: io::Result<T>) -> Result<T, FileFault> {
+    match answer {
+        Ok(value) => Ok(value),
+        Err(_) => Err(FileFault::Failed),
+    }
+}
+
+// Makes the system write the file's length again, if a sync may have failed to.
+fn touched(file: &File) -> io::Result<()> {
+    file.set_len(file.metadata()?.len())
+}
+
+impl SystemFile for OsFile {
     ghost is_honest = { λ _. false };
 
-    ghost state = { λ _. found_with [] };
+    ghost state = { λ _. at_rest (found_with []) };
 
-    ghost failures = { λ f. f.failures };
-
-    ghost plan = { λ _. None };
-
-    fn len(&mut self) -> Result<usize, DeviceFailed> {
-        let len = self.file.metadata().map(|metadata| metadata.len() as usize);
-        self.counted(len)
+    fn len(&mut self) -> Result<usize, FileFault> {
+        told(self.file.metadata().map(|metadata| metadata.len() as usize))
     }
 
-    fn read(&mut self, at: usize, out: &mut [u8]) -> Result<(), DeviceFailed> {
-        let read = self.file.read_exact_at(out, at as u64);
-        self.counted(read)
+    fn read_at(&mut self, at: usize, out: &mut [u8]) -> Result<(), FileFault> {
+        told(self.file.read_exact_at(out, at as u64))
     }
 
-    fn write_at(&mut self, at: usize, bytes: &[u8]) -> Result<(), DeviceFailed> {
-        let written = self.file.write_all_at(bytes, at as u64);
-        self.counted(written)
+    fn write_at(&mut self, at: usize, bytes: &[u8]) -> Result<(), FileFault> {
+        told(self.file.write_all_at(bytes, at as u64))
     }
 
-    fn cut(&mut self, len: usize) -> Result<(), DeviceFailed> {
-        let cut = self.file.set_len(len as u64);
-        self.counted(cut)
+    fn set_len(&mut self, len: usize) -> Result<(), FileFault> {
+        told(self.file.set_len(len as u64))
     }
 
-    fn sync(&mut self) -> Result<(), DeviceFailed> {
+    fn sync(&mut self) -> Result<(), FileFault> {
+        if self.is_doubtful {
+            told(touched(&self.file))?;
+        }
         let synced = self.file.sync_all();
-        self.counted(synced)
+        self.is_doubtful = synced.is_err();
+        told(synced)
+    }
+
+    fn drop_cache(&mut self) -> Result<(), FileFault> {
+        told(self.file.sync_all())?;
+        let advised = libc::posix_fadvise(self.file.as_raw_fd(), 0, 0, libc::POSIX_FADV_DONTNEED);
+        if advised != 0 {
+            return Err(FileFault::Failed);
+        }
+        Ok(())
     }
 }

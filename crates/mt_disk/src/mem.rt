@@ -209,7 +209,7 @@ fn advance(
 }
 
 // Notes a range as written.
-fn note(
+pub(crate) fn note(
     alloc: Global,
     durable: &mut Vec<u8>,
     dirty: &mut Vec<(usize, usize)>,
@@ -229,7 +229,12 @@ fn note(
 }
 
 // Writes over what is there, and past the end, where that begins within the image.
-fn overwrite(alloc: Global, image: &mut Vec<u8>, at: usize, bytes: &[u8]) -> Result<(), AllocError>
+pub(crate) fn overwrite(
+    alloc: Global,
+    image: &mut Vec<u8>,
+    at: usize,
+    bytes: &[u8],
+) -> Result<(), AllocError>
     ensures ok { OnOk result ((at ≤ length image.old.items)
         × (image.new.items ≡ overwritten at bytes.now image.old.items)) }
     ensures err { OnErr result (image.new.items ≡ image.old.items) }
@@ -318,7 +323,7 @@ impl Disk for MemDisk {
 }
 
 // Fills `out` from the image, where it has that many bytes from there on.
-fn copy_out(image: &[u8], at: usize, out: &mut [u8]) -> Result<(), AllocError>
+pub(crate) fn copy_out(image: &[u8], at: usize, out: &mut [u8]) -> Result<(), AllocError>
     ensures told { OnOk result (Reads at image.now out.old out.new) }
     ensures past_the_end { OnErr result (length image.now < at + length out.old) }
 {
@@ -330,7 +335,7 @@ fn copy_out(image: &[u8], at: usize, out: &mut [u8]) -> Result<(), AllocError>
 }
 
 // Makes all that a read gives durable.
-fn make_durable(
+pub(crate) fn make_durable(
     alloc: Global,
     image: &[u8],
     durable: &mut Vec<u8>,

@@ -2,11 +2,12 @@
 
 use crate::logs::{Told, append_up_to, disk_with, opened_on};
 use mt_disk::disk::count_failure;
-use mt_disk::{Disk, FileDisk, MemDisk};
+use mt_disk::{Disk, FileDisk, MemDisk, OsFile};
 use mt_log::LogFile;
 use std::alloc::Global;
 use std::fs;
 use std::fs::File;
+use std::io::{self, ErrorKind};
 use std::test::Fail;
 
 // The images that are asked for, each torn, lost, kept, longer or shorter in its way.
@@ -118,6 +119,14 @@ fn reads_it<D: Disk>(disk: &mut D) -> bool {
         && disk.read(1, &mut out).is_err()
 }
 
+// A disk on a file of the system.
+fn found(alloc: Global, file: File) -> io::Result<FileDisk> {
+    match FileDisk::found(alloc, OsFile::new(file)) {
+        Ok(disk) => Ok(disk),
+        Err(_) => Err(ErrorKind::Other.into()),
+    }
+}
+
 // The mark of a log that is made on a disk, with a thousand batches.
 fn mark_of_many(alloc: Global, disk: FileDisk) -> u64 {
     match LogFile::create(disk, 2, 4) {
@@ -135,18 +144,18 @@ fn a_file_keeps_what_was_written(rt: HostRuntime) -> Result<(), Fail> {
     fs::create_dir(&rt, folder)?;
     let mut options = File::options();
     options.read(true).write(true).create(true);
-    let mut disk = FileDisk::new(options.open(&rt, path)?);
+    let mut disk = found(alloc, options.open(&rt, path)?)?;
     assert!(rt; keeps_what_is_written(&mut disk));
     drop(disk);
     // A file that was opened for reading alone.
-    let mut disk = FileDisk::new(File::open(&rt, path)?);
+    let mut disk = found(alloc, File::open(&rt, path)?)?;
     assert!(rt; reads_it(&mut disk));
     assert!(rt; disk.write_at(0, b"Z").is_err() && disk.cut(1).is_err());
     drop(disk);
     // A log in its place.
-    let mark = mark_of_many(alloc, FileDisk::new(options.open(&rt, path)?));
+    let mark = mark_of_many(alloc, found(alloc, options.open(&rt, path)?)?);
     assert!(rt; mark == 1_000);
-    let (_disk, told) = opened_on(alloc, FileDisk::new(options.open(&rt, path)?));
+    let (_disk, told) = opened_on(alloc, found(alloc, options.open(&rt, path)?)?);
     assert!(rt; told == Told::Front(1_000, 1_000));
     fs::remove_dir_all(&rt, folder)?;
     Ok(())

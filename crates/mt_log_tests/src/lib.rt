@@ -9,6 +9,8 @@ mod crashes;
 #[cfg(test)]
 mod disks;
 #[cfg(test)]
+mod failing;
+#[cfg(test)]
 mod logs;
 #[cfg(test)]
 mod vectors;

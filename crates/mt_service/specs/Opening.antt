@@ -2,7 +2,8 @@
 use Rattle.std.specs.Prelude.{◌≡◌, ◌⊎◌, ℕ, Bool, true, false, List, [], Option, Some, None, length}
 use Rattle.mt_rows.specs.Accounts.{Accounts}
 use Rattle.mt_disk.specs.Disk.{DiskState, found_with}
-use Rattle.mt_disk.specs.declared.file.FileDisk.{FileDisk}
+use Rattle.mt_disk.specs.declared.cached.CachedDisk.{CachedDisk}
+use Rattle.mt_disk.specs.declared.file.OsFile.{OsFile}
 use Rattle.mt_state.specs.Views.{StateView}
 use Rattle.mt_state.specs.Begins.{new_state}
 use Rattle.mt_options.specs.declared.options.Options.{Options}
@@ -18,6 +19,10 @@ use Rattle.mt_service.specs.declared.faults.ServerFault.{ServerFault}
 use Rattle.mt_service.specs.declared.faults.ServerFault.TheVariants.{Refused, Memory, Store as StoreFaulty}
 use Rattle.mt_service.specs.Accounts.{AreServable, AreAccountsOf}
 
+-- a disk on a file of the system
+abbrev pub FileDisk : Type 0
+FileDisk = CachedDisk OsFile
+
 -- what is claimed of a real file: how often its calls failed, and nothing of what it holds
 abbrev pub is_honest : FileDisk → Bool
 is_honest file = false
@@ -26,7 +31,7 @@ abbrev pub holds : FileDisk → DiskState
 holds file = found_with []
 
 abbrev pub failures : FileDisk → ℕ
-failures file = file.failures
+failures file = file.1
 
 -- a store that was made anew on so many files, or recovered from them: its state and its logs
 abbrev pub IsMadeOn : ℕ → Accounts → StateView → List (StoreLog FileDisk) → Type 0

@@ -35,5 +35,6 @@ abbrev pub IsOfFiles : ℕ → StoreFault → Type 0
 IsOfFiles logs (NoLog worker) = worker < logs
 IsOfFiles logs (System (Some worker) error) = worker < logs
 IsOfFiles logs (System None error) = Unit {0}
+IsOfFiles logs (Refused (Some worker) refusals.Device) = worker < logs
 IsOfFiles logs Memory = Unit {0}
 IsOfFiles logs fault = ⊥

@@ -5,7 +5,8 @@ ghost use Rattle.mt_store_files.specs.Faults.{IsOfFolder, IsOfFiles};
 
 use crate::fault::StoreFault;
 use crate::names::{log_path, parent_path};
-use mt_disk::FileDisk;
+use mt_disk::{FileDisk, OsFile};
+use mt_rows::Refusal;
 use std::alloc::Global;
 use std::fs::{self, File, OpenOptions, TryLockError};
 use std::io::{self, ErrorKind};
@@ -43,7 +44,8 @@ impl StoreFolder {
         }
     }
 
-    /// The same, of a folder that is made first where there is none.
+    /// The same, of a folder that is made first if there is none. The folder that holds it is synced, also
+    /// if it was there: whoever made it may not have done so.
     pub fn make<R: Files<File = File>>(
         rt: &R,
         alloc: Global,
@@ -53,14 +55,13 @@ impl StoreFolder {
     {
         let parent = parent_path(alloc, path)?;
         match fs::create_dir(rt, path) {
-            Ok(()) => match synced(rt, parent.as_str()) {
+            Err(error) if error.kind() != ErrorKind::AlreadyExists => {
+                Err(StoreFault::System(None, error))
+            }
+            _ => match synced(rt, parent.as_str()) {
                 Ok(()) => StoreFolder::open(rt, alloc, path),
                 Err(error) => Err(StoreFault::System(None, error)),
             },
-            Err(error) if error.kind() == ErrorKind::AlreadyExists => {
-                StoreFolder::open(rt, alloc, path)
-            }
-            Err(error) => Err(StoreFault::System(None, error)),
         }
     }
 
@@ -119,6 +120,17 @@ fn for_logs() -> OpenOptions {
     options
 }
 
+// The file of a worker's log as a disk: as the device has it, and not as another process left it in the
+// memory of the system.
+fn found(alloc: Global, worker: u8, file: File) -> Result<FileDisk, StoreFault>
+    ensures fault { (logs : ℕ) → worker < logs → IfErr result (IsOfFiles logs) }
+{
+    match FileDisk::found(alloc, OsFile::new(file)) {
+        Ok(disk) => Ok(disk),
+        Err(_) => Err(StoreFault::Refused(Some(usize::from(worker)), Refusal::Device)),
+    }
+}
+
 // The file of a worker's log, which has to be there.
 fn open_log<R: Files<File = File>>(
     rt: &R,
@@ -130,7 +142,7 @@ fn open_log<R: Files<File = File>>(
 {
     let path = log_path(alloc, folder, worker)?;
     match for_logs().open(rt, path.as_str()) {
-        Ok(file) => Ok(FileDisk::new(file)),
+        Ok(file) => found(alloc, worker, file),
         Err(error) if error.kind() == ErrorKind::NotFound => Err(StoreFault::NoLog(worker)),
         Err(error) => Err(StoreFault::System(Some(worker), error)),
     }
@@ -151,7 +163,7 @@ fn create_log<R: Files<File = File>>(
         .truncate(true)
         .open(rt, path.as_str())
     {
-        Ok(file) => Ok(FileDisk::new(file)),
+        Ok(file) => found(alloc, worker, file),
         Err(error) => Err(StoreFault::System(Some(worker), error)),
     }
 }

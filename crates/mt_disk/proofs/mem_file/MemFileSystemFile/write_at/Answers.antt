@@ -1,0 +1,36 @@
+-- A write of a `MemFile`: the one that is owed next, or a first one.
+use Rattle.std.proofs.Common.{rules, ◌≡◌, ℕ, ◌+◌, ◌<◌, ◌≤◌, List, length, ◌∙◌, ap, subst}
+use Rattle.std.specs.List.{slice_get}
+use Rattle.mt_disk.specs.Disk.{Range, overwritten}
+use Rattle.mt_disk.specs.Files.{Wrote, Edits}
+use Rattle.mt_disk.specs.MemFiles.{mem_file_state, IsCommit}
+use Rattle.mt_disk.proofs.Images.{still_left, kept_by_write}
+use Rattle.mt_disk.proofs.EditLaws.{some_owed, none_owed, edits_again, edits_first}
+use Rattle.mt_disk.proofs.mem_file.MemFileSystemFile.write_at.Goals as goal
+
+pub returns-then-self-len-clause-edits : goal.returns-then-self-len-clause-edits
+returns-then-self-len-clause-edits c honest =
+    let m = c.next_fails-fails.new.self in
+    let owes : m.made < length m.unsynced.items = search rules in
+    let e = Wrote c.args.at c.args.bytes.now in
+    subst (λ s. Edits e c.again.result s (mem_file_state c.again.new.self)) c.next_fails-fails.ensures.state
+    (edits_again e c.again.result (mem_file_state m) (mem_file_state c.again.new.self) (some_owed m.unsynced.items m.made owes) (λ rest is. c.again.ensures e rest is))
+
+pub returns-clause-edits : goal.returns-clause-edits
+returns-clause-edits c honest =
+    let m = c.next_fails-fails.new.self in
+    let old = mem_file_state m in
+    let new = mem_file_state c.commit.new.self in
+    let le : length m.unsynced.items ≤ m.made = search rules in
+    let e = Wrote c.args.at c.args.bytes.now in
+    let next = c.in_ok-image.image.items in
+    let range : Range = (c.args.at, c.args.at + length c.args.bytes.now) in
+    let bytes : c.in_ok-to_vec.field-0.items ≡ c.args.bytes.now = search rules in
+    let same : c.in_ok-image.range ≡ range = c.in_ok-image.ensures.range in
+    let made : IsCommit next range e c.commit.result old new = subst (λ r. IsCommit next r e c.commit.result old new) same (subst (λ (l : List ℕ). IsCommit next c.in_ok-image.range (Wrote c.args.at l) c.commit.result old new) bytes c.commit.ensures) in
+    let within : c.args.at ≤ length old.disk.image = search rules in
+    let after : next ≡ overwritten c.args.at c.args.bytes.now old.disk.image = search rules in
+    subst (λ s. Edits e c.commit.result s new) c.next_fails-fails.ensures.state
+    (edits_first e next c.commit.result old new (none_owed m.unsynced.items m.made le) made
+    (λ may. still_left old.disk.now range old.disk.image next (λ i here out. ap (λ (l : List ℕ). slice_get l i) after ∙ kept_by_write c.args.at c.args.bytes.now old.disk.image i within out) may)
+    (λ begins. after))
