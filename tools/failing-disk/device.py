@@ -2,9 +2,8 @@
 
 Linux alone, as root: an ext4 without a journal on a loop device over a file. While the device fails it ends before the
 first byte of the store's files, so their writes fail with EIO. The file system's own tables are at the front and can
-always be written: some kernels stop the writing process, and keep its locks, if a block of them is lost. A block of a
-file's own extents would not be at the front, so files are laid out in clusters of 16 MB, and the device does not fail for
-a file that needs more than two extents.
+always be written, since a kernel may not bear that one of their blocks is lost. A block of a file's own extents would not be
+at the front. So files are laid out in clusters of 16 MB, and the device does not fail for a file of more than two extents.
 """
 
 from __future__ import annotations
