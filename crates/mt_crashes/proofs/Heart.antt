@@ -9,7 +9,7 @@ use Rattle.mt_log.specs.Contents.{Contents, IsContents, JoinsAndRises}
 use Rattle.mt_crashes.specs.Fronts.{cutoff_of, is_void, all_voids, records_of, all_records, is_replayed, In, Rise, IsReplay, after_changes}
 use Rattle.mt_crashes.specs.Histories.{Placed, upto, changes_of, pairs_upto}
 use Rattle.mt_rows.specs.Tenants.{Contents as Pairs}
-use Rattle.mt_crashes.specs.Recoveries.{IsUsed, IsBaseOf, IsRecovered, AreSet, StandsTwice}
+use Rattle.mt_crashes.specs.Recoveries.{IsUsed, IsBaseOf, IsRecovered, AreSet, StandsTwice, NoneOlder}
 use Rattle.mt_rows.specs.TenantPairs.{HasTenants, KeepsQuotas}
 use Rattle.mt_crashes.specs.Bases.{over, CheckpointView, Slots, IsBase}
 use Rattle.mt_crashes.proofs.Bases.{over_base, empty_base}
@@ -211,6 +211,17 @@ pub never_twice : (count n stamp i j : ℕ) (s : Store) (fronts : List Contents)
 never_twice count n stamp i j s fronts some few h left t =
     let is = leads n (new_store count) s (new_is count some few) h in
     t.other (one_log s fronts i j t.one.0 t.two.0 t.one.1 t.two.1 is left t.one.2 t.two.2 t.one.3 t.two.3 (t.one.4 ∙ sym t.two.4))
+
+-- no log is older than the others
+pub none_older : (count n : ℕ) (s : Store) (fronts : List Contents) → 0 < count → count ≤ 64 → Leads n (new_store count) s
+    → MayLeaveFronts s.logs fronts → NoneOlder fronts
+none_older count n s fronts some few h left m f g in_f served in_g =
+    let is = leads n (new_store count) s (new_is count some few) h in
+    let i = in_place f fronts in_f in
+    let j = in_place g fronts in_g in
+    let one = zip_right MayLeaveFront s.logs fronts i.0 f left i.1 in
+    let other = zip_right MayLeaveFront s.logs fronts j.0 g left j.1 in
+    is.level i.0 one.0 one.1 f one.2 m served j.0 other.0 other.1 g other.2
 
 -- each log that a crash leaves is its worker's, in the format, and its batches join and rise
 pub owned : (count n k : ℕ) (s : Store) (fronts : List Contents) (f : Contents) → 0 < count → count ≤ 64 → Leads n (new_store count) s

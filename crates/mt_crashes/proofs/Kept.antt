@@ -11,14 +11,14 @@ use Rattle.mt_log.specs.declared.batch.LogBatch.{LogBatch}
 use Rattle.mt_log.specs.declared.batch.LogBatch.TheVariants.{Records, Resume}
 use Rattle.mt_log.specs.Contents.{Contents, mark_of, with_batch, no_batches}
 use Rattle.mt_log.proofs.FrontLaws.{contents_more, in_format, batch_in_order, in_steps, join_more}
-use Rattle.mt_crashes.specs.Fronts.{Numbers, greatest, cutoff_of, last_end, is_void, voids_of, records_of, In}
+use Rattle.mt_crashes.specs.Fronts.{Numbers, greatest, cutoff_of, last_end, is_void, voids_of, records_of, In, ServedFrom}
 use Rattle.mt_crashes.specs.Histories.{Placed, upto}
 use Rattle.mt_crashes.specs.Bases.{CheckpointView, Slots, IsCheckpointOf}
 use Rattle.mt_crashes.specs.Recoveries.{resume_of, checkpoint_ends}
 use Rattle.mt_crashes.specs.Stores.{Store, LogNow, SlotNow, at_rest, only_this, MayLeaveFront, new_logs, new_store, is_between, StepsOn, Places, Appends, Rests, IsFresh, WritesSlot, Recovers, Resumes, Serves, Happens, Leads, Reaches, ReachesAt, AllReach}
-use Rattle.mt_crashes.specs.Invariants.{by_worker, IsFrontOf, Guards, HasLog, HasTopLog, HasTopSlot, IsStore}
+use Rattle.mt_crashes.specs.Invariants.{by_worker, HoldResume, IsFrontOf, Guards, HasLog, HasTopLog, HasTopSlot, IsStore}
 use Rattle.mt_crashes.proofs.Members.{in_filter, filter_in, filter_filter, filter_same, in_left, in_either, in_map, map_in, in_place, place_in, no_some, all_at}
-use Rattle.mt_crashes.proofs.FrontLaws.{from_cutoff, upto_last, cutoff_upto_last, ends_last, ends_cutoff, below_greatest, greatest_in, mark_more, in_more, more_left, more_right, void_left, void_right, void_either, void_from, void_later, void_cases}
+use Rattle.mt_crashes.proofs.FrontLaws.{from_cutoff, upto_last, cutoff_upto_last, ends_last, ends_cutoff, below_greatest, greatest_in, mark_more, in_more, more_left, more_right, resume_more, served_more, void_left, void_right, void_either, void_from, void_later, void_cases}
 use Rattle.mt_crashes.proofs.Bases.{base_upto, base_push}
 use Rattle.mt_crashes.proofs.Invariant.{after_set, before_set, one_there, within_place, map_place, place_map, rise_filter, rise_push, stamp_upto_mark, left_at_rest, reaches_more, new_at, new_long}
 
@@ -61,6 +61,7 @@ new_is count some few = record {
         only = λ r at. absurd at;
         voids = λ n h. absurd (true≢false (sym h));
         made = omega arith;
+        resumed = λ n at. absurd at;
       });
   guards = λ n h. absurd (true≢false (sym h));
   some = omega (arith, some, new_long count 0 count);
@@ -68,6 +69,8 @@ new_is count some few = record {
   slots = λ k slot there c at. absurd (none_new k slot there c at);
   low = λ off. absurd (true≢false off);
   whole = λ on worker log there left may. omega arith;
+  level = λ worker log there left may n served.
+      absurd (subst (ServedFrom n) (new_front count worker log some few there left may) served);
 }
   where
     first : (worker : ℕ) × (log : LogNow) × HasLog (new_store count) worker log × Reaches 0 log
@@ -89,13 +92,14 @@ steps_on old new is h = subst IsStore (sym h.stands) (record {
   gone = is.gone;
   beyond = omega (arith, is.beyond);
   logs = λ worker log there left may. let f = is.logs worker log there left may in
-      record { contents = f.contents; joins = f.joins; owner = f.owner; has = f.has; only = f.only; voids = f.voids; made = omega (arith, f.made) };
+      record { contents = f.contents; joins = f.joins; owner = f.owner; has = f.has; only = f.only; voids = f.voids; made = omega (arith, f.made); resumed = f.resumed };
   guards = is.guards;
   some = is.some;
   top = is.top;
   slots = λ k slot there c at. later_slot old.steps (old.steps + 1) old.voids old.history c (omega arith) (is.slots k slot there c at);
   low = is.low;
   whole = is.whole;
+  level = is.level;
 })
 
 live_beyond : (s : Store) (n : ℕ) → IsStore s → s.reached < n → is_void s.voids n ≡ false
@@ -126,6 +130,7 @@ places old new is h = subst IsStore (sym h.stands) (record {
     only = λ r at. in_left (by_worker worker r) old.placed (h.p ∷ []) (f.only r at);
     voids = f.voids;
     made = omega (arith, f.made);
+    resumed = f.resumed;
   };
   guards = is.guards;
   some = is.some;
@@ -139,6 +144,7 @@ places old new is h = subst IsStore (sym h.stands) (record {
       };
   low = is.low;
   whole = is.whole;
+  level = is.level;
 })
   where
     live : Placed → Bool
@@ -159,6 +165,7 @@ record Replaces (s : Store) (worker : ℕ) (was now : LogNow) : Type 0 where
   pub fronts : (left : Contents) → MayLeaveFront now left → IsFrontOf s worker left
   pub guards : (n : ℕ) → is_void s.voids n ≡ true → Guards n was → Guards n now
   pub reaches : (n : ℕ) → Reaches n was → Reaches n now
+  pub served : (left : Contents) → MayLeaveFront now left → (n : ℕ) → ServedFrom n left → AllReach n s
 
 with_log : Store → ℕ → LogNow → Store
 with_log s worker now = record s { logs = slice_set s.logs worker now }
@@ -174,6 +181,7 @@ longer s worker w now left f =
       only = f.only;
       voids = f.voids;
       made = f.made;
+      resumed = f.resumed;
     }
 
 one_reach : (s : Store) (worker : ℕ) (was now : LogNow) → Replaces s worker was now → (n w : ℕ) → ReachesAt n s w
@@ -216,6 +224,10 @@ replaces s worker was now is h = record {
   slots = is.slots;
   low = λ off kept before e. all_reach s worker was now h kept (is.low off kept before e);
   whole = λ on. all_reach s worker was now h s.reached (is.whole on);
+  level = λ w log there left may n served. all_reach s worker was now h n (⊎_elim
+      (λ l. h.served left (subst (λ (x : LogNow). MayLeaveFront x left) l.1 may) n served)
+      (λ r. is.level w log r left may n served)
+      (after_set s.logs worker w now log there));
 }
   where
     top_log : HasTopLog s → HasTopLog (record s { logs = slice_set s.logs worker now })
@@ -247,6 +259,7 @@ appended old new h is = record {
   fronts = fronts;
   guards = guards;
   reaches = λ n before. reaches_more n h.had (Records h.batch) before (omega (arith, h.turn, h.fits.order));
+  served = served;
 }
   where
     b : LogBatch
@@ -254,6 +267,9 @@ appended old new h is = record {
 
     was : IsFrontOf old h.worker h.had
     was = is.logs h.worker (at_rest h.had) h.rests h.had (inl refl)
+
+    was_level : (n : ℕ) → ServedFrom n h.had → AllReach n old
+    was_level = is.level h.worker (at_rest h.had) h.rests h.had (inl refl)
 
     after : IsFrontOf old h.worker (with_batch (Records h.batch) h.had)
     after = record {
@@ -264,8 +280,13 @@ appended old new h is = record {
       only = λ r at. ⊎_elim (λ l. was.only r l) (λ m. only r m) (in_more r (Records h.batch) h.had at);
       voids = λ n void. ⊎_elim (λ l. was.voids n l) (λ m. absurd (true≢false (sym m))) (void_either n (Records h.batch) h.had void);
       made = omega (arith, mark_more (Records h.batch) h.had, h.made);
+      resumed = λ n at. ⊎_elim (λ l. was.resumed n l) (λ m. absurd (neither n m)) (resume_more n (Records h.batch) h.had.batches at);
     }
       where
+        neither : (n : ℕ) → HoldResume n (Records h.batch ∷ []) → ⊥
+        neither n (inl none) = none
+        neither n (inr none) = none
+
         has : (r : Record) → In (by_worker h.worker r) old.placed → r.stamp ≤ mark_of (with_batch (Records h.batch) h.had)
             → is_void old.voids r.stamp ≡ false → In r (records_of (with_batch (Records h.batch) h.had))
         has r at upto live = ⊎_elim
@@ -291,6 +312,15 @@ appended old new h is = record {
             let mine = eqb-true p.0.worker h.worker (and_parts _ _ (and_parts _ _ kept.1).0).0 in
             let there = (in_filter (λ x. not (is_void old.voids x.change.stamp)) p.0 old.placed (subst (In p.0) is.left kept.0)).0 in
             subst (λ (x : Placed). In x old.placed) (same_placed p.0 h.worker r mine p.2) there
+
+    -- records are appended only once every log goes up to the last recovery, past which no resume batch goes
+    served : (left : Contents) → MayLeaveFront (record { had = h.had; doubt = Some (Records h.batch) }) left → (n : ℕ) → ServedFrom n left
+        → AllReach n old
+    served left (inl e) n has = was_level n (subst (ServedFrom n) e has)
+    served left (inr m) n has = ⊎_elim (λ l. was_level n l)
+        (λ two worker log there left may. omega (arith, was.resumed n two.0, is.whole h.serves worker log there left may))
+        (served_more n (Records h.batch) h.had.batches
+        (subst (ServedFrom n) (m.2 ∙ ap (λ (c : LogBatch). with_batch c h.had) (sym (same_Some (Records h.batch) m.0 m.1))) has))
 
     fronts : (left : Contents) → MayLeaveFront (record { had = h.had; doubt = Some (Records h.batch) }) left → IsFrontOf old h.worker left
     fronts left (inl e) = subst (IsFrontOf old h.worker) (sym e) was
@@ -319,6 +349,7 @@ resumed old new h is = record {
   fronts = fronts;
   guards = guards;
   reaches = λ n before. reaches_more n h.had batch before h.rises.0;
+  served = served;
 }
   where
     batch : LogBatch
@@ -326,6 +357,9 @@ resumed old new h is = record {
 
     was : IsFrontOf old h.worker h.had
     was = is.logs h.worker (at_rest h.had) h.rests h.had (inl refl)
+
+    was_level : (n : ℕ) → ServedFrom n h.had → AllReach n old
+    was_level = is.level h.worker (at_rest h.had) h.rests h.had (inl refl)
 
     kept_upto : h.kept ≤ mark_of h.had
     kept_upto = is.low h.recovers h.kept h.before h.last h.worker (at_rest h.had) h.rests h.had (inl refl)
@@ -341,11 +375,17 @@ resumed old new h is = record {
       voids = λ n void. ⊎_elim (λ l. was.voids n l) (λ m. told n (void_cases h.kept old.reached n [] m))
           (void_either n (Resume (mark_of h.had) old.reached h.kept) h.had void);
       made = omega (arith, mark_more (Resume (mark_of h.had) old.reached h.kept) h.had, is.beyond);
+      resumed = λ n at. ⊎_elim (λ l. was.resumed n l) (λ m. upto_last n m)
+          (resume_more n (Resume (mark_of h.had) old.reached h.kept) h.had.batches at);
     }
       where
         told : (n : ℕ) → ((h.kept < n) × (n ≤ old.reached)) ⊎ (is_void [] n ≡ true) → is_void old.voids n ≡ true
         told n (inl two) = ap (λ vs. is_void vs n) h.last ∙ void_from h.kept old.reached n h.before two.0 two.1
         told n (inr none) = absurd (true≢false (sym none))
+
+        upto_last : (n : ℕ) → HoldResume n (Resume (mark_of h.had) old.reached h.kept ∷ []) → n ≤ old.reached
+        upto_last n (inl to) = omega (arith, to)
+        upto_last n (inr none) = absurd none
 
         -- what is not void was kept
         within : (r : Record) → r.stamp ≤ mark_of (with_batch (Resume (mark_of h.had) old.reached h.kept) h.had) → is_void old.voids r.stamp ≡ false
@@ -357,6 +397,15 @@ resumed old new h is = record {
             (omega (arith, upto, mark_more (Resume (mark_of h.had) old.reached h.kept) h.had))) ∙ live)))
             (λ below. omega (arith, below, kept_upto))
             (cases_lt h.kept r.stamp)
+
+    -- a resume batch alone tells nothing more
+    served : (left : Contents) → MayLeaveFront (record { had = h.had; doubt = Some (Resume (mark_of h.had) old.reached h.kept) }) left → (n : ℕ)
+        → ServedFrom n left → AllReach n old
+    served left (inl e) n has = was_level n (subst (ServedFrom n) e has)
+    served left (inr m) n has = ⊎_elim (λ l. was_level n l) (λ two. absurd two.1)
+        (served_more n (Resume (mark_of h.had) old.reached h.kept) h.had.batches
+        (subst (ServedFrom n)
+        (m.2 ∙ ap (λ (c : LogBatch). with_batch c h.had) (sym (same_Some (Resume (mark_of h.had) old.reached h.kept) m.0 m.1))) has))
 
     fronts : (left : Contents) → MayLeaveFront (record { had = h.had; doubt = Some (Resume (mark_of h.had) old.reached h.kept) }) left
         → IsFrontOf old h.worker left
@@ -389,6 +438,7 @@ rested old new h is = record {
   fronts = λ left may. is.logs h.worker h.log h.there left (fewer left may);
   guards = λ n void before left may. before left (fewer left may);
   reaches = λ n before left may. before left (fewer left may);
+  served = λ left may. is.level h.worker h.log h.there left (fewer left may);
 }
   where
     fewer : (left : Contents) → MayLeaveFront (at_rest h.front) left → MayLeaveFront h.log left
@@ -488,6 +538,7 @@ recovers old new is h = subst IsStore (sym h.stands) (record {
       let same = left_at_rest f.0 left (subst (λ (l : LogNow). MayLeaveFront l left) f.2 may) in
       omega (arith, ap (λ (vs : List Numbers). low_of vs) e, from_cutoff f.0 h.fronts (place_in f.0 worker h.fronts f.1), ap mark_of same);
   whole = λ on. absurd (true≢false (sym on));
+  level = is.level;
 })
   where
     cutoff : ℕ
@@ -544,6 +595,7 @@ recovers old new is h = subst IsStore (sym h.stands) (record {
               (not_from_false _ (le-ltb (resume_of h.fronts h.read) r.stamp (omega (arith, within, stamp_upto_mark 0 f.batches r was.joins at))));
           voids = λ n void. void_later (cutoff_of h.fronts, resume_of h.fronts h.read) n old.voids (was.voids n void);
           made = within;
+          resumed = λ n at. omega (arith, was.resumed n at, goes_on);
         }
 
     least_guards : (n : ℕ) → cutoff_of h.fronts < n → (worker : ℕ) × (log : LogNow) × HasLog after worker log × Guards n log
@@ -618,7 +670,7 @@ writes_slot old new is h = subst IsStore (sym h.stands) (record {
   gone = is.gone;
   beyond = is.beyond;
   logs = λ worker log there left may. let f = is.logs worker log there left may in
-      record { contents = f.contents; joins = f.joins; owner = f.owner; has = f.has; only = f.only; voids = f.voids; made = f.made };
+      record { contents = f.contents; joins = f.joins; owner = f.owner; has = f.has; only = f.only; voids = f.voids; made = f.made; resumed = f.resumed };
   guards = is.guards;
   some = is.some;
   top = ⊎_elim (λ g. inl g) (λ g. top_slot g) is.top;
@@ -628,6 +680,7 @@ writes_slot old new is h = subst IsStore (sym h.stands) (record {
       (after_set old.slots h.slot k h.now slot there);
   low = is.low;
   whole = is.whole;
+  level = is.level;
 })
   where
     one : (x : Option CheckpointView) → In x h.was ⊎ ((old.serving ≡ true) × IsFresh old x) → (c : CheckpointView) → x ≡ Some c
@@ -664,13 +717,14 @@ serves old new is h = subst IsStore (sym h.stands) (record {
   gone = is.gone;
   beyond = is.beyond;
   logs = λ worker log there left may. let f = is.logs worker log there left may in
-      record { contents = f.contents; joins = f.joins; owner = f.owner; has = f.has; only = f.only; voids = f.voids; made = f.made };
+      record { contents = f.contents; joins = f.joins; owner = f.owner; has = f.has; only = f.only; voids = f.voids; made = f.made; resumed = f.resumed };
   guards = is.guards;
   some = is.some;
   top = inl first;
   slots = is.slots;
   low = λ off. absurd (true≢false off);
   whole = λ on. all;
+  level = is.level;
 })
   where
     all : (worker : ℕ) (log : LogNow) → HasLog old worker log → Reaches old.reached log

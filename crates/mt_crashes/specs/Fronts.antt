@@ -91,3 +91,24 @@ with_change m r = with_row m (key_of r) r.row
 abbrev pub after_changes : Pairs → List Record → Pairs
 after_changes m [] = m
 after_changes m (r ∷ rs) = after_changes (with_change m r) rs
+
+-- a resume batch up to a number
+abbrev pub IsResumeTo : ℕ → LogBatch → Type 0
+IsResumeTo n (Records b) = ⊥
+IsResumeTo n (Resume from to kept) = to ≡ n
+
+-- among some batches is one of records, be it of no records
+abbrev pub HoldRecords : List LogBatch → Type 0
+HoldRecords [] = ⊥
+HoldRecords (Records b ∷ bs) = Unit {0}
+HoldRecords (Resume from to kept ∷ bs) = HoldRecords bs
+
+-- a batch of records comes after a resume batch up to a number, at once or later
+abbrev pub RecordsFollow : ℕ → List LogBatch → Type 0
+RecordsFollow n [] = ⊥
+RecordsFollow n (b ∷ bs) = (IsResumeTo n b × HoldRecords bs) ⊎ RecordsFollow n bs
+
+-- A log tells that its store has served from a number on: records follow a resume batch up to there. A store appends records only while it serves, and
+-- after a recovery it serves only once every log has its resume batch.
+abbrev pub ServedFrom : ℕ → Contents → Type 0
+ServedFrom n front = RecordsFollow n front.batches

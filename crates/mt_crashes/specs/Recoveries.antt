@@ -1,12 +1,11 @@
 -- What a recovery answers for the fronts of all logs and what was read of the checkpoints' slots, and when it refuses them.
 use Rattle.std.specs.Prelude.{◌≡◌, ◌≢◌, ◌⊎◌, ℕ, ◌<◌, ◌≤◌, max, false, List, [], ◌∷◌, length, Option, Some, None, slice_get}
 use Rattle.std.specs.FinMap as pairs
-use Rattle.mt_rows.specs.Rows.{Bytes}
 use Rattle.mt_rows.specs.Tenants.{Contents as Pairs}
 use Rattle.mt_rows.specs.declared.record.Record.{Record}
-use Rattle.mt_log.specs.Contents.{Contents}
+use Rattle.mt_log.specs.Contents.{Contents, mark_of}
 use Rattle.mt_crashes.specs.Bases.{CheckpointView, Slots}
-use Rattle.mt_crashes.specs.Fronts.{In, greatest, cutoff_of, last_end, is_void, all_voids, records_of, IsReplay, after_changes}
+use Rattle.mt_crashes.specs.Fronts.{In, greatest, cutoff_of, last_end, is_void, all_voids, records_of, IsReplay, after_changes, ServedFrom}
 
 -- it ended by the cutoff, and in no void range
 pub record MayUse (fronts : List Contents) (c : CheckpointView) : Type 0 where
@@ -60,3 +59,7 @@ pub record StandsTwice (fronts : List Contents) (stamp : ℕ) (i j : ℕ) : Type
   pub other : i ≢ j
   pub one : (f : Contents) × (r : Record) × (slice_get fronts i ≡ Some f) × In r (records_of f) × (r.stamp ≡ stamp)
   pub two : (g : Contents) × (q : Record) × (slice_get fronts j ≡ Some g) × In q (records_of g) × (q.stamp ≡ stamp)
+
+-- no log is older than the others: each goes up to every number from which any of them tells that the store has served
+abbrev pub NoneOlder : List Contents → Type 0
+NoneOlder fronts = (n : ℕ) (f g : Contents) → In f fronts → ServedFrom n f → In g fronts → n ≤ mark_of g

@@ -13,7 +13,7 @@ ghost use Rattle.mt_crashes.specs.Fronts.{In, cutoff_of, is_void, all_voids, all
 ghost use Rattle.mt_crashes.specs.Histories.{pairs_upto};
 ghost use Rattle.mt_crashes.specs.Bases.{CheckpointView, Slots, IsBase};
 ghost use Rattle.mt_crashes.specs.Walks.{AreWalked};
-ghost use Rattle.mt_crashes.specs.Recoveries.{MayUse, HasSlot, IsRecovered, AreSet, StandsTwice};
+ghost use Rattle.mt_crashes.specs.Recoveries.{MayUse, HasSlot, IsRecovered, AreSet, StandsTwice, NoneOlder};
 ghost use Rattle.mt_rows.specs.TenantPairs.{HasTenants, KeepsQuotas};
 ghost use Rattle.mt_crashes.specs.Examples.{change, fronts_of_two};
 ghost use Rattle.mt_crashes.specs.Stores.{Store, new_store, Leads, MayLeaveFronts, MayLeaveSlots, ReachesAt, AllReach};
@@ -36,7 +36,8 @@ pub fn a_settled_number_is_kept()
 {}
 
 /// Whatever a crash leaves: the logs are a set, each of them its worker's, in the format, with batches that
-/// join and rise; and no stamp stands in two of them. So a recovery refuses none of them for any of these.
+/// join and rise; no stamp stands in two of them; and none is older than what the others tell. So a recovery
+/// refuses none of them for any of these.
 pub fn a_crash_leaves_a_set()
     ensures set { (count n : ℕ) (s : Store) (fronts : List Contents) →
         0 < count → count ≤ 64 → Leads n (new_store count) s → MayLeaveFronts s.logs fronts → AreSet fronts }
@@ -48,6 +49,8 @@ pub fn a_crash_leaves_a_set()
         slice_get fronts k ≡ Some f → JoinsAndRises f }
     ensures apart { (count n stamp i j : ℕ) (s : Store) (fronts : List Contents) →
         0 < count → count ≤ 64 → Leads n (new_store count) s → MayLeaveFronts s.logs fronts → ¬ StandsTwice fronts stamp i j }
+    ensures none_older { (count n : ℕ) (s : Store) (fronts : List Contents) →
+        0 < count → count ≤ 64 → Leads n (new_store count) s → MayLeaveFronts s.logs fronts → NoneOlder fronts }
 {}
 
 /// Where every map of the history keeps the quotas, so does what is recovered: a recovery of the store's own

@@ -1,0 +1,160 @@
+-- The last number from which a store has served, and the least worker whose log ends before it: for `first_older`.
+use Rattle.std.proofs.Common.{◌≡◌, ◌⊎◌, inl, inr, ⊎_elim, ℕ, ◌<◌, ◌≤◌, min, max, Bool, true, false, cond, ltb, List, [], ◌∷◌, map, refl, sym, ◌∙◌, ap, subst, arith, Option, Some, None}
+use Rattle.std.proofs.lemmas.Bool.{ltb-true, ltb-false}
+use Rattle.std.proofs.lemmas.Option.{same_Some}
+use Rattle.mt_log.specs.declared.batch.LogBatch.{LogBatch}
+use Rattle.mt_log.specs.declared.batch.LogBatch.TheVariants.{Records, Resume}
+use Rattle.mt_log.specs.Contents.{Contents, mark_of}
+use Rattle.mt_crashes.specs.Fronts.{In, HoldRecords, RecordsFollow}
+use Rattle.mt_crashes.specs.Recoveries.{NoneOlder}
+use Rattle.mt_crashes.proofs.Members.{in_map, map_in, no_some}
+use Rattle.mt_crashes.proofs.FrontLaws.{below_greatest, greatest_in}
+use Rattle.mt_recover.specs.Older.{AnyServed, IsFirstOlder, served_in, last_served, lower, least_before}
+
+-- ---- the last number
+
+records_follow : (resumed : ℕ) (bs : List LogBatch) → HoldRecords bs → resumed ≤ served_in resumed bs
+records_follow resumed [] h = absurd h
+records_follow resumed (Records b ∷ bs) h = omega arith
+records_follow resumed (Resume from to kept ∷ bs) h = omega (arith, records_follow (max resumed to) bs h)
+
+served_upto : (n resumed : ℕ) (bs : List LogBatch) → RecordsFollow n bs → n ≤ served_in resumed bs
+served_upto n resumed [] h = absurd h
+served_upto n resumed (Records b ∷ bs) (inl two) = absurd two.0
+served_upto n resumed (Records b ∷ bs) (inr h) = omega (arith, served_upto n resumed bs h)
+served_upto n resumed (Resume from to kept ∷ bs) (inl two) = omega (arith, two.0, records_follow (max resumed to) bs two.1)
+served_upto n resumed (Resume from to kept ∷ bs) (inr h) = served_upto n (max resumed to) bs h
+
+-- it is none, or goes as far as what stood before, or was served from
+served_is : (resumed : ℕ) (bs : List LogBatch) → (served_in resumed bs ≡ 0) ⊎ (((served_in resumed bs ≡ resumed) × HoldRecords bs) ⊎ RecordsFollow (served_in resumed bs) bs)
+served_is resumed [] = inl refl
+served_is resumed (Records b ∷ bs) = by (ltb resumed (served_in resumed bs)) refl (served_is resumed bs)
+  where
+    by : (t : Bool) → ltb resumed (served_in resumed bs) ≡ t → (served_in resumed bs ≡ 0) ⊎ (((served_in resumed bs ≡ resumed) × HoldRecords bs) ⊎ RecordsFollow (served_in resumed bs) bs)
+        → (max resumed (served_in resumed bs) ≡ 0) ⊎ (((max resumed (served_in resumed bs) ≡ resumed) × Unit {0}) ⊎ RecordsFollow (max resumed (served_in resumed bs)) (Records b ∷ bs))
+    by false is rest = inr (inl (omega (arith, ltb-false resumed (served_in resumed bs) is), tt))
+    by true is (inl zero_is) = absurd (omega (arith, ltb-true resumed (served_in resumed bs) is, zero_is))
+    by true is (inr (inl same)) = absurd (omega (arith, ltb-true resumed (served_in resumed bs) is, same.0))
+    by true is (inr (inr h)) = inr (inr (inr (subst (λ (n : ℕ). RecordsFollow n bs) (omega (arith, ltb-true resumed (served_in resumed bs) is)) h)))
+served_is resumed (Resume from to kept ∷ bs) = by (ltb resumed to) refl (served_is (max resumed to) bs)
+  where
+    by : (t : Bool) → ltb resumed to ≡ t
+        → (served_in (max resumed to) bs ≡ 0) ⊎ (((served_in (max resumed to) bs ≡ max resumed to) × HoldRecords bs) ⊎ RecordsFollow (served_in (max resumed to) bs) bs)
+        → (served_in (max resumed to) bs ≡ 0) ⊎ (((served_in (max resumed to) bs ≡ resumed) × HoldRecords bs) ⊎ RecordsFollow (served_in (max resumed to) bs) (Resume from to kept ∷ bs))
+    by t is (inl none) = inl none
+    by false is (inr (inl two)) = inr (inl (omega (arith, two.0, ltb-false resumed to is), two.1))
+    by true is (inr (inl two)) = inr (inr (inl (omega (arith, two.0, ltb-true resumed to is), two.1)))
+    by t is (inr (inr h)) = inr (inr (inr h))
+
+-- no log tells of a later one
+pub last_is : (fronts : List Contents) (n : ℕ) → AnyServed fronts n → n ≤ last_served fronts
+last_is fronts n any =
+    omega (
+      arith,
+      served_upto n 0 any.0.batches any.2,
+      below_greatest (served_in 0 any.0.batches) (map (λ (f : Contents). served_in 0 f.batches) fronts) (in_map (λ (f : Contents). served_in 0 f.batches) any.0 fronts any.1),
+    )
+
+-- and one tells of it, if it isn't 0
+pub is_served : (fronts : List Contents) → 0 < last_served fronts → AnyServed fronts (last_served fronts)
+is_served [] some = absurd (omega (arith, some))
+is_served (c ∷ cs) some =
+    let at = map_in (λ (f : Contents). served_in 0 f.batches) (last_served (c ∷ cs)) (c ∷ cs) (greatest_in (served_in 0 c.batches) (map (λ (f : Contents). served_in 0 f.batches) cs)) in
+    (at.0, at.1, subst (λ (n : ℕ). RecordsFollow n at.0.batches) (sym at.2) (by at.0 (omega (arith, some, at.2)) (served_is 0 at.0.batches)))
+  where
+    by : (f : Contents) → 0 < served_in 0 f.batches
+        → (served_in 0 f.batches ≡ 0) ⊎ (((served_in 0 f.batches ≡ 0) × HoldRecords f.batches) ⊎ RecordsFollow (served_in 0 f.batches) f.batches)
+        → RecordsFollow (served_in 0 f.batches) f.batches
+    by f over (inl none) = absurd (omega (arith, over, none))
+    by f over (inr (inl two)) = absurd (omega (arith, over, two.0))
+    by f over (inr (inr h)) = h
+
+-- ---- the least worker
+
+-- nothing was found before, and each log goes up to the number
+none_before : (number : ℕ) (found : Option ℕ) (fronts : List Contents) → least_before number found fronts ≡ None
+    → (found ≡ None) × ((f : Contents) → In f fronts → number ≤ mark_of f)
+none_before number found [] h = (h, λ f at. absurd at)
+none_before number found (c ∷ cs) h = by (ltb (mark_of c) number) refl (none_before number (cond (ltb (mark_of c) number) (lower found c.worker) found) cs h)
+  where
+    some_lower : (o : Option ℕ) (worker : ℕ) → lower o worker ≡ None → ⊥
+    some_lower None worker e = no_some worker (sym e)
+    some_lower (Some other) worker e = no_some (min other worker) (sym e)
+
+    by : (t : Bool) → ltb (mark_of c) number ≡ t → (cond t (lower found c.worker) found ≡ None) × ((f : Contents) → In f cs → number ≤ mark_of f)
+        → (found ≡ None) × ((f : Contents) → In f (c ∷ cs) → number ≤ mark_of f)
+    by true is rest = absurd (some_lower found c.worker rest.0)
+    by false is rest = (rest.0, λ f at. ⊎_elim (λ e. omega (arith, ltb-false (mark_of c) number is, ap mark_of e)) (λ more. rest.1 f more) at)
+
+-- a worker that is found was so before, or its log ends before the number
+abbrev Found : ℕ → Option ℕ → List Contents → ℕ → Type 0
+Found number found fronts worker = (found ≡ Some worker) ⊎ ((f : Contents) × In f fronts × (f.worker ≡ worker) × (mark_of f < number))
+
+-- and it is the least
+abbrev IsLeast : ℕ → Option ℕ → List Contents → ℕ → Type 0
+IsLeast number found fronts worker = ((other : ℕ) → found ≡ Some other → worker ≤ other) × ((f : Contents) → In f fronts → mark_of f < number → worker ≤ f.worker)
+
+one_before : (number : ℕ) (found : Option ℕ) (fronts : List Contents) (worker : ℕ) → least_before number found fronts ≡ Some worker
+    → Found number found fronts worker × IsLeast number found fronts worker
+one_before number found [] worker h = (inl h, (λ other e. omega (arith, same_Some worker other (sym h ∙ e)), λ f at. absurd at))
+one_before number found (c ∷ cs) worker h =
+    by (ltb (mark_of c) number) refl (one_before number (cond (ltb (mark_of c) number) (lower found c.worker) found) cs worker h)
+  where
+    lowered : (o : Option ℕ) → lower o c.worker ≡ Some worker → (o ≡ Some worker) ⊎ (c.worker ≡ worker)
+    lowered None e = inr (same_Some c.worker worker e)
+    lowered (Some other) e = either (ltb other c.worker) refl
+      where
+        either : (t : Bool) → ltb other c.worker ≡ t → (Some other ≡ Some worker) ⊎ (c.worker ≡ worker)
+        either true is = inl (ap (λ (n : ℕ). Some n) (omega (arith, ltb-true other c.worker is, same_Some (min other c.worker) worker e)))
+        either false is = inr (omega (arith, ltb-false other c.worker is, same_Some (min other c.worker) worker e))
+
+    below : (o : Option ℕ) → ((other : ℕ) → lower o c.worker ≡ Some other → worker ≤ other) → ((other : ℕ) → o ≡ Some other → worker ≤ other) × (worker ≤ c.worker)
+    below None h = (λ other e. absurd (no_some other e), h c.worker refl)
+    below (Some x) h = (λ other e. omega (arith, h (min x c.worker) refl, same_Some x other e), omega (arith, h (min x c.worker) refl))
+
+    by : (t : Bool) → ltb (mark_of c) number ≡ t → Found number (cond t (lower found c.worker) found) cs worker × IsLeast number (cond t (lower found c.worker) found) cs worker
+        → Found number found (c ∷ cs) worker × IsLeast number found (c ∷ cs) worker
+    by true is rest =
+        let under = below found rest.1.0 in (
+          ⊎_elim
+              (λ e. ⊎_elim (λ l. inl l) (λ r. inr (c, inl refl, r, ltb-true (mark_of c) number is)) (lowered found e))
+              (λ at. inr (at.0, inr at.1, at.2, at.3))
+              rest.0,
+          (under.0, λ f at ends. ⊎_elim (λ e. omega (arith, under.1, ap (λ (x : Contents). x.worker) e)) (λ more. rest.1.1 f more ends) at),
+        )
+    by false is rest = (
+      ⊎_elim (λ e. inl e) (λ at. inr (at.0, inr at.1, at.2, at.3)) rest.0,
+      (
+        rest.1.0,
+        λ f at ends. ⊎_elim (λ e. absurd (omega (arith, ltb-false (mark_of c) number is, ends, ap mark_of e))) (λ more. rest.1.1 f more ends) at,
+      ),
+    )
+
+-- ---- both
+
+pub none_is_older : (fronts : List Contents) → least_before (last_served fronts) None fronts ≡ None → NoneOlder fronts
+none_is_older fronts h n f g in_f served in_g =
+    omega (arith, last_is fronts n (f, in_f, served), (none_before (last_served fronts) None fronts h).1 g in_g)
+
+pub one_is_older : (fronts : List Contents) (worker : ℕ) → least_before (last_served fronts) None fronts ≡ Some worker → IsFirstOlder fronts worker (last_served fronts)
+one_is_older fronts worker h =
+    let two = one_before (last_served fronts) None fronts worker h in
+    by two.0 two.1
+  where
+    by : Found (last_served fronts) None fronts worker → IsLeast (last_served fronts) None fronts worker → IsFirstOlder fronts worker (last_served fronts)
+    by (inl none) least = absurd (no_some worker none)
+    by (inr at) least = record {
+      served = is_served fronts (omega (arith, at.3));
+      last = λ n any. last_is fronts n any;
+      log = at.0;
+      given = at.1;
+      owner = at.2;
+      ends = at.3;
+      least = λ other in_other ends. least.1 other in_other ends;
+    }
+
+-- ---- laws
+
+-- a log that ends before such a number, and none that does, are never both there
+pub not_both : (fronts : List Contents) (worker stamp : ℕ) → NoneOlder fronts → IsFirstOlder fronts worker stamp → ⊥
+not_both fronts worker stamp none one = omega (arith, one.ends, none stamp one.served.0 one.log one.served.1 one.served.2 one.given)

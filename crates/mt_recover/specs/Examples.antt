@@ -1,0 +1,27 @@
+-- Two logs of a store that was recovered once, one of which is older than the other; and two that were resumed twice.
+use Rattle.std.specs.Prelude.{List, [], ◌∷◌}
+use Rattle.mt_log.specs.declared.batch.LogBatch.{LogBatch}
+use Rattle.mt_log.specs.declared.batch.LogBatch.TheVariants.{Records, Resume}
+use Rattle.mt_log.specs.Contents.{Contents}
+use Rattle.mt_crashes.specs.Examples.{batch}
+
+-- The first log ended at 2 when the store was recovered, and the second at 1. The store went on from 2, and the first log has a record since. The
+-- second has these batches.
+abbrev pub fronts_with : List LogBatch → List Contents
+fronts_with batches =
+    record { worker = 0; logs = 2; batches = Records (batch 0 2) ∷ Resume 2 2 1 ∷ Records (batch 2 4) ∷ [] }
+    ∷ record { worker = 1; logs = 2; batches = batches } ∷ []
+
+-- The second is a copy that was made before the recovery.
+abbrev pub fronts_with_copy : List Contents
+fronts_with_copy = fronts_with (Records (batch 0 1) ∷ [])
+
+-- The second was made anew.
+abbrev pub fronts_with_new : List Contents
+fronts_with_new = fronts_with []
+
+-- Two recoveries crashed, of which the second goes on from 3, as a checkpoint told. The second log has a resume batch of the first of them alone.
+abbrev pub fronts_resumed_twice : List Contents
+fronts_resumed_twice =
+    record { worker = 0; logs = 2; batches = Records (batch 0 2) ∷ Resume 2 2 1 ∷ Resume 2 3 1 ∷ [] }
+    ∷ record { worker = 1; logs = 2; batches = Records (batch 0 1) ∷ Resume 1 2 1 ∷ [] } ∷ []

@@ -1,0 +1,70 @@
+//! Whether a log is older than the others, as a copy is that was put back, or a log that was made anew.
+
+ghost use Rattle.std.specs.Prelude.{◌≡◌, ◌≤◌, map, Option, None, MatchOption};
+ghost use Rattle.mt_log.specs.Contents.{contents_of};
+ghost use Rattle.mt_crashes.specs.Recoveries.{NoneOlder};
+ghost use Rattle.mt_recover.specs.Older.{IsFirstOlder, served_in, last_served, lower, least_before};
+
+use crate::cutoffs::front_end;
+use mt_log::{Front, LogBatch};
+
+/// The last number from which the store has served, as any of the logs tells, and the least worker whose
+/// log ends before it; none where each log goes up to there.
+pub(crate) fn first_older(fronts: &[Front]) -> Option<(u8, u64)>
+    ensures { MatchOption result (NoneOlder (map contents_of fronts.now)) (λ f. IsFirstOlder (map contents_of fronts.now) f.0 f.1) }
+{
+    let served = last_served(fronts);
+    match least_before(fronts, served) {
+        Some(worker) => Some((worker, served)),
+        None => None,
+    }
+}
+
+// The last number from which the store has served, as any of the logs tells, 0 of none.
+fn last_served(fronts: &[Front]) -> u64
+    ensures { result ≡ last_served (map contents_of fronts.now) }
+{
+    let mut last = 0;
+    for front in fronts {
+        last = last.max(served_in(front));
+    }
+    last
+}
+
+// The same of one log: how far the resume batches go that records follow.
+fn served_in(front: &Front) -> u64
+    ensures { result ≡ served_in 0 front.now.batches.items }
+{
+    let mut resumed = 0;
+    let mut served = 0;
+    for batch in &front.batches {
+        match batch {
+            LogBatch::Records(_) => served = resumed,
+            LogBatch::Resume { to, .. } => resumed = resumed.max(*to),
+        }
+    }
+    served
+}
+
+// The least worker whose log ends before a number.
+fn least_before(fronts: &[Front], number: u64) -> Option<u8>
+    ensures { result ≡ least_before number None (map contents_of fronts.now) }
+{
+    let mut least = None;
+    for front in fronts {
+        if front_end(front) < number {
+            least = lower(least, front.worker);
+        }
+    }
+    least
+}
+
+// The lower of two workers, where there are two.
+fn lower(least: Option<u8>, worker: u8) -> Option<u8>
+    ensures { result ≡ lower least worker }
+{
+    match least {
+        Some(other) => Some(other.min(worker)),
+        None => Some(worker),
+    }
+}
