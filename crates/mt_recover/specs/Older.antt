@@ -19,7 +19,7 @@ pub record IsFirstOlder (fronts : List Contents) (worker stamp : ℕ) : Type 0 w
   pub ends : mark_of log < stamp
   pub least : (other : Contents) → In other fronts → mark_of other < stamp → worker ≤ other.worker
 
--- how far resume batches go that records follow, where those before these batches go up to a number
+-- how far the resume batches go that records follow, if earlier ones went up to a number
 abbrev pub served_in : ℕ → List LogBatch → ℕ
 served_in resumed [] = 0
 served_in resumed (Records b ∷ bs) = max resumed (served_in resumed bs)

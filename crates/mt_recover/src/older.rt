@@ -59,7 +59,7 @@ fn least_before(fronts: &[Front], number: u64) -> Option<u8>
     least
 }
 
-// The lower of two workers, where there are two.
+// The lower of two workers, if there are two.
 fn lower(least: Option<u8>, worker: u8) -> Option<u8>
     ensures { result ≡ lower least worker }
 {

@@ -23,6 +23,7 @@ enum At {
     Tenant = 45,
     Stamp2 = 61,
     Tenant2 = 65,
+    ResumeGate = 74,
     ResumeFrom = 87,
     ResumeTo = 95,
     Kept = 103,
@@ -118,6 +119,17 @@ fn each_refusal_comes_before_the_next(rt: HostRuntime) {
         (3, 5, (1, At::Stamp, 0), SAME, falls(1, 0)),
         (3, 5, (1, At::Stamp2, 7), SAME, falls(1, 7)),
         (3, 5, (2, At::Stamp, 0), (1, At::Stamp2, 7), falls(1, 7)),
+        // A log that is older than the others, after a fall in a single log, and before a stamp in two.
+        (3, 5, (1, At::ResumeGate, 0), SAME, falls(1, 8)),
+        (3, 5, (1, At::ResumeGate, 0), (2, At::Stamp, 0), falls(2, 0)),
+        (3, 5, (1, At::ResumeGate, 0), (2, At::Stamp, 1), falls(1, 8)),
+        (
+            3,
+            5,
+            (1, At::ResumeGate, 0),
+            (0, At::Tenant, 8),
+            falls(1, 8),
+        ),
         // A stamp in two or three logs, the highest of these, also one that is void; the least stamp.
         (3, 5, (1, At::Stamp, 1), SAME, falls(1, 1)),
         (3, 5, (2, At::Stamp, 1), SAME, falls(2, 1)),
