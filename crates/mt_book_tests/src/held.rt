@@ -132,7 +132,7 @@ fn run<L: Ledger + Send + Sync, R: Threads + Wait + Clock + Abort + Sync>(
     requires name { blank.name ≡ L.name }
     requires parts { (blank.parts ≡ L.parts) × (L.parts ≡ 65536) }
 {
-    let book = Mutex::new(Book::<L>::new(blank, new_store(rt, alloc)?));
+    let book = Mutex::new(Book::<L>::new(blank, new_store(rt, alloc, 0)?));
     make_both(rt, alloc, &book);
     Ok(())
 }

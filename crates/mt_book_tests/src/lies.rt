@@ -131,7 +131,7 @@ fn is_asked_on<
     let asked = Arc::new(alloc, AtomicU64::new(0))?;
     let mut liar = Liar {
         alloc,
-        book: Book::<L>::new(blank, new_store(&rt, alloc)?),
+        book: Book::<L>::new(blank, new_store(&rt, alloc, 0)?),
         lie: None,
         asked: Arc::try_clone(&asked)?,
     };

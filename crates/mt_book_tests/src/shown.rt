@@ -106,7 +106,7 @@ fn run<L: Ledger, R: Wait + Abort>(rt: &R, alloc: Global, blank: Blank) -> Resul
     requires name { blank.name ≡ L.name }
     requires parts { (blank.parts ≡ L.parts) × (L.parts ≡ 65536) }
 {
-    let book = Mutex::new(Book::<L>::new(blank, new_store(rt, alloc)?));
+    let book = Mutex::new(Book::<L>::new(blank, new_store(rt, alloc, 0)?));
     make_four(rt, alloc, &book);
     Ok(())
 }

@@ -1,6 +1,6 @@
 //! Calls by one thread and by four.
 
-ghost use Rattle.std.specs.Prelude.{◌≡◌, IfOk};
+ghost use Rattle.std.specs.Prelude.{◌≡◌, ◌≤◌, IfOk};
 ghost use Rattle.mt_state.specs.Begins.{HaveNoPairs};
 
 use mt_book::{Book, Desk, NoGate, Pass, call, gather, open_pass};
@@ -18,13 +18,14 @@ use std::thread::Threads;
 // How many puts each thread makes.
 const PUTS: u32 = 250;
 
-// Tenant 7, which may have 100 pairs, in a store without logs.
-pub(crate) fn new_store(rt: &impl Abort, alloc: Global) -> Result<State, AllocError>
+// Tenant 7, which may have 100 pairs, in a store with so many logs.
+pub(crate) fn new_store(rt: &impl Abort, alloc: Global, logs: u8) -> Result<State, AllocError>
+    requires { logs ≤ 64 }
     ensures { IfOk result (λ state. state.answers ≡ 0) }
 {
     let mut tenants = no_tenants(alloc);
     assert!(rt; tenants.add(7, 100).is_ok());
-    State::new(alloc, 0, tenants)
+    State::new(alloc, logs, tenants)
 }
 
 fn no_tenants(alloc: Global) -> Tenants
@@ -135,7 +136,7 @@ fn run<L: Ledger + Send + Sync, R: Threads + Wait + Abort + Sync>(
     requires name { blank.name ≡ L.name }
     requires parts { (blank.parts ≡ L.parts) × (L.parts ≡ 65536) }
 {
-    let book = Mutex::new(Book::<L>::new(blank, new_store(rt, alloc)?));
+    let book = Mutex::new(Book::<L>::new(blank, new_store(rt, alloc, 0)?));
     let (shared, passes) = (&book, four_passes(rt, alloc, &book));
     let done = thread::map_vec(
         rt,
@@ -218,7 +219,7 @@ fn locked<L: Ledger, R: Wait + Abort>(rt: &R, alloc: Global, blank: Blank) -> Re
     requires name { blank.name ≡ L.name }
     requires parts { (blank.parts ≡ L.parts) × (L.parts ≡ 65536) }
 {
-    let book = Mutex::new(Book::<L>::new(blank, new_store(rt, alloc)?));
+    let book = Mutex::new(Book::<L>::new(blank, new_store(rt, alloc, 0)?));
     read_back_locked(rt, alloc, &book);
     Ok(())
 }
@@ -228,7 +229,7 @@ fn alone<L: Ledger, R: Wait + Abort>(rt: &R, alloc: Global, blank: Blank) -> Res
     requires name { blank.name ≡ L.name }
     requires parts { (blank.parts ≡ L.parts) × (L.parts ≡ 65536) }
 {
-    let mut book = Book::<L>::new(blank, new_store(rt, alloc)?);
+    let mut book = Book::<L>::new(blank, new_store(rt, alloc, 0)?);
     let mut mine = book.open_pass(0).expect(rt, "a pass");
     let mut other = book.open_pass(0).expect(rt, "a pass");
     read_back(rt, alloc, &mut book, &mut mine, &mut other);

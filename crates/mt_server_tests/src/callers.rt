@@ -4,6 +4,7 @@ ghost use Rattle.std.specs.Prelude.{◌≡◌, IfOk};
 ghost use Rattle.mt_state.specs.Begins.{HaveNoPairs};
 
 use crate::clients::{FOUND, GET, NEW, OPEN, OPENED, PUT, SETTLE};
+use log::Log;
 use mt_book::Book;
 use mt_core::State;
 use mt_disk::MemDisk;
@@ -44,7 +45,7 @@ const NOT_OPEN: &[u8] = b"\x00\x00\x00\x01\x91";
 const NO_STORE: &[u8] = b"\x00\x00\x00\x01\x94";
 
 // A session from bytes to bytes.
-fn serve_alone<L: Ledger, R: Wait + Abort>(
+fn serve_alone<L: Ledger, R: Wait + Log + Abort>(
     rt: &R,
     alloc: Global,
     blank: Blank,

@@ -8,6 +8,7 @@ use crate::clients::{
 };
 use crate::stores::store_without_logs;
 use crate::words::options_of;
+use log::Log;
 use mt_disk::MemDisk;
 use mt_options::Options;
 use mt_service::run_server;
@@ -23,7 +24,7 @@ use std::time::Clock;
 use std::{io, thread};
 
 // Serves to the end; what the server wrote, and how many sessions ended otherwise than closed.
-fn serve_all<L: Ledger + Send + Sync, R: Threads + Wait + Clock + Sync>(
+fn serve_all<L: Ledger + Send + Sync, R: Threads + Wait + Clock + Log + Sync>(
     rt: &R,
     alloc: Global,
     blank: Blank,
@@ -137,7 +138,13 @@ const ONE_WORKER: &str = "mt_server --port 0 --workers 1 --sessions 2 7:100";
 // A server and its clients, who are all told what they should be, and so is the output.
 fn serve_scene<L: Ledger + Send + Sync, R>(rt: &R, alloc: Global, blank: Blank, scene: Scene)
 where
-    R: Net<Listener = TcpListener, Stream = TcpStream> + Threads + Wait + Clock + Abort + Sync,
+    R: Net<Listener = TcpListener, Stream = TcpStream>
+        + Threads
+        + Wait
+        + Clock
+        + Log
+        + Abort
+        + Sync,
     requires name { blank.name ≡ L.name }
     requires parts { (blank.parts ≡ L.parts) × (L.parts ≡ 65536) }
 {

@@ -7,6 +7,7 @@ use crate::clients::{
     DEVICE, FOUND, GET, NEW, OPEN, OPENED, PUT, SETTLE, SETTLED_5, connect, is_told,
 };
 use crate::words::options_of;
+use log::Log;
 use mt_disk::{Disk, MemDisk};
 use mt_options::Options;
 use mt_recover::LogSlot;
@@ -118,7 +119,11 @@ fn play(scene: Scene, client: TcpStream) -> io::Result<bool> {
 }
 
 // Serves to the end; the store that is left.
-fn serve_all<L: Ledger + Send + Sync, R: Threads + Wait + Clock + Sync, D: Disk + Drop + Send>(
+fn serve_all<
+    L: Ledger + Send + Sync,
+    R: Threads + Wait + Clock + Log + Sync,
+    D: Disk + Drop + Send,
+>(
     rt: &R,
     alloc: Global,
     blank: Blank,
@@ -146,7 +151,13 @@ pub(crate) fn serve_scene<L: Ledger + Send + Sync, R, D: Disk + Drop + Send>(
     scene: Scene,
 ) -> Store<D>
 where
-    R: Net<Listener = TcpListener, Stream = TcpStream> + Threads + Wait + Clock + Abort + Sync,
+    R: Net<Listener = TcpListener, Stream = TcpStream>
+        + Threads
+        + Wait
+        + Clock
+        + Log
+        + Abort
+        + Sync,
     requires name { blank.name ≡ L.name }
     requires parts { (blank.parts ≡ L.parts) × (L.parts ≡ 65536) }
     requires untaken { store.source.state.answers ≡ 0 }

@@ -12,20 +12,11 @@ use Rattle.mt_book.specs.Periods.{Period}
 use Rattle.mt_book.specs.Calls.{Calls, asked_by, answers_of}
 use Rattle.mt_settle.specs.Turns.{Turn}
 use Rattle.mt_settle.specs.Settles.{Settles}
-use Rattle.mt_stored.specs.Keeping.{Counts}
+use Rattle.mt_stored.specs.Keeping.{Kept, Counts}
 use Rattle.mt_session.specs.declared.caller.CallerFault.{CallerFault}
 use Rattle.mt_session.specs.declared.caller.CallerFault.TheVariants.{Refused}
 use Rattle.mt_session.specs.Exchanges.{Exchange, Opens, Calls as CallsFor, Settles as SettlesFor}
 use Rattle.mt_service.specs.Telling.{told_of, seen_after}
-
--- what answers are kept in: the logs, the worker whose own log is flushed for their number, and how many there were since it last was
-pub record Kept (K : Type 0) : Type 0 where
-  pub logs : K
-  pub worker : ℕ
-  pub since : ℕ
-
-abbrev pub keeping : {K : Type 0} → K → ℕ → ℕ → Kept K
-keeping logs worker since = record { logs = logs; worker = worker; since = since }
 
 -- a caller between two exchanges: its desk, its pass with the last step that it knows of and the answers that it counts, the tenants that are
 -- served, the one that is opened, and what its answers are kept in
@@ -47,9 +38,9 @@ abbrev pub OpensTenant : {S K : Type 0} → Asker S K → ℕ → Option Refusal
 OpensTenant old tenant None new = IsListed old.tenants tenant × (new ≡ record old { opened = Some tenant })
 OpensTenant old tenant (Some refusal) new = (refusal ≡ NoTenant) × (¬ IsListed old.tenants tenant) × (new ≡ old)
 
--- what a call makes of what its answers are kept in: an answer is counted, and with each 1,024th the worker's log is flushed
+-- what a call makes of what its answers are kept in: an answer is counted, and with each 1,024th logs have their turns
 abbrev pub KeepsAnswer : {K : Type 0} → (K → Turn → K → Type 0) → (K → ℕ) → Kept K → Result Answer CallFault → Kept K → Type 0
-KeepsAnswer keeps logs old (Ok answer) new = (new.worker ≡ old.worker) × Counts keeps logs old.worker old.logs old.since new.logs new.since
+KeepsAnswer keeps logs old (Ok answer) new = Counts keeps logs old new
 KeepsAnswer keeps logs old (Err fault) new = new ≡ old
 
 -- The command is asked of the desk by one call, of the pass's worker and for the opened tenant; the session is told what came of it. An answer is one

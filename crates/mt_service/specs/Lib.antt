@@ -4,3 +4,4 @@ pub mod Faults
 pub mod Lines
 pub mod Opening
 pub mod Telling
+pub mod Workers

@@ -3,6 +3,7 @@
 ghost use Rattle.std.specs.Prelude.{◌≡◌, None};
 ghost use Rattle.mt_service.specs.Telling.{told_of};
 
+use log::Log;
 use mt_book::{CallFault, Desk, NoGate, Pass, call};
 use mt_options::{TenantQuota, is_listed};
 use mt_rows::{Command, Refusal, Reply};
@@ -59,11 +60,13 @@ impl<'a, L: Ledger, R: Wait, D: Desk<L> + Drop, S: Logs + Drop> DeskCaller<'a, L
     }
 }
 
-impl<L: Ledger, R: Wait, D: Desk<L> + Drop, S: Logs + Drop> Caller for DeskCaller<'_, L, R, D, S> {
-    ghost use Rattle.mt_service.specs.Asking.{AsksDesk, asker, keeping};
+impl<L: Ledger, R: Wait + Log, D: Desk<L> + Drop, S: Logs + Drop> Caller
+    for DeskCaller<'_, L, R, D, S> {
+    ghost use Rattle.mt_service.specs.Asking.{AsksDesk, asker};
+    ghost use Rattle.mt_stored.specs.Keeping.{keeping};
 
-    ghost exchanges = { λ old e new. AsksDesk D.does S.does S.logs (asker old.desk old.pass.worker old.pass.seen old.pass.share.amount old.tenants.now old.opened (keeping old.keeper.logs old.keeper.worker old.keeper.since.answers)) e
-        (asker new.desk new.pass.worker new.pass.seen new.pass.share.amount new.tenants.now new.opened (keeping new.keeper.logs new.keeper.worker new.keeper.since.answers)) };
+    ghost exchanges = { λ old e new. AsksDesk D.does S.does S.logs (asker old.desk old.pass.worker old.pass.seen old.pass.share.amount old.tenants.now old.opened (keeping old.keeper.logs old.keeper.worker old.keeper.since.answers old.keeper.next)) e
+        (asker new.desk new.pass.worker new.pass.seen new.pass.share.amount new.tenants.now new.opened (keeping new.keeper.logs new.keeper.worker new.keeper.since.answers new.keeper.next)) };
 
     fn open(&mut self, tenant: u32) -> Result<(), Refusal> {
         if !is_listed(self.tenants, tenant) {

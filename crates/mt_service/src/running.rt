@@ -1,6 +1,6 @@
 //! The server: from a listener to the sum of its answers.
 
-ghost use Rattle.std.specs.Prelude.{◌≡◌, ◌<◌, ◌^◌, IfOk, IfErr, OnOk, OnErr, vec_len};
+ghost use Rattle.std.specs.Prelude.{◌≡◌, ◌<◌, ◌^◌, IfOk, IfErr, OnOk, OnErr, length, vec_len};
 ghost use Rattle.std.specs.List.{sum_by};
 ghost use Rattle.std.specs.Io.KnownBytes.{Appends};
 ghost use Rattle.mt_book.specs.declared.passes.Pass.{Pass};
@@ -9,15 +9,17 @@ ghost use Rattle.mt_streams.specs.Failures.{Failed, NoFewer};
 ghost use Rattle.mt_service.specs.declared.workers.SessionWorker.{SessionWorker};
 ghost use Rattle.mt_service.specs.Faults.{IsOfWriting, IsOfServing, HasCause};
 ghost use Rattle.mt_stored.specs.Stores.{IsSettled};
+ghost use Rattle.mt_service.specs.Workers.{number_of, AreOfWorker};
 ghost use Rattle.mt_service.specs.Lines.{first_line, last_line, Begins, SaysAll, SaysPart};
 
 use crate::callers::DeskCaller;
 use crate::faults::ServerFault;
 use crate::workers::SessionWorker;
+use log::Log;
 use mt_book::{Book, Pass, gather, open_pass};
 use mt_crew::{Crew, CrewFault, Served, others_of, run_crew};
 use mt_disk::Disk;
-use mt_options::Options;
+use mt_options::{Options, TenantQuota};
 use mt_store_logs::StoreLog;
 use mt_stored::{Keeper, SharedLogs, Store, locked_logs, unlocked_logs};
 use mt_streams::{Sink, write_whole};
@@ -60,7 +62,7 @@ pub fn run_server<L, R, W, D>(
 ) -> Result<Ending<D>, ServerFault>
 where
     L: Ledger + Send + Sync,
-    R: Threads + Wait + Clock + Sync,
+    R: Threads + Wait + Clock + Log + Sync,
     W: Sink,
     D: Disk + Drop + Send,
     requires name { blank.name ≡ L.name }
@@ -84,7 +86,11 @@ where
 }
 
 // Serves the listener's connections from a store, and settles it.
-fn serve_store<L: Ledger + Send + Sync, R: Threads + Wait + Clock + Sync, D: Disk + Drop + Send>(
+fn serve_store<
+    L: Ledger + Send + Sync,
+    R: Threads + Wait + Clock + Log + Sync,
+    D: Disk + Drop + Send,
+>(
     rt: &R,
     alloc: Global,
     blank: Blank,
@@ -107,7 +113,7 @@ fn serve_store<L: Ledger + Send + Sync, R: Threads + Wait + Clock + Sync, D: Dis
 }
 
 // The store, of which nobody holds a lock any more, settled for the last time.
-fn settled<L: Ledger, R: Wait, D: Disk + Drop>(
+fn settled<L: Ledger, R: Wait + Log, D: Disk + Drop>(
     rt: &R,
     alloc: Global,
     book: Mutex<Book<L>>,
@@ -171,7 +177,11 @@ fn say<W: Sink>(out: &mut W, line: &str) -> Result<(), ServerFault>
 }
 
 // Serves the listener's connections by a crew, and adds up what its workers come back with.
-fn serve_all<L: Ledger + Send + Sync, R: Threads + Wait + Clock + Sync, D: Disk + Drop + Send>(
+fn serve_all<
+    L: Ledger + Send + Sync,
+    R: Threads + Wait + Clock + Log + Sync,
+    D: Disk + Drop + Send,
+>(
     rt: &R,
     alloc: Global,
     book: &Mutex<Book<L>>,
@@ -195,6 +205,35 @@ fn serve_all<L: Ledger + Send + Sync, R: Threads + Wait + Clock + Sync, D: Disk 
     }
 }
 
+// The number of the worker at a place, where so many logs are kept.
+fn number_at(logs: usize, place: u8) -> u8
+    ensures { result ≡ number_of logs place }
+{
+    if logs == 0 { 0 } else { place }
+}
+
+// The worker at a place, with a pass, and with a log of its own, where logs are kept.
+fn worker_at<'a, L: Ledger, R: Wait + Clock, D: Disk + Drop>(
+    rt: &'a R,
+    alloc: Global,
+    book: &'a Mutex<Book<L>>,
+    logs: &'a [Mutex<StoreLog<D>>],
+    tenants: &'a [TenantQuota],
+    place: u8,
+) -> Result<SessionWorker<'a, L, R, D>, ServerFault>
+    ensures own { IfOk result (λ one. AreOfWorker (length logs.now) place one.caller.pass.worker one.caller.keeper.worker) }
+    ensures logs { IfOk result (λ one. one.caller.keeper.logs.logs.now ≡ logs.now) }
+    ensures fault { IfErr result IsOfServing }
+{
+    let number = number_at(logs.len(), place);
+    let Some(pass) = open_pass(rt, book, number) else {
+        return Err(ServerFault::Passes);
+    };
+    let keeper = Keeper::new(alloc, SharedLogs::new(book, logs), number);
+    let caller = DeskCaller::new(rt, book, pass, keeper, tenants);
+    Ok(SessionWorker { rt, caller })
+}
+
 // So many workers as the options say, each with a pass, and with a log of its own, where logs are kept.
 fn workers_of<'a, L: Ledger, R: Wait + Clock, D: Disk + Drop>(
     rt: &'a R,
@@ -207,14 +246,8 @@ fn workers_of<'a, L: Ledger, R: Wait + Clock, D: Disk + Drop>(
     ensures fault { IfErr result IsOfServing }
 {
     let mut workers = Vec::new(alloc);
-    for number in 0..options.workers {
-        let worker = if logs.is_empty() { 0 } else { number };
-        let Some(pass) = open_pass(rt, book, worker) else {
-            return Err(ServerFault::Passes);
-        };
-        let keeper = Keeper::new(alloc, SharedLogs::new(book, logs), worker);
-        let caller = DeskCaller::new(rt, book, pass, keeper, options.tenants.as_slice());
-        workers.push(SessionWorker { rt, caller })?;
+    for place in 0..options.workers {
+        workers.push(worker_at(rt, alloc, book, logs, options.tenants.as_slice(), place)?)?;
     }
     Ok(workers)
 }
@@ -222,7 +255,7 @@ fn workers_of<'a, L: Ledger, R: Wait + Clock, D: Disk + Drop>(
 /// What the workers come to, whose passes are given back to the book: the sum of the passes' shares, and
 /// that of the workers' counts. `Memory` and `Passes` (where these are not all passes that were opened)
 /// are the only errors; after either the passes are lost.
-pub fn totals_of<L: Ledger, R: Wait + Clock, D: Disk + Drop>(
+pub fn totals_of<L: Ledger, R: Wait + Clock + Log, D: Disk + Drop>(
     rt: &R,
     alloc: Global,
     book: &Mutex<Book<L>>,
@@ -243,7 +276,7 @@ pub fn totals_of<L: Ledger, R: Wait + Clock, D: Disk + Drop>(
 }
 
 // The passes that the workers hold.
-fn passes_of<L: Ledger, R: Wait + Clock, D: Disk + Drop>(
+fn passes_of<L: Ledger, R: Wait + Clock + Log, D: Disk + Drop>(
     alloc: Global,
     served: Vec<Served<SessionWorker<'_, L, R, D>>>,
 ) -> Result<Vec<Pass<L>>, AllocError>

@@ -2,6 +2,7 @@
 
 use crate::callers::DeskCaller;
 use crate::connections::{linger, set_up};
+use log::Log;
 use mt_book::Book;
 use mt_crew::Worker;
 use mt_disk::Disk;
@@ -21,7 +22,7 @@ pub struct SessionWorker<'a, L: Ledger, R: Wait + Clock, D: Disk + Drop> {
     pub caller: DeskCaller<'a, L, R, &'a Mutex<Book<L>>, SharedLogs<'a, L, D>>,
 }
 
-impl<L: Ledger, R: Wait + Clock, D: Disk + Drop> Worker for SessionWorker<'_, L, R, D> {
+impl<L: Ledger, R: Wait + Clock + Log, D: Disk + Drop> Worker for SessionWorker<'_, L, R, D> {
     fn serve(&mut self, alloc: Global, stream: &TcpStream) -> bool {
         set_up(stream);
         let mut reader = stream;

@@ -2,9 +2,8 @@
 use Rattle.std.specs.Prelude.{◌≡◌, ℕ, List, [], ◌∷◌, Result}
 use Rattle.mt_rows.specs.declared.refusal.Refusal.{Refusal}
 
--- A log was given what its worker had changed, and told the step that it reaches, or why it wasn't: as it stood; or opened again first, where it was closed.
+-- A log was opened again, if it was closed, and given what its worker had changed. It told the step that it reaches, or why it was not.
 pub data Turn : Type 0 where
-  Flushed : ℕ → Result ℕ Refusal → Turn
   BroughtUp : ℕ → Result ℕ Refusal → Turn
 
 -- turns in their order lead from old to new

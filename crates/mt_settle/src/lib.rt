@@ -1,7 +1,7 @@
 //! Settle: each log of a store is brought up to date, one after the other, and the least of what they
 //! reach is told.
 //!
-//! `Logs` are a store's logs as a trait, with one function a turn; `settle` takes a turn of each. What a
+//! `Logs` are a store's logs as a trait, with a function for a turn of one; `settle` gives each a turn. What a
 //! settled number says is in `laws`, over any logs.
 //!
 //! Units: steps, as records are stamped with them.

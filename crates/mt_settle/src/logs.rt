@@ -1,8 +1,9 @@
 //! Logs of a store, of which one is brought up to date in a turn.
 
 ghost use Rattle.std.specs.Prelude.{◌≡◌, ◌<◌, ℕ};
-ghost use Rattle.mt_settle.specs.Turns.{Turn, Flushed, BroughtUp};
+ghost use Rattle.mt_settle.specs.Turns.{Turn, BroughtUp};
 
+use log::Log;
 use mt_rows::Refusal;
 use std::alloc::Global;
 use std::sync::Wait;
@@ -19,16 +20,10 @@ pub trait Logs {
     fn count(&self) -> u8
         ensures { result ≡ logs self.now };
 
-    /// Gives an open log what its worker has changed since the last time. Answers the step up to which the
-    /// log then has all of the worker's changes. An error loses nothing: what the log lacks goes into it
-    /// before anything else.
-    fn flush<R: Wait>(&mut self, rt: &R, alloc: Global, log: u8) -> Result<u64, Refusal>
-        requires { log < logs self.old }
-        ensures does { does self.old (Flushed log result) self.new }
-        ensures same { logs self.new ≡ logs self.old };
-
-    /// The same, of a log that is opened again first where its disk failed.
-    fn bring_up<R: Wait>(&mut self, rt: &R, alloc: Global, log: u8) -> Result<u64, Refusal>
+    /// Opens a log again if its disk failed, then gives it what its worker has changed since the last time.
+    /// Answers the step up to which the log then has all of the worker's changes. An error loses nothing: what
+    /// the log lacks goes into it before anything else. It may warn through `rt`.
+    fn bring_up<R: Wait + Log>(&mut self, rt: &R, alloc: Global, log: u8) -> Result<u64, Refusal>
         requires { log < logs self.old }
         ensures does { does self.old (BroughtUp log result) self.new }
         ensures same { logs self.new ≡ logs self.old };

@@ -4,6 +4,7 @@ ghost use Rattle.std.specs.Prelude.{◌≡◌};
 ghost use Rattle.mt_settle.specs.Settles.{Settles};
 
 use crate::logs::Logs;
+use log::Log;
 use mt_rows::Refusal;
 use std::alloc::Global;
 use std::sync::Wait;
@@ -13,7 +14,7 @@ use std::sync::Wait;
 ///
 /// Errors: `NoStore` where there are no logs; else that of the first log that could not be brought up to
 /// date. Those before it were; of those behind it none was asked.
-pub fn settle<R: Wait, S: Logs>(rt: &R, alloc: Global, logs: &mut S) -> Result<u64, Refusal>
+pub fn settle<R: Wait + Log, S: Logs>(rt: &R, alloc: Global, logs: &mut S) -> Result<u64, Refusal>
     ensures settles { Settles S.does (S.logs logs.old) logs.old logs.new result }
     ensures same { S.logs logs.new ≡ S.logs logs.old }
 {

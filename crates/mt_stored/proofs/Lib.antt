@@ -1,3 +1,4 @@
 pub mod Limits
+pub mod Rounds
 pub mod Slices
 pub mod StoreTurns

@@ -14,7 +14,7 @@ use Rattle.mt_store_logs.specs.declared.store_log.StoreLog.{StoreLog}
 use Rattle.mt_store_logs.specs.Places.{mark_in}
 use Rattle.mt_store_logs.specs.Waits.{TakesIn}
 use Rattle.mt_store_logs.specs.Flushes.{Flushes}
-use Rattle.mt_settle.specs.Turns.{Turn, Flushed, BroughtUp, Chain}
+use Rattle.mt_settle.specs.Turns.{Turn, BroughtUp, Chain}
 use Rattle.mt_settle.specs.Settles.{turns_from, Settles}
 use Rattle.mt_stored.specs.declared.source.OwnState.{OwnState}
 use Rattle.mt_stored.specs.LogTurns.{FailsInFlush, FailsToBringUp}
@@ -61,8 +61,6 @@ module _ {D : Type 0} (is_honest : D → Bool) (state : D → DiskState) (failur
       ⊎_elim (λ closed. same was is closed.same) (λ not. in_flush worker refusal not.mid new was is not.fails) f
 
   turn_stays : (turn : Turn) (was : OwnState) (old : List (StoreLog D)) (is : OwnState) (new : List (StoreLog D)) → DoesStore is_honest state failures turn was old is new → Stays was is
-  turn_stays (Flushed log (Ok mark)) was old is new t = drained was is log t.turns.batch t.turns.given
-  turn_stays (Flushed log (Err e)) was old is new t = in_flush log e t.before t.after was is t.turns
   turn_stays (BroughtUp log (Ok mark)) was old is new t = drained was is log t.turns.flushes.batch t.turns.flushes.given
   turn_stays (BroughtUp log (Err e)) was old is new t = in_bring_up log e t.before t.after was is t.turns
 

@@ -1,3 +1,4 @@
+pub mod Changes
 pub mod Keeping
 pub mod LogTurns
 pub mod Places

@@ -13,11 +13,10 @@ use Rattle.mt_store_logs.specs.declared.fault.LogRefusal.{LogRefusal}
 use Rattle.mt_store_logs.specs.declared.store_log.StoreLog.{StoreLog}
 use Rattle.mt_store_logs.specs.Places.{mark_in, MakesAll}
 use Rattle.mt_store_logs.specs.Recovers.{ServesAgain, IsNotRecovered}
-use Rattle.mt_store_logs.specs.Flushes.{Flushes}
-use Rattle.mt_settle.specs.Turns.{Turn, Flushed, BroughtUp}
+use Rattle.mt_settle.specs.Turns.{Turn, BroughtUp}
 use Rattle.mt_stored.specs.declared.source.OwnState.{OwnState}
 use Rattle.mt_stored.specs.Places.{closed_on}
-use Rattle.mt_stored.specs.LogTurns.{FailsInFlush, BringsUp, FailsToBringUp}
+use Rattle.mt_stored.specs.LogTurns.{BringsUp, FailsToBringUp}
 
 -- each log is open, and goes up to the last step that was made
 abbrev pub IsSettled : {D : Type 0} → StateView → List (StoreLog D) → Type 0
@@ -61,7 +60,5 @@ module _ {D : Type 0} (is_honest : D → Bool) (state : D → DiskState) (failur
 
   -- a turn of a store that is owned alone
   abbrev pub DoesStore : Turn → OwnState → List (StoreLog D) → OwnState → List (StoreLog D) → Type 0
-  DoesStore (Flushed log (Ok mark)) was old is new = TurnsLog (Flushes is_honest state failures gives_own log mark) log was old is new
-  DoesStore (Flushed log (Err refusal)) was old is new = TurnsLog (FailsInFlush is_honest state failures gives_own log refusal) log was old is new
   DoesStore (BroughtUp log (Ok mark)) was old is new = TurnsLog (BringsUp is_honest state failures gives_own log mark) log was old is new
   DoesStore (BroughtUp log (Err refusal)) was old is new = TurnsLog (FailsToBringUp is_honest state failures gives_own log refusal) log was old is new

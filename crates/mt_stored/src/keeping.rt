@@ -2,15 +2,16 @@
 
 ghost use Rattle.std.specs.Prelude.{◌≡◌, ◌+◌, ◌<◌, true, false};
 
+use log::Log;
 use mt_rows::Refusal;
 use mt_settle::{Logs, settle};
 use std::alloc::Global;
 use std::sync::Wait;
 
-/// After so many answers a worker's log is flushed.
+/// After so many answers a worker's own log has a turn, and one log more.
 pub const FLUSH_ANSWERS: u32 = 1_024;
 
-/// So many answers since the last time that a log was flushed for their number.
+/// So many answers since the last time that logs had a turn for their number.
 #[derive(Drop)]
 pub struct Since {
     answers: u32,
@@ -18,7 +19,7 @@ pub struct Since {
 }
 
 impl Since {
-    // Counts an answer; whether it is the 1,024th, behind which counting begins anew.
+    // Counts an answer; whether it is the 1,024th, after which counting begins anew.
     fn count(&mut self) -> bool
         ensures more { result ≡ false → (self.old.answers + 1 < 1024) × (self.new.answers ≡ self.old.answers + 1) }
         ensures full { result ≡ true → (self.old.answers + 1 ≡ 1024) × (self.new.answers ≡ 0) }
@@ -32,17 +33,19 @@ impl Since {
     }
 }
 
-/// The logs in which a worker keeps what it answers, and how many answers its own log may lack.
+/// The logs in which a worker keeps what it answers, how many answers its own log may lack, and which log is next
+/// in its round.
 #[derive(Drop)]
 pub struct Keeper<S: Logs + Drop> {
     alloc: Global,
     logs: S,
     worker: u8,
     since: Since,
+    next: u8,
 }
 
 impl<S: Logs + Drop> Keeper<S> {
-    ghost use Rattle.mt_stored.specs.Keeping.{Counts};
+    ghost use Rattle.mt_stored.specs.Keeping.{Counts, keeping};
     ghost use Rattle.mt_settle.specs.Settles.{Settles};
 
     /// The keeper of a worker, who has answered nothing yet.
@@ -50,33 +53,42 @@ impl<S: Logs + Drop> Keeper<S> {
         ensures logs { result.logs ≡ logs }
         ensures worker { result.worker ≡ worker }
         ensures since { result.since.answers ≡ 0 }
+        ensures next { result.next ≡ 0 }
     {
         Keeper {
             alloc,
             logs,
             worker,
             since: Since { answers: 0 },
+            next: 0,
         }
     }
 
-    /// Counts an answer, and flushes the worker's log at each 1,024th. What fails there waits for the next
-    /// Settle.
-    pub fn count_answer<R: Wait>(&mut self, rt: &R)
-        ensures counts { Counts S.does S.logs self.old.worker self.old.logs self.old.since.answers self.new.logs self.new.since.answers }
-        ensures worker { self.new.worker ≡ self.old.worker }
+    /// Counts an answer. At each 1,024th it gives the worker's own log a turn, and then one log more: the next
+    /// one of a round over all of them. So a log whose disk failed is opened again, and one whose worker answers
+    /// nothing has its changes too. What fails there waits for the log's next turn.
+    pub fn count_answer<R: Wait + Log>(&mut self, rt: &R)
+        ensures counts { Counts S.does S.logs (keeping self.old.logs self.old.worker self.old.since.answers self.old.next) (keeping self.new.logs self.new.worker self.new.since.answers self.new.next) }
     {
         if !self.since.count() {
             return;
         }
-        if self.worker < self.logs.count() {
-            let _ = self.logs.flush(rt, self.alloc, self.worker);
+        let count = self.logs.count();
+        if self.worker >= count {
+            return;
+        }
+        let _ = self.logs.bring_up(rt, self.alloc, self.worker);
+        let log = self.next % count;
+        self.next = log + 1;
+        if log != self.worker {
+            let _ = self.logs.bring_up(rt, self.alloc, log);
         }
     }
 
     /// Brings all logs up to date, and answers the step up to which all is kept.
-    pub fn settle<R: Wait>(&mut self, rt: &R) -> Result<u64, Refusal>
+    pub fn settle<R: Wait + Log>(&mut self, rt: &R) -> Result<u64, Refusal>
         ensures settles { Settles S.does (S.logs self.old.logs) self.old.logs self.new.logs result }
-        ensures same { (self.new.since ≡ self.old.since) × (self.new.worker ≡ self.old.worker) }
+        ensures same { (self.new.since ≡ self.old.since) × (self.new.worker ≡ self.old.worker) × (self.new.next ≡ self.old.next) }
     {
         settle(rt, self.alloc, &mut self.logs)
     }

@@ -2,8 +2,10 @@
 
 ghost use Rattle.std.specs.Prelude.{◌≡◌, vec_len, IfOk};
 
+use crate::changes::change_of;
 use crate::source::SharedBook;
-use crate::turns::{bring_up_log, flush_log};
+use crate::turns::bring_up_log;
+use log::{Log, warn};
 use mt_book::Book;
 use mt_disk::Disk;
 use mt_rows::Refusal;
@@ -13,7 +15,8 @@ use std::alloc::{AllocError, Global};
 use std::sync::ledger::Ledger;
 use std::sync::{Mutex, Wait};
 
-/// The logs of a book, at most 255, of which others give turns too: a turn says nothing of the next one.
+/// The logs of a book, at most 255, of which others give turns too: a turn says nothing of the next one. It warns
+/// of a log that closes, and of one that is open again.
 #[derive(Drop)]
 pub struct SharedLogs<'a, L: Ledger, D: Disk + Drop> {
     book: &'a Mutex<Book<L>>,
@@ -21,7 +24,10 @@ pub struct SharedLogs<'a, L: Ledger, D: Disk + Drop> {
 }
 
 impl<'a, L: Ledger, D: Disk + Drop> SharedLogs<'a, L, D> {
-    pub fn new(book: &'a Mutex<Book<L>>, logs: &'a [Mutex<StoreLog<D>>]) -> Self {
+    pub fn new(book: &'a Mutex<Book<L>>, logs: &'a [Mutex<StoreLog<D>>]) -> Self
+        ensures book { result.book.now ≡ book.now }
+        ensures logs { result.logs.now ≡ logs.now }
+    {
         SharedLogs { book, logs }
     }
 }
@@ -37,14 +43,15 @@ impl<L: Ledger, D: Disk + Drop> Logs for SharedLogs<'_, L, D> {
         self.logs.len().min(255) as u8
     }
 
-    fn flush<R: Wait>(&mut self, rt: &R, alloc: Global, log: u8) -> Result<u64, Refusal> {
+    fn bring_up<R: Wait + Log>(&mut self, rt: &R, alloc: Global, log: u8) -> Result<u64, Refusal> {
         let mut guard = self.logs[usize::from(log)].lock(rt);
-        flush_log(alloc, &mut *guard, &mut SharedBook::new(rt, self.book), log)
-    }
-
-    fn bring_up<R: Wait>(&mut self, rt: &R, alloc: Global, log: u8) -> Result<u64, Refusal> {
-        let mut guard = self.logs[usize::from(log)].lock(rt);
-        bring_up_log(alloc, &mut *guard, &mut SharedBook::new(rt, self.book), log)
+        let before = guard.mark();
+        let told = bring_up_log(alloc, &mut *guard, &mut SharedBook::new(rt, self.book), log);
+        // Under the log's lock, so that its warnings come in the order of its changes.
+        if let Some(change) = change_of(log, before, guard.mark()) {
+            warn!(rt; "{change}");
+        }
+        told
     }
 }
 

@@ -31,18 +31,18 @@ impl Source for OwnState {
 
 /// A book behind its lock, which others use too: a drain says of it that its batch is in order.
 #[derive(Drop)]
-pub struct SharedBook<'a, L: Ledger, R: Wait> {
+pub struct SharedBook<'a, 'b, L: Ledger, R: Wait> {
     rt: &'a R,
-    book: &'a Mutex<Book<L>>,
+    book: &'b Mutex<Book<L>>,
 }
 
-impl<'a, L: Ledger, R: Wait> SharedBook<'a, L, R> {
-    pub fn new(rt: &'a R, book: &'a Mutex<Book<L>>) -> Self {
+impl<'a, 'b, L: Ledger, R: Wait> SharedBook<'a, 'b, L, R> {
+    pub fn new(rt: &'a R, book: &'b Mutex<Book<L>>) -> Self {
         SharedBook { rt, book }
     }
 }
 
-impl<L: Ledger, R: Wait> Source for SharedBook<'_, L, R> {
+impl<L: Ledger, R: Wait> Source for SharedBook<'_, '_, L, R> {
     ghost serves = { λ s worker. Unit {0} };
 
     ghost gives = { λ old new worker batch. Unit {0} };

@@ -6,7 +6,8 @@ ghost use Rattle.mt_state.specs.Begins.{HaveNoPairs, new_state};
 ghost use Rattle.mt_stored.specs.Places.{closed_on};
 
 use crate::source::OwnState;
-use crate::turns::{bring_up_log, flush_log};
+use crate::turns::bring_up_log;
+use log::Log;
 use mt_core::State;
 use mt_disk::Disk;
 use mt_rows::{Refusal, Tenants};
@@ -115,7 +116,7 @@ impl<D: Disk + Drop> Store<D> {
 
     /// Settles for the last time: with Ok every log goes up to the last step that was made. A store without
     /// logs has nothing to settle. An error is that of the first log that was not brought up to date.
-    pub fn settle_last<R: Wait>(&mut self, rt: &R, alloc: Global) -> Result<(), Refusal>
+    pub fn settle_last<R: Wait + Log>(&mut self, rt: &R, alloc: Global) -> Result<(), Refusal>
         ensures settled { OnOk result (IsSettled self.new.source.state self.new.logs.items) }
         ensures state { self.new.source.state.steps ≡ self.old.source.state.steps }
         ensures err { IfErr result (StopsSettling (λ old turn new. DoesStore D.is_honest D.state D.failures turn old.source old.logs.items new.source new.logs.items) (vec_len self.old.logs) self.old self.new) }
@@ -140,16 +141,7 @@ impl<D: Disk + Drop> Logs for Store<D> {
         self.source.state.logs()
     }
 
-    fn flush<R: Wait>(&mut self, _rt: &R, alloc: Global, log: u8) -> Result<u64, Refusal> {
-        flush_log(
-            alloc,
-            &mut self.logs[usize::from(log)],
-            &mut self.source,
-            log,
-        )
-    }
-
-    fn bring_up<R: Wait>(&mut self, _rt: &R, alloc: Global, log: u8) -> Result<u64, Refusal> {
+    fn bring_up<R: Wait + Log>(&mut self, _rt: &R, alloc: Global, log: u8) -> Result<u64, Refusal> {
         bring_up_log(
             alloc,
             &mut self.logs[usize::from(log)],

@@ -1,0 +1,12 @@
+-- Which worker is which.
+use Rattle.std.specs.Prelude.{◌≡◌, ℕ, zero, suc}
+
+-- the number of the worker at a place: the place, where so many logs are kept, else 0
+abbrev pub number_of : ℕ → ℕ → ℕ
+number_of zero place = 0
+number_of (suc logs) place = place
+
+-- a pass and a keeper are those of the worker at a place
+pub record AreOfWorker (logs place pass keeper : ℕ) : Type 0 where
+  pub pass_is : pass ≡ number_of logs place
+  pub keeper_is : keeper ≡ number_of logs place

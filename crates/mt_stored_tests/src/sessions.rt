@@ -1,0 +1,76 @@
+//! A worker's session over a shared book and shared logs, without a socket.
+
+use crate::disks::FlakyDisk;
+use crate::images::key_of;
+use log::Log;
+use mt_book::Book;
+use mt_rows::{Column, ColumnIndexes, Command, Key, NamedColumns, Refusal, Reply};
+use mt_service::DeskCaller;
+use mt_session::Caller;
+use mt_stored::SharedLogs;
+use std::alloc::{AllocError, Global};
+use std::sync::ledger::Ledger;
+use std::sync::{Mutex, Wait};
+
+/// A worker's session, and how many keys its client has put.
+#[derive(Drop)]
+pub(crate) struct Session<'a, L: Ledger, R: Wait> {
+    pub caller: DeskCaller<'a, L, R, &'a Mutex<Book<L>>, SharedLogs<'a, L, FlakyDisk>>,
+    pub worker: u8,
+    pub count: u16,
+}
+
+fn put_of(alloc: Global, key: [u8; 3]) -> Result<Command, AllocError> {
+    let key = Key::new(Vec::from_slice(alloc, &key)?);
+    let mut columns = Vec::new(alloc);
+    columns.push((0, Column::new(alloc, Vec::from_slice(alloc, &[1])?)?))?;
+    let change = NamedColumns::new(columns);
+    Ok(Command::Put { key, change })
+}
+
+fn get_of(alloc: Global, key: [u8; 3]) -> Result<Command, AllocError> {
+    let key = Key::new(Vec::from_slice(alloc, &key)?);
+    let columns = ColumnIndexes::new(Vec::new(alloc));
+    Ok(Command::Get { key, columns })
+}
+
+impl<L: Ledger, R: Wait + Log> Session<'_, L, R> {
+    /// Opens tenant 7.
+    pub(crate) fn open(&mut self) -> bool {
+        self.caller.open(7).is_ok()
+    }
+
+    /// Puts so many keys; whether each was told to be new.
+    pub(crate) fn puts(&mut self, alloc: Global, count: u16) -> bool {
+        for _ in 0..count {
+            let Ok(command) = put_of(alloc, key_of(self.worker, self.count)) else {
+                return false;
+            };
+            let told = self.caller.call(alloc, command);
+            if !matches!(&told, Ok(Reply::New)) {
+                return false;
+            }
+            self.count = self.count.saturating_add(1);
+        }
+        true
+    }
+
+    /// Gets its first key so many times; whether it was found each time.
+    pub(crate) fn gets(&mut self, alloc: Global, count: u16) -> bool {
+        for _ in 0..count {
+            let Ok(command) = get_of(alloc, key_of(self.worker, 0)) else {
+                return false;
+            };
+            let told = self.caller.call(alloc, command);
+            if !matches!(&told, Ok(Reply::Found(_))) {
+                return false;
+            }
+        }
+        true
+    }
+
+    /// Settles.
+    pub(crate) fn settle(&mut self) -> Result<u64, Refusal> {
+        self.caller.settle()
+    }
+}

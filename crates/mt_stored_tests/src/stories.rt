@@ -1,0 +1,355 @@
+//! What the sessions of several workers do, one act after the other, and what their logs hold then.
+
+ghost use Rattle.std.specs.Prelude.{◌≡◌, ◌<◌, ◌≤◌, length};
+
+use crate::disks::{Fails, FlakyDisk, NEVER};
+use crate::images::{hold_all, image_of, tenant_7};
+use crate::sessions::Session;
+use log::sink::Locked;
+use log::{Level, Log, Logged};
+use mt_book::{Book, open_pass};
+use mt_options::TenantQuota;
+use mt_rows::Refusal;
+use mt_service::DeskCaller;
+use mt_store_logs::StoreLog;
+use mt_stored::{Keeper, SharedLogs, Store, locked_logs, unlocked_logs};
+use std::alloc::Global;
+use std::marker::Brand;
+use std::process::Abort;
+use std::sync::ledger::{Blank, Ledger};
+use std::sync::{Mutex, Wait};
+
+/// The tenants that are served.
+pub(crate) const TENANTS: [TenantQuota; 1] = [TenantQuota {
+    tenant: 7,
+    quota: 100_000,
+}];
+
+/// A new store over disks, of which some calls fail.
+pub(crate) fn new_store(rt: &impl Abort, alloc: Global, fails: &[Fails]) -> Store<FlakyDisk>
+    requires some { 0 < length fails.now }
+    requires few { length fails.now ≤ 64 }
+    ensures { result.source.state.answers ≡ 0 }
+{
+    let mut disks = Vec::new(alloc);
+    for fails in fails {
+        assert!(rt; disks.push(FlakyDisk::new(alloc, *fails)).is_ok());
+    }
+    let tenants = tenant_7(rt, alloc);
+    assert!(rt; !disks.is_empty() && disks.len() <= 64);
+    match Store::create(alloc, disks, tenants) {
+        Ok(store) => store,
+        Err(_) => panic!(rt; "no store is made"),
+    }
+}
+
+/// A session of each worker.
+pub(crate) fn sessions_of<'a, L: Ledger, R: Wait + Log + Abort>(
+    rt: &'a R,
+    alloc: Global,
+    book: &'a Mutex<Book<L>>,
+    logs: &'a [Mutex<StoreLog<FlakyDisk>>],
+    tenants: &'a [TenantQuota],
+) -> Vec<Session<'a, L, R>> {
+    let mut sessions = Vec::new(alloc);
+    for worker in 0..logs.len().min(64) as u8 {
+        let pass = open_pass(rt, book, worker).expect(rt, "a pass");
+        let keeper = Keeper::new(alloc, SharedLogs::new(book, logs), worker);
+        let mut session = Session {
+            caller: DeskCaller::new(rt, book, pass, keeper, tenants),
+            worker,
+            count: 0,
+        };
+        assert!(rt; session.open());
+        sessions.push(session).expect(rt, "memory");
+    }
+    sessions
+}
+
+/// How many keys each of the sessions has put.
+pub(crate) fn counts_of<L: Ledger, R: Wait>(
+    rt: &impl Abort,
+    alloc: Global,
+    sessions: &[Session<'_, L, R>],
+) -> Vec<u16> {
+    let mut counts = Vec::new(alloc);
+    for session in sessions {
+        counts.push(session.count).expect(rt, "memory");
+    }
+    counts
+}
+
+/// What stands in the files of these logs now.
+pub(crate) fn images_now<R: Wait>(
+    rt: &R,
+    alloc: Global,
+    logs: &[Mutex<StoreLog<FlakyDisk>>],
+) -> Result<Vec<Vec<u8>>, Refusal> {
+    let mut images = Vec::new(alloc);
+    for log in logs {
+        let image = image_of(alloc, &*log.lock(rt))?;
+        images.push(image)?;
+    }
+    Ok(images)
+}
+
+/// All that was put is in the files of a store that has ended.
+pub(crate) fn expect_kept(rt: &impl Abort, alloc: Global, store: Store<FlakyDisk>, counts: &[u16]) {
+    let (_, logs) = store.into_parts();
+    let mut images = Vec::new(alloc);
+    for log in &logs {
+        let image = image_of(alloc, log).expect(rt, "an image");
+        images.push(image).expect(rt, "memory");
+    }
+    let tenants = tenant_7(rt, alloc);
+    assert!(rt;
+        hold_all(alloc, images, &tenants, counts) == Ok(true),
+        "at the end"
+    );
+}
+
+/// A store's end: its logs are joined with its state again, and settled for the last time.
+pub(crate) fn joined<L: Ledger, R: Wait + Log + Abort>(
+    rt: &R,
+    alloc: Global,
+    book: Mutex<Book<L>>,
+    logs: Vec<Mutex<StoreLog<FlakyDisk>>>,
+) -> Store<FlakyDisk> {
+    let logs = unlocked_logs(alloc, logs).expect(rt, "memory");
+    let mut store = Store::joined(book.into_inner().into_state(), logs).expect(rt, "a store");
+    assert!(rt; store.settle_last(rt, alloc).is_ok());
+    store
+}
+
+/// What is done or seen.
+#[derive(Clone, Copy, Debug)]
+enum Act {
+    /// The client of a worker puts so many new keys.
+    Puts(usize, u16),
+    /// It gets its first key so many times.
+    Gets(usize, u16),
+    /// It settles, and is told a number; all that was put is in the files then.
+    Settles(usize),
+    /// It settles, and is told that a device failed.
+    Fails(usize),
+    /// Each log is open, and goes further up than when this was last seen.
+    Rise,
+    /// A log is closed.
+    Closed(usize),
+    /// A log is open.
+    Open(usize),
+}
+
+// The least step up to which one of the logs goes, if all are open.
+fn least_mark<R: Wait>(rt: &R, logs: &[Mutex<StoreLog<FlakyDisk>>]) -> Option<u64> {
+    let mut least = u64::MAX;
+    for log in logs {
+        let mark = log.lock(rt).mark();
+        least = least.min(mark?);
+    }
+    Some(least)
+}
+
+// Whether a log is there, and open.
+fn is_open<R: Wait>(rt: &R, logs: &[Mutex<StoreLog<FlakyDisk>>], log: usize) -> bool {
+    match logs.get(log) {
+        Some(log) => log.lock(rt).mark().is_some(),
+        None => false,
+    }
+}
+
+// Whether all that was put is in the files.
+fn is_kept<L: Ledger, R: Wait + Abort>(
+    rt: &R,
+    alloc: Global,
+    logs: &[Mutex<StoreLog<FlakyDisk>>],
+    sessions: &[Session<'_, L, R>],
+) -> bool {
+    let counts = counts_of(rt, alloc, sessions);
+    let tenants = tenant_7(rt, alloc);
+    match images_now(rt, alloc, logs) {
+        Ok(images) => hold_all(alloc, images, &tenants, &counts) == Ok(true),
+        Err(_) => false,
+    }
+}
+
+// Whether an act comes out as it should, after which the logs were last seen to go up to a step.
+fn comes_out<L: Ledger, R: Wait + Log + Abort>(
+    rt: &R,
+    alloc: Global,
+    logs: &[Mutex<StoreLog<FlakyDisk>>],
+    sessions: &mut [Session<'_, L, R>],
+    seen: &mut u64,
+    act: Act,
+) -> bool {
+    match act {
+        Act::Puts(worker, count) => match sessions.get_mut(worker) {
+            Some(session) => session.puts(alloc, count),
+            None => false,
+        },
+        Act::Gets(worker, count) => match sessions.get_mut(worker) {
+            Some(session) => session.gets(alloc, count),
+            None => false,
+        },
+        Act::Settles(worker) => {
+            let told = match sessions.get_mut(worker) {
+                Some(session) => session.settle().is_ok(),
+                None => false,
+            };
+            told && is_kept(rt, alloc, logs, sessions)
+        }
+        Act::Fails(worker) => match sessions.get_mut(worker) {
+            Some(session) => session.settle() == Err(Refusal::Device),
+            None => false,
+        },
+        Act::Rise => match least_mark(rt, logs) {
+            Some(least) => {
+                let is_later = *seen < least;
+                *seen = least;
+                is_later
+            }
+            None => false,
+        },
+        Act::Closed(log) => !is_open(rt, logs, log),
+        Act::Open(log) => is_open(rt, logs, log),
+    }
+}
+
+// Plays a story, each of whose acts comes out as it should; how many keys each client has put.
+fn play<L: Ledger, R: Wait + Log + Abort>(
+    rt: &R,
+    alloc: Global,
+    book: &Mutex<Book<L>>,
+    logs: &[Mutex<StoreLog<FlakyDisk>>],
+    acts: &[Act],
+) -> Vec<u16> {
+    let mut sessions = sessions_of(rt, alloc, book, logs, &TENANTS);
+    let mut seen = 0;
+    for (place, act) in acts.iter().enumerate() {
+        assert!(rt;
+            comes_out(rt, alloc, logs, &mut sessions, &mut seen, *act),
+            "{place}: {act:?}"
+        );
+    }
+    counts_of(rt, alloc, &sessions)
+}
+
+// A store over such disks, and a story.
+fn run<L: Ledger, R: Wait + Log + Abort>(
+    rt: &R,
+    alloc: Global,
+    blank: Blank,
+    fails: &[Fails],
+    acts: &[Act],
+)
+    requires name { blank.name ≡ L.name }
+    requires parts { (blank.parts ≡ L.parts) × (L.parts ≡ 65536) }
+    requires some { 0 < length fails.now }
+    requires few { length fails.now ≤ 64 }
+{
+    let (state, logs) = new_store(rt, alloc, fails).into_parts();
+    let logs = locked_logs(alloc, logs).expect(rt, "memory");
+    let book = Mutex::new(Book::<L>::new(blank, state));
+    let counts = play(rt, alloc, &book, &logs, acts);
+    let store = joined(rt, alloc, book, logs);
+    expect_kept(rt, alloc, store, &counts);
+}
+
+// Two workers, both past 1,024 answers, and Settles of either.
+const TWO: [Act; 10] = [
+    Act::Puts(0, 3),
+    Act::Puts(1, 5),
+    Act::Settles(1),
+    Act::Puts(0, 1_500),
+    Act::Puts(1, 1_300),
+    Act::Settles(0),
+    Act::Gets(1, 700),
+    Act::Puts(1, 30),
+    Act::Settles(1),
+    Act::Puts(0, 2),
+];
+
+// Four workers, one after the other past 1,024 answers.
+const FOUR: [Act; 11] = [
+    Act::Puts(3, 1_030),
+    Act::Puts(1, 1),
+    Act::Puts(0, 1_100),
+    Act::Settles(2),
+    Act::Puts(2, 1_024),
+    Act::Puts(1, 1_024),
+    Act::Settles(1),
+    Act::Puts(3, 2_100),
+    Act::Puts(0, 7),
+    Act::Settles(3),
+    Act::Puts(2, 1),
+];
+
+// One client of four workers, which never settles.
+const ONE_BUSY: [Act; 5] = [
+    Act::Puts(2, 1),
+    Act::Gets(2, 4_095),
+    Act::Rise,
+    Act::Puts(2, 4_096),
+    Act::Rise,
+];
+
+#[test]
+fn each_log_has_its_own_workers_changes_once(rt: HostRuntime) {
+    let alloc = rt.alloc();
+    run::<Brand, _>(&rt, alloc, Blank::new(65_536), &[NEVER, NEVER], &TWO);
+    run::<Brand, _>(&rt, alloc, Blank::new(65_536), &[NEVER; 4], &FOUR);
+    run::<Brand, _>(&rt, alloc, Blank::new(65_536), &[NEVER; 4], &ONE_BUSY);
+}
+
+// The disk of log 1 fails four times in a row: at the append of the first Settle, and then at the first call of
+// each opening. Worker 1 has its 1,024th answer after that.
+const OWN_OPENS: [Act; 15] = [
+    Act::Puts(0, 10),
+    Act::Puts(1, 10),
+    Act::Fails(0),
+    Act::Closed(1),
+    Act::Puts(1, 5),
+    Act::Fails(1),
+    Act::Gets(0, 5),
+    Act::Fails(0),
+    Act::Puts(0, 3),
+    Act::Fails(1),
+    Act::Closed(1),
+    Act::Puts(1, 1_009),
+    Act::Open(1),
+    Act::Puts(0, 1),
+    Act::Settles(0),
+];
+
+// The same, and worker 0 alone goes on: its second 1,024th answer opens the log.
+const OTHER_OPENS: [Act; 8] = [
+    Act::Puts(1, 10),
+    Act::Fails(0),
+    Act::Fails(0),
+    Act::Fails(0),
+    Act::Fails(0),
+    Act::Puts(0, 2_047),
+    Act::Closed(1),
+    Act::Puts(0, 1),
+];
+
+const WARNINGS: &str =
+    "[WARN  mt_stored::shared] log 1: its disk failed; it is closed until a write succeeds
+[WARN  mt_stored::shared] log 1: open again
+";
+
+// A story over two logs, the second of whose disks fails; what is warned of.
+fn run_failing<R: Wait + Abort>(rt: &R, alloc: Global, acts: &[Act]) {
+    let logged = Logged::new(rt, Level::Warn, Locked::new(rt, Vec::new(alloc)));
+    run::<Brand, _>(&logged, alloc, Blank::new(65_536), &[NEVER, (4, 8)], acts);
+    let (_, sink) = logged.into_parts();
+    let lines = sink.into_inner();
+    assert_eq!(rt; lines.as_slice(), WARNINGS.as_bytes());
+}
+
+#[test]
+fn a_disk_that_fails_makes_nobody_wait(rt: HostRuntime) {
+    let alloc = rt.alloc();
+    run_failing(&rt, alloc, &OWN_OPENS);
+    run_failing(&rt, alloc, &OTHER_OPENS);
+}
