@@ -1,5 +1,5 @@
 -- What a worker's batch is before its length is asked for: its steps, its stamps, and the limits of its records.
-use Rattle.std.specs.Prelude.{ℕ, ◌<◌, ◌≤◌, ◌^◌, List, Option, Some, None}
+use Rattle.std.specs.Prelude.{◌≡◌, ◌⊎◌, ℕ, ◌<◌, ◌≤◌, ◌^◌, List, length, Option, Some, None}
 use Rattle.std.specs.List.{All}
 use Rattle.mt_rows.specs.Rows.{Columns, IsRow}
 use Rattle.mt_rows.specs.Commands.{IsKey}
@@ -30,3 +30,12 @@ pub record IsInOrder (b : Batch) : Type 0 where
   pub order : b.from ≤ b.to
   pub last : b.to ≤ 2 ^ 59
   pub records : AreLogged b.from b.to b.records
+
+-- a batch as a drain gives it: in order, and of at most 4,096 records, so that any log takes it
+pub record IsBounded (b : Batch) : Type 0 where
+  pub in_order : IsInOrder b
+  pub few : length b.records ≤ 4096
+
+-- a batch that brings a log on towards a step: it goes up to there at least, or it is full
+abbrev pub BringsOn : ℕ → Batch → Type 0
+BringsOn step b = (step ≤ b.to) ⊎ (length b.records ≡ 4096)
