@@ -6,7 +6,7 @@ use Rattle.std.proofs.lemmas.Bool.{ltb-false, and_parts, and_from, not-true, not
 use Rattle.std.proofs.lemmas.Option.{same_Some, slice_get_within}
 use Rattle.mt_rows.specs.declared.record.Record.{Record}
 use Rattle.mt_log.specs.Contents.{Contents, IsContents, JoinsAndRises}
-use Rattle.mt_crashes.specs.Fronts.{cutoff_of, is_void, all_voids, records_of, all_records, is_replayed, In, Rise, IsReplay, after_changes}
+use Rattle.mt_crashes.specs.Fronts.{cutoff_of, is_void, all_voids, records_of, all_records, is_replayed, In, Rise, IsReplay, after_changes, HoldResume}
 use Rattle.mt_crashes.specs.Histories.{Placed, upto, changes_of, pairs_upto}
 use Rattle.mt_rows.specs.Tenants.{Contents as Pairs}
 use Rattle.mt_crashes.specs.Recoveries.{IsUsed, IsBaseOf, IsRecovered, AreSet, StandsTwice, NoneOlder}
@@ -215,13 +215,15 @@ never_twice count n stamp i j s fronts some few h left t =
 -- no log is older than the others
 pub none_older : (count n : ℕ) (s : Store) (fronts : List Contents) → 0 < count → count ≤ 64 → Leads n (new_store count) s
     → MayLeaveFronts s.logs fronts → NoneOlder fronts
-none_older count n s fronts some few h left m f g in_f served in_g =
+none_older count n s fronts some few h left m g over last in_g =
     let is = leads n (new_store count) s (new_is count some few) h in
-    let i = in_place f fronts in_f in
+    let f = last.0 in
+    let i = in_place f.0 fronts f.1 in
     let j = in_place g fronts in_g in
-    let one = zip_right MayLeaveFront s.logs fronts i.0 f left i.1 in
+    let one = zip_right MayLeaveFront s.logs fronts i.0 f.0 left i.1 in
     let other = zip_right MayLeaveFront s.logs fronts j.0 g left j.1 in
-    is.level i.0 one.0 one.1 f one.2 m served j.0 other.0 other.1 g other.2
+    let all = is.level i.0 one.0 one.1 f.0 one.2 m over f.2 in
+    subst (λ (k : ℕ). HoldResume k g.batches) (omega (arith, all.1, last.1 all.0 (f.0, f.1, all.2))) (all.3 j.0 other.0 other.1 g other.2)
 
 -- each log that a crash leaves is its worker's, in the format, and its batches join and rise
 pub owned : (count n k : ℕ) (s : Store) (fronts : List Contents) (f : Contents) → 0 < count → count ≤ 64 → Leads n (new_store count) s

@@ -8,12 +8,12 @@ use Rattle.mt_rows.specs.declared.record.Record.{Record}
 use Rattle.mt_log.specs.declared.batch.LogBatch.{LogBatch}
 use Rattle.mt_log.specs.declared.batch.LogBatch.TheVariants.{Records, Resume}
 use Rattle.mt_log.specs.Contents.{Contents, Rises, Join, end_of, from_of, to_of, mark_of, with_batch, no_batches}
-use Rattle.mt_crashes.specs.Fronts.{records_in, In, Rise}
+use Rattle.mt_crashes.specs.Fronts.{records_in, In, Rise, HoldResume}
 use Rattle.mt_crashes.specs.Histories.{Placed, changes_of}
 use Rattle.mt_crashes.specs.Stores.{LogNow, at_rest, MayLeaveFront, new_logs, Reaches}
-use Rattle.mt_crashes.specs.Invariants.{RisePlaced}
+use Rattle.mt_crashes.specs.Invariants.{RisePlaced, Holds}
 use Rattle.mt_crashes.proofs.Members.{no_some, in_either, all_at}
-use Rattle.mt_crashes.proofs.FrontLaws.{mark_more}
+use Rattle.mt_crashes.proofs.FrontLaws.{mark_more, resume_left}
 
 -- ---- places in a list
 
@@ -145,6 +145,12 @@ end_from mark (b ∷ bs) h = omega (arith, h.0, order b h.1, end_from (to_of b) 
     order (Records b) is = is.0
     order (Resume from to kept) is = is.0
 
+pub resume_upto_mark : (n mark : ℕ) (bs : List LogBatch) → Join mark bs → HoldResume n bs → n ≤ end_of mark bs
+resume_upto_mark n mark [] h at = absurd at
+resume_upto_mark n mark (Records b ∷ bs) h (inl none) = absurd none
+resume_upto_mark n mark (Resume from to kept ∷ bs) h (inl e) = omega (arith, e, end_from to bs h.2)
+resume_upto_mark n mark (b ∷ bs) h (inr at) = resume_upto_mark n (to_of b) bs h.2 at
+
 pub stamp_upto_mark : (mark : ℕ) (bs : List LogBatch) (r : Record) → Join mark bs → In r (flat_map records_in bs) → r.stamp ≤ end_of mark bs
 stamp_upto_mark mark [] r h at = absurd at
 stamp_upto_mark mark (b ∷ bs) r h at =
@@ -168,6 +174,12 @@ reaches_more n had b before on left (inr h) =
     let goes : n ≤ to_of b = omega (arith, before had (inl refl), on) in
     subst (λ (x : Contents). n ≤ mark_of x) (sym h.2)
     (subst (λ (c : LogBatch). n ≤ mark_of (with_batch c had)) (same_Some b h.0 h.1) (subst (λ (m : ℕ). n ≤ m) (sym (mark_more b had)) goes))
+
+pub holds_more : (n : ℕ) (had : Contents) (b : LogBatch) → Holds n (at_rest had) → Holds n (record { had = had; doubt = Some b })
+holds_more n had b before left (inl e) = before left (inl e)
+holds_more n had b before left (inr h) =
+    subst (λ (x : Contents). HoldResume n x.batches) (sym h.2)
+    (subst (λ (c : LogBatch). HoldResume n (with_batch c had).batches) (same_Some b h.0 h.1) (resume_left n b had.batches (before had (inl refl))))
 
 pub new_at : (count first n worker : ℕ) (log : LogNow) → slice_get (new_logs count first n) worker ≡ Some log
     → (log ≡ at_rest (no_batches (first + worker) count)) × (worker < n)

@@ -11,16 +11,16 @@ use Rattle.mt_log.specs.declared.batch.LogBatch.{LogBatch}
 use Rattle.mt_log.specs.declared.batch.LogBatch.TheVariants.{Records, Resume}
 use Rattle.mt_log.specs.Contents.{Contents, mark_of, with_batch, no_batches}
 use Rattle.mt_log.proofs.FrontLaws.{contents_more, in_format, batch_in_order, in_steps, join_more}
-use Rattle.mt_crashes.specs.Fronts.{Numbers, greatest, cutoff_of, last_end, is_void, voids_of, records_of, In, ServedFrom}
+use Rattle.mt_crashes.specs.Fronts.{Numbers, greatest, cutoff_of, last_end, is_void, voids_of, records_of, In, HoldResume, ServedFrom}
 use Rattle.mt_crashes.specs.Histories.{Placed, upto}
 use Rattle.mt_crashes.specs.Bases.{CheckpointView, Slots, IsCheckpointOf}
 use Rattle.mt_crashes.specs.Recoveries.{resume_of, checkpoint_ends}
 use Rattle.mt_crashes.specs.Stores.{Store, LogNow, SlotNow, at_rest, only_this, MayLeaveFront, new_logs, new_store, is_between, StepsOn, Places, Appends, Rests, IsFresh, WritesSlot, Recovers, Resumes, Serves, Happens, Leads, Reaches, ReachesAt, AllReach}
-use Rattle.mt_crashes.specs.Invariants.{by_worker, HoldResume, IsFrontOf, Guards, HasLog, HasTopLog, HasTopSlot, IsStore}
+use Rattle.mt_crashes.specs.Invariants.{by_worker, IsFrontOf, Guards, HasLog, Holds, AllHold, IsLevel, HasTopLog, HasTopSlot, IsStore}
 use Rattle.mt_crashes.proofs.Members.{in_filter, filter_in, filter_filter, filter_same, in_left, in_either, in_map, map_in, in_place, place_in, no_some, all_at}
-use Rattle.mt_crashes.proofs.FrontLaws.{from_cutoff, upto_last, cutoff_upto_last, ends_last, ends_cutoff, below_greatest, greatest_in, mark_more, in_more, more_left, more_right, resume_more, served_more, void_left, void_right, void_either, void_from, void_later, void_cases}
+use Rattle.mt_crashes.proofs.FrontLaws.{from_cutoff, upto_last, cutoff_upto_last, ends_last, ends_cutoff, below_greatest, greatest_in, mark_more, in_more, more_left, more_right, resume_more, served_more, served_left, served_last, void_left, void_right, void_either, void_from, void_later, void_cases}
 use Rattle.mt_crashes.proofs.Bases.{base_upto, base_push}
-use Rattle.mt_crashes.proofs.Invariant.{after_set, before_set, one_there, within_place, map_place, place_map, rise_filter, rise_push, stamp_upto_mark, left_at_rest, reaches_more, new_at, new_long}
+use Rattle.mt_crashes.proofs.Invariant.{after_set, before_set, one_there, within_place, map_place, place_map, rise_filter, rise_push, stamp_upto_mark, resume_upto_mark, left_at_rest, reaches_more, holds_more, new_at, new_long}
 
 -- ---- a new store
 
@@ -69,7 +69,8 @@ new_is count some few = record {
   slots = λ k slot there c at. absurd (none_new k slot there c at);
   low = λ off. absurd (true≢false off);
   whole = λ on worker log there left may. omega arith;
-  level = λ worker log there left may n served.
+  held = λ on over. absurd (omega (arith, over));
+  level = λ worker log there left may n over served.
       absurd (subst (ServedFrom n) (new_front count worker log some few there left may) served);
 }
   where
@@ -99,6 +100,7 @@ steps_on old new is h = subst IsStore (sym h.stands) (record {
   slots = λ k slot there c at. later_slot old.steps (old.steps + 1) old.voids old.history c (omega arith) (is.slots k slot there c at);
   low = is.low;
   whole = is.whole;
+  held = is.held;
   level = is.level;
 })
 
@@ -144,6 +146,7 @@ places old new is h = subst IsStore (sym h.stands) (record {
       };
   low = is.low;
   whole = is.whole;
+  held = is.held;
   level = is.level;
 })
   where
@@ -165,7 +168,8 @@ record Replaces (s : Store) (worker : ℕ) (was now : LogNow) : Type 0 where
   pub fronts : (left : Contents) → MayLeaveFront now left → IsFrontOf s worker left
   pub guards : (n : ℕ) → is_void s.voids n ≡ true → Guards n was → Guards n now
   pub reaches : (n : ℕ) → Reaches n was → Reaches n now
-  pub served : (left : Contents) → MayLeaveFront now left → (n : ℕ) → ServedFrom n left → AllReach n s
+  pub holds : (n : ℕ) → Holds n was → Holds n now
+  pub served : (left : Contents) → MayLeaveFront now left → (n : ℕ) → 0 < n → ServedFrom n left → IsLevel n left s
 
 with_log : Store → ℕ → LogNow → Store
 with_log s worker now = record s { logs = slice_set s.logs worker now }
@@ -196,6 +200,14 @@ one_reach s worker was now h n w before log there =
 all_reach : (s : Store) (worker : ℕ) (was now : LogNow) → Replaces s worker was now → (n : ℕ) → AllReach n s → AllReach n (with_log s worker now)
 all_reach s worker was now h n all w = one_reach s worker was now h n w (all w)
 
+all_hold : (s : Store) (worker : ℕ) (was now : LogNow) → Replaces s worker was now → (n : ℕ) → AllHold n s → AllHold n (with_log s worker now)
+unfolding with_log
+all_hold s worker was now h n all w log there =
+    ⊎_elim
+    (λ l. subst (Holds n) (sym l.1) (h.holds n (all worker was h.there)))
+    (λ r. all w log r)
+    (after_set s.logs worker w now log there)
+
 replaces : (s : Store) (worker : ℕ) (was now : LogNow) → IsStore s → Replaces s worker was now → IsStore (with_log s worker now)
 unfolding with_log
 replaces s worker was now is h = record {
@@ -224,12 +236,16 @@ replaces s worker was now is h = record {
   slots = is.slots;
   low = λ off kept before e. all_reach s worker was now h kept (is.low off kept before e);
   whole = λ on. all_reach s worker was now h s.reached (is.whole on);
-  level = λ w log there left may n served. all_reach s worker was now h n (⊎_elim
-      (λ l. h.served left (subst (λ (x : LogNow). MayLeaveFront x left) l.1 may) n served)
-      (λ r. is.level w log r left may n served)
+  held = λ on over. all_hold s worker was now h s.reached (is.held on over);
+  level = λ w log there left may n over served. still n left (⊎_elim
+      (λ l. h.served left (subst (λ (x : LogNow). MayLeaveFront x left) l.1 may) n over served)
+      (λ r. is.level w log r left may n over served)
       (after_set s.logs worker w now log there));
 }
   where
+    still : (n : ℕ) (left : Contents) → IsLevel n left s → IsLevel n left (record s { logs = slice_set s.logs worker now })
+    still n left m = (m.0, m.1, m.2, all_hold s worker was now h m.0 m.3)
+
     top_log : HasTopLog s → HasTopLog (record s { logs = slice_set s.logs worker now })
     top_log g = ⊎_elim
         (λ l. (
@@ -259,6 +275,7 @@ appended old new h is = record {
   fronts = fronts;
   guards = guards;
   reaches = λ n before. reaches_more n h.had (Records h.batch) before (omega (arith, h.turn, h.fits.order));
+  holds = λ n before. holds_more n h.had (Records h.batch) before;
   served = served;
 }
   where
@@ -268,7 +285,7 @@ appended old new h is = record {
     was : IsFrontOf old h.worker h.had
     was = is.logs h.worker (at_rest h.had) h.rests h.had (inl refl)
 
-    was_level : (n : ℕ) → ServedFrom n h.had → AllReach n old
+    was_level : (n : ℕ) → 0 < n → ServedFrom n h.had → IsLevel n h.had old
     was_level = is.level h.worker (at_rest h.had) h.rests h.had (inl refl)
 
     after : IsFrontOf old h.worker (with_batch (Records h.batch) h.had)
@@ -313,14 +330,24 @@ appended old new h is = record {
             let there = (in_filter (λ x. not (is_void old.voids x.change.stamp)) p.0 old.placed (subst (In p.0) is.left kept.0)).0 in
             subst (λ (x : Placed). In x old.placed) (same_placed p.0 h.worker r mine p.2) there
 
-    -- records are appended only once every log goes up to the last recovery, past which no resume batch goes
-    served : (left : Contents) → MayLeaveFront (record { had = h.had; doubt = Some (Records h.batch) }) left → (n : ℕ) → ServedFrom n left
-        → AllReach n old
-    served left (inl e) n has = was_level n (subst (ServedFrom n) e has)
-    served left (inr m) n has = ⊎_elim (λ l. was_level n l)
-        (λ two worker log there left may. omega (arith, was.resumed n two.0, is.whole h.serves worker log there left may))
-        (served_more n (Records h.batch) h.had.batches
-        (subst (ServedFrom n) (m.2 ∙ ap (λ (c : LogBatch). with_batch c h.had) (sym (same_Some (Records h.batch) m.0 m.1))) has))
+    -- records are appended only once every log has the resume batch of the last recovery, past which no resume batch goes
+    tells : (n : ℕ) → 0 < n → ServedFrom n (with_batch (Records h.batch) h.had) → IsLevel n (with_batch (Records h.batch) h.had) old
+    tells n over has = ⊎_elim
+        (λ l. let m = was_level n over l in (m.0, m.1, served_left m.0 (Records h.batch) h.had.batches m.2, m.3))
+        (λ two. let all = is.held h.serves (omega (arith, over, was.resumed n two.0)) in (
+          old.reached,
+          was.resumed n two.0,
+          served_last old.reached h.batch h.had.batches (all h.worker (at_rest h.had) h.rests h.had (inl refl)),
+          all,
+        ))
+        (served_more n (Records h.batch) h.had.batches has)
+
+    served : (left : Contents) → MayLeaveFront (record { had = h.had; doubt = Some (Records h.batch) }) left → (n : ℕ) → 0 < n → ServedFrom n left
+        → IsLevel n left old
+    served left (inl e) n over has = subst (λ (f : Contents). IsLevel n f old) (sym e) (was_level n over (subst (ServedFrom n) e has))
+    served left (inr m) n over has =
+        let same = m.2 ∙ ap (λ (c : LogBatch). with_batch c h.had) (sym (same_Some (Records h.batch) m.0 m.1)) in
+        subst (λ (f : Contents). IsLevel n f old) (sym same) (tells n over (subst (ServedFrom n) same has))
 
     fronts : (left : Contents) → MayLeaveFront (record { had = h.had; doubt = Some (Records h.batch) }) left → IsFrontOf old h.worker left
     fronts left (inl e) = subst (IsFrontOf old h.worker) (sym e) was
@@ -349,6 +376,7 @@ resumed old new h is = record {
   fronts = fronts;
   guards = guards;
   reaches = λ n before. reaches_more n h.had batch before h.rises.0;
+  holds = λ n before. holds_more n h.had batch before;
   served = served;
 }
   where
@@ -358,7 +386,7 @@ resumed old new h is = record {
     was : IsFrontOf old h.worker h.had
     was = is.logs h.worker (at_rest h.had) h.rests h.had (inl refl)
 
-    was_level : (n : ℕ) → ServedFrom n h.had → AllReach n old
+    was_level : (n : ℕ) → 0 < n → ServedFrom n h.had → IsLevel n h.had old
     was_level = is.level h.worker (at_rest h.had) h.rests h.had (inl refl)
 
     kept_upto : h.kept ≤ mark_of h.had
@@ -399,13 +427,19 @@ resumed old new h is = record {
             (cases_lt h.kept r.stamp)
 
     -- a resume batch alone tells nothing more
+    tells : (n : ℕ) → 0 < n → ServedFrom n (with_batch (Resume (mark_of h.had) old.reached h.kept) h.had)
+        → IsLevel n (with_batch (Resume (mark_of h.had) old.reached h.kept) h.had) old
+    tells n over has = ⊎_elim
+        (λ l. let m = was_level n over l in (m.0, m.1, served_left m.0 (Resume (mark_of h.had) old.reached h.kept) h.had.batches m.2, m.3))
+        (λ two. absurd two.1)
+        (served_more n (Resume (mark_of h.had) old.reached h.kept) h.had.batches has)
+
     served : (left : Contents) → MayLeaveFront (record { had = h.had; doubt = Some (Resume (mark_of h.had) old.reached h.kept) }) left → (n : ℕ)
-        → ServedFrom n left → AllReach n old
-    served left (inl e) n has = was_level n (subst (ServedFrom n) e has)
-    served left (inr m) n has = ⊎_elim (λ l. was_level n l) (λ two. absurd two.1)
-        (served_more n (Resume (mark_of h.had) old.reached h.kept) h.had.batches
-        (subst (ServedFrom n)
-        (m.2 ∙ ap (λ (c : LogBatch). with_batch c h.had) (sym (same_Some (Resume (mark_of h.had) old.reached h.kept) m.0 m.1))) has))
+        → 0 < n → ServedFrom n left → IsLevel n left old
+    served left (inl e) n over has = subst (λ (f : Contents). IsLevel n f old) (sym e) (was_level n over (subst (ServedFrom n) e has))
+    served left (inr m) n over has =
+        let same = m.2 ∙ ap (λ (c : LogBatch). with_batch c h.had) (sym (same_Some (Resume (mark_of h.had) old.reached h.kept) m.0 m.1)) in
+        subst (λ (f : Contents). IsLevel n f old) (sym same) (tells n over (subst (ServedFrom n) same has))
 
     fronts : (left : Contents) → MayLeaveFront (record { had = h.had; doubt = Some (Resume (mark_of h.had) old.reached h.kept) }) left
         → IsFrontOf old h.worker left
@@ -438,6 +472,7 @@ rested old new h is = record {
   fronts = λ left may. is.logs h.worker h.log h.there left (fewer left may);
   guards = λ n void before left may. before left (fewer left may);
   reaches = λ n before left may. before left (fewer left may);
+  holds = λ n before left may. before left (fewer left may);
   served = λ left may. is.level h.worker h.log h.there left (fewer left may);
 }
   where
@@ -538,6 +573,7 @@ recovers old new is h = subst IsStore (sym h.stands) (record {
       let same = left_at_rest f.0 left (subst (λ (l : LogNow). MayLeaveFront l left) f.2 may) in
       omega (arith, ap (λ (vs : List Numbers). low_of vs) e, from_cutoff f.0 h.fronts (place_in f.0 worker h.fronts f.1), ap mark_of same);
   whole = λ on. absurd (true≢false (sym on));
+  held = λ on. absurd (true≢false (sym on));
   level = is.level;
 })
   where
@@ -680,6 +716,7 @@ writes_slot old new is h = subst IsStore (sym h.stands) (record {
       (after_set old.slots h.slot k h.now slot there);
   low = is.low;
   whole = is.whole;
+  held = is.held;
   level = is.level;
 })
   where
@@ -724,19 +761,21 @@ serves old new is h = subst IsStore (sym h.stands) (record {
   slots = is.slots;
   low = λ off. absurd (true≢false off);
   whole = λ on. all;
+  held = λ on over. all_held;
   level = is.level;
 })
   where
-    all : (worker : ℕ) (log : LogNow) → HasLog old worker log → Reaches old.reached log
-    all worker log there left may =
+    all_held : (worker : ℕ) (log : LogNow) → HasLog old worker log → Holds old.reached log
+    all_held worker log there left may =
         let f = front_there old h.fronts worker log h.rest there in
         let e = left_at_rest f.0 left (subst (λ (l : LogNow). MayLeaveFront l left) f.2 may) in
-        omega (
-          arith,
-          ap mark_of e,
-          all_at (λ (x : Contents). old.reached ≤ mark_of x) f.0 h.fronts
-              (recursion_from_All (λ (x : Contents). old.reached ≤ mark_of x) h.fronts h.resumed) (place_in f.0 worker h.fronts f.1),
-        )
+        subst (λ (x : Contents). HoldResume old.reached x.batches) (sym e)
+        (all_at (λ (x : Contents). HoldResume old.reached x.batches) f.0 h.fronts
+        (recursion_from_All (λ (x : Contents). HoldResume old.reached x.batches) h.fronts h.resumed) (place_in f.0 worker h.fronts f.1))
+
+    all : (worker : ℕ) (log : LogNow) → HasLog old worker log → Reaches old.reached log
+    all worker log there left may =
+        resume_upto_mark old.reached 0 left.batches (is.logs worker log there left may).joins (all_held worker log there left may)
 
     first : HasTopLog (record old { serving = true })
     first = let l = within_place old.logs 0 is.some in (0, l.0, l.1, all 0 l.0 l.1)

@@ -1,5 +1,5 @@
 -- What the fronts of all logs tell together: where they end, which numbers are void, and what is replayed.
-use Rattle.std.specs.Prelude.{◌≡◌, ◌⊎◌, ℕ, ◌<◌, min, max, Bool, not, ◌&&◌, nat_lt, List, [], ◌∷◌, map, Option, Some, None}
+use Rattle.std.specs.Prelude.{◌≡◌, ◌⊎◌, ℕ, ◌<◌, ◌≤◌, min, max, Bool, not, ◌&&◌, nat_lt, List, [], ◌∷◌, map, Option, Some, None}
 use Rattle.std.specs.List.{filter, filter_map, flat_map, list_any}
 use Rattle.std.specs.List.Sorted.{IsPermutation}
 use Rattle.mt_rows.specs.Rows.{Bytes}
@@ -97,6 +97,11 @@ abbrev pub IsResumeTo : ℕ → LogBatch → Type 0
 IsResumeTo n (Records b) = ⊥
 IsResumeTo n (Resume from to kept) = to ≡ n
 
+-- a resume batch up to a number stands among batches
+abbrev pub HoldResume : ℕ → List LogBatch → Type 0
+HoldResume n [] = ⊥
+HoldResume n (b ∷ bs) = IsResumeTo n b ⊎ HoldResume n bs
+
 -- among some batches is one of records, be it of no records
 abbrev pub HoldRecords : List LogBatch → Type 0
 HoldRecords [] = ⊥
@@ -109,6 +114,15 @@ RecordsFollow n [] = ⊥
 RecordsFollow n (b ∷ bs) = (IsResumeTo n b × HoldRecords bs) ⊎ RecordsFollow n bs
 
 -- A log tells that its store has served from a number on: records follow a resume batch up to there. A store appends records only while it serves, and
--- after a recovery it serves only once every log has its resume batch.
+-- after a recovery it serves only once every log has its resume batch. So each log has a resume batch up to the last such number that any log tells,
+-- unless that is 0.
 abbrev pub ServedFrom : ℕ → Contents → Type 0
 ServedFrom n front = RecordsFollow n front.batches
+
+-- one of some logs tells that the store has served from a number on
+abbrev pub AnyServed : List Contents → ℕ → Type 0
+AnyServed fronts n = (f : Contents) × In f fronts × ServedFrom n f
+
+-- the last number from which the store has served, as any of the logs tells
+abbrev pub IsLastServed : List Contents → ℕ → Type 0
+IsLastServed fronts n = AnyServed fronts n × ((m : ℕ) → AnyServed fronts m → m ≤ n)

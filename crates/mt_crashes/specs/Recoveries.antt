@@ -3,9 +3,9 @@ use Rattle.std.specs.Prelude.{◌≡◌, ◌≢◌, ◌⊎◌, ℕ, ◌<◌, ◌
 use Rattle.std.specs.FinMap as pairs
 use Rattle.mt_rows.specs.Tenants.{Contents as Pairs}
 use Rattle.mt_rows.specs.declared.record.Record.{Record}
-use Rattle.mt_log.specs.Contents.{Contents, mark_of}
+use Rattle.mt_log.specs.Contents.{Contents}
 use Rattle.mt_crashes.specs.Bases.{CheckpointView, Slots}
-use Rattle.mt_crashes.specs.Fronts.{In, greatest, cutoff_of, last_end, is_void, all_voids, records_of, IsReplay, after_changes, ServedFrom}
+use Rattle.mt_crashes.specs.Fronts.{In, greatest, cutoff_of, last_end, is_void, all_voids, records_of, IsReplay, after_changes, HoldResume, IsLastServed}
 
 -- it ended by the cutoff, and in no void range
 pub record MayUse (fronts : List Contents) (c : CheckpointView) : Type 0 where
@@ -60,6 +60,7 @@ pub record StandsTwice (fronts : List Contents) (stamp : ℕ) (i j : ℕ) : Type
   pub one : (f : Contents) × (r : Record) × (slice_get fronts i ≡ Some f) × In r (records_of f) × (r.stamp ≡ stamp)
   pub two : (g : Contents) × (q : Record) × (slice_get fronts j ≡ Some g) × In q (records_of g) × (q.stamp ≡ stamp)
 
--- no log is older than the others: each goes up to every number from which any of them tells that the store has served
+-- No log is older than the others: each has a resume batch up to the last number from which any of them tells that the store has served. Up to 0 there
+-- are no changes, so nothing is asked.
 abbrev pub NoneOlder : List Contents → Type 0
-NoneOlder fronts = (n : ℕ) (f g : Contents) → In f fronts → ServedFrom n f → In g fronts → n ≤ mark_of g
+NoneOlder fronts = (n : ℕ) (g : Contents) → 0 < n → IsLastServed fronts n → In g fronts → HoldResume n g.batches

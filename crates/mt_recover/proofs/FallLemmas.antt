@@ -1,5 +1,5 @@
 -- A log in which nothing falls rises: for `first_twice`, and the law that nothing falls just where logs join and rise.
-use Rattle.std.proofs.Common.{◌≡◌, inl, inr, subst, ℕ, ◌≤◌, Bool, true, false, cond, List, [], ◌∷◌, ◌++◌, refl, sym, arith, Option, Some, None}
+use Rattle.std.proofs.Common.{◌≡◌, inl, inr, ◌∙◌, ap, ℕ, ◌≤◌, Bool, true, false, cond, List, [], ◌∷◌, ◌++◌, refl, sym, arith, Option, Some, None}
 use Rattle.std.specs.List.{flat_map}
 use Rattle.std.proofs.lemmas.Bool.{and_parts, eqb-true, ltb-true, ltb-false, not-true}
 use Rattle.mt_rows.specs.declared.record.Record.{Record}
@@ -8,7 +8,7 @@ use Rattle.mt_log.specs.declared.batch.LogBatch.TheVariants.{Records, Resume}
 use Rattle.mt_log.specs.Contents.{Contents}
 use Rattle.mt_crashes.specs.Fronts.{In, Rise, records_in, records_of}
 use Rattle.mt_crashes.proofs.Members.{no_some}
-use Rattle.mt_recover.specs.Falls.{first_of, fall_in, fall_behind, with_worker, first_fall}
+use Rattle.mt_recover.specs.Falls.{first_of, fall_in, fall_behind, fall_of, with_worker, first_fall}
 
 -- neither of two is there where the first that is there is none
 pub none_first : {X : Type 0} (one other : Option X) → first_of one other ≡ None → (one ≡ None) × (other ≡ None)
@@ -51,8 +51,11 @@ with_none : (worker : ℕ) (fall : Option ℕ) → with_worker worker fall ≡ N
 with_none worker None h = refl
 with_none worker (Some stamp) h = absurd (no_some (worker, stamp) (sym h))
 
--- in logs of which none falls each rises
+-- logs of which none falls: nothing falls in each, and each rises
+pub front_falls_not : (fronts : List Contents) (f : Contents) → first_fall fronts ≡ None → In f fronts → fall_of f ≡ None
+front_falls_not [] f h at = absurd at
+front_falls_not (c ∷ cs) f h (inl e) = ap fall_of e ∙ with_none c.worker _ (none_first _ _ h).0
+front_falls_not (c ∷ cs) f h (inr at) = front_falls_not cs f (none_first _ _ h).1 at
+
 pub front_rises : (fronts : List Contents) (f : Contents) → first_fall fronts ≡ None → In f fronts → Rise 0 (records_of f)
-front_rises [] f h at = absurd at
-front_rises (c ∷ cs) f h (inl e) = subst (λ (x : Contents). Rise 0 (records_of x)) (sym e) (risen 0 c.batches (with_none c.worker _ (none_first _ _ h).0))
-front_rises (c ∷ cs) f h (inr at) = front_rises cs f (none_first _ _ h).1 at
+front_rises fronts f h at = risen 0 f.batches (front_falls_not fronts f h at)

@@ -1,20 +1,30 @@
 -- Logs of which one is older are refused for that alone: for the laws.
-use Rattle.std.proofs.Common.{◌≡◌, inl, inr, ℕ, ◌<◌, List, refl, sym, ◌∙◌, arith, Option, None}
+use Rattle.std.proofs.Common.{◌≡◌, inl, inr, ℕ, ◌<◌, List, refl, sym, ◌∙◌, subst, arith, Option, None}
 use Rattle.mt_rows.specs.declared.refusal.Refusal.{Refusal}
 use Rattle.mt_rows.specs.declared.refusal.Refusal.TheVariants as refusals
 use Rattle.mt_log.specs.Contents.{Contents, mark_of}
-use Rattle.mt_crashes.specs.Fronts.{In, ServedFrom}
+use Rattle.mt_crashes.specs.Fronts.{In, HoldResume, ServedFrom, IsLastServed}
 use Rattle.mt_crashes.specs.Bases.{Slots}
 use Rattle.mt_crashes.specs.Recoveries.{AreSet, NoneOlder}
 use Rattle.mt_crashes.proofs.Members.{no_some}
-use Rattle.mt_recover.specs.Examples.{fronts_with_copy, fronts_with_new, fronts_resumed_twice}
+use Rattle.mt_recover.specs.Examples.{fronts_with_copy, fronts_with_new, fronts_with_ended, fronts_resumed_twice}
 use Rattle.mt_recover.specs.Falls.{first_fall}
 use Rattle.mt_recover.specs.Older.{IsFirstOlder}
 use Rattle.mt_recover.specs.Refusals.{AreSound, Falls, IsRefusal}
-use Rattle.mt_recover.proofs.OlderLemmas.{none_is_older, one_is_older, not_both}
+use Rattle.mt_recover.proofs.OlderLemmas.{none_over, one_is_older, not_both, reaches_served}
+use Rattle.mt_recover.proofs.FallLaws.{joins_and_rises}
+use Rattle.mt_recover.proofs.FallLemmas.{front_falls_not}
 
-pub not_sound : (n : ℕ) (fronts : List Contents) (f g : Contents) → In f fronts → ServedFrom n f → In g fronts → mark_of g < n → ¬ AreSound fronts
-not_sound n fronts f g in_f served in_g ends sound = omega (arith, ends, sound.level n f g in_f served in_g)
+pub not_sound : (n : ℕ) (fronts : List Contents) (g : Contents) → 0 < n → IsLastServed fronts n → In g fronts → ¬ HoldResume n g.batches → ¬ AreSound fronts
+not_sound n fronts g over last in_g lacks sound = lacks (sound.level n g over last in_g)
+
+pub not_sound_before : (n : ℕ) (fronts : List Contents) (f g : Contents) → In f fronts → ServedFrom n f → In g fronts → mark_of g < n → ¬ AreSound fronts
+not_sound_before n fronts f g in_f served in_g ends sound =
+    omega (
+      arith,
+      ends,
+      reaches_served n fronts f g sound.level in_f served in_g (joins_and_rises g (front_falls_not fronts g sound.rise in_g)),
+    )
 
 -- one log is told, with one number
 one_worker : (fronts : List Contents) (worker other stamp later : ℕ) → IsFirstOlder fronts worker stamp → IsFirstOlder fronts other later
@@ -22,8 +32,8 @@ one_worker : (fronts : List Contents) (worker other stamp later : ℕ) → IsFir
 one_worker fronts worker other stamp later a b = (
   omega (
     arith,
-    a.least b.log b.given (omega (arith, b.ends, same)),
-    b.least a.log a.given (omega (arith, a.ends, same)),
+    a.least b.log b.given (subst (λ (n : ℕ). ¬ HoldResume n b.log.batches) (sym same) b.lacks),
+    b.least a.log a.given (subst (λ (n : ℕ). ¬ HoldResume n a.log.batches) same a.lacks),
     a.owner,
     b.owner,
   ),
@@ -31,7 +41,7 @@ one_worker fronts worker other stamp later a b = (
 )
   where
     same : stamp ≡ later
-    same = omega (arith, a.last later b.served, b.last stamp a.served)
+    same = omega (arith, a.served.1 later b.served.0, b.served.1 stamp a.served.0)
 
 module _ (worker stamp : ℕ) (fronts : List Contents) (set : AreSet fronts) (rise : first_fall fronts ≡ None) (older : IsFirstOlder fronts worker stamp) (read : Slots)
     (quota : ℕ → Option ℕ) where
@@ -68,10 +78,13 @@ module _ (worker stamp : ℕ) (fronts : List Contents) (set : AreSet fronts) (ri
 -- ---- examples
 
 pub copy_is_older : IsFirstOlder fronts_with_copy 1 2
-copy_is_older = one_is_older fronts_with_copy 1 refl
+copy_is_older = one_is_older fronts_with_copy 1 (omega arith) refl
 
 pub new_is_older : IsFirstOlder fronts_with_new 1 2
-new_is_older = one_is_older fronts_with_new 1 refl
+new_is_older = one_is_older fronts_with_new 1 (omega arith) refl
+
+pub ended_is_older : IsFirstOlder fronts_with_ended 1 4
+ended_is_older = one_is_older fronts_with_ended 1 (omega arith) refl
 
 pub resumed_twice_are_level : NoneOlder fronts_resumed_twice
-resumed_twice_are_level = none_is_older fronts_resumed_twice refl
+resumed_twice_are_level = none_over fronts_resumed_twice refl

@@ -1,15 +1,16 @@
--- The last number from which a store has served, and the least worker whose log ends before it: for `first_older`.
+-- The last number from which a store has served, and the least worker whose log has no resume batch up to it: for `first_older`.
 use Rattle.std.proofs.Common.{◌≡◌, ◌⊎◌, inl, inr, ⊎_elim, ℕ, ◌<◌, ◌≤◌, min, max, Bool, true, false, cond, ltb, List, [], ◌∷◌, map, refl, sym, ◌∙◌, ap, subst, arith, Option, Some, None}
-use Rattle.std.proofs.lemmas.Bool.{ltb-true, ltb-false}
+use Rattle.std.proofs.lemmas.Bool.{ltb-true, ltb-false, eqb-true, eq-eqb, or_left, or_right, or_cases, true≢false}
 use Rattle.std.proofs.lemmas.Option.{same_Some}
 use Rattle.mt_log.specs.declared.batch.LogBatch.{LogBatch}
 use Rattle.mt_log.specs.declared.batch.LogBatch.TheVariants.{Records, Resume}
-use Rattle.mt_log.specs.Contents.{Contents, mark_of}
-use Rattle.mt_crashes.specs.Fronts.{In, HoldRecords, RecordsFollow}
+use Rattle.mt_log.specs.Contents.{Contents, JoinsAndRises, mark_of}
+use Rattle.mt_crashes.specs.Fronts.{In, HoldResume, HoldRecords, RecordsFollow, ServedFrom, AnyServed, IsLastServed}
 use Rattle.mt_crashes.specs.Recoveries.{NoneOlder}
 use Rattle.mt_crashes.proofs.Members.{in_map, map_in, no_some}
 use Rattle.mt_crashes.proofs.FrontLaws.{below_greatest, greatest_in}
-use Rattle.mt_recover.specs.Older.{AnyServed, IsFirstOlder, served_in, last_served, lower, least_before}
+use Rattle.mt_crashes.proofs.Invariant.{resume_upto_mark}
+use Rattle.mt_recover.specs.Older.{IsFirstOlder, served_in, last_served, holds_resume, lower, least_without}
 
 -- ---- the last number
 
@@ -69,36 +70,71 @@ is_served (c ∷ cs) some =
     by f over (inr (inl two)) = absurd (omega (arith, over, two.0))
     by f over (inr (inr h)) = h
 
+-- so it is the last, if it isn't 0
+is_last : (fronts : List Contents) → 0 < last_served fronts → IsLastServed fronts (last_served fronts)
+is_last fronts some = (is_served fronts some, λ n any. last_is fronts n any)
+
+last_is_it : (fronts : List Contents) (n : ℕ) → 0 < n → IsLastServed fronts n → last_served fronts ≡ n
+last_is_it fronts n over last =
+    let upto = last_is fronts n last.0 in
+    omega (arith, upto, last.1 (last_served fronts) (is_served fronts (omega (arith, over, upto))))
+
+-- ---- a resume batch
+
+told_held : (n : ℕ) (bs : List LogBatch) → holds_resume n bs ≡ true → HoldResume n bs
+told_held n [] e = absurd (true≢false (sym e))
+told_held n (Records b ∷ bs) e = inr (told_held n bs e)
+told_held n (Resume from to kept ∷ bs) e = ⊎_elim (λ l. inl (eqb-true to n l)) (λ r. inr (told_held n bs r)) (or_cases _ _ e)
+
+held_told : (n : ℕ) (bs : List LogBatch) → HoldResume n bs → holds_resume n bs ≡ true
+held_told n [] h = absurd h
+held_told n (Records b ∷ bs) (inl none) = absurd none
+held_told n (Records b ∷ bs) (inr h) = held_told n bs h
+held_told n (Resume from to kept ∷ bs) (inl e) = or_left _ _ (eq-eqb to n e)
+held_told n (Resume from to kept ∷ bs) (inr h) = or_right _ _ (held_told n bs h)
+
+held_not : (n : ℕ) (bs : List LogBatch) → holds_resume n bs ≡ false → ¬ HoldResume n bs
+held_not n bs e h = true≢false (sym (held_told n bs h) ∙ e)
+
 -- ---- the least worker
 
--- nothing was found before, and each log goes up to the number
-none_before : (number : ℕ) (found : Option ℕ) (fronts : List Contents) → least_before number found fronts ≡ None
-    → (found ≡ None) × ((f : Contents) → In f fronts → number ≤ mark_of f)
-none_before number found [] h = (h, λ f at. absurd at)
-none_before number found (c ∷ cs) h = by (ltb (mark_of c) number) refl (none_before number (cond (ltb (mark_of c) number) (lower found c.worker) found) cs h)
+-- nothing was found before, and each log has a resume batch up to the number
+none_without : (number : ℕ) (found : Option ℕ) (fronts : List Contents) → least_without number found fronts ≡ None
+    → (found ≡ None) × ((f : Contents) → In f fronts → HoldResume number f.batches)
+none_without number found [] h = (h, λ f at. absurd at)
+none_without number found (c ∷ cs) h =
+    by (holds_resume number c.batches) refl (none_without number (cond (holds_resume number c.batches) found (lower found c.worker)) cs h)
   where
     some_lower : (o : Option ℕ) (worker : ℕ) → lower o worker ≡ None → ⊥
     some_lower None worker e = no_some worker (sym e)
     some_lower (Some other) worker e = no_some (min other worker) (sym e)
 
-    by : (t : Bool) → ltb (mark_of c) number ≡ t → (cond t (lower found c.worker) found ≡ None) × ((f : Contents) → In f cs → number ≤ mark_of f)
-        → (found ≡ None) × ((f : Contents) → In f (c ∷ cs) → number ≤ mark_of f)
-    by true is rest = absurd (some_lower found c.worker rest.0)
-    by false is rest = (rest.0, λ f at. ⊎_elim (λ e. omega (arith, ltb-false (mark_of c) number is, ap mark_of e)) (λ more. rest.1 f more) at)
+    by : (t : Bool) → holds_resume number c.batches ≡ t
+        → (cond t found (lower found c.worker) ≡ None) × ((f : Contents) → In f cs → HoldResume number f.batches)
+        → (found ≡ None) × ((f : Contents) → In f (c ∷ cs) → HoldResume number f.batches)
+    by false is rest = absurd (some_lower found c.worker rest.0)
+    by true is rest = (
+      rest.0,
+      λ f at. ⊎_elim
+          (λ e. subst (λ (x : Contents). HoldResume number x.batches) (sym e) (told_held number c.batches is))
+          (λ more. rest.1 f more)
+          at,
+    )
 
--- a worker that is found was so before, or its log ends before the number
+-- a worker that is found was so before, or its log has no resume batch up to the number
 abbrev Found : ℕ → Option ℕ → List Contents → ℕ → Type 0
-Found number found fronts worker = (found ≡ Some worker) ⊎ ((f : Contents) × In f fronts × (f.worker ≡ worker) × (mark_of f < number))
+Found number found fronts worker = (found ≡ Some worker) ⊎ ((f : Contents) × In f fronts × (f.worker ≡ worker) × ¬ HoldResume number f.batches)
 
 -- and it is the least
 abbrev IsLeast : ℕ → Option ℕ → List Contents → ℕ → Type 0
-IsLeast number found fronts worker = ((other : ℕ) → found ≡ Some other → worker ≤ other) × ((f : Contents) → In f fronts → mark_of f < number → worker ≤ f.worker)
+IsLeast number found fronts worker =
+    ((other : ℕ) → found ≡ Some other → worker ≤ other) × ((f : Contents) → In f fronts → ¬ HoldResume number f.batches → worker ≤ f.worker)
 
-one_before : (number : ℕ) (found : Option ℕ) (fronts : List Contents) (worker : ℕ) → least_before number found fronts ≡ Some worker
+one_without : (number : ℕ) (found : Option ℕ) (fronts : List Contents) (worker : ℕ) → least_without number found fronts ≡ Some worker
     → Found number found fronts worker × IsLeast number found fronts worker
-one_before number found [] worker h = (inl h, (λ other e. omega (arith, same_Some worker other (sym h ∙ e)), λ f at. absurd at))
-one_before number found (c ∷ cs) worker h =
-    by (ltb (mark_of c) number) refl (one_before number (cond (ltb (mark_of c) number) (lower found c.worker) found) cs worker h)
+one_without number found [] worker h = (inl h, (λ other e. omega (arith, same_Some worker other (sym h ∙ e)), λ f at. absurd at))
+one_without number found (c ∷ cs) worker h =
+    by (holds_resume number c.batches) refl (one_without number (cond (holds_resume number c.batches) found (lower found c.worker)) cs worker h)
   where
     lowered : (o : Option ℕ) → lower o c.worker ≡ Some worker → (o ≡ Some worker) ⊎ (c.worker ≡ worker)
     lowered None e = inr (same_Some c.worker worker e)
@@ -112,49 +148,71 @@ one_before number found (c ∷ cs) worker h =
     below None h = (λ other e. absurd (no_some other e), h c.worker refl)
     below (Some x) h = (λ other e. omega (arith, h (min x c.worker) refl, same_Some x other e), omega (arith, h (min x c.worker) refl))
 
-    by : (t : Bool) → ltb (mark_of c) number ≡ t → Found number (cond t (lower found c.worker) found) cs worker × IsLeast number (cond t (lower found c.worker) found) cs worker
+    by : (t : Bool) → holds_resume number c.batches ≡ t
+        → Found number (cond t found (lower found c.worker)) cs worker × IsLeast number (cond t found (lower found c.worker)) cs worker
         → Found number found (c ∷ cs) worker × IsLeast number found (c ∷ cs) worker
-    by true is rest =
+    by false is rest =
         let under = below found rest.1.0 in (
           ⊎_elim
-              (λ e. ⊎_elim (λ l. inl l) (λ r. inr (c, inl refl, r, ltb-true (mark_of c) number is)) (lowered found e))
+              (λ e. ⊎_elim (λ l. inl l) (λ r. inr (c, inl refl, r, held_not number c.batches is)) (lowered found e))
               (λ at. inr (at.0, inr at.1, at.2, at.3))
               rest.0,
-          (under.0, λ f at ends. ⊎_elim (λ e. omega (arith, under.1, ap (λ (x : Contents). x.worker) e)) (λ more. rest.1.1 f more ends) at),
+          (under.0, λ f at lacks. ⊎_elim (λ e. omega (arith, under.1, ap (λ (x : Contents). x.worker) e)) (λ more. rest.1.1 f more lacks) at),
         )
-    by false is rest = (
+    by true is rest = (
       ⊎_elim (λ e. inl e) (λ at. inr (at.0, inr at.1, at.2, at.3)) rest.0,
       (
         rest.1.0,
-        λ f at ends. ⊎_elim (λ e. absurd (omega (arith, ltb-false (mark_of c) number is, ends, ap mark_of e))) (λ more. rest.1.1 f more ends) at,
+        λ f at lacks. ⊎_elim
+            (λ e. absurd (lacks (subst (λ (x : Contents). HoldResume number x.batches) (sym e) (told_held number c.batches is))))
+            (λ more. rest.1.1 f more lacks)
+            at,
       ),
     )
 
 -- ---- both
 
-pub none_is_older : (fronts : List Contents) → least_before (last_served fronts) None fronts ≡ None → NoneOlder fronts
-none_is_older fronts h n f g in_f served in_g =
-    omega (arith, last_is fronts n (f, in_f, served), (none_before (last_served fronts) None fronts h).1 g in_g)
+pub none_over : (fronts : List Contents) → last_served fronts ≡ 0 → NoneOlder fronts
+none_over fronts h n g over last in_g = absurd (omega (arith, h, over, last_is_it fronts n over last))
 
-pub one_is_older : (fronts : List Contents) (worker : ℕ) → least_before (last_served fronts) None fronts ≡ Some worker → IsFirstOlder fronts worker (last_served fronts)
-one_is_older fronts worker h =
-    let two = one_before (last_served fronts) None fronts worker h in
+pub none_is_older : (fronts : List Contents) → least_without (last_served fronts) None fronts ≡ None → NoneOlder fronts
+none_is_older fronts h n g over last in_g =
+    subst (λ (k : ℕ). HoldResume k g.batches) (last_is_it fronts n over last) ((none_without (last_served fronts) None fronts h).1 g in_g)
+
+pub one_is_older : (fronts : List Contents) (worker : ℕ) → 0 < last_served fronts → least_without (last_served fronts) None fronts ≡ Some worker
+    → IsFirstOlder fronts worker (last_served fronts)
+one_is_older fronts worker over h =
+    let two = one_without (last_served fronts) None fronts worker h in
     by two.0 two.1
   where
     by : Found (last_served fronts) None fronts worker → IsLeast (last_served fronts) None fronts worker → IsFirstOlder fronts worker (last_served fronts)
     by (inl none) least = absurd (no_some worker none)
     by (inr at) least = record {
-      served = is_served fronts (omega (arith, at.3));
-      last = λ n any. last_is fronts n any;
+      some = over;
+      served = is_last fronts over;
       log = at.0;
       given = at.1;
       owner = at.2;
-      ends = at.3;
-      least = λ other in_other ends. least.1 other in_other ends;
+      lacks = at.3;
+      least = λ other in_other lacks. least.1 other in_other lacks;
     }
 
 -- ---- laws
 
--- a log that ends before such a number, and none that does, are never both there
+-- a log without such a batch, and none without it, are never both there
 pub not_both : (fronts : List Contents) (worker stamp : ℕ) → NoneOlder fronts → IsFirstOlder fronts worker stamp → ⊥
-not_both fronts worker stamp none one = omega (arith, one.ends, none stamp one.served.0 one.log one.served.1 one.served.2 one.given)
+not_both fronts worker stamp none one = one.lacks (none stamp one.log one.some one.served one.given)
+
+-- where none is older, and each joins, each goes up to every number from which any tells that the store has served
+pub reaches_served : (n : ℕ) (fronts : List Contents) (f g : Contents) → NoneOlder fronts → In f fronts → ServedFrom n f → In g fronts → JoinsAndRises g
+    → n ≤ mark_of g
+reaches_served n fronts f g none in_f served in_g joins = by (ltb 0 (last_served fronts)) refl
+  where
+    upto : n ≤ last_served fronts
+    upto = last_is fronts n (f, in_f, served)
+
+    by : (t : Bool) → ltb 0 (last_served fronts) ≡ t → n ≤ mark_of g
+    by false is = omega (arith, upto, ltb-false 0 (last_served fronts) is)
+    by true is =
+        let over = ltb-true 0 (last_served fronts) is in
+        omega (arith, upto, resume_upto_mark (last_served fronts) 0 g.batches joins (none (last_served fronts) g over (is_last fronts over) in_g))

@@ -3,7 +3,7 @@ use Rattle.std.specs.Prelude.{List, [], ◌∷◌}
 use Rattle.mt_log.specs.declared.batch.LogBatch.{LogBatch}
 use Rattle.mt_log.specs.declared.batch.LogBatch.TheVariants.{Records, Resume}
 use Rattle.mt_log.specs.Contents.{Contents}
-use Rattle.mt_crashes.specs.Examples.{batch}
+use Rattle.mt_crashes.specs.Examples.{change, batch}
 
 -- The first log ended at 2 when the store was recovered, and the second at 1. The store went on from 2, and the first log has a record since. The
 -- second has these batches.
@@ -19,6 +19,12 @@ fronts_with_copy = fronts_with (Records (batch 0 1) ∷ [])
 -- The second was made anew.
 abbrev pub fronts_with_new : List Contents
 fronts_with_new = fronts_with []
+
+-- The store ended in order at 4, and was recovered from there. The first log has a record since. The second is a copy that was made before the recovery.
+abbrev pub fronts_with_ended : List Contents
+fronts_with_ended =
+    record { worker = 0; logs = 2; batches = Records (batch 0 4) ∷ Resume 4 4 4 ∷ Records (batch 4 5) ∷ [] }
+    ∷ record { worker = 1; logs = 2; batches = Records (record { from = 0; to = 4; records = change 3 ∷ [] }) ∷ [] } ∷ []
 
 -- Two recoveries crashed, of which the second goes on from 3, as a checkpoint told. The second log has a resume batch of the first of them alone.
 abbrev pub fronts_resumed_twice : List Contents

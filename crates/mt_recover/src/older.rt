@@ -3,18 +3,20 @@
 ghost use Rattle.std.specs.Prelude.{◌≡◌, ◌≤◌, map, Option, None, MatchOption};
 ghost use Rattle.mt_log.specs.Contents.{contents_of};
 ghost use Rattle.mt_crashes.specs.Recoveries.{NoneOlder};
-ghost use Rattle.mt_recover.specs.Older.{IsFirstOlder, served_in, last_served, lower, least_before};
+ghost use Rattle.mt_recover.specs.Older.{IsFirstOlder, served_in, last_served, holds_resume, lower, least_without};
 
-use crate::cutoffs::front_end;
 use mt_log::{Front, LogBatch};
 
 /// The last number from which the store has served, as any of the logs tells, and the least worker whose
-/// log ends before it; none where each log goes up to there.
+/// log has no resume batch up to there; none where each log has one, or where that number is 0.
 pub(crate) fn first_older(fronts: &[Front]) -> Option<(u8, u64)>
     ensures { MatchOption result (NoneOlder (map contents_of fronts.now)) (λ f. IsFirstOlder (map contents_of fronts.now) f.0 f.1) }
 {
     let served = last_served(fronts);
-    match least_before(fronts, served) {
+    if served == 0 {
+        return None;
+    }
+    match least_without(fronts, served) {
         Some(worker) => Some((worker, served)),
         None => None,
     }
@@ -46,17 +48,24 @@ fn served_in(front: &Front) -> u64
     served
 }
 
-// The least worker whose log ends before a number.
-fn least_before(fronts: &[Front], number: u64) -> Option<u8>
-    ensures { result ≡ least_before number None (map contents_of fronts.now) }
+// The least worker whose log has no resume batch up to a number.
+fn least_without(fronts: &[Front], number: u64) -> Option<u8>
+    ensures { result ≡ least_without number None (map contents_of fronts.now) }
 {
     let mut least = None;
     for front in fronts {
-        if front_end(front) < number {
+        if !holds_resume(front, number) {
             least = lower(least, front.worker);
         }
     }
     least
+}
+
+// Whether a log has a resume batch up to a number.
+fn holds_resume(front: &Front, number: u64) -> bool
+    ensures { result ≡ holds_resume number front.now.batches.items }
+{
+    front.batches.iter().any(|batch| matches!(batch, LogBatch::Resume { to, .. } if *to == number))
 }
 
 // The lower of two workers, if there are two.

@@ -31,7 +31,10 @@ const BEFORE: &[Part] = &[UpTo(5)];
 
 const NEW: &[Part] = &[];
 
-const CASES: [Case; 14] = [
+// After a clean end, where all logs went up to 9, the store was started again.
+const STARTED: &[Part] = &[UpTo(6), Resume(8, 5), UpTo(9), Resume(9, 9), UpTo(13)];
+
+const CASES: [Case; 19] = [
     // No log is older.
     ([WHOLE, WHOLE, WHOLE], Ok(9)),
     // Each log, put back from before the recovery.
@@ -88,6 +91,28 @@ const CASES: [Case; 14] = [
             &[UpTo(5), Resume(9, 5)],
         ],
         Err((1, 9)),
+    ),
+    // A log from before the clean end goes as far as the start's resume batches, and has none of them.
+    ([STARTED, STARTED, STARTED], Ok(13)),
+    ([WHOLE, STARTED, STARTED], Err((0, 9))),
+    ([STARTED, WHOLE, WHOLE], Err((1, 9))),
+    // One that goes past them has none of them either.
+    (
+        [
+            &[UpTo(9), Resume(9, 9), UpTo(13)],
+            &[UpTo(10)],
+            &[UpTo(9), Resume(9, 9)],
+        ],
+        Err((1, 9)),
+    ),
+    // Up to 0 nothing was placed, so no log is told for want of such a resume batch.
+    (
+        [
+            &[Resume(0, 0), UpTo(9)],
+            &[UpTo(9)],
+            &[Resume(0, 0), UpTo(10)],
+        ],
+        Ok(9),
     ),
     // A copy, and a log made anew, of a store that never was recovered can't be told.
     ([&[UpTo(6), UpTo(9)], BEFORE, NEW], Ok(0)),

@@ -29,7 +29,7 @@ use Rattle.mt_core.specs.Restores.{counting, IsRestored}
 use Rattle.mt_core.specs.Rights.{IsRightState}
 use Rattle.mt_core.specs.Tickets.{named}
 use Rattle.mt_core.proofs.EventRuns.{leads_first, by_id_first}
-use Rattle.mt_crashes.specs.Fronts.{after_changes}
+use Rattle.mt_crashes.specs.Fronts.{after_changes, HoldResume}
 use Rattle.mt_crashes.specs.Histories.{Placed, upto, changes_of}
 use Rattle.mt_crashes.specs.Stores.{Store, LogNow, at_rest, AllReach}
 use Rattle.mt_crashes.specs.Stores as stores
@@ -63,8 +63,9 @@ had_of l = l.had
 abbrev pub served : Store → Store
 served t = record t { serving = true }
 
-pub serves_now : (t : Store) → t.serving ≡ false → RestAt t.reached t.logs → LeadsTo t (served t)
-serves_now t off r =
+pub serves_now : (t : Store) → t.serving ≡ false → RestAt t.reached t.logs
+    → ((k : ℕ) (now : LogNow) → slice_get t.logs k ≡ Some now → HoldResume t.reached now.had.batches) → LeadsTo t (served t)
+serves_now t off r held =
     let fronts = map had_of t.logs in
     let s : stores.Serves t (served t) = record {
       recovers = off;
@@ -72,9 +73,7 @@ serves_now t off r =
       rest = resting_logs t.logs r.rest;
       resumed = λ k d lt.
           let at = map_place had_of t.logs k (get_or fronts k d) (slice_get-get_or fronts k d lt) in
-          let front = ap mark_of at.2 in
-          let mark = r.marks k at.0 at.1 in
-          omega (arith, front, mark);
+          subst (λ (c : Contents). HoldResume t.reached c.batches) (sym at.2) (held k at.0 at.1);
       stands = refl;
     } in
     one_more t t (served t) (stays_here t t refl) (inr (inr (inr (inr (inr (inr (inl s)))))))

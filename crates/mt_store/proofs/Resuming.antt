@@ -10,9 +10,9 @@ use Rattle.mt_disk.specs.Mem.{mem_state}
 use Rattle.mt_log.specs.declared.batch.LogBatch.{LogBatch}
 use Rattle.mt_log.specs.declared.batch.LogBatch.TheVariants.{Resume}
 use Rattle.mt_log.specs.Contents.{Contents, Rises, mark_of, with_batch}
-use Rattle.mt_crashes.specs.Fronts.{Numbers}
+use Rattle.mt_crashes.specs.Fronts.{Numbers, HoldResume}
 use Rattle.mt_crashes.specs.Stores.{Store, LogNow, at_rest, Resumes}
-use Rattle.mt_crashes.proofs.FrontLaws.{mark_more}
+use Rattle.mt_crashes.proofs.FrontLaws.{mark_more, resume_right}
 use Rattle.mt_crashes.proofs.Invariant.{within_place, map_place}
 use Rattle.mt_recover.specs.declared.resuming.LogSlot.{LogSlot}
 use Rattle.mt_recover.specs.Resumes.{FailsToResume}
@@ -121,6 +121,7 @@ module _ (t : Store) (kept : ℕ) (before : List Numbers) (off : t.serving ≡ f
       pub len_so : length logs ≡ length t.logs
       pub rest_so : (k : ℕ) (now : LogNow) → slice_get logs k ≡ Some now → now ≡ at_rest now.had
       pub marks : (k : ℕ) (now : LogNow) → slice_get logs k ≡ Some now → mark_of now.had ≡ t.reached
+      pub held : (k : ℕ) (now : LogNow) → slice_get logs k ≡ Some now → HoldResume t.reached now.had.batches
       pub shows : AllShow (with_logs logs t) new
 
     resumed_by : (logs : List LogNow) → Walked t Has goes (length t.logs) t.logs logs → ResumedAll
@@ -138,6 +139,10 @@ module _ (t : Store) (kept : ℕ) (before : List Numbers) (off : t.serving ≡ f
           marks = λ k now at.
               let h = (there k now at).1 in
               ap (λ (n : LogNow). mark_of n.had) h.is ∙ mark_more (resume_batch kept t.reached h.front) h.front;
+          held = λ k now at.
+              let h = (there k now at).1 in
+              subst (λ (n : LogNow). HoldResume t.reached n.had.batches) (sym h.is)
+              (resume_right t.reached (resume_batch kept t.reached h.front) h.front.batches refl);
           shows = λ k now log at at_log. (there k now at).1.shows log at_log;
         }
 

@@ -231,7 +231,7 @@ module _ (accounts : Accounts) (standing : Standing) (old : List (StoreLog MemDi
           -- the next life
           pub with_state : Holds accounts (crashed_to (Ok next) standing) new (Some serving)
           with_state =
-              let goes = serves_now last refl rest_at in
+              let goes = serves_now last refl rest_at resumed.held in
               let len : length new ≡ length old = resumes.len ∙ opens.each.len in
               record {
                 s = served last;
