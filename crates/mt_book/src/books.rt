@@ -1,9 +1,9 @@
 //! The book: the state, and the total of the answers that were taken of it.
 
-ghost use Rattle.std.specs.Prelude.{◌≡◌, ◌+◌, ◌<◌, ◌≤◌, ◌↔◌, false, true, max, IfOk, IfErr, OnErr, OnOk, IsOk, IfSome, IfNone, IsTrue, IsSome, length, vec_len};
+ghost use Rattle.std.specs.Prelude.{ℕ, ◌≡◌, ◌+◌, ◌<◌, ◌≤◌, ◌↔◌, false, true, max, IfOk, IfErr, OnErr, OnOk, IsOk, IfSome, IfNone, IsTrue, IsSome, length, vec_len};
 ghost use Rattle.std.specs.List.{sum_by};
 ghost use Rattle.mt_rows.specs.Accounts.{account_of};
-ghost use Rattle.mt_batches.specs.Batches.{IsInOrder};
+ghost use Rattle.mt_batches.specs.Batches.{IsBounded, BringsOn};
 ghost use Rattle.mt_state.specs.Promises.{Tells};
 ghost use Rattle.mt_state.specs.Begins.{IsWorker};
 ghost use Rattle.mt_core.specs.Tickets.{TellsBegin, TellsTake, TellsCancel, TellsRefusal};
@@ -156,7 +156,8 @@ impl<L: Ledger> Book<L> {
     pub fn drain(&mut self, worker: u8) -> Result<Batch, AllocError>
         requires { worker < length self.old.state.logs }
         ensures drains { IfOk result (λ batch. Drains self.old.state self.new.state worker batch) }
-        ensures in_order { IfOk result IsInOrder }
+        ensures bounded { IfOk result IsBounded }
+        ensures brings { (upto : ℕ) → upto ≤ self.old.state.steps → IfOk result (BringsOn upto) }
         ensures unchanged_on_err { OnErr result (self.new.state ≡ self.old.state) }
         ensures opened { (self.new.opened ≡ self.old.opened) × (self.new.gathered ≡ self.old.gathered) }
     {

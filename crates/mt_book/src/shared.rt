@@ -2,7 +2,7 @@
 
 ghost use Rattle.std.specs.Prelude.{◌≡◌, IfSome, IfOk, IfErr};
 ghost use Rattle.std.specs.List.{sum_by};
-ghost use Rattle.mt_batches.specs.Batches.{IsInOrder};
+ghost use Rattle.mt_batches.specs.Batches.{IsBounded, BringsOn};
 ghost use Rattle.mt_book.specs.declared.passes.Pass.{Pass};
 ghost use Rattle.mt_book.specs.Books.{IsRightBook};
 
@@ -167,17 +167,19 @@ pub fn open_pass<L: Ledger, R: Wait>(rt: &R, book: &Mutex<Book<L>>, worker: u8) 
     locked(rt, book).open_pass(worker)
 }
 
-/// What a worker's log is to be given, in a period of its own, as the book's. A book without a log of this
-/// worker is looked at for ever.
+/// The next batch of a worker's log, in a period of its own: it goes up to a step at least, or it is full. A book
+/// without a log of this worker, or of fewer steps, is looked at for ever.
 pub fn drain<L: Ledger, R: Wait>(
     rt: &R,
     book: &Mutex<Book<L>>,
     worker: u8,
+    upto: u64,
 ) -> Result<Batch, AllocError>
-    ensures in_order { IfOk result IsInOrder }
+    ensures bounded { IfOk result IsBounded }
+    ensures brings { IfOk result (BringsOn upto) }
 {
     for _ in rt.forever() {
-        if let Some(drained) = drained(rt, book, worker) {
+        if let Some(drained) = drained(rt, book, worker, upto) {
             return drained;
         }
         thread::yield_now();
@@ -185,16 +187,18 @@ pub fn drain<L: Ledger, R: Wait>(
     unreachable!()
 }
 
-// The same, unless there is no such log.
+// The same, unless there is no such log, or there are fewer steps.
 fn drained<L: Ledger, R: Wait>(
     rt: &R,
     book: &Mutex<Book<L>>,
     worker: u8,
+    upto: u64,
 ) -> Option<Result<Batch, AllocError>>
-    ensures in_order { IfSome result (λ drained. IfOk drained IsInOrder) }
+    ensures bounded { IfSome result (λ drained. IfOk drained IsBounded) }
+    ensures brings { IfSome result (λ drained. IfOk drained (BringsOn upto)) }
 {
     let mut guard = locked(rt, book);
-    if worker >= guard.logs() {
+    if worker >= guard.logs() || guard.steps() < upto {
         return None;
     }
     Some(guard.drain(worker))

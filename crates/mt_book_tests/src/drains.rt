@@ -54,7 +54,7 @@ fn drains<L: Ledger, R: Wait>(
     (from, to): (u64, u64),
     wanted: &[(u64, u8)],
 ) -> Result<bool, AllocError> {
-    let batch = drain(rt, book, worker)?;
+    let batch = drain(rt, book, worker, 0)?;
     let records = batch.records.as_slice();
     for (record, (stamp, key)) in records.iter().zip(wanted) {
         if record.stamp != *stamp || record.key.as_bytes() != [*key].as_slice() {

@@ -1,13 +1,8 @@
-//! What the log of a worker is given of the tape, and up to which step the logs were given all.
+//! Up to which step the logs were given their workers' changes.
 
 ghost use Rattle.std.specs.Prelude.{◌≡◌, IfOk, replicate, length};
-ghost use Rattle.std.specs.List.{All};
-ghost use Rattle.mt_rows.specs.Commands.{IsKey};
-ghost use Rattle.mt_batches.specs.Batches.{IsRecord, IsRowOrNone};
-ghost use Rattle.mt_core.specs.Drains.{record_of, records_after, IsLeastOf};
+ghost use Rattle.mt_core.specs.Drains.{IsLeastOf};
 
-use mt_rows::{Record, Records, Row};
-use mt_tape::{Entry, Tape};
 use std::alloc::{AllocError, Global};
 
 /// Logs that were given nothing.
@@ -46,54 +41,4 @@ pub(crate) fn least_of(numbers: &[u64], bound: u64) -> u64
         least = least.min(*number);
     }
     least
-}
-
-/// The changes that a worker's operations placed after a step, the oldest first, each within its limits.
-pub(crate) fn records_after(
-    alloc: Global,
-    tape: &Tape,
-    worker: u8,
-    after: u64,
-) -> Result<Records, AllocError>
-    requires { All (λ e. IsKey e.key) tape.now.entries }
-    ensures is { IfOk result (λ records. records ≡ records_after worker after tape.now.entries) }
-    ensures limits { IfOk result (All IsRecord) }
-{
-    let mut records = Vec::new(alloc);
-    for entry in tape.entries() {
-        if entry.step > after && entry.worker == worker {
-            records.push(recorded(entry)?)?;
-        }
-    }
-    Ok(Records::new(records))
-}
-
-// A placed change, as it is logged.
-fn recorded(entry: &Entry) -> Result<Record, AllocError>
-    ensures is { IfOk result (λ r. r ≡ record_of entry.now) }
-    ensures limits { IfOk result (λ r. IsKey r.key → IsRecord r) }
-{
-    let row = shared(&entry.after)?;
-    let key = entry.key.clone()?;
-    let (stamp, tenant) = (entry.step, entry.tenant);
-    Ok(Record {
-        stamp,
-        tenant,
-        key,
-        row,
-    })
-}
-
-// The same row again, or none.
-fn shared(row: &Option<Row>) -> Result<Option<Row>, AllocError>
-    ensures same { IfOk result (λ r. r ≡ row.now) }
-    ensures limits { IfOk result IsRowOrNone }
-{
-    match row {
-        Some(row) => {
-            let _columns = row.columns();
-            Ok(Some(row.share()?))
-        }
-        None => Ok(None),
-    }
 }

@@ -7,7 +7,7 @@
 ghost use Rattle.std.specs.Prelude.{ℕ, ◌≡◌, ◌≢◌, ◌+◌, ◌<◌, ◌≤◌, ◌^◌, ◌↔◌, IsTrue, IsSome, IfOk, IfErr, OnOk, OnErr, length, Some, None};
 ghost use Rattle.std.specs.Option.{option_map};
 ghost use Rattle.mt_rows.specs.Accounts.{account_of};
-ghost use Rattle.mt_batches.specs.Batches.{IsInOrder};
+ghost use Rattle.mt_batches.specs.Batches.{IsBounded, BringsOn};
 ghost use Rattle.mt_arena.specs.Arena.{IsArena};
 ghost use Rattle.mt_state.specs.Views.{shown};
 ghost use Rattle.mt_state.specs.Invariant.{StateInvariant};
@@ -31,10 +31,11 @@ ghost use Rattle.mt_operation.specs.Tables.{op_at as operation_at};
 
 use crate::answers::Ticket;
 use crate::displaced::Displaced;
-use crate::drains::{give_all, least_of, none_given, records_after};
+use crate::drains::{give_all, least_of, none_given};
 use crate::looks::look;
 use crate::openings::{Opening, give_back, give_up};
 use mt_arena::Arena;
+use mt_drains::batch_after;
 use mt_operation::{Operation, Operations, Phase, Stepped};
 use mt_rows::{Batch, Refusal, Reply, Tenants};
 use mt_runs::Answer;
@@ -229,18 +230,18 @@ impl Inner {
         self.logs.len() as u8
     }
 
-    /// Gives a worker's log its changes since it was last given any.
+    /// Gives a worker's log the next batch of its changes.
     pub(crate) fn drain(&mut self, worker: u8) -> Result<Batch, AllocError>
         requires { worker < length self.old.logs }
         ensures drains { IfOk result (λ batch. Drains (shown self.old) (shown self.new) worker batch) }
-        ensures in_order { IfOk result IsInOrder }
+        ensures bounded { IfOk result IsBounded }
+        ensures brings { (upto : ℕ) → upto ≤ (shown self.old).steps → IfOk result (BringsOn upto) }
         ensures unchanged_on_err { OnErr result (shown self.new ≡ shown self.old) }
     {
-        let from = self.logs[worker as usize];
-        let records = records_after(self.alloc, &self.tape, worker, from)?;
-        let to = self.steps;
-        self.logs[worker as usize] = to;
-        Ok(Batch { from, to, records })
+        let given = self.logs[worker as usize];
+        let batch = batch_after(self.alloc, &self.tape, worker, given, self.steps)?;
+        self.logs[worker as usize] = batch.to;
+        Ok(batch)
     }
 
     /// Makes steps of an operation as long as it moves, and answers what the last one answered.

@@ -6,7 +6,7 @@
 ghost use Rattle.std.specs.Prelude.{◌^◌, ◌≡◌, ◌≢◌, ◌<◌, ◌≤◌, ◌↔◌, ℕ, IfOk, OnOk, OnErr, IsTrue, IsSome, length, Some};
 ghost use Rattle.std.specs.Option.{option_map};
 ghost use Rattle.std.specs.List.{All};
-ghost use Rattle.mt_batches.specs.Batches.{IsInOrder};
+ghost use Rattle.mt_batches.specs.Batches.{IsBounded, BringsOn};
 ghost use Rattle.mt_rows.specs.Accounts.{account_of};
 ghost use Rattle.mt_rows.specs.Tenants.{tenant_map};
 ghost use Rattle.mt_rows.specs.TenantPairs.{pairs_of, quota_in, IsTenantPair, AreDistinct, HasTenants, KeepsQuotas};
@@ -206,13 +206,14 @@ impl State {
         self.inner.facts();
     }
 
-    /// Gives a worker's log the changes that its operations placed since it was last given any; the
-    /// batch goes up to the last step that was made. It is in order, so that a log takes it unless it is too
-    /// long. An error comes where memory is refused.
+    /// Gives a worker's log the next batch of the changes that its operations placed since it was last given
+    /// any: all of them up to the last step that was made, or the first 4,096. Any log takes it. An error comes
+    /// if memory is refused.
     pub fn drain(&mut self, worker: u8) -> Result<Batch, AllocError>
         requires { worker < length self.old.logs }
         ensures drains { IfOk result (λ batch. Drains self.old self.new worker batch) }
-        ensures in_order { IfOk result IsInOrder }
+        ensures bounded { IfOk result IsBounded }
+        ensures brings { (upto : ℕ) → upto ≤ self.old.steps → IfOk result (BringsOn upto) }
         ensures unchanged_on_err { OnErr result (self.new ≡ self.old) }
     {
         self.inner.drain(worker)

@@ -3,7 +3,7 @@
 use crate::asked::{get, one_tenant, put};
 use mt_core::{State, Ticket, prepare};
 use mt_operation::Phase;
-use mt_rows::{Command, Refusal};
+use mt_rows::{Batch, Command, Refusal};
 use mt_runs::Answer;
 use mt_state::Move;
 use std::alloc::Global;
@@ -93,6 +93,12 @@ fn put_by(rt: &impl Abort, alloc: Global, state: &mut State, worker: u8, key: &s
     assert!(rt; state.take(ticket).is_ok());
 }
 
+// The next batch of a worker's log.
+fn drained(rt: &impl Abort, state: &mut State, worker: u8) -> Batch {
+    assert!(rt; worker < state.logs());
+    state.drain(worker).expect(rt, "memory")
+}
+
 // The batch that a worker's log is given: the step over which it goes, and its stamps and keys.
 fn expect_batch(
     rt: &impl Abort,
@@ -101,9 +107,8 @@ fn expect_batch(
     from: u64,
     records: &[(u64, &str)],
 ) {
-    assert!(rt; worker < state.logs());
     let to = state.steps();
-    let batch = state.drain(worker).expect(rt, "memory");
+    let batch = drained(rt, state, worker);
     assert_eq!(rt; (batch.from, batch.to), (from, to));
     let told = batch.records.as_slice();
     assert_eq!(rt; told.len(), records.len());
@@ -126,6 +131,25 @@ fn each_log_is_given_its_own_workers_changes_once(rt: HostRuntime) {
     expect_batch(&rt, &mut state, 1, 0, &[(9, "b")]);
     expect_batch(&rt, &mut state, 0, 15, &[(19, "b")]);
     expect_batch(&rt, &mut state, 0, 20, &[]);
+}
+
+#[test]
+fn a_full_batch_ends_at_its_last_change(rt: HostRuntime) {
+    let alloc = rt.alloc();
+    let mut state = State::new(alloc, 2, one_tenant(alloc, 100)).expect(&rt, "memory");
+    put_by(&rt, alloc, &mut state, 1, "a");
+    for _ in 0..4_100 {
+        put_by(&rt, alloc, &mut state, 0, "a");
+    }
+    let full = drained(&rt, &mut state, 0);
+    let records = full.records.as_slice();
+    let last = records.last().map(|record| record.stamp);
+    assert_eq!(rt; (full.from, records.len(), last), (0, 4_096, Some(full.to)));
+    let rest = drained(&rt, &mut state, 0);
+    assert_eq!(rt;
+        (rest.from, rest.records.as_slice().len(), rest.to),
+        (full.to, 4, state.steps())
+    );
 }
 
 const SIXTEEN_KEYS: [&str; 16] = [

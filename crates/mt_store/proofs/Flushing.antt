@@ -1,37 +1,34 @@
 -- What a flush makes of a store that serves a life.
-use Rattle.std.proofs.Common.{◌≡◌, ◌≢◌, ◌⊎◌, ℕ, zero, suc, ◌<◌, ◌≤◌, Bool, true, List, [], ◌∷◌, length, Option, Some, None, refl, sym, ap, subst, ◌∙◌, arith, inl, inr, ⊎_elim}
-use Rattle.std.specs.Prelude.{slice_get, slice_set, slice_index_or}
-use Rattle.std.specs.List.{All, filter}
+use Rattle.std.proofs.Common.{◌≡◌, ◌≢◌, ◌⊎◌, ℕ, zero, suc, ◌+◌, ◌<◌, ◌≤◌, Bool, true, List, [], ◌∷◌, length, Option, Some, None, refl, sym, ap, subst, ◌∙◌, arith, inl, inr, ⊎_elim}
+use Rattle.std.specs.Prelude.{slice_get, slice_index_or}
+use Rattle.std.specs.List.{filter}
 use Rattle.std.proofs.lemmas.Option.{same_Some}
-use Rattle.std.proofs.lemmas.List.Elements.{All-weaker}
 use Rattle.mt_rows.specs.Accounts.{Accounts}
 use Rattle.mt_rows.specs.declared.record.Batch.{Batch}
 use Rattle.mt_rows.specs.declared.refusal.Refusal.{Refusal}
 use Rattle.mt_rows.specs.declared.refusal.Refusal.TheVariants as refusals
-use Rattle.mt_batches.specs.Batches.{IsInOrder}
+use Rattle.mt_batches.specs.Batches.{IsBounded}
+use Rattle.mt_batches.proofs.Climbing.{goes_on}
 use Rattle.mt_disk.specs.declared.mem.MemDisk.{MemDisk}
 use Rattle.mt_disk.specs.Mem.{mem_state}
 use Rattle.mt_log.specs.Contents.{mark_of}
-use Rattle.mt_tape.specs.declared.entry.Entry.{Entry}
-use Rattle.mt_tape.proofs.EntryLaws.{all_upto_last}
 use Rattle.mt_state.specs.Views.{StateView}
 use Rattle.mt_state.specs.Histories.{Names}
 use Rattle.mt_core.specs.Drains.{Drains}
+use Rattle.mt_drains.specs.Drains.{records_between}
 use Rattle.mt_crashes.specs.Histories.{changes_of}
 use Rattle.mt_crashes.specs.Stores.{Store, LogNow, Reaches, is_between}
 use Rattle.mt_recover.specs.declared.resuming.LogSlot.{LogSlot}
 use Rattle.mt_recover.specs.declared.resuming.LogSlot.TheVariants.{Open, Closed, Away}
-use Rattle.mt_store_logs.specs.declared.fault.FlushFault.{FlushFault}
-use Rattle.mt_store_logs.specs.declared.fault.FlushFault.TheVariants.{Refused, TooLong}
 use Rattle.mt_store_logs.specs.declared.store_log.StoreLog.{StoreLog}
 use Rattle.mt_store_logs.specs.Places.{mark_in}
-use Rattle.mt_store_logs.specs.Waits.{AppendsKept, FailsToAppend, with_kept}
+use Rattle.mt_store_logs.specs.Waits.{AppendsKept, FailsToAppend, AppendsNew, FailsToAppendNew, with_kept}
 use Rattle.mt_store_logs.specs.Shows.{Shows, Stands, WaitsIn, drained_upto, IsInDoubt}
 use Rattle.mt_store_logs.proofs.CallerLemmas.{appends, fails_to_append, drained}
 use Rattle.mt_crashes.proofs.Members.{no_some}
 use Rattle.mt_store.specs.Lives.{Life, IsMemoryOrDevice}
 use Rattle.mt_store.specs.Holds.{HoldsChanges, HoldsKept, IsLogAt, Serves}
-use Rattle.mt_store.proofs.Comes.{set_there, with_log, GoesTo, and_then, is_in, is_in_doubt}
+use Rattle.mt_store.proofs.Comes.{set_there, with_log, GoesTo, is_in, is_in_doubt}
 use Rattle.mt_store.proofs.Tapes.{drained_changes}
 
 -- disks in memory keep the rules
@@ -57,18 +54,17 @@ open_mark now Away mark shows is = absurd shows
 -- what a drain gave holds the worker's changes
 module _ (accounts : Accounts) (life : Life) (s : Store) (v new : StateView) (names : Names) (h : Serves accounts life s v names) (worker : ℕ) (batch : Batch)
     (d : Drains v new worker batch) where
-  made : All (λ e. e.step ≤ batch.to) v.tape.entries
-  made = All-weaker (λ (e : Entry). e.step ≤ Rattle.mt_tape.specs.Tapes.last_step_over v.tape.floor v.tape.entries) (λ e. e.step ≤ batch.to)
-      (λ e le. omega (arith, le, h.right.tape.made, d.to)) v.tape.entries (all_upto_last v.tape.floor v.tape.entries h.right.tape.rises)
-
   pub holds_drained : life.base ≤ batch.from → HoldsChanges s worker batch
-  holds_drained le = record {
-    made = omega (arith, d.to, h.steps);
-    records =
-        d.records
-        ∙ drained_changes worker batch.from batch.to life.base h.before v.tape.entries h.ended le made
-        ∙ ap (λ ps. changes_of (filter (is_between worker batch.from batch.to) ps)) (sym h.holds);
-  }
+  holds_drained le =
+      let made = d.next.made in
+      record {
+        made = omega (arith, made, h.steps);
+        records =
+            d.next.records
+            ∙ ap (λ n. records_between worker n batch.to v.tape.entries) (sym d.next.begins)
+            ∙ drained_changes worker batch.from batch.to life.base h.before v.tape.entries h.ended le
+            ∙ ap (λ ps. changes_of (filter (is_between worker batch.from batch.to) ps)) (sym h.holds);
+      }
 
 -- ---- places
 
@@ -84,15 +80,11 @@ within (y ∷ xs) (suc k) x e = omega (arith, within xs k x e)
 
 -- ---- refusals
 
--- a refusal of a log is of memory or of the device, or its batch fits no log
-abbrev pub IsOfLog : FlushFault → Type 0
-IsOfLog e = (e ≡ TooLong) ⊎ ((r : Refusal) × (e ≡ Refused r) × IsMemoryOrDevice r)
-
-pub of_log : (e : FlushFault) (old new : StoreLog MemDisk) → FailsToAppend keeps_rules mem_state failures_of e old new → ((mark : ℕ) → e ≢ Refused (refusals.WrongTurn mark)) → IsOfLog e
-of_log TooLong old new f turn = inl refl
-of_log (Refused refusals.Device) old new f turn = inr (refusals.Device, refl, inr refl)
-of_log (Refused refusals.Memory) old new f turn = inr (refusals.Memory, refl, inl refl)
-of_log (Refused (refusals.WrongTurn mark)) old new f turn = absurd (turn mark refl)
+-- a refusal of a log is of memory or of the device
+pub of_log : (e : Refusal) (old new : StoreLog MemDisk) → FailsToAppend keeps_rules mem_state failures_of e old new → ((mark : ℕ) → e ≢ refusals.WrongTurn mark) → IsMemoryOrDevice e
+of_log refusals.Device old new f turn = inr refl
+of_log refusals.Memory old new f turn = inl refl
+of_log (refusals.WrongTurn mark) old new f turn = absurd (turn mark refl)
 of_log e old new f turn = absurd f
 
 -- ---- one log
@@ -145,7 +137,7 @@ module _ (accounts : Accounts) (life : Life) (s : Store) (v : StateView) (names 
   holds_same next (Some b) h = record { made = h.made; records = h.records }
 
   -- it still waits
-  pub waits_moves : (e : FlushFault) (new : StoreLog MemDisk) → FailsToAppend keeps_rules mem_state failures_of e log new → Moves s v.logs worker new × IsOfLog e
+  pub waits_moves : (e : Refusal) (new : StoreLog MemDisk) → FailsToAppend keeps_rules mem_state failures_of e log new → Moves s v.logs worker new × IsMemoryOrDevice e
   waits_moves e new f =
       let r = fails_to_append keeps_rules mem_state failures_of now e log new at.stands f in (
         record {
@@ -160,15 +152,22 @@ module _ (accounts : Accounts) (life : Life) (s : Store) (v : StateView) (names 
         of_log e log new f r.4,
       )
 
-  -- the worker was drained behind the batch that waited
-  module _ (new : StateView) (batch : Batch) (d : Drains v new worker batch) (order : IsInOrder batch) where
+  -- the worker was drained, while no batch waited
+  module _ (none : log.kept ≡ None) (new : StateView) (batch : Batch) (d : Drains v new worker batch) (bounded : IsBounded batch) where
     from_so : batch.from ≡ drained_upto now log.kept
-    from_so = d.from ∙ got v.logs worker (drained_upto now log.kept) 0 at.given_so
+    from_so = d.next.begins ∙ got v.logs worker (drained_upto now log.kept) 0 at.given_so
 
     from_base : life.base ≤ batch.from
     from_base =
         let reached = h.right.tape.logs.reached worker 0 (within v.logs worker (drained_upto now log.kept) at.given_so) in
-        omega (arith, reached, h.floor, d.from)
+        omega (arith, reached, h.floor, d.next.begins)
+
+    -- it gave all of its changes, or 4,096
+    pub full_or_all : (batch.to ≤ v.steps) × ((batch.to ≡ v.steps) ⊎ (life.base + 4096 ≤ batch.to))
+    full_or_all = (
+      d.next.made,
+      ⊎_elim inl (λ full. let on = goes_on batch bounded.in_order in let base = from_base in inr (omega (arith, on, full, base))) d.next.ends,
+    )
 
     holds : (next : LogNow) → HoldsChanges (with_log worker next s) worker batch
     holds next = let k = holds_drained accounts life s v new names h worker batch d from_base in record { made = k.made; records = k.records }
@@ -176,52 +175,51 @@ module _ (accounts : Accounts) (life : Life) (s : Store) (v : StateView) (names 
     now_given : slice_get new.logs worker ≡ Some batch.to
     now_given =
         ap (λ (w : StateView). slice_get w.logs worker) d.stands
-        ∙ set_there v.logs worker (drained_upto now log.kept) v.steps at.given_so
-        ∙ ap Some (sym d.to)
+        ∙ set_there v.logs worker (drained_upto now log.kept) batch.to at.given_so
 
-    stands_drained : (mid : StoreLog MemDisk) (k : Kept mid) → Stands keeps_rules mem_state k.next (with_kept batch mid)
-    stands_drained mid k = drained keeps_rules mem_state k.next mid batch k.stands k.none order (from_so ∙ sym k.upto)
+    stands_drained : Stands keeps_rules mem_state now (with_kept batch log)
+    stands_drained = drained keeps_rules mem_state now log batch at.stands none bounded.in_order from_so
 
-    there_mid : (next : LogNow) → slice_get (slice_set s.logs worker next) worker ≡ Some next
-    there_mid next = set_there s.logs worker now next there
+    holds_here : HoldsChanges s worker batch
+    holds_here = holds_drained accounts life s v new names h worker batch d from_base
 
-    -- its batch is in the log, which goes up to the last step
-    pub flushed : (mid last : StoreLog MemDisk) (mark : ℕ) → AppendsKept keeps_rules mem_state failures_of log mid
-        → AppendsKept keeps_rules mem_state failures_of (with_kept batch mid) last → mark_in last.slot ≡ Some mark
-        → (m : Moves s new.logs worker last) × (mark ≡ v.steps) × Reaches mark m.next
-    flushed mid last mark a b is =
-        let k = kept_in mid a in
-        let r = appends keeps_rules mem_state failures_of k.next (with_kept batch mid) last (stands_drained mid k) b in
+    -- its batch is in the log, which goes up to its end
+    pub flushed : (last : StoreLog MemDisk) → AppendsNew keeps_rules mem_state failures_of batch log last → (m : Moves s new.logs worker last) × Reaches batch.to m.next
+    flushed last a =
+        let b = a.appends in
+        let r = appends keeps_rules mem_state failures_of now (with_kept batch log) last stands_drained b in
         let at_end : mark_of r.0.had ≡ batch.to = ap (drained_upto r.0) (sym b.none) ∙ r.3 in
-        let mark_so : mark ≡ batch.to = open_mark r.0 last.slot mark r.1.shows is ∙ at_end in
         let rests_so : r.0.doubt ≡ None = subst (WaitsIn r.0) b.none r.1.waits in (
           record {
             next = r.0;
-            goes = and_then worker s now k.next r.0 there k.goes (is_in worker (with_log worker k.next s) k.next r.0 (Some batch) h.serving (there_mid k.next) (holds k.next) r.2);
+            goes = is_in worker s now r.0 (Some batch) h.serving there holds_here r.2;
             at = record {
               stands = r.1;
               given_so = now_given ∙ ap Some (sym r.3);
               kept = subst (HoldsKept (with_log worker r.0 s) worker) (sym b.none) tt;
             };
           },
-          mark_so ∙ d.to,
-          rests_at_mark r.0 mark rests_so (at_end ∙ sym mark_so),
+          rests_at_mark r.0 batch.to rests_so at_end,
         )
 
+    -- it is never out of turn
+    never_elsewhere : (mark : ℕ) → mark_in log.slot ≡ Some mark → batch.from ≢ mark → ⊥
+    never_elsewhere mark is elsewhere = elsewhere (from_so ∙ ap (drained_upto now) none ∙ sym (open_mark now log.slot mark at.stands.shows is))
+
     -- its batch waits
-    pub keeps_moves : (mid last : StoreLog MemDisk) (e : FlushFault) → AppendsKept keeps_rules mem_state failures_of log mid
-        → FailsToAppend keeps_rules mem_state failures_of e (with_kept batch mid) last → Moves s new.logs worker last × IsOfLog e
-    keeps_moves mid last e a f =
-        let k = kept_in mid a in
-        let r = fails_to_append keeps_rules mem_state failures_of k.next e (with_kept batch mid) last (stands_drained mid k) f in (
+    pub keeps_moves : (last : StoreLog MemDisk) (e : Refusal) → FailsToAppendNew keeps_rules mem_state failures_of e batch log last
+        → Moves s new.logs worker last × IsMemoryOrDevice e
+    keeps_moves last e (inr out) = absurd (never_elsewhere out.mark out.open_up_to out.elsewhere)
+    keeps_moves last e (inl f) =
+        let r = fails_to_append keeps_rules mem_state failures_of now e (with_kept batch log) last stands_drained f in (
           record {
             next = r.0;
-            goes = and_then worker s now k.next r.0 there k.goes (is_in_doubt worker (with_log worker k.next s) k.next r.0 (Some batch) h.serving (there_mid k.next) (holds k.next) r.2);
+            goes = is_in_doubt worker s now r.0 (Some batch) h.serving there holds_here r.2;
             at = record {
               stands = r.1;
-              given_so = now_given ∙ ap Some (sym (doubt_drained (Some batch) last.kept k.next r.0 r.2 r.3));
+              given_so = now_given ∙ ap Some (sym (doubt_drained (Some batch) last.kept now r.0 r.2 r.3));
               kept = subst (HoldsKept (with_log worker r.0 s) worker) (sym r.3) (holds r.0);
             };
           },
-          of_log e (with_kept batch mid) last f r.4,
+          of_log e (with_kept batch log) last f r.4,
         )

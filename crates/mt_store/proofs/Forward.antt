@@ -11,7 +11,7 @@ use Rattle.mt_tape.specs.Histories.{written_key, undone, contents_at, IsLegalTap
 use Rattle.mt_tape.proofs.EntryLaws.{rises_all, later_entries-dropped, later_entries-all}
 use Rattle.mt_tape.proofs.RowLaws.{with_row-put_back}
 use Rattle.mt_crashes.specs.Fronts.{with_change, after_changes}
-use Rattle.mt_core.specs.Drains.{record_of}
+use Rattle.mt_drains.specs.Drains.{record_of}
 use Rattle.mt_store.specs.Earlier.{earlier_entries}
 
 earlier_none : (m : ℕ) (entries : List Entry) → All (λ e. m < e.step) entries → earlier_entries m entries ≡ []

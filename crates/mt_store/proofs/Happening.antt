@@ -23,7 +23,7 @@ no_crash event never = tt
 pub nothing_noted : (quotas : Quotas) (standing : Standing) (event : StoreEvent) → ¬ IsServing standing → IsNoted quotas standing event NoSuch standing
 nothing_noted quotas standing (Core e) not = (not, refl)
 nothing_noted quotas standing (SettleBegin id) not = (inl not, refl)
-nothing_noted quotas standing (SettleNext id) not = inl (inl not, refl)
+nothing_noted quotas standing (SettleNext id) not = (inl not, refl)
 nothing_noted quotas standing event not = refl
 
 -- a store that has nothing while it serves serves no life

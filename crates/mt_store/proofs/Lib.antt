@@ -20,6 +20,7 @@ pub mod Living
 pub mod Returning
 pub mod Beginning
 pub mod Noted
+pub mod Draining
 pub mod Settling
 pub mod Told
 pub mod Goes

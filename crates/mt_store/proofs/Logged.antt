@@ -78,7 +78,7 @@ module _ (accounts : Accounts) (life : Life) (s : Store) (v : StateView) (names 
   -- and by a state that was drained
   pub serves_drained : (new : StateView) (worker : ℕ) (batch : Batch) → Drains v new worker batch → IsRightState new → Serves accounts life s new names
   serves_drained new worker batch d right =
-      let drained : StateView = record v { logs = slice_set v.logs worker v.steps } in
+      let drained : StateView = record v { logs = slice_set v.logs worker batch.to } in
       let history : History (quotas_of accounts) (firsts life) (story_in life) names drained = record {
         right = h.history.right;
         quota = h.history.quota;
@@ -96,7 +96,7 @@ module _ (accounts : Accounts) (life : Life) (s : Store) (v : StateView) (names 
       record {
         serving = h.serving;
         steps = ap (λ (w : StateView). w.steps) d.stands ∙ h.steps;
-        logs = ap (λ (w : StateView). length w.logs) d.stands ∙ set_length v.logs worker v.steps ∙ h.logs;
+        logs = ap (λ (w : StateView). length w.logs) d.stands ∙ set_length v.logs worker batch.to ∙ h.logs;
         history = subst (λ (w : StateView). History (quotas_of accounts) (firsts life) (story_in life) names w) same history;
         tenants = λ t. ap (λ (w : StateView). granted w t) d.stands ∙ h.tenants t;
         right = right;

@@ -1,5 +1,5 @@
--- What a flush and a reopening make of all that holds of a store.
-use Rattle.std.proofs.Common.{◌≡◌, ◌≢◌, ◌⊎◌, ℕ, List, Option, Some, None, refl, sym, ap, subst, ◌∙◌, inl, inr, ⊎_elim}
+-- What an append, a drain and a reopening make of all that holds of a store.
+use Rattle.std.proofs.Common.{◌≡◌, ◌≢◌, ◌⊎◌, ℕ, ◌+◌, ◌≤◌, List, Option, Some, None, refl, sym, ap, subst, ◌∙◌, inl, inr, ⊎_elim, arith}
 use Rattle.std.specs.Prelude.{slice_get, slice_set}
 use Rattle.std.proofs.lemmas.Option.{same_Some}
 use Rattle.mt_rows.specs.Accounts.{Accounts}
@@ -11,28 +11,24 @@ use Rattle.mt_disk.specs.Mem.{mem_state}
 use Rattle.mt_log.specs.Contents.{mark_of}
 use Rattle.mt_state.specs.Views.{StateView}
 use Rattle.mt_state.specs.Histories.{Names}
-use Rattle.mt_core.specs.Rights.{IsRightState}
 use Rattle.mt_core.specs.Tickets.{named}
 use Rattle.mt_crashes.specs.Stores.{Store, LogNow, Reaches, ReachesAt}
 use Rattle.mt_crashes.proofs.Members.{no_some}
 use Rattle.mt_recover.specs.declared.resuming.LogSlot.{LogSlot}
 use Rattle.mt_recover.specs.declared.resuming.LogSlot.TheVariants.{Open, Closed, Away}
-use Rattle.mt_store_logs.specs.declared.fault.FlushFault.{FlushFault}
-use Rattle.mt_store_logs.specs.declared.fault.FlushFault.TheVariants.{Refused}
 use Rattle.mt_store_logs.specs.declared.store_log.StoreLog.{StoreLog}
 use Rattle.mt_store_logs.specs.Places.{FailsToOpen}
-use Rattle.mt_store_logs.specs.Waits.{ReopensAt, Reopens, FailsToReopenAt, FailsToReopen}
-use Rattle.mt_store_logs.specs.Flushes.{Flushes, FailsToFlush}
+use Rattle.mt_store_logs.specs.Waits.{AppendsKept, FailsToAppend, ReopensAt, Reopens, FailsToReopenAt, FailsToReopen}
+use Rattle.mt_store_logs.specs.Flushes.{DrainsIn, KeepsDrained}
 use Rattle.mt_store_logs.specs.Shows.{WaitsIn, drained_upto, ComesToRest}
 use Rattle.mt_store_logs.proofs.CallerLemmas.{reopens, fails_to_reopen}
 use Rattle.mt_store.specs.declared.serving.Serving.{Serving}
 use Rattle.mt_store.specs.Serving.{DrainsServing}
-use Rattle.mt_store.specs.Lives.{Life, Standing, IsMemoryOrDevice, steps_in}
+use Rattle.mt_store.specs.Lives.{Life, Standing, IsMemoryOrDevice}
 use Rattle.mt_store.specs.Holds.{IsLogAt, HoldsKept, Serves, Holds}
-use Rattle.mt_store.proofs.Served.{last}
 use Rattle.mt_store.proofs.Comes.{with_log, set_there, GoesTo, and_then, rests, is_in, is_in_doubt}
 use Rattle.mt_store.proofs.Logged.{set_other, serves_drained}
-use Rattle.mt_store.proofs.Flushing.{keeps_rules, failures_of, IsOfLog, of_log, doubt_drained, Moves, kept_moves, waits_moves, flushed, keeps_moves}
+use Rattle.mt_store.proofs.Flushing.{keeps_rules, failures_of, of_log, doubt_drained, Moves, kept_moves, waits_moves, full_or_all, flushed, keeps_moves}
 use Rattle.mt_store.proofs.Noting.{life_served, held, HoldsAgain, found, at, moved}
 
 -- ---- refusals of a reopening
@@ -46,10 +42,10 @@ of_open r disk (Closed new) f not_bad = absurd f
 of_open r disk (Open new) f not_bad = absurd f
 of_open r disk Away f not_bad = absurd f
 
-of_reopening : (e : FlushFault) (slot : LogSlot MemDisk) (old new : StoreLog MemDisk) → FailsToReopenAt keeps_rules mem_state failures_of e slot old new
-    → ((number offset : ℕ) → e ≢ Refused (refusals.BadLog number offset)) → ((mark : ℕ) → e ≢ Refused (refusals.WrongTurn mark)) → IsOfLog e
+of_reopening : (e : Refusal) (slot : LogSlot MemDisk) (old new : StoreLog MemDisk) → FailsToReopenAt keeps_rules mem_state failures_of e slot old new
+    → ((number offset : ℕ) → e ≢ refusals.BadLog number offset) → ((mark : ℕ) → e ≢ refusals.WrongTurn mark) → IsMemoryOrDevice e
 of_reopening e (Closed disk) old new (inl s) not_bad turn =
-    inr (s.refusal, s.told, of_open s.refusal disk new.slot s.fails (λ number offset same. not_bad number offset (s.told ∙ ap Refused same)))
+    of_open e disk new.slot s.fails not_bad
 of_reopening e (Closed disk) old new (inr o) not_bad turn = of_log e _ new o.fails turn
 of_reopening e (Open log) old new f not_bad turn = of_log e old new f turn
 of_reopening e Away old new f not_bad turn = of_log e old new f turn
@@ -106,7 +102,7 @@ module _ (accounts : Accounts) (standing : Standing) (logs : List (StoreLog MemD
   abbrev pub Again : Serving → (Store → Type 0) → Type 0
   Again now_serving P = HoldsAgain accounts standing logs serving h (slice_set logs worker new) now_serving P
 
-  abbrev AnyStore : Store → Type 0
+  abbrev pub AnyStore : Store → Type 0
   AnyStore s = Unit {0}
 
   -- its state was not drained
@@ -114,51 +110,60 @@ module _ (accounts : Accounts) (standing : Standing) (logs : List (StoreLog MemD
   unfolding life v names
   undrained now_serving same m =
       let a = moved accounts standing logs serving h worker log new here serving m serves refl refl (λ k other. refl) in
-      subst (λ (x : Serving). Again x AnyStore) (sym same) (record { again = a.again; goes = a.goes; so = tt })
+      subst (λ (x : Serving). Again x AnyStore) (sym same) (record { again = a.again; so = tt })
 
   -- it was
-  module _ (now_serving : Serving) (batch : Batch) (given : DrainsServing serving now_serving worker batch) (right : IsRightState now_serving.state) where
+  module _ (now_serving : Serving) (batch : Batch) (given : DrainsServing serving now_serving worker batch) where
     others : (k : ℕ) → k ≢ worker → slice_get now_serving.state.logs k ≡ slice_get serving.state.logs k
-    others k other = ap (λ (w : StateView). slice_get w.logs k) given.state.stands ∙ set_other serving.state.logs worker k serving.state.steps other
+    others k other = ap (λ (w : StateView). slice_get w.logs k) given.state.stands ∙ set_other serving.state.logs worker k batch.to other
 
     now_serves : Serves accounts life h.s now_serving.state (named now_serving.roster.tickets)
     unfolding life v names
     now_serves =
         subst (λ r. Serves accounts life h.s now_serving.state (named r.tickets)) (sym given.roster)
-        (serves_drained accounts life h.s v names serves now_serving.state worker batch given.state right)
+        (serves_drained accounts life h.s v names serves now_serving.state worker batch given.state given.right)
 
     drained_on : (m : Moves h.s now_serving.state.logs worker new) → Again now_serving (λ s. slice_get s.logs worker ≡ Some m.next)
     unfolding life v
     drained_on m = moved accounts standing logs serving h worker log new here now_serving m now_serves given.roster given.settles others
 
-  -- ---- flushes
+  -- ---- appends and drains
 
-  pub flush_noted : (now_serving : Serving) (mark : ℕ) → Flushes keeps_rules mem_state failures_of DrainsServing worker mark log new serving now_serving
-      → IsRightState now_serving.state → Again now_serving (λ s. ReachesAt mark s worker) × (mark ≡ steps_in (life_served accounts standing logs serving h))
+  -- the batch that waited is in the log
+  pub kept_again : AppendsKept keeps_rules mem_state failures_of log new → Again serving AnyStore
   unfolding life v names
-  flush_noted now_serving mark f right =
-      let r = flushed accounts life h.s v names serves worker now log there log_at now_serving.state f.batch f.given.state f.in_order f.mid new mark f.kept f.appended f.told in
-      let a = drained_on now_serving f.batch f.given right r.0 in (
+  kept_again a = undrained serving refl (kept_moves accounts life h.s v names serves worker now log there log_at new a)
+
+  -- it still waits
+  pub waits_again : (e : Refusal) → FailsToAppend keeps_rules mem_state failures_of e log new → Again serving AnyStore × IsMemoryOrDevice e
+  unfolding life v names
+  waits_again e f = let r = waits_moves accounts life h.s v names serves worker now log there log_at e new f in (undrained serving refl r.0, r.1)
+
+  -- the worker was drained once, and its batch is in the log
+  pub drained_again : (now_serving : Serving) (upto mark : ℕ) → log.kept ≡ None → DrainsIn keeps_rules mem_state failures_of DrainsServing worker upto mark log new serving now_serving
+      → Again now_serving (λ s. ReachesAt mark s worker) × (mark ≤ serving.state.steps)
+      × ((mark ≡ serving.state.steps) ⊎ ((life_served accounts standing logs serving h).base + 4096 ≤ mark))
+  unfolding life v names
+  drained_again now_serving upto mark none d =
+      let r = flushed accounts life h.s v names serves worker now log there log_at none now_serving.state d.batch d.given.state d.bounded new d.appended in
+      let all = full_or_all accounts life h.s v names serves worker now log there log_at none now_serving.state d.batch d.given.state d.bounded in
+      let a = drained_on now_serving d.batch d.given r.0 in (
         record {
           again = a.again;
-          goes = a.goes;
-          so = λ l is. subst (Reaches mark) (same_Some r.0.next l (sym a.so ∙ is)) r.2;
+          so = λ l is. subst (λ n. Reaches n l) (sym d.told) (subst (Reaches d.batch.to) (same_Some r.0.next l (sym a.so ∙ is)) r.1);
         },
-        r.1 ∙ sym (last accounts life h.s v names serves),
+        omega (arith, all.0, d.told),
+        ⊎_elim (λ same. inl (d.told ∙ same)) (λ more. inr (omega (arith, more, d.told))) all.1,
       )
 
-  pub flush_fails : (now_serving : Serving) (e : FlushFault) → FailsToFlush keeps_rules mem_state failures_of DrainsServing worker e log new serving now_serving
-      → IsRightState now_serving.state → Again now_serving (λ s. Unit {0}) × IsOfLog e
+  -- its batch waits
+  pub keeps_again : (now_serving : Serving) (e : Refusal) → log.kept ≡ None → KeepsDrained keeps_rules mem_state failures_of DrainsServing worker e log new serving now_serving
+      → Again now_serving AnyStore × IsMemoryOrDevice e
   unfolding life v names
-  flush_fails now_serving e (inl f) right =
-      let r = waits_moves accounts life h.s v names serves worker now log there log_at e new f.fails in
-      (undrained now_serving f.same r.0, r.1)
-  flush_fails now_serving e (inr (inl f)) right =
-      (undrained now_serving f.same (kept_moves accounts life h.s v names serves worker now log there log_at new f.kept), inr (refusals.Memory, f.told, inl refl))
-  flush_fails now_serving e (inr (inr f)) right =
-      let r = keeps_moves accounts life h.s v names serves worker now log there log_at now_serving.state f.batch f.given.state f.in_order f.mid new e f.kept f.fails in
-      let a = drained_on now_serving f.batch f.given right r.0 in
-      (record { again = a.again; goes = a.goes; so = tt }, r.1)
+  keeps_again now_serving e none k =
+      let r = keeps_moves accounts life h.s v names serves worker now log there log_at none now_serving.state k.batch k.given.state k.bounded new e k.fails in
+      let a = drained_on now_serving k.batch k.given r.0 in
+      (record { again = a.again; so = tt }, r.1)
 
   -- ---- reopenings
 
@@ -184,7 +189,7 @@ module _ (accounts : Accounts) (standing : Standing) (logs : List (StoreLog MemD
         };
       })
 
-  pub reopen_fails : (e : FlushFault) → FailsToReopen keeps_rules mem_state failures_of e log new → Again serving (λ s. Unit {0}) × IsOfLog e
+  pub reopen_fails : (e : Refusal) → FailsToReopen keeps_rules mem_state failures_of e log new → Again serving (λ s. Unit {0}) × IsMemoryOrDevice e
   unfolding v
   reopen_fails e f =
       let o = fails_to_reopen keeps_rules mem_state failures_of now e log new log_at.stands f in

@@ -10,7 +10,7 @@ use Rattle.mt_crashes.proofs.Invariant.{within_place}
 use Rattle.mt_store_logs.specs.declared.store_log.StoreLog.{StoreLog}
 use Rattle.mt_store.specs.declared.serving.Serving.{Serving}
 use Rattle.mt_store.specs.Lives.{Life, Past, Standing}
-use Rattle.mt_store.specs.Holds.{LeadsTo, IsLogAt, Serves, AreSettles, HoldsServing, HoldsNow, HasCome, Holds}
+use Rattle.mt_store.specs.Holds.{IsLogAt, Serves, AreSettles, HoldsServing, HoldsNow, HasCome, Holds}
 use Rattle.mt_store.proofs.Comes.{with_log, set_there, comes_on}
 use Rattle.mt_store.proofs.Logged.{set_length, all_on, settles_on, serves_logged, each_logged}
 use Rattle.mt_store.proofs.Flushing.{within, Moves}
@@ -20,12 +20,6 @@ pub serving_life : (accounts : Accounts) (begun : ℕ → Option ℕ) (now : Res
     → HoldsNow accounts begun now s logs (Some serving) → (life : Life) × (now ≡ Ok life)
 serving_life accounts begun (Ok life) s logs serving h = (life, refl)
 serving_life accounts begun (Err past) s logs serving h = absurd h
-
--- a store in place of another: later, after as many steps
-pub record GoesOnAt (s t : Store) : Type 0 where
-  pub leads : LeadsTo s t
-  pub steps : t.steps ≡ s.steps
-  pub count : length t.logs ≡ length s.logs
 
 module _ (accounts : Accounts) (standing : Standing) (logs : List (StoreLog MemDisk)) (serving : Serving) (h : Holds accounts standing logs (Some serving)) where
   pub life_served : Life
@@ -38,10 +32,9 @@ module _ (accounts : Accounts) (standing : Standing) (logs : List (StoreLog MemD
   pub held : HoldsServing accounts standing.begun life_served h.s logs serving
   held = subst (λ (n : Result Life Past). HoldsNow accounts standing.begun n h.s logs (Some serving)) lives_so h.now
 
-  -- all of it holds again, of a store that has gone on
+  -- all of it holds again
   pub record HoldsAgain (now_logs : List (StoreLog MemDisk)) (now_serving : Serving) (P : Store → Type 0) : Type 0 where
     pub again : Holds accounts standing now_logs (Some now_serving)
-    pub goes : GoesOnAt h.s again.s
     pub so : P again.s
 
   module _ (worker : ℕ) (log new : StoreLog MemDisk) (here : slice_get logs worker ≡ Some log) where
@@ -79,6 +72,5 @@ module _ (accounts : Accounts) (standing : Standing) (logs : List (StoreLog MemD
             keeps = h.keeps;
             now = subst (λ (n : Result Life Past). HoldsNow accounts standing.begun n t (slice_set logs worker new) (Some now_serving)) (sym lives_so) holds_now;
           };
-          goes = record { leads = m.goes; steps = refl; count = set_length h.s.logs worker m.next };
           so = set_there h.s.logs worker found.0 m.next found.1;
         }

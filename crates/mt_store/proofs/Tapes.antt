@@ -9,13 +9,13 @@ use Rattle.std.proofs.lemmas.List.Elements.{All-head, All-tail, filter-append}
 use Rattle.mt_rows.specs.Tenants.{Contents}
 use Rattle.mt_rows.specs.declared.record.Batch.{Batch}
 use Rattle.mt_tape.specs.declared.entry.Entry.{Entry}
-use Rattle.mt_tape.specs.Tapes.{RisesOver, later_entries}
+use Rattle.mt_tape.specs.Tapes.{RisesOver}
 use Rattle.mt_tape.specs.Histories.{contents_at, IsLegalTape}
 use Rattle.mt_crashes.specs.Fronts.{after_changes}
 use Rattle.mt_crashes.specs.Histories.{Placed, upto, changes_of, pairs_upto}
 use Rattle.mt_crashes.specs.Stores.{is_between}
 use Rattle.mt_crashes.proofs.Bases.{after_append}
-use Rattle.mt_core.specs.Drains.{record_of}
+use Rattle.mt_drains.specs.Drains.{record_of, records_between}
 use Rattle.mt_store.specs.Holds.{placed_of}
 use Rattle.mt_store.specs.Earlier.{earlier_entries}
 use Rattle.mt_store.proofs.Forward.{forward}
@@ -95,33 +95,10 @@ none_over worker from to p lt = by (p.worker == worker) (nat_lt from p.change.st
     by true false c e = refl
     by false b c e = refl
 
--- among the tape's writes up to a step, those of a worker behind another
-own_entries : (worker from to : ℕ) (entries : List Entry) → All (λ e. e.step ≤ to) entries
-    → filter (λ e. is_between worker from to (placed_of e)) entries ≡ filter (λ e. e.worker == worker) (later_entries from entries)
-own_entries worker from to [] made = refl
-own_entries worker from to (e ∷ entries) made =
-    by (e.worker == worker) (nat_lt from e.step) (nat_lt to e.step) refl (le-ltb to e.step (All-head (λ (x : Entry). x.step ≤ to) e entries made))
-    (own_entries worker from to entries (All-tail (λ (x : Entry). x.step ≤ to) e entries made))
-  where
-    rest : List Entry
-    rest = filter (λ x. is_between worker from to (placed_of x)) entries
-
-    own : List Entry
-    own = filter (λ x. x.worker == worker) (later_entries from entries)
-
-    by : (a b c : Bool) → (e.worker == worker) ≡ a → c ≡ false → rest ≡ own
-        → cond (a && b && not c) (e ∷ rest) rest ≡ filter (λ x. x.worker == worker) (cond b (e ∷ later_entries from entries) (later_entries from entries))
-    by true true false is none same = ap (λ es. e ∷ es) same ∙ ap (λ t. cond t (e ∷ own) own) (sym is)
-    by false true false is none same = same ∙ ap (λ t. cond t (e ∷ own) own) (sym is)
-    by true false false is none same = same
-    by false false false is none same = same
-    by a b true is none same = absurd (true≢false none)
-
 -- what a drain gives are the worker's changes of the history
 pub drained_changes : (worker from to base : ℕ) (before : List Placed) (entries : List Entry) → All (λ p. p.change.stamp ≤ base) before → base ≤ from
-    → All (λ e. e.step ≤ to) entries
-    → map record_of (filter (λ e. e.worker == worker) (later_entries from entries)) ≡ changes_of (filter (is_between worker from to) (before ++ map placed_of entries))
-drained_changes worker from to base before entries ended le made =
+    → records_between worker from to entries ≡ changes_of (filter (is_between worker from to) (before ++ map placed_of entries))
+drained_changes worker from to base before entries ended le =
     sym (
     ap changes_of (filter-append (is_between worker from to) before (map placed_of entries))
     ∙ ap (λ ps. changes_of (ps ++ filter (is_between worker from to) (map placed_of entries)))
@@ -131,7 +108,6 @@ drained_changes worker from to base before entries ended le made =
     none_from worker from to p (omega (arith, small, le))))
     ∙ ap changes_of (kept_map placed_of (is_between worker from to) entries)
     ∙ changes_placed (filter (λ e. is_between worker from to (placed_of e)) entries)
-    ∙ ap (map record_of) (own_entries worker from to entries made)
     )
 
 -- a batch that was drained holds the same changes when the history grows

@@ -15,7 +15,7 @@ use Rattle.mt_operation.specs.Operations.{OperationView}
 use Rattle.mt_state.specs.Views.{StateView, op_at, granted}
 use Rattle.mt_state.specs.Views as views
 use Rattle.mt_state.specs.Histories.{Names, History, AreById}
-use Rattle.mt_core.specs.Drains.{record_of}
+use Rattle.mt_drains.specs.Drains.{record_of}
 use Rattle.mt_core.specs.Rights.{IsRightState}
 use Rattle.mt_core.specs.Tickets.{named}
 use Rattle.mt_crashes.specs.Fronts.{after_changes}

@@ -1,5 +1,5 @@
 -- The lives of a store, and what a list of events with its notes may be.
-use Rattle.std.specs.Prelude.{◌≡◌, ◌≢◌, ◌⊎◌, ℕ, ◌≤◌, ◌==◌, if◌then◌else◌, min, max, List, [], ◌∷◌, ◌++◌, Option, Some, None, Result, Ok, Err}
+use Rattle.std.specs.Prelude.{◌≡◌, ◌≢◌, ◌⊎◌, ℕ, ◌+◌, ◌≤◌, ◌==◌, if◌then◌else◌, min, max, List, [], ◌∷◌, ◌++◌, Option, Some, None, Result, Ok, Err}
 use Rattle.std.specs.FinMap as pairs
 use Rattle.mt_rows.specs.Tenants.{Contents as Pairs, tenant_map}
 use Rattle.mt_rows.specs.TenantPairs.{pairs_of}
@@ -110,15 +110,16 @@ IsMemoryOrDevice e = (e ≡ Memory) ⊎ (e ≡ Device)
 
 -- What may be noted of an event, and how the store stands then.
 --
--- An operation's event gives its life one event more, which one order explains. A flush tells the last step that was made. A Settle answers at least the
--- step after which it began. A crash that is recovered begins the next life, with the pairs of the last one after its changes up to the cutoff, as far as
+-- An operation's event gives its life one event more, which one order explains. A flush tells the last step that was made, or it gave 4,096 changes, and
+-- tells the step of the last one. A Settle answers at least the step after which it began. A crash that is recovered begins the next life, with the pairs of the last one after its changes up to the cutoff, as far as
 -- they were kept; the cutoff is at least each number that was settled. A crash, a flush, a reopening and a Settle are refused for memory or the device alone.
--- NoSuch is noted of an operation's event where the store serves no life, of a Settle where it is open already or is not, or its batch fits no log; where the
--- store serves no life it is noted of all but a crash.
+-- NoSuch is noted of an operation's event where the store serves no life, of a Settle where it is open already or is not; where the store serves no life it
+-- is noted of all but a crash.
 abbrev pub IsNoted : Quotas → Standing → StoreEvent → StoreNote → Standing → Type 0
 IsNoted quotas old (Core e) (Told t) new =
     (life : Life) × Lives old life × HasOrder quotas (with_event life e t) × (new ≡ record old { now = Ok (with_event life e t) })
-IsNoted quotas old (Flush worker) (Flushed number) new = (life : Life) × Lives old life × (number ≡ steps_in life) × (new ≡ old)
+IsNoted quotas old (Flush worker) (Flushed number) new =
+    (life : Life) × Lives old life × (number ≤ steps_in life) × ((number ≡ steps_in life) ⊎ (life.base + 4096 ≤ number)) × (new ≡ old)
 IsNoted quotas old (Flush worker) (Refused e) new = IsServing old × IsMemoryOrDevice e × (new ≡ old)
 IsNoted quotas old (Reopen worker) Reopened new = IsServing old × (new ≡ old)
 IsNoted quotas old (Reopen worker) (Refused e) new = IsServing old × IsMemoryOrDevice e × (new ≡ old)
@@ -130,8 +131,7 @@ IsNoted quotas old (SettleNext id) (Settled number) new =
 IsNoted quotas old (SettleNext id) (Refused e) new = IsServing old × (old.begun id ≢ None) × IsMemoryOrDevice e × (new ≡ settling id None old)
 IsNoted quotas old (Core e) NoSuch new = (¬ IsServing old) × (new ≡ old)
 IsNoted quotas old (SettleBegin id) NoSuch new = ((¬ IsServing old) ⊎ (old.begun id ≢ None)) × (new ≡ old)
-IsNoted quotas old (SettleNext id) NoSuch new =
-    (((¬ IsServing old) ⊎ (old.begun id ≡ None)) × (new ≡ old)) ⊎ (IsServing old × (old.begun id ≢ None) × (new ≡ settling id None old))
+IsNoted quotas old (SettleNext id) NoSuch new = ((¬ IsServing old) ⊎ (old.begun id ≡ None)) × (new ≡ old)
 IsNoted quotas old (Crash images) (Recovered r) new =
     (old.settled ≤ r.cutoff) × AreLeftOf quotas (past_of old.now).life (min (past_of old.now).kept r.cutoff) (pairs_of r.pairs.items)
     × (new ≡ crashed_to (Ok (life_from (pairs_of r.pairs.items) r.resume)) old)

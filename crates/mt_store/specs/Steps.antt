@@ -6,8 +6,6 @@ use Rattle.std.specs.declared.alloc.Global.{Global}
 use Rattle.mt_rows.specs.Accounts.{Accounts}
 use Rattle.mt_disk.specs.declared.mem.MemDisk.{MemDisk}
 use Rattle.mt_state.specs.Histories.{IsServed}
-use Rattle.mt_store_logs.specs.declared.fault.FlushFault.{FlushFault}
-use Rattle.mt_store_logs.specs.declared.fault.FlushFault.TheVariants.{Refused, TooLong}
 use Rattle.mt_store_logs.specs.declared.store_log.StoreLog.{StoreLog}
 use Rattle.mt_store.specs.declared.events.StoreEvent.{StoreEvent}
 use Rattle.mt_store.specs.declared.events.StoreEvent.TheVariants.{Core, Crash}
@@ -26,11 +24,6 @@ IsServedBy logs event = Unit {0}
 abbrev pub IsNoCrash : StoreEvent → Type 0
 IsNoCrash (Crash images) = ⊥
 IsNoCrash event = Unit {0}
-
--- what is noted of a flush or a reopening that failed
-abbrev pub note_of : FlushFault → StoreNote
-note_of (Refused refusal) = notes.Refused refusal
-note_of TooLong = notes.NoSuch
 
 -- one log more goes up to a step
 abbrev pub one_turn_more : Settle → ℕ → Settle

@@ -10,13 +10,13 @@ use mt_runs::{Event, Told};
 pub enum StoreEvent {
     /// An operation is begun, or makes a step.
     Core(Event),
-    /// A worker is drained into its log.
+    /// A worker is drained once into its log: of all its changes since, or of the first 4,096.
     Flush { worker: u8 },
     /// A log whose disk failed is opened again, and given the batch that waits for it.
     Reopen { worker: u8 },
     /// A Settle begins.
     SettleBegin { id: u64 },
-    /// It flushes the next log.
+    /// It flushes the next log, up to the last step.
     SettleNext { id: u64 },
     /// All disks crash at this moment, each to its image, and the store is recovered.
     Crash { images: Vec<Vec<u8>> },
@@ -41,7 +41,6 @@ pub enum StoreNote {
     Recovered(Recovered),
     /// `Device` or `Memory`: after a crash the store does not serve, else the log may have to be opened again.
     Refused(Refusal),
-    /// Nothing of that name is open, or is open already; nothing has changed, but that a Settle ends where
-    /// no log takes its batch.
+    /// Nothing of that name is open, or is open already; nothing has changed.
     NoSuch,
 }

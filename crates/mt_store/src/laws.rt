@@ -8,7 +8,7 @@ ghost use Rattle.mt_rows.specs.Tenants.{Contents};
 ghost use Rattle.mt_tape.specs.declared.entry.Entry.{Entry as AnyEntry};
 ghost use Rattle.mt_tape.specs.Tapes.{RisesOver};
 ghost use Rattle.mt_tape.specs.Histories.{contents_at, IsLegalTape};
-ghost use Rattle.mt_core.specs.Drains.{record_of};
+ghost use Rattle.mt_drains.specs.Drains.{record_of};
 ghost use Rattle.mt_crashes.specs.Fronts.{after_changes};
 ghost use Rattle.mt_runs.specs.declared.event.Event.{Event as AnyEvent};
 ghost use Rattle.mt_runs.specs.Placings.{Quotas};

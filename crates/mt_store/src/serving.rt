@@ -1,6 +1,6 @@
 //! What a store has while it serves.
 
-ghost use Rattle.std.specs.Prelude.{◌≡◌, ◌<◌, [], length};
+ghost use Rattle.std.specs.Prelude.{◌≡◌, []};
 
 use mt_core::{Roster, State};
 use mt_rows::Batch;
@@ -42,13 +42,16 @@ impl Serving {
 }
 
 impl Source for Serving {
+    ghost use Rattle.std.specs.Prelude.{◌<◌, ◌≤◌, length};
     ghost use Rattle.mt_store.specs.Serving.{DrainsServing};
 
-    ghost serves = { λ s worker. worker < length s.state.logs };
+    ghost serves = { λ s worker upto. (worker < length s.state.logs) × (upto ≤ s.state.steps) };
 
     ghost gives = { DrainsServing };
 
-    fn drain(&mut self, worker: u8) -> Result<Batch, AllocError> {
-        self.state.drain(worker)
+    fn drain(&mut self, worker: u8, _upto: u64) -> Result<Batch, AllocError> {
+        let drained = self.state.drain(worker);
+        self.state.facts();
+        drained
     }
 }

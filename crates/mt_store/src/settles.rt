@@ -8,16 +8,15 @@ ghost use Rattle.mt_disk.specs.declared.mem.MemDisk.{MemDisk as AnyDisk};
 ghost use Rattle.mt_store_logs.specs.declared.store_log.StoreLog.{StoreLog as AnyLog};
 ghost use Rattle.mt_store.specs.declared.events.StoreEvent.TheVariants.{Flush, Reopen, SettleBegin, SettleNext};
 ghost use Rattle.mt_store.specs.declared.serving.Serving.{Serving as AnyServing};
-ghost use Rattle.mt_store.specs.Steps.{note_of, Turns, IsHeld, GoesOn};
+ghost use Rattle.mt_store.specs.Steps.{Turns, IsHeld, GoesOn};
 
 use crate::events::StoreNote;
 use crate::serving::{Serving, Settle};
 use mt_disk::MemDisk;
-use mt_rows::Refusal;
-use mt_store_logs::{FlushFault, StoreLog, flush};
+use mt_store_logs::{StoreLog, flush};
 use std::alloc::{AllocError, Global};
 
-/// Flushes a worker's log, where there is one and it is open.
+/// Drains a worker once into its log, if there is one and it is open.
 pub(crate) fn flush_at(
     alloc: Global,
     logs: &mut [StoreLog<MemDisk>],
@@ -32,21 +31,9 @@ pub(crate) fn flush_at(
     if place >= logs.len() || logs[place].mark().is_none() {
         return StoreNote::NoSuch;
     }
-    let flushed = flush(alloc, &mut logs[place], serving, worker);
-    serving.state.facts();
-    match flushed {
+    match flush(alloc, &mut logs[place], serving, worker, 0) {
         Ok(mark) => StoreNote::Flushed(mark),
-        Err(fault) => note_of(fault),
-    }
-}
-
-// What is noted of a fault.
-fn note_of(fault: FlushFault) -> StoreNote
-    ensures { result ≡ note_of fault }
-{
-    match fault {
-        FlushFault::Refused(refusal) => StoreNote::Refused(refusal),
-        FlushFault::TooLong => StoreNote::NoSuch,
+        Err(refusal) => StoreNote::Refused(refusal),
     }
 }
 
@@ -62,7 +49,7 @@ pub(crate) fn reopen_at(alloc: Global, logs: &mut [StoreLog<MemDisk>], worker: u
     }
     match logs[place].reopen(alloc) {
         Ok(()) => StoreNote::Reopened,
-        Err(fault) => note_of(fault),
+        Err(refusal) => StoreNote::Refused(refusal),
     }
 }
 
@@ -83,7 +70,7 @@ pub(crate) fn begin_settle(serving: &mut Serving, id: u64) -> Result<StoreNote, 
     Ok(StoreNote::Begun(begun))
 }
 
-/// Flushes the log that is next in a Settle.
+/// Flushes the log that is next in a Settle, up to the last step.
 pub(crate) fn go_on(
     alloc: Global,
     logs: &mut [StoreLog<MemDisk>],
@@ -97,18 +84,18 @@ pub(crate) fn go_on(
     let Some(settle) = serving.settles.get(&id).copied() else {
         return StoreNote::NoSuch;
     };
-    let flushed = flush(
+    let steps = serving.state.steps();
+    match flush(
         alloc,
         &mut logs[usize::from(settle.next)],
         serving,
         settle.next,
-    );
-    serving.state.facts();
-    match flushed {
+        steps,
+    ) {
         Ok(mark) => turned(serving, id, settle, mark, logs.len()),
-        Err(fault) => {
+        Err(refusal) => {
             serving.settles.remove(&id);
-            note_of(fault)
+            StoreNote::Refused(refusal)
         }
     }
 }

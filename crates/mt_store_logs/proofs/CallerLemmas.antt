@@ -26,8 +26,6 @@ use Rattle.mt_recover.specs.declared.resuming.LogSlot.{LogSlot}
 use Rattle.mt_recover.specs.declared.resuming.LogSlot.TheVariants.{Open, Closed, Away}
 use Rattle.mt_recover.specs.Resumes.{HasResumed, FailsToResume}
 use Rattle.mt_recover.specs.Resumes.{HasFailed as ResumeFailed}
-use Rattle.mt_store_logs.specs.declared.fault.FlushFault.{FlushFault}
-use Rattle.mt_store_logs.specs.declared.fault.FlushFault.TheVariants.{Refused, TooLong}
 use Rattle.mt_store_logs.specs.declared.store_log.StoreLog.{StoreLog}
 use Rattle.mt_store_logs.specs.Places.{mark_in, disk_in, Opens, FailsOn, FailsToOpen, Makes}
 use Rattle.mt_store_logs.specs.Waits.{HasAppended, HasFailed, TakesIn, AppendsKept, ClosesWith, Stays, FailsToAppend, with_kept, opened_with, ReopensAt, StaysClosed, FailsToReopenAt, Reopens, FailsToReopen}
@@ -74,10 +72,6 @@ reads_rest c front all =
 in_doubt_none : (kept : Option Batch) (now : LogNow) → IsInDoubt kept now now
 in_doubt_none None now = refl
 in_doubt_none (Some b) now = inl refl
-
-abbrev refusal_of : FlushFault → Refusal
-refusal_of (Refused r) = r
-refusal_of TooLong = refusals.Memory
 
 -- the front with a batch that was in doubt is the one with the batch that waits
 doubted : (now : LogNow) (b : Batch) (x : LogBatch) → Waits now b → now.doubt ≡ Some x → x ≡ Records b
@@ -416,47 +410,46 @@ module _ {D : Type 0} (is_honest : D → Bool) (state : D → DiskState) where
           c.waits ∙ sym c.waited,
         )
 
-    fails_in : (now : LogNow) (e : FlushFault) (old new : StoreLog D) → Stands is_honest state now old → FailsToAppend is_honest state failures e old new
+    fails_in : (now : LogNow) (e : Refusal) (old new : StoreLog D) → Stands is_honest state now old → FailsToAppend is_honest state failures e old new
         → IsKept now old.kept new
-    fails_in now (Refused refusals.Device) old new stands (inl shut) = same_kept now old new stands shut.1
-    fails_in now (Refused refusals.Device) old new stands (inr c) = closes now old new stands c
-    fails_in now (Refused refusals.Memory) old new stands s = same_kept now old new stands s.same
-    fails_in now (Refused (refusals.WrongTurn m)) old new stands s = same_kept now old new stands s.same
-    fails_in now TooLong old new stands s = same_kept now old new stands s.same
-    fails_in now (Refused refusals.KeyLong) old new stands s = absurd s
-    fails_in now (Refused refusals.TenantThere) old new stands s = absurd s
-    fails_in now (Refused refusals.NoTenant) old new stands s = absurd s
-    fails_in now (Refused refusals.Column) old new stands s = absurd s
-    fails_in now (Refused refusals.ColumnLong) old new stands s = absurd s
-    fails_in now (Refused refusals.Quota) old new stands s = absurd s
-    fails_in now (Refused refusals.ScanCount) old new stands s = absurd s
-    fails_in now (Refused refusals.Spent) old new stands s = absurd s
-    fails_in now (Refused (refusals.BadLog n o)) old new stands s = absurd s
-    fails_in now (Refused (refusals.StampsFall n x)) old new stands s = absurd s
-    fails_in now (Refused (refusals.OverQuota t)) old new stands s = absurd s
-    fails_in now (Refused refusals.LogCount) old new stands s = absurd s
-    fails_in now (Refused refusals.BadFrame) old new stands s = absurd s
-    fails_in now (Refused refusals.NotOpen) old new stands s = absurd s
-    fails_in now (Refused refusals.OpenTwice) old new stands s = absurd s
-    fails_in now (Refused refusals.NoRoom) old new stands s = absurd s
-    fails_in now (Refused refusals.NoStore) old new stands s = absurd s
+    fails_in now refusals.Device old new stands (inl shut) = same_kept now old new stands shut.1
+    fails_in now refusals.Device old new stands (inr c) = closes now old new stands c
+    fails_in now refusals.Memory old new stands s = same_kept now old new stands s.same
+    fails_in now (refusals.WrongTurn m) old new stands s = same_kept now old new stands s.same
+    fails_in now refusals.KeyLong old new stands s = absurd s
+    fails_in now refusals.TenantThere old new stands s = absurd s
+    fails_in now refusals.NoTenant old new stands s = absurd s
+    fails_in now refusals.Column old new stands s = absurd s
+    fails_in now refusals.ColumnLong old new stands s = absurd s
+    fails_in now refusals.Quota old new stands s = absurd s
+    fails_in now refusals.ScanCount old new stands s = absurd s
+    fails_in now refusals.Spent old new stands s = absurd s
+    fails_in now (refusals.BadLog n o) old new stands s = absurd s
+    fails_in now (refusals.StampsFall n x) old new stands s = absurd s
+    fails_in now (refusals.OverQuota t) old new stands s = absurd s
+    fails_in now refusals.LogCount old new stands s = absurd s
+    fails_in now refusals.BadFrame old new stands s = absurd s
+    fails_in now refusals.NotOpen old new stands s = absurd s
+    fails_in now refusals.OpenTwice old new stands s = absurd s
+    fails_in now refusals.NoRoom old new stands s = absurd s
+    fails_in now refusals.NoStore old new stands s = absurd s
 
     in_turn : (now : LogNow) (mark : ℕ) (old new : StoreLog D) → Stands is_honest state now old
-        → FailsToAppend is_honest state failures (Refused (refusals.WrongTurn mark)) old new → ⊥
+        → FailsToAppend is_honest state failures (refusals.WrongTurn mark) old new → ⊥
     in_turn now mark old new stands s =
         let waits : Waits now s.batch = subst (WaitsIn now) s.waits stands.waits in
         s.holds.0 (waits.turn ∙ (open_mark now old.slot s.mark stands.shows s.open_up_to).1 ∙ s.holds.1)
 
-    never_out_of_turn : (now : LogNow) (e : FlushFault) (old new : StoreLog D) → Stands is_honest state now old → FailsToAppend is_honest state failures e old new
-        → (mark : ℕ) → e ≢ Refused (refusals.WrongTurn mark)
+    never_out_of_turn : (now : LogNow) (e : Refusal) (old new : StoreLog D) → Stands is_honest state now old → FailsToAppend is_honest state failures e old new
+        → (mark : ℕ) → e ≢ refusals.WrongTurn mark
     never_out_of_turn now e old new stands f mark same = in_turn now mark old new stands (subst (λ x. FailsToAppend is_honest state failures x old new) same f)
 
-    never_bad : (e : FlushFault) (old new : StoreLog D) → FailsToAppend is_honest state failures e old new → (number offset : ℕ) → e ≢ Refused (refusals.BadLog number offset)
+    never_bad : (e : Refusal) (old new : StoreLog D) → FailsToAppend is_honest state failures e old new → (number offset : ℕ) → e ≢ refusals.BadLog number offset
     never_bad e old new f number offset same = subst (λ x. FailsToAppend is_honest state failures x old new) same f
 
-    pub fails_to_append : (now : LogNow) (e : FlushFault) (old new : StoreLog D) → Stands is_honest state now old
+    pub fails_to_append : (now : LogNow) (e : Refusal) (old new : StoreLog D) → Stands is_honest state now old
         → FailsToAppend is_honest state failures e old new
-        → (next : LogNow) × Stands is_honest state next new × IsInDoubt old.kept now next × (new.kept ≡ old.kept) × ((mark : ℕ) → e ≢ Refused (refusals.WrongTurn mark))
+        → (next : LogNow) × Stands is_honest state next new × IsInDoubt old.kept now next × (new.kept ≡ old.kept) × ((mark : ℕ) → e ≢ refusals.WrongTurn mark)
     fails_to_append now e old new stands f =
         let k = fails_in now e old new stands f in
         (k.0, k.1, k.2, k.3, never_out_of_turn now e old new stands f)
@@ -477,31 +470,30 @@ module _ {D : Type 0} (is_honest : D → Bool) (state : D → DiskState) where
     has_it_stays P log b new mark s =
         s.beyond (ap (λ (x : Batch). x.to) (sym (same_Some b s.batch s.waits)) ∙ sym mark ∙ same_Some log.mark s.mark s.open_up_to)
 
-    has_it_fails : (e : FlushFault) (log : LogFile D) (b : Batch) (new : StoreLog D) → log.mark ≡ b.to
+    has_it_fails : (e : Refusal) (log : LogFile D) (b : Batch) (new : StoreLog D) → log.mark ≡ b.to
         → FailsToAppend is_honest state failures e (opened_with log (Some b)) new → ⊥
-    has_it_fails (Refused refusals.Device) log b new mark (inl shut) = no_some log.mark (sym shut.0)
-    has_it_fails (Refused refusals.Device) log b new mark (inr c) =
+    has_it_fails refusals.Device log b new mark (inl shut) = no_some log.mark (sym shut.0)
+    has_it_fails refusals.Device log b new mark (inr c) =
         has_it_failed log c.batch new.slot (mark ∙ ap (λ (x : Batch). x.to) (same_Some b c.batch c.waited)) c.fails
-    has_it_fails (Refused refusals.Memory) log b new mark s = has_it_stays _ log b new mark s
-    has_it_fails (Refused (refusals.WrongTurn m)) log b new mark s = has_it_stays _ log b new mark s
-    has_it_fails TooLong log b new mark s = has_it_stays _ log b new mark s
-    has_it_fails (Refused refusals.KeyLong) log b new mark s = s
-    has_it_fails (Refused refusals.TenantThere) log b new mark s = s
-    has_it_fails (Refused refusals.NoTenant) log b new mark s = s
-    has_it_fails (Refused refusals.Column) log b new mark s = s
-    has_it_fails (Refused refusals.ColumnLong) log b new mark s = s
-    has_it_fails (Refused refusals.Quota) log b new mark s = s
-    has_it_fails (Refused refusals.ScanCount) log b new mark s = s
-    has_it_fails (Refused refusals.Spent) log b new mark s = s
-    has_it_fails (Refused (refusals.BadLog n o)) log b new mark s = s
-    has_it_fails (Refused (refusals.StampsFall n x)) log b new mark s = s
-    has_it_fails (Refused (refusals.OverQuota t)) log b new mark s = s
-    has_it_fails (Refused refusals.LogCount) log b new mark s = s
-    has_it_fails (Refused refusals.BadFrame) log b new mark s = s
-    has_it_fails (Refused refusals.NotOpen) log b new mark s = s
-    has_it_fails (Refused refusals.OpenTwice) log b new mark s = s
-    has_it_fails (Refused refusals.NoRoom) log b new mark s = s
-    has_it_fails (Refused refusals.NoStore) log b new mark s = s
+    has_it_fails refusals.Memory log b new mark s = has_it_stays _ log b new mark s
+    has_it_fails (refusals.WrongTurn m) log b new mark s = has_it_stays _ log b new mark s
+    has_it_fails refusals.KeyLong log b new mark s = s
+    has_it_fails refusals.TenantThere log b new mark s = s
+    has_it_fails refusals.NoTenant log b new mark s = s
+    has_it_fails refusals.Column log b new mark s = s
+    has_it_fails refusals.ColumnLong log b new mark s = s
+    has_it_fails refusals.Quota log b new mark s = s
+    has_it_fails refusals.ScanCount log b new mark s = s
+    has_it_fails refusals.Spent log b new mark s = s
+    has_it_fails (refusals.BadLog n o) log b new mark s = s
+    has_it_fails (refusals.StampsFall n x) log b new mark s = s
+    has_it_fails (refusals.OverQuota t) log b new mark s = s
+    has_it_fails refusals.LogCount log b new mark s = s
+    has_it_fails refusals.BadFrame log b new mark s = s
+    has_it_fails refusals.NotOpen log b new mark s = s
+    has_it_fails refusals.OpenTwice log b new mark s = s
+    has_it_fails refusals.NoRoom log b new mark s = s
+    has_it_fails refusals.NoStore log b new mark s = s
 
     -- ---- reopening
 
@@ -553,13 +545,13 @@ module _ {D : Type 0} (is_honest : D → Bool) (state : D → DiskState) where
     pub reopens : (now : LogNow) (old new : StoreLog D) → Stands is_honest state now old → Reopens is_honest state failures old new → IsReopened now old.kept new
     reopens now old new stands r = reopens_at now old.slot old.kept new stands.honest stands.shows stands.waits r
 
-    abbrev IsNotReopened : LogNow → Option Batch → FlushFault → StoreLog D → Type 0
+    abbrev IsNotReopened : LogNow → Option Batch → Refusal → StoreLog D → Type 0
     IsNotReopened now kept e new =
         (mid next : LogNow) × (mid ≡ now ⊎ ComesToRest now mid) × Stands is_honest state next new × IsInDoubt kept mid next × (new.kept ≡ kept)
-        × ((number offset : ℕ) → e ≢ Refused (refusals.BadLog number offset)) × ((mark : ℕ) → e ≢ Refused (refusals.WrongTurn mark))
+        × ((number offset : ℕ) → e ≢ refusals.BadLog number offset) × ((mark : ℕ) → e ≢ refusals.WrongTurn mark)
 
     -- a log that was opened stands with the batch that waits, unless it has that
-    keeps_on : (now mid : LogNow) (e : FlushFault) (log : LogFile D) (kept : Option Batch) (new : StoreLog D) → IsTrue (is_honest log.disk)
+    keeps_on : (now mid : LogNow) (e : Refusal) (log : LogFile D) (kept : Option Batch) (new : StoreLog D) → IsTrue (is_honest log.disk)
         → Shows state mid (Open log) → MayLeaveFront now mid.had → WaitsIn now kept → FailsToAppend is_honest state failures e (opened_with log kept) new
         → Stands is_honest state mid (opened_with log kept)
     keeps_on now mid e log None new honest shows left waits f = record { honest = honest; shows = shows; waits = shows.0 }
@@ -569,23 +561,22 @@ module _ {D : Type 0} (is_honest : D → Bool) (state : D → DiskState) where
         (λ mark. absurd (has_it_fails e log b new (shows.1.mark ∙ mark) f))
         (waits_on now mid b shows.0 left waits)
 
-    stays_closed : (now : LogNow) (e : FlushFault) (disk : D) (kept : Option Batch) (new : StoreLog D) → IsTrue (is_honest disk)
+    stays_closed : (now : LogNow) (e : Refusal) (disk : D) (kept : Option Batch) (new : StoreLog D) → IsTrue (is_honest disk)
         → IsContents now.had × ShowsClosed state now.had now.doubt disk → WaitsIn now kept
         → StaysClosed is_honest state failures e disk kept new → IsNotReopened now kept e new
     stays_closed now e disk kept new honest shows waits s =
-        let n = not_opened_on now s.refusal disk new.slot honest shows s.fails in
-        let told : (r : Refusal) → e ≡ Refused r → s.refusal ≡ r = λ r same. ap refusal_of (sym s.told ∙ same) in (
+        let n = not_opened_on now e disk new.slot honest shows s.fails in (
           now,
           now,
           inl refl,
           record { honest = n.0; shows = n.1; waits = subst (WaitsIn now) (sym s.waits) waits },
           in_doubt_none kept now,
           s.waits,
-          (λ number offset same. n.2 number offset (told (refusals.BadLog number offset) same)),
-          (λ mark same. no_turn mark disk new.slot (subst (λ r. FailsToOpen is_honest state failures r (Some disk) new.slot) (told (refusals.WrongTurn mark) same) s.fails)),
+          n.2,
+          (λ mark same. no_turn mark disk new.slot (subst (λ r. FailsToOpen is_honest state failures r (Some disk) new.slot) same s.fails)),
         )
 
-    not_reopened_at : (now : LogNow) (e : FlushFault) (slot : LogSlot D) (kept : Option Batch) (new : StoreLog D) → IsHonest is_honest slot → Shows state now slot
+    not_reopened_at : (now : LogNow) (e : Refusal) (slot : LogSlot D) (kept : Option Batch) (new : StoreLog D) → IsHonest is_honest slot → Shows state now slot
         → WaitsIn now kept → FailsToReopenAt is_honest state failures e slot (record { slot = slot; kept = kept }) new → IsNotReopened now kept e new
     not_reopened_at now e (Open log) kept new honest shows waits f =
         let stands : Stands is_honest state now (opened_with log kept) = record { honest = honest; shows = shows; waits = waits } in
@@ -601,7 +592,7 @@ module _ {D : Type 0} (is_honest : D → Bool) (state : D → DiskState) where
         (mid, k.0, inr (record { rests = refl; left = opened.0 }), k.1, k.2, k.3, never_bad e old new o.fails, never_out_of_turn mid e old new stands o.fails)
     not_reopened_at now e Away kept new honest shows waits f = absurd honest
 
-    pub fails_to_reopen : (now : LogNow) (e : FlushFault) (old new : StoreLog D) → Stands is_honest state now old
+    pub fails_to_reopen : (now : LogNow) (e : Refusal) (old new : StoreLog D) → Stands is_honest state now old
         → FailsToReopen is_honest state failures e old new → IsNotReopened now old.kept e new
     fails_to_reopen now e old new stands f = not_reopened_at now e old.slot old.kept new stands.honest stands.shows stands.waits f
 

@@ -2,3 +2,4 @@ pub mod CallerLemmas
 pub mod Loops
 pub mod ForResumes
 pub mod Reopening
+pub mod DrainLaws

@@ -1,11 +1,11 @@
 -- A log that is opened again, and what then becomes of the batch that waits for it.
 use Rattle.std.proofs.Common.{ℕ, Bool, Option, Some, inr}
 use Rattle.mt_rows.specs.declared.record.Batch.{Batch}
+use Rattle.mt_rows.specs.declared.refusal.Refusal.{Refusal}
 use Rattle.mt_disk.specs.Disk.{DiskState}
 use Rattle.mt_log.specs.declared.batch.Front.{Front}
 use Rattle.mt_recover.specs.declared.resuming.LogSlot.{LogSlot}
 use Rattle.mt_recover.specs.declared.resuming.LogSlot.TheVariants.{Open, Closed, Away}
-use Rattle.mt_store_logs.specs.declared.fault.FlushFault.{FlushFault}
 use Rattle.mt_store_logs.specs.declared.store_log.StoreLog.{StoreLog}
 use Rattle.mt_store_logs.specs.Places.{Opens}
 use Rattle.mt_store_logs.specs.Waits.{AppendsKept, FailsToAppend, OpensAgain, FailsToOpenAgain}
@@ -18,7 +18,7 @@ module _ {D : Type 0} (is_honest : D → Bool) (state : D → DiskState) (failur
   opens_again disk kept (Closed other) front new opened a = absurd opened
   opens_again disk kept Away front new opened a = absurd opened
 
-  pub opens_but_keeps : (e : FlushFault) (disk : D) (kept : Option Batch) (slot : LogSlot D) (front : Front) (new : StoreLog D)
+  pub opens_but_keeps : (e : Refusal) (disk : D) (kept : Option Batch) (slot : LogSlot D) (front : Front) (new : StoreLog D)
       → Opens is_honest state failures (Some disk) slot front → FailsToAppend is_honest state failures e (record { slot = slot; kept = kept }) new
       → FailsToOpenAgain is_honest state failures e disk kept new
   opens_but_keeps e disk kept (Open log) front new opened f = inr (record { log = log; front = front; opened = opened; fails = f })

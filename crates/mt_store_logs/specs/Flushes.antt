@@ -1,45 +1,81 @@
 -- What a flush makes of a log, of the batch that waits for it, and of what drains its worker.
-use Rattle.std.specs.Prelude.{◌≡◌, ◌⊎◌, ℕ, Bool, Some}
+use Rattle.std.specs.Prelude.{◌≡◌, ◌⊎◌, ℕ, zero, suc, ◌<◌, ◌≤◌, Bool}
 use Rattle.mt_rows.specs.declared.record.Batch.{Batch}
-use Rattle.mt_rows.specs.declared.refusal.Refusal.TheVariants as refusals
+use Rattle.mt_rows.specs.declared.refusal.Refusal.{Refusal}
+use Rattle.mt_rows.specs.declared.refusal.Refusal.TheVariants.{Memory}
 use Rattle.mt_disk.specs.Disk.{DiskState}
-use Rattle.mt_batches.specs.Batches.{IsInOrder}
-use Rattle.mt_store_logs.specs.declared.fault.FlushFault.{FlushFault}
-use Rattle.mt_store_logs.specs.declared.fault.FlushFault.TheVariants.{Refused}
+use Rattle.mt_batches.specs.Batches.{IsBounded, BringsOn}
 use Rattle.mt_store_logs.specs.declared.store_log.StoreLog.{StoreLog}
-use Rattle.mt_store_logs.specs.Places.{mark_in}
-use Rattle.mt_store_logs.specs.Waits.{AppendsKept, FailsToAppend, with_kept}
+use Rattle.mt_store_logs.specs.Waits.{AppendsKept, FailsToAppend, AppendsNew, FailsToAppendNew}
 
 module _ {D S : Type 0} (is_honest : D → Bool) (state : D → DiskState) (failures : D → ℕ) (gives : S → S → ℕ → Batch → Type 0) (worker : ℕ) where
-  -- The batch that waited was appended; then the worker was drained, and its batch appended. The log goes up to the step that is told.
-  pub record Flushes (mark : ℕ) (old new : StoreLog D) (was is : S) : Type 0 where
-    pub mid : StoreLog D
-    pub kept : AppendsKept is_honest state failures old mid
+  -- the worker was drained once, towards a step, and its batch appended: the log goes up to its end
+  pub record DrainsIn (upto mark : ℕ) (old new : StoreLog D) (was is : S) : Type 0 where
     pub batch : Batch
     pub given : gives was is worker batch
-    pub in_order : IsInOrder batch
-    pub appended : AppendsKept is_honest state failures (with_kept batch mid) new
-    pub told : mark_in new.slot ≡ Some mark
+    pub bounded : IsBounded batch
+    pub brings : BringsOn upto batch
+    pub appended : AppendsNew is_honest state failures batch old new
+    pub told : mark ≡ batch.to
+
+  -- it was not: the drain was refused memory
+  pub record IsNotDrained (e : Refusal) (old new : StoreLog D) (was is : S) : Type 0 where
+    pub same_log : new ≡ old
+    pub same : is ≡ was
+    pub told : e ≡ Memory
+
+  -- it was, and its batch waits
+  pub record KeepsDrained (e : Refusal) (old new : StoreLog D) (was is : S) : Type 0 where
+    pub batch : Batch
+    pub given : gives was is worker batch
+    pub bounded : IsBounded batch
+    pub fails : FailsToAppendNew is_honest state failures e batch old new
+
+  abbrev pub FailsToDrain : Refusal → StoreLog D → StoreLog D → S → S → Type 0
+  FailsToDrain e old new was is = IsNotDrained e old new was is ⊎ KeepsDrained e old new was is
+
+  -- the worker was drained so many times, and each time the log went up to an earlier step than that asked for
+  abbrev pub DrainsShort : ℕ → ℕ → StoreLog D → StoreLog D → S → S → Type 0
+  DrainsShort zero upto old new was is = (new ≡ old) × (is ≡ was)
+  DrainsShort (suc n) upto old new was is =
+      (mark : ℕ) × (mid : StoreLog D) × (between : S) × DrainsShort n upto old mid was between × DrainsIn upto mark mid new between is × (mark < upto)
+
+  -- it was drained so, and once more: the log goes up to this step
+  pub record HasDrained (upto mark : ℕ) (old new : StoreLog D) (was is : S) : Type 0 where
+    pub times : ℕ
+    pub mid : StoreLog D
+    pub between : S
+    pub short : DrainsShort times upto old mid was between
+    pub last : DrainsIn upto mark mid new between is
+
+  -- it was drained till the log went up to that step, at least
+  abbrev pub DrainsUpto : ℕ → ℕ → StoreLog D → StoreLog D → S → S → Type 0
+  DrainsUpto upto mark old new was is = HasDrained upto mark old new was is × (upto ≤ mark)
+
+  -- it was drained so far, and then not
+  pub record FailsInDrains (upto : ℕ) (e : Refusal) (old new : StoreLog D) (was is : S) : Type 0 where
+    pub times : ℕ
+    pub mid : StoreLog D
+    pub between : S
+    pub short : DrainsShort times upto old mid was between
+    pub fails : FailsToDrain e mid new between is
+
+  -- The batch that waited was appended; then the worker was drained till the log went up to a step. The log goes up to the step that is told.
+  pub record Flushes (upto mark : ℕ) (old new : StoreLog D) (was is : S) : Type 0 where
+    pub first : StoreLog D
+    pub kept : AppendsKept is_honest state failures old first
+    pub drains : DrainsUpto upto mark first new was is
 
   -- the batch that waited still does, and nothing was drained
-  pub record StillWaits (e : FlushFault) (old new : StoreLog D) (was is : S) : Type 0 where
+  pub record StillWaits (e : Refusal) (old new : StoreLog D) (was is : S) : Type 0 where
     pub fails : FailsToAppend is_honest state failures e old new
     pub same : is ≡ was
 
-  -- nothing waits, and the drain was refused memory
-  pub record IsNotDrained (e : FlushFault) (old new : StoreLog D) (was is : S) : Type 0 where
-    pub kept : AppendsKept is_honest state failures old new
-    pub same : is ≡ was
-    pub told : e ≡ Refused refusals.Memory
+  -- it was appended, and the worker was drained so far
+  pub record StopsDraining (upto : ℕ) (e : Refusal) (old new : StoreLog D) (was is : S) : Type 0 where
+    pub first : StoreLog D
+    pub kept : AppendsKept is_honest state failures old first
+    pub fails : FailsInDrains upto e first new was is
 
-  -- the worker was drained, and its batch waits
-  pub record KeepsDrained (e : FlushFault) (old new : StoreLog D) (was is : S) : Type 0 where
-    pub mid : StoreLog D
-    pub kept : AppendsKept is_honest state failures old mid
-    pub batch : Batch
-    pub given : gives was is worker batch
-    pub in_order : IsInOrder batch
-    pub fails : FailsToAppend is_honest state failures e (with_kept batch mid) new
-
-  abbrev pub FailsToFlush : FlushFault → StoreLog D → StoreLog D → S → S → Type 0
-  FailsToFlush e old new was is = StillWaits e old new was is ⊎ IsNotDrained e old new was is ⊎ KeepsDrained e old new was is
+  abbrev pub FailsToFlush : ℕ → Refusal → StoreLog D → StoreLog D → S → S → Type 0
+  FailsToFlush upto e old new was is = StillWaits e old new was is ⊎ StopsDraining upto e old new was is

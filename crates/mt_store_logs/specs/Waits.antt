@@ -11,8 +11,6 @@ use Rattle.mt_log.specs.Contents.{IsBatch}
 use Rattle.mt_log.specs.Logs.{Appended, FailedIn, Opened}
 use Rattle.mt_recover.specs.declared.resuming.LogSlot.{LogSlot}
 use Rattle.mt_recover.specs.declared.resuming.LogSlot.TheVariants.{Open, Closed}
-use Rattle.mt_store_logs.specs.declared.fault.FlushFault.{FlushFault}
-use Rattle.mt_store_logs.specs.declared.fault.FlushFault.TheVariants.{Refused, TooLong}
 use Rattle.mt_store_logs.specs.declared.store_log.StoreLog.{StoreLog}
 use Rattle.mt_store_logs.specs.Places.{mark_in, FailsToOpen}
 
@@ -71,12 +69,28 @@ module _ {D : Type 0} (is_honest : D → Bool) (state : D → DiskState) (failur
     pub fails : HasFailed batch old.slot new.slot
 
   -- why a batch waits that was to be appended
-  abbrev pub FailsToAppend : FlushFault → StoreLog D → StoreLog D → Type 0
-  FailsToAppend (Refused refusals.Device) old new = IsShut old new ⊎ ClosesWith old new
-  FailsToAppend (Refused refusals.Memory) old new = Stays (λ b mark. IsBatch b × (b.from ≡ mark)) old new
-  FailsToAppend (Refused (refusals.WrongTurn mark)) old new = Stays (λ b m. (b.from ≢ mark) × (m ≡ mark)) old new
-  FailsToAppend TooLong old new = Stays (λ b mark. ¬ IsBatch b) old new
+  abbrev pub FailsToAppend : Refusal → StoreLog D → StoreLog D → Type 0
+  FailsToAppend refusals.Device old new = IsShut old new ⊎ ClosesWith old new
+  FailsToAppend refusals.Memory old new = Stays (λ b mark. IsBatch b × (b.from ≡ mark)) old new
+  FailsToAppend (refusals.WrongTurn mark) old new = Stays (λ b m. (b.from ≢ mark) × (m ≡ mark)) old new
   FailsToAppend e old new = ⊥
+
+  -- A batch was appended that was not waiting: it began where the log ended, and the log goes up to its end.
+  pub record AppendsNew (batch : Batch) (old new : StoreLog D) : Type 0 where
+    pub turn : mark_in old.slot ≡ Some batch.from
+    pub appends : AppendsKept (with_kept batch old) new
+    pub mark : mark_in new.slot ≡ Some batch.to
+
+  -- it begins elsewhere than the log ends, and waits
+  pub record IsOutOfTurn (e : Refusal) (batch : Batch) (old new : StoreLog D) : Type 0 where
+    pub mark : ℕ
+    pub told : e ≡ refusals.WrongTurn mark
+    pub open_up_to : mark_in old.slot ≡ Some mark
+    pub elsewhere : batch.from ≢ mark
+    pub waits : new ≡ with_kept batch old
+
+  abbrev pub FailsToAppendNew : Refusal → Batch → StoreLog D → StoreLog D → Type 0
+  FailsToAppendNew e batch old new = FailsToAppend e (with_kept batch old) new ⊎ IsOutOfTurn e batch old new
 
   -- a closed log was opened, and then the batch that waited is in it
   pub record OpensAgain (disk : D) (kept : Option Batch) (new : StoreLog D) : Type 0 where
@@ -94,26 +108,24 @@ module _ {D : Type 0} (is_honest : D → Bool) (state : D → DiskState) (failur
   Reopens old new = ReopensAt old.slot old new
 
   -- it was not opened, and the batch waits
-  pub record StaysClosed (e : FlushFault) (disk : D) (kept : Option Batch) (new : StoreLog D) : Type 0 where
+  pub record StaysClosed (e : Refusal) (disk : D) (kept : Option Batch) (new : StoreLog D) : Type 0 where
     pub waits : new.kept ≡ kept
-    pub refusal : Refusal
-    pub told : e ≡ Refused refusal
-    pub fails : FailsToOpen is_honest state failures refusal (Some disk) new.slot
+    pub fails : FailsToOpen is_honest state failures e (Some disk) new.slot
 
   -- it was, and the batch waits
-  pub record OpensButKeeps (e : FlushFault) (disk : D) (kept : Option Batch) (new : StoreLog D) : Type 0 where
+  pub record OpensButKeeps (e : Refusal) (disk : D) (kept : Option Batch) (new : StoreLog D) : Type 0 where
     pub log : LogFile D
     pub front : Front
     pub opened : Opened is_honest state failures disk log front
     pub fails : FailsToAppend e (opened_with log kept) new
 
-  abbrev pub FailsToOpenAgain : FlushFault → D → Option Batch → StoreLog D → Type 0
+  abbrev pub FailsToOpenAgain : Refusal → D → Option Batch → StoreLog D → Type 0
   FailsToOpenAgain e disk kept new = StaysClosed e disk kept new ⊎ OpensButKeeps e disk kept new
 
-  abbrev pub FailsToReopenAt : FlushFault → LogSlot D → StoreLog D → StoreLog D → Type 0
+  abbrev pub FailsToReopenAt : Refusal → LogSlot D → StoreLog D → StoreLog D → Type 0
   FailsToReopenAt e (Closed disk) old new = FailsToOpenAgain e disk old.kept new
   FailsToReopenAt e slot old new = FailsToAppend e old new
 
   -- why a log is not open, or a batch waits for it
-  abbrev pub FailsToReopen : FlushFault → StoreLog D → StoreLog D → Type 0
+  abbrev pub FailsToReopen : Refusal → StoreLog D → StoreLog D → Type 0
   FailsToReopen e old new = FailsToReopenAt e old.slot old new

@@ -15,8 +15,6 @@ ghost use Rattle.mt_log.specs.Contents.{Contents, Rises, mark_of, no_batches, wi
 ghost use Rattle.mt_crashes.specs.Stores.{LogNow, at_rest, MayLeaveFront};
 ghost use Rattle.mt_recover.specs.declared.resuming.LogSlot.{LogSlot};
 ghost use Rattle.mt_recover.specs.Resumes.{HasResumed, FailsToResume};
-ghost use Rattle.mt_store_logs.specs.declared.fault.FlushFault.{FlushFault};
-ghost use Rattle.mt_store_logs.specs.declared.fault.FlushFault.TheVariants.{Refused};
 ghost use Rattle.mt_store_logs.specs.declared.store_log.StoreLog.{StoreLog};
 ghost use Rattle.mt_store_logs.specs.Places.{disk_in, Opens, FailsToOpen, Makes};
 ghost use Rattle.mt_store_logs.specs.Waits.{AppendsKept, FailsToAppend, with_kept, Reopens, FailsToReopen};
@@ -40,9 +38,9 @@ pub fn an_append_comes_to_rest<D: Disk>()
 
 /// One that fails leaves the batch waiting, perhaps in doubt; it is never out of turn.
 pub fn a_failed_append_waits<D: Disk>()
-    ensures { (now : LogNow) (e : FlushFault) (old new : StoreLog D) → Stands D.is_honest D.state now old → FailsToAppend D.is_honest D.state D.failures e old new
+    ensures { (now : LogNow) (e : Refusal) (old new : StoreLog D) → Stands D.is_honest D.state now old → FailsToAppend D.is_honest D.state D.failures e old new
         → (next : LogNow) × Stands D.is_honest D.state next new × IsInDoubt old.kept now next × (new.kept ≡ old.kept)
-        × ((mark : ℕ) → e ≢ Refused (refusals.WrongTurn mark)) }
+        × ((mark : ℕ) → e ≢ refusals.WrongTurn mark) }
 {}
 
 /// A log that is opened again comes to rest, and then has the batch that waited.
@@ -55,9 +53,9 @@ pub fn a_reopened_log_has_its_batch<D: Disk>()
 /// One that is not, or whose batch is not appended, is as before, or has come to rest first. Its file is in the
 /// format, and its batch not out of turn.
 pub fn a_log_that_is_not_reopened_waits<D: Disk>()
-    ensures { (now : LogNow) (e : FlushFault) (old new : StoreLog D) → Stands D.is_honest D.state now old → FailsToReopen D.is_honest D.state D.failures e old new
+    ensures { (now : LogNow) (e : Refusal) (old new : StoreLog D) → Stands D.is_honest D.state now old → FailsToReopen D.is_honest D.state D.failures e old new
         → (mid next : LogNow) × (mid ≡ now ⊎ ComesToRest now mid) × Stands D.is_honest D.state next new × IsInDoubt old.kept mid next × (new.kept ≡ old.kept)
-        × ((number offset : ℕ) → e ≢ Refused (refusals.BadLog number offset)) × ((mark : ℕ) → e ≢ Refused (refusals.WrongTurn mark)) }
+        × ((number offset : ℕ) → e ≢ refusals.BadLog number offset) × ((mark : ℕ) → e ≢ refusals.WrongTurn mark) }
 {}
 
 /// A log that was made has no batches.

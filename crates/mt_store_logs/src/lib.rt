@@ -18,9 +18,9 @@ mod source;
 mod store_log;
 
 pub use crashing::crash_logs;
-pub use fault::{FlushFault, LogRefusal};
+pub use fault::LogRefusal;
 pub use flushing::flush;
 pub use opening::{create_logs, open_logs};
 pub use recovering::recover_logs;
 pub use source::Source;
-pub use store_log::StoreLog;
+pub use store_log::{StoreLog, WaitingBatch};

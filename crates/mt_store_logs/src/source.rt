@@ -2,24 +2,26 @@
 
 ghost use Rattle.std.specs.Prelude.{◌≡◌, ℕ, IfOk, OnErr};
 ghost use Rattle.mt_rows.specs.declared.record.Batch.{Batch};
-ghost use Rattle.mt_batches.specs.Batches.{IsInOrder};
+ghost use Rattle.mt_batches.specs.Batches.{IsBounded, BringsOn};
 
 use mt_rows::Batch;
 use std::alloc::AllocError;
 
 /// What drains workers: a state, or one under a lock. What it says of a batch is its own.
 pub trait Source {
-    /// Whether a worker can be drained.
-    ghost serves: { Self → ℕ → Type 0 };
+    /// Whether a worker can be drained up to a step.
+    ghost serves: { Self → ℕ → ℕ → Type 0 };
 
     /// What a drain of a worker made of it, with the batch that it gave.
     ghost gives: { Self → Self → ℕ → Batch → Type 0 };
 
-    /// The changes of a worker since it was last drained, in order. An error comes where memory is
-    /// refused, and changes nothing.
-    fn drain(&mut self, worker: u8) -> Result<Batch, AllocError>
-        requires { serves self.old worker }
+    /// The next batch of a worker's changes since it was last drained: it goes up to the step that is asked for at
+    /// least, or it is full. An error comes if memory is refused, and changes nothing.
+    fn drain(&mut self, worker: u8, upto: u64) -> Result<Batch, AllocError>
+        requires { serves self.old worker upto }
         ensures gives { IfOk result (λ batch. gives self.old self.new worker batch) }
-        ensures in_order { IfOk result IsInOrder }
+        ensures bounded { IfOk result IsBounded }
+        ensures brings { IfOk result (BringsOn upto) }
+        ensures serves { IfOk result (λ _. serves self.new worker upto) }
         ensures unchanged_on_err { OnErr result (self.new ≡ self.old) };
 }

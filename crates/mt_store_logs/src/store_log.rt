@@ -1,33 +1,79 @@
 //! A log's place in a running store, and the batch that waits for it.
 
 ghost use Rattle.std.specs.Prelude.{◌≡◌, ◌↔◌, ◌≢◌, None, Some, IsTrue, IfOk, IfErr, OnOk};
-ghost use Rattle.mt_batches.specs.Batches.{IsInOrder};
+ghost use Rattle.mt_batches.specs.Batches.{IsBounded};
+ghost use Rattle.mt_log.specs.Contents.{IsBatch};
 ghost use Rattle.mt_recover.specs.declared.resuming.LogSlot.{LogSlot};
 ghost use Rattle.mt_recover.specs.declared.resuming.LogSlot.TheVariants.{Open, Closed};
 ghost use Rattle.mt_store_logs.specs.Places.{mark_in, disk_in, Opens, FailsToOpen};
-ghost use Rattle.mt_store_logs.specs.Waits.{AppendsKept, FailsToAppend, with_kept, Reopens, FailsToReopen, OpensAgain, FailsToOpenAgain};
+ghost use Rattle.mt_store_logs.specs.Waits.{AppendsKept, FailsToAppend, AppendsNew, FailsToAppendNew, with_kept, Reopens, FailsToReopen, OpensAgain, FailsToOpenAgain};
 
-use crate::fault::FlushFault;
 use mt_disk::Disk;
-use mt_log::{AppendFault, Front, LogFile, OpenFault, fits};
+use mt_log::laws::a_bounded_batch_is_taken;
+use mt_log::{AppendFault, Front, LogFile, OpenFault};
 use mt_recover::LogSlot;
 use mt_rows::{Batch, Refusal};
 use std::alloc::Global;
+use std::marker::Model;
 use std::mem;
+
+/// A batch that waits for its log, which takes it: it has 4,096 records at most. Seen as a `Batch`.
+#[derive(Debug, Drop)]
+pub struct WaitingBatch {
+    batch: Batch,
+}
+
+impl Model for WaitingBatch {
+    ghost use Rattle.mt_batches.specs.Batches.{IsBounded};
+    ghost use Rattle.mt_rows.specs.declared.record.Batch.{Batch};
+
+    ghost Value = { Batch };
+
+    ghost view = { λ w. w.batch };
+
+    ghost invariant = { λ w. IsBounded w.batch };
+}
+
+impl WaitingBatch {
+    fn new(batch: Batch) -> Self
+        requires { IsBounded batch }
+        ensures { result ≡ batch }
+    {
+        WaitingBatch { batch }
+    }
+
+    /// The step up to which it goes.
+    pub fn to(&self) -> u64
+        ensures { result ≡ self.now.to }
+    {
+        self.batch.to
+    }
+
+    // The batch, which an append takes.
+    fn into_batch(self) -> Batch
+        ensures is { result ≡ self }
+        ensures bounded { IsBounded result }
+        ensures taken { IsBatch result }
+    {
+        a_bounded_batch_is_taken();
+        let WaitingBatch { batch } = self;
+        batch
+    }
+}
 
 /// A log's place, and the batch that it keeps: one that was drained, and that the log is not known to have. It
 /// goes into the log before any other, and the next one drained begins where it ends.
 #[derive(Drop)]
 pub struct StoreLog<D: Disk> {
     pub(crate) slot: LogSlot<D>,
-    pub(crate) kept: Option<Batch>,
+    pub(crate) kept: Option<WaitingBatch>,
 }
 
 // What an append made of a log and of the batch.
 #[derive(Drop)]
 struct Appending<D: Disk> {
     log: StoreLog<D>,
-    told: Result<(), FlushFault>,
+    told: Result<(), Refusal>,
 }
 
 impl<D: Disk + Drop> StoreLog<D> {
@@ -80,7 +126,7 @@ impl<D: Disk + Drop> StoreLog<D> {
     /// Appends the batch that is kept, if there is one, unless the log goes up to its end already. An error
     /// keeps it; the log is as it was, but that it is closed where its disk failed. The log has the batch then
     /// whole or not at all.
-    pub fn append_kept(&mut self, alloc: Global) -> Result<(), FlushFault>
+    pub fn append_kept(&mut self, alloc: Global) -> Result<(), Refusal>
         ensures ok { OnOk result (AppendsKept D.is_honest D.state D.failures self.old self.new) }
         ensures err { IfErr result (λ e. FailsToAppend D.is_honest D.state D.failures e self.old self.new) }
     {
@@ -92,24 +138,30 @@ impl<D: Disk + Drop> StoreLog<D> {
             }
             other => {
                 self.slot = other;
-                Err(FlushFault::Refused(Refusal::Device))
+                Err(Refusal::Device)
             }
         }
     }
 
-    /// Appends a batch. An error keeps it, as `append_kept` does.
-    pub fn append(&mut self, alloc: Global, batch: Batch) -> Result<(), FlushFault>
-        requires { self.old.kept ≡ None }
-        ensures ok { OnOk result (AppendsKept D.is_honest D.state D.failures (with_kept batch self.old) self.new) }
-        ensures err { IfErr result (λ e. FailsToAppend D.is_honest D.state D.failures e (with_kept batch self.old) self.new) }
+    /// Appends a batch. An error keeps it, as `append_kept` does; it is `WrongTurn` if the batch begins elsewhere
+    /// than the log ends.
+    pub fn append(&mut self, alloc: Global, batch: Batch) -> Result<(), Refusal>
+        requires none { self.old.kept ≡ None }
+        requires bounded { IsBounded batch }
+        ensures ok { OnOk result (AppendsNew D.is_honest D.state D.failures batch self.old self.new) }
+        ensures err { IfErr result (λ e. FailsToAppendNew D.is_honest D.state D.failures e batch self.old self.new) }
     {
-        self.kept = Some(batch);
-        self.append_kept(alloc)
+        let from = batch.from;
+        self.kept = Some(WaitingBatch::new(batch));
+        match self.mark() {
+            Some(mark) if mark != from => Err(Refusal::WrongTurn(mark)),
+            _ => self.append_kept(alloc),
+        }
     }
 
     /// Opens a closed log again, and appends the batch that is kept where the log does not have it. An error
     /// keeps the batch.
-    pub fn reopen(&mut self, alloc: Global) -> Result<(), FlushFault>
+    pub fn reopen(&mut self, alloc: Global) -> Result<(), Refusal>
         ensures ok { OnOk result (Reopens D.is_honest D.state D.failures self.old self.new) }
         ensures err { IfErr result (λ e. FailsToReopen D.is_honest D.state D.failures e self.old self.new) }
     {
@@ -124,7 +176,7 @@ impl<D: Disk + Drop> StoreLog<D> {
     }
 
     // Opens the disk of a closed log again, into an empty place.
-    fn reopen_on(&mut self, alloc: Global, disk: D) -> Result<(), FlushFault>
+    fn reopen_on(&mut self, alloc: Global, disk: D) -> Result<(), Refusal>
         ensures ok { OnOk result (OpensAgain D.is_honest D.state D.failures disk self.old.kept self.new) }
         ensures err { IfErr result (λ e. FailsToOpenAgain D.is_honest D.state D.failures e disk self.old.kept self.new) }
     {
@@ -137,13 +189,13 @@ impl<D: Disk + Drop> StoreLog<D> {
 fn append_kept_to<D: Disk + Drop>(
     alloc: Global,
     file: LogFile<D>,
-    kept: Option<Batch>,
+    kept: Option<WaitingBatch>,
 ) -> Appending<D>
     ensures ok { OnOk result.told (AppendsKept D.is_honest D.state D.failures (record { slot = Open file; kept = kept }) result.log) }
     ensures err { IfErr result.told (λ e. FailsToAppend D.is_honest D.state D.failures e (record { slot = Open file; kept = kept }) result.log) }
 {
     match kept {
-        Some(batch) => append_to(alloc, file, batch),
+        Some(waiting) => append_to(alloc, file, waiting),
         None => Appending {
             log: StoreLog::new(LogSlot::Open(file)),
             told: Ok(()),
@@ -152,20 +204,17 @@ fn append_kept_to<D: Disk + Drop>(
 }
 
 // Appends a batch to an open log.
-fn append_to<D: Disk + Drop>(alloc: Global, file: LogFile<D>, batch: Batch) -> Appending<D>
-    ensures ok { OnOk result.told (AppendsKept D.is_honest D.state D.failures (record { slot = Open file; kept = Some batch }) result.log) }
-    ensures err { IfErr result.told (λ e. FailsToAppend D.is_honest D.state D.failures e (record { slot = Open file; kept = Some batch }) result.log) }
+fn append_to<D: Disk + Drop>(alloc: Global, file: LogFile<D>, waiting: WaitingBatch) -> Appending<D>
+    ensures ok { OnOk result.told (AppendsKept D.is_honest D.state D.failures (record { slot = Open file; kept = Some waiting }) result.log) }
+    ensures err { IfErr result.told (λ e. FailsToAppend D.is_honest D.state D.failures e (record { slot = Open file; kept = Some waiting }) result.log) }
 {
-    if batch.to == file.mark() {
+    if waiting.to() == file.mark() {
         return Appending {
             log: StoreLog::new(LogSlot::Open(file)),
             told: Ok(()),
         };
     }
-    if !fits(&batch) {
-        return kept_by(LogSlot::Open(file), batch, FlushFault::TooLong);
-    }
-    match file.append(alloc, batch) {
+    match file.append(alloc, waiting.into_batch()) {
         Ok(file) => Appending {
             log: StoreLog::new(LogSlot::Open(file)),
             told: Ok(()),
@@ -173,29 +222,30 @@ fn append_to<D: Disk + Drop>(alloc: Global, file: LogFile<D>, batch: Batch) -> A
         Err(AppendFault::Device(disk, batch)) => kept_by(
             LogSlot::Closed(disk),
             batch,
-            FlushFault::Refused(Refusal::Device),
+            Refusal::Device,
         ),
         Err(AppendFault::Memory(file, batch)) => kept_by(
             LogSlot::Open(file),
             batch,
-            FlushFault::Refused(Refusal::Memory),
+            Refusal::Memory,
         ),
         Err(AppendFault::WrongTurn(file, batch, mark)) => kept_by(
             LogSlot::Open(file),
             batch,
-            FlushFault::Refused(Refusal::WrongTurn(mark)),
+            Refusal::WrongTurn(mark),
         ),
     }
 }
 
 // A batch that is kept.
-fn kept_by<D: Disk + Drop>(slot: LogSlot<D>, batch: Batch, fault: FlushFault) -> Appending<D>
+fn kept_by<D: Disk + Drop>(slot: LogSlot<D>, batch: Batch, fault: Refusal) -> Appending<D>
+    requires { IsBounded batch }
     ensures { result ≡ record { log = record { slot = slot; kept = Some batch }; told = Err fault } }
 {
     Appending {
         log: StoreLog {
             slot,
-            kept: Some(batch),
+            kept: Some(WaitingBatch::new(batch)),
         },
         told: Err(fault),
     }

@@ -2,8 +2,9 @@
 
 ghost use Rattle.std.specs.Prelude.{◌≡◌, ◌≤◌, ◌<◌, IfOk, OnErr};
 ghost use Rattle.mt_rows.specs.Commands.{IsKey};
-ghost use Rattle.mt_log.specs.Contents.{IsBatch};
+ghost use Rattle.mt_batches.specs.Batches.{IsBounded};
 
+use mt_batches::MAX_RECORDS;
 use mt_log::fits;
 use mt_rows::{Batch, Column, Key, Record, Records, Row, TenantPair};
 use mt_store_logs::Source;
@@ -73,11 +74,14 @@ impl History {
 }
 
 impl Source for History {
-    ghost serves = { λ _ _. Unit {0} };
+    ghost serves = { λ _ _ _. Unit {0} };
 
     ghost gives = { λ _ _ _ _. Unit {0} };
 
-    fn drain(&mut self, worker: u8) -> Result<Batch, AllocError> {
+    fn drain(&mut self, worker: u8, upto: u64) -> Result<Batch, AllocError> {
+        if self.steps < upto {
+            return Err(AllocError);
+        }
         let from = match self.drained.get(usize::from(worker)) {
             Some(from) => *from,
             None => self.steps,
@@ -124,7 +128,7 @@ fn record_of(alloc: Global, change: Change) -> Result<Record, AllocError>
     })
 }
 
-/// What a worker placed over step `from` and up to step `to`, of changes that rise.
+/// What a worker placed over step `from` and up to step `to`, of changes that rise, if a batch takes it.
 pub fn batch_of(
     alloc: Global,
     changes: &[Change],
@@ -132,7 +136,8 @@ pub fn batch_of(
     from: u64,
     to: u64,
 ) -> Result<Batch, AllocError>
-    ensures { IfOk result IsBatch }
+    ensures bounded { IfOk result IsBounded }
+    ensures to { IfOk result (λ batch. batch.to ≡ to) }
 {
     let mut records = Vec::new(alloc);
     let mut last = from;
@@ -146,7 +151,7 @@ pub fn batch_of(
     }
     let records = Records::new(records);
     let batch = Batch { from, to, records };
-    if fits(&batch) {
+    if fits(&batch) && batch.records.as_slice().len() <= MAX_RECORDS {
         Ok(batch)
     } else {
         Err(AllocError)

@@ -6,7 +6,7 @@ use mt_log::Front;
 use mt_recover::{LogSlot, Recovered};
 use mt_rows::{Refusal, Tenants};
 use mt_store_logs::{
-    FlushFault, LogRefusal, StoreLog, crash_logs, create_logs, flush, open_logs, recover_logs,
+    LogRefusal, StoreLog, crash_logs, create_logs, flush, open_logs, recover_logs,
 };
 use std::alloc::Global;
 
@@ -23,14 +23,6 @@ pub struct Store {
 pub struct Failure {
     pub disk: usize,
     pub call: u64,
-}
-
-/// What a log's fault is told by.
-pub fn refusal_of(fault: FlushFault) -> Refusal {
-    match fault {
-        FlushFault::Refused(refusal) => refusal,
-        FlushFault::TooLong => Refusal::NoStore,
-    }
 }
 
 /// What was left of a result.
@@ -99,10 +91,11 @@ impl Store {
         }
     }
 
-    /// Drains a worker into its log.
+    /// Drains a worker into its log, up to the last step.
     pub fn flush(&mut self, worker: u8) -> Result<u64, Refusal> {
+        let steps = self.history.steps;
         match self.logs.get_mut(usize::from(worker)) {
-            Some(log) => flush(self.alloc, log, &mut self.history, worker).map_err(refusal_of),
+            Some(log) => flush(self.alloc, log, &mut self.history, worker, steps),
             None => Err(Refusal::NoStore),
         }
     }
@@ -110,7 +103,7 @@ impl Store {
     /// Opens a worker's log again.
     pub fn reopen(&mut self, worker: u8) -> Result<(), Refusal> {
         match self.logs.get_mut(usize::from(worker)) {
-            Some(log) => log.reopen(self.alloc).map_err(refusal_of),
+            Some(log) => log.reopen(self.alloc),
             None => Err(Refusal::NoStore),
         }
     }

@@ -1,6 +1,6 @@
 -- What turns make of a store that is owned alone: no step is made, and a log that was brought up goes up to all that were; for the store's calls and the law of its Settle.
-use Rattle.std.proofs.Common.{◌≡◌, ◌≢◌, ⊎_elim, inl, inr, ℕ, zero, suc, ◌+◌, ◌<◌, ◌≤◌, Bool, List, [], ◌∷◌, ◌++◌, length, Some, Result, Ok, Err, refl, sym, ap, ◌∙◌, arith}
-use Rattle.std.specs.Prelude.{slice_get, slice_set, slice_index_or}
+use Rattle.std.proofs.Common.{◌≡◌, ◌≢◌, ⊎_elim, ℕ, zero, suc, ◌+◌, ◌<◌, ◌≤◌, Bool, List, [], ◌∷◌, ◌++◌, length, Some, Result, Ok, Err, refl, sym, ap, ◌∙◌, arith}
+use Rattle.std.specs.Prelude.{slice_get, slice_set, slice_index_or, IfOk, IfErr}
 use Rattle.std.proofs.lemmas.List.{length-set}
 use Rattle.std.proofs.lemmas.Option.{same_Some, slice_get_within}
 use Rattle.std.proofs.Math.Nat.{eq-or-lt_of_le}
@@ -8,16 +8,13 @@ use Rattle.mt_rows.specs.declared.record.Batch.{Batch}
 use Rattle.mt_rows.specs.declared.refusal.Refusal.{Refusal}
 use Rattle.mt_disk.specs.Disk.{DiskState}
 use Rattle.mt_state.specs.Views.{StateView}
-use Rattle.mt_recover.specs.declared.resuming.LogSlot.{LogSlot}
-use Rattle.mt_recover.specs.declared.resuming.LogSlot.TheVariants.{Open, Closed, Away}
 use Rattle.mt_store_logs.specs.declared.store_log.StoreLog.{StoreLog}
 use Rattle.mt_store_logs.specs.Places.{mark_in}
-use Rattle.mt_store_logs.specs.Waits.{TakesIn}
-use Rattle.mt_store_logs.specs.Flushes.{Flushes}
+use Rattle.mt_store_logs.specs.Flushes.{DrainsShort, HasDrained, Flushes, FailsToFlush}
 use Rattle.mt_settle.specs.Turns.{Turn, BroughtUp, Chain}
 use Rattle.mt_settle.specs.Settles.{turns_from, Settles}
 use Rattle.mt_stored.specs.declared.source.OwnState.{OwnState}
-use Rattle.mt_stored.specs.LogTurns.{FailsInFlush, FailsToBringUp}
+use Rattle.mt_stored.specs.LogTurns.{BringsUp, FailsToBringUp}
 use Rattle.mt_stored.specs.Stores.{gives_own, DoesStore, IsSettled}
 
 -- no step was made, and there are as many logs
@@ -29,7 +26,10 @@ same was is e = (ap (λ (s : OwnState). s.state.steps) e, ap (λ (s : OwnState).
 
 drained : (was is : OwnState) (worker : ℕ) (batch : Batch) → gives_own was is worker batch → Stays was is
 drained was is worker batch d =
-    (ap (λ (v : StateView). v.steps) d.stands, ap (λ (v : StateView). length v.logs) d.stands ∙ length-set was.state.logs worker was.state.steps)
+    (ap (λ (v : StateView). v.steps) d.stands, ap (λ (v : StateView). length v.logs) d.stands ∙ length-set was.state.logs worker batch.to)
+
+then : (a b c : OwnState) → Stays a b → Stays b c → Stays a c
+then a b c one two = (two.0 ∙ one.0, two.1 ∙ one.1)
 
 set_there : {X : Type 0} (xs : List X) (i : ℕ) (y : X) → i < length xs → slice_get (slice_set xs i y) i ≡ Some y
 set_there [] i y h = absurd (omega (arith, h))
@@ -50,33 +50,59 @@ told_more m steps ms is all zero d less = is
 told_more m steps ms is all (suc k) d less = all k d (omega (arith, less))
 
 module _ {D : Type 0} (is_honest : D → Bool) (state : D → DiskState) (failures : D → ℕ) where
-  in_flush : (worker : ℕ) (refusal : Refusal) (old new : StoreLog D) (was is : OwnState)
-      → FailsInFlush is_honest state failures gives_own worker refusal old new was is → Stays was is
-  in_flush worker refusal old new was is f =
-      ⊎_elim (λ waits. same was is waits.same) (λ rest. ⊎_elim (λ none. same was is none.same) (λ keeps. drained was is worker keeps.batch keeps.given) rest) f.2
+  in_short : (worker upto n : ℕ) (old new : StoreLog D) (was is : OwnState) → DrainsShort is_honest state failures gives_own worker n upto old new was is → Stays was is
+  in_short worker upto zero old new was is s = same was is s.1
+  in_short worker upto (suc n) old new was is (mark, mid, between, rest, d, less) =
+      then was between is (in_short worker upto n old mid was between rest) (drained between is worker d.batch d.given)
 
-  in_bring_up : (worker : ℕ) (refusal : Refusal) (old new : StoreLog D) (was is : OwnState)
-      → FailsToBringUp is_honest state failures gives_own worker refusal old new was is → Stays was is
-  in_bring_up worker refusal old new was is f =
-      ⊎_elim (λ closed. same was is closed.same) (λ not. in_flush worker refusal not.mid new was is not.fails) f
+  in_drains : (worker upto mark : ℕ) (old new : StoreLog D) (was is : OwnState) → HasDrained is_honest state failures gives_own worker upto mark old new was is → Stays was is
+  in_drains worker upto mark old new was is h =
+      then was h.between is (in_short worker upto h.times old h.mid was h.between h.short) (drained h.between is worker h.last.batch h.last.given)
+
+  in_flush : (worker upto : ℕ) (refusal : Refusal) (old new : StoreLog D) (was is : OwnState)
+      → FailsToFlush is_honest state failures gives_own worker upto refusal old new was is → Stays was is
+  in_flush worker upto refusal old new was is f =
+      ⊎_elim
+      (λ waits. same was is waits.same)
+      (λ stops.
+      let d = stops.fails in
+      then was d.between is (in_short worker upto d.times stops.first d.mid was d.between d.short)
+      (⊎_elim (λ none. same d.between is none.same) (λ keeps. drained d.between is worker keeps.batch keeps.given) d.fails))
+      f
+
+  in_bring_up : (worker upto : ℕ) (refusal : Refusal) (old new : StoreLog D) (was is : OwnState)
+      → FailsToBringUp is_honest state failures gives_own worker upto refusal old new was is → Stays was is
+  in_bring_up worker upto refusal old new was is f =
+      ⊎_elim (λ closed. same was is closed.same) (λ not. in_flush worker upto refusal not.mid new was is not.fails) f
 
   turn_stays : (turn : Turn) (was : OwnState) (old : List (StoreLog D)) (is : OwnState) (new : List (StoreLog D)) → DoesStore is_honest state failures turn was old is new → Stays was is
-  turn_stays (BroughtUp log (Ok mark)) was old is new t = drained was is log t.turns.flushes.batch t.turns.flushes.given
-  turn_stays (BroughtUp log (Err e)) was old is new t = in_bring_up log e t.before t.after was is t.turns
+  turn_stays (BroughtUp log (Ok mark)) was old is new t = in_drains log was.state.steps mark t.turns.flushes.first t.after was is t.turns.flushes.drains.0
+  turn_stays (BroughtUp log (Err e)) was old is new t = in_bring_up log was.state.steps e t.before t.after was is t.turns
 
-  -- a log that has taken a batch in goes up to its end
-  taken_up : (b : Batch) (old new : LogSlot D) → TakesIn is_honest state failures (Some b) old new → mark_in new ≡ Some b.to
-  taken_up b old new (inl there) = ap mark_in there.1 ∙ there.0
-  taken_up b (Open old) (Open new) (inr has) = ap Some has.2.mark
-  taken_up b (Open old) (Closed disk) (inr has) = absurd has
-  taken_up b (Open old) Away (inr has) = absurd has
-  taken_up b (Closed old) new (inr has) = absurd has
-  taken_up b Away new (inr has) = absurd has
+  -- a log that was brought up, or was not, had a turn of the store
+  pub turned : (log : ℕ) (r : Result ℕ Refusal) (was is : OwnState) (old : List (StoreLog D)) (before after : StoreLog D) → slice_get old log ≡ Some before
+      → IfOk r (λ mark. BringsUp is_honest state failures gives_own log was.state.steps mark before after was is)
+      → IfErr r (λ e. FailsToBringUp is_honest state failures gives_own log was.state.steps e before after was is)
+      → DoesStore is_honest state failures (BroughtUp log r) was old is (slice_set old log after)
+  turned log (Ok mark) was is old before after there ok err = record { before = before; there = there; after = after; stands = refl; turns = ok }
+  turned log (Err e) was is old before after there ok err = record { before = before; there = there; after = after; stands = refl; turns = err }
 
-  -- what a flush tells is the last step that was made
-  told_is : (worker mark : ℕ) (old new : StoreLog D) (was is : OwnState) → Flushes is_honest state failures gives_own worker mark old new was is → mark ≡ was.state.steps
+  -- and the store has as many logs
+  pub as_many : (log upto : ℕ) (r : Result ℕ Refusal) (was is : OwnState) (before after : StoreLog D)
+      → IfOk r (λ mark. BringsUp is_honest state failures gives_own log upto mark before after was is)
+      → IfErr r (λ e. FailsToBringUp is_honest state failures gives_own log upto e before after was is)
+      → length is.state.logs ≡ length was.state.logs
+  as_many log upto (Ok mark) was is before after ok err = (in_drains log upto mark ok.flushes.first after was is ok.flushes.drains.0).1
+  as_many log upto (Err e) was is before after ok err = (in_bring_up log upto e before after was is err).1
+
+  -- what a flush up to the last step tells is that step, and the log goes up to there
+  told_is : (worker mark : ℕ) (old new : StoreLog D) (was is : OwnState) → Flushes is_honest state failures gives_own worker was.state.steps mark old new was is
+      → (mark ≡ was.state.steps) × (mark_in new.slot ≡ Some mark)
   told_is worker mark old new was is f =
-      same_Some mark f.batch.to (sym f.told ∙ taken_up f.batch f.mid.slot new.slot f.appended.takes) ∙ f.given.to
+      let h = f.drains.0 in
+      let made = h.last.given.next.made in
+      let before = in_short worker was.state.steps h.times f.first h.mid was h.between h.short in
+      (omega (arith, h.last.told, made, before.0, f.drains.1), h.last.appended.mark ∙ ap Some (sym h.last.told))
 
   module _ {S : Type 0} (source : S → OwnState) (logs : S → List (StoreLog D)) where
     abbrev does : S → Turn → S → Type 0
@@ -114,8 +140,9 @@ module _ {D : Type 0} (is_honest : D → Bool) (state : D → DiskState) (failur
     }
     all_up log (m ∷ ms) old new (mid, d, rest) =
         let h = all_up (log + 1) ms mid new rest in
-        let first : Stays (source old) (source mid) = drained (source old) (source mid) log d.turns.flushes.batch d.turns.flushes.given in
-        let mark : m ≡ (source old).state.steps = told_is log m d.turns.mid d.after (source old) (source mid) d.turns.flushes in
+        let first : Stays (source old) (source mid) = turn_stays (BroughtUp log (Ok m)) (source old) (logs old) (source mid) (logs mid) d in
+        let told = told_is log m d.turns.mid d.after (source old) (source mid) d.turns.flushes in
+        let mark : m ≡ (source old).state.steps = told.0 in
         let there : slice_get (logs new) log ≡ Some d.after =
         h.before log (omega arith) ∙ ap (λ (ls : List (StoreLog D)). slice_get ls log) d.stands
         ∙ set_there (logs old) log d.after (slice_get_within (logs old) log d.before d.there) in
@@ -128,7 +155,7 @@ module _ {D : Type 0} (is_honest : D → Bool) (state : D → DiskState) (failur
           up = λ k l from to is. ⊎_elim
               (λ (e : log ≡ k).
               let own : d.after ≡ l = same_Some d.after l (sym there ∙ ap (slice_get (logs new)) e ∙ is) in
-              ap (λ (x : StoreLog D). mark_in x.slot) (sym own) ∙ d.turns.flushes.told ∙ ap Some mark)
+              ap (λ (x : StoreLog D). mark_in x.slot) (sym own) ∙ told.1 ∙ ap Some mark)
               (λ (less : log < k). h.up k l (omega (arith, less)) (omega (arith, to)) is ∙ ap Some first.0)
               (eq-or-lt_of_le from);
           told = told_more m (source old).state.steps ms mark (λ k d less. h.told k d less ∙ first.0);

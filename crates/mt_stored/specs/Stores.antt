@@ -58,7 +58,7 @@ module _ {D : Type 0} (is_honest : D → Bool) (state : D → DiskState) (failur
     pub stands : new ≡ slice_set old log after
     pub turns : Turns before after was is
 
-  -- a turn of a store that is owned alone
+  -- a turn of a store that is owned alone: its log is brought up to the last step that was made
   abbrev pub DoesStore : Turn → OwnState → List (StoreLog D) → OwnState → List (StoreLog D) → Type 0
-  DoesStore (BroughtUp log (Ok mark)) was old is new = TurnsLog (BringsUp is_honest state failures gives_own log mark) log was old is new
-  DoesStore (BroughtUp log (Err refusal)) was old is new = TurnsLog (FailsToBringUp is_honest state failures gives_own log refusal) log was old is new
+  DoesStore (BroughtUp log (Ok mark)) was old is new = TurnsLog (BringsUp is_honest state failures gives_own log was.state.steps mark) log was old is new
+  DoesStore (BroughtUp log (Err refusal)) was old is new = TurnsLog (FailsToBringUp is_honest state failures gives_own log was.state.steps refusal) log was old is new

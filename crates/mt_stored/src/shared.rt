@@ -6,7 +6,7 @@ use crate::changes::change_of;
 use crate::source::SharedBook;
 use crate::turns::bring_up_log;
 use log::{Log, warn};
-use mt_book::Book;
+use mt_book::{Book, locked};
 use mt_disk::Disk;
 use mt_rows::Refusal;
 use mt_settle::Logs;
@@ -46,7 +46,9 @@ impl<L: Ledger, D: Disk + Drop> Logs for SharedLogs<'_, L, D> {
     fn bring_up<R: Wait + Log>(&mut self, rt: &R, alloc: Global, log: u8) -> Result<u64, Refusal> {
         let mut guard = self.logs[usize::from(log)].lock(rt);
         let before = guard.mark();
-        let told = bring_up_log(alloc, &mut *guard, &mut SharedBook::new(rt, self.book), log);
+        let steps = locked(rt, self.book).steps();
+        let source = &mut SharedBook::new(rt, self.book);
+        let told = bring_up_log(alloc, &mut *guard, source, log, steps);
         // Under the log's lock, so that its warnings come in the order of its changes.
         if let Some(change) = change_of(log, before, guard.mark()) {
             warn!(rt; "{change}");

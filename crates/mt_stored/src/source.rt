@@ -17,19 +17,19 @@ pub(crate) struct OwnState {
 }
 
 impl Source for OwnState {
-    ghost use Rattle.std.specs.Prelude.{◌<◌, length};
+    ghost use Rattle.std.specs.Prelude.{◌<◌, ◌≤◌, length};
     ghost use Rattle.mt_core.specs.Drains.{Drains};
 
-    ghost serves = { λ s worker. worker < length s.state.logs };
+    ghost serves = { λ s worker upto. (worker < length s.state.logs) × (upto ≤ s.state.steps) };
 
     ghost gives = { λ old new worker batch. Drains old.state new.state worker batch };
 
-    fn drain(&mut self, worker: u8) -> Result<Batch, AllocError> {
+    fn drain(&mut self, worker: u8, _upto: u64) -> Result<Batch, AllocError> {
         self.state.drain(worker)
     }
 }
 
-/// A book behind its lock, which others use too: a drain says of it that its batch is in order.
+/// A book behind its lock, which others use too. A drain waits till the book has as many steps as it is to go up to.
 #[derive(Drop)]
 pub struct SharedBook<'a, 'b, L: Ledger, R: Wait> {
     rt: &'a R,
@@ -43,11 +43,11 @@ impl<'a, 'b, L: Ledger, R: Wait> SharedBook<'a, 'b, L, R> {
 }
 
 impl<L: Ledger, R: Wait> Source for SharedBook<'_, '_, L, R> {
-    ghost serves = { λ s worker. Unit {0} };
+    ghost serves = { λ s worker upto. Unit {0} };
 
     ghost gives = { λ old new worker batch. Unit {0} };
 
-    fn drain(&mut self, worker: u8) -> Result<Batch, AllocError> {
-        drain(self.rt, self.book, worker)
+    fn drain(&mut self, worker: u8, upto: u64) -> Result<Batch, AllocError> {
+        drain(self.rt, self.book, worker, upto)
     }
 }

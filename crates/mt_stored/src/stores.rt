@@ -142,11 +142,13 @@ impl<D: Disk + Drop> Logs for Store<D> {
     }
 
     fn bring_up<R: Wait + Log>(&mut self, _rt: &R, alloc: Global, log: u8) -> Result<u64, Refusal> {
+        let steps = self.source.state.steps();
         bring_up_log(
             alloc,
             &mut self.logs[usize::from(log)],
             &mut self.source,
             log,
+            steps,
         )
     }
 }

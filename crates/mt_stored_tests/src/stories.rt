@@ -333,15 +333,28 @@ const OTHER_OPENS: [Act; 8] = [
     Act::Puts(0, 1),
 ];
 
+// The disk of log 1 fails ten times in a row, while worker 1 puts more than two batches take. Its next turn opens
+// the log, and all of that goes into it.
+const CATCHES_UP: [Act; 8] = [
+    Act::Puts(1, 10),
+    Act::Fails(0),
+    Act::Puts(1, 10_000),
+    Act::Closed(1),
+    Act::Puts(1, 1_024),
+    Act::Open(1),
+    Act::Puts(0, 1),
+    Act::Settles(0),
+];
+
 const WARNINGS: &str =
     "[WARN  mt_stored::shared] log 1: its disk failed; it is closed until a write succeeds
 [WARN  mt_stored::shared] log 1: open again
 ";
 
 // A story over two logs, the second of whose disks fails; what is warned of.
-fn run_failing<R: Wait + Abort>(rt: &R, alloc: Global, acts: &[Act]) {
+fn run_failing<R: Wait + Abort>(rt: &R, alloc: Global, fails: Fails, acts: &[Act]) {
     let logged = Logged::new(rt, Level::Warn, Locked::new(rt, Vec::new(alloc)));
-    run::<Brand, _>(&logged, alloc, Blank::new(65_536), &[NEVER, (4, 8)], acts);
+    run::<Brand, _>(&logged, alloc, Blank::new(65_536), &[NEVER, fails], acts);
     let (_, sink) = logged.into_parts();
     let lines = sink.into_inner();
     assert_eq!(rt; lines.as_slice(), WARNINGS.as_bytes());
@@ -350,6 +363,11 @@ fn run_failing<R: Wait + Abort>(rt: &R, alloc: Global, acts: &[Act]) {
 #[test]
 fn a_disk_that_fails_makes_nobody_wait(rt: HostRuntime) {
     let alloc = rt.alloc();
-    run_failing(&rt, alloc, &OWN_OPENS);
-    run_failing(&rt, alloc, &OTHER_OPENS);
+    run_failing(&rt, alloc, (4, 8), &OWN_OPENS);
+    run_failing(&rt, alloc, (4, 8), &OTHER_OPENS);
+}
+
+#[test]
+fn a_log_that_was_closed_for_long_comes_up_in_parts(rt: HostRuntime) {
+    run_failing(&rt, rt.alloc(), (4, 14), &CATCHES_UP);
 }

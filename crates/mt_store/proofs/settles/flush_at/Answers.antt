@@ -2,7 +2,7 @@ use Rattle.std.proofs.Common.{◌≡◌, Some, sym, arith, subst, get_or}
 use Rattle.std.specs.Prelude.{slice_get, slice_set}
 use Rattle.std.proofs.lemmas.Option.{slice_get-get_or}
 use Rattle.mt_store.specs.declared.events.StoreEvent.TheVariants.{Flush}
-use Rattle.mt_store.specs.declared.events.StoreNote.TheVariants.{Flushed}
+use Rattle.mt_store.specs.declared.events.StoreNote.TheVariants.{Flushed, Refused}
 use Rattle.mt_store.proofs.Goes.{Goes, flush_goes, flush_stops}
 use Rattle.mt_store.proofs.settles.flush_at.Goals as goal
 
@@ -11,20 +11,19 @@ returns-in-Ok-clause-goes c = λ accounts standing h.
     let logs = c.args.logs.now in
     let place = c.from-place.result in
     let log = get_or logs place c.index-logs-place-2.result in
-    let new = c.flush-flushed.new.log in
-    let now = c.flush-flushed.new.source in
+    let new = c.flush.new.log in
+    let now = c.flush.new.source in
     let here = subst (λ k. slice_get logs k ≡ Some log) c.from-place.ensures (slice_get-get_or logs place c.index-logs-place-2.result (omega (arith, c.if-place-logs.false))) in
     subst (λ k. Goes accounts standing logs c.args.serving.now h (Flush c.args.worker) (Flushed c.in-Ok.mark) (slice_set logs k new) now) (sym c.from-place.ensures)
-    (flush_goes accounts standing logs c.args.serving.now h c.args.worker log new here now c.facts.ensures c.in-Ok.mark c.in-Ok.ensures.ok)
+    (flush_goes accounts standing logs c.args.serving.now h c.args.worker log new here now c.in-Ok.mark c.in-Ok.ensures.ok)
 
 pub returns-in-Err-clause-goes : goal.returns-in-Err-clause-goes
 returns-in-Err-clause-goes c = λ accounts standing h.
     let logs = c.args.logs.now in
     let place = c.from-place.result in
     let log = get_or logs place c.index-logs-place-2.result in
-    let new = c.flush-flushed.new.log in
-    let now = c.flush-flushed.new.source in
+    let new = c.flush.new.log in
+    let now = c.flush.new.source in
     let here = subst (λ k. slice_get logs k ≡ Some log) c.from-place.ensures (slice_get-get_or logs place c.index-logs-place-2.result (omega (arith, c.if-place-logs.false))) in
-    subst (λ k. Goes accounts standing logs c.args.serving.now h (Flush c.args.worker) c.note_of.result (slice_set logs k new) now) (sym c.from-place.ensures)
-    (subst (λ note. Goes accounts standing logs c.args.serving.now h (Flush c.args.worker) note (slice_set logs c.args.worker new) now) (sym c.note_of.ensures)
-    (flush_stops accounts standing logs c.args.serving.now h c.args.worker log new here now c.facts.ensures c.in-Err.fault c.in-Err.ensures.err))
+    subst (λ k. Goes accounts standing logs c.args.serving.now h (Flush c.args.worker) (Refused c.in-Err.refusal) (slice_set logs k new) now) (sym c.from-place.ensures)
+    (flush_stops accounts standing logs c.args.serving.now h c.args.worker log new here now c.in-Err.refusal c.in-Err.ensures.err)

@@ -1,10 +1,16 @@
-use Rattle.std.proofs.Common.{None, inr, ◌≡◌, Some, refl, sym, inl, arith, rules, subst, length, get_or}
+use Rattle.std.proofs.Common.{None, inr, ◌≡◌, Some, refl, sym, arith, rules, ap, ◌∙◌, subst, length, get_or}
 use Rattle.std.specs.Prelude.{slice_get, slice_set}
 use Rattle.std.specs.Ordering.{nat_cmp}
 use Rattle.std.specs.BTreeMap.{get}
 use Rattle.std.proofs.lemmas.Option.{slice_get-get_or}
 use Rattle.mt_store.specs.declared.events.StoreEvent.TheVariants.{SettleNext}
+use Rattle.mt_disk.specs.Mem.{mem_state}
+use Rattle.mt_store_logs.specs.Flushes.{Flushes, FailsToFlush}
+use Rattle.mt_store.specs.declared.events.StoreNote.TheVariants.{Refused}
+use Rattle.mt_store.specs.Serving.{DrainsServing}
 use Rattle.mt_store.specs.Steps.{Turns}
+use Rattle.mt_store.proofs.Flushing.{keeps_rules, failures_of}
+use Rattle.mt_store.proofs.Draining.{flush_settles}
 use Rattle.mt_store.proofs.Goes.{Goes, settle_goes, settle_stops}
 use Rattle.mt_store.proofs.Settling.{next_within, not_open}
 use Rattle.mt_store.proofs.settles.go_on.Goals as goal
@@ -13,7 +19,16 @@ pub returns-in_default-clause-goes : goal.returns-in_default-clause-goes
 returns-in_default-clause-goes c = λ accounts standing h.
     let was = c.args.serving.now in
     let none : get nat_cmp was.settles c.args.id ≡ None = search rules in
-    (standing, inl (inr (not_open accounts standing c.args.logs.now was h was refl refl c.args.id none), refl), h)
+    (standing, (inr (not_open accounts standing c.args.logs.now was h was refl refl c.args.id none), refl), h)
+
+pub turned-requires-clause-open : goal.turned-requires-clause-open
+turned-requires-clause-open c =
+    let was = c.args.serving.now in
+    let settle = c.in-Some.settle in
+    let there : get nat_cmp was.settles c.args.id ≡ Some settle = search rules in
+    ap (λ m. get nat_cmp m c.args.id)
+    (flush_settles settle.next c.steps-steps.result c.in-Ok.mark (get_or c.args.logs.now c.from.result c.index-logs-from.result) c.flush.new.log was c.flush.new.source c.in-Ok.ensures.ok)
+    ∙ there
 
 pub returns-in-Ok-clause-goes : goal.returns-in-Ok-clause-goes
 returns-in-Ok-clause-goes c = λ accounts standing h.
@@ -22,14 +37,14 @@ returns-in-Ok-clause-goes c = λ accounts standing h.
     let settle = c.in-Some.settle in
     let place = c.from.result in
     let log = get_or logs place c.index-logs-from.result in
-    let new = c.flush-flushed.new.log in
-    let now = c.flush-flushed.new.source in
+    let new = c.flush.new.log in
+    let now = c.flush.new.source in
     let there : get nat_cmp was.settles c.args.id ≡ Some settle = search rules in
     let here = subst (λ k. slice_get logs k ≡ Some log) c.from.ensures
     (slice_get-get_or logs place c.index-logs-from.result (omega (arith, c.from.ensures, next_within accounts standing logs was h was refl refl c.args.id settle there))) in
     subst (λ k. Goes accounts standing logs was h (SettleNext c.args.id) c.turned.result (slice_set logs k new) c.turned.new.serving) (sym c.from.ensures)
-    (settle_goes accounts standing logs was h settle.next log new here now c.facts.ensures c.args.id settle there refl c.turned.new.serving c.turned.ensures.state c.turned.ensures.roster c.in-Ok.mark
-    c.in-Ok.ensures.ok c.turned.result
+    (settle_goes accounts standing logs was h settle.next log new here now c.args.id settle there refl c.turned.new.serving c.turned.ensures.state c.turned.ensures.roster c.in-Ok.mark
+    (subst (λ n. Flushes keeps_rules mem_state failures_of DrainsServing settle.next n c.in-Ok.mark log new was now) c.steps-steps.ensures c.in-Ok.ensures.ok) c.turned.result
     (subst (λ k. Turns (length (slice_set logs k new)) c.args.id settle c.in-Ok.mark now.settles c.turned.new.serving.settles c.turned.result) c.from.ensures c.turned.ensures.turns))
 
 pub returns-in-Err-clause-goes : goal.returns-in-Err-clause-goes
@@ -39,12 +54,12 @@ returns-in-Err-clause-goes c = λ accounts standing h.
     let settle = c.in-Some.settle in
     let place = c.from.result in
     let log = get_or logs place c.index-logs-from.result in
-    let new = c.flush-flushed.new.log in
-    let now = c.flush-flushed.new.source in
+    let new = c.flush.new.log in
+    let now = c.flush.new.source in
     let end = record now { settles = c.remove.new.self } in
     let there : get nat_cmp was.settles c.args.id ≡ Some settle = search rules in
     let here = subst (λ k. slice_get logs k ≡ Some log) c.from.ensures
     (slice_get-get_or logs place c.index-logs-from.result (omega (arith, c.from.ensures, next_within accounts standing logs was h was refl refl c.args.id settle there))) in
-    subst (λ k. Goes accounts standing logs was h (SettleNext c.args.id) c.note_of.result (slice_set logs k new) end) (sym c.from.ensures)
-    (subst (λ note. Goes accounts standing logs was h (SettleNext c.args.id) note (slice_set logs settle.next new) end) (sym c.note_of.ensures)
-    (settle_stops accounts standing logs was h settle.next log new here now c.facts.ensures c.args.id settle there refl end refl refl c.in-Err.fault c.in-Err.ensures.err c.remove.ensures.updates))
+    subst (λ k. Goes accounts standing logs was h (SettleNext c.args.id) (Refused c.in-Err.refusal) (slice_set logs k new) end) (sym c.from.ensures)
+    (settle_stops accounts standing logs was h settle.next log new here now c.args.id settle there refl end refl refl c.in-Err.refusal
+    (subst (λ n. FailsToFlush keeps_rules mem_state failures_of DrainsServing settle.next n c.in-Err.refusal log new was now) c.steps-steps.ensures c.in-Err.ensures.err) c.remove.ensures.updates)

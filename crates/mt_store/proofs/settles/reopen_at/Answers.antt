@@ -2,7 +2,7 @@ use Rattle.std.proofs.Common.{◌≡◌, Some, sym, arith, subst, get_or}
 use Rattle.std.specs.Prelude.{slice_get, slice_set}
 use Rattle.std.proofs.lemmas.Option.{slice_get-get_or}
 use Rattle.mt_store.specs.declared.events.StoreEvent.TheVariants.{Reopen}
-use Rattle.mt_store.specs.declared.events.StoreNote.TheVariants.{Reopened}
+use Rattle.mt_store.specs.declared.events.StoreNote.TheVariants.{Reopened, Refused}
 use Rattle.mt_store.proofs.Goes.{Goes, reopen_goes, reopen_stops}
 use Rattle.mt_store.proofs.settles.reopen_at.Goals as goal
 
@@ -23,6 +23,5 @@ returns-in-Err-clause-goes c = λ accounts serving standing h.
     let log = get_or logs place c.index-logs-place-2.result in
     let new = c.reopen.new.self in
     let here = subst (λ k. slice_get logs k ≡ Some log) c.from-place.ensures (slice_get-get_or logs place c.index-logs-place-2.result (omega (arith, c.if-place-logs.false))) in
-    subst (λ k. Goes accounts standing logs serving h (Reopen c.args.worker) c.note_of.result (slice_set logs k new) serving) (sym c.from-place.ensures)
-    (subst (λ note. Goes accounts standing logs serving h (Reopen c.args.worker) note (slice_set logs c.args.worker new) serving) (sym c.note_of.ensures)
-    (reopen_stops accounts standing logs serving h c.args.worker log new here c.in-Err.fault c.in-Err.ensures.err))
+    subst (λ k. Goes accounts standing logs serving h (Reopen c.args.worker) (Refused c.in-Err.refusal) (slice_set logs k new) serving) (sym c.from-place.ensures)
+    (reopen_stops accounts standing logs serving h c.args.worker log new here c.in-Err.refusal c.in-Err.ensures.err)

@@ -1,15 +1,14 @@
--- That a drain keeps the invariant, and gives a batch in order, for `Inner::drain`.
-use Rattle.std.proofs.Common.{rules, ◌<◌, ◌≤◌, length, sym, subst}
+-- That a drain keeps the invariant, for `Inner::drain`.
+use Rattle.std.proofs.Common.{rules, ◌<◌, ◌≤◌, length, subst, arith}
 use Rattle.mt_core.specs.States.{core_of}
-use Rattle.mt_core.proofs.Draining.{drained, in_order}
+use Rattle.mt_core.proofs.Draining.{drained}
 use Rattle.mt_core.proofs.inner.Inner.drain.Goals as goal
 
 pub invariant_of-self : goal.invariant_of-self
-invariant_of-self c = drained (core_of c.self.inside) c.args.worker c.self.invariant
-
-pub returns-clause-in_order : goal.returns-clause-in_order
-returns-clause-in_order c =
+invariant_of-self c =
     let there : c.args.worker < length c.self.inside.logs.items = search rules in
-    let given = c.self.invariant.tape.logs.made c.args.worker c.index-from.result.now there in
-    let order : c.index-from.result.now ≤ c.self.inside.steps = subst (λ n. n ≤ c.self.inside.steps) (sym c.index-from.ensures) given in
-    in_order (core_of c.self.inside) c.args.worker c.index-from.result.now c.in_ok-records.records c.self.invariant order c.in_ok-records.ensures.is c.in_ok-records.ensures.limits
+    let given = c.index-given.result.now in
+    let next = c.in_ok-batch.ensures.is in
+    let order = c.in_ok-batch.ensures.bounded.in_order.order in
+    let later : given ≤ c.in_ok-batch.batch.to = omega (arith, order, next.begins) in
+    drained (core_of c.self.inside) c.args.worker given c.in_ok-batch.batch.to c.self.invariant there (subst (λ n. n ≤ c.in_ok-batch.batch.to) c.index-given.ensures later) next.made

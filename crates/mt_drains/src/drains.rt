@@ -1,0 +1,106 @@
+//! The next batch of a worker's log.
+
+ghost use Rattle.std.specs.Prelude.{ℕ, ◌≡◌, ◌++◌, ◌≤◌, ◌^◌, [], ◌∷◌, length, IfOk, OnOk};
+ghost use Rattle.std.specs.List.{All};
+ghost use Rattle.mt_rows.specs.Commands.{IsKey};
+ghost use Rattle.mt_batches.specs.Batches.{IsRecord, IsRowOrNone, IsBounded, BringsOn};
+ghost use Rattle.mt_tape.specs.Tapes.{RisesOver, last_write};
+ghost use Rattle.mt_drains.specs.Drains.{record_of, records_of, IsNextBatch, Gathers};
+
+use mt_batches::MAX_RECORDS;
+use mt_rows::{Batch, Record, Records, Row};
+use mt_tape::{Entry, Tape};
+use std::alloc::{AllocError, Global};
+
+/// The next batch of a worker's log that has the worker's changes up to a step: the changes after that, the
+/// oldest first, all of them up to `steps`, the last step that was made, or the first 4,096.
+pub fn batch_after(
+    alloc: Global,
+    tape: &Tape,
+    worker: u8,
+    after: u64,
+    steps: u64,
+) -> Result<Batch, AllocError>
+    requires keys { All (λ e. IsKey e.key) tape.now.entries }
+    requires made { last_write tape.now ≤ steps }
+    requires order { after ≤ steps }
+    requires few { steps ≤ 2 ^ 59 }
+    ensures is { IfOk result (IsNextBatch worker after steps tape.now.entries) }
+    ensures bounded { IfOk result IsBounded }
+    ensures brings { (upto : ℕ) → upto ≤ steps → IfOk result (BringsOn upto) }
+{
+    let first = tape.count_upto(after);
+    let mut records = Vec::new(alloc);
+    let full = gather(&mut records, tape, worker, first)?;
+    Ok(Batch {
+        from: after,
+        to: full.unwrap_or(steps),
+        records: Records::new(records),
+    })
+}
+
+// Takes a worker's changes from a place on, up to 4,096 of them; the step of the last one if there are so many.
+fn gather(
+    records: &mut Vec<Record>,
+    tape: &Tape,
+    worker: u8,
+    first: usize,
+) -> Result<Option<u64>, AllocError>
+    requires none { records.old.items ≡ [] }
+    requires rises { RisesOver tape.now.floor tape.now.entries }
+    ensures gathers { IfOk result (Gathers worker first tape.now.entries records.new.items) }
+    ensures few { IfOk result (λ _. length records.new.items ≤ 4096) }
+    ensures limits { IfOk result (λ _. All (λ r. IsKey r.key → IsRecord r) records.new.items) }
+{
+    for place in first..tape.len() {
+        let Some(entry) = tape.entry(place) else {
+            unreachable!()
+        };
+        take(records, entry, worker)?;
+        if records.len() == MAX_RECORDS {
+            return Ok(Some(entry.step));
+        }
+    }
+    Ok(None)
+}
+
+// Takes a placed change, if it is one of this worker's operations.
+fn take(records: &mut Vec<Record>, entry: &Entry, worker: u8) -> Result<(), AllocError>
+    ensures given { OnOk result (records.new.items ≡ records.old.items ++ records_of worker (entry.now ∷ [])) }
+    ensures limits { All (λ r. IsKey r.key → IsRecord r) records.old.items → OnOk result (All (λ r. IsKey r.key → IsRecord r) records.new.items) }
+{
+    if entry.worker == worker {
+        records.push(recorded(entry)?)?;
+    }
+    Ok(())
+}
+
+// A placed change, as it is logged.
+fn recorded(entry: &Entry) -> Result<Record, AllocError>
+    ensures is { IfOk result (λ r. r ≡ record_of entry.now) }
+    ensures limits { IfOk result (λ r. IsKey r.key → IsRecord r) }
+{
+    let row = shared(&entry.after)?;
+    let key = entry.key.clone()?;
+    let (stamp, tenant) = (entry.step, entry.tenant);
+    Ok(Record {
+        stamp,
+        tenant,
+        key,
+        row,
+    })
+}
+
+// The same row again, or none.
+fn shared(row: &Option<Row>) -> Result<Option<Row>, AllocError>
+    ensures same { IfOk result (λ r. r ≡ row.now) }
+    ensures limits { IfOk result IsRowOrNone }
+{
+    match row {
+        Some(row) => {
+            let _columns = row.columns();
+            Ok(Some(row.share()?))
+        }
+        None => Ok(None),
+    }
+}
