@@ -1,2 +1,3 @@
 pub mod AccountLemmas
 pub mod LineLemmas
+pub mod Pushes

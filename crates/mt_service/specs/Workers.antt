@@ -1,5 +1,5 @@
 -- Which worker is which.
-use Rattle.std.specs.Prelude.{◌≡◌, ℕ, zero, suc}
+use Rattle.std.specs.Prelude.{◌≡◌, ℕ, zero, suc, List, Some, slice_get}
 
 -- the number of the worker at a place: the place, where so many logs are kept, else 0
 abbrev pub number_of : ℕ → ℕ → ℕ
@@ -10,3 +10,7 @@ number_of (suc logs) place = place
 pub record AreOfWorker (logs place pass keeper : ℕ) : Type 0 where
   pub pass_is : pass ≡ number_of logs place
   pub keeper_is : keeper ≡ number_of logs place
+
+-- P of each element of a list, with its place
+abbrev pub EachAt : {X : Type 0} → List X → (ℕ → X → Type 0) → Type 0
+EachAt {X} xs P = (place : ℕ) (x : X) → slice_get xs place ≡ Some x → P place x

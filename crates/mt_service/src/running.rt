@@ -9,7 +9,7 @@ ghost use Rattle.mt_streams.specs.Failures.{Failed, NoFewer};
 ghost use Rattle.mt_service.specs.declared.workers.SessionWorker.{SessionWorker};
 ghost use Rattle.mt_service.specs.Faults.{IsOfWriting, IsOfServing, HasCause};
 ghost use Rattle.mt_stored.specs.Stores.{IsSettled};
-ghost use Rattle.mt_service.specs.Workers.{number_of, AreOfWorker};
+ghost use Rattle.mt_service.specs.Workers.{number_of, AreOfWorker, EachAt};
 ghost use Rattle.mt_service.specs.Lines.{first_line, last_line, Begins, SaysAll, SaysPart};
 
 use crate::callers::DeskCaller;
@@ -234,7 +234,8 @@ fn worker_at<'a, L: Ledger, R: Wait + Clock, D: Disk + Drop>(
     Ok(SessionWorker { rt, caller })
 }
 
-// So many workers as the options say, each with a pass, and with a log of its own, where logs are kept.
+// So many workers as the options say, each with a pass, and with a log of its own, if logs are kept: the one at each
+// place is that of the place's number.
 fn workers_of<'a, L: Ledger, R: Wait + Clock, D: Disk + Drop>(
     rt: &'a R,
     alloc: Global,
@@ -243,6 +244,7 @@ fn workers_of<'a, L: Ledger, R: Wait + Clock, D: Disk + Drop>(
     options: &'a Options,
 ) -> Result<Vec<SessionWorker<'a, L, R, D>>, ServerFault>
     ensures workers { IfOk result (λ workers. vec_len workers ≡ options.now.workers) }
+    ensures each { IfOk result (λ workers. EachAt workers.items (λ place (one : SessionWorker L R D). AreOfWorker (length logs.now) place one.caller.pass.worker one.caller.keeper.worker)) }
     ensures fault { IfErr result IsOfServing }
 {
     let mut workers = Vec::new(alloc);
