@@ -16,3 +16,5 @@ mod servers;
 mod stores;
 #[cfg(test)]
 mod words;
+#[cfg(test)]
+mod workers;

@@ -25,7 +25,7 @@ use std::time::Clock;
 use std::{io, thread};
 
 // Nobody may have pairs.
-fn no_tenants(alloc: Global) -> Tenants
+pub(crate) fn no_tenants(alloc: Global) -> Tenants
     ensures { HaveNoPairs result }
 {
     Tenants::new(alloc)
@@ -119,7 +119,7 @@ fn play(scene: Scene, client: TcpStream) -> io::Result<bool> {
 }
 
 // Serves to the end; the store that is left.
-fn serve_all<
+pub(crate) fn serve_all<
     L: Ledger + Send + Sync,
     R: Threads + Wait + Clock + Log + Sync,
     D: Disk + Drop + Send,

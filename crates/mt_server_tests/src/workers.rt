@@ -1,0 +1,163 @@
+//! A server of two workers, with a log and a client each.
+
+ghost use Rattle.std.specs.Prelude.{◌≡◌};
+ghost use Rattle.mt_state.specs.Begins.{HaveNoPairs};
+
+use crate::clients::{FOUND, GET, NEW, OPEN, OPENED, PUT, SETTLE, connect, is_told};
+use crate::stores::{no_tenants, serve_all};
+use crate::words::options_of;
+use log::Log;
+use mt_disk::MemDisk;
+use mt_log::{Front, LogBatch};
+use mt_recover::LogSlot;
+use mt_store_logs::{StoreLog, open_logs};
+use mt_stored::Store;
+use std::alloc::{AllocError, Global};
+use std::io::{self, Read, Write};
+use std::marker::{Brand, Send, Sync};
+use std::net::{Net, TcpListener, TcpStream};
+use std::process::Abort;
+use std::sync::Wait;
+use std::sync::ledger::{Blank, Ledger};
+use std::thread::{self, Threads};
+use std::time::Clock;
+
+/// `v` is put under `l`, where nothing was.
+const PUT_L: &[u8] = b"\x00\x00\x00\x09\x03\x00\x01l\x01\x00\x00\x01v";
+
+/// `l` is asked for.
+const GET_L: &[u8] = b"\x00\x00\x00\x05\x02\x00\x01l\x00";
+
+// A new store of two logs.
+fn new_store(rt: &impl Abort, alloc: Global) -> Store<MemDisk>
+    ensures { result.source.state.answers ≡ 0 }
+{
+    let mut tenants = no_tenants(alloc);
+    assert!(rt; tenants.add(7, 100).is_ok());
+    let mut disks = Vec::new(alloc);
+    assert!(rt; disks.push(MemDisk::new(alloc, None, None)).is_ok());
+    assert!(rt; disks.push(MemDisk::new(alloc, None, None)).is_ok());
+    match Store::create(alloc, disks, tenants) {
+        Ok(store) => store,
+        Err(_) => panic!(rt; "no store is made"),
+    }
+}
+
+// Whether a Settle is answered with a number.
+fn is_settled(stream: &TcpStream) -> io::Result<bool> {
+    let mut client = stream;
+    client.write_all(SETTLE)?;
+    let mut room = [0u8; 13];
+    client.read_exact(&mut room)?;
+    Ok(room.starts_with(b"\x00\x00\x00\x09\x07"))
+}
+
+// A client puts a key, gets it past the 1,024th answer, and settles; whether it is told what it should be.
+fn goes_on(client: &TcpStream, put: &[u8], get: &[u8]) -> io::Result<bool> {
+    let mut is_right = is_told(client, put, NEW)?;
+    for _ in 0..1_030 {
+        is_right = is_told(client, get, FOUND)? && is_right;
+    }
+    Ok(is_settled(client)? && is_right)
+}
+
+// Both sessions are open before either client puts, so each has a worker of its own.
+fn play<R: Threads>(rt: &R, first: TcpStream, second: TcpStream) -> io::Result<bool> {
+    if !is_told(&first, OPEN, OPENED)? || !is_told(&second, OPEN, OPENED)? {
+        return Ok(false);
+    }
+    let (one, other) = thread::join(
+        rt,
+        move || goes_on(&first, PUT, GET),
+        move || goes_on(&second, PUT_L, GET_L),
+    );
+    Ok(one? && other?)
+}
+
+// The logs of a store that has ended, closed, on what their disks hold.
+fn closed_again(
+    rt: &impl Abort,
+    alloc: Global,
+    store: Store<MemDisk>,
+) -> Result<Vec<StoreLog<MemDisk>>, AllocError> {
+    let (_, logs) = store.into_parts();
+    let mut closed = Vec::new(alloc);
+    for log in &logs {
+        let image = match log.slot() {
+            LogSlot::Open(log) => log.disk().image().to_vec(alloc)?,
+            LogSlot::Closed(_) | LogSlot::Away => panic!(rt; "a log is closed"),
+        };
+        let disk = MemDisk::with_image(alloc, image, None, None)?;
+        closed.push(StoreLog::closed(disk))?;
+    }
+    Ok(closed)
+}
+
+// Whether one change is in a log, and is of this key.
+fn has_one(front: &Front, key: u8) -> bool {
+    let mut count: u8 = 0;
+    for batch in &front.batches {
+        if let LogBatch::Records(batch) = batch {
+            for record in batch.records() {
+                if record.key.as_bytes() != [key].as_slice() {
+                    return false;
+                }
+                count = count.saturating_add(1);
+            }
+        }
+    }
+    count == 1
+}
+
+// Whether each of two logs has the change of one client, at its worker's place.
+fn have_one_each(fronts: &[Front]) -> bool {
+    let [first, second] = fronts else {
+        return false;
+    };
+    (first.worker, second.worker) == (0, 1)
+        && (has_one(first, b'k') && has_one(second, b'l')
+            || has_one(first, b'l') && has_one(second, b'k'))
+}
+
+fn serve_two<L: Ledger + Send + Sync, R>(rt: &R, alloc: Global, blank: Blank) -> Store<MemDisk>
+where
+    R: Net<Listener = TcpListener, Stream = TcpStream>
+        + Threads
+        + Wait
+        + Clock
+        + Log
+        + Abort
+        + Sync,
+    requires name { blank.name ≡ L.name }
+    requires parts { (blank.parts ≡ L.parts) × (L.parts ≡ 65536) }
+{
+    let words = "mt_server --port 0 --workers 2 --sessions 2 7:100";
+    let options = options_of(rt, alloc, words);
+    let store = new_store(rt, alloc);
+    let listener = TcpListener::bind(rt, ("127.0.0.1", 0u16)).expect(rt, "a socket");
+    let port = listener.local_addr().expect(rt, "a socket").port();
+    let first = connect(rt, port).expect(rt, "a socket");
+    let second = connect(rt, port).expect(rt, "a socket");
+    let (served, played) = thread::join(
+        rt,
+        move ||
+            requires name { blank.name ≡ L.name }
+            requires parts { (blank.parts ≡ L.parts) × (L.parts ≡ 65536) }
+            requires untaken { store.source.state.answers ≡ 0 }
+        { serve_all::<L, R, MemDisk>(rt, alloc, blank, listener, &options, store) },
+        move || play(rt, first, second),
+    );
+    assert!(rt; played.expect(rt, "a socket"));
+    served.expect(rt, "the server ends well")
+}
+
+#[test]
+fn each_worker_has_a_log_of_its_own(rt: HostRuntime) {
+    let alloc = rt.alloc();
+    let store = serve_two::<Brand, _>(&rt, alloc, Blank::new(65_536));
+    let mut logs = closed_again(&rt, alloc, store).expect(&rt, "memory");
+    match open_logs(alloc, &mut logs) {
+        Ok(fronts) => assert!(&rt; have_one_each(&fronts)),
+        Err(_) => panic!(&rt; "a log is not opened"),
+    }
+}
