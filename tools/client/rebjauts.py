@@ -14,16 +14,24 @@ name. Only what can't be spelled at all is refused by this module (`NotSpellable
 
 from __future__ import annotations
 
+import contextlib
 import enum
+import os
+import queue
 import selectors
 import socket
 import struct
-from collections.abc import Iterable, Iterator, Mapping, Sequence
+import threading
+import time
+from collections.abc import Collection, Iterable, Iterator, Mapping, Sequence
 from dataclasses import dataclass
+from pathlib import Path
 from typing import ClassVar, NoReturn
 
 DEFAULT_HOST = "127.0.0.1"
 DEFAULT_PORT = 7411
+PORTS = range(1, 65_536)
+LONGEST_WAIT = 1_000_000  # seconds; the system's calls take no more than some two million
 
 # The longest bodies of frames, in bytes.
 REQUEST_BYTES = 32_768
@@ -45,6 +53,18 @@ class RebjautsError(Exception):
 
 class NotSpellable(RebjautsError, ValueError):
     """A request that has no bytes: a field is longer than its length can say, or the frame too long."""
+
+
+class WrongType(NotSpellable, TypeError):
+    """A key or a column that is no bytes, a number that is none, or columns that are no mapping."""
+
+
+class BadArgument(RebjautsError, ValueError):
+    """A port or a time limit that can't be one."""
+
+
+class BadMap(RebjautsError):
+    """A map of tenants that can't be read, or that hasn't the tenant."""
 
 
 class NotAReply(RebjautsError):
@@ -300,6 +320,8 @@ class Written(enum.Enum):
 
 def _number(value: int, width: int, what: str) -> bytes:
     """A number in so many bytes, the heaviest first."""
+    if not isinstance(value, int):
+        raise WrongType(f"{what} is {type(value).__name__}, and has to be an int")
     try:
         return value.to_bytes(width, "big")
     except OverflowError:
@@ -308,11 +330,15 @@ def _number(value: int, width: int, what: str) -> bytes:
 
 def _string(text: bytes, what: str) -> bytes:
     """A key or a column: its length in two bytes, then itself."""
+    if not isinstance(text, (bytes, bytearray, memoryview)):
+        raise WrongType(f"{what} is {type(text).__name__}, and has to be bytes: text.encode() makes them")
     return _number(len(text), 2, f"the length of {what},") + text
 
 
 def _asked(columns: Sequence[int]) -> bytes:
     """The columns asked for; none for all."""
+    if not isinstance(columns, Collection):
+        raise WrongType(f"the columns are {type(columns).__name__}, and have to be indexes, as [0, 3]")
     indexes = b"".join(_number(index, 1, "the column's index") for index in columns)
     return _number(len(columns), 1, "the number of columns") + indexes
 
@@ -474,6 +500,8 @@ def result_of(request: Request, reply: Reply):
 
 def put_request(key: bytes, columns: Mapping[int, bytes]) -> Put:
     """A put of these columns, in the order of their indexes."""
+    if not isinstance(columns, Mapping):
+        raise WrongType(f"the columns are {type(columns).__name__}, and have to be a mapping, as {{0: b'v'}}")
     return Put(key, sorted(columns.items()))
 
 
@@ -483,6 +511,19 @@ def put_request(key: bytes, columns: Mapping[int, bytes]) -> Put:
 IN_FLIGHT = 256
 UNSENT_BYTES = 65_536
 _RECEIVE_BYTES = 262_144
+
+
+def _check_port(port: int) -> None:
+    if not isinstance(port, int) or port not in PORTS:
+        raise BadArgument(f"the port is {port!r}, and has to be a number from 1 to {PORTS[-1]}")
+
+
+def _check_wait(seconds: float | None) -> None:
+    if seconds is None:
+        return
+    if not isinstance(seconds, (int, float)) or not 0 < seconds <= LONGEST_WAIT:
+        raise BadArgument(
+            f"the time limit is {seconds!r}, and has to be over 0 and at most {LONGEST_WAIT} seconds")
 
 
 class Connection:
@@ -496,9 +537,11 @@ class Connection:
     def __init__(
         self, host: str = DEFAULT_HOST, port: int = DEFAULT_PORT, timeout: float | None = None
     ) -> None:
+        _check_port(port)
+        _check_wait(timeout)
         try:
             self._socket = socket.create_connection((host, port), timeout)
-        except OSError as error:
+        except (OSError, UnicodeError) as error:
             raise CannotConnect(f"no connection to {host}:{port}: {error}") from error
         self._socket.setsockopt(socket.IPPROTO_TCP, socket.TCP_NODELAY, 1)
         self._socket.setblocking(False)
@@ -546,8 +589,31 @@ class Connection:
         """Up to `count` pairs in the order of their keys, from `start` on, or behind it."""
         return self._ask(Scan(start, count, after, columns))
 
+    def pairs(
+        self, prefix: bytes = b"", columns: Sequence[int] = ()
+    ) -> Iterator[tuple[bytes, list[bytes]]]:
+        """All pairs whose keys begin with `prefix`, in order, by one scan after the other."""
+        key, after = prefix, False
+        while True:
+            found = self.scan(key, SCAN_PAIRS, after, columns)
+            for pair in found:
+                if not pair[0].startswith(prefix):
+                    return
+                yield pair
+            if len(found) < SCAN_PAIRS:
+                return
+            key, after = found[-1][0], True
+
+    def keys(self, prefix: bytes = b"") -> Iterator[bytes]:
+        """The keys of `pairs`, without most of the columns' bytes."""
+        return (key for key, _ in self.pairs(prefix, [COLUMNS - 1]))
+
+    def count(self, prefix: bytes = b"") -> int:
+        """How many keys begin with `prefix`, by one scan after the other."""
+        return sum(1 for _ in self.keys(prefix))
+
     def settle(self) -> int:
-        """Waits until all that was answered before is on the disk; how far the logs reach."""
+        """Waits until all that was answered before, to any client, is on the disk; how far the logs reach."""
         return self._ask(Settle())
 
     def pipeline(self) -> Pipeline:
@@ -699,3 +765,118 @@ class Pipeline:
                 self.results.append(self._connection._judge(request, reply))
             except (Refused, Full, NoMemory) as refused:
                 self.results.append(refused)
+
+
+# ---- Servers -------------------------------------------------------------------------------------
+
+
+def connect(
+    tenant: int, host: str = DEFAULT_HOST, port: int = DEFAULT_PORT, timeout: float | None = None
+) -> Connection:
+    """A connection with the tenant opened."""
+    connection = Connection(host, port, timeout)
+    try:
+        connection.open(tenant)
+    except BaseException:
+        connection.close()
+        raise
+    return connection
+
+
+def ping(
+    host: str = DEFAULT_HOST, port: int = DEFAULT_PORT, timeout: float = 1.0, tenant: int | None = None
+) -> float:
+    """In how many seconds a server answers, connecting included; `ConnectionFault` after `timeout` in all.
+
+    Without a tenant it asks for a key of none, which a server that serves refuses. With one it opens it.
+    """
+    _check_port(port)
+    _check_wait(timeout)
+    outcome: queue.SimpleQueue[float | RebjautsError] = queue.SimpleQueue()
+
+    def ask() -> None:
+        try:
+            outcome.put(_answer_time(host, port, timeout, tenant))
+        except RebjautsError as error:
+            outcome.put(error)
+
+    # The thread is left alone after the time, also if it waits for a name to be resolved.
+    threading.Thread(target=ask, daemon=True).start()
+    try:
+        found = outcome.get(timeout=timeout)
+    except queue.Empty:
+        raise ConnectionEnded(f"{host}:{port} took over {timeout} seconds", 1) from None
+    if isinstance(found, RebjautsError):
+        raise found
+    return found
+
+
+def _answer_time(host: str, port: int, timeout: float, tenant: int | None) -> float:
+    start = time.monotonic()
+    with Connection(host, port, timeout) as connection:
+        if tenant is not None:
+            connection.open(tenant)
+        with contextlib.suppress(NotOpen):
+            connection.get(b"")
+    return time.monotonic() - start
+
+
+@dataclass(frozen=True)
+class Place:
+    """Where a server listens."""
+
+    host: str
+    port: int
+
+
+class TenantMap:
+    """Which server has which tenant: of a file with a line `TENANT HOST PORT` for each tenant.
+
+    Empty lines, and what follows a `#`, count for nothing.
+    """
+
+    def __init__(self, places: Mapping[int, Place], name: str = "the map") -> None:
+        self.places = dict(places)
+        self._name = name
+
+    @classmethod
+    def read(cls, path: str | os.PathLike[str]) -> TenantMap:
+        """The map that the file says; `BadMap` if it can't be read."""
+        try:
+            lines = Path(path).read_text(encoding="utf-8").splitlines()
+        except (OSError, UnicodeError) as error:
+            raise BadMap(f"{path}: {getattr(error, 'strerror', None) or error}") from None
+        places: dict[int, Place] = {}
+        for number, line in enumerate(lines, 1):
+            words = line.partition("#")[0].split()
+            if not words:
+                continue
+            try:
+                tenant, place = _mapped(words)
+            except ValueError:
+                raise BadMap(f"{path}, line {number}: it has to be TENANT HOST PORT, and is {line!r}") from None
+            if tenant in places:
+                raise BadMap(f"{path}, line {number}: tenant {tenant} is there twice")
+            places[tenant] = place
+        return cls(places, str(path))
+
+    def place(self, tenant: int) -> Place:
+        """The tenant's server; `BadMap` if the map has none."""
+        try:
+            return self.places[tenant]
+        except KeyError:
+            raise BadMap(f"{self._name} has no line for tenant {tenant}") from None
+
+    def connect(self, tenant: int, timeout: float | None = None) -> Connection:
+        """A connection to the tenant's server, with the tenant opened."""
+        place = self.place(tenant)
+        return connect(tenant, place.host, place.port, timeout)
+
+
+def _mapped(words: list[str]) -> tuple[int, Place]:
+    """A line's tenant and place; `ValueError` if they are none."""
+    tenant, host, port = words
+    if not (tenant.isascii() and tenant.isdigit() and int(tenant) < 1 << 32):
+        raise ValueError(tenant)
+    _check_port(int(port))
+    return int(tenant), Place(host, int(port))
