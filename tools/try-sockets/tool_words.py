@@ -12,6 +12,7 @@ from collections.abc import Callable, Iterable
 from pathlib import Path
 
 TOP = Path(__file__).resolve().parents[2]
+WrongWord = argparse.ArgumentTypeError  # what a type says of a word that it doesn't take
 WAIT_SECONDS = 60  # for what a program says of itself, also on a busy machine
 
 # What argparse says, and how it is said here.
@@ -71,7 +72,7 @@ def whole(least: int, most: int | None = None) -> Callable[[str], int]:
 
     def read(word: str) -> int:
         if not re.fullmatch("[0-9]{1,18}", word) or int(word) < least or most is not None and int(word) > most:
-            raise argparse.ArgumentTypeError(f'"{word}" is no whole number of {bounds}')
+            raise WrongWord(f'"{word}" is no whole number of {bounds}')
         return int(word)
     return read
 
@@ -83,7 +84,7 @@ def seconds(word: str) -> float:
     except ValueError:
         number = 0.0
     if not (math.isfinite(number) and number > 0):
-        raise argparse.ArgumentTypeError(f'"{word}" is no number of seconds above 0')
+        raise WrongWord(f'"{word}" is no number of seconds above 0')
     return number
 
 
@@ -91,11 +92,11 @@ def folder(word: str) -> Path:
     """A folder that is there, in which files can be made."""
     path = Path(word)
     if not path.exists():
-        raise argparse.ArgumentTypeError(f"there is no folder {word}")
+        raise WrongWord(f"there is no folder {word}")
     if not path.is_dir():
-        raise argparse.ArgumentTypeError(f"{word} is no folder")
+        raise WrongWord(f"{word} is no folder")
     if not os.access(path, os.W_OK | os.X_OK):
-        raise argparse.ArgumentTypeError(f"no file can be made in {word}")
+        raise WrongWord(f"no file can be made in {word}")
     return path.resolve()
 
 
@@ -105,7 +106,7 @@ def one_of(names: Iterable[str], kind: str) -> Callable[[str], str]:
 
     def read(word: str) -> str:
         if word not in known:
-            raise argparse.ArgumentTypeError(f'"{word}" is the name of no {kind}')
+            raise WrongWord(f'"{word}" is the name of no {kind}')
         return word
     return read
 
@@ -114,7 +115,7 @@ def built(name: str, remedy: str = "") -> Callable[[str], str]:
     """The type of a path to the built program of this name; the remedy says how it is built."""
     def read(word: str) -> str:
         if fault := what_is_wrong_with(Path(word), name):
-            raise argparse.ArgumentTypeError(f"{word} {fault}{remedy}")
+            raise WrongWord(f"{word} {fault}{remedy}")
         return str(Path(word).resolve())
     return read
 
