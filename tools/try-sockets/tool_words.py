@@ -10,6 +10,7 @@ import subprocess
 import sys
 from collections.abc import Callable, Iterable
 from pathlib import Path
+from typing import NoReturn
 
 TOP = Path(__file__).resolve().parents[2]
 WrongWord = argparse.ArgumentTypeError  # what a type says of a word that it doesn't take
@@ -34,10 +35,15 @@ def tool() -> str:
     return str(path.relative_to(TOP)) if path.is_relative_to(TOP) else path.name
 
 
-def refuse(fault: str) -> None:
-    """Names a wrong word, and ends with status 2."""
-    print(f"{tool()}: {fault} ({tool()} --help tells what it takes)", file=sys.stderr)
+def fail(fault: str) -> NoReturn:
+    """Says why the tool can't go on, and ends with status 2."""
+    print(f"{tool()}: {fault}", file=sys.stderr)
     sys.exit(2)
+
+
+def refuse(fault: str) -> NoReturn:
+    """Names a wrong word, and ends with status 2."""
+    fail(f"{fault} ({tool()} --help tells what it takes)")
 
 
 class Words(argparse.ArgumentParser):
@@ -55,7 +61,7 @@ class Words(argparse.ArgumentParser):
                 self.error(f"unrecognized arguments: {word}")
         return super().parse_known_args(args, namespace)
 
-    def error(self, message: str) -> None:
+    def error(self, message: str) -> NoReturn:
         for pattern, said in SENTENCES:
             if found := re.fullmatch(pattern, message, re.DOTALL):
                 message = found.expand(said)
