@@ -1,6 +1,6 @@
 -- What a disk holds, and what a crash may make of it.
 use Rattle.std.specs.Prelude.{◌≡◌, ◌⊎◌, ℕ, ◌+◌, ◌^◌, ◌<◌, ◌≤◌, Bool, false, nat_lt, not, ◌&&◌, List, [], ◌∷◌, ◌++◌, length, take, drop, Option, Some, None, Result, MatchResult, OnOk}
-use Rattle.std.specs.List.{slice_get, list_any, All}
+use Rattle.std.specs.List.{slice_get, list_any, All, Contains}
 
 -- the bytes from one place up to another, that one not among them
 abbrev pub Range : Type 0
@@ -78,20 +78,20 @@ CountsFailure result old new = MatchResult result (λ _. new ≡ old) (λ _. Goe
 -- the number of its last call, and which calls it is told to fail
 pub record Plan : Type 0 where
   pub calls : ℕ
-  pub fail : Option ℕ
+  pub fails : List ℕ
   pub stop : Option ℕ
 
--- whether a call is told to fail: it is the one numbered `fail`, or the one numbered `stop` or a later one
-abbrev pub IsToldToFail : Option ℕ → Option ℕ → ℕ → Type 0
-IsToldToFail fail stop call = (fail ≡ Some call) ⊎ ((first : ℕ) × (stop ≡ Some first) × (first ≤ call))
+-- whether a call is told to fail: its number is in the list, or it is the one numbered `stop` or a later one
+abbrev pub IsToldToFail : List ℕ → Option ℕ → ℕ → Type 0
+IsToldToFail fails stop call = Contains fails call ⊎ ((first : ℕ) × (stop ≡ Some first) × (first ≤ call))
 
 -- the next call of a disk with a plan: it has the next number, unless the largest 64 bits tell was
 -- reached, and it is made only where it isn't told to fail
 pub record IsNextCall {T E : Type 0} (result : Result T E) (old new : Plan) : Type 0 where
   pub number : GoesUp old.calls new.calls
-  pub fail : new.fail ≡ old.fail
+  pub fails : new.fails ≡ old.fails
   pub stop : new.stop ≡ old.stop
-  pub made : OnOk result (¬ IsToldToFail new.fail new.stop new.calls)
+  pub made : OnOk result (¬ IsToldToFail new.fails new.stop new.calls)
 
 -- a call of a disk that keeps its plan, where it has one
 abbrev pub FollowsPlan : {T E : Type 0} → Result T E → Option Plan → Option Plan → Type 0

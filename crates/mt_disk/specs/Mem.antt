@@ -18,7 +18,7 @@ mem_state m = record { image = m.image.items; now = record { durable = m.durable
 
 -- the plan of a `MemDisk`
 abbrev pub plan_of : MemDisk → Plan
-plan_of m = record { calls = m.calls; fail = m.fail; stop = m.stop }
+plan_of m = record { calls = m.calls; fails = m.fails.items; stop = m.stop }
 
 -- the call at which a disk is to stop, unless it has stopped there already
 abbrev pub still_to_come : Option ℕ → ℕ → Option ℕ
@@ -27,4 +27,4 @@ still_to_come (Some first) calls = if nat_lt calls first then Some first else No
 
 -- the plan behind a crash: its calls count on, and a stop that has come is over
 abbrev pub plan_found : Plan → Plan
-plan_found p = record { calls = p.calls; fail = p.fail; stop = still_to_come p.stop p.calls }
+plan_found p = record { calls = p.calls; fails = p.fails; stop = still_to_come p.stop p.calls }

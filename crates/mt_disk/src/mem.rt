@@ -1,7 +1,7 @@
 //! An honest disk in memory, which fails where it is told to.
 //!
-//! Its calls are numbered from 1. The one numbered `fail` fails, and all from the one numbered `stop`
-//! on: so a crash at any call can be staged. A growth that is refused to it counts as its failure, and
+//! Its calls are numbered from 1. Those whose numbers are in `fails` fail, and all from the one numbered
+//! `stop` on: so any failures can be staged, and a crash at any call. A growth that is refused to it counts as its failure, and
 //! so do a read and a write that begin past the end. A write or a cut that is told to fail changes
 //! nothing that a read gives, but its range counts as written.
 //!
@@ -24,7 +24,7 @@ pub struct MemDisk {
     dirty: Vec<(usize, usize)>,
     past: Vec<(Vec<u8>, Vec<(usize, usize)>)>,
     calls: u64,
-    fail: Option<u64>,
+    fails: Vec<u64>,
     stop: Option<u64>,
     failures: u64,
 }
@@ -34,9 +34,9 @@ impl MemDisk {
     ghost use Rattle.mt_disk.specs.Mem.{mem_state, plan_of, plan_found};
 
     /// An empty disk.
-    pub fn new(alloc: Global, fail: Option<u64>, stop: Option<u64>) -> Self
+    pub fn new(alloc: Global, fails: Vec<u64>, stop: Option<u64>) -> Self
         ensures state { mem_state result ≡ found_with [] }
-        ensures plan { plan_of result ≡ record { calls = 0; fail = fail; stop = stop } }
+        ensures plan { plan_of result ≡ record { calls = 0; fails = fails.items; stop = stop } }
         ensures failures { result.failures ≡ 0 }
     {
         MemDisk {
@@ -46,7 +46,7 @@ impl MemDisk {
             dirty: Vec::new(alloc),
             past: Vec::new(alloc),
             calls: 0,
-            fail,
+            fails,
             stop,
             failures: 0,
         }
@@ -56,11 +56,11 @@ impl MemDisk {
     pub fn with_image(
         alloc: Global,
         image: Vec<u8>,
-        fail: Option<u64>,
+        fails: Vec<u64>,
         stop: Option<u64>,
     ) -> Result<Self, AllocError>
         ensures state { IfOk result (λ m. mem_state m ≡ found_with image.items) }
-        ensures plan { IfOk result (λ m. plan_of m ≡ record { calls = 0; fail = fail; stop = stop }) }
+        ensures plan { IfOk result (λ m. plan_of m ≡ record { calls = 0; fails = fails.items; stop = stop }) }
         ensures failures { IfOk result (λ m. m.failures ≡ 0) }
     {
         let durable = image.to_vec(alloc)?;
@@ -71,7 +71,7 @@ impl MemDisk {
             dirty: Vec::new(alloc),
             past: Vec::new(alloc),
             calls: 0,
-            fail,
+            fails,
             stop,
             failures: 0,
         })
@@ -137,13 +137,13 @@ impl MemDisk {
 }
 
 // Goes on, unless the next call is told to fail.
-fn next_call(calls: &mut u64, fail: Option<u64>, stop: Option<u64>) -> Result<(), AllocError>
+fn next_call(calls: &mut u64, fails: &[u64], stop: Option<u64>) -> Result<(), AllocError>
     ensures number { GoesUp calls.old calls.new }
-    ensures goes_on { OnOk result (¬ IsToldToFail fail stop calls.new) }
-    ensures fails { OnErr result (IsToldToFail fail stop calls.new) }
+    ensures goes_on { OnOk result (¬ IsToldToFail fails.now stop calls.new) }
+    ensures fails { OnErr result (IsToldToFail fails.now stop calls.new) }
 {
     *calls = calls.saturating_add(1);
-    if fail == Some(*calls) {
+    if fails.contains(calls) {
         return Err(AllocError);
     }
     match stop {
@@ -263,20 +263,20 @@ impl Disk for MemDisk {
     ghost plan = { λ m. Some (plan_of m) };
 
     fn len(&mut self) -> Result<usize, DeviceFailed> {
-        let allowed = next_call(&mut self.calls, self.fail, self.stop);
+        let allowed = next_call(&mut self.calls, &self.fails, self.stop);
         self.counted(allowed)?;
         Ok(self.image.len())
     }
 
     fn read(&mut self, at: usize, out: &mut [u8]) -> Result<(), DeviceFailed> {
-        let allowed = next_call(&mut self.calls, self.fail, self.stop);
+        let allowed = next_call(&mut self.calls, &self.fails, self.stop);
         self.counted(allowed)?;
         let copied = copy_out(&self.image, at, out);
         self.counted(copied)
     }
 
     fn write_at(&mut self, at: usize, bytes: &[u8]) -> Result<(), DeviceFailed> {
-        let allowed = next_call(&mut self.calls, self.fail, self.stop);
+        let allowed = next_call(&mut self.calls, &self.fails, self.stop);
         let noted = match at.checked_add(bytes.len()) {
             Some(end) => note(
                 self.alloc,
@@ -294,7 +294,7 @@ impl Disk for MemDisk {
     }
 
     fn cut(&mut self, len: usize) -> Result<(), DeviceFailed> {
-        let allowed = next_call(&mut self.calls, self.fail, self.stop);
+        let allowed = next_call(&mut self.calls, &self.fails, self.stop);
         let range = (len, self.durable.len());
         let noted = note(
             self.alloc,
@@ -309,7 +309,7 @@ impl Disk for MemDisk {
     }
 
     fn sync(&mut self) -> Result<(), DeviceFailed> {
-        let allowed = next_call(&mut self.calls, self.fail, self.stop);
+        let allowed = next_call(&mut self.calls, &self.fails, self.stop);
         self.counted(allowed)?;
         let synced = make_durable(
             self.alloc,
