@@ -51,8 +51,15 @@ batch_in_order b is = (is.order, record { rising = is.records.limits.stamps; wit
 pub in_steps : (from to kept : ℕ) → from ≤ to → to ≤ 2 ^ 59 → kept ≤ to → IsLogBatch (Resume from to kept)
 in_steps from to kept order last small = record { first = omega arith; last = last; past = omega arith }
 
+each_last : (bs : List LogBatch) (b : LogBatch) → AllByRecursion IsLogBatch (bs ++ b ∷ []) → IsLogBatch b
+each_last [] b each = each.0
+each_last (x ∷ bs) b each = each_last bs b each.1
+
 pub contents_front : (c : Contents) (b : LogBatch) → IsContents (with_batch b c) → IsContents c
 contents_front c b is = record { worker = is.worker; logs = is.logs; batches = each_front c.batches b is.batches }
+
+pub added_in_format : (c : Contents) (b : LogBatch) → IsContents (with_batch b c) → IsLogBatch b
+added_in_format c b is = each_last c.batches b is.batches
 
 pub contents_more : (c : Contents) (b : LogBatch) → IsContents c → IsLogBatch b → IsContents (with_batch b c)
 contents_more c b is batch = record { worker = is.worker; logs = is.logs; batches = each_more c.batches b is.batches batch }

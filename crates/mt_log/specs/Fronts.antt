@@ -1,7 +1,7 @@
 -- The front of a log, what an append may make of it, and what is no log.
-use Rattle.std.specs.Prelude.{◌≡◌, ◌≢◌, ◌⊎◌, ℕ, ◌<◌, ◌≤◌, [], ◌∷◌, ◌++◌, length}
+use Rattle.std.specs.Prelude.{◌≡◌, ◌≢◌, ◌⊎◌, ℕ, ◌<◌, ◌≤◌, Bool, true, false, [], ◌∷◌, ◌++◌, length}
 use Rattle.mt_rows.specs.Rows.{Bytes}
-use Rattle.mt_disk.specs.Disk.{DiskState, IsDurable}
+use Rattle.mt_disk.specs.Disk.{DiskState, IsDurable, LeavesOnly}
 use Rattle.mt_log.specs.declared.batch.LogBatch.{LogBatch}
 use Rattle.mt_log.specs.Format.{header, body, told_body, open_batch}
 use Rattle.mt_log.specs.Contents.{Contents, IsContents, IsLogBatch, log_bytes, with_batch}
@@ -92,3 +92,15 @@ pub record IsFound (front : Bytes) (gate place : ℕ) (s : DiskState) : Type 0 w
   pub image : s.image ≡ front ++ (gate ∷ behind)
   pub durable : IsDurable s
   pub end : place ≡ length front
+
+-- An append of a body failed here: since some state a crash leaves the old front or the one with the body, and
+-- these are the places of their ends.
+pub record IsUnsure (front bytes : Bytes) (before after : ℕ) (first s : DiskState) : Type 0 where
+  pub leaves : LeavesOnly (IsBeforeOrAfter front bytes) first s
+  pub ends_before : before ≡ length front
+  pub ends_after : after ≡ length (front ++ open_batch bytes)
+
+-- which of the two is at rest, by whether the body counts
+abbrev pub IsAtRestAt : Bytes → Bytes → ℕ → ℕ → DiskState → Bool → Type 0
+IsAtRestAt front bytes before after s true = IsAtRest (front ++ open_batch bytes) after s
+IsAtRestAt front bytes before after s false = IsAtRest front before s

@@ -9,6 +9,7 @@ ghost use Rattle.mt_log.specs.Fronts.{IsAtRest};
 ghost use Rattle.mt_log.specs.Logs.{Created, Appended, FailedIn, GivesBack, GivesLogBack, Opened, GivesDiskBack, IsSyncedOf, FailsToSync, fault_with};
 
 use crate::batch::{Front, MAX_STEP};
+use crate::failed_log::{End, FailedLog};
 use crate::fault::{AppendFault, OpenFault, ReadFault, ResumeFault};
 use crate::gate::add;
 use crate::opening::set_right;
@@ -78,6 +79,13 @@ impl<D: Disk> LogFile<D> {
         }
     }
 
+    // A log at rest, whose front ends there.
+    pub(crate) fn at(disk: D, end: usize, mark: u64) -> LogFile<D>
+        ensures { result ≡ record { disk = disk; end = end; mark = mark } }
+    {
+        LogFile { disk, end, mark }
+    }
+
     /// The step at which its last batch ends, 0 where it has none.
     pub fn mark(&self) -> u64
         ensures { result ≡ self.now.mark }
@@ -121,9 +129,14 @@ impl<D: Disk> LogFile<D> {
             Ok(block) => block,
             Err(_) => return Err(AppendFault::Memory(self, batch)),
         };
+        let before = End::new(self.end, self.mark);
+        let after = End::new(self.end + block.len(), batch.to);
         match self.add_block(&block, batch.to) {
             Ok(()) => Ok(self),
-            Err(_) => Err(AppendFault::Device(self.into_disk(), batch)),
+            Err(_) => Err(AppendFault::Device(
+                FailedLog::new(self.into_disk(), before, after),
+                batch,
+            )),
         }
     }
 
