@@ -19,7 +19,7 @@ use Rattle.mt_drains.specs.Drains.{records_between}
 use Rattle.mt_crashes.specs.Histories.{changes_of}
 use Rattle.mt_crashes.specs.Stores.{Store, LogNow, Reaches, is_between}
 use Rattle.mt_recover.specs.declared.resuming.LogSlot.{LogSlot}
-use Rattle.mt_recover.specs.declared.resuming.LogSlot.TheVariants.{Open, Closed, Away}
+use Rattle.mt_recover.specs.declared.resuming.LogSlot.TheVariants.{Open, Failed, Closed, Away}
 use Rattle.mt_store_logs.specs.declared.store_log.StoreLog.{StoreLog}
 use Rattle.mt_store_logs.specs.Places.{mark_in}
 use Rattle.mt_store_logs.specs.Waits.{AppendsKept, FailsToAppend, AppendsNew, FailsToAppendNew, with_kept}
@@ -48,6 +48,7 @@ rests_at_mark now n none mark = λ front left. ⊎_elim
 -- the mark of an open log
 open_mark : (now : LogNow) (slot : LogSlot MemDisk) (mark : ℕ) → Shows mem_state now slot → mark_in slot ≡ Some mark → mark ≡ mark_of now.had
 open_mark now (Open log) mark shows is = sym (same_Some log.mark mark is) ∙ shows.1.mark
+open_mark now (Failed log) mark shows is = absurd (no_some mark is)
 open_mark now (Closed disk) mark shows is = absurd (no_some mark is)
 open_mark now Away mark shows is = absurd shows
 

@@ -32,7 +32,7 @@ use Rattle.mt_crashes.proofs.Invariant.{within_place}
 use Rattle.mt_recover.specs.Pairs.{Ascend}
 use Rattle.mt_recover.specs.declared.recovering.Recovered.{Recovered}
 use Rattle.mt_recover.specs.declared.resuming.LogSlot.{LogSlot}
-use Rattle.mt_recover.specs.declared.resuming.LogSlot.TheVariants.{Open, Closed, Away}
+use Rattle.mt_recover.specs.declared.resuming.LogSlot.TheVariants.{Open, Failed, Closed, Away}
 use Rattle.mt_store_logs.specs.declared.store_log.StoreLog.{StoreLog}
 use Rattle.mt_store_logs.specs.Places.{disk_in, Opens, OpensAll}
 use Rattle.mt_store_logs.specs.Recovers.{no_checkpoints, ServesAgain}
@@ -133,6 +133,7 @@ within_limits fronts cutoff resume used ps all r apart i p at =
 
 opened_in_format : (disk : Option MemDisk) (slot : LogSlot MemDisk) (front : Front) → Opens keeps_rules mem_state failures_of disk slot front → IsContents (contents_of front)
 opened_in_format (Some disk) (Open log) front opened = opened.contents
+opened_in_format (Some disk) (Failed other) front opened = absurd opened
 opened_in_format (Some disk) (Closed other) front opened = absurd opened
 opened_in_format (Some disk) Away front opened = absurd opened
 opened_in_format None slot front opened = absurd opened

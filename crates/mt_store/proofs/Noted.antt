@@ -15,7 +15,7 @@ use Rattle.mt_core.specs.Tickets.{named}
 use Rattle.mt_crashes.specs.Stores.{Store, LogNow, Reaches, ReachesAt}
 use Rattle.mt_crashes.proofs.Members.{no_some}
 use Rattle.mt_recover.specs.declared.resuming.LogSlot.{LogSlot}
-use Rattle.mt_recover.specs.declared.resuming.LogSlot.TheVariants.{Open, Closed, Away}
+use Rattle.mt_recover.specs.declared.resuming.LogSlot.TheVariants.{Open, Failed, Closed, Away}
 use Rattle.mt_store_logs.specs.declared.store_log.StoreLog.{StoreLog}
 use Rattle.mt_store_logs.specs.Places.{FailsToOpen}
 use Rattle.mt_store_logs.specs.Waits.{AppendsKept, FailsToAppend, ReopensAt, Reopens, FailsToReopenAt, FailsToReopen}
@@ -40,6 +40,7 @@ of_open refusals.Memory disk slot f not_bad = inl refl
 of_open (refusals.BadLog number offset) disk slot f not_bad = absurd (not_bad number offset refl)
 of_open r disk (Closed new) f not_bad = absurd f
 of_open r disk (Open new) f not_bad = absurd f
+of_open r disk (Failed new) f not_bad = absurd f
 of_open r disk Away f not_bad = absurd f
 
 of_reopening : (e : Refusal) (slot : LogSlot MemDisk) (old new : StoreLog MemDisk) → FailsToReopenAt keeps_rules mem_state failures_of e slot old new
@@ -47,12 +48,15 @@ of_reopening : (e : Refusal) (slot : LogSlot MemDisk) (old new : StoreLog MemDis
 of_reopening e (Closed disk) old new (inl s) not_bad turn =
     of_open e disk new.slot s.fails not_bad
 of_reopening e (Closed disk) old new (inr o) not_bad turn = of_log e _ new o.fails turn
+of_reopening e (Failed log) old new (inl s) not_bad turn = inr s.told
+of_reopening e (Failed log) old new (inr o) not_bad turn = of_log e _ new o.fails turn
 of_reopening e (Open log) old new f not_bad turn = of_log e old new f turn
 of_reopening e Away old new f not_bad turn = of_log e old new f turn
 
 -- ---- the batch that waits
 
 none_waits : (slot : LogSlot MemDisk) (old new : StoreLog MemDisk) → ReopensAt keeps_rules mem_state failures_of slot old new → new.kept ≡ None
+none_waits (Failed log) old new r = r.appends.none
 none_waits (Closed disk) old new r = r.appends.none
 none_waits (Open log) old new r = r.none
 none_waits Away old new r = r.none

@@ -12,7 +12,7 @@ use Rattle.mt_log.specs.Contents.{Contents, contents_of}
 use Rattle.mt_crashes.specs.Stores.{Store, LogNow, at_rest, MayLeaveFront}
 use Rattle.mt_crashes.proofs.Invariant.{within_place, map_place}
 use Rattle.mt_recover.specs.declared.resuming.LogSlot.{LogSlot}
-use Rattle.mt_recover.specs.declared.resuming.LogSlot.TheVariants.{Open, Closed, Away}
+use Rattle.mt_recover.specs.declared.resuming.LogSlot.TheVariants.{Open, Failed, Closed, Away}
 use Rattle.mt_store_logs.specs.declared.store_log.StoreLog.{StoreLog}
 use Rattle.mt_store_logs.specs.Lists.{StopsAt}
 use Rattle.mt_store_logs.specs.Places.{disk_in, FailsToOpen, OpensLog, FailsToOpenLog, OpensAll, StopsOpeningAt}
@@ -28,6 +28,7 @@ use Rattle.mt_store.proofs.Leaving.{ShowsIn, AllShow}
 -- a disk in memory keeps the rules, where there is one
 pub honest : (now : LogNow) (slot : LogSlot MemDisk) → Shows mem_state now slot → IsHonest keeps_rules slot
 honest now (Open log) shows = refl
+honest now (Failed log) shows = refl
 honest now (Closed disk) shows = refl
 honest now Away shows = absurd shows
 
@@ -38,12 +39,14 @@ of_opening_on refusals.Device old new f own = inr refl
 of_opening_on refusals.Memory old new f own = inl refl
 of_opening_on (refusals.BadLog number offset) old new f own = absurd (own number offset refl)
 of_opening_on e old (Open log) f own = absurd f
+of_opening_on e old (Failed log) f own = absurd f
 of_opening_on e old (Closed disk) f own = absurd f
 of_opening_on e old Away f own = absurd f
 
 of_opening : (now : LogNow) (e : Refusal) (old new : LogSlot MemDisk) → Shows mem_state now old → FailsToOpen keeps_rules mem_state failures_of e (disk_in old) new
     → ((number offset : ℕ) → e ≢ refusals.BadLog number offset) → IsMemoryOrDevice e
 of_opening now e (Open log) new shows f own = of_opening_on e log.disk new f own
+of_opening now e (Failed log) new shows f own = of_opening_on e log.disk new f own
 of_opening now e (Closed disk) new shows f own = of_opening_on e disk new f own
 of_opening now e Away new shows f own = absurd shows
 

@@ -16,21 +16,24 @@ use Rattle.mt_log.specs.declared.batch.LogBatch.TheVariants.{Records, Resume}
 use Rattle.mt_log.specs.declared.log_file.LogFile.{LogFile}
 use Rattle.mt_log.specs.Contents.{Contents, IsContents, IsLogBatch, Rises, to_of, mark_of, log_bytes, with_batch, no_batches, contents_of}
 use Rattle.mt_log.specs.Fronts.{IsBadLog, IsLeft, IsAtRest, IsOldOrNew}
+use Rattle.mt_log.specs.declared.failed_log.FailedLog.{FailedLog}
 use Rattle.mt_log.specs.Logs.{IsLogOf, Appended, FailedIn, Opened, StillLeaves, ReadsOldOrNew}
-use Rattle.mt_log.proofs.FrontLaws.{front_not_bad, left_front, in_format, in_steps, contents_more}
+use Rattle.mt_log.specs.Failures.{Reopened}
+use Rattle.mt_log.proofs.FrontLaws.{front_not_bad, left_front, in_format, in_steps, contents_front, contents_more, added_in_format}
+use Rattle.mt_log.proofs.Failures.{failed_log}
 use Rattle.mt_crashes.specs.Stores.{LogNow, at_rest, MayLeaveFront}
 use Rattle.mt_crashes.proofs.Members.{no_some}
 use Rattle.mt_crashes.proofs.FrontLaws.{mark_more}
 use Rattle.mt_crashes.proofs.Disks.{doubt_left}
 use Rattle.mt_recover.specs.declared.resuming.LogSlot.{LogSlot}
-use Rattle.mt_recover.specs.declared.resuming.LogSlot.TheVariants.{Open, Closed, Away}
+use Rattle.mt_recover.specs.declared.resuming.LogSlot.TheVariants.{Open, Failed, Closed, Away}
 use Rattle.mt_recover.specs.Resumes.{HasResumed, FailsToResume}
 use Rattle.mt_recover.specs.Resumes.{HasFailed as ResumeFailed}
 use Rattle.mt_store_logs.specs.declared.store_log.StoreLog.{StoreLog}
 use Rattle.mt_store_logs.specs.Places.{mark_in, disk_in, Opens, FailsOn, FailsToOpen, Makes}
-use Rattle.mt_store_logs.specs.Waits.{HasAppended, HasFailed, TakesIn, AppendsKept, ClosesWith, Stays, FailsToAppend, with_kept, opened_with, ReopensAt, StaysClosed, FailsToReopenAt, Reopens, FailsToReopen}
+use Rattle.mt_store_logs.specs.Waits.{HasAppended, HasFailed, TakesIn, AppendsKept, ClosesWith, Stays, FailsToAppend, with_kept, opened_with, ReopensAt, StaysClosed, FailsAgain, StaysShut, FailsToReopenAt, Reopens, FailsToReopen}
 use Rattle.mt_store_logs.specs.Crashes.{IsFoundWith, IsCrashedOn, IsCrashedTo}
-use Rattle.mt_store_logs.specs.Shows.{LeavesEither, ShowsClosed, Shows, IsHonest, Waits, WaitsIn, Stands, drained_upto, MayBegin, begun, appended, IsIn, IsInDoubt, ComesToRest}
+use Rattle.mt_store_logs.specs.Shows.{LeavesEither, ShowsClosed, ShowsFailed, Shows, IsHonest, Waits, WaitsIn, Stands, drained_upto, MayBegin, begun, appended, IsIn, IsInDoubt, ComesToRest}
 
 -- ---- a disk as it is
 
@@ -119,6 +122,15 @@ module _ {D : Type 0} (is_honest : D → Bool) (state : D → DiskState) where
         (λ b batch. record { first = state log.disk; leaves = at_rest_leaves now.had b log.end (state log.disk) shows.1.rest }),
   )
 
+  -- the disk of a log on which an append failed, as if it were closed
+  failed_shows : (now : LogNow) (log : FailedLog D) → ShowsFailed state now log → IsContents now.had × ShowsClosed state now.had now.doubt log.disk
+  failed_shows now log shows =
+      let f = shows.failed in (
+        contents_front now.had shows.batch f.contents,
+        subst (λ d. ShowsClosed state now.had d log.disk) (sym shows.in_doubt)
+            (added_in_format now.had shows.batch f.contents, record { first = shows.first; leaves = f.leaves }),
+      )
+
   -- ---- openings
 
   module _ (failures : D → ℕ) where
@@ -133,7 +145,13 @@ module _ {D : Type 0} (is_honest : D → Bool) (state : D → DiskState) where
     pub opens : (now : LogNow) (old new : LogSlot D) (front : Front) → IsHonest is_honest old → Shows state now old
         → Opens is_honest state failures (disk_in old) new front → IsOpened now new front
     opens now (Open old) (Open log) front honest shows opened = opened_on now old.disk log front honest (open_shows now old shows) opened
+    opens now (Failed old) (Open log) front honest shows opened = opened_on now old.disk log front honest (failed_shows now old shows) opened
     opens now (Closed disk) (Open log) front honest shows opened = opened_on now disk log front honest shows opened
+    opens now (Open old) (Failed new) front honest shows opened = absurd opened
+    opens now (Failed old) (Failed new) front honest shows opened = absurd opened
+    opens now (Closed old) (Failed new) front honest shows opened = absurd opened
+    opens now (Failed old) (Closed disk) front honest shows opened = absurd opened
+    opens now (Failed old) Away front honest shows opened = absurd opened
     opens now (Open old) (Closed disk) front honest shows opened = absurd opened
     opens now (Open old) Away front honest shows opened = absurd opened
     opens now (Closed old) (Closed disk) front honest shows opened = absurd opened
@@ -173,66 +191,25 @@ module _ {D : Type 0} (is_honest : D → Bool) (state : D → DiskState) where
     not_on now refusals.NoRoom old disk honest shows fails = absurd fails
     not_on now refusals.NoStore old disk honest shows fails = absurd fails
 
-    no_open : (e : Refusal) (old : D) (log : LogFile D) → FailsToOpen is_honest state failures e (Some old) (Open log) → ⊥
-    no_open refusals.KeyLong old log f = f
-    no_open refusals.Memory old log f = f
-    no_open refusals.TenantThere old log f = f
-    no_open refusals.NoTenant old log f = f
-    no_open refusals.Column old log f = f
-    no_open refusals.ColumnLong old log f = f
-    no_open refusals.Quota old log f = f
-    no_open refusals.ScanCount old log f = f
-    no_open refusals.Spent old log f = f
-    no_open refusals.Device old log f = f
-    no_open (refusals.WrongTurn m) old log f = f
-    no_open (refusals.BadLog n o) old log f = f
-    no_open (refusals.StampsFall n x) old log f = f
-    no_open (refusals.OverQuota t) old log f = f
-    no_open refusals.LogCount old log f = f
-    no_open refusals.BadFrame old log f = f
-    no_open refusals.NotOpen old log f = f
-    no_open refusals.OpenTwice old log f = f
-    no_open refusals.NoRoom old log f = f
-    no_open refusals.NoStore old log f = f
-
-    no_away : (e : Refusal) (old : D) → FailsToOpen is_honest state failures e (Some old) Away → ⊥
-    no_away refusals.KeyLong old f = f
-    no_away refusals.Memory old f = f
-    no_away refusals.TenantThere old f = f
-    no_away refusals.NoTenant old f = f
-    no_away refusals.Column old f = f
-    no_away refusals.ColumnLong old f = f
-    no_away refusals.Quota old f = f
-    no_away refusals.ScanCount old f = f
-    no_away refusals.Spent old f = f
-    no_away refusals.Device old f = f
-    no_away (refusals.WrongTurn m) old f = f
-    no_away (refusals.BadLog n o) old f = f
-    no_away (refusals.StampsFall n x) old f = f
-    no_away (refusals.OverQuota t) old f = f
-    no_away refusals.LogCount old f = f
-    no_away refusals.BadFrame old f = f
-    no_away refusals.NotOpen old f = f
-    no_away refusals.OpenTwice old f = f
-    no_away refusals.NoRoom old f = f
-    no_away refusals.NoStore old f = f
-
-    no_turn : (mark : ℕ) (old : D) (new : LogSlot D) → FailsToOpen is_honest state failures (refusals.WrongTurn mark) (Some old) new → ⊥
-    no_turn mark old (Open log) f = f
-    no_turn mark old (Closed disk) f = f
-    no_turn mark old Away f = f
-
     not_opened_on : (now : LogNow) (e : Refusal) (old : D) (new : LogSlot D) → IsTrue (is_honest old)
         → IsContents now.had × ShowsClosed state now.had now.doubt old → FailsToOpen is_honest state failures e (Some old) new → IsNotOpened now e new
     not_opened_on now e old (Closed disk) honest shows fails =
         let on = not_on now e old disk honest shows fails in
         (on.0, on.1, not_bad_log now e old disk honest shows fails)
-    not_opened_on now e old (Open log) honest shows fails = absurd (no_open e old log fails)
-    not_opened_on now e old Away honest shows fails = absurd (no_away e old fails)
+    not_opened_on now e old (Open log) honest shows fails = absurd fails
+    not_opened_on now e old (Failed log) honest shows fails = absurd fails
+    not_opened_on now e old Away honest shows fails = absurd fails
+
+    no_turn : (mark : ℕ) (old : D) (new : LogSlot D) → FailsToOpen is_honest state failures (refusals.WrongTurn mark) (Some old) new → ⊥
+    no_turn mark old (Closed disk) f = f
+    no_turn mark old (Open log) f = f
+    no_turn mark old (Failed log) f = f
+    no_turn mark old Away f = f
 
     pub fails_to_open : (now : LogNow) (e : Refusal) (old new : LogSlot D) → IsHonest is_honest old → Shows state now old
         → FailsToOpen is_honest state failures e (disk_in old) new → IsNotOpened now e new
     fails_to_open now e (Open old) new honest shows fails = not_opened_on now e old.disk new honest (open_shows now old shows) fails
+    fails_to_open now e (Failed old) new honest shows fails = not_opened_on now e old.disk new honest (failed_shows now old shows) fails
     fails_to_open now e (Closed old) new honest shows fails = not_opened_on now e old new honest shows fails
     fails_to_open now e Away new honest shows fails = absurd honest
 
@@ -241,6 +218,12 @@ module _ {D : Type 0} (is_honest : D → Bool) (state : D → DiskState) where
     pub makes : (worker count : ℕ) (old new : LogSlot D) → IsHonest is_honest old → Makes is_honest state failures worker count (disk_in old) new
         → IsHonest is_honest new × Shows state (at_rest (no_batches worker count)) new
     makes worker count (Open old) (Open log) honest made = (subst IsTrue (sym made.honest) honest, (refl, made.has honest))
+    makes worker count (Failed old) (Open log) honest made = (subst IsTrue (sym made.honest) honest, (refl, made.has honest))
+    makes worker count (Open old) (Failed new) honest made = absurd made
+    makes worker count (Failed old) (Failed new) honest made = absurd made
+    makes worker count (Closed old) (Failed new) honest made = absurd made
+    makes worker count (Failed old) (Closed disk) honest made = absurd made
+    makes worker count (Failed old) Away honest made = absurd made
     makes worker count (Closed old) (Open log) honest made = (subst IsTrue (sym made.honest) honest, (refl, made.has honest))
     makes worker count (Open old) (Closed disk) honest made = absurd made
     makes worker count (Open old) Away honest made = absurd made
@@ -260,7 +243,9 @@ module _ {D : Type 0} (is_honest : D → Bool) (state : D → DiskState) where
         let a = subst (λ m. Appended is_honest state failures old (Resume m to kept) new) shows.1.mark resumed in
         (a.rises, subst IsTrue (sym a.honest) honest, (refl, a.has honest c shows.1))
     resumes c kept to (Open old) (Closed disk) honest shows last resumed = absurd resumed
+    resumes c kept to (Open old) (Failed new) honest shows last resumed = absurd resumed
     resumes c kept to (Open old) Away honest shows last resumed = absurd resumed
+    resumes c kept to (Failed old) new honest shows last resumed = absurd resumed
     resumes c kept to (Closed old) new honest shows last resumed = absurd resumed
     resumes c kept to Away new honest shows last resumed = absurd honest
 
@@ -283,7 +268,9 @@ module _ {D : Type 0} (is_honest : D → Bool) (state : D → DiskState) where
     failed_resume c kept to (Open old) (Closed disk) honest shows last f =
         fails_open c kept to old disk honest shows.1 last (subst (λ m. FailedIn is_honest state failures old (Resume m to kept) disk) shows.1.mark f)
     failed_resume c kept to (Open old) (Open new) honest shows last f = absurd f
+    failed_resume c kept to (Open old) (Failed new) honest shows last f = absurd f
     failed_resume c kept to (Open old) Away honest shows last f = absurd f
+    failed_resume c kept to (Failed old) new honest shows last f = absurd f
     failed_resume c kept to (Closed old) new honest shows last f = absurd f
     failed_resume c kept to Away new honest shows last f = absurd honest
 
@@ -315,6 +302,7 @@ module _ {D : Type 0} (is_honest : D → Bool) (state : D → DiskState) where
     -- an open log is at rest, and its mark is the one it shows
     open_mark : (now : LogNow) (slot : LogSlot D) (mark : ℕ) → Shows state now slot → mark_in slot ≡ Some mark → (now.doubt ≡ None) × (mark_of now.had ≡ mark)
     open_mark now (Open log) mark shows e = (shows.0, sym shows.1.mark ∙ same_Some log.mark mark e)
+    open_mark now (Failed log) mark shows e = absurd (no_some mark e)
     open_mark now (Closed disk) mark shows e = absurd (no_some mark e)
     open_mark now Away mark shows e = absurd shows
 
@@ -349,7 +337,9 @@ module _ {D : Type 0} (is_honest : D → Bool) (state : D → DiskState) where
       mark = mark_more (Records b) now.had;
     }
     taken now b (Open old) (Closed disk) honest shows turn a = absurd a
+    taken now b (Open old) (Failed new) honest shows turn a = absurd a
     taken now b (Open old) Away honest shows turn a = absurd a
+    taken now b (Failed old) new honest shows turn a = absurd a
     taken now b (Closed old) new honest shows turn a = absurd a
     taken now b Away new honest shows turn a = absurd honest
 
@@ -387,13 +377,15 @@ module _ {D : Type 0} (is_honest : D → Bool) (state : D → DiskState) where
 
     failed_at : (now : LogNow) (b : Batch) (old new : LogSlot D) → IsHonest is_honest old → Shows state now old → b.from ≡ mark_of now.had
         → HasFailed is_honest state failures b old new → IsHonest is_honest new × Shows state (begun now b) new × MayBegin now b
-    failed_at now b (Open old) (Closed disk) honest shows turn f = (
-      subst IsTrue (sym f.2.honest) honest,
-      (shows.1.contents, (in_format b f.1, record { first = state old.disk; leaves = f.2.leaves honest now.had shows.1 })),
+    failed_at now b (Open old) (Failed new) honest shows turn f = (
+      subst IsTrue (sym f.2.fails.honest) honest,
+      record { batch = Records b; in_doubt = refl; first = state old.disk; failed = failed_log is_honest state failures old new now.had (Records b) honest (in_format b f.1) shows.1 f.2 },
       record { rests = shows.0; fits = f.1; turn = turn },
     )
+    failed_at now b (Open old) (Closed disk) honest shows turn f = absurd f
     failed_at now b (Open old) (Open new) honest shows turn f = absurd f
     failed_at now b (Open old) Away honest shows turn f = absurd f
+    failed_at now b (Failed old) new honest shows turn f = absurd f
     failed_at now b (Closed old) new honest shows turn f = absurd f
     failed_at now b Away new honest shows turn f = absurd honest
 
@@ -458,12 +450,14 @@ module _ {D : Type 0} (is_honest : D → Bool) (state : D → DiskState) where
 
     has_it : (log : LogFile D) (b : Batch) (new : LogSlot D) → log.mark ≡ b.to → HasAppended is_honest state failures b (Open log) new → ⊥
     has_it log b (Open new) mark a = a.0 (sym mark)
+    has_it log b (Failed other) mark a = a
     has_it log b (Closed disk) mark a = a
     has_it log b Away mark a = a
 
     has_it_failed : (log : LogFile D) (b : Batch) (new : LogSlot D) → log.mark ≡ b.to → HasFailed is_honest state failures b (Open log) new → ⊥
     has_it_failed log b (Open new) mark f = f
-    has_it_failed log b (Closed disk) mark f = f.0 (sym mark)
+    has_it_failed log b (Failed other) mark f = f.0 (sym mark)
+    has_it_failed log b (Closed disk) mark f = f
     has_it_failed log b Away mark f = f
 
     has_it_stays : (P : Batch → ℕ → Type 0) (log : LogFile D) (b : Batch) (new : StoreLog D) → log.mark ≡ b.to → Stays P (opened_with log (Some b)) new → ⊥
@@ -526,6 +520,14 @@ module _ {D : Type 0} (is_honest : D → Bool) (state : D → DiskState) where
         (r.0, r.1, r.2, r.3 ∙ ap mark_of (left_alone now mid waits left))
     goes_on now mid log (Some b) new honest shows left waits a = goes_on_with now mid log b new honest shows (waits_on now mid b shows.0 left waits) a
 
+    -- a log on which an append failed comes to rest with the batch in doubt or without
+    reopened_on : (now : LogNow) (old : FailedLog D) (log : LogFile D) → IsTrue (is_honest old.disk) → ShowsFailed state now old
+        → Reopened is_honest state failures old log
+        → (front : Contents) × MayLeaveFront now front × IsTrue (is_honest log.disk) × Shows state (at_rest front) (Open log)
+    reopened_on now old log honest shows opened =
+        let o = opened.has honest now.had shows.batch shows.first shows.failed in
+        (o.0, ⊎_elim inl (λ e. inr (shows.batch, shows.in_doubt, e)) o.1, subst IsTrue (sym opened.honest) honest, (refl, o.2))
+
     abbrev IsReopened : LogNow → Option Batch → StoreLog D → Type 0
     IsReopened now kept new =
         (mid next : LogNow) × ComesToRest now mid × Stands is_honest state next new × IsIn kept mid next × (drained_upto next new.kept ≡ drained_upto now kept)
@@ -535,9 +537,15 @@ module _ {D : Type 0} (is_honest : D → Bool) (state : D → DiskState) where
     reopens_at now (Open log) kept new honest shows waits a =
         let r = goes_on now now log kept new honest shows (inl refl) waits a in
         (now, r.0, record { rests = shows.0; left = inl refl }, r.1, r.2, r.3)
+    reopens_at now (Failed old) kept new honest shows waits a =
+        let o = reopened_on now old a.log honest shows a.opened in
+        let mid = at_rest o.0 in
+        let r = goes_on now mid a.log kept new o.2 o.3 o.1 waits a.appends in
+        (mid, r.0, record { rests = refl; left = o.1 }, r.1, r.2, r.3)
     reopens_at now (Closed disk) kept new honest shows waits a =
-        let o = opened_on now disk a.log a.front honest shows a.opened in
-        let mid = at_rest (contents_of a.front) in
+        let front = a.opened.0 in
+        let o = opened_on now disk a.log front honest shows a.opened.1 in
+        let mid = at_rest (contents_of front) in
         let r = goes_on now mid a.log kept new o.1 o.2 o.0 waits a.appends in
         (mid, r.0, record { rests = refl; left = o.0 }, r.1, r.2, r.3)
     reopens_at now Away kept new honest shows waits a = absurd honest
@@ -576,6 +584,45 @@ module _ {D : Type 0} (is_honest : D → Bool) (state : D → DiskState) where
           (λ mark same. no_turn mark disk new.slot (subst (λ r. FailsToOpen is_honest state failures r (Some disk) new.slot) same s.fails)),
         )
 
+    -- a log on which an append failed, and that is not opened, is as unsure as before
+    fails_again : (now : LogNow) (old : FailedLog D) (new : LogSlot D) → IsTrue (is_honest old.disk) → ShowsFailed state now old
+        → FailsAgain is_honest state failures old new → IsHonest is_honest new × Shows state now new
+    fails_again now old (Failed new) honest shows f = (
+      subst IsTrue (sym f.honest) honest,
+      record { batch = shows.batch; in_doubt = shows.in_doubt; first = shows.first; failed = f.still honest now.had shows.batch shows.first shows.failed },
+    )
+    fails_again now old (Open log) honest shows f = absurd f
+    fails_again now old (Closed disk) honest shows f = absurd f
+    fails_again now old Away honest shows f = absurd f
+
+    is_device : (e : Refusal) → e ≡ refusals.Device → ((number offset : ℕ) → e ≢ refusals.BadLog number offset) × ((mark : ℕ) → e ≢ refusals.WrongTurn mark)
+    is_device e told = ((λ number offset bad. absurd cc), (λ mark turn. absurd cc))
+
+    stays_shut : (now : LogNow) (e : Refusal) (old : FailedLog D) (kept : Option Batch) (new : StoreLog D) → IsTrue (is_honest old.disk)
+        → ShowsFailed state now old → WaitsIn now kept → StaysShut is_honest state failures e old kept new → IsNotReopened now kept e new
+    stays_shut now e old kept new honest shows waits s =
+        let f = fails_again now old new.slot honest shows s.fails in
+        let d = is_device e s.told in (
+          now,
+          now,
+          inl refl,
+          record { honest = f.0; shows = f.1; waits = subst (WaitsIn now) (sym s.waits) waits },
+          in_doubt_none kept now,
+          s.waits,
+          d.0,
+          d.1,
+        )
+
+    -- a log was opened, and is as what waits for it leaves it
+    keeps_opened : (now mid : LogNow) (e : Refusal) (log : LogFile D) (kept : Option Batch) (new : StoreLog D) → IsTrue (is_honest log.disk)
+        → Shows state mid (Open log) → MayLeaveFront now mid.had → mid.doubt ≡ None → WaitsIn now kept
+        → FailsToAppend is_honest state failures e (opened_with log kept) new → IsNotReopened now kept e new
+    keeps_opened now mid e log kept new honest shows left rests waits f =
+        let old = opened_with log kept in
+        let stands = keeps_on now mid e log kept new honest shows left waits f in
+        let k = fails_in mid e old new stands f in
+        (mid, k.0, inr (record { rests = rests; left = left }), k.1, k.2, k.3, never_bad e old new f, never_out_of_turn mid e old new stands f)
+
     not_reopened_at : (now : LogNow) (e : Refusal) (slot : LogSlot D) (kept : Option Batch) (new : StoreLog D) → IsHonest is_honest slot → Shows state now slot
         → WaitsIn now kept → FailsToReopenAt is_honest state failures e slot (record { slot = slot; kept = kept }) new → IsNotReopened now kept e new
     not_reopened_at now e (Open log) kept new honest shows waits f =
@@ -584,12 +631,13 @@ module _ {D : Type 0} (is_honest : D → Bool) (state : D → DiskState) where
         (now, k.0, inl refl, k.1, k.2, k.3, never_bad e (opened_with log kept) new f, never_out_of_turn now e (opened_with log kept) new stands f)
     not_reopened_at now e (Closed disk) kept new honest shows waits (inl s) = stays_closed now e disk kept new honest shows waits s
     not_reopened_at now e (Closed disk) kept new honest shows waits (inr o) =
-        let opened = opened_on now disk o.log o.front honest shows o.opened in
-        let mid = at_rest (contents_of o.front) in
-        let old = opened_with o.log kept in
-        let stands = keeps_on now mid e o.log kept new opened.1 opened.2 opened.0 waits o.fails in
-        let k = fails_in mid e old new stands o.fails in
-        (mid, k.0, inr (record { rests = refl; left = opened.0 }), k.1, k.2, k.3, never_bad e old new o.fails, never_out_of_turn mid e old new stands o.fails)
+        let front = o.opened.0 in
+        let opened = opened_on now disk o.log front honest shows o.opened.1 in
+        keeps_opened now (at_rest (contents_of front)) e o.log kept new opened.1 opened.2 opened.0 refl waits o.fails
+    not_reopened_at now e (Failed old) kept new honest shows waits (inl s) = stays_shut now e old kept new honest shows waits s
+    not_reopened_at now e (Failed old) kept new honest shows waits (inr o) =
+        let opened = reopened_on now old o.log honest shows o.opened in
+        keeps_opened now (at_rest opened.0) e o.log kept new opened.2 opened.3 opened.1 refl waits o.fails
     not_reopened_at now e Away kept new honest shows waits f = absurd honest
 
     pub fails_to_reopen : (now : LogNow) (e : Refusal) (old new : StoreLog D) → Stands is_honest state now old
@@ -625,9 +673,11 @@ crashed_on : (now : LogNow) (image : Bytes) (old : MemDisk) (new : LogSlot MemDi
     → IsCrashedTo image old new → Shows mem_state now new
 crashed_on now image old (Closed disk) shows found = (shows.0, crashed_closed now.had now.doubt image old disk shows.0 shows.1 found)
 crashed_on now image old (Open log) shows found = absurd found
+crashed_on now image old (Failed log) shows found = absurd found
 crashed_on now image old Away shows found = absurd found
 
 pub crashed : (now : LogNow) (image : Bytes) (old new : LogSlot MemDisk) → Shows mem_state now old → IsCrashedOn image (disk_in old) new → Shows mem_state now new
 crashed now image (Open log) new shows found = crashed_on now image log.disk new (open_shows (λ _. true) mem_state now log shows) found
+crashed now image (Failed log) new shows found = crashed_on now image log.disk new (failed_shows (λ _. true) mem_state now log shows) found
 crashed now image (Closed old) new shows found = crashed_on now image old new shows found
 crashed now image Away new shows found = absurd shows

@@ -15,7 +15,7 @@ use Rattle.mt_crashes.proofs.Members.{in_map, map_in, in_place, place_in}
 use Rattle.mt_crashes.proofs.FrontLaws.{greatest_below, upto_last, cutoff_upto_last}
 use Rattle.mt_crashes.proofs.Invariant.{within_place, one_there}
 use Rattle.mt_recover.specs.declared.resuming.LogSlot.{LogSlot}
-use Rattle.mt_recover.specs.declared.resuming.LogSlot.TheVariants.{Open, Closed, Away}
+use Rattle.mt_recover.specs.declared.resuming.LogSlot.TheVariants.{Open, Failed, Closed, Away}
 use Rattle.mt_recover.specs.Resumes.{IsOpenUpto}
 use Rattle.mt_store_logs.specs.declared.store_log.StoreLog.{StoreLog}
 use Rattle.mt_store_logs.specs.Places.{disk_in, Opens, OpensAs, OpensAll}
@@ -39,6 +39,7 @@ max_zero (suc n) = simp unary_clauses refl
 module _ {D : Type 0} (is_honest : D → Bool) (state : D → DiskState) (failures : D → ℕ) where
   is_contents : (disk : Option D) (slot : LogSlot D) (front : Front) → Opens is_honest state failures disk slot front → IsContents (contents_of front)
   is_contents (Some disk) (Open log) front opened = opened.contents
+  is_contents (Some disk) (Failed other) front opened = absurd opened
   is_contents (Some disk) (Closed other) front opened = absurd opened
   is_contents (Some disk) Away front opened = absurd opened
   is_contents None slot front opened = absurd opened
@@ -46,6 +47,7 @@ module _ {D : Type 0} (is_honest : D → Bool) (state : D → DiskState) (failur
   open_upto : (to : ℕ) (disk : Option D) (slot : LogSlot D) (front : Front) → Opens is_honest state failures disk slot front
       → mark_of (contents_of front) ≤ to → IsOpenUpto to slot
   open_upto to (Some disk) (Open log) front opened within = let mark = opened.mark in omega (arith, mark, within)
+  open_upto to (Some disk) (Failed other) front opened within = absurd opened
   open_upto to (Some disk) (Closed other) front opened within = absurd opened
   open_upto to (Some disk) Away front opened within = absurd opened
   open_upto to None slot front opened within = absurd opened

@@ -7,7 +7,7 @@ use Rattle.mt_log.specs.declared.batch.Front.{Front}
 use Rattle.mt_log.specs.declared.fault.OpenFault.TheVariants as opens
 use Rattle.mt_log.specs.Logs.{Created, Opened, GivesDiskBack}
 use Rattle.mt_recover.specs.declared.resuming.LogSlot.{LogSlot}
-use Rattle.mt_recover.specs.declared.resuming.LogSlot.TheVariants.{Open, Closed, Away}
+use Rattle.mt_recover.specs.declared.resuming.LogSlot.TheVariants.{Open, Failed, Closed, Away}
 use Rattle.mt_store_logs.specs.declared.fault.LogRefusal.{LogRefusal}
 use Rattle.mt_store_logs.specs.declared.store_log.StoreLog.{StoreLog}
 use Rattle.mt_store_logs.specs.Lists.{Each, StopsAt}
@@ -15,12 +15,14 @@ use Rattle.mt_store_logs.specs.Lists.{Each, StopsAt}
 -- the step up to which an open log goes
 abbrev pub mark_in : {D : Type 0} → LogSlot D → Option ℕ
 mark_in (Open log) = Some log.mark
+mark_in (Failed log) = None
 mark_in (Closed disk) = None
 mark_in Away = None
 
 -- the disk of a log
 abbrev pub disk_in : {D : Type 0} → LogSlot D → Option D
 disk_in (Open log) = Some log.disk
+disk_in (Failed log) = Some log.disk
 disk_in (Closed disk) = Some disk
 disk_in Away = None
 
@@ -40,7 +42,7 @@ module _ {D : Type 0} (is_honest : D → Bool) (state : D → DiskState) (failur
   -- it was not: it is closed, or there is none
   abbrev pub FailsToOpen : Refusal → Option D → LogSlot D → Type 0
   FailsToOpen e (Some old) (Closed disk) = FailsOn e old disk
-  FailsToOpen refusals.Device None Away = Unit {0}
+  FailsToOpen e None Away = e ≡ refusals.Device
   FailsToOpen e disk slot = ⊥
 
   -- a log was opened, and no batch waits for it

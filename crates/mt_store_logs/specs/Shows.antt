@@ -8,9 +8,11 @@ use Rattle.mt_log.specs.declared.batch.LogBatch.TheVariants.{Records}
 use Rattle.mt_log.specs.Contents.{Contents, IsContents, IsBatch, IsLogBatch, mark_of, with_batch}
 use Rattle.mt_log.specs.Fronts.{IsLeft}
 use Rattle.mt_log.specs.Logs.{IsLogOf}
+use Rattle.mt_log.specs.Failures.{IsFailedLogOf}
+use Rattle.mt_log.specs.declared.failed_log.FailedLog.{FailedLog}
 use Rattle.mt_crashes.specs.Stores.{LogNow, at_rest, MayLeaveFront}
 use Rattle.mt_recover.specs.declared.resuming.LogSlot.{LogSlot}
-use Rattle.mt_recover.specs.declared.resuming.LogSlot.TheVariants.{Open, Closed, Away}
+use Rattle.mt_recover.specs.declared.resuming.LogSlot.TheVariants.{Open, Failed, Closed, Away}
 use Rattle.mt_store_logs.specs.declared.store_log.StoreLog.{StoreLog}
 
 -- since some state a crash leaves of a disk the log with a batch or without
@@ -23,15 +25,24 @@ abbrev pub ShowsClosed : {D : Type 0} → (D → DiskState) → Contents → Opt
 ShowsClosed state had None disk = (b : LogBatch) → IsLogBatch b → LeavesEither state had b disk
 ShowsClosed state had (Some b) disk = IsLogBatch b × LeavesEither state had b disk
 
+-- what a log shows on which an append failed: the batch is in doubt, and it knows where it ends with that or without
+pub record ShowsFailed {D : Type 0} (state : D → DiskState) (now : LogNow) (log : FailedLog D) : Type 0 where
+  pub batch : LogBatch
+  pub in_doubt : now.doubt ≡ Some batch
+  pub first : DiskState
+  pub failed : IsFailedLogOf state now.had batch first log
+
 -- what a log shows: open it is at rest
 abbrev pub Shows : {D : Type 0} → (D → DiskState) → LogNow → LogSlot D → Type 0
 Shows state now (Open log) = (now.doubt ≡ None) × IsLogOf state now.had log
+Shows state now (Failed log) = ShowsFailed state now log
 Shows state now (Closed disk) = IsContents now.had × ShowsClosed state now.had now.doubt disk
 Shows state now Away = ⊥
 
 -- its disk keeps the rules
 abbrev pub IsHonest : {D : Type 0} → (D → Bool) → LogSlot D → Type 0
 IsHonest is_honest (Open log) = IsTrue (is_honest log.disk)
+IsHonest is_honest (Failed log) = IsTrue (is_honest log.disk)
 IsHonest is_honest (Closed disk) = IsTrue (is_honest disk)
 IsHonest is_honest Away = ⊥
 

@@ -8,9 +8,11 @@ use Rattle.mt_log.specs.declared.batch.Front.{Front}
 use Rattle.mt_log.specs.declared.batch.LogBatch.TheVariants.{Records}
 use Rattle.mt_log.specs.declared.log_file.LogFile.{LogFile}
 use Rattle.mt_log.specs.Contents.{IsBatch}
-use Rattle.mt_log.specs.Logs.{Appended, FailedIn, Opened}
+use Rattle.mt_log.specs.declared.failed_log.FailedLog.{FailedLog}
+use Rattle.mt_log.specs.Logs.{Appended, FailedAt, Opened}
+use Rattle.mt_log.specs.Failures.{Reopened, StaysFailed}
 use Rattle.mt_recover.specs.declared.resuming.LogSlot.{LogSlot}
-use Rattle.mt_recover.specs.declared.resuming.LogSlot.TheVariants.{Open, Closed}
+use Rattle.mt_recover.specs.declared.resuming.LogSlot.TheVariants.{Open, Failed, Closed}
 use Rattle.mt_store_logs.specs.declared.store_log.StoreLog.{StoreLog}
 use Rattle.mt_store_logs.specs.Places.{mark_in, FailsToOpen}
 
@@ -42,9 +44,9 @@ module _ {D : Type 0} (is_honest : D → Bool) (state : D → DiskState) (failur
   HasAppended b (Open old) (Open new) = (b.to ≢ old.mark) × IsBatch b × Appended is_honest state failures old (Records b) new
   HasAppended b old new = ⊥
 
-  -- its disk failed in that, and it is closed
+  -- its disk failed in that
   abbrev pub HasFailed : Batch → LogSlot D → LogSlot D → Type 0
-  HasFailed b (Open old) (Closed disk) = (b.to ≢ old.mark) × IsBatch b × FailedIn is_honest state failures old (Records b) disk
+  HasFailed b (Open old) (Failed new) = (b.to ≢ old.mark) × IsBatch b × FailedAt is_honest state failures old (Records b) new
   HasFailed b old new = ⊥
 
   -- an open log went up to the end of a batch before, and is as it was
@@ -92,38 +94,51 @@ module _ {D : Type 0} (is_honest : D → Bool) (state : D → DiskState) (failur
   abbrev pub FailsToAppendNew : Refusal → Batch → StoreLog D → StoreLog D → Type 0
   FailsToAppendNew e batch old new = FailsToAppend e (with_kept batch old) new ⊎ IsOutOfTurn e batch old new
 
-  -- a closed log was opened, and then the batch that waited is in it
-  pub record OpensAgain (disk : D) (kept : Option Batch) (new : StoreLog D) : Type 0 where
+  -- a log was opened, and then the batch that waited is in it
+  pub record OpensAgain (IsOpened : LogFile D → Type 0) (kept : Option Batch) (new : StoreLog D) : Type 0 where
     pub log : LogFile D
-    pub front : Front
-    pub opened : Opened is_honest state failures disk log front
+    pub opened : IsOpened log
     pub appends : AppendsKept (opened_with log kept) new
 
+  -- it was opened, but the batch still waits
+  pub record OpensButKeeps (IsOpened : LogFile D → Type 0) (e : Refusal) (kept : Option Batch) (new : StoreLog D) : Type 0 where
+    pub log : LogFile D
+    pub opened : IsOpened log
+    pub fails : FailsToAppend e (opened_with log kept) new
+
+  -- a closed log's front was read, whatever it is
+  abbrev pub IsRead : D → LogFile D → Type 0
+  IsRead disk log = (front : Front) × Opened is_honest state failures disk log front
+
+  -- a log on which an append failed is opened again by its ends, a closed one by its front
   abbrev pub ReopensAt : LogSlot D → StoreLog D → StoreLog D → Type 0
-  ReopensAt (Closed disk) old new = OpensAgain disk old.kept new
+  ReopensAt (Failed log) old new = OpensAgain (Reopened is_honest state failures log) old.kept new
+  ReopensAt (Closed disk) old new = OpensAgain (IsRead disk) old.kept new
   ReopensAt slot old new = AppendsKept old new
 
-  -- a log is open, closed before or not, and no batch waits for it
+  -- a log is open, whatever it was before, and no batch waits for it
   abbrev pub Reopens : StoreLog D → StoreLog D → Type 0
   Reopens old new = ReopensAt old.slot old new
 
-  -- it was not opened, and the batch waits
+  -- a closed log was not opened, and the batch waits
   pub record StaysClosed (e : Refusal) (disk : D) (kept : Option Batch) (new : StoreLog D) : Type 0 where
     pub waits : new.kept ≡ kept
     pub fails : FailsToOpen is_honest state failures e (Some disk) new.slot
 
-  -- it was, and the batch waits
-  pub record OpensButKeeps (e : Refusal) (disk : D) (kept : Option Batch) (new : StoreLog D) : Type 0 where
-    pub log : LogFile D
-    pub front : Front
-    pub opened : Opened is_honest state failures disk log front
-    pub fails : FailsToAppend e (opened_with log kept) new
+  -- the place of a log on which an append failed, and whose disk failed again
+  abbrev pub FailsAgain : FailedLog D → LogSlot D → Type 0
+  FailsAgain old (Failed new) = StaysFailed is_honest state failures old new
+  FailsAgain old new = ⊥
 
-  abbrev pub FailsToOpenAgain : Refusal → D → Option Batch → StoreLog D → Type 0
-  FailsToOpenAgain e disk kept new = StaysClosed e disk kept new ⊎ OpensButKeeps e disk kept new
+  -- it was not opened, and the batch waits
+  pub record StaysShut (e : Refusal) (log : FailedLog D) (kept : Option Batch) (new : StoreLog D) : Type 0 where
+    pub told : e ≡ refusals.Device
+    pub waits : new.kept ≡ kept
+    pub fails : FailsAgain log new.slot
 
   abbrev pub FailsToReopenAt : Refusal → LogSlot D → StoreLog D → StoreLog D → Type 0
-  FailsToReopenAt e (Closed disk) old new = FailsToOpenAgain e disk old.kept new
+  FailsToReopenAt e (Failed log) old new = StaysShut e log old.kept new ⊎ OpensButKeeps (Reopened is_honest state failures log) e old.kept new
+  FailsToReopenAt e (Closed disk) old new = StaysClosed e disk old.kept new ⊎ OpensButKeeps (IsRead disk) e old.kept new
   FailsToReopenAt e slot old new = FailsToAppend e old new
 
   -- why a log is not open, or a batch waits for it

@@ -52,6 +52,7 @@ fn may_leave_log(log: &StoreLog<MemDisk>, image: &[u8]) -> bool
 {
     match &log.slot {
         LogSlot::Open(file) => file.disk().may_leave(image),
+        LogSlot::Failed(log) => log.disk().may_leave(image),
         LogSlot::Closed(disk) => disk.may_leave(image),
         LogSlot::Away => false,
     }

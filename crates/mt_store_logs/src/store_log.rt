@@ -4,13 +4,13 @@ ghost use Rattle.std.specs.Prelude.{◌≡◌, ◌↔◌, ◌≢◌, None, Some,
 ghost use Rattle.mt_batches.specs.Batches.{IsBounded};
 ghost use Rattle.mt_log.specs.Contents.{IsBatch};
 ghost use Rattle.mt_recover.specs.declared.resuming.LogSlot.{LogSlot};
-ghost use Rattle.mt_recover.specs.declared.resuming.LogSlot.TheVariants.{Open, Closed};
+ghost use Rattle.mt_recover.specs.declared.resuming.LogSlot.TheVariants.{Open, Failed, Closed};
 ghost use Rattle.mt_store_logs.specs.Places.{mark_in, disk_in, Opens, FailsToOpen};
-ghost use Rattle.mt_store_logs.specs.Waits.{AppendsKept, FailsToAppend, AppendsNew, FailsToAppendNew, with_kept, Reopens, FailsToReopen, OpensAgain, FailsToOpenAgain};
+ghost use Rattle.mt_store_logs.specs.Waits.{AppendsKept, FailsToAppend, AppendsNew, FailsToAppendNew, with_kept, Reopens, FailsToReopen};
 
 use mt_disk::Disk;
 use mt_log::laws::a_bounded_batch_is_taken;
-use mt_log::{AppendFault, Front, LogFile, OpenFault};
+use mt_log::{AppendFault, FailedLog, Front, LogFile, OpenFault};
 use mt_recover::LogSlot;
 use mt_rows::{Batch, Refusal};
 use std::alloc::Global;
@@ -112,7 +112,7 @@ impl<D: Disk + Drop> StoreLog<D> {
     {
         match &self.slot {
             LogSlot::Open(log) => Some(log.mark()),
-            LogSlot::Closed(_) | LogSlot::Away => None,
+            LogSlot::Failed(_) | LogSlot::Closed(_) | LogSlot::Away => None,
         }
     }
 
@@ -124,8 +124,8 @@ impl<D: Disk + Drop> StoreLog<D> {
     }
 
     /// Appends the batch that is kept, if there is one, unless the log goes up to its end already. An error
-    /// keeps it; the log is as it was, but that it is closed where its disk failed. The log has the batch then
-    /// whole or not at all.
+    /// keeps it; the log is as it was, unless its disk failed. Then it has the batch whole or not at all, and
+    /// has to be opened again.
     pub fn append_kept(&mut self, alloc: Global) -> Result<(), Refusal>
         ensures ok { OnOk result (AppendsKept D.is_honest D.state D.failures self.old self.new) }
         ensures err { IfErr result (λ e. FailsToAppend D.is_honest D.state D.failures e self.old self.new) }
@@ -159,8 +159,8 @@ impl<D: Disk + Drop> StoreLog<D> {
         }
     }
 
-    /// Opens a closed log again, and appends the batch that is kept where the log does not have it. An error
-    /// keeps the batch.
+    /// Opens a log again that isn't open, and appends the batch that is kept unless the log has it. An error
+    /// keeps the batch. Only a `Closed` log is read.
     pub fn reopen(&mut self, alloc: Global) -> Result<(), Refusal>
         ensures ok { OnOk result (Reopens D.is_honest D.state D.failures self.old self.new) }
         ensures err { IfErr result (λ e. FailsToReopen D.is_honest D.state D.failures e self.old self.new) }
@@ -170,15 +170,33 @@ impl<D: Disk + Drop> StoreLog<D> {
                 self.slot = LogSlot::Open(file);
                 self.append_kept(alloc)
             }
-            LogSlot::Closed(disk) => self.reopen_on(alloc, disk),
+            LogSlot::Failed(log) => self.reopen_failed(alloc, log),
+            LogSlot::Closed(disk) => self.reopen_closed(alloc, disk),
             LogSlot::Away => self.append_kept(alloc),
         }
     }
 
-    // Opens the disk of a closed log again, into an empty place.
-    fn reopen_on(&mut self, alloc: Global, disk: D) -> Result<(), Refusal>
-        ensures ok { OnOk result (OpensAgain D.is_honest D.state D.failures disk self.old.kept self.new) }
-        ensures err { IfErr result (λ e. FailsToOpenAgain D.is_honest D.state D.failures e disk self.old.kept self.new) }
+    // Opens a log again on which an append failed, into an empty place.
+    fn reopen_failed(&mut self, alloc: Global, log: FailedLog<D>) -> Result<(), Refusal>
+        ensures ok { OnOk result (Reopens D.is_honest D.state D.failures (record { slot = Failed log; kept = self.old.kept }) self.new) }
+        ensures err { IfErr result (λ e. FailsToReopen D.is_honest D.state D.failures e (record { slot = Failed log; kept = self.old.kept }) self.new) }
+    {
+        match log.reopen() {
+            Ok(file) => {
+                self.slot = LogSlot::Open(file);
+                self.append_kept(alloc)
+            }
+            Err(log) => {
+                self.slot = LogSlot::Failed(log);
+                Err(Refusal::Device)
+            }
+        }
+    }
+
+    // Opens the disk of a closed log, into an empty place.
+    fn reopen_closed(&mut self, alloc: Global, disk: D) -> Result<(), Refusal>
+        ensures ok { OnOk result (Reopens D.is_honest D.state D.failures (record { slot = Closed disk; kept = self.old.kept }) self.new) }
+        ensures err { IfErr result (λ e. FailsToReopen D.is_honest D.state D.failures e (record { slot = Closed disk; kept = self.old.kept }) self.new) }
     {
         let _front = open_disk(alloc, disk, &mut self.slot)?;
         self.append_kept(alloc)
@@ -219,8 +237,8 @@ fn append_to<D: Disk + Drop>(alloc: Global, file: LogFile<D>, waiting: WaitingBa
             log: StoreLog::new(LogSlot::Open(file)),
             told: Ok(()),
         },
-        Err(AppendFault::Device(disk, batch)) => kept_by(
-            LogSlot::Closed(disk),
+        Err(AppendFault::Device(log, batch)) => kept_by(
+            LogSlot::Failed(log),
             batch,
             Refusal::Device,
         ),
@@ -258,12 +276,13 @@ pub(crate) fn take_disk<D: Disk + Drop>(slot: &mut LogSlot<D>) -> Option<D>
 {
     match mem::replace(slot, LogSlot::Away) {
         LogSlot::Open(log) => Some(log.into_disk()),
+        LogSlot::Failed(log) => Some(log.into_disk()),
         LogSlot::Closed(disk) => Some(disk),
         LogSlot::Away => None,
     }
 }
 
-// Opens a log's disk, also of an open log, and gives its front.
+// Opens a log's disk, whatever the log was, and gives its front.
 pub(crate) fn open_slot<D: Disk + Drop>(
     alloc: Global,
     slot: &mut LogSlot<D>,

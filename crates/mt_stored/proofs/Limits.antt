@@ -29,7 +29,7 @@ use Rattle.mt_crashes.proofs.Members.{no_some, in_filter, in_flat_map, in_place,
 use Rattle.mt_crashes.proofs.Invariant.{within_place}
 use Rattle.mt_recover.specs.Pairs.{Ascend}
 use Rattle.mt_recover.specs.declared.resuming.LogSlot.{LogSlot}
-use Rattle.mt_recover.specs.declared.resuming.LogSlot.TheVariants.{Open, Closed, Away}
+use Rattle.mt_recover.specs.declared.resuming.LogSlot.TheVariants.{Open, Failed, Closed, Away}
 use Rattle.mt_store_logs.specs.declared.store_log.StoreLog.{StoreLog}
 use Rattle.mt_store_logs.specs.Places.{disk_in, Opens, OpensAll}
 use Rattle.mt_store_logs.specs.Recovers.{no_checkpoints}
@@ -129,6 +129,7 @@ within_limits fronts cutoff resume used ps all r apart i p at =
 module _ {D : Type 0} (is_honest : D → Bool) (state : D → DiskState) (failures : D → ℕ) where
   opened_in_format : (disk : Option D) (slot : LogSlot D) (front : Front) → Opens is_honest state failures disk slot front → IsContents (contents_of front)
   opened_in_format (Some disk) (Open log) front opened = opened.contents
+  opened_in_format (Some disk) (Failed other) front opened = absurd opened
   opened_in_format (Some disk) (Closed other) front opened = absurd opened
   opened_in_format (Some disk) Away front opened = absurd opened
   opened_in_format None slot front opened = absurd opened

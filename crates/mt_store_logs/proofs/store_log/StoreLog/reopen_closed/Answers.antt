@@ -1,7 +1,7 @@
 -- The log is open, and then the batch that waited is in it or waits.
 use Rattle.std.proofs.lemmas.Result.{on_ok_weaker, IfErr-weaker}
 use Rattle.mt_store_logs.proofs.Reopening.{opens_again, opens_but_keeps}
-use Rattle.mt_store_logs.proofs.store_log.StoreLog.reopen_on.Goals as goal
+use Rattle.mt_store_logs.proofs.store_log.StoreLog.reopen_closed.Goals as goal
 
 pub returns-clause-ok : goal.returns-clause-ok
 returns-clause-ok g c =
