@@ -36,38 +36,41 @@ fn leaves(disk: &MemDisk, line: &str) -> bool {
 #[test]
 fn a_crash_leaves_what_is_durable_and_tears_the_rest(rt: HostRuntime) -> Result<(), Fail> {
     let alloc = rt.alloc();
-    // The calls on a disk where `abcd` is durable, the one that fails, and the first that a crash stops;
-    // what is read then, and a letter for each of the images.
-    for (calls, fail, stop, read, line) in [
-        ("", 0, 9, "abcd", "y..........."),
-        ("w", 0, 9, "aXYd", "yyyyyyy....."),
-        ("w", 1, 9, "abcd", "yyyyyyy....."),
-        ("c", 0, 9, "ab", "y....yyy.y.."),
-        ("c", 1, 9, "abcd", "y....yyy.y.."),
-        ("a", 0, 9, "abcdef", "y....yy....."),
-        ("a", 0, 1, "abcd", "y....yy....."),
-        ("wc", 0, 9, "aX", "yyyyyyyyyy.."),
-        ("wc", 0, 1, "abcd", "yyyyyyyyyy.."),
-        ("wc", 0, 2, "aXYd", "yyyyyyyyyy.."),
-        ("ws", 0, 9, "aXYd", ".y.........."),
-        ("ws", 1, 9, "abcd", "y..........."),
-        ("ws", 2, 9, "aXYd", "yyyyyyy....."),
-        ("ws", 0, 1, "abcd", "yyyyyyy....."),
-        ("ws", 0, 2, "aXYd", "yyyyyyy....."),
-        ("ws", 0, 3, "aXYd", ".y.........."),
+    // The calls on a disk where `abcd` is durable, the two that fail, 0 for none, and the first that a crash
+    // stops; what is read then, and a letter for each of the images.
+    for (calls, fail, other, stop, read, line) in [
+        ("", 0, 0, 9, "abcd", "y..........."),
+        ("w", 0, 0, 9, "aXYd", "yyyyyyy....."),
+        ("w", 1, 0, 9, "abcd", "yyyyyyy....."),
+        ("c", 0, 0, 9, "ab", "y....yyy.y.."),
+        ("c", 1, 0, 9, "abcd", "y....yyy.y.."),
+        ("a", 0, 0, 9, "abcdef", "y....yy....."),
+        ("a", 0, 0, 1, "abcd", "y....yy....."),
+        ("wc", 0, 0, 9, "aX", "yyyyyyyyyy.."),
+        ("wc", 0, 0, 1, "abcd", "yyyyyyyyyy.."),
+        ("wc", 0, 0, 2, "aXYd", "yyyyyyyyyy.."),
+        ("ws", 0, 0, 9, "aXYd", ".y.........."),
+        ("ws", 1, 0, 9, "abcd", "y..........."),
+        ("ws", 2, 0, 9, "aXYd", "yyyyyyy....."),
+        ("wss", 2, 0, 9, "aXYd", ".y.........."),
+        ("wss", 2, 3, 9, "aXYd", "yyyyyyy....."),
+        ("ws", 0, 0, 1, "abcd", "yyyyyyy....."),
+        ("ws", 0, 0, 2, "aXYd", "yyyyyyy....."),
+        ("ws", 0, 0, 3, "aXYd", ".y.........."),
     ] {
-        let mut disk = MemDisk::with_image(alloc, b"abcd".to_vec(alloc)?, Some(fail), Some(stop))?;
+        let (image, fails) = (b"abcd".to_vec(alloc)?, [fail, other].to_vec(alloc)?);
+        let mut disk = MemDisk::with_image(alloc, image, fails, Some(stop))?;
         call_all(&mut disk, calls);
         assert!(rt;
             disk.image() == read.as_bytes() && leaves(&disk, line),
-            "after {calls}, {fail} failing, stopped at {stop}"
+            "after {calls}, {fail} and {other} failing, stopped at {stop}"
         );
     }
     Ok(())
 }
 
 // Whether of ten calls those fail that are told to, and no others.
-fn fails_as_told(disk: &mut MemDisk, fail: u64, stop: u64) -> bool {
+fn fails_as_told(disk: &mut MemDisk, fails: &[u64], stop: u64) -> bool {
     let mut out = [0; 2];
     for call in 1..11 {
         let ok = match call % 5 {
@@ -77,7 +80,7 @@ fn fails_as_told(disk: &mut MemDisk, fail: u64, stop: u64) -> bool {
             4 => disk.cut(3).is_ok(),
             _ => disk.sync().is_ok(),
         };
-        if ok != (call != fail && call < stop) {
+        if ok != (!fails.contains(&call) && call < stop) {
             return false;
         }
     }
@@ -85,18 +88,22 @@ fn fails_as_told(disk: &mut MemDisk, fail: u64, stop: u64) -> bool {
 }
 
 #[test]
-fn each_call_fails_where_it_is_told(rt: HostRuntime) {
+fn each_call_fails_where_it_is_told(rt: HostRuntime) -> Result<(), Fail> {
     let alloc = rt.alloc();
     // A first write that fails leaves too little to read, so it isn't in the list.
     for fail in [0, 2, 3, 4, 5, 6, 7, 8, 9, 10] {
-        for stop in 1..12 {
-            let mut disk = MemDisk::new(alloc, Some(fail), Some(stop));
-            assert!(rt; fails_as_told(&mut disk, fail, stop), "{fail}, {stop}");
+        for other in [0, 3, 4, 10] {
+            for stop in 1..12 {
+                let fails = [fail, other];
+                let mut disk = MemDisk::new(alloc, fails.to_vec(alloc)?, Some(stop));
+                assert!(rt; fails_as_told(&mut disk, &fails, stop), "{fails:?}, {stop}");
+            }
         }
     }
     let mut failures = 1;
     count_failure(&mut failures);
     assert_eq!(rt; failures, 2);
+    Ok(())
 }
 
 // Whether a new disk keeps what is written, cut to `abcdeXY`.
@@ -138,7 +145,7 @@ fn mark_of_many(alloc: Global, disk: FileDisk) -> u64 {
 #[test]
 fn a_file_keeps_what_was_written(rt: HostRuntime) -> Result<(), Fail> {
     let alloc = rt.alloc();
-    assert!(rt; keeps_what_is_written(&mut MemDisk::new(alloc, None, None)));
+    assert!(rt; keeps_what_is_written(&mut MemDisk::new(alloc, Vec::new(alloc), None)));
     let (folder, path) = ("mt_log_tests_files", "mt_log_tests_files/wal-02");
     let _ = fs::remove_dir_all(&rt, folder);
     fs::create_dir(&rt, folder)?;

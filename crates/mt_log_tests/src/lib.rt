@@ -13,4 +13,6 @@ mod failing;
 #[cfg(test)]
 mod logs;
 #[cfg(test)]
+mod reopening;
+#[cfg(test)]
 mod vectors;

@@ -27,7 +27,7 @@ pub enum Told {
 }
 
 /// A batch over step `from` and up to step `to`: one put of tenant 7, key 6b, column 76, at this step.
-fn put_batch(alloc: Global, from: u64, to: u64, stamp: u64) -> Result<Batch, AllocError>
+pub fn put_batch(alloc: Global, from: u64, to: u64, stamp: u64) -> Result<Batch, AllocError>
     ensures { IfOk result IsBatch }
 {
     let mut columns = Vec::new(alloc);
@@ -98,7 +98,7 @@ fn append_batch<D: Disk>(
             Err((log.into_disk(), Told::Turn(batch.from, mark)))
         }
         Err(AppendFault::Memory(log, _)) => Err((log.into_disk(), Told::Memory)),
-        Err(AppendFault::Device(disk, _)) => Err((disk, Told::Device)),
+        Err(AppendFault::Device(log, _)) => Err((log.into_disk(), Told::Device)),
     }
 }
 
@@ -182,7 +182,12 @@ pub fn opened_on<D: Disk>(alloc: Global, disk: D) -> (D, Told) {
 
 /// A disk on which this image is durable, one call of which fails, and all from another on.
 pub fn disk_with(alloc: Global, image: &[u8], fail: u64, stop: u64) -> Result<MemDisk, AllocError> {
-    MemDisk::with_image(alloc, image.to_vec(alloc)?, Some(fail), Some(stop))
+    MemDisk::with_image(
+        alloc,
+        image.to_vec(alloc)?,
+        [fail].to_vec(alloc)?,
+        Some(stop),
+    )
 }
 
 /// What comes of opening a file with these bytes.

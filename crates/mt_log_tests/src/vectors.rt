@@ -79,11 +79,11 @@ fn resumed(alloc: Global, log: LogFile<MemDisk>) -> (MemDisk, Told) {
 #[test]
 fn the_vector_is_written_and_read(rt: HostRuntime) -> Result<(), Fail> {
     let alloc = rt.alloc();
-    let (disk, told) = made(alloc, MemDisk::new(alloc, None, None), 0);
+    let (disk, told) = made(alloc, MemDisk::new(alloc, Vec::new(alloc), None), 0);
     assert!(rt; told == Told::Front(9, 2) && disk.image() == VECTOR.as_slice());
     assert_eq!(rt; front_of(alloc, disk)?.as_str(), FRONT);
     assert!(rt; has_stamps(alloc, disk_with(alloc, &VECTOR, 0, 99)?, &[5])?);
-    let (_disk, told) = made(alloc, MemDisk::new(alloc, None, None), 2);
+    let (_disk, told) = made(alloc, MemDisk::new(alloc, Vec::new(alloc), None), 2);
     assert!(rt; told == Told::Turn(2, 0));
     Ok(())
 }
@@ -91,10 +91,11 @@ fn the_vector_is_written_and_read(rt: HostRuntime) -> Result<(), Fail> {
 // A creation makes three calls, an append four, an opening five and one for each batch. What one wrote
 // before it failed is found by a later opening, where all of it was written.
 #[test]
-fn a_call_that_fails_gives_the_disk_back(rt: HostRuntime) {
+fn a_call_that_fails_gives_the_disk_back(rt: HostRuntime) -> Result<(), Fail> {
     let alloc = rt.alloc();
     for fail in 1..19 {
-        let (disk, told) = made(alloc, MemDisk::new(alloc, Some(fail), None), 0);
+        let disk = MemDisk::new(alloc, [fail].to_vec(alloc)?, None);
+        let (disk, told) = made(alloc, disk, 0);
         assert!(rt; told == Told::Device, "{fail} failing: {told:?}");
         let (_disk, told) = opened_on(alloc, disk);
         let want = match fail {
@@ -105,6 +106,7 @@ fn a_call_that_fails_gives_the_disk_back(rt: HostRuntime) {
         };
         assert!(rt; told == want, "{fail} failing: then {told:?}");
     }
+    Ok(())
 }
 
 // What an opening tells of the vector with one byte changed.
@@ -253,7 +255,7 @@ fn where_memory_is_there_no_batch_and_no_length_is_told_memory(
     rt: HostRuntime,
 ) -> Result<(), Fail> {
     let alloc = rt.alloc();
-    let (_disk, told) = made_without_records(alloc, MemDisk::new(alloc, None, None));
+    let (_disk, told) = made_without_records(alloc, MemDisk::new(alloc, Vec::new(alloc), None));
     assert!(rt; told == Told::Front(3, 1));
     // A file of more than 1 MB.
     let mut image = EMPTY.to_vec(alloc)?;

@@ -1,5 +1,7 @@
 //! Stores with a log that is older than the others: a copy that was put back, or a log made anew.
 
+ghost use Rattle.std.specs.Prelude.{◌<◌};
+
 use self::Part::{Resume, UpTo};
 use crate::logs::{Change, Log, append, new_log, recover_over, resume_all};
 use mt_disk::MemDisk;
@@ -147,15 +149,22 @@ fn append_part(alloc: Global, log: &mut Log, worker: u8, part: Part) -> Result<(
     }
 }
 
+// The log of a worker, with these parts.
+fn log_of(alloc: Global, worker: u8, parts: &[Part]) -> Result<Log, Refusal>
+    requires { worker < 3 }
+{
+    let mut log = new_log(MemDisk::new(alloc, Vec::new(alloc), None), worker, 3)?;
+    for part in parts {
+        append_part(alloc, &mut log, worker, *part)?;
+    }
+    Ok(log)
+}
+
 // The step up to which a store with these logs is recovered.
 fn cutoff_of(alloc: Global, store: [&[Part]; 3]) -> Result<u64, Refusal> {
     let mut logs = Vec::new(alloc);
     for worker in 0..3 {
-        let mut log = new_log(MemDisk::new(alloc, None, None), worker, 3)?;
-        for part in store[usize::from(worker)] {
-            append_part(alloc, &mut log, worker, *part)?;
-        }
-        logs.push(log)?;
+        logs.push(log_of(alloc, worker, store[usize::from(worker)])?)?;
     }
     let recovered = recover_over(alloc, &mut logs, [None, None], 8)?;
     Ok(recovered.cutoff)

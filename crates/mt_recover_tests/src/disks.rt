@@ -7,7 +7,8 @@ use std::test::Fail;
 // A disk where `abcd` is durable, its third call fails, and all from `stop` on. It crashes behind its first
 // call, which is a write.
 fn crashed(alloc: Global, stop: u64) -> Result<MemDisk, AllocError> {
-    let mut disk = MemDisk::with_image(alloc, b"abcd".to_vec(alloc)?, Some(3), Some(stop))?;
+    let (image, fails) = (b"abcd".to_vec(alloc)?, [3].to_vec(alloc)?);
+    let mut disk = MemDisk::with_image(alloc, image, fails, Some(stop))?;
     let _ = disk.write_at(1, b"XY");
     let image = b"a??d".to_vec(alloc)?;
     if disk.may_leave(&image) {

@@ -121,17 +121,17 @@ pub fn new_log(disk: MemDisk, worker: u8, logs: u8) -> Result<Log, Refusal>
 
 /// A closed log with these bytes.
 pub fn log_with(alloc: Global, image: Vec<u8>) -> Result<Log, Refusal> {
-    let disk = MemDisk::with_image(alloc, image, None, None)?;
+    let disk = MemDisk::with_image(alloc, image, Vec::new(alloc), None)?;
     Ok(LogSlot::Closed(disk))
 }
 
-// The log behind an append, closed where its disk failed.
+// The log after an append, failed if its disk did.
 fn append_batch(alloc: Global, open: LogFile<MemDisk>, batch: Batch) -> (Log, Result<(), Refusal>)
     requires { IsBatch batch }
 {
     match open.append(alloc, batch) {
         Ok(open) => (LogSlot::Open(open), Ok(())),
-        Err(AppendFault::Device(disk, _)) => (LogSlot::Closed(disk), Err(Refusal::Device)),
+        Err(AppendFault::Device(log, _)) => (LogSlot::Failed(log), Err(Refusal::Device)),
         Err(AppendFault::Memory(open, _)) => (LogSlot::Open(open), Err(Refusal::Memory)),
         Err(AppendFault::WrongTurn(open, _, mark)) => {
             (LogSlot::Open(open), Err(Refusal::WrongTurn(mark)))
@@ -139,7 +139,7 @@ fn append_batch(alloc: Global, open: LogFile<MemDisk>, batch: Batch) -> (Log, Re
     }
 }
 
-/// Appends to an open log what its worker placed since its mark, up to a step. It is closed where its disk
+/// Appends to an open log what its worker placed since its mark, up to a step. It is `Failed` if its disk
 /// fails.
 pub fn append(
     alloc: Global,
@@ -162,7 +162,7 @@ pub fn append(
 pub fn mark_of(log: &Log) -> Option<u64> {
     match log {
         LogSlot::Open(open) => Some(open.mark()),
-        LogSlot::Closed(_) | LogSlot::Away => None,
+        LogSlot::Failed(_) | LogSlot::Closed(_) | LogSlot::Away => None,
     }
 }
 
@@ -170,6 +170,7 @@ pub fn mark_of(log: &Log) -> Option<u64> {
 pub fn disk_of(log: &mut Log) -> Result<MemDisk, Refusal> {
     match mem::replace(log, LogSlot::Away) {
         LogSlot::Open(open) => Ok(open.into_disk()),
+        LogSlot::Failed(log) => Ok(log.into_disk()),
         LogSlot::Closed(disk) => Ok(disk),
         LogSlot::Away => Err(Refusal::NoStore),
     }
@@ -247,7 +248,7 @@ fn is_open_up_to(log: &Log, to: u64) -> bool
 {
     match log {
         LogSlot::Open(open) => open.mark() <= to,
-        LogSlot::Closed(_) | LogSlot::Away => false,
+        LogSlot::Failed(_) | LogSlot::Closed(_) | LogSlot::Away => false,
     }
 }
 

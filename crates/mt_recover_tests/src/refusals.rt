@@ -62,7 +62,7 @@ fn image_with(alloc: Global, worker: u8, stamps: [u64; 2]) -> Result<Vec<u8>, Re
         used: None,
         pairs: Vec::new(alloc),
     };
-    let mut log = new_log(MemDisk::new(alloc, None, None), worker, 3)?;
+    let mut log = new_log(MemDisk::new(alloc, Vec::new(alloc), None), worker, 3)?;
     append(alloc, &mut log, &history, worker, 6)?;
     resume_all(alloc, slice::from_mut(&mut log), &recovered)?;
     append(alloc, &mut log, &history, worker, 9)?;

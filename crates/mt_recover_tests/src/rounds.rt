@@ -74,7 +74,7 @@ fn history(alloc: Global) -> Result<Vec<Change>, AllocError> {
 fn log_of(alloc: Global, history: &[Change], worker: u8) -> Result<Log, Refusal>
     requires { worker < 3 }
 {
-    let mut log = new_log(MemDisk::new(alloc, None, None), worker, 3)?;
+    let mut log = new_log(MemDisk::new(alloc, Vec::new(alloc), None), worker, 3)?;
     for to in [12, ENDS[usize::from(worker)], 45] {
         append(alloc, &mut log, history, worker, to)?;
     }

@@ -68,7 +68,7 @@ impl Store {
         let mut marks = Vec::new(alloc);
         for worker in 0..workers {
             let (fail, stop) = (chance.between(4, 90), chance.between(4, 150));
-            let disk = MemDisk::new(alloc, Some(fail), Some(stop));
+            let disk = MemDisk::new(alloc, [fail].to_vec(alloc)?, Some(stop));
             logs.push(new_log(disk, worker, workers)?)?;
             marks.push(0)?;
         }
@@ -136,7 +136,7 @@ impl Store {
         let (Some(log), Some(mark)) = (self.logs.get_mut(place), self.marks.get_mut(place)) else {
             return Err(Refusal::NoStore);
         };
-        if let LogSlot::Closed(_) = log {
+        if mark_of(log).is_none() {
             let _front = open(self.alloc, log)?;
             *mark = mark_of(log).unwrap_or(*mark);
         }

@@ -61,7 +61,7 @@ fn recovered(rt: &impl Abort, alloc: Global, image: &[u8]) -> Store<MemDisk>
     let mut tenants = no_tenants(alloc);
     assert!(rt; tenants.add(7, 100).is_ok());
     let image = image.to_vec(alloc).expect(rt, "memory");
-    let disk = MemDisk::with_image(alloc, image, None, None).expect(rt, "memory");
+    let disk = MemDisk::with_image(alloc, image, Vec::new(alloc), None).expect(rt, "memory");
     let mut disks = Vec::new(alloc);
     assert!(rt; disks.push(disk).is_ok());
     match Store::recover(alloc, disks, tenants) {
@@ -76,7 +76,7 @@ fn image_of(rt: &impl Abort, alloc: Global, store: Store<MemDisk>) -> Vec<u8> {
     assert_eq!(rt; logs.len(), 1);
     match logs[0].slot() {
         LogSlot::Open(log) => log.disk().image().to_vec(alloc).expect(rt, "memory"),
-        LogSlot::Closed(_) | LogSlot::Away => panic!(rt; "the log is closed"),
+        LogSlot::Failed(_) | LogSlot::Closed(_) | LogSlot::Away => panic!(rt; "the log is closed"),
     }
 }
 
@@ -189,17 +189,18 @@ where
 fn what_was_put_is_in_the_log(rt: HostRuntime) {
     let alloc = rt.alloc();
     let scenes = [
-        (Scene::Settles, None),
-        (Scene::Leaves, None),
-        (Scene::SettlesTwice, Some(4)),
-        (Scene::SettlesTwice, Some(5)),
-        (Scene::SettlesTwice, Some(6)),
-        (Scene::SettlesTwice, Some(7)),
+        (Scene::Settles, 0),
+        (Scene::Leaves, 0),
+        (Scene::SettlesTwice, 4),
+        (Scene::SettlesTwice, 5),
+        (Scene::SettlesTwice, 6),
+        (Scene::SettlesTwice, 7),
     ];
     for (scene, fail) in scenes {
-        let store = new_store(&rt, alloc, MemDisk::new(alloc, fail, None));
+        let fails = [fail].to_vec(alloc).expect(&rt, "memory");
+        let store = new_store(&rt, alloc, MemDisk::new(alloc, fails, None));
         let left = serve_scene::<Brand, _, _>(&rt, alloc, Blank::new(65_536), store, scene);
-        assert_eq!(rt; image_of(&rt, alloc, left).as_slice(), LOG, "{fail:?}");
+        assert_eq!(rt; image_of(&rt, alloc, left).as_slice(), LOG, "{fail}");
     }
 }
 

@@ -35,8 +35,16 @@ fn new_store(rt: &impl Abort, alloc: Global) -> Store<MemDisk>
     let mut tenants = no_tenants(alloc);
     assert!(rt; tenants.add(7, 100).is_ok());
     let mut disks = Vec::new(alloc);
-    assert!(rt; disks.push(MemDisk::new(alloc, None, None)).is_ok());
-    assert!(rt; disks.push(MemDisk::new(alloc, None, None)).is_ok());
+    assert!(rt;
+        disks
+            .push(MemDisk::new(alloc, Vec::new(alloc), None))
+            .is_ok()
+    );
+    assert!(rt;
+        disks
+            .push(MemDisk::new(alloc, Vec::new(alloc), None))
+            .is_ok()
+    );
     match Store::create(alloc, disks, tenants) {
         Ok(store) => store,
         Err(_) => panic!(rt; "no store is made"),
@@ -85,9 +93,11 @@ fn closed_again(
     for log in &logs {
         let image = match log.slot() {
             LogSlot::Open(log) => log.disk().image().to_vec(alloc)?,
-            LogSlot::Closed(_) | LogSlot::Away => panic!(rt; "a log is closed"),
+            LogSlot::Failed(_) | LogSlot::Closed(_) | LogSlot::Away => panic!(rt;
+                "a log is closed"
+            ),
         };
-        let disk = MemDisk::with_image(alloc, image, None, None)?;
+        let disk = MemDisk::with_image(alloc, image, Vec::new(alloc), None)?;
         closed.push(StoreLog::closed(disk))?;
     }
     Ok(closed)

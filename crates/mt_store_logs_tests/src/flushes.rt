@@ -1,13 +1,17 @@
 //! A worker's changes on their way into its log.
 
 use crate::changes::rows_of;
-use crate::stores::{Failure, Store, unless_device};
+use crate::stores::{Failures, Store, unless_device};
 use mt_rows::Refusal;
 use std::alloc::Global;
 use std::test::Fail;
 
 // No disk has this number.
-const NONE: Failure = Failure { disk: 9, call: 0 };
+const NONE: Failures = Failures {
+    disk: 9,
+    first: 0,
+    second: 0,
+};
 
 #[test]
 fn a_store_flushes_and_is_recovered(rt: HostRuntime) -> Result<(), Fail> {
@@ -38,7 +42,12 @@ fn a_store_flushes_and_is_recovered(rt: HostRuntime) -> Result<(), Fail> {
 // What is told of a flush whose disk fails, of one behind it, of the log opened again, and of a last flush; and how
 // many batches the log has then.
 fn told(alloc: Global, call: u64) -> Result<(Option<u64>, bool, Option<u64>, usize), Refusal> {
-    let mut store = Store::new(alloc, 1, Failure { disk: 0, call })?;
+    let failures = Failures {
+        disk: 0,
+        first: call,
+        second: 0,
+    };
+    let mut store = Store::new(alloc, 1, failures)?;
     store.history.place(0, 1)?;
     let first = unless_device(store.flush(0))?;
     store.history.place(0, 2)?;
@@ -63,5 +72,43 @@ fn a_batch_that_waited_is_appended_once(rt: HostRuntime) -> Result<(), Fail> {
         );
     }
     assert!(rt; told(alloc, 0)? == (Some(1), false, Some(1), 2));
+    Ok(())
+}
+
+// Whether a log is opened again behind a flush that fails, while this call fails too; and up to which step it goes, once
+// it is opened again behind a second flush, which fails, and how many batches it has behind a third one.
+fn told_twice(alloc: Global, call: u64) -> Result<(bool, Option<u64>, usize), Refusal> {
+    let failures = Failures {
+        disk: 0,
+        first: 4,
+        second: call,
+    };
+    let mut store = Store::new(alloc, 1, failures)?;
+    store.history.place(0, 1)?;
+    let first = unless_device(store.flush(0))?;
+    let is_open = unless_device(store.reopen(0))?.is_some();
+    store.history.place(0, 2)?;
+    let second = unless_device(store.flush(0))?;
+    store.reopen(0)?;
+    let mark = store.mark(0);
+    if first.is_some() || second.is_some() || store.keeps(0) || store.flush(0)? != 2 {
+        return Err(Refusal::NoStore);
+    }
+    let batches = store.batches(0)?;
+    Ok((is_open, mark, batches))
+}
+
+// The log is opened again by the calls 5 to 12, the second flush makes the calls 13 to 16.
+#[test]
+fn batches_that_waited_for_two_calls_are_appended_once(rt: HostRuntime) -> Result<(), Fail> {
+    let alloc = rt.alloc();
+    for call in 5..17 {
+        let is_open = call > 12;
+        let mark = if is_open { 2 } else { 1 };
+        assert!(rt;
+            told_twice(alloc, call)? == (is_open, Some(mark), 2),
+            "call {call}"
+        );
+    }
     Ok(())
 }

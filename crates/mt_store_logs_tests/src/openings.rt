@@ -1,6 +1,6 @@
 //! Which log is told where some are not made or opened; and crashes.
 
-use crate::stores::{Failure, Store, closed_logs, create, images_of, mark_of};
+use crate::stores::{Failures, Store, closed_logs, create, images_of, mark_of};
 use mt_disk::MemDisk;
 use mt_rows::{Refusal, Tenants};
 use mt_store_logs::{LogRefusal, StoreLog, crash_logs, open_logs, recover_logs};
@@ -15,7 +15,12 @@ fn told(log: Option<usize>, refusal: Refusal) -> LogRefusal {
 fn the_log_that_is_not_made_is_told(rt: HostRuntime) -> Result<(), Fail> {
     let alloc = rt.alloc();
     for disk in 0..3 {
-        let mut logs = closed_logs(alloc, 3, Failure { disk, call: 2 })?;
+        let failures = Failures {
+            disk,
+            first: 2,
+            second: 0,
+        };
+        let mut logs = closed_logs(alloc, 3, failures)?;
         assert!(rt; create(&mut logs) == Err(told(Some(disk), Refusal::Device)));
         for (place, log) in logs.iter().enumerate() {
             assert!(rt; log.mark().is_some() == (place < disk), "{disk}, {place}");
@@ -27,7 +32,8 @@ fn the_log_that_is_not_made_is_told(rt: HostRuntime) -> Result<(), Fail> {
 
 // A closed log with these bytes.
 fn log_with(alloc: Global, image: Vec<u8>) -> Result<StoreLog<MemDisk>, Refusal> {
-    Ok(StoreLog::closed(MemDisk::with_image(alloc, image, None, None)?))
+    let disk = MemDisk::with_image(alloc, image, Vec::new(alloc), None)?;
+    Ok(StoreLog::closed(disk))
 }
 
 // So many bytes of an image.
@@ -61,7 +67,11 @@ fn logs_with(
     len: usize,
     other: usize,
 ) -> Result<Vec<StoreLog<MemDisk>>, Refusal> {
-    let none = Failure { disk: 9, call: 0 };
+    let none = Failures {
+        disk: 9,
+        first: 0,
+        second: 0,
+    };
     let store = Store::new(alloc, 3, none)?;
     let images = images_of(alloc, &store.logs)?;
     let mut logs = Vec::new(alloc);
@@ -112,7 +122,12 @@ fn the_log_that_is_not_opened_is_told(rt: HostRuntime) -> Result<(), Fail> {
 fn a_crash_takes_every_disk_or_none(rt: HostRuntime) -> Result<(), Fail> {
     let alloc = rt.alloc();
     // The fifth call, an append's first sync, fails: so a crash may leave the batch staged or not.
-    let mut store = Store::new(alloc, 2, Failure { disk: 1, call: 5 })?;
+    let failures = Failures {
+        disk: 1,
+        first: 5,
+        second: 0,
+    };
+    let mut store = Store::new(alloc, 2, failures)?;
     let empty = images_of(alloc, &store.logs)?;
     store.history.place(0, 1)?;
     store.history.place(1, 1)?;

@@ -18,11 +18,12 @@ pub struct Store {
     pub history: History,
 }
 
-/// Which call of which disk fails.
+/// Which two calls of which disk fail, 0 where none does.
 #[derive(Clone, Copy, Debug)]
-pub struct Failure {
+pub struct Failures {
     pub disk: usize,
-    pub call: u64,
+    pub first: u64,
+    pub second: u64,
 }
 
 /// What was left of a result.
@@ -34,20 +35,20 @@ pub fn unless_device<T: Drop>(answer: Result<T, Refusal>) -> Result<Option<T>, R
     }
 }
 
-/// Closed logs on empty disks, one call of one of which fails.
+/// Closed logs on empty disks, some calls of one of which fail.
 pub fn closed_logs(
     alloc: Global,
     workers: usize,
-    failure: Failure,
+    failures: Failures,
 ) -> Result<Vec<StoreLog<MemDisk>>, Refusal> {
     let mut logs = Vec::new(alloc);
     for disk in 0..workers {
-        let fail = if disk == failure.disk {
-            Some(failure.call)
+        let fails = if disk == failures.disk {
+            [failures.first, failures.second].to_vec(alloc)?
         } else {
-            None
+            Vec::new(alloc)
         };
-        logs.push(StoreLog::closed(MemDisk::new(alloc, fail, None)))?;
+        logs.push(StoreLog::closed(MemDisk::new(alloc, fails, None)))?;
     }
     Ok(logs)
 }
@@ -69,6 +70,7 @@ pub fn images_of(alloc: Global, logs: &[StoreLog<MemDisk>]) -> Result<Vec<Vec<u8
     for log in logs {
         let image = match log.slot() {
             LogSlot::Open(open) => open.disk().image().to_vec(alloc)?,
+            LogSlot::Failed(log) => log.disk().image().to_vec(alloc)?,
             LogSlot::Closed(disk) => disk.image().to_vec(alloc)?,
             LogSlot::Away => return Err(Refusal::NoStore),
         };
@@ -79,8 +81,8 @@ pub fn images_of(alloc: Global, logs: &[StoreLog<MemDisk>]) -> Result<Vec<Vec<u8
 
 impl Store {
     /// A store without changes.
-    pub fn new(alloc: Global, workers: usize, failure: Failure) -> Result<Store, Refusal> {
-        let mut logs = closed_logs(alloc, workers, failure)?;
+    pub fn new(alloc: Global, workers: usize, failures: Failures) -> Result<Store, Refusal> {
+        let mut logs = closed_logs(alloc, workers, failures)?;
         match create(&mut logs) {
             Ok(()) => Ok(Store {
                 alloc,

@@ -1,4 +1,5 @@
-//! A list of events stopped at every call of a disk, with each call failing once, and with a growth refused.
+//! Lists of events stopped at every call of a disk, with each call failing once, with two calls failing, and with
+//! a growth refused.
 
 use crate::asked::Row;
 use crate::runs::{AMPLE, Fate, Noted, run};
@@ -58,6 +59,23 @@ const FLUSHES: [Row; 17] = [
     Row::Get(5, "a"),
 ];
 
+// Two flushes of a log, each with the log opened again behind it, and a Settle.
+fn again(log: usize) -> [Row; 10] {
+    let worker = if log == 1 { 1 } else { 0 };
+    [
+        Row::Put(1, worker, "a", "1"),
+        Row::Flush(worker),
+        Row::Reopen(worker),
+        Row::Put(2, worker, "b", "1"),
+        Row::Flush(worker),
+        Row::Reopen(worker),
+        Row::Settle,
+        Row::Next,
+        Row::Next,
+        Row::Get(3, "b"),
+    ]
+}
+
 // The greatest number that was settled before a row.
 fn settled_before(noted: &[Noted], place: usize) -> u64 {
     let mut greatest = 0;
@@ -97,7 +115,8 @@ fn a_store_stopped_at_any_call_comes_back(rt: HostRuntime) -> Result<(), Fail> {
         for stop in 1..54 {
             let fate = Fate {
                 disk,
-                fail: 0,
+                first: 0,
+                second: 0,
                 stop,
             };
             assert!(rt; comes_back(&rt, alloc, fate), "{fate:?}");
@@ -109,7 +128,7 @@ fn a_store_stopped_at_any_call_comes_back(rt: HostRuntime) -> Result<(), Fail> {
 // Whether a Settle ends with the number of the last step, behind flushes of which one may have failed.
 fn settles(rt: &impl Abort, alloc: Global, fate: Fate) -> bool {
     let Some(noted) = run(rt, alloc, fate, &FLUSHES) else {
-        return fate.fail <= 3;
+        return fate.first <= 3;
     };
     let last = noted.get(6).map(|told| told.1);
     noted
@@ -121,13 +140,54 @@ fn settles(rt: &impl Abort, alloc: Global, fate: Fate) -> bool {
 fn a_settle_ends_behind_a_call_that_failed(rt: HostRuntime) -> Result<(), Fail> {
     let alloc = rt.alloc();
     for disk in [0, 1] {
-        for fail in 1..40 {
+        for first in 1..40 {
             let fate = Fate {
                 disk,
-                fail,
+                first,
+                second: 0,
                 stop: 0,
             };
             assert!(rt; settles(&rt, alloc, fate), "{fate:?}");
+        }
+    }
+    Ok(())
+}
+
+fn fails_at(noted: &[Noted], place: usize) -> bool {
+    noted.get(place).is_some_and(|told| told.0 == "device")
+}
+
+// Whether a Settle ends with the number of the last step, behind two calls that failed.
+fn settles_again(rt: &impl Abort, alloc: Global, fate: Fate) -> bool {
+    let rows = again(fate.disk);
+    let Some(noted) = run(rt, alloc, fate, &rows) else {
+        return false;
+    };
+    let failed = fails_at(&noted, 1) && (fails_at(&noted, 2) || fails_at(&noted, 4));
+    let last = noted.get(3).map(|told| told.1);
+    let settles = noted
+        .get(8)
+        .is_some_and(|told| told.0 == "settled" && Some(told.1) == last);
+    failed && settles && noted.get(9).is_some_and(|told| told.0 == "found")
+}
+
+// The first flush makes the calls 4 to 7. A later one fails in the reopening behind it, or in the flush behind that.
+#[test]
+fn a_settle_ends_behind_two_calls_that_failed(rt: HostRuntime) -> Result<(), Fail> {
+    let alloc = rt.alloc();
+    for disk in [0, 1] {
+        for first in 4..8 {
+            // After the last of them the batch counts, and isn't appended again.
+            let last = if first == 7 { 15 } else { first + 12 };
+            for second in first + 1..last + 1 {
+                let fate = Fate {
+                    disk,
+                    first,
+                    second,
+                    stop: 0,
+                };
+                assert!(rt; settles_again(&rt, alloc, fate), "{fate:?}");
+            }
         }
     }
     Ok(())

@@ -1,5 +1,5 @@
 //! Tests of `mt_store`: runs with two workers and crashes, stopped at every call of a disk, with each call of a
-//! disk failing once, and with a growth refused.
+//! disk failing once, with two failing, and with a growth refused.
 //!
 //! They stand in a crate of their own, since a crate with tests is proved twice.
 #![tactic(auto)]

@@ -14,18 +14,20 @@ use mt_store_logs::StoreLog;
 use std::alloc::Global;
 use std::process::Abort;
 
-/// Which call of which disk fails, and which one its disk stops at, 0 where none does.
+/// Which two calls of which disk fail, and which one its disk stops at, 0 where none does.
 #[derive(Clone, Copy, Debug)]
 pub(crate) struct Fate {
     pub disk: usize,
-    pub fail: u64,
+    pub first: u64,
+    pub second: u64,
     pub stop: u64,
 }
 
 /// Nothing fails.
 pub(crate) const AMPLE: Fate = Fate {
     disk: 9,
-    fail: 0,
+    first: 0,
+    second: 0,
     stop: 0,
 };
 
@@ -108,20 +110,17 @@ fn disks(rt: &impl Abort, alloc: Global, fate: Fate) -> Vec<MemDisk>
     ensures { length result.items ≡ 2 }
 {
     let mut disks = Vec::new(alloc);
-    assert!(rt; disks.push(disk(alloc, fate, 0)).is_ok());
-    assert!(rt; disks.push(disk(alloc, fate, 1)).is_ok());
+    assert!(rt; disks.push(disk(rt, alloc, fate, 0)).is_ok());
+    assert!(rt; disks.push(disk(rt, alloc, fate, 1)).is_ok());
     disks
 }
 
-fn disk(alloc: Global, fate: Fate, place: usize) -> MemDisk {
+fn disk(rt: &impl Abort, alloc: Global, fate: Fate, place: usize) -> MemDisk {
     if place == fate.disk {
-        MemDisk::new(
-            alloc,
-            Some(fate.fail).filter(|call| *call > 0),
-            Some(fate.stop).filter(|call| *call > 0),
-        )
+        let fails = [fate.first, fate.second].to_vec(alloc).expect(rt, "memory");
+        MemDisk::new(alloc, fails, Some(fate.stop).filter(|call| *call > 0))
     } else {
-        MemDisk::new(alloc, None, None)
+        MemDisk::new(alloc, Vec::new(alloc), None)
     }
 }
 
@@ -131,6 +130,7 @@ fn images_of(rt: &impl Abort, alloc: Global, logs: &[StoreLog<MemDisk>]) -> Vec<
     for log in logs {
         let image = match log.slot() {
             LogSlot::Open(open) => open.disk().image().to_vec(alloc),
+            LogSlot::Failed(log) => log.disk().image().to_vec(alloc),
             LogSlot::Closed(disk) => disk.image().to_vec(alloc),
             LogSlot::Away => panic!(rt; "a disk is away"),
         };

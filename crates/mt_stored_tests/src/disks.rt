@@ -20,22 +20,29 @@ pub(crate) struct FlakyDisk {
     calls: u64,
     fails: Fails,
     failures: u64,
+    bytes_read: u64,
 }
 
 impl FlakyDisk {
     /// An empty disk.
     pub(crate) fn new(alloc: Global, fails: Fails) -> Self {
         FlakyDisk {
-            disk: MemDisk::new(alloc, None, None),
+            disk: MemDisk::new(alloc, Vec::new(alloc), None),
             calls: 0,
             fails,
             failures: 0,
+            bytes_read: 0,
         }
     }
 
     /// What a read gives.
     pub(crate) fn image(&self) -> &[u8] {
         self.disk.image()
+    }
+
+    /// How many bytes its reads have asked for.
+    pub(crate) fn bytes_read(&self) -> u64 {
+        self.bytes_read
     }
 
     // Counts a call; whether it fails.
@@ -77,6 +84,7 @@ impl Disk for FlakyDisk {
     }
 
     fn read(&mut self, at: usize, out: &mut [u8]) -> Result<(), DeviceFailed> {
+        self.bytes_read = self.bytes_read.saturating_add(out.len() as u64);
         let told = if self.fails() {
             Err(DeviceFailed)
         } else {

@@ -37,6 +37,7 @@ pub(crate) fn tenant_7(rt: &impl Abort, alloc: Global) -> Tenants
 pub(crate) fn image_of(alloc: Global, log: &StoreLog<FlakyDisk>) -> Result<Vec<u8>, Refusal> {
     match log.slot() {
         LogSlot::Open(file) => Ok(file.disk().image().to_vec(alloc)?),
+        LogSlot::Failed(log) => Ok(log.disk().image().to_vec(alloc)?),
         LogSlot::Closed(disk) => Ok(disk.image().to_vec(alloc)?),
         LogSlot::Away => Err(Refusal::NoStore),
     }
@@ -46,7 +47,7 @@ pub(crate) fn image_of(alloc: Global, log: &StoreLog<FlakyDisk>) -> Result<Vec<u
 fn logs_of(alloc: Global, images: Vec<Vec<u8>>) -> Result<Vec<StoreLog<MemDisk>>, Refusal> {
     let mut logs = Vec::new(alloc);
     for image in images {
-        let disk = MemDisk::with_image(alloc, image, None, None)?;
+        let disk = MemDisk::with_image(alloc, image, Vec::new(alloc), None)?;
         logs.push(StoreLog::closed(disk))?;
     }
     Ok(logs)

@@ -9,6 +9,7 @@ use log::sink::Locked;
 use log::{Level, Log, Logged};
 use mt_book::{Book, open_pass};
 use mt_options::TenantQuota;
+use mt_recover::LogSlot;
 use mt_rows::Refusal;
 use mt_service::DeskCaller;
 use mt_store_logs::StoreLog;
@@ -138,6 +139,8 @@ enum Act {
     Closed(usize),
     /// A log is open.
     Open(usize),
+    /// So many bytes of a log have been read, in all.
+    Read(usize, u64),
 }
 
 // The least step up to which one of the logs goes, if all are open.
@@ -155,6 +158,16 @@ fn is_open<R: Wait>(rt: &R, logs: &[Mutex<StoreLog<FlakyDisk>>], log: usize) -> 
     match logs.get(log) {
         Some(log) => log.lock(rt).mark().is_some(),
         None => false,
+    }
+}
+
+// How many bytes of a log have been read, if it is there.
+fn bytes_read<R: Wait>(rt: &R, logs: &[Mutex<StoreLog<FlakyDisk>>], log: usize) -> Option<u64> {
+    match logs.get(log)?.lock(rt).slot() {
+        LogSlot::Open(log) => Some(log.disk().bytes_read()),
+        LogSlot::Failed(log) => Some(log.disk().bytes_read()),
+        LogSlot::Closed(disk) => Some(disk.bytes_read()),
+        LogSlot::Away => None,
     }
 }
 
@@ -212,6 +225,7 @@ fn comes_out<L: Ledger, R: Wait + Log + Abort>(
         },
         Act::Closed(log) => !is_open(rt, logs, log),
         Act::Open(log) => is_open(rt, logs, log),
+        Act::Read(log, bytes) => bytes_read(rt, logs, log) == Some(bytes),
     }
 }
 
@@ -302,8 +316,8 @@ fn each_log_has_its_own_workers_changes_once(rt: HostRuntime) {
 }
 
 // The disk of log 1 fails four times in a row: at the append of the first Settle, and then at the first call of
-// each opening. Worker 1 has its 1,024th answer after that.
-const OWN_OPENS: [Act; 15] = [
+// each opening. Worker 1 has its 1,024th answer after that. Of the log no more is read than the gate at its end.
+const OWN_OPENS: [Act; 16] = [
     Act::Puts(0, 10),
     Act::Puts(1, 10),
     Act::Fails(0),
@@ -317,6 +331,7 @@ const OWN_OPENS: [Act; 15] = [
     Act::Closed(1),
     Act::Puts(1, 1_009),
     Act::Open(1),
+    Act::Read(1, 1),
     Act::Puts(0, 1),
     Act::Settles(0),
 ];
@@ -335,13 +350,14 @@ const OTHER_OPENS: [Act; 8] = [
 
 // The disk of log 1 fails ten times in a row, while worker 1 puts more than two batches take. Its next turn opens
 // the log, and all of that goes into it.
-const CATCHES_UP: [Act; 8] = [
+const CATCHES_UP: [Act; 9] = [
     Act::Puts(1, 10),
     Act::Fails(0),
     Act::Puts(1, 10_000),
     Act::Closed(1),
     Act::Puts(1, 1_024),
     Act::Open(1),
+    Act::Read(1, 1),
     Act::Puts(0, 1),
     Act::Settles(0),
 ];
