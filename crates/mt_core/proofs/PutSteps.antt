@@ -38,7 +38,7 @@ use Rattle.mt_version.specs.Parts.{Parts}
 use Rattle.mt_arena.proofs.OneLink.{leads}
 use Rattle.std.proofs.lemmas.Bool.{both_ways}
 use Rattle.mt_insert.specs.Placing.{walk_placed}
-use Rattle.mt_insert.specs.Judge.{IsMadeReady, MeetsLink, MeetsOther, after_judge}
+use Rattle.mt_insert.specs.Judge.{IsMadeReady, MeetsLink, MeetsOther, StandsIn, after_judge}
 use Rattle.mt_insert.specs.KeptPuts.{IsAtPublish, IsAtStore}
 use Rattle.mt_insert.specs.Publish.{IsPublish, IsPublishFull}
 use Rattle.mt_insert.specs.Store.{IsStore}
@@ -373,10 +373,11 @@ module _ (c now : Core) (o : ℕ) (is : c ≡ now) (h : StateInvariant c) where
 
     pub refused_leads : IsNext now o (λ q. q ≡ Judge) → (x : Operation) → operation_at c.table o ≡ Some x → x.outcome ≡ None
         → (arena : ArenaView) (tape : Kept) (w : Walk) (told : Outcome) (table : Table) → IsUnlock o c.arena arena x.walk w
+        → (slot : Option ℕ) → StandsIn (at c.arena x.walk.place.node) x.task.key x.walk.layer slot
         → Writes c.table table o (λ y. noted (moved y (c.steps + 1) w) (Some told)) → Leads (shown now) (shown (made c arena tape c.accounts table)) o
-    refused_leads next x there untold arena tape w told table t writes =
+    refused_leads next x there untold arena tape w told table t slot stands writes =
         leads_over c o h x there Judge (phase_is c now o (λ q. q ≡ Judge) is x there next) now is arena tape c.accounts table _ (over_first c.table table o (λ y. noted (moved y (c.steps + 1) w) (Some told)) x there writes) w
-        (judges_none untold (inr (inr (inr (inr t.walk))))) refl refl
+        (judges_none untold (inr (inr (inr (inr (inr (record { slot = slot; stands = stands; goes = t.walk }))))))) refl refl
 
   -- what taking out what an operation has ready ensures
   abbrev TakesOut : Table → Prepared → Type 0

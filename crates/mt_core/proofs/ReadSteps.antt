@@ -268,7 +268,7 @@ module _ (c now : Core) (o : ℕ) (is : c ≡ now) (h : StateInvariant c) (room 
       → (table : Table) → table ≡ led after.walk after.outcome → (answer : Move) → answer ≡ ending after.walk.phase → StepGives table answer
   load_gives arena at_load after t table e answer ends = elim t.told [
     | inl (same, shows) ↦ taken same shows
-    | inr (same, says) ↦ stopped same says
+    | inr (same, some, says) ↦ stopped same some says
   ]
     where
       same_now : Continues op.walk t.walk
@@ -286,13 +286,13 @@ module _ (c now : Core) (o : ℕ) (is : c ≡ now) (h : StateInvariant c) (room 
           (goes_at Load at_load t.walk (record { row = t.row; taken = t.walk; loads = t.loads; goes = inl refl }))
           table (e ∙ ap (λ (x : Walk). led x after.outcome) same))
 
-      stopped : after.walk ≡ record t.walk { phase = Done } → Says after.outcome NoMemory (c.steps + 1) → StepGives table answer
-      stopped same says =
+      stopped : after.walk ≡ record t.walk { phase = Done } → t.row ≢ None → Says after.outcome NoMemory (c.steps + 1) → StepGives table answer
+      stopped same some says =
           let walk : Walk = record t.walk { phase = Done } in
           subst (StepGives table) (sym (ends ∙ ap (λ (x : Walk). ending x.phase) same))
           (done_gives walk (Some (record { reply = NoMemory; at = c.steps + 1 }))
           (load_stopped c (shown now) o (ap shown is) h room arena op there at_load walk refl (record { aim = same_now.aim; first = same_now.first }))
-          (goes_at Load at_load walk (record { row = t.row; taken = t.walk; loads = t.loads; goes = inr refl }))
+          (goes_at Load at_load walk (record { row = t.row; taken = t.walk; loads = t.loads; goes = inr (some, refl) }))
           table (e ∙ ap (λ (x : Walk). led x after.outcome) same ∙ ap (led walk) says))
 
   -- what the step of a body gives, by what the body tells
@@ -376,7 +376,7 @@ module _ (c now : Core) (o : ℕ) (is : c ≡ now) (h : StateInvariant c) (room 
   loaded_first : (step : ℕ) (after : Operation) → TellsLoaded c.arena step op after → after.walk.first ≡ op.walk.first
   loaded_first step after t = walk_first t.told ∙ ap (λ (w : Walk). w.first) t.loads.is
     where
-      walk_first : ((after.walk ≡ t.walk) × ShowsTaken op t.row t.walk after.outcome) ⊎ ((after.walk ≡ record t.walk { phase = Done }) × Says after.outcome NoMemory step)
+      walk_first : ((after.walk ≡ t.walk) × ShowsTaken op t.row t.walk after.outcome) ⊎ ((after.walk ≡ record t.walk { phase = Done }) × (t.row ≢ None) × Says after.outcome NoMemory step)
           → after.walk.first ≡ t.walk.first
       walk_first (inl told) = ap (λ (w : Walk). w.first) told.0
       walk_first (inr told) = ap (λ (w : Walk). w.first) told.0
@@ -393,8 +393,8 @@ module _ (c now : Core) (o : ℕ) (is : c ≡ now) (h : StateInvariant c) (room 
   look_first Search step after t = t.same.first
   look_first Load step after t = loaded_first step after t
   look_first Confirm step after t = t.same.first
-  look_first Snap step after t = elim t [ inl sees ↦ sees.same.first | inr stops ↦ stopped_first step after stops ]
-  look_first Check step after t = elim t [ inl compares ↦ compares.same.first | inr stops ↦ stopped_first step after stops ]
+  look_first Snap step after t = elim t [ inl sees ↦ sees.same.first | inr stops ↦ stopped_first step after stops.1 ]
+  look_first Check step after t = elim t [ inl compares ↦ compares.same.first | inr stops ↦ stopped_first step after stops.1 ]
   look_first Hop step after t = t.same.first
   look_first _ step after t = absurd (let no_step : ◌≡◌ {A = Made} Step Nothing = t.0 in cc)
 

@@ -169,7 +169,7 @@ module _ (c now : Core) (o : ℕ) (is : c ≡ now) (h : StateInvariant c) (few :
         (subst (λ (r : Outcome). Gives (shown c) (made c arena c.tape c.accounts (set c.table o (Some (noted (moved x (c.steps + 1) w) (Some r))))) o true) (sym says)
         (drop_missing c o h few_here x there at_judge untold (removal_of c o h x there removes) removes arena w t))))
         (leads_over c o h x there Judge at_judge now is arena tape c.accounts table _ (over_first c.table table o (λ y. noted (moved y (c.steps + 1) w) (Some told)) x there writes) w
-        (judges_none untold (inr (inr (inr (inr t.unlocks.walk))))) refl refl)
+        (judges_none untold (inr (inr (inr (inr (inl (record { found = t.found; finds = t.finds; absent = t.absent; goes = t.unlocks.walk }))))))) refl refl)
 
   -- Judge on the way back: a link is followed, or there is none
   module _ (next : IsNext now o (λ q. q ≡ Judge)) (told : x.outcome ≢ None) where

@@ -58,6 +58,7 @@ module _ (c : Core) (h : StateInvariant c) where
         (view_of w.0, shown_there c.table o w.0 w.1, holder_open w.0.walk.phase w.0 k w.2);
     quotas = h.quotas;
     written = written_inside;
+    stamps = h.stamps;
   }
 
 -- all that a state tells is right

@@ -162,7 +162,7 @@ module _ (c now : Core) (o : ℕ) (is : c ≡ now) (h : StateInvariant c) (room 
         (came_table after op.task after.walk op.outcome after.scan sees.others table e))
     | inr stops ↦
         stop_comes Snap at_snap (λ scan. snap_stopped c o h few op there at_snap op.task.key stored refl (walk_done op.walk) scan refl (record { aim = refl; first = refl }))
-        (λ scan. inr refl) (λ scan. tt) after stops table e answer ends
+        (λ scan. inr (stops.0, refl)) (λ scan. tt) after stops.1 table e answer ends
   ]
 
   -- one that compares its version
@@ -233,7 +233,7 @@ module _ (c now : Core) (o : ℕ) (is : c ≡ now) (h : StateInvariant c) (room 
       ]
       | inr stops ↦
           stop_comes Check at_check (λ scan. check_stopped c o h few op there at_check op.task.key stored refl (walk_done op.walk) scan refl (record { aim = refl; first = refl }))
-          (λ scan. inr refl) (λ scan. tt) after stops table e answer ends
+          (λ scan. inr (stops.0, refl)) (λ scan. tt) after stops.1 table e answer ends
     ]
 
   pub may_compare : op.walk.phase ≡ Check → MayCompare c.arena op

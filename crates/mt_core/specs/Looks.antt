@@ -25,8 +25,8 @@ use Rattle.mt_descent.specs.WalkMoves.{Continues, FindsIn, Loads, Confirms, afte
 use Rattle.mt_operation.specs.Tasks.{ask}
 use Rattle.mt_operation.specs.Operations.{SplitsView, splits_of, scan_of}
 use Rattle.mt_insert.specs.Unlock.{walk_done}
-use Rattle.mt_scan.specs.Snaps.{prefix_in, IsSnap}
-use Rattle.mt_scan.specs.Checks.{Asks, MayCheck, IsCheck}
+use Rattle.mt_scan.specs.Snaps.{prefix_in, AreSettled, IsSnap}
+use Rattle.mt_scan.specs.Checks.{Asks, MayCheck, IsUnchanged, IsCheck}
 use Rattle.mt_scan.specs.Hops.{IsAtCheck, KeptHop, KeptScan, HopsTo}
 use Rattle.mt_state.specs.Calls.{IsStillScan}
 use Rattle.mt_state.specs.Promises.{IsInTheWay}
@@ -82,13 +82,13 @@ pub record TellsSearched (v : ArenaView) (step : ℕ) (op after : Operation) : T
   pub missing : after.walk.phase ≡ Confirm → after ≡ led_to op after.walk (Some (record { reply = Absent; at = step }))
   pub there : after.walk.phase ≢ Confirm → after ≡ led_to op after.walk op.outcome
 
--- a load by the step of this number: what it took is shown, and is to be confirmed; or there was no memory for it
+-- a load by the step of this number: what it took is shown, and is to be confirmed; or a row was there, and no memory to show it
 pub record TellsLoaded (v : ArenaView) (step : ℕ) (op after : Operation) : Type 0 where
   pub row : Option Columns
   pub walk : Walk
   pub loads : Loads (at v op.walk.place.node) op.walk walk row
   pub others : after ≡ led_to op after.walk after.outcome
-  pub told : ((after.walk ≡ walk) × ShowsTaken op row walk after.outcome) ⊎ ((after.walk ≡ record walk { phase = Done }) × Says after.outcome NoMemory step)
+  pub told : ((after.walk ≡ walk) × ShowsTaken op row walk after.outcome) ⊎ ((after.walk ≡ record walk { phase = Done }) × (row ≢ None) × Says after.outcome NoMemory step)
 
 -- a confirmation: what was noted is answered where the get is done, and is forgotten where it goes on
 pub record TellsConfirmed (v : ArenaView) (op after : Operation) : Type 0 where
@@ -129,7 +129,7 @@ pub record Sees (v : ArenaView) (op after : Operation) : Type 0 where
   pub others : after ≡ record op { walk = after.walk; scan = after.scan }
 
 abbrev pub TellsSnapped : ArenaView → ℕ → Operation → Operation → Type 0
-TellsSnapped v step op after = Sees v op after ⊎ IsStopped step op after
+TellsSnapped v step op after = Sees v op after ⊎ (AreSettled (at v op.walk.place.node) (scan_of op.task op.scan) op.walk.layer × IsStopped step op after)
 
 -- it has kept or dropped what it has seen, with this task and this of what it remembers: it goes on with both, or is done and shows what it has collected
 pub record Compares (v : ArenaView) (step : ℕ) (op after : Operation) : Type 0 where
@@ -145,7 +145,7 @@ pub record Compares (v : ArenaView) (step : ℕ) (op after : Operation) : Type 0
       → after ≡ record op { walk = after.walk; task = task; outcome = Some (record { reply = Pairs scan.collected.items; at = step }); scan = after.scan }
 
 abbrev pub TellsCompared : ArenaView → ℕ → Operation → Operation → Type 0
-TellsCompared v step op after = Compares v step op after ⊎ IsStopped step op after
+TellsCompared v step op after = Compares v step op after ⊎ (IsUnchanged (at v op.walk.place.node) op.walk × IsStopped step op after)
 
 -- it has come to where it goes on
 pub record TellsHopped (v : ArenaView) (op after : Operation) : Type 0 where

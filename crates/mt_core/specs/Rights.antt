@@ -10,14 +10,16 @@ use Rattle.mt_tape.specs.declared.entry.Entry.{Entry as TapeEntry}
 use Rattle.mt_tape.specs.Tapes.{RisesOver, last_write}
 use Rattle.mt_tape.specs.Histories.{IsLegalTape}
 use Rattle.mt_remove.specs.Writes.{is_remove}
-use Rattle.mt_arena.specs.Accesses.{at}
+use Rattle.mt_border.specs.Contents.{AllStamped}
+use Rattle.mt_arena.specs.Contents.{counts}
+use Rattle.mt_arena.specs.Accesses.{at, tree_of}
 use Rattle.mt_operation.specs.declared.outcome.Outcome.{Outcome}
 use Rattle.mt_operation.specs.Operations.{OperationView}
 use Rattle.mt_operation.specs.Phases.{is_done}
 use Rattle.mt_state.specs.Views.{StateView, contents_of, op_at}
 use Rattle.mt_state.specs.Steps.{change_in}
 use Rattle.mt_state.specs.Promises.{IsAnswer, HasStep}
-use Rattle.mt_state.specs.Invariant.{AreLogs, made_count}
+use Rattle.mt_state.specs.Invariant.{AreLogs, IsStampOf, made_count}
 use Rattle.mt_state.specs.Written.{KeepsQuotas, IsWritten, row_left}
 
 -- the steps of the tape rise over its floor and were made, each entry tells what its step did to a user's key, and it goes back as far as the logs need it
@@ -51,6 +53,11 @@ pub record IsRightAccount (v : StateView) (tenant : ℕ) (account : Account) : T
   pub count : account.count ≡ len (tenant_map tenant (contents_of v))
   pub quota : account.count ≤ account.quota
 
+-- each pair that counts has the stamp of the step that placed it
+abbrev pub AreRightStamps : StateView → Type 0
+AreRightStamps v =
+    (k : ℕ) → k < length v.arena.nodes → counts v.arena.trees (at v.arena k) ≡ true → AllStamped (IsStampOf v.steps v.tape) (tree_of v.arena k).prefix (at v.arena k).slots
+
 -- All of it; each answer that was taken, and each operation that has made a step, made one of its own; who holds a node is an operation that has a
 -- step left; every map since the tape's floor keeps its quota; and each entry of the tape is made by a change, also once its operation was taken.
 pub record IsRightState (v : StateView) : Type 0 where
@@ -61,3 +68,4 @@ pub record IsRightState (v : StateView) : Type 0 where
   pub holders : (k o : ℕ) → k < length v.arena.nodes → (at v.arena k).holder ≡ Some o → HasStep v o
   pub quotas : KeepsQuotas v
   pub written : (e : TapeEntry) → Contains v.tape.entries e → IsWritten v e
+  pub stamps : AreRightStamps v

@@ -1,7 +1,7 @@
 //! The steps of an operation that holds nothing: where it goes down, what a get takes, and what a scan
 //! collects.
 
-ghost use Rattle.std.specs.Prelude.{◌≡◌, ◌≢◌, ◌+◌, ℕ, List, Option, Some, None, IfOk, IfSome, IfNone};
+ghost use Rattle.std.specs.Prelude.{◌≡◌, ◌≢◌, ◌+◌, ℕ, List, Option, Some, None, IfOk, OnErr, IfSome, IfNone};
 ghost use Rattle.std.specs.Option.{option_map};
 ghost use Rattle.mt_rows.specs.Rows.{shown as columns_shown};
 ghost use Rattle.mt_rows.specs.Commands.{HasColumns};
@@ -237,11 +237,12 @@ fn stop(operation: &mut Operation, step: u64)
     operation.outcome = Some(no_memory(step));
 }
 
-// What a get answers that took this row, if it took one.
+// What a get answers that took this row, if it took one. An error comes only of a row.
 fn shown(alloc: Global, row: Option<&Row>, request: &Request) -> Result<Option<Reply>, AllocError>
     requires columns { HasColumns (command_of request.now) }
     ensures { IfOk result (λ reply. (asked : List ℕ) → columns_asked (command_of request.now) ≡ Some asked →
         reply ≡ option_map (λ r. Reply.Found (columns_shown asked r.now)) row.entry) }
+    ensures row_on_err { OnErr result (row.entry ≢ None) }
 {
     match (row, request) {
         (Some(row), Request::Get { columns, .. }) => Ok(Some(Reply::Found(row.shown(

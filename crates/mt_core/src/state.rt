@@ -199,7 +199,8 @@ impl State {
     /// What holds of every state: its tape is legal, and goes back before the first step of each open
     /// operation; a finished one's reply is right at its number; a change that was placed has its entry;
     /// the accounts count the pairs, and every map since the tape's floor keeps its quota; each entry of
-    /// the tape is made by a change; who holds a node is an operation that has a step left.
+    /// the tape is made by a change; who holds a node is an operation that has a step left. Each pair has the
+    /// stamp of the step that placed it.
     pub fn facts(&self)
         ensures { IsRightState self.now }
     {

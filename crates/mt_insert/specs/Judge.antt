@@ -72,9 +72,15 @@ pub record MeetsLink (op : ℕ) (key : Bytes) (old new : ArenaView) (before afte
   pub goes : GoesInto op tree old new before after
   pub kept : IsAtEnter new key after
 
+-- there is no memory for the step that places the put, in the slot that has its key or in one that is wanted: the lock was given back
+pub record IsShort (op : ℕ) (key : Bytes) (old new : ArenaView) (before after : Walk) : Type 0 where
+  pub slot : Option ℕ
+  pub stands : StandsIn (at old before.place.node) key before.layer slot
+  pub unlocks : IsUnlock op old new before after
+
 -- what a put's look at its border node tells: without memory the lock was given back; room on the tape is taken only where all was made ready
 abbrev pub TellsJudged : ℕ → Task → ArenaView → ArenaView → Kept → Kept → Walk → Walk → Judged → Type 0
 TellsJudged op task old new tape taped before after (Ready prepared) = IsMadeReady op task old new tape taped before after prepared
 TellsJudged op task old new tape taped before after GoesOn =
     (taped ≡ tape) × (MeetsOther op task.key old new before after ⊎ MeetsLink op task.key old new before after)
-TellsJudged op task old new tape taped before after NoMemory = (taped ≡ tape) × IsUnlock op old new before after
+TellsJudged op task old new tape taped before after NoMemory = (taped ≡ tape) × IsShort op task.key old new before after

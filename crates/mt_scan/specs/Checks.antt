@@ -72,6 +72,10 @@ GoesBehind prefix (stops.Next slice) s is w x = (is ≡ at_fence s (least_from p
 GoesBehind prefix stops.Tree s is w x = (GoesBehindTree prefix s is × (x ≡ walk_to Hop w)) ⊎ (AreGreatest prefix × (is ≡ s) × (x ≡ walk_to Done w))
 GoesBehind prefix stops.Tenant s is w x = (is ≡ s) × (x ≡ walk_to Done w)
 
+-- the node is unmarked, and its version is the one that the walk remembers, but for the lock
+abbrev pub IsUnchanged : NodeView → Walk → Type 0
+IsUnchanged n w = IsStable n.version × SameButLock n.version w.place.seen
+
 -- a step of Check of a node, of a scan for so many pairs: where the version is the same but for the lock the pairs are kept, and the scan is done where it has
 -- as many, or goes on behind them; else they are dropped
 pub record IsCheck (n : NodeView) (prefix : Bytes) (count : ℕ) (columns : List ℕ) (before after : Walk) (was is : ScanView) : Type 0 where

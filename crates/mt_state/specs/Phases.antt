@@ -27,8 +27,8 @@ use Rattle.mt_operation.specs.Phases as phase_kinds
 use Rattle.mt_descent.specs.Seen.{child_for}
 use Rattle.mt_descent.specs.KeptWalks.{IsInSlot, slice_in}
 use Rattle.mt_descent.specs.WalkMoves.{Verifies, FindsIn, Loads, Confirms, Locks, walk_into, walk_here, after_enter, after_pick, after_child, after_search, after_forward}
-use Rattle.mt_scan.specs.Snaps.{prefix_in, IsSnap}
-use Rattle.mt_scan.specs.Checks.{IsCheck}
+use Rattle.mt_scan.specs.Snaps.{prefix_in, AreSettled, IsSnap}
+use Rattle.mt_scan.specs.Checks.{IsUnchanged, IsCheck}
 use Rattle.mt_scan.specs.Hops.{HopsTo}
 use Rattle.mt_insert.specs.Placing.{walk_placed}
 use Rattle.mt_insert.specs.Judge.{StandsIn, after_judge}
@@ -44,6 +44,7 @@ use Rattle.mt_operation.specs.declared.removal.Removal.{Removal}
 use Rattle.mt_operation.specs.declared.splits.Halves.{Halves}
 use Rattle.mt_remove.specs.RemovalEdits.{IsToUnlink, for_rest, after_unlink}
 use Rattle.mt_remove.specs.Unlinks.{IsChildBefore}
+use Rattle.mt_remove.specs.Judge.{IsAbsent}
 use Rattle.mt_remove.specs.CleanLayer.{LeadsTo as LeadsKey}
 use Rattle.mt_remove.specs.Unlock.{EmptiesLayer}
 use Rattle.mt_remove.specs.Ways.{IsJustBelow}
@@ -53,12 +54,12 @@ abbrev pub GoesForward : Option ℕ → ArenaView → Bytes → Walk → Walk �
 GoesForward None v key w x = x ≡ walk_here w
 GoesForward (Some j) v key w x = IsStable (at v j).version × (x ≡ after_forward w (slice_in key w) j (at v j))
 
--- from Load: what the slot holds was taken, and is to be confirmed; or there was no memory to show it
+-- from Load: what the slot holds was taken, and is to be confirmed; or a row was there, and no memory to show it
 pub record GoesFromLoad (n : NodeView) (w x : Walk) : Type 0 where
   pub row : Option Columns
   pub taken : Walk
   pub loads : Loads n w taken row
-  pub goes : (x ≡ taken) ⊎ (x ≡ walk_done taken)
+  pub goes : (x ≡ taken) ⊎ ((row ≢ None) × (x ≡ walk_done taken))
 
 -- from Judge, by what the node has: the key's slot, or no slot of its slice and mark
 pub record JudgesKey (n : NodeView) (key : Bytes) (w x : Walk) : Type 0 where
@@ -113,9 +114,22 @@ pub record JudgesNone (n : NodeView) (key : Bytes) (w x : Walk) : Type 0 where
   pub none : (slot : ℕ) → ¬ IsInSlot n slot key w.layer kinds.Link
   pub goes : x ≡ walk_done w
 
+-- a removal whose key is missing, or another long one in its place: it is done
+pub record JudgesAbsent (n : NodeView) (key : Bytes) (w x : Walk) : Type 0 where
+  pub found : Find
+  pub finds : FindsIn n key w.layer found
+  pub absent : IsAbsent found
+  pub goes : x ≡ walk_done w
+
+-- no memory for what the next step places or takes out, in the key's slot or in one that is wanted: it is done
+pub record JudgesShort (n : NodeView) (key : Bytes) (w x : Walk) : Type 0 where
+  pub slot : Option ℕ
+  pub stands : StandsIn n key w.layer slot
+  pub goes : x ≡ walk_done w
+
 -- by whether it goes to its key, where it may also miss that, or be stopped; or goes back
 abbrev pub JudgesBy : Option Outcome → NodeView → Bytes → Walk → Walk → Type 0
-JudgesBy None n key w x = JudgesKey n key w x ⊎ JudgesOther n key w x ⊎ JudgesLink n key w x ⊎ JudgesRemoval n key w x ⊎ (x ≡ walk_done w)
+JudgesBy None n key w x = JudgesKey n key w x ⊎ JudgesOther n key w x ⊎ JudgesLink n key w x ⊎ JudgesRemoval n key w x ⊎ JudgesAbsent n key w x ⊎ JudgesShort n key w x
 JudgesBy (Some told) n key w x = JudgesLink n key w x ⊎ JudgesNone n key w x
 
 -- behind a slot that was taken out: the border node is taken out too, where it is empty and no first child; else all is given back
@@ -186,7 +200,8 @@ ChecksBy (Scan from after count columns) n prefix g w x = ChecksPairs n prefix c
 ChecksBy _ n prefix g w x = ⊥
 
 -- Where the step of this number of an operation leads from each phase: of operation o for this key, with this outcome so far, these splits, this removal and this of
--- its scan. Where a phase makes a growth, it may end the operation for want of memory.
+-- its scan. A phase that makes a growth may end the operation for want of memory, but only if it came to the growth: Snap if nothing that it reads is unstable,
+-- Check if the version stands, Load if a row was there, and Judge if the key's slot was found, or one is wanted.
 abbrev pub LeadsTo : Phase → ArenaView → ArenaView → ℕ → ℕ → Bytes → Option Outcome → SplitsView → Removal → ScanStep → Walk → Walk → Type 0
 LeadsTo Enter old new o step key told s r g w x = IsStable (at old (tree_at old.trees w.place.tree).root).version
     × (x ≡ after_enter (tree_at old.trees w.place.tree).standing w (tree_at old.trees w.place.tree).root (at old (tree_at old.trees w.place.tree).root).version)
@@ -223,8 +238,8 @@ LeadsTo Collapse old new o step key told s r g w x = x ≡ walk_at Unlock w
 LeadsTo CleanLayer old new o step key told s r g w x =
     (tree : ℕ) × (r.cleans ≡ Some tree) × (CleansNone old key tree w x ⊎ CleansFull old tree w x ⊎ CleansEmpty old new tree w x)
 LeadsTo Unlock old new o step key told s r g w x = GoesFromUnlock told old s r w x
-LeadsTo Snap old new o step key told s r g w x = IsSnap old w x g.was g.is ⊎ (x ≡ walk_done w)
-LeadsTo Check old new o step key told s r g w x = ChecksBy g.command (at old w.place.node) (prefix_in old w) g w x ⊎ (x ≡ walk_done w)
+LeadsTo Snap old new o step key told s r g w x = IsSnap old w x g.was g.is ⊎ (AreSettled (at old w.place.node) g.was w.layer × (x ≡ walk_done w))
+LeadsTo Check old new o step key told s r g w x = ChecksBy g.command (at old w.place.node) (prefix_in old w) g w x ⊎ (IsUnchanged (at old w.place.node) w × (x ≡ walk_done w))
 LeadsTo Hop old new o step key told s r g w x = HopsTo old g.was.stop w x × (g.is ≡ g.was)
 LeadsTo _ old new o step key told s r g w x = ⊥
 

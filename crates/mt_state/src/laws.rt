@@ -1,7 +1,7 @@
 //! What the steps of others leave of an operation, and what a step leaves of the invariant. Each is a
 //! contract alone: no code runs.
 
-ghost use Rattle.std.specs.Prelude.{◌≡◌, ◌≢◌, ◌+◌, ◌<◌, ◌≤◌, ◌^◌, ℕ, true, false, Option, Some, None, length};
+ghost use Rattle.std.specs.Prelude.{◌≡◌, ◌≢◌, ◌+◌, ◌<◌, ◌≤◌, ◌^◌, ℕ, Bool, true, false, Option, Some, None, length};
 ghost use Rattle.mt_version.specs.Changes.{IsStable};
 ghost use Rattle.mt_arena.specs.Arena.{ArenaView, IsArena};
 ghost use Rattle.mt_arena.specs.Layers.{slot_at};
@@ -15,6 +15,7 @@ ghost use Rattle.mt_operation.specs.declared.removal.Removal.{Removal};
 ghost use Rattle.mt_operation.specs.Operations.{OperationView, SplitsView, ScanView};
 ghost use Rattle.mt_operation.specs.Phases.{is_done, IsDescent};
 ghost use Rattle.mt_state.specs.Views.{StateView, Core, shown, KeepsPast};
+ghost use Rattle.mt_state.specs.Steps.{LeavesOut};
 ghost use Rattle.mt_state.specs.Promises.{IsAnswer, IsInTheWay, needed_node, locks_next, Touches, IsStep};
 ghost use Rattle.mt_state.specs.KeptOperations.{IsKeptOf, IsScanKept};
 ghost use Rattle.mt_state.specs.Invariant.{StateInvariant, StateGuarantee};
@@ -61,6 +62,11 @@ pub fn wrong_steps_are_refused()
         needed_node phase v w s r ≡ Some k → IsStable (at v k).version → ¬ IsInTheWay v phase w s r g holder }
     ensures of_another { (o q k : ℕ) (old new : ArenaView) → Touches o old new → k < length old.nodes → q ≢ o →
         (at old k).holder ≡ Some q → (at new k).holder ≢ Some o → (at new k).slots ≡ (at old k).slots }
+{}
+
+/// What is refused too: a step that leaves out a phase, so that an operation does in one step what two are for.
+pub fn a_step_leaves_out_no_phase()
+    ensures { (old new : StateView) (o : ℕ) (done : Bool) (p q : Phase) → LeavesOut p q → (s : IsStep old new o done) → s.before.phase ≡ p → s.after.phase ≢ q }
 {}
 
 /// Each phase of an operation that holds nothing makes a lawful step, by what its call ensures, and the

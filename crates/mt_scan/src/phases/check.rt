@@ -9,7 +9,7 @@ ghost use Rattle.mt_operation.specs.Operations.{scan_of};
 ghost use Rattle.mt_descent.specs.Pasts.{Past};
 ghost use Rattle.mt_descent.specs.WalkMoves.{Continues};
 ghost use Rattle.mt_scan.specs.Snaps.{prefix_in};
-ghost use Rattle.mt_scan.specs.Checks.{Asks, MayCheck, walk_to, GoesBehind, ChecksOr};
+ghost use Rattle.mt_scan.specs.Checks.{Asks, MayCheck, walk_to, GoesBehind, IsUnchanged, ChecksOr};
 ghost use Rattle.mt_scan.specs.Goings.{HasBehind, at_next, phase_at, IsStoredBehind, Keeps};
 ghost use Rattle.mt_scan.specs.Hops.{IsAtCheck, KeptScan};
 
@@ -23,8 +23,8 @@ use std::alloc::{AllocError, Global};
 /// Compares the border node's version with the remembered one. Where it stands, the pairs that were seen
 /// are kept, each as it is shown, up to as many in all as the task asks for: then the scan is done, else
 /// it goes on behind their stretch, at its next fence. Where it doesn't, they are forgotten. A marked node
-/// is in its way: nothing has changed then. An error comes where memory is refused; the walk is as it was
-/// then.
+/// is in its way: nothing has changed then. An error comes if memory is refused for what it keeps, so only if the
+/// version stands; the walk is as it was then.
 pub fn check(
     alloc: Global,
     arena: &Arena,
@@ -44,6 +44,7 @@ pub fn check(
     ensures same { Continues walk.old walk.new }
     ensures stands_on_err { OnErr result (walk.new ≡ walk.old) }
     ensures task_on_err { OnErr result (task.new ≡ task.old) }
+    ensures unchanged_on_err { OnErr result (IsUnchanged (at arena.now walk.old.place.node) walk.old) }
 {
     arena.facts();
     let node = arena.node(walk.place.node);

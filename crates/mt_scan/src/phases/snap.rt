@@ -1,10 +1,11 @@
 //! Snap: reads the border node from the reached fence on.
 
 ghost use Rattle.std.specs.Prelude.{◌≡◌, ℕ, Some, None, IfOk, OnErr};
+ghost use Rattle.mt_arena.specs.Accesses.{at};
 ghost use Rattle.mt_operation.specs.Operations.{scan_of};
 ghost use Rattle.mt_descent.specs.KeptWalks.{IsAtBorder};
 ghost use Rattle.mt_descent.specs.WalkMoves.{Continues};
-ghost use Rattle.mt_scan.specs.Snaps.{next_at, SnapsOr};
+ghost use Rattle.mt_scan.specs.Snaps.{next_at, AreSettled, SnapsOr};
 ghost use Rattle.mt_scan.specs.Hops.{IsAtCheck};
 
 use crate::fence::fence_of;
@@ -16,7 +17,7 @@ use std::alloc::AllocError;
 
 /// Reads the pairs of the border node from the fence on, up to the first link, and notes how that stretch
 /// of keys ends. An unstable slot among them is in its way, whatever its tenant: nothing has changed then.
-/// An error comes where memory is refused; the walk is as it was then.
+/// An error comes if memory is refused for what it reads; the walk is as it was then.
 pub fn snap(
     arena: &Arena,
     task: &Task,
@@ -29,6 +30,7 @@ pub fn snap(
     ensures kept { IfOk result (λ held. held ≡ None → IsAtCheck arena.now task.now.key walk.new scan.new.stop) }
     ensures same { Continues walk.old walk.new }
     ensures stands_on_err { OnErr result (walk.new ≡ walk.old) }
+    ensures settled_on_err { OnErr result (AreSettled (at arena.now walk.old.place.node) (scan_of task.now scan.old) walk.old.layer) }
 {
     arena.facts();
     let border = arena.border(walk.place.node);

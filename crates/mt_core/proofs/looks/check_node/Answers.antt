@@ -20,5 +20,7 @@ returns-in-Ok-Some c =
     c.in-Ok-Some.ensures.checks c.in-Ok-Some.ensures.blocked
 
 pub returns-in-Err : goal.returns-in-Err
-returns-in-Err c =
-    inr (stopped c.args.arena.now c.args.operation.now c.args.step c.check.new.task c.check.new.walk c.check.new.scan c.stop.new.operation c.in-Err.ensures.task_on_err c.in-Err.ensures.stands_on_err c.stop.ensures)
+returns-in-Err c = inr (
+  c.in-Err.ensures.unchanged_on_err,
+  stopped c.args.arena.now c.args.operation.now c.args.step c.check.new.task c.check.new.walk c.check.new.scan c.stop.new.operation c.in-Err.ensures.task_on_err c.in-Err.ensures.stands_on_err c.stop.ensures,
+)

@@ -61,7 +61,7 @@ returns-in-GoesOn c = (gives_on c).1
 gives_none : (c : goal.After-go_on_with)
     → Gives (shown c.args.self.now) (made (core_of c.self.inside) c.judge-judged.new.arena c.judge-judged.new.tape c.self.inside.tenants c.go_on_with.new.self) c.args.id true
 gives_none c =
-    let t = c.in-NoMemory.ensures in refused_made (core_of c.self.inside) _ c.args.id c.self.view_is c.self.invariant c.requires.few c.requires.next _ c.open-operation.ensures (holds_inside (λ (x : Operation). x.outcome ≡ None) (core_of c.self.inside) _ c.args.id c.self.view_is c.requires.untold _ c.open-operation.ensures) _ _ _ _ _ t.0 t.1 c.no_memory.ensures c.go_on_with.ensures.moves
+    let t = c.in-NoMemory.ensures in refused_made (core_of c.self.inside) _ c.args.id c.self.view_is c.self.invariant c.requires.few c.requires.next _ c.open-operation.ensures (holds_inside (λ (x : Operation). x.outcome ≡ None) (core_of c.self.inside) _ c.args.id c.self.view_is c.requires.untold _ c.open-operation.ensures) _ _ _ _ _ t.0 t.1.unlocks c.no_memory.ensures c.go_on_with.ensures.moves
 
 pub invariant_of-self-in-NoMemory : goal.invariant_of-self-in-NoMemory
 invariant_of-self-in-NoMemory c = (gives_none c).0 c.facts-2.ensures.arena
@@ -71,5 +71,5 @@ returns-in-NoMemory c = record {
   tells = (gives_none c).1;
   nears = tt;
   leads =
-      let t = c.in-NoMemory.ensures in refused_leads (core_of c.self.inside) _ c.args.id c.self.view_is c.self.invariant c.requires.few c.requires.next _ c.open-operation.ensures (holds_inside (λ (x : Operation). x.outcome ≡ None) (core_of c.self.inside) _ c.args.id c.self.view_is c.requires.untold _ c.open-operation.ensures) _ c.judge-judged.new.tape _ _ _ t.1 c.go_on_with.ensures.moves;
+      let t = c.in-NoMemory.ensures in refused_leads (core_of c.self.inside) _ c.args.id c.self.view_is c.self.invariant c.requires.few c.requires.next _ c.open-operation.ensures (holds_inside (λ (x : Operation). x.outcome ≡ None) (core_of c.self.inside) _ c.args.id c.self.view_is c.requires.untold _ c.open-operation.ensures) _ c.judge-judged.new.tape _ _ _ t.1.unlocks t.1.slot t.1.stands c.go_on_with.ensures.moves;
 }

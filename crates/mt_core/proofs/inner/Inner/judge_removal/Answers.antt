@@ -1,5 +1,5 @@
 -- A removal that judges its border node, for `Inner::judge_removal`.
-use Rattle.std.proofs.Common.{◌≡◌, None, true, refl}
+use Rattle.std.proofs.Common.{◌≡◌, Some, None, true, refl}
 use Rattle.mt_operation.specs.declared.phase.Phase.TheVariants.{Judge}
 use Rattle.mt_state.specs.declared.moves.Move.TheVariants.{Moved, Done}
 use Rattle.mt_state.proofs.Needs.{judge_kept, removal_of}
@@ -73,13 +73,13 @@ returns-in-Absent c = (gives_absent c).1
 
 pub invariant_of-self-in-NoMemory : goal.invariant_of-self-in-NoMemory
 invariant_of-self-in-NoMemory c =
-    (refused_made (core_of c.self.inside) _ c.args.id c.self.view_is c.self.invariant c.requires.few c.requires.next _ c.open-operation.ensures (holds_inside (λ (x : Operation). x.outcome ≡ None) (core_of c.self.inside) _ c.args.id c.self.view_is c.requires.untold _ c.open-operation.ensures) _ _ _ _ _ c.in-NoMemory.ensures.0 c.in-NoMemory.ensures.1 c.no_memory.ensures c.go_on_with-in-NoMemory.ensures.moves).0 c.facts-2.ensures.arena
+    (refused_made (core_of c.self.inside) _ c.args.id c.self.view_is c.self.invariant c.requires.few c.requires.next _ c.open-operation.ensures (holds_inside (λ (x : Operation). x.outcome ≡ None) (core_of c.self.inside) _ c.args.id c.self.view_is c.requires.untold _ c.open-operation.ensures) _ _ _ _ _ c.in-NoMemory.ensures.0 c.in-NoMemory.ensures.1.unlocks c.no_memory.ensures c.go_on_with-in-NoMemory.ensures.moves).0 c.facts-2.ensures.arena
 
 pub returns-in-NoMemory : goal.returns-in-NoMemory
 returns-in-NoMemory c = record {
   tells =
-      (refused_made (core_of c.self.inside) _ c.args.id c.self.view_is c.self.invariant c.requires.few c.requires.next _ c.open-operation.ensures (holds_inside (λ (x : Operation). x.outcome ≡ None) (core_of c.self.inside) _ c.args.id c.self.view_is c.requires.untold _ c.open-operation.ensures) _ _ _ _ _ c.in-NoMemory.ensures.0 c.in-NoMemory.ensures.1 c.no_memory.ensures c.go_on_with-in-NoMemory.ensures.moves).1;
+      (refused_made (core_of c.self.inside) _ c.args.id c.self.view_is c.self.invariant c.requires.few c.requires.next _ c.open-operation.ensures (holds_inside (λ (x : Operation). x.outcome ≡ None) (core_of c.self.inside) _ c.args.id c.self.view_is c.requires.untold _ c.open-operation.ensures) _ _ _ _ _ c.in-NoMemory.ensures.0 c.in-NoMemory.ensures.1.unlocks c.no_memory.ensures c.go_on_with-in-NoMemory.ensures.moves).1;
   nears = tt;
   leads =
-      refused_leads (core_of c.self.inside) _ c.args.id c.self.view_is c.self.invariant c.requires.few c.requires.next _ c.open-operation.ensures (holds_inside (λ (x : Operation). x.outcome ≡ None) (core_of c.self.inside) _ c.args.id c.self.view_is c.requires.untold _ c.open-operation.ensures) _ c.judge-looked.new.tape _ _ _ c.in-NoMemory.ensures.1 c.go_on_with-in-NoMemory.ensures.moves;
+      refused_leads (core_of c.self.inside) _ c.args.id c.self.view_is c.self.invariant c.requires.few c.requires.next _ c.open-operation.ensures (holds_inside (λ (x : Operation). x.outcome ≡ None) (core_of c.self.inside) _ c.args.id c.self.view_is c.requires.untold _ c.open-operation.ensures) _ c.judge-looked.new.tape _ _ _ c.in-NoMemory.ensures.1.unlocks (Some c.in-NoMemory.ensures.1.slot) c.in-NoMemory.ensures.1.in_slot c.go_on_with-in-NoMemory.ensures.moves;
 }

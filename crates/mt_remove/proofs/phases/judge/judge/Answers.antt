@@ -1,5 +1,7 @@
 -- That a removal which meets a link may load its tree, and goes on there; and that the key is missing where the node has nothing of it, or another long one.
 use Rattle.std.proofs.Common.{refl, ap}
+use Rattle.mt_border.specs.declared.entry.Find.TheVariants.{Missing, Slot}
+use Rattle.mt_border.specs.declared.entry.FoundKind.TheVariants.{OtherLong}
 use Rattle.mt_arena.specs.NodeView.{NodeView}
 use Rattle.mt_arena.specs.Accesses.{at}
 use Rattle.mt_insert.proofs.Looks.{link_there, leads_there}
@@ -32,6 +34,9 @@ pub returns-in-Slot-default-OtherLong : goal.returns-in-Slot-default-OtherLong
 returns-in-Slot-default-OtherLong c = (
   refl,
   record {
+    found = Slot c.in-Slot-default-OtherLong.field-0 OtherLong;
+    finds = rw (c.in-Slot-default-OtherLong.field-1-is) at c.in-Slot-default-OtherLong.ensures;
+    absent = tt;
     missing = none_beside c.args.arena.now c.args.operation c.args.task.now.key c.args.walk.now c.facts.ensures.arena c.requires.kept c.in-Slot-default-OtherLong.field-0
         (rw (c.in-Slot-default-OtherLong.field-1-is) at c.in-Slot-default-OtherLong.ensures);
     unlocks = c.unlock.ensures;
@@ -42,6 +47,9 @@ pub returns-in-Missing : goal.returns-in-Missing
 returns-in-Missing c = (
   refl,
   record {
+    found = Missing;
+    finds = c.in-Missing.ensures;
+    absent = tt;
     missing = none_here c.args.arena.now c.args.operation c.args.task.now.key c.args.walk.now c.facts.ensures.arena c.requires.kept c.in-Missing.ensures;
     unlocks = c.unlock-in-Missing.ensures;
   },

@@ -1,5 +1,6 @@
 -- What Snap reads, and what is kept of it.
-use Rattle.std.proofs.Common.{◌≡◌, ℕ, true, false, Option, refl, sym, ap, subst, ◌∙◌}
+use Rattle.std.proofs.Common.{◌≡◌, ℕ, true, false, Option, Result, Ok, Err, refl, sym, ap, subst, ◌∙◌}
+use Rattle.std.specs.Prelude.{OnErr}
 use Rattle.std.specs.List.{All}
 use Rattle.mt_rows.specs.Rows.{Bytes}
 use Rattle.mt_slices.specs.Keys.{tenant_of}
@@ -95,3 +96,18 @@ returns-clause-kept c =
     c.stop_at-scan.ensures in
     λ none. subst (λ (o : Option ℕ). IsAtCheck v s.fence (record w { next = o; phase = Check }) c.stop_at-scan.result) (sym next)
     (at_check v s w c.facts.ensures.arena c.requires.kept c.stop_at-scan.result end)
+
+on_err : {A E P : Type 0} (r : Result A E) → P → OnErr r P
+on_err (Ok a) p = tt
+on_err (Err e) p = p
+
+pub returns-in_err-link-clause-settled_on_err : goal.returns-in_err-link-clause-settled_on_err
+returns-in_err-link-clause-settled_on_err c =
+    let w = c.args.walk.now in
+    let s : ScanView = scan_of c.args.task.now c.args.scan.now in
+    let f = c.fence_of-fence.ensures in
+    let b = same_behind s w.layer _ _ _ _ f.slice f.mark f.suffix f.after in
+    let slots = ap (λ (x : NodeView). x.slots) c.border-border.ensures in
+    let none : has_unstable (is_behind s.fence s.after w.layer) (at c.args.arena.now w.place.node).slots ≡ false = (λ i. has_unstable (sym b i) (slots i))
+    ∙ sym c.if-has_unstable.ensures in
+    on_err c.from_residual.result (settled (is_behind s.fence s.after w.layer) (at c.args.arena.now w.place.node).slots none)
