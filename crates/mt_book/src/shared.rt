@@ -167,8 +167,9 @@ pub fn open_pass<L: Ledger, R: Wait>(rt: &R, book: &Mutex<Book<L>>, worker: u8) 
     locked(rt, book).open_pass(worker)
 }
 
-/// The next batch of a worker's log, in a period of its own: it goes up to a step at least, or it is full. A book
-/// without a log of this worker, or of fewer steps, is looked at for ever.
+/// The next batch of a worker's log, in a period of its own. It goes up to the step `upto` at least, or it is full.
+/// While the book has no log of this worker, or fewer steps, it is asked again. An error comes if memory is refused;
+/// then nothing is drained.
 pub fn drain<L: Ledger, R: Wait>(
     rt: &R,
     book: &Mutex<Book<L>>,

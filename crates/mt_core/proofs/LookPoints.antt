@@ -1,4 +1,4 @@
--- How the steps of an operation that holds nothing bring it on that nobody is in the way of: for `looks::descend`, and for `Inner::search`, `load` and `confirm`.
+-- How the steps of an operation that holds nothing bring it on if nobody is in its way: for `looks::go_down` and `ReadSteps`.
 use Rattle.std.proofs.Common.{◌≡◌, ◌≢◌, ℕ, ◌+◌, ◌*◌, ◌<◌, ◌≤◌, ◌⊎◌, inl, inr, Bool, true, false, cond, List, [], ◌∷◌, length, Option, Some, None, IsNone, IfNone, refl, sym, ap, subst, ◌∙◌, arith}
 use Rattle.std.specs.Prelude.{nat_le, min}
 use Rattle.std.proofs.Math.Nat.{add-mul, min-eq_left}

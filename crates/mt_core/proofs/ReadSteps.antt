@@ -1,4 +1,4 @@
--- What the steps of an operation that holds nothing ask of the invariant, and what they tell: for `Inner::descend`, `search`, `load` and `confirm`.
+-- What the steps of an operation that holds nothing ask of the invariant, and what they tell: for `Inner::look`.
 use Rattle.mt_operation.specs.declared.walk.Aim.TheVariants as aims
 use Rattle.std.proofs.Common.{◌≡◌, ◌≢◌, ℕ, ◌+◌, ◌<◌, ◌≤◌, ◌⊎◌, inl, inr, true, false, not, set, Option, Some, None, refl, sym, ap, subst, ◌∙◌, arith}
 use Rattle.std.specs.Prelude.{◌^◌}

@@ -240,7 +240,7 @@ fn stop(operation: &mut Operation, step: u64)
 // What a get answers that took this row, if it took one. An error comes only of a row.
 fn shown(alloc: Global, row: Option<&Row>, request: &Request) -> Result<Option<Reply>, AllocError>
     requires columns { HasColumns (command_of request.now) }
-    ensures { IfOk result (λ reply. (asked : List ℕ) → columns_asked (command_of request.now) ≡ Some asked →
+    ensures reply { IfOk result (λ reply. (asked : List ℕ) → columns_asked (command_of request.now) ≡ Some asked →
         reply ≡ option_map (λ r. Reply.Found (columns_shown asked r.now)) row.entry) }
     ensures row_on_err { OnErr result (row.entry ≢ None) }
 {

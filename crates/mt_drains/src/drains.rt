@@ -13,7 +13,8 @@ use mt_tape::{Entry, Tape};
 use std::alloc::{AllocError, Global};
 
 /// The next batch of a worker's log that has the worker's changes up to a step: the changes after that, the
-/// oldest first, all of them up to `steps`, the last step that was made, or the first 4,096.
+/// oldest first, all of them up to `steps`, the last step that was made, or the first 4,096. `after` and `steps`
+/// are steps, as records are stamped with them. An error comes if memory is refused.
 pub fn batch_after(
     alloc: Global,
     tape: &Tape,

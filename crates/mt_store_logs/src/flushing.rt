@@ -9,8 +9,8 @@ use mt_disk::Disk;
 use mt_rows::Refusal;
 use std::alloc::Global;
 
-/// Appends the batch that is kept, then drains the worker and appends what that gave, till the log goes up to a
-/// step at least. Answers the step up to which the log then has all of the worker's changes.
+/// Appends the batch that is kept, then drains the worker and appends what that gave, till the log goes up to the
+/// step `upto` at least. Returns the step up to which the log then has all of the worker's changes.
 ///
 /// Errors: `Device` if the log is closed, or its disk fails; then it is closed. `Memory` if a growth is refused,
 /// or the file has 2^60 bytes. `WrongTurn` if a batch does not begin where the log ends. Nothing is drained

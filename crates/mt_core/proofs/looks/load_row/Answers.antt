@@ -4,7 +4,7 @@ use Rattle.mt_core.proofs.looks.load_row.Goals as goal
 
 pub returns-in-Ok-shown : goal.returns-in-Ok-shown
 returns-in-Ok-shown c =
-    tells_shown (λ r. r.now) c.in-Ok.row c.in-Ok-shown.reply c.args.arena.now c.args.operation.now c.args.step c.load.new.walk c.told.result c.requires.get c.in-Ok.ensures.is c.in-Ok-shown.ensures c.told.ensures
+    tells_shown (λ r. r.now) c.in-Ok.row c.in-Ok-shown.reply c.args.arena.now c.args.operation.now c.args.step c.load.new.walk c.told.result c.requires.get c.in-Ok.ensures.is c.in-Ok-shown.ensures.reply c.told.ensures
 
 pub returns-in-Err : goal.returns-in-Err
 returns-in-Err c = blocked_load c.args.arena.now c.args.operation.now _ c.in-Err.holder c.requires c.in-Err.ensures.again
