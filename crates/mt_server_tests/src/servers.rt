@@ -11,7 +11,7 @@ use crate::words::options_of;
 use log::Log;
 use mt_disk::MemDisk;
 use mt_options::Options;
-use mt_service::run_server;
+use mt_service::{ServerFault, run_server};
 use mt_stored::Store;
 use std::alloc::Global;
 use std::marker::{Brand, Send, Sync};
@@ -45,9 +45,31 @@ fn serve_all<L: Ledger + Send + Sync, R: Threads + Wait + Clock + Log + Sync>(
     }
 }
 
+// Serves till the listener fails; what the server wrote.
+fn serve_till_it_fails<L: Ledger + Send + Sync, R: Threads + Wait + Clock + Log + Sync>(
+    rt: &R,
+    alloc: Global,
+    blank: Blank,
+    listener: TcpListener,
+    options: &Options,
+    store: Store<MemDisk>,
+) -> Option<Vec<u8>>
+    requires name { blank.name ≡ L.name }
+    requires parts { (blank.parts ≡ L.parts) × (L.parts ≡ 65536) }
+    requires untaken { store.source.state.answers ≡ 0 }
+{
+    let mut out = Vec::new(alloc);
+    match run_server::<L, R, Vec<u8>, MemDisk>(
+        rt, alloc, blank, listener, options, store, &mut out,
+    ) {
+        Err(ServerFault::Socket(_)) => Some(out),
+        _ => None,
+    }
+}
+
 // What the server wrote is where it listens, and then this.
 fn expect_text<R: Abort>(rt: &R, alloc: Global, port: u16, written: &[u8], last: &str) {
-    let wanted = format!(in alloc; "listening 127.0.0.1:{port}\n{last}\n").expect(rt, "memory");
+    let wanted = format!(in alloc; "listening 127.0.0.1:{port}\n{last}").expect(rt, "memory");
     assert_eq!(rt; written, wanted.as_bytes());
 }
 
@@ -66,6 +88,8 @@ enum Scene {
     Removal,
     /// One puts a pair and scans it, and removes it again.
     Scan,
+    /// One leaves with a reply unread, so that its connection is reset.
+    Reset,
 }
 
 // Plays a scene; whether each client was told what it should be.
@@ -92,6 +116,7 @@ fn play(scene: Scene, first: TcpStream, second: TcpStream) -> io::Result<bool> {
         Scene::MidFrame => is_told_behind(&first, OPEN, &PUT[..7], OPENED)?,
         Scene::Removal => is_told(&first, OPEN, OPENED)? && puts_and_removes(&first)?,
         Scene::Scan => is_told(&first, OPEN, OPENED)? && puts_and_scans(&first)?,
+        Scene::Reset => is_told(&first, OPEN, &OPENED[..1])?,
     };
     drop(first);
     Ok(is_right && is_told(&second, OPEN, OPENED)? && is_told(&second, GET, wanted)?)
@@ -119,14 +144,18 @@ fn puts_and_scans(client: &TcpStream) -> io::Result<bool> {
 }
 
 impl Scene {
-    // The words of its server, the last line of the output, and how many sessions end otherwise than
+    // The words of its server, the end of the output, and how many sessions end otherwise than
     // closed.
     fn ends(self) -> (&'static str, &'static str, u64) {
         match self {
-            Scene::InTurn | Scene::AtOnce => (TWO_WORKERS, "sessions 2 answers 3", 0),
-            Scene::Removal => (TWO_WORKERS, "sessions 2 answers 4", 0),
-            Scene::Scan => (TWO_WORKERS, "sessions 2 answers 5", 0),
-            Scene::BadFrame | Scene::MidFrame => (ONE_WORKER, "sessions 2 answers 1", 1),
+            Scene::InTurn | Scene::AtOnce => (TWO_WORKERS, "sessions 2 answers 3\n", 0),
+            Scene::Removal => (TWO_WORKERS, "sessions 2 answers 4\n", 0),
+            Scene::Scan => (TWO_WORKERS, "sessions 2 answers 5\n", 0),
+            Scene::BadFrame | Scene::MidFrame | Scene::Reset => (
+                ONE_WORKER,
+                "sessions 2 answers 1\n",
+                1,
+            ),
         }
     }
 }
@@ -134,6 +163,8 @@ impl Scene {
 const TWO_WORKERS: &str = "mt_server --port 0 --workers 2 --sessions 2 7:100";
 
 const ONE_WORKER: &str = "mt_server --port 0 --workers 1 --sessions 2 7:100";
+
+const THREE_SESSIONS: &str = "mt_server --port 0 --workers 2 --sessions 3 7:100";
 
 // A server and its clients, who are all told what they should be, and so is the output.
 fn serve_scene<L: Ledger + Send + Sync, R>(rt: &R, alloc: Global, blank: Blank, scene: Scene)
@@ -167,6 +198,38 @@ where
     assert_eq!(rt; ended, others, "{last}");
 }
 
+// A server whose listener fails after two of three connections, and still answers both to their end.
+fn fail_behind_two<L: Ledger + Send + Sync, R>(rt: &R, alloc: Global, blank: Blank)
+where
+    R: Net<Listener = TcpListener, Stream = TcpStream>
+        + Threads
+        + Wait
+        + Clock
+        + Log
+        + Abort
+        + Sync,
+    requires name { blank.name ≡ L.name }
+    requires parts { (blank.parts ≡ L.parts) × (L.parts ≡ 65536) }
+{
+    let options = options_of(rt, alloc, THREE_SESSIONS);
+    let store = store_without_logs(rt, alloc);
+    let (listener, port, first, second) = connected(rt).expect(rt, "a socket");
+    // An accept then fails if nobody waits.
+    assert!(rt; listener.set_nonblocking(true).is_ok());
+    let (served, played) = thread::join(
+        rt,
+        move ||
+            requires name { blank.name ≡ L.name }
+            requires parts { (blank.parts ≡ L.parts) × (L.parts ≡ 65536) }
+            requires untaken { store.source.state.answers ≡ 0 }
+        { serve_till_it_fails::<L, R>(rt, alloc, blank, listener, &options, store) },
+        move || play(Scene::InTurn, first, second),
+    );
+    assert!(rt; played.expect(rt, "a socket"));
+    let written = served.expect(rt, "the listener fails");
+    expect_text(rt, alloc, port, written.as_slice(), "");
+}
+
 // A listener, its port, and two clients that are connected to it.
 fn connected<R: Net<Listener = TcpListener, Stream = TcpStream>>(
     rt: &R,
@@ -187,4 +250,6 @@ fn servers_serve_their_clients(rt: HostRuntime) {
     serve_scene::<Brand, _>(&rt, alloc, Blank::new(65_536), Scene::MidFrame);
     serve_scene::<Brand, _>(&rt, alloc, Blank::new(65_536), Scene::Removal);
     serve_scene::<Brand, _>(&rt, alloc, Blank::new(65_536), Scene::Scan);
+    serve_scene::<Brand, _>(&rt, alloc, Blank::new(65_536), Scene::Reset);
+    fail_behind_two::<Brand, _>(&rt, alloc, Blank::new(65_536));
 }
