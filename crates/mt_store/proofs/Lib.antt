@@ -26,3 +26,4 @@ pub mod Told
 pub mod Goes
 pub mod Lists
 pub mod Happening
+pub mod Forcing

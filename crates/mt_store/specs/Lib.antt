@@ -4,4 +4,5 @@ pub mod Holds
 pub mod Steps
 pub mod Returns
 pub mod Beginnings
+pub mod Forced
 pub mod Earlier

@@ -1,7 +1,11 @@
 //! A new store.
 
-ghost use Rattle.std.specs.Prelude.{◌≡◌, ◌<◌, ◌≤◌, length, map, IfOk, IfErr};
+ghost use Rattle.std.specs.Prelude.{◌≡◌, ◌<◌, ◌≤◌, true, length, map, Some, IfOk, IfErr};
+ghost use Rattle.mt_disk.specs.declared.mem.MemDisk.{MemDisk as AnyDisk};
+ghost use Rattle.mt_disk.specs.Mem.{mem_state};
 ghost use Rattle.mt_state.specs.Begins.{HaveNoPairs};
+ghost use Rattle.mt_store_logs.specs.Places.{MakesAll};
+ghost use Rattle.mt_store.specs.declared.serving.Serving.{Serving as AnyServing};
 ghost use Rattle.mt_store.specs.Lives.{new_standing, IsMemoryOrDevice};
 ghost use Rattle.mt_store.specs.Holds.{Holds};
 ghost use Rattle.mt_store.specs.Beginnings.{closed_on};
@@ -25,6 +29,8 @@ pub(crate) fn created(
     requires empty { HaveNoPairs tenants.now }
     ensures ok { IfOk result (λ store. Holds tenants.now new_standing store.logs.items store.serving) }
     ensures count { IfOk result (λ store. length store.logs.items ≡ length disks.items) }
+    ensures made { IfOk result (λ store. MakesAll (λ (d : AnyDisk). true) mem_state (λ d. d.failures) (map closed_on disks.items) store.logs.items) }
+    ensures serves { IfOk result (λ store. (serving : AnyServing) × (store.serving ≡ Some serving)) }
     ensures err { IfErr result IsMemoryOrDevice }
 {
     let mut logs = closed_logs(alloc, disks)?;

@@ -8,6 +8,7 @@ ghost use Rattle.mt_core.specs.Restores.{IsRestored};
 ghost use Rattle.mt_core.specs.Rights.{IsRightState};
 ghost use Rattle.mt_store.specs.Returns.{Begins, AreRecovered, AreNotRecovered};
 ghost use Rattle.mt_store.specs.Steps.{CrashesTo};
+ghost use Rattle.mt_store.specs.Forced.{IsCrashForced};
 
 use crate::events::StoreNote;
 use crate::serving::Serving;
@@ -31,6 +32,7 @@ pub(crate) fn crash(
     requires empty { HaveNoPairs tenants.now }
     ensures crashes { IfOk result (λ note. CrashesTo tenants.now note logs.old serving.old logs.new serving.new) }
     ensures count { OnOk result (length logs.new ≡ length logs.old) }
+    ensures forced { IfOk result (λ note. IsCrashForced tenants.now images.now note logs.old logs.new) }
 {
     if !crash_logs(alloc, logs, images)? {
         return Ok(StoreNote::NoSuch);

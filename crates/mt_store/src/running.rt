@@ -12,6 +12,7 @@ ghost use Rattle.mt_store.specs.declared.events.StoreNote.TheVariants.{Told as A
 ghost use Rattle.mt_store.specs.Lives.{Standing, HasLives, IsMemoryOrDevice};
 ghost use Rattle.mt_store.specs.Holds.{quotas_of, Holds};
 ghost use Rattle.mt_store.specs.Steps.{IsHeld, IsNoCrash, IsServedBy, GoesOn, NotesGoOn};
+ghost use Rattle.mt_store.specs.Forced.{IsForced, AreForced, AreForcedOn};
 
 use crate::beginnings::created;
 use crate::crashes::crash;
@@ -73,6 +74,7 @@ pub fn run_store_events(
     requires workers { All (IsServedBy (length disks.items)) events.now }
     ensures lives { IfOk result (λ r. HasLives (quotas_of tenants.now) (zip events.now r.1)) }
     ensures count { IfOk result (λ r. length r.1 ≡ length events.now) }
+    ensures forced { IfOk result (λ r. AreForcedOn tenants.now (zip events.now r.1) disks.items r.0) }
     ensures err { IfErr result IsMemoryOrDevice }
 {
     let mut store = created(alloc, tenants, disks)?;
@@ -92,6 +94,7 @@ fn note_all(
     requires workers { All (IsServedBy (length store.old.logs.items)) events.now }
     ensures goes { IfOk result (λ notes. NotesGoOn tenants.now (zip events.now notes.items) store.old.logs.items store.old.serving store.new.logs.items store.new.serving) }
     ensures count { IfOk result (λ notes. length notes.items ≡ length events.now) }
+    ensures forced { IfOk result (λ notes. AreForced tenants.now (zip events.now notes.items) store.old.logs.items store.old.serving store.new.logs.items store.new.serving) }
 {
     let mut notes = Vec::new(alloc);
     for event in events {
@@ -113,6 +116,7 @@ fn happen(
     requires worker { IsServedBy (length store.old.logs.items) event.now }
     ensures count { OnOk result (length store.new.logs.items ≡ length store.old.logs.items) }
     ensures goes { IfOk result (λ note. GoesOn tenants.now event.now note store.old.logs.items store.old.serving store.new.logs.items store.new.serving) }
+    ensures forced { IfOk result (λ note. IsForced tenants.now event.now note store.old.logs.items store.old.serving store.new.logs.items) }
 {
     if let StoreEvent::Crash { images } = event {
         return crash(alloc, tenants, &mut store.logs, &mut store.serving, images);
@@ -135,6 +139,7 @@ fn serve(
     requires serves { IsNoCrash event.now }
     ensures count { OnOk result (length logs.new ≡ length logs.old) }
     ensures goes { IfOk result (λ note. (accounts : Accounts) → GoesOn accounts event.now note logs.old (Some serving.old) logs.new (Some serving.new)) }
+    ensures forced { IfOk result (λ note. (accounts : Accounts) → IsForced accounts event.now note logs.old (Some serving.old) logs.new) }
 {
     match event {
         StoreEvent::Core(event) => Ok(StoreNote::Told(core(serving, event)?)),

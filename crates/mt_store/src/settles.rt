@@ -9,6 +9,7 @@ ghost use Rattle.mt_store_logs.specs.declared.store_log.StoreLog.{StoreLog as An
 ghost use Rattle.mt_store.specs.declared.events.StoreEvent.TheVariants.{Flush, Reopen, SettleBegin, SettleNext};
 ghost use Rattle.mt_store.specs.declared.serving.Serving.{Serving as AnyServing};
 ghost use Rattle.mt_store.specs.Steps.{Turns, IsHeld, GoesOn};
+ghost use Rattle.mt_store.specs.Forced.{IsForced};
 
 use crate::events::StoreNote;
 use crate::serving::{Serving, Settle};
@@ -26,6 +27,7 @@ pub(crate) fn flush_at(
     requires { IsHeld logs.old (Some serving.old) }
     ensures count { length logs.new ≡ length logs.old }
     ensures goes { (accounts : Accounts) → GoesOn accounts (Flush worker) result logs.old (Some serving.old) logs.new (Some serving.new) }
+    ensures forced { (accounts : Accounts) → IsForced accounts (Flush worker) result logs.old (Some serving.old) logs.new }
 {
     let place = usize::from(worker);
     if place >= logs.len() || logs[place].mark().is_none() {
@@ -42,6 +44,7 @@ pub(crate) fn reopen_at(alloc: Global, logs: &mut [StoreLog<MemDisk>], worker: u
     requires { (serving : AnyServing) × IsHeld logs.old (Some serving) }
     ensures count { length logs.new ≡ length logs.old }
     ensures goes { (accounts : Accounts) (serving : AnyServing) → GoesOn accounts (Reopen worker) result logs.old (Some serving) logs.new (Some serving) }
+    ensures forced { (accounts : Accounts) (serving : AnyServing) → IsForced accounts (Reopen worker) result logs.old (Some serving) logs.new }
 {
     let place = usize::from(worker);
     if place >= logs.len() || logs[place].mark().is_some() {
@@ -80,6 +83,7 @@ pub(crate) fn go_on(
     requires { IsHeld logs.old (Some serving.old) }
     ensures count { length logs.new ≡ length logs.old }
     ensures goes { (accounts : Accounts) → GoesOn accounts (SettleNext id) result logs.old (Some serving.old) logs.new (Some serving.new) }
+    ensures forced { (accounts : Accounts) → IsForced accounts (SettleNext id) result logs.old (Some serving.old) logs.new }
 {
     let Some(settle) = serving.settles.get(&id).copied() else {
         return StoreNote::NoSuch;

@@ -16,3 +16,12 @@ pub returns-in-Err-clause-crashes : goal.returns-in-Err-clause-crashes
 returns-in-Err-clause-crashes c =
     crashes_refused c.args.tenants.now c.args.logs.now c.crash_logs.new.logs c.come_back.new.logs c.args.serving.now c.args.images.now (c.in_ok-crash_logs.ensures.crashed c.if-not-branch.false)
     c.in-Err.refusal c.in-Err.ensures.err
+
+pub returns-then-not-branch-clause-forced : goal.returns-then-not-branch-clause-forced
+returns-then-not-branch-clause-forced c = c.in_ok-crash_logs.ensures.unchanged c.if-not-branch.true
+
+pub returns-in-Ok-clause-forced : goal.returns-in-Ok-clause-forced
+returns-in-Ok-clause-forced c = (c.crash_logs.new.logs, c.in_ok-crash_logs.ensures.crashed c.if-not-branch.false, c.in-Ok.ensures.recovered)
+
+pub returns-in-Err-clause-forced : goal.returns-in-Err-clause-forced
+returns-in-Err-clause-forced c = (c.crash_logs.new.logs, c.in_ok-crash_logs.ensures.crashed c.if-not-branch.false, c.in-Err.ensures.err)

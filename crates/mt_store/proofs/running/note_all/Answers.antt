@@ -3,7 +3,10 @@ use Rattle.std.specs.List.{zip}
 use Rattle.std.proofs.lemmas.List.{take_all}
 use Rattle.mt_store.specs.declared.events.StoreEvent.{StoreEvent}
 use Rattle.mt_store.specs.Lives.{Notes}
+use Rattle.mt_store.specs.declared.events.StoreNote.{StoreNote}
 use Rattle.mt_store.specs.Steps.{NotesGoOn}
+use Rattle.mt_store.specs.Forced.{AreForced}
+use Rattle.mt_store.proofs.Forcing.{forced_more}
 use Rattle.mt_store.proofs.Lists.{none_yet, one_more, stands_on, zip_more}
 use Rattle.mt_store.proofs.running.note_all.Goals as goal
 
@@ -13,6 +16,9 @@ loop-event-init c = record {
       subst (λ (ns : _). NotesGoOn c.args.tenants.now (zip (take 0 c.args.events.now) ns) c.args.store.now.logs.items c.args.store.now.serving c.args.store.now.logs.items c.args.store.now.serving)
       (sym c.new-notes.ensures.items)
       (none_yet c.args.tenants.now c.args.store.now.logs.items c.args.store.now.serving);
+  forced =
+      subst (λ (ns : List StoreNote). AreForced c.args.tenants.now (zip (take 0 c.args.events.now) ns) c.args.store.now.logs.items c.args.store.now.serving c.args.store.now.logs.items c.args.store.now.serving)
+      (sym c.new-notes.ensures.items) (refl, refl);
   count = ap length c.new-notes.ensures.items;
   logs = refl;
 }
@@ -29,6 +35,10 @@ loop-event-preserved c =
           subst (λ (ns : Notes). NotesGoOn c.args.tenants.now ns c.args.store.now.logs.items c.args.store.now.serving c.happen.new.store.logs.items c.happen.new.store.serving) (sym grows)
           (one_more c.args.tenants.now c.args.store.now.logs.items c.args.store.now.serving notes c.loop-event.store.logs.items c.happen.new.store.logs.items c.loop-event.store.serving
           c.happen.new.store.serving c.event-item.result c.in_ok-note.note h.goes c.in_ok-note.ensures.goes);
+      forced =
+          subst (λ (ns : Notes). AreForced c.args.tenants.now ns c.args.store.now.logs.items c.args.store.now.serving c.happen.new.store.logs.items c.happen.new.store.serving) (sym grows)
+          (forced_more c.args.tenants.now notes c.event-item.result c.in_ok-note.note c.args.store.now.logs.items c.loop-event.store.logs.items c.happen.new.store.logs.items
+          c.args.store.now.serving c.loop-event.store.serving c.happen.new.store.serving h.forced c.in_ok-note.ensures.forced);
       count = ap length c.in_ok-push.ensures.items ∙ length-append c.loop-event.notes.items (c.in_ok-note.note ∷ []) ∙ omega (arith, h.count);
       logs = c.in_ok-note.ensures.count ∙ h.logs;
     }
@@ -45,3 +55,8 @@ returns-clause-goes c =
 
 pub returns-clause-count : goal.returns-clause-count
 returns-clause-count c = search (arith, c.loop-event.invariant.count, c.loop-event.auto.event-index-end, c.loop-event-test.false)
+
+pub returns-clause-forced : goal.returns-clause-forced
+returns-clause-forced c =
+    subst (λ (es : List StoreEvent). AreForced c.args.tenants.now (zip es c.loop-event.notes.items) c.args.store.now.logs.items c.args.store.now.serving c.loop-event.store.logs.items c.loop-event.store.serving)
+    (take_all _ _ c.loop-event-test.false) c.loop-event.invariant.forced

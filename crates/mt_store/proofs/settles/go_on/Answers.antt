@@ -11,6 +11,9 @@ use Rattle.mt_store.specs.Serving.{DrainsServing}
 use Rattle.mt_store.specs.Steps.{Turns}
 use Rattle.mt_store.proofs.Flushing.{keeps_rules, failures_of}
 use Rattle.mt_store.proofs.Draining.{flush_settles}
+use Rattle.mt_store_logs.specs.Places.{mark_in}
+use Rattle.mt_store.specs.Forced.{IsForced}
+use Rattle.mt_store.proofs.Forcing.{turn_forced, settle_forced}
 use Rattle.mt_store.proofs.Goes.{Goes, settle_goes, settle_stops}
 use Rattle.mt_store.proofs.Settling.{next_within, not_open}
 use Rattle.mt_store.proofs.settles.go_on.Goals as goal
@@ -63,3 +66,24 @@ returns-in-Err-clause-goes c = λ accounts standing h.
     subst (λ k. Goes accounts standing logs was h (SettleNext c.args.id) (Refused c.in-Err.refusal) (slice_set logs k new) end) (sym c.from.ensures)
     (settle_stops accounts standing logs was h settle.next log new here now c.args.id settle there refl end refl refl c.in-Err.refusal
     (subst (λ n. FailsToFlush keeps_rules mem_state failures_of DrainsServing settle.next n c.in-Err.refusal log new was now) c.steps-steps.ensures c.in-Err.ensures.err) c.remove.ensures.updates)
+
+pub returns-in-Ok-clause-forced : goal.returns-in-Ok-clause-forced
+returns-in-Ok-clause-forced c = λ accounts.
+    let logs = c.args.logs.now in
+    turn_forced accounts (length (slice_set logs c.from.result c.flush.new.log)) c.args.id c.in-Ok.mark c.in-Some.settle c.flush.new.source.settles c.turned.new.serving.settles logs
+    (slice_set logs c.from.result c.flush.new.log) (Some c.args.serving.now) c.turned.result c.turned.ensures.turns
+
+pub returns-in-Err-clause-forced : goal.returns-in-Err-clause-forced
+returns-in-Err-clause-forced c = λ accounts.
+    let logs = c.args.logs.now in
+    let was = c.args.serving.now in
+    let settle = c.in-Some.settle in
+    let place = c.from.result in
+    let log = get_or logs place c.index-logs-from.result in
+    let new = c.flush.new.log in
+    let held = c.requires in
+    let there : get nat_cmp was.settles c.args.id ≡ Some settle = search rules in
+    let here = subst (λ k. slice_get logs k ≡ Some log) c.from.ensures
+    (slice_get-get_or logs place c.index-logs-from.result (omega (arith, c.from.ensures, next_within held.0 held.1 logs was held.2 was refl refl c.args.id settle there))) in
+    subst (λ k. IsForced accounts (SettleNext c.args.id) (Refused c.in-Err.refusal) logs (Some was) (slice_set logs k new)) (sym c.from.ensures)
+    (settle_forced accounts logs (Some was) settle.next log new here c.args.id c.steps-steps.result c.in-Err.refusal was c.flush.new.source (mark_in log.slot) refl c.in-Err.ensures.err)
