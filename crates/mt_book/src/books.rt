@@ -5,6 +5,7 @@ ghost use Rattle.std.specs.List.{sum_by};
 ghost use Rattle.mt_rows.specs.Accounts.{account_of};
 ghost use Rattle.mt_batches.specs.Batches.{IsBounded, BringsOn};
 ghost use Rattle.mt_state.specs.Promises.{Tells};
+ghost use Rattle.mt_state.specs.Phases.{LeadsOn};
 ghost use Rattle.mt_state.specs.Begins.{IsWorker};
 ghost use Rattle.mt_core.specs.Tickets.{TellsBegin, TellsTake, TellsCancel, TellsRefusal};
 ghost use Rattle.mt_core.specs.Places.{AddsPlaces};
@@ -14,6 +15,7 @@ ghost use Rattle.mt_core.specs.Drains.{Drains};
 ghost use Rattle.mt_core.specs.Tidies.{TidiesInto, HandsOutRest};
 ghost use Rattle.mt_book.specs.declared.passes.Pass.{Pass};
 ghost use Rattle.mt_book.specs.Books.{IsRightBook};
+ghost use Rattle.mt_book.specs.Does.{KeepsOtherTenants};
 
 use crate::passes::Pass;
 use mt_core::{Displaced, Opening, State, Ticket};
@@ -105,6 +107,8 @@ impl<L: Ledger> Book<L> {
     /// As the state's.
     pub fn step(&mut self, ticket: &Ticket) -> Move
         ensures told { Tells self.old.state self.new.state ticket.now.id result }
+        ensures leads { LeadsOn self.old.state self.new.state ticket.now.id result }
+        ensures tenants { KeepsOtherTenants self.old.state self.new.state ticket.now.id }
         ensures opened { (self.new.opened ≡ self.old.opened) × (self.new.gathered ≡ self.old.gathered) }
     {
         self.state.step(ticket)
