@@ -24,6 +24,7 @@ use Rattle.mt_arena.specs.Accesses.{at}
 use Rattle.mt_operation.specs.Operations.{OperationView}
 use Rattle.mt_state.specs.Views.{StateView, contents_of, quota_in, quota_of, granted, granted_in}
 use Rattle.mt_state.specs.Begins.{Begins, begun, new_state}
+use Rattle.mt_state.specs.Promises.{IsPlacedToGrow}
 use Rattle.mt_state.specs.Refused.{IsFault, IsAdmissible, IsRefusal}
 use Rattle.mt_state.proofs.HistoryStart.{content-new, tenant_map-empty}
 use Rattle.mt_core.specs.declared.answers.Ticket.{Ticket}
@@ -34,7 +35,7 @@ use Rattle.mt_alone.specs.declared.runs.Unfinished.{Unfinished}
 use Rattle.mt_alone.specs.declared.runs.Unfinished.TheVariants as unfinished
 use Rattle.mt_alone.specs.TenantMaps.{TenantMaps, tenant_maps, fresh_maps, with_map, after_command, MapsAnswer}
 use Rattle.mt_alone.specs.Runs.{Keeps, IsIdle, IsOnly, IsSettled, TellsRun, Finishes}
-use Rattle.mt_alone.specs.Callers.{maps_in, AreOpen, HasNumbersFor, HasNumbers, ClearsTo, Clears, Answers}
+use Rattle.mt_alone.specs.Callers.{maps_in, AreOpen, HasNumbersFor, HasNumbers, LeavesStuck, ClearsTo, Clears, Answers}
 use Rattle.mt_alone.proofs.RunLemmas.{keeps_same, keeps_on}
 
 no_value : {A : Type 0} {a : A} → ◌≡◌ {A = Option A} None (Some a) → ⊥
@@ -78,6 +79,7 @@ pub answers_refused : (v : StateView) (tenant : ℕ) (command : Command) (refusa
 answers_refused v tenant command refusal there alone is = record {
   keeps = keeps_same v;
   alone = alone;
+  leaves = λ left. refl;
   by_maps = λ numbers. let q = has_quota v tenant there in (q.0, q.1, (refused_for v tenant command refusal numbers there is, refl));
 }
 
@@ -193,6 +195,7 @@ module _ (old mid : StateView) (o tenant : ℕ) (command : Command) (right : IsR
   answers_done new reply f = record {
     keeps = keeps new (Ok reply) f;
     alone = λ left. f.ends;
+    leaves = refl;
     by_maps = λ numbers. (
       quota new (Ok reply) f,
       granted_is new (Ok reply) f,
@@ -211,6 +214,7 @@ module _ (old mid : StateView) (o tenant : ℕ) (command : Command) (right : IsR
   answers_stuck new ticket f = record {
     keeps = keeps new (Err (unfinished.Stuck ticket)) f;
     alone = still_open new o ticket f.ends.0 f.ends.1 f.ends.2;
+    leaves = (ticket, refl, subst (IsPlacedToGrow new) (sym f.ends.0) f.ends.3);
     by_maps = λ numbers. (
       quota new (Err (unfinished.Stuck ticket)) f,
       granted_is new (Err (unfinished.Stuck ticket)) f,
@@ -227,9 +231,14 @@ pub answers_held : (old new : StateView) (stuck : Option Ticket) (tenant : ℕ) 
 answers_held old new stuck tenant command fault c is_there = record {
   keeps = c.keeps;
   alone = c.alone;
+  leaves = left fault c.ends;
   by_maps = λ numbers. let q = has_quota old tenant is_there in (q.0, q.1, held q.0 fault c.ends numbers);
 }
   where
+    left : (fault : CallerFault) → ClearsTo new stuck (Err fault) → LeavesStuck new stuck (Err fault)
+    left (Refused refusal) spent = λ numbered. absurd (numbered spent)
+    left Stuck is = is
+
     held : (quota : ℕ) (fault : CallerFault) → ClearsTo new stuck (Err fault) → HasNumbersFor new (is_scan command)
         → MapsAnswer tenant quota (maps_in old (Some tenant)) command (Err fault) (maps_in new (Some tenant))
     held quota (Refused refusal) spent numbers = absurd (no_numbers new (is_scan command) numbers spent)

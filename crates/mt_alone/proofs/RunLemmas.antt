@@ -198,7 +198,7 @@ finishes_stuck old new ticket only r alone right =
     let settled : IsSettled new o = record { op = p.op; there = p.there; placed = to_grow_placed p.op.phase p.grows; told = told.0; has = told.1; made = upto } in
     record {
       keeps = c.keeps;
-      ends = (refl, only_on old new o only c, settled);
+      ends = (refl, only_on old new o only c, settled, p);
       alone = λ op h. elim ((alone op h).outcome) [
         | inl none ↦ inl none.1
         | inr run ↦ inr ((alone op h).told.reply, run)

@@ -9,6 +9,7 @@ use Rattle.mt_session.specs.declared.caller.CallerFault.{CallerFault}
 use Rattle.mt_session.specs.declared.caller.CallerFault.TheVariants.{Refused, Stuck}
 use Rattle.mt_session.specs.Exchanges.{Exchange, Calls}
 use Rattle.mt_state.specs.Views.{StateView, contents_of, granted}
+use Rattle.mt_state.specs.Promises.{IsPlacedToGrow}
 use Rattle.mt_core.specs.declared.answers.Ticket.{Ticket}
 use Rattle.mt_core.specs.Alone.{most_among}
 use Rattle.mt_alone.specs.TenantMaps.{TenantMaps, tenant_maps, MapsCall, MapsExchange}
@@ -63,16 +64,31 @@ scans_in _ = false
 abbrev pub MapsPointExchange : TenantMaps → Exchange → TenantMaps → Type 0
 MapsPointExchange old exchange new = scans_in exchange ≡ false → MapsExchange old exchange new
 
--- what is answered: as long as numbers are left for a whole run of what was asked, what the tenants' maps answer
+-- the command that is stuck has placed its change, and wants memory for a node again
+abbrev pub IsStuck : StateView → Option Ticket → Type 0
+IsStuck v stuck = (ticket : Ticket) × (stuck ≡ Some ticket) × IsPlacedToGrow v ticket.id
+
+-- What is stuck after a call of an opened tenant: after a reply or a refusal nothing, unless no number is left; a call is answered Stuck only if a command is.
+abbrev pub LeavesStuck : StateView → Option Ticket → Result Reply CallerFault → Type 0
+LeavesStuck new stuck (Ok reply) = stuck ≡ None
+LeavesStuck new stuck (Err (Refused refusal)) = new.steps ≢ 2 ^ 59 → stuck ≡ None
+LeavesStuck new stuck (Err Stuck) = IsStuck new stuck
+
+abbrev pub LeavesBy : Exchange → AloneView → Type 0
+LeavesBy (Calls command answer) new = new.opened ≢ None → LeavesStuck new.state new.stuck answer
+LeavesBy _ new = Unit {0}
+
+-- What is answered: as long as numbers are left for a whole run of what was asked, what the tenants' maps answer. A stuck command is run on first.
 pub record AloneExchange (old : AloneView) (exchange : Exchange) (new : AloneView) : Type 0 where
   pub keeps : Keeps old.state new.state
+  pub leaves : LeavesBy exchange new
   pub by_maps : HasNumbersFor new.state (scans_in exchange) → MapsExchange (maps_of old) exchange (maps_of new)
 
--- the command that is stuck is done with, or is stuck as before, and its refusal is that no number is left
+-- the command that is stuck is done with, or wants memory again; its refusal is that no number is left
 abbrev pub ClearsTo : StateView → Option Ticket → Result (Unit {0}) CallerFault → Type 0
 ClearsTo new stuck (Ok done) = stuck ≡ None
 ClearsTo new stuck (Err (Refused refusal)) = new.steps ≡ 2 ^ 59
-ClearsTo new stuck (Err Stuck) = Unit {0}
+ClearsTo new stuck (Err Stuck) = IsStuck new stuck
 
 -- the command that is stuck is run on, which changes no map
 pub record Clears (old new : StateView) (stuck : Option Ticket) (result : Result (Unit {0}) CallerFault) : Type 0 where
@@ -85,4 +101,5 @@ pub record Clears (old new : StateView) (stuck : Option Ticket) (result : Result
 pub record Answers (old new : StateView) (tenant : ℕ) (command : Command) (result : Result Reply CallerFault) (stuck : Option Ticket) : Type 0 where
   pub keeps : Keeps old new
   pub alone : AreOpen new stuck
+  pub leaves : LeavesStuck new stuck result
   pub by_maps : HasNumbersFor new (is_scan command) → MapsCall (Some tenant) (maps_in old (Some tenant)) command result (maps_in new (Some tenant))

@@ -6,7 +6,7 @@ use Rattle.mt_operation.specs.declared.outcome.Outcome.{Outcome}
 use Rattle.mt_operation.specs.Operations.{OperationView}
 use Rattle.mt_state.specs.Views.{StateView, contents_of, op_at, granted}
 use Rattle.mt_state.specs.Steps.{change_in}
-use Rattle.mt_state.specs.Promises.{HasStep}
+use Rattle.mt_state.specs.Promises.{HasStep, IsPlacedToGrow}
 use Rattle.mt_operation.specs.Phases.{is_unplaced}
 use Rattle.mt_core.specs.Alone.{IsAlone, IsRun}
 use Rattle.mt_alone.specs.declared.runs.Unfinished.{Unfinished}
@@ -43,7 +43,7 @@ pub record IsSettled (v : StateView) (o : ℕ) : Type 0 where
 abbrev pub EndsRun : StateView → ℕ → Result Reply Unfinished → Type 0
 EndsRun new o (Ok reply) = IsIdle new
 EndsRun new o (Err (Spent ticket)) = (ticket.id ≡ o) × IsOnly new o × (new.steps ≡ 2 ^ 59)
-EndsRun new o (Err (Stuck ticket)) = (ticket.id ≡ o) × IsOnly new o × IsSettled new o
+EndsRun new o (Err (Stuck ticket)) = (ticket.id ≡ o) × IsOnly new o × IsSettled new o × IsPlacedToGrow new o
 
 -- What a run tells of an operation that is alone from its first step on: its reply and its change, or that no memory was there and nothing changed; one
 -- that is stuck has made its change, or none.
