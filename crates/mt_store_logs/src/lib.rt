@@ -16,11 +16,13 @@ mod opening;
 mod recovering;
 mod source;
 mod store_log;
+mod watching;
 
 pub use crashing::crash_logs;
 pub use fault::LogRefusal;
 pub use flushing::flush;
 pub use opening::{create_logs, open_logs};
-pub use recovering::recover_logs;
+pub use recovering::{recover_logs, recover_watched};
 pub use source::Source;
 pub use store_log::{StoreLog, WaitingBatch};
+pub use watching::{NoWatch, Watch};

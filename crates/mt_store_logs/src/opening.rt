@@ -6,6 +6,7 @@ ghost use Rattle.mt_store_logs.specs.Places.{OpensLog, FailsToOpenLog, OpensAll,
 
 use crate::fault::LogRefusal;
 use crate::store_log::{StoreLog, open_slot, take_disk};
+use crate::watching::{NoWatch, Watch};
 use mt_disk::{DeviceFailed, Disk};
 use mt_log::{Front, LogFile};
 use mt_recover::LogSlot;
@@ -83,6 +84,18 @@ pub fn open_logs<D: Disk + Drop>(
     ensures ok { IfOk result (λ fronts. OpensAll D.is_honest D.state D.failures logs.old logs.new fronts.items) }
     ensures err { IfErr result (λ e. StopsOpening D.is_honest D.state D.failures e logs.old logs.new) }
 {
+    open_watched(alloc, logs, &mut NoWatch)
+}
+
+// The same, with somebody who is told of each log that is open.
+pub(crate) fn open_watched<D: Disk + Drop, W: Watch>(
+    alloc: Global,
+    logs: &mut [StoreLog<D>],
+    watch: &mut W,
+) -> Result<Vec<Front>, LogRefusal>
+    ensures ok { IfOk result (λ fronts. OpensAll D.is_honest D.state D.failures logs.old logs.new fronts.items) }
+    ensures err { IfErr result (λ e. StopsOpening D.is_honest D.state D.failures e logs.old logs.new) }
+{
     let mut fronts = match Vec::with_capacity(alloc, logs.len()) {
         Ok(fronts) => fronts,
         Err(_) => return Err(LogRefusal::of_all(Refusal::Memory)),
@@ -92,6 +105,7 @@ pub fn open_logs<D: Disk + Drop>(
             Ok(front) => fronts.push_reserved(front),
             Err(refusal) => return Err(LogRefusal::at(place, refusal)),
         }
+        watch.opened(place + 1, logs.len());
     }
     Ok(fronts)
 }

@@ -4,8 +4,9 @@ ghost use Rattle.std.specs.Prelude.{◌≤◌, ◌^◌, IfOk, IfErr, OnOk};
 ghost use Rattle.mt_store_logs.specs.Recovers.{AreOpenUpto, ResumesAll, StopsResuming, ServesAgain, IsNotRecovered};
 
 use crate::fault::LogRefusal;
-use crate::opening::open_logs;
+use crate::opening::open_watched;
 use crate::store_log::StoreLog;
+use crate::watching::{NoWatch, Watch};
 use mt_disk::Disk;
 use mt_recover::{Recovered, recover, resume_at};
 use mt_rows::Tenants;
@@ -25,7 +26,20 @@ pub fn recover_logs<D: Disk + Drop>(
     ensures ok { IfOk result (λ recovered. ServesAgain D.is_honest D.state D.failures tenants.now recovered logs.old logs.new) }
     ensures err { IfErr result (λ e. IsNotRecovered D.is_honest D.state D.failures tenants.now e logs.old logs.new) }
 {
-    let fronts = open_logs(alloc, logs)?;
+    recover_watched(alloc, logs, tenants, &mut NoWatch)
+}
+
+/// The same, with somebody who is told how far it is.
+pub fn recover_watched<D: Disk + Drop, W: Watch>(
+    alloc: Global,
+    logs: &mut [StoreLog<D>],
+    tenants: &Tenants,
+    watch: &mut W,
+) -> Result<Recovered, LogRefusal>
+    ensures ok { IfOk result (λ recovered. ServesAgain D.is_honest D.state D.failures tenants.now recovered logs.old logs.new) }
+    ensures err { IfErr result (λ e. IsNotRecovered D.is_honest D.state D.failures tenants.now e logs.old logs.new) }
+{
+    let fronts = open_watched(alloc, logs, watch)?;
     let recovered = match recover(alloc, fronts, [None, None], tenants) {
         Ok(recovered) => recovered,
         Err(refusal) => return Err(LogRefusal::of_all(refusal)),

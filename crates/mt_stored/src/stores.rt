@@ -12,7 +12,7 @@ use mt_core::State;
 use mt_disk::Disk;
 use mt_rows::{Refusal, Tenants};
 use mt_settle::{Logs, settle};
-use mt_store_logs::{LogRefusal, StoreLog, create_logs, recover_logs};
+use mt_store_logs::{LogRefusal, NoWatch, StoreLog, Watch, create_logs, recover_watched};
 use std::alloc::{AllocError, Global};
 use std::sync::Wait;
 
@@ -79,8 +79,23 @@ impl<D: Disk + Drop> Store<D> {
         ensures ok { IfOk result (λ store. IsRecoveredStore D.is_honest D.state D.failures disks.items tenants store.source.state store.logs.items) }
         ensures err { IfErr result (IsNotRecoveredStore D.is_honest D.state D.failures disks.items tenants) }
     {
+        Store::recover_watched(alloc, disks, tenants, &mut NoWatch)
+    }
+
+    /// The same, with somebody who is told how far it is.
+    pub fn recover_watched<W: Watch>(
+        alloc: Global,
+        disks: Vec<D>,
+        tenants: Tenants,
+        watch: &mut W,
+    ) -> Result<Store<D>, LogRefusal>
+        requires few { vec_len disks ≤ 64 }
+        requires empty { HaveNoPairs tenants }
+        ensures ok { IfOk result (λ store. IsRecoveredStore D.is_honest D.state D.failures disks.items tenants store.source.state store.logs.items) }
+        ensures err { IfErr result (IsNotRecoveredStore D.is_honest D.state D.failures disks.items tenants) }
+    {
         let mut logs = closed_logs(alloc, disks)?;
-        let recovered = recover_logs(alloc, &mut logs, &tenants)?;
+        let recovered = recover_watched(alloc, &mut logs, &tenants, watch)?;
         let count = logs.len() as u8;
         match State::restore(alloc, recovered.resume, count, tenants, &recovered.pairs) {
             Ok(state) => Ok(Store {

@@ -9,7 +9,7 @@ use Rattle.mt_store_logs.proofs.ForResumes.{last_within, resumes_last}
 use Rattle.mt_stored.specs.Places.{closed_on}
 use Rattle.mt_stored.proofs.Limits.{distinct, limits_kept}
 use Rattle.mt_stored.proofs.Slices.{whole}
-use Rattle.mt_stored.proofs.stores.Store.recover.Goals as goal
+use Rattle.mt_stored.proofs.stores.Store.recover_watched.Goals as goal
 
 pub restore-requires-clause-steps : goal.restore-requires-clause-steps
 restore-requires-clause-steps g c =
@@ -35,7 +35,7 @@ returns-in-Ok-clause-ok g c =
     let disks = c.args.disks.items in
     let logs = c.in_ok-logs.logs in
     let r = c.in_ok-recovered.recovered in
-    let new = c.recover_logs.new.logs in
+    let new = c.recover_watched.new.logs in
     let old = c.deref_mut.ensures.value ∙ c.in_ok-logs.ensures.ok in
     let serves = subst (λ was. ServesAgain g.D.Disk.is_honest g.D.Disk.state g.D.Disk.failures c.args.tenants r was new) old c.in_ok-recovered.ensures.ok in
     let count : logs.len ≡ length disks = omega (arith, logs.ok.0, ap length c.in_ok-logs.ensures.ok, length-map disks closed_on) in

@@ -3,7 +3,7 @@ use Rattle.std.proofs.Common.{◌≡◌, ℕ, ◌≤◌, length}
 use Rattle.std.specs.Prelude.{slice_get, vec_capacity}
 use Rattle.mt_store_logs.specs.Lists.{EachBefore}
 use Rattle.mt_store_logs.specs.Places.{OpensAs}
-use Rattle.mt_store_logs.proofs.opening.open_logs.Given as goal
+use Rattle.mt_store_logs.proofs.opening.open_watched.Given as goal
 
 abbrev pub invariant-loop-place : goal.invariant-loop-place
 invariant-loop-place g l = record {

@@ -5,7 +5,7 @@ use Rattle.mt_log.specs.declared.batch.Front.{Front}
 use Rattle.mt_store_logs.specs.Lists.{EachBefore}
 use Rattle.mt_store_logs.specs.Places.{OpensLog, FailsToOpenLog, OpensAs, StopsOpening}
 use Rattle.mt_store_logs.proofs.Loops.{one_more, still_left, same_len, walked, stopped, next_was, get_more, get_last}
-use Rattle.mt_store_logs.proofs.opening.open_logs.Goals as goal
+use Rattle.mt_store_logs.proofs.opening.open_watched.Goals as goal
 
 pub returns-in-Err-open_log-clause-err : goal.returns-in-Err-open_log-clause-err
 returns-in-Err-open_log-clause-err g c =
