@@ -1,35 +1,24 @@
 -- What the getters of clap's matches give, by what the command line has.
-use Rattle.std.proofs.Common.{◌≡◌, ℕ, ◌≤◌, ◌<◌, ◌^◌, Bool, true, false, List, [], Bor, Option, Some, None, Result, Ok, Err, map, option_map, codes, MatchResult, IfOk, IfErr, Vec, Global, unwrap_or, refl, ap, sym, subst, ◌∙◌, arith}
+use Rattle.std.proofs.Common.{◌≡◌, ℕ, ◌≤◌, ◌<◌, ◌^◌, Bool, true, false, List, [], Bor, Option, Some, None, Result, Ok, Err, map, option_map, codes, MatchResult, IfOk, IfErr, unwrap_or, refl, ap, sym, ◌∙◌, arith}
 use Rattle.std.specs.Str.Parse.{ParsesUnsigned}
 use Rattle.clap.specs.Words.{without_minus, first_value, ReadsOne, Text, matched_of, one_of, one_text, raw_values, rows_of}
 use Rattle.clap.specs.declared.parser.matches.Found.{Found}
 use Rattle.clap.proofs.CallerReads.{signed_reads}
 use Rattle.clap.proofs.WalkLemmas.{first_value-rows, one_text-rows, raw_values-rows}
 use Rattle.mt_command_line.specs.CommandLine.{folder_in, found_in, given_for, tenant_words}
-use Rattle.mt_command_line.specs.Reads.{HasNumber, IsFlag, IsGiven, Names}
-use Rattle.mt_options.specs.Tenants.{AreTenants, IsFirstFault}
-use Rattle.mt_options.specs.declared.tenants.TenantQuota.{TenantQuota}
-use Rattle.mt_options.specs.declared.tenants.TenantsFault.{TenantsFault}
+use Rattle.mt_command_line.specs.Reads.{HasNumber, IsFlag, IsGiven}
 
--- what the words of an id name, by the rows of the matches
-pub names : (f : Found) (o : Option (Bor (List (Bor Text)))) (d r : Bor (List (Bor Text))) (result : Result (Vec TenantQuota Global) TenantsFault)
+-- the words that matches have for tenants, by their rows
+pub words_are : (f : Found) (o : Option (Bor (List (Bor Text)))) (d r : Bor (List (Bor Text)))
     → option_map (λ s. map (λ v. v.now) s.now) o ≡ option_map raw_values (matched_of f (codes "tenants")) → r ≡ unwrap_or o d → d.now ≡ []
-    → IfOk result (λ ts. AreTenants (map (λ w. w.now) r.now) ts.items) → IfErr result (IsFirstFault (map (λ w. w.now) r.now))
-    → Names (rows_of f) result
-names f o d r result got is none ok err = go result ok err
+    → map (λ w. w.now) r.now ≡ tenant_words (rows_of f)
+words_are f o d r got is none =
+    ap (λ (b : Bor (List (Bor Text))). map (λ w. w.now) b.now) is
+    ∙ (values o ∙ ap (λ x. unwrap_or x []) (got ∙ raw_values-rows f (codes "tenants")))
   where
     values : (o : Option (Bor (List (Bor Text)))) → map (λ w. w.now) (unwrap_or o d).now ≡ unwrap_or (option_map (λ s. map (λ v. v.now) s.now) o) []
     values None = ap (map (λ w. w.now)) none
     values (Some s) = refl
-
-    same : map (λ w. w.now) r.now ≡ tenant_words (rows_of f)
-    same = ap (λ (b : Bor (List (Bor Text))). map (λ w. w.now) b.now) is
-        ∙ (values o ∙ ap (λ x. unwrap_or x []) (got ∙ raw_values-rows f (codes "tenants")))
-
-    go : (result : Result (Vec TenantQuota Global) TenantsFault) → IfOk result (λ ts. AreTenants (map (λ w. w.now) r.now) ts.items)
-        → IfErr result (IsFirstFault (map (λ w. w.now) r.now)) → Names (rows_of f) result
-    go (Ok ts) ok err = subst (λ ws. AreTenants ws ts.items) same ok
-    go (Err fault) ok err = subst (λ ws. IsFirstFault ws fault) same err
 
 -- the number of an option is the one that is found for it
 pub number_is : (E : Type 0) (G : List ℕ → Result ℕ E → Type 0) (k least most d : ℕ) (f : Found) (name : Text) (words : List Text) (o : Option ℕ)

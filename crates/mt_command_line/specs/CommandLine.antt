@@ -45,17 +45,21 @@ tenants_rule = record (new_rule (codes "tenants")) {
   range = Some (record { start_inclusive = 1; end_inclusive = usize_max });
 }
 
+-- the program tells its version if it is asked for it, by `--version` or `-V`
+abbrev pub with_version : App → App
+with_version app = record app { top = record app.top { has_version = true } }
+
 -- what the program takes
 unfoldable pub server : App
 server =
-    with_rule (with_rule (with_rule (with_rule (with_rule (with_rule (new_app (codes "mt_server")) port_rule) workers_rule) sessions_rule)
+    with_rule (with_rule (with_rule (with_rule (with_rule (with_rule (with_version (new_app (codes "mt_server"))) port_rule) workers_rule) sessions_rule)
     store_rule) create_rule) tenants_rule
 
 -- what clap finds in a command line, rule by rule; its first word is the program's name
 unfoldable pub found_in : List Text → List Row
 found_in words = matches_of server words
 
--- the kinds of fault that clap may tell of a command line, none where it has none; a wish for help is one
+-- the kinds of fault that clap may tell of a command line, none where it has none; a wish for help or for the version is one
 unfoldable pub faults_in : List Text → Kinds
 faults_in words = fault_of server words
 

@@ -10,10 +10,10 @@ use Rattle.mt_command_line.specs.declared.faults.OptionsFault.TheVariants.{Words
 abbrev pub AsksForHelp : ErrorKind → Type 0
 AsksForHelp kind = (kind ≡ DisplayHelp) ⊎ (kind ≡ DisplayVersion)
 
--- the program ends with this status: 0 for help, 1 where memory is short, 2 for every other fault
+-- the program ends with this status: 0 for help or the version, 1 where memory is short, 2 for every other fault
 abbrev pub HasStatus : OptionsFault → ℕ → Type 0
 HasStatus (Words error) status = (AsksForHelp (kind_of error) → status ≡ 0) × (¬ AsksForHelp (kind_of error) → status ≡ 2)
 HasStatus CreateAlone status = status ≡ 2
-HasStatus (Malformed before) status = status ≡ 2
-HasStatus (Refused before refusal) status = status ≡ 2
+HasStatus (Malformed word before why) status = status ≡ 2
+HasStatus (Refused word before refusal) status = status ≡ 2
 HasStatus Memory status = status ≡ 1

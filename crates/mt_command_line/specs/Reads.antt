@@ -1,5 +1,5 @@
 -- What is read from the words of a command line: options, or a fault.
-use Rattle.std.specs.Prelude.{◌≡◌, ℕ, ◌≤◌, Bool, true, false, List, [], Option, Some, None, Result, Ok, Err, Vec, codes, pos}
+use Rattle.std.specs.Prelude.{◌≡◌, ℕ, ◌≤◌, Bool, true, false, List, [], Option, Some, None, Result, Ok, Err, Vec, codes, pos, slice_get}
 use Rattle.std.specs.Global.{Global}
 use Rattle.std.specs.Str.Parse.{IsNumeral, digits_value, without_leading_plus}
 use Rattle.clap.specs.Words.{IsAmong, IsSignedIn, Row, Text, found_of, kind_of, one_text, rows_of, without_minus}
@@ -8,7 +8,6 @@ use Rattle.clap.specs.declared.parser.matches.Found.{Found}
 use Rattle.mt_options.specs.declared.options.Options.{Options}
 use Rattle.mt_options.specs.declared.options.StorePlace.{StorePlace}
 use Rattle.mt_options.specs.declared.tenants.TenantQuota.{TenantQuota}
-use Rattle.mt_options.specs.declared.tenants.TenantsFault.{TenantsFault}
 use Rattle.mt_options.specs.declared.tenants.TenantsFault.TheVariants as tenants_fault
 use Rattle.mt_options.specs.Tenants.{AreTenants, IsFirstFault}
 use Rattle.mt_command_line.specs.declared.faults.OptionsFault.{OptionsFault}
@@ -39,10 +38,17 @@ IsStoreFault rows CreateAlone = (folder_in rows ≡ None) × IsFlag (codes "crea
 IsStoreFault rows Memory = Unit {0}
 IsStoreFault rows fault = ⊥
 
--- the words that are found for tenants name these, or the first of them with a fault has this one
-abbrev pub Names : List Row → Result (Vec TenantQuota Global) TenantsFault → Type 0
-Names rows (Ok tenants) = AreTenants (tenant_words rows) tenants.items
-Names rows (Err fault) = IsFirstFault (tenant_words rows) fault
+-- the fault is that of the first of the tenants' words that has one; the fault tells this word, and how many stand before it
+abbrev pub IsTenantsFault : List Text → OptionsFault → Type 0
+IsTenantsFault words (Malformed word before why) = IsFirstFault words (tenants_fault.Malformed before why) × (slice_get words before ≡ Some word.bytes.items)
+IsTenantsFault words (Refused word before refusal) = IsFirstFault words (tenants_fault.Refused before refusal) × (slice_get words before ≡ Some word.bytes.items)
+IsTenantsFault words Memory = Unit {0}
+IsTenantsFault words fault = ⊥
+
+-- the words name these tenants, or the first of them with a fault has this one
+abbrev pub Names : List Text → Result (Vec TenantQuota Global) OptionsFault → Type 0
+Names words (Ok tenants) = AreTenants words tenants.items
+Names words (Err fault) = IsTenantsFault words fault
 
 -- the command line has no fault, and asks for these options
 pub record AsksFor (words : List Text) (options : Options) : Type 0 where
@@ -57,8 +63,8 @@ pub record AsksFor (words : List Text) (options : Options) : Type 0 where
 abbrev pub IsTold : List Text → OptionsFault → Type 0
 IsTold words (Words error) = IsAmong (kind_of error) (faults_in words)
 IsTold words CreateAlone = (faults_in words ≡ []) × (folder_in (found_in words) ≡ None) × IsFlag (codes "create") (found_in words) true
-IsTold words (Malformed before) = (faults_in words ≡ []) × IsFirstFault (tenant_words (found_in words)) (tenants_fault.Malformed before)
-IsTold words (Refused before refusal) = (faults_in words ≡ []) × IsFirstFault (tenant_words (found_in words)) (tenants_fault.Refused before refusal)
+IsTold words (Malformed word before why) = (faults_in words ≡ []) × IsTenantsFault (tenant_words (found_in words)) (Malformed word before why)
+IsTold words (Refused word before refusal) = (faults_in words ≡ []) × IsTenantsFault (tenant_words (found_in words)) (Refused word before refusal)
 IsTold words Memory = Unit {0}
 
 -- what clap found for the option is a number from `least` to `most`, as clap reads it

@@ -7,6 +7,9 @@ ghost use Rattle.mt_command_line.specs.CommandLine.{port_rule, workers_rule, ses
 use clap::{Arg, ArgAction, Command, value_parser};
 use std::alloc::{AllocError, Global};
 
+/// The program's version, which `--version` tells.
+pub const VERSION: &str = "0.1.0";
+
 // `--port`.
 fn port_arg<'a>(alloc: Global) -> Arg<'a>
     ensures rule { rule_of result ≡ port_rule }
@@ -91,6 +94,7 @@ pub(crate) fn command_of<'a>(alloc: Global) -> Result<Command<'a>, AllocError>
 {
     Command::new(alloc, "mt_server")
         .bin_name("mt_server")?
+        .version(VERSION)
         .about("Serves the maps of many tenants over 127.0.0.1")
         .arg(port_arg(alloc))?
         .arg(workers_arg(alloc))?

@@ -4,41 +4,54 @@ ghost use Rattle.std.specs.Prelude.{◌≡◌, ◌⊎◌};
 ghost use Rattle.mt_command_line.specs.Faults.{HasStatus};
 
 use clap::Error as WordsError;
+use mt_options::WordFault;
 use mt_rows::Refusal;
 use std::alloc::{AllocError, AllocFailed};
 use std::error::Error;
 use std::fmt;
 
-/// Why no server is started. It is printed without the program's name, in one line but for `Words`.
+/// Why no server is started. It is printed without the program's name, in one line but for `Words` and for a
+/// word that has line breaks.
 #[derive(Debug, Drop)]
 pub enum OptionsFault {
-    /// The words are no options of the program's, or ask for help.
+    /// The words are no options of the program's, or ask for help or for the version.
     Words(WordsError),
     /// `--create` is given without `--store`.
     CreateAlone,
-    /// A word isn't `T:Q`; how many such words stand before it.
-    Malformed(usize),
-    /// The tenant of a word was refused, `TenantThere` or `Quota`; how many such words stand before it.
-    Refused(usize, Refusal),
+    /// This word isn't `T:Q`, for this reason. So many of the tenants' words stand before it.
+    Malformed {
+        word: String,
+        before: usize,
+        why: WordFault,
+    },
+    /// The tenant of this word was refused, `TenantThere` or `Quota`. So many of the tenants' words stand
+    /// before it.
+    Refused {
+        word: String,
+        before: usize,
+        refusal: Refusal,
+    },
     /// A growth was refused.
     Memory,
 }
 
 impl OptionsFault {
-    /// The program's exit status: 0 where the words ask for help, 1 where memory is short, else 2.
+    /// The program's exit status: 0 if the words ask for help or for the version, 1 if memory is short,
+    /// else 2.
     pub fn status(&self) -> u8
         ensures { HasStatus self.now result }
     {
         match self {
             OptionsFault::Words(error) => { if error.use_stderr() { 2 } else { 0 } }
-            OptionsFault::CreateAlone | OptionsFault::Malformed(_) | OptionsFault::Refused(_, _) =>
-                2,
+            OptionsFault::CreateAlone
+            | OptionsFault::Malformed { .. }
+            | OptionsFault::Refused { .. } => 2,
             OptionsFault::Memory => 1,
         }
     }
 
-    /// Prints the help that was asked for to standard output, and all else to standard error. It answers
-    /// the status to end with, which is 1 for help that can't be printed.
+    /// Prints the help or the version that was asked for to standard output, and all else to standard error.
+    /// It answers the status to end with, which is 1 for help that can't be printed.
     pub fn tell<R: Print + Eprint>(&self, rt: &R) -> u8
         ensures { HasStatus self.now result ⊎ (HasStatus self.now 0 × (result ≡ 1)) }
     {
@@ -52,6 +65,15 @@ impl OptionsFault {
         } else {
             status
         }
+    }
+}
+
+// What a word that isn't `T:Q` lacks, in words.
+fn wanted(why: WordFault) -> &'static str {
+    match why {
+        WordFault::NoColon => "it has no colon",
+        WordFault::Tenant => "T is 0 to 4294967295, in decimal digits",
+        WordFault::Quota => "Q is 1 to 1048576, in decimal digits",
     }
 }
 
@@ -73,14 +95,14 @@ impl fmt::Display for OptionsFault {
                 f,
                 "--create makes the logs of a folder anew, and --store DIR names none"
             ),
-            OptionsFault::Malformed(before) => {
-                let place = before.saturating_add(1);
-                write!(
-                    f,
-                    "word {place} of the tenants isn't T:Q, a tenant's number and its quota"
-                )
+            OptionsFault::Malformed { word, why, .. } => write!(
+                f,
+                "'{word}' isn't T:Q, a tenant's number and its quota: {}",
+                wanted(*why)
+            ),
+            OptionsFault::Refused { word, refusal, .. } => {
+                write!(f, "{refusal}: '{word}': {}", remedy(*refusal))
             }
-            OptionsFault::Refused(_, refusal) => write!(f, "{refusal}: {}", remedy(*refusal)),
             OptionsFault::Memory => {
                 write!(f, "{}: {}", Refusal::Memory, remedy(Refusal::Memory))
             }

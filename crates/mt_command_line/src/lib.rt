@@ -8,5 +8,6 @@ mod command;
 pub mod faults;
 mod reading;
 
+pub use command::VERSION;
 pub use faults::{OptionsFault, remedy};
 pub use reading::read_options;

@@ -1,7 +1,8 @@
 //! Options from the words of a command line.
 
-ghost use Rattle.std.specs.Prelude.{List, IfOk, IfErr, MatchResult, map};
+ghost use Rattle.std.specs.Prelude.{List, ◌≡◌, ◌<◌, Some, IfOk, IfErr, MatchResult, length, map, slice_get};
 ghost use Rattle.clap.specs.Words.{Text, found_of, rows_of};
+ghost use Rattle.mt_command_line.specs.CommandLine.{tenant_words};
 ghost use Rattle.mt_command_line.specs.Reads.{AreMatches, AsksFor, IsStoreFault, IsTold, Names, NamesStore};
 
 use crate::command::command_of;
@@ -10,13 +11,41 @@ use clap::ArgMatches;
 use clap::error::ErrorKind;
 use mt_options::{MAX_WORKERS, Options, StorePlace, TenantQuota, TenantsFault, read_tenants};
 use mt_rows::Refusal;
-use std::alloc::Global;
+use std::alloc::{AllocError, Global};
+
+// A copy of the word of this number.
+fn word_at(alloc: Global, words: &[&str], at: usize) -> Result<String, AllocError>
+    requires { at < length words.now }
+    ensures { IfOk result (λ word. slice_get (map (λ w. w.now) words.now) at ≡ Some word.bytes.items) }
+{
+    String::from_str(alloc, words[at])
+}
 
 // The tenants that the matches name.
-fn tenants_of(alloc: Global, matches: &ArgMatches<'_>) -> Result<Vec<TenantQuota>, TenantsFault>
-    ensures { Names (rows_of (found_of matches.now)) result }
+fn tenants_of(alloc: Global, matches: &ArgMatches<'_>) -> Result<Vec<TenantQuota>, OptionsFault>
+    ensures { Names (tenant_words (rows_of (found_of matches.now))) result }
 {
-    read_tenants(alloc, matches.get_strs("tenants").unwrap_or(&[]))
+    named_by(alloc, matches.get_strs("tenants").unwrap_or(&[]))
+}
+
+// The tenants that these words name.
+fn named_by(alloc: Global, words: &[&str]) -> Result<Vec<TenantQuota>, OptionsFault>
+    ensures { Names (map (λ w. w.now) words.now) result }
+{
+    match read_tenants(alloc, words) {
+        Ok(tenants) => Ok(tenants),
+        Err(TenantsFault::Malformed(before, why)) => Err(OptionsFault::Malformed {
+            word: word_at(alloc, words, before)?,
+            before,
+            why,
+        }),
+        Err(TenantsFault::Refused(_, Refusal::Memory)) => Err(OptionsFault::Memory),
+        Err(TenantsFault::Refused(before, refusal)) => Err(OptionsFault::Refused {
+            word: word_at(alloc, words, before)?,
+            before,
+            refusal,
+        }),
+    }
 }
 
 // The folder that the matches name for a store, and whether it is made anew.
@@ -40,12 +69,7 @@ fn options_of(alloc: Global, matches: &ArgMatches<'_>) -> Result<Options, Option
     ensures { (words : List Text) → AreMatches words matches.now → MatchResult result (AsksFor words) (IsTold words) }
 {
     let store = store_of(alloc, matches)?;
-    let tenants = match tenants_of(alloc, matches) {
-        Ok(tenants) => tenants,
-        Err(TenantsFault::Malformed(at)) => return Err(OptionsFault::Malformed(at)),
-        Err(TenantsFault::Refused(_, Refusal::Memory)) => return Err(OptionsFault::Memory),
-        Err(TenantsFault::Refused(at, refusal)) => return Err(OptionsFault::Refused(at, refusal)),
-    };
+    let tenants = tenants_of(alloc, matches)?;
     Ok(Options {
         port: matches.get_one::<u16>("port").unwrap_or(7411),
         workers: matches

@@ -13,12 +13,12 @@ one_more words at before after word inside is read more =
 
 -- the fault names the word's number
 same_place : (before : List TenantQuota) (at : ℕ) (word : List ℕ) (fault : TenantsFault) → IsFault before at word fault → place_of fault ≡ at
-same_place before at word (Malformed n) f = f.0
+same_place before at word (Malformed n why) f = f.0
 same_place before at word (Refused n refusal) f = f.0
 
 -- the fault of a word whose number it names
 at_place : (before : List TenantQuota) (at : ℕ) (word : List ℕ) (fault : TenantsFault) → IsFault before at word fault → IsFault before (place_of fault) word fault
-at_place before at word (Malformed n) f = (refl, f.1)
+at_place before at word (Malformed n why) f = (refl, f.1)
 at_place before at word (Refused n refusal) f = (refl, f.1, f.2, f.3)
 
 -- the first word with a fault

@@ -6,6 +6,8 @@ use Rattle.mt_rows.specs.Accounts.{IsQuota}
 use Rattle.mt_options.specs.declared.tenants.TenantQuota.{TenantQuota}
 use Rattle.mt_options.specs.declared.tenants.TenantsFault.{TenantsFault}
 use Rattle.mt_options.specs.declared.tenants.TenantsFault.TheVariants.{Malformed, Refused}
+use Rattle.mt_options.specs.declared.tenants.WordFault.{WordFault}
+use Rattle.mt_options.specs.declared.tenants.WordFault.TheVariants as word_faults
 use Rattle.mt_options.specs.Words.{number_of, parted}
 
 -- what follows from a meaning, where there is one
@@ -21,6 +23,21 @@ tenant_quota_of word = do
   tenant ← number_of halves.0
   quota ← number_of halves.1
   Some (record { tenant = tenant; quota = quota })
+
+-- the word names this tenant with this quota
+abbrev pub NamesTenant : List ℕ → TenantQuota → Type 0
+NamesTenant word named = tenant_quota_of word ≡ Some named
+
+-- why the word isn't `T:Q`: it has no colon; what stands before the first one is no number; or else what stands after it is none
+abbrev pub HasWordFault : List ℕ → WordFault → Type 0
+HasWordFault word word_faults.NoColon = parted word ≡ None
+HasWordFault word word_faults.Tenant = (halves : List ℕ × List ℕ) × (parted word ≡ Some halves) × (number_of halves.0 ≡ None)
+HasWordFault word word_faults.Quota =
+    (halves : List ℕ × List ℕ) × (tenant : ℕ) × (parted word ≡ Some halves) × (number_of halves.0 ≡ Some tenant) × (number_of halves.1 ≡ None)
+
+-- the word names no tenant, and this is why
+abbrev pub IsMalformed : List ℕ → WordFault → Type 0
+IsMalformed word why = (tenant_quota_of word ≡ None) × HasWordFault word why
 
 -- the tenant is one of these
 abbrev pub IsListed : List TenantQuota → ℕ → Type 0
@@ -41,9 +58,9 @@ IsRefusedBy before named Quota = (¬ IsListed before named.tenant) × ¬ IsQuota
 IsRefusedBy before named Memory = (¬ IsListed before named.tenant) × IsQuota named.quota
 IsRefusedBy before named _ = ⊥
 
--- the fault is that of the word of this number behind these: it isn't `T:Q`, or its tenant is refused
+-- the fault is that of the word of this number behind these: it isn't `T:Q`, for this reason, or its tenant is refused
 abbrev pub IsFault : List TenantQuota → ℕ → List ℕ → TenantsFault → Type 0
-IsFault before at word (Malformed n) = (n ≡ at) × (tenant_quota_of word ≡ None)
+IsFault before at word (Malformed n why) = (n ≡ at) × IsMalformed word why
 IsFault before at word (Refused n refusal) = (n ≡ at) × (named : TenantQuota) × (tenant_quota_of word ≡ Some named) × IsRefusedBy before named refusal
 
 -- the words, from the left, name these tenants, none of them twice
@@ -53,7 +70,7 @@ pub data AreTenants : List (List ℕ) → List TenantQuota → Type 0 where
 
 -- the number of the word that a fault tells of
 abbrev pub place_of : TenantsFault → ℕ
-place_of (Malformed n) = n
+place_of (Malformed n why) = n
 place_of (Refused n refusal) = n
 
 -- the words before it name tenants, and it has this fault behind them

@@ -7,4 +7,4 @@ pub mod tenants;
 mod words;
 
 pub use options::{MAX_WORKERS, Options, StorePlace};
-pub use tenants::{TenantQuota, TenantsFault, is_listed, read_tenants};
+pub use tenants::{TenantQuota, TenantsFault, WordFault, is_listed, read_tenants};

@@ -1,7 +1,7 @@
 //! Tenants and their quotas, from words `T:Q`.
 
 ghost use Rattle.std.specs.Prelude.{◌≡◌, ◌↔◌, IsTrue, IfOk, IfErr, OnErr, map};
-ghost use Rattle.mt_options.specs.Tenants.{tenant_quota_of, IsListed, AddsTenant, IsFirstFault, IsFault, AreTenants};
+ghost use Rattle.mt_options.specs.Tenants.{IsListed, NamesTenant, IsMalformed, AddsTenant, IsFirstFault, IsFault, AreTenants};
 
 use crate::words::{number, parts};
 use mt_rows::Refusal;
@@ -15,11 +15,22 @@ pub struct TenantQuota {
     pub quota: u32,
 }
 
+/// Why a word isn't `T:Q`, two decimal numbers below 2^32 with a colon between them.
+#[derive(Clone, Copy, Debug, PartialEq, Eq)]
+pub enum WordFault {
+    /// It has no colon.
+    NoColon,
+    /// What stands before its first colon is no such number.
+    Tenant,
+    /// What stands after that colon is none, and what stands before it is one.
+    Quota,
+}
+
 /// Why words are refused, with the number of the first that has a fault, counted from 0.
 #[derive(Clone, Copy, Debug, PartialEq, Eq)]
 pub enum TenantsFault {
-    /// It isn't `T:Q`, two decimal numbers with a colon between them.
-    Malformed(usize),
+    /// It isn't `T:Q`.
+    Malformed(usize, WordFault),
     /// `TenantThere`: its tenant was named before it. `Quota`: its quota is out of bounds. `Memory`: a
     /// growth was refused.
     Refused(usize, Refusal),
@@ -32,15 +43,22 @@ pub fn is_listed(tenants: &[TenantQuota], tenant: u32) -> bool
     tenants.iter().any(|listed| listed.tenant == tenant)
 }
 
-// The tenant and the quota of a word.
+// The tenant and the quota of a word, or why it has none.
 #[tactic(auto, unfolding(crate::specs::Tenants::tenant_quota_of))]
-fn read_tenant(word: &[u8]) -> Option<TenantQuota>
-    ensures { result ≡ tenant_quota_of word.now }
+fn read_tenant(word: &[u8]) -> Result<TenantQuota, WordFault>
+    ensures ok { IfOk result (NamesTenant word.now) }
+    ensures err { IfErr result (IsMalformed word.now) }
 {
-    let (tenant, quota) = parts(word)?;
-    let tenant = number(tenant)?;
-    let quota = number(quota)?;
-    Some(TenantQuota { tenant, quota })
+    let Some((tenant, quota)) = parts(word) else {
+        return Err(WordFault::NoColon);
+    };
+    let Some(tenant) = number(tenant) else {
+        return Err(WordFault::Tenant);
+    };
+    let Some(quota) = number(quota) else {
+        return Err(WordFault::Quota);
+    };
+    Ok(TenantQuota { tenant, quota })
 }
 
 // Adds the tenant of the word of this number.
@@ -49,8 +67,9 @@ fn add_tenant(tenants: &mut Vec<TenantQuota>, at: usize, word: &[u8]) -> Result<
     ensures err { IfErr result (IsFault tenants.old.items at word.now) }
     ensures unchanged_on_err { OnErr result (tenants.new.items ≡ tenants.old.items) }
 {
-    let Some(named) = read_tenant(word) else {
-        return Err(TenantsFault::Malformed(at));
+    let named = match read_tenant(word) {
+        Ok(named) => named,
+        Err(fault) => return Err(TenantsFault::Malformed(at, fault)),
     };
     if is_listed(tenants, named.tenant) {
         return Err(TenantsFault::Refused(at, Refusal::TenantThere));

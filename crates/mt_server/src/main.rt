@@ -1,15 +1,15 @@
 //! Serves the maps of many tenants over 127.0.0.1.
 //!
-//! The exit status is 0 at the end of its sessions, and for `--help`; 1 where a socket, a device, memory
-//! or the output failed; 2 where an option or a tenant is refused; 3 where the store is. With 1 to 3 it
-//! says on standard error what failed, and what to do.
+//! The exit status is 0 at the end of its sessions, and for `--help` and `--version`; 1 if a socket, a
+//! device, memory or the output failed; 2 if an option or a tenant is refused; 3 if the store is. With 1
+//! to 3 it says on standard error what failed, and what to do.
 #![tactic(auto)]
 
 use log::sink::Console;
 use log::{Level, Logged, warn};
 use mt_command_line::{OptionsFault, read_options, remedy};
 use mt_service::{OpenStore, ServerFault, open_store, run_server};
-use std::env;
+use std::env::{self, Env, FillError};
 use std::io::{self, ErrorKind};
 use std::marker::Brand;
 use std::net::TcpListener;
@@ -22,10 +22,7 @@ fn main(rt: HostRuntime) -> ExitCode {
         Err(error) if error.kind() == ErrorKind::OutOfMemory => {
             return ExitCode::from(OptionsFault::Memory.tell(&rt));
         }
-        Err(_) => {
-            let _ = eprintln!(rt; "mt_server: a word of the command line is no text");
-            return ExitCode::from(2);
-        }
+        Err(_) => return no_text(&rt),
     };
     let options = match read_options(rt.alloc(), words.as_slice()) {
         Ok(options) => options,
@@ -41,7 +38,10 @@ fn main(rt: HostRuntime) -> ExitCode {
     };
     let listener = match TcpListener::bind(&rt, ("127.0.0.1", options.port)) {
         Ok(listener) => listener,
-        Err(error) => return ended(&rt, Err(ServerFault::Socket(error))),
+        Err(error) => {
+            let port = options.port;
+            return ended(&rt, Err(ServerFault::Listen { port, error }));
+        }
     };
     let (blank, mut out) = (Blank::new(65_536), io::writer(&rt));
     let end = run_server::<Brand, _, _, _>(
@@ -59,6 +59,30 @@ fn main(rt: HostRuntime) -> ExitCode {
 // All words of the command line. Words that are no text are an error.
 fn arguments(rt: &HostRuntime) -> io::Result<Vec<String>> {
     Ok(env::args(rt)?.collect(rt.alloc())?)
+}
+
+// Says which word of the command line is no text, and gives the exit status.
+fn no_text(rt: &HostRuntime) -> ExitCode {
+    // Nothing more can be done if standard error fails too; the status says it.
+    let _ = match first_no_text(rt) {
+        Some(place) => eprintln!(rt; "mt_server: word {place} of the command line is no text"),
+        None => eprintln!(rt; "mt_server: a word of the command line is no text"),
+    };
+    ExitCode::from(2)
+}
+
+// The first word that is no text, counted from the program's name, which is word 0. A word of more than 4,096 bytes
+// isn't looked at.
+fn first_no_text(rt: &HostRuntime) -> Option<usize> {
+    let mut room = [0u8; 4096];
+    for place in 0..usize::MAX {
+        match rt.arg(place, &mut room) {
+            Ok(len) if str::from_utf8(&room[..len]).is_err() => return Some(place),
+            Ok(_) | Err(FillError::TooLong) => {}
+            Err(FillError::NotPresent) => return None,
+        }
+    }
+    None
 }
 
 // Says how the server ended, where that isn't as all should, and gives the exit status.

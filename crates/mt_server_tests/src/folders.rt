@@ -48,12 +48,12 @@ fn stores_are_opened_and_refused(rt: HostRuntime) -> Result<(), Fail> {
         (
             "mt_server --workers 2 --store mt_server_tests_store 7:1",
             3,
-            "E15: there is no such folder",
+            "E15: there is no folder 'mt_server_tests_store': ",
         ),
         (
             "mt_server --workers 2 --store mt_server_tests_store/a --create 7:1",
             1,
-            "E10: the folder: ",
+            "E10: the folder 'mt_server_tests_store/a': ",
         ),
         (
             "mt_server --workers 2 --store mt_server_tests_store --create 7:1",
@@ -68,12 +68,12 @@ fn stores_are_opened_and_refused(rt: HostRuntime) -> Result<(), Fail> {
         (
             "mt_server --workers 1 --store mt_server_tests_store 7:1",
             3,
-            "E15: these logs",
+            "E15: the logs of 'mt_server_tests_store' aren't all of one store; the folder has 2 logs for 1 worker: start with as many --workers ",
         ),
         (
             "mt_server --workers 3 --store mt_server_tests_store 7:1",
             3,
-            "E15: wal-02 is missing",
+            "E15: 'mt_server_tests_store/wal-02' is missing; the folder has 2 logs for 3 workers: start with as many --workers ",
         ),
         (
             "mt_server --workers 1 --store mt_server_tests_store --create 7:1",
@@ -83,7 +83,7 @@ fn stores_are_opened_and_refused(rt: HostRuntime) -> Result<(), Fail> {
         (
             "mt_server --workers 2 --store mt_server_tests_store 7:1",
             3,
-            "E15: wal-01 is missing",
+            "E15: 'mt_server_tests_store/wal-01' is missing; the folder has 1 log for 2 workers: start with as many --workers ",
         ),
     ];
     for (line, status, beginning) in lines {
@@ -93,14 +93,24 @@ fn stores_are_opened_and_refused(rt: HostRuntime) -> Result<(), Fail> {
     let line = "mt_server --workers 1 --store mt_server_tests_store 7:1";
     match open_store(&rt, alloc, &options_of(&rt, alloc, line)) {
         Ok(opened) => {
-            expect_told(&rt, alloc, line, 3, "E10: another server");
+            let told = "E10: another server has 'mt_server_tests_store' open: ";
+            expect_told(&rt, alloc, line, 3, told);
             drop(opened);
         }
         Err(_) => panic!(rt; "not opened"),
     }
     // A file that is no log.
     fs::write(&rt, "mt_server_tests_store/wal-00", "MTLOG")?;
-    expect_told(&rt, alloc, line, 3, "E12: wal-00 is no log from byte 0 on");
+    let told = "E12: 'mt_server_tests_store/wal-00' is no log from byte 0 on: ";
+    expect_told(&rt, alloc, line, 3, told);
+    // No log, and in its place a folder.
+    fs::remove_file(&rt, "mt_server_tests_store/wal-00")?;
+    let told =
+        "E15: 'mt_server_tests_store/wal-00' is missing; the folder has 0 logs for 1 worker: name the store's folder";
+    expect_told(&rt, alloc, line, 3, told);
+    fs::create_dir(&rt, "mt_server_tests_store/wal-00")?;
+    let told = "E10: 'mt_server_tests_store/wal-00': ";
+    expect_told(&rt, alloc, line, 1, told);
     fs::remove_dir_all(&rt, "mt_server_tests_store")?;
     Ok(())
 }

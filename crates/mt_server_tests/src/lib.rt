@@ -9,6 +9,8 @@ mod callers;
 #[cfg(test)]
 mod clients;
 #[cfg(test)]
+mod faults;
+#[cfg(test)]
 mod folders;
 #[cfg(test)]
 mod servers;

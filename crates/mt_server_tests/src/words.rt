@@ -1,6 +1,6 @@
 //! What the words of a command line ask for, or how they are refused.
 
-use mt_command_line::{OptionsFault, read_options};
+use mt_command_line::{OptionsFault, VERSION, read_options};
 use mt_options::Options;
 use mt_rows::Refusal;
 use std::alloc::{AllocError, Global};
@@ -25,18 +25,20 @@ pub(crate) fn options_of<R: Abort>(rt: &R, alloc: Global, line: &str) -> Options
     }
 }
 
-// The status of a line, and its refusal where it has one.
-fn fault_of<R: Abort>(rt: &R, alloc: Global, line: &str) -> (u8, Option<Refusal>) {
+// Why a line starts no server.
+fn fault_of<R: Abort>(rt: &R, alloc: Global, line: &str) -> OptionsFault {
     let words = words_of(alloc, line).expect(rt, "memory");
     match read_options(alloc, words.as_slice()) {
         Ok(_) => panic!(rt; "{line}: taken"),
-        Err(fault) => {
-            let status = fault.status();
-            match fault {
-                OptionsFault::Refused(_, refusal) => (status, Some(refusal)),
-                _ => (status, None),
-            }
-        }
+        Err(fault) => fault,
+    }
+}
+
+// The refusal of a fault, if it has one.
+fn refusal_of(fault: &OptionsFault) -> Option<Refusal> {
+    match fault {
+        OptionsFault::Refused { refusal, .. } => Some(*refusal),
+        _ => None,
     }
 }
 
@@ -109,11 +111,105 @@ fn words_are_refused(rt: HostRuntime) -> Result<(), Fail> {
         ("mt_server --create=1 --store here 7:1", 2, None),
         ("mt_server --store here --checkpoint 1 7:1", 2, None),
         ("mt_server --help", 0, None),
+        ("mt_server --version", 0, None),
     ];
     for (line, status, refusal) in lines {
+        let fault = fault_of(&rt, rt.alloc(), line);
         assert_eq!(rt;
-            fault_of(&rt, rt.alloc(), line),
+            (fault.status(), refusal_of(&fault)),
             (status, refusal),
+            "{line}"
+        );
+    }
+    Ok(())
+}
+
+// A fault names the word, what is wrong with it, and its bounds.
+#[test]
+fn words_are_named(rt: HostRuntime) -> Result<(), Fail> {
+    let lines = [
+        ("mt_server 7:0", "E7: '7:0': a quota is 1 to 1048576 pairs"),
+        (
+            "mt_server 8:1 7:1048577",
+            "E7: '7:1048577': a quota is 1 to 1048576 pairs",
+        ),
+        (
+            "mt_server 7:1 8:1 7:0",
+            "E3: '7:0': a tenant is named twice: name each once",
+        ),
+        (
+            "mt_server 8:1 7",
+            "'7' isn't T:Q, a tenant's number and its quota: it has no colon",
+        ),
+        (
+            "mt_server :1",
+            "':1' isn't T:Q, a tenant's number and its quota: T is 0 to 4294967295, in decimal digits",
+        ),
+        (
+            "mt_server 4294967296:x",
+            "'4294967296:x' isn't T:Q, a tenant's number and its quota: T is 0 to 4294967295, in decimal digits",
+        ),
+        (
+            "mt_server 7:+1",
+            "'7:+1' isn't T:Q, a tenant's number and its quota: Q is 1 to 1048576, in decimal digits",
+        ),
+        (
+            "mt_server 7:1:2",
+            "'7:1:2' isn't T:Q, a tenant's number and its quota: Q is 1 to 1048576, in decimal digits",
+        ),
+        (
+            "mt_server --create 7:0",
+            "--create makes the logs of a folder anew, and --store DIR names none",
+        ),
+    ];
+    for (line, wanted) in lines {
+        let told = format!(in rt.alloc(); "{}", fault_of(&rt, rt.alloc(), line))?;
+        assert_eq!(rt; told.as_str(), wanted, "{line}");
+    }
+    Ok(())
+}
+
+// So does a fault that clap words, in its first line.
+#[test]
+fn options_are_named(rt: HostRuntime) -> Result<(), Fail> {
+    let lines = [
+        (
+            "mt_server --port 65536 7:1",
+            "error: invalid value '65536' for '--port <P>': 65536 is not in 0..=65535\n",
+        ),
+        (
+            "mt_server --workers 65 7:1",
+            "error: invalid value '65' for '--workers <N>': 65 is not in 1..=64\n",
+        ),
+        (
+            "mt_server --sessions 4294967296 7:1",
+            "error: invalid value '4294967296' for '--sessions <S>': 4294967296 is not in 0..=4294967295\n",
+        ),
+        (
+            "mt_server --port x 7:1",
+            "error: invalid value 'x' for '--port <P>': ",
+        ),
+        (
+            "mt_server --checkpoint 1 7:1",
+            "error: unexpected argument '--checkpoint' found\n",
+        ),
+    ];
+    for (line, beginning) in lines {
+        let told = format!(in rt.alloc(); "{}", fault_of(&rt, rt.alloc(), line))?;
+        assert!(rt; told.starts_with(beginning), "{line}: {told}");
+    }
+    Ok(())
+}
+
+#[test]
+fn the_version_is_told(rt: HostRuntime) -> Result<(), Fail> {
+    let wanted = format!(in rt.alloc(); "mt_server {VERSION}\n")?;
+    for line in ["mt_server --version", "mt_server 7:1 -V"] {
+        let fault = fault_of(&rt, rt.alloc(), line);
+        let told = format!(in rt.alloc(); "{fault}")?;
+        assert_eq!(rt;
+            (told.as_str(), fault.status()),
+            (wanted.as_str(), 0),
             "{line}"
         );
     }

@@ -5,7 +5,7 @@ use Rattle.mt_rows.specs.declared.refusal.Refusal.TheVariants as refusals
 use Rattle.mt_options.specs.declared.tenants.TenantQuota.{TenantQuota}
 use Rattle.mt_store_files.specs.Faults.{status_of as store_status}
 use Rattle.mt_service.specs.declared.faults.ServerFault.{ServerFault}
-use Rattle.mt_service.specs.declared.faults.ServerFault.TheVariants.{Refused, Memory, Store, Unsettled, Output, Socket, Passes}
+use Rattle.mt_service.specs.declared.faults.ServerFault.TheVariants.{Refused, Memory, Store, Unsettled, Output, Listen, Socket, Passes}
 use Rattle.mt_service.specs.Accounts.{AreServable}
 
 -- the fault of a tenant that is refused
@@ -16,7 +16,7 @@ fault_of refusal = Refused refusal
 -- 2 where a tenant is refused, that of the store where it is, else 1
 abbrev pub status_of : ServerFault → ℕ
 status_of (Refused refusal) = 2
-status_of (Store fault) = store_status fault
+status_of (Store told) = store_status told.fault
 status_of fault = 1
 
 -- what may be at fault in making the accounts of these tenants: memory, or, where they can't be served, one of them
@@ -39,9 +39,10 @@ IsOfServing Passes = Unit {0}
 IsOfServing (Unsettled refusal) = Unit {0}
 IsOfServing fault = ⊥
 
--- the cause of a server's fault: of a fault of the output, that it failed; no tenant and no store is refused any more
+-- the cause of a server's fault: of a fault of the output, that it failed; no tenant, no store and no port is refused any more
 abbrev pub HasCause : Type 0 → ServerFault → Type 0
 HasCause failed (Refused refusal) = ⊥
 HasCause failed (Store fault) = ⊥
+HasCause failed (Listen port error) = ⊥
 HasCause failed (Output error) = failed
 HasCause failed fault = Unit {0}

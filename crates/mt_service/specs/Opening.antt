@@ -9,9 +9,12 @@ use Rattle.mt_state.specs.Begins.{new_state}
 use Rattle.mt_options.specs.declared.options.Options.{Options}
 use Rattle.mt_options.specs.declared.options.StorePlace.{StorePlace}
 use Rattle.mt_options.specs.declared.tenants.TenantQuota.{TenantQuota}
+use Rattle.mt_rows.specs.declared.refusal.Refusal.TheVariants as refusals
 use Rattle.mt_store_files.specs.declared.fault.StoreFault.{StoreFault}
-use Rattle.mt_store_files.specs.declared.fault.StoreFault.TheVariants.{Refused as RefusedStore}
+use Rattle.mt_store_files.specs.declared.fault.StoreFault.TheVariants.{Refused as RefusedStore, LogCount}
+use Rattle.mt_store_files.specs.declared.fault.FolderFault.{FolderFault}
 use Rattle.mt_store_files.specs.Faults.{IsOfFolder, IsOfFiles}
+use Rattle.mt_store_logs.specs.declared.fault.LogRefusal.{LogRefusal}
 use Rattle.mt_store_logs.specs.declared.store_log.StoreLog.{StoreLog}
 use Rattle.mt_stored.specs.Stores.{IsNewStore, IsNotMade, IsRecoveredStore, IsNotRecoveredStore}
 use Rattle.mt_service.specs.declared.opening.OpenStore.{OpenStore}
@@ -61,19 +64,29 @@ abbrev pub IsOfMaking : ℕ → StoreFault → Type 0
 IsOfMaking workers (RefusedStore log refusal) = IsNotMade workers (record { log = log; refusal = refusal })
 IsOfMaking workers fault = ⊥
 
+abbrev pub IsNotRecoveredFrom : ℕ → Accounts → LogRefusal → Type 0
+IsNotRecoveredFrom workers accounts why = (files : List FileDisk) × (length files ≡ workers) × IsNotRecoveredStore is_honest holds failures files accounts why
+
+-- A refusal of a store's logs is told as it is; or, if they are no set, with how many workers asked for them.
+abbrev pub Tells : ℕ → LogRefusal → StoreFault → Type 0
+Tells workers why (RefusedStore log refusal) = why ≡ record { log = log; refusal = refusal }
+Tells workers why (LogCount counts) = (why.refusal ≡ refusals.LogCount) × (counts.workers ≡ workers)
+Tells workers why fault = ⊥
+
 abbrev pub IsOfRecovery : ℕ → Accounts → StoreFault → Type 0
-IsOfRecovery workers accounts (RefusedStore log refusal) =
-    (files : List FileDisk) × (length files ≡ workers) × IsNotRecoveredStore is_honest holds failures files accounts (record { log = log; refusal = refusal })
-IsOfRecovery workers accounts fault = ⊥
+IsOfRecovery workers accounts fault = (why : LogRefusal) × IsNotRecoveredFrom workers accounts why × Tells workers why fault
 
 -- why the store at a place is not opened: its folder, its files, or what they hold
 abbrev pub IsOfPlace : Bool → ℕ → Accounts → StoreFault → Type 0
 IsOfPlace true workers accounts fault = IsOfFolder fault ⊎ IsOfFiles 64 fault ⊎ IsOfMaking workers fault
 IsOfPlace false workers accounts fault = IsOfFolder fault ⊎ IsOfFiles workers fault ⊎ IsOfRecovery workers accounts fault
 
-abbrev pub IsOfStore : Option StorePlace → ℕ → List TenantQuota → StoreFault → Type 0
-IsOfStore None workers tenants fault = ⊥
-IsOfStore (Some place) workers tenants fault = (accounts : Accounts) × AreAccountsOf (length tenants) tenants accounts × IsOfPlace place.create workers accounts fault
+-- and the fault names the place's folder
+abbrev pub IsOfStore : Option StorePlace → ℕ → List TenantQuota → FolderFault → Type 0
+IsOfStore None workers tenants told = ⊥
+IsOfStore (Some place) workers tenants told =
+    (told.folder.bytes.items ≡ place.folder.bytes.items)
+    × ((accounts : Accounts) × AreAccountsOf (length tenants) tenants accounts × IsOfPlace place.create workers accounts told.fault)
 
 -- why: memory; one of the tenants, which can't be served; or the store that is named
 abbrev pub IsOfOpening : Options → ServerFault → Type 0

@@ -5,7 +5,7 @@ ghost use Rattle.std.specs.Prelude.{◌≡◌};
 ghost use Rattle.mt_service.specs.Faults.{status_of};
 
 use mt_rows::Refusal;
-use mt_store_files::StoreFault;
+use mt_store_files::FolderFault;
 use std::alloc::{AllocError, AllocFailed};
 use std::io;
 use thiserror::Error;
@@ -21,10 +21,13 @@ pub enum ServerFault {
     Memory,
     /// The store isn't served.
     #[error("{0}")]
-    Store(StoreFault),
+    Store(FolderFault),
     /// The last settle was refused: the logs may lack the last changes.
     #[error("{0}: the last settle failed, so the logs may lack the last changes")]
     Unsettled(Refusal),
+    /// Nobody can listen at this port of 127.0.0.1.
+    #[error("127.0.0.1:{port} can't be listened at: {error}: choose another --port")]
+    Listen { port: u16, error: io::Error },
     /// The listener failed.
     #[error("the socket failed: {0}")]
     Socket(io::Error),
@@ -43,9 +46,10 @@ impl ServerFault {
     {
         match self {
             ServerFault::Refused(_) => 2,
-            ServerFault::Store(fault) => fault.status(),
+            ServerFault::Store(FolderFault { fault, .. }) => fault.status(),
             ServerFault::Memory
             | ServerFault::Unsettled(_)
+            | ServerFault::Listen { .. }
             | ServerFault::Socket(_)
             | ServerFault::Output(_)
             | ServerFault::Passes => 1,

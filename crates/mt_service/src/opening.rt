@@ -3,14 +3,14 @@
 ghost use Rattle.std.specs.Prelude.{◌≡◌, ◌≤◌, true, false, IfOk, IfErr};
 ghost use Rattle.mt_state.specs.Begins.{HaveNoPairs};
 ghost use Rattle.mt_store_files.specs.declared.fault.StoreFault.TheVariants.{Refused as RefusedStore};
-ghost use Rattle.mt_service.specs.Opening.{IsOpened, IsOfOpening, IsMadeOn, IsRecoveredFrom, IsOfPlace, IsAtPlace};
+ghost use Rattle.mt_service.specs.Opening.{IsOpened, IsOfOpening, IsMadeOn, IsRecoveredFrom, IsOfPlace, IsAtPlace, Tells};
 
 use crate::accounts::accounts_of;
 use crate::faults::ServerFault;
 use mt_disk::FileDisk;
 use mt_options::{Options, StorePlace};
-use mt_rows::Tenants;
-use mt_store_files::{StoreFault, StoreFolder};
+use mt_rows::{Refusal, Tenants};
+use mt_store_files::{FolderFault, StoreFault, StoreFolder};
 use mt_store_logs::LogRefusal;
 use mt_stored::Store;
 use std::alloc::Global;
@@ -46,7 +46,10 @@ pub fn open_store<R: Files<File = File>>(
         }
         Some(place) => match open_place(rt, alloc, place, options.workers, tenants) {
             Ok(opened) => Ok(opened),
-            Err(fault) => Err(ServerFault::Store(fault)),
+            Err(fault) => Err(ServerFault::Store(FolderFault {
+                folder: String::from_str(alloc, place.folder.as_str())?,
+                fault,
+            })),
         },
     }
 }
@@ -121,7 +124,7 @@ fn recover<R: Files<File = File>>(
             store,
             folder: Some(folder),
         }),
-        Err(refusal) => Err(refused(refusal)),
+        Err(refusal) => Err(not_recovered(rt, alloc, &folder, workers, refusal)),
     }
 }
 
@@ -130,4 +133,23 @@ fn refused(why: LogRefusal) -> StoreFault
     ensures { result ≡ RefusedStore why.log why.refusal }
 {
     StoreFault::Refused(why.log, why.refusal)
+}
+
+// The same, of logs that so many workers asked for. If they are no set, the folder's logs are counted.
+fn not_recovered<R: Files<File = File>>(
+    rt: &R,
+    alloc: Global,
+    folder: &StoreFolder,
+    workers: u8,
+    why: LogRefusal,
+) -> StoreFault
+    ensures { Tells workers why result }
+{
+    match why.refusal {
+        Refusal::LogCount => match folder.count_logs(rt, alloc, workers) {
+            Ok(counts) => StoreFault::LogCount(counts),
+            Err(_) => refused(why),
+        },
+        _ => refused(why),
+    }
 }

@@ -1,17 +1,18 @@
 -- Why a store isn't served: the refusal, the exit status, and which calls may tell what.
-use Rattle.std.specs.Prelude.{ℕ, ◌<◌, Some, None}
+use Rattle.std.specs.Prelude.{◌≡◌, ℕ, ◌<◌, Some, None}
 use Rattle.mt_rows.specs.declared.refusal.Refusal.{Refusal}
 use Rattle.mt_rows.specs.declared.refusal.Refusal.TheVariants as refusals
 use Rattle.mt_store_files.specs.declared.fault.StoreFault.{StoreFault}
-use Rattle.mt_store_files.specs.declared.fault.StoreFault.TheVariants.{InUse, NoFolder, NoLog, System, Memory, Refused}
+use Rattle.mt_store_files.specs.declared.fault.StoreFault.TheVariants.{InUse, NoFolder, NoLog, System, Memory, LogCount, Refused}
 
 -- the refusal by whose number a fault is told
 abbrev pub refusal_of : StoreFault → Refusal
 refusal_of InUse = refusals.Device
 refusal_of NoFolder = refusals.LogCount
-refusal_of (NoLog worker) = refusals.LogCount
+refusal_of (NoLog worker counts) = refusals.LogCount
 refusal_of (System worker error) = refusals.Device
 refusal_of Memory = refusals.Memory
+refusal_of (LogCount counts) = refusals.LogCount
 refusal_of (Refused worker refusal) = refusal
 
 -- 1 where the device or memory failed, 3 where the store is refused
@@ -30,9 +31,9 @@ IsOfFolder (System None error) = Unit {0}
 IsOfFolder Memory = Unit {0}
 IsOfFolder fault = ⊥
 
--- why the files of so many logs aren't opened or made
+-- why the files of so many logs aren't opened or made; of one that is missing it is told how many were asked for
 abbrev pub IsOfFiles : ℕ → StoreFault → Type 0
-IsOfFiles logs (NoLog worker) = worker < logs
+IsOfFiles logs (NoLog worker counts) = (worker < logs) × (counts.workers ≡ logs)
 IsOfFiles logs (System (Some worker) error) = worker < logs
 IsOfFiles logs (System None error) = Unit {0}
 IsOfFiles logs (Refused (Some worker) refusals.Device) = worker < logs

@@ -9,7 +9,14 @@ use std::alloc::{AllocError, AllocFailed};
 use std::error::Error;
 use std::{fmt, io};
 
-/// Why a store isn't served. It is printed as its refusal's number, which file it is, and what to do.
+/// How many logs a folder has, and for how many workers they were asked for.
+#[derive(Clone, Copy, Debug, PartialEq, Eq)]
+pub struct LogCounts {
+    pub logs: u8,
+    pub workers: u8,
+}
+
+/// Why the store of a folder isn't served. It is printed with the folder, as a `FolderFault`.
 #[derive(Debug, Drop)]
 pub enum StoreFault {
     /// Another server has the folder open.
@@ -17,11 +24,13 @@ pub enum StoreFault {
     /// There is no such folder.
     NoFolder,
     /// The file of this worker's log is missing.
-    NoLog(u8),
+    NoLog(u8, LogCounts),
     /// The system failed, at the file of this worker's log or else at the folder.
     System(Option<u8>, io::Error),
     /// A growth was refused.
     Memory,
+    /// The logs aren't those that they name themselves.
+    LogCount(LogCounts),
     /// What stands in the file of this worker's log was refused, or that of all logs together.
     Refused(Option<usize>, Refusal),
 }
@@ -33,7 +42,8 @@ impl StoreFault {
     {
         match self {
             StoreFault::InUse | StoreFault::System(_, _) => Refusal::Device,
-            StoreFault::NoFolder | StoreFault::NoLog(_) => Refusal::LogCount,
+            StoreFault::NoFolder | StoreFault::NoLog(_, _) | StoreFault::LogCount(_) =>
+                Refusal::LogCount,
             StoreFault::Memory => Refusal::Memory,
             StoreFault::Refused(_, refusal) => *refusal,
         }
@@ -49,67 +59,120 @@ impl StoreFault {
             | StoreFault::Refused(_, Refusal::Device | Refusal::Memory) => 1,
             StoreFault::InUse
             | StoreFault::NoFolder
-            | StoreFault::NoLog(_)
+            | StoreFault::NoLog(_, _)
+            | StoreFault::LogCount(_)
             | StoreFault::Refused(_, _) => 3,
         }
     }
 }
 
-// The file of a worker's log, or the folder.
-#[derive(Clone, Copy)]
-struct Place(Option<usize>);
+/// Why the store of this folder isn't served. It is printed as its refusal's number, which file or folder it
+/// is, and what to do.
+#[derive(Debug, Drop)]
+pub struct FolderFault {
+    pub folder: String,
+    pub fault: StoreFault,
+}
 
-impl fmt::Display for Place {
+// So many of this.
+#[derive(Clone, Copy)]
+struct Count(u8, &'static str);
+
+impl fmt::Display for Count {
     fn fmt<W: fmt::Write>(&self, f: &mut fmt::Formatter<W>) -> fmt::Result {
-        match self.0 {
-            Some(worker) => {
-                let (tens, ones) = (worker / 10, worker % 10);
-                write!(f, "wal-{tens}{ones}")
-            }
-            None => write!(f, "the folder"),
+        let Count(count, of) = *self;
+        if count == 1 {
+            write!(f, "1 {of}")
+        } else {
+            write!(f, "{count} {of}s")
         }
     }
 }
 
-impl fmt::Display for StoreFault {
+impl fmt::Display for LogCounts {
     fn fmt<W: fmt::Write>(&self, f: &mut fmt::Formatter<W>) -> fmt::Result {
-        let number = self.refusal();
-        match self {
+        let (logs, workers) = (Count(self.logs, "log"), Count(self.workers, "worker"));
+        write!(f, "the folder has {logs} for {workers}")
+    }
+}
+
+// The file of a worker's log, or the folder.
+#[derive(Clone, Copy)]
+struct Place<'a>(&'a str, Option<usize>);
+
+impl fmt::Display for Place<'_> {
+    fn fmt<W: fmt::Write>(&self, f: &mut fmt::Formatter<W>) -> fmt::Result {
+        let Place(folder, log) = *self;
+        match log {
+            Some(worker) => {
+                let (tens, ones) = (worker / 10, worker % 10);
+                write!(f, "'{folder}/wal-{tens}{ones}'")
+            }
+            None => write!(f, "the folder '{folder}'"),
+        }
+    }
+}
+
+impl fmt::Display for FolderFault {
+    fn fmt<W: fmt::Write>(&self, f: &mut fmt::Formatter<W>) -> fmt::Result {
+        let number = self.fault.refusal();
+        let folder = self.folder.as_str();
+        match &self.fault {
             StoreFault::InUse => write!(
                 f,
-                "{number}: another server has the folder open: end that one, or name another folder"
+                "{number}: another server has '{folder}' open: end that one, or name another folder"
             ),
             StoreFault::NoFolder => write!(
                 f,
-                "{number}: there is no such folder: name the store's, or make a new store by --create"
+                "{number}: there is no folder '{folder}': name the store's, or make a new store by --create"
             ),
-            StoreFault::NoLog(worker) => {
-                let place = Place(Some(usize::from(*worker)));
+            StoreFault::NoLog(worker, counts) => {
+                let place = Place(folder, Some(usize::from(*worker)));
                 write!(
                     f,
-                    "{number}: {place} is missing: start with as many --workers as the store was made with, or put the file back from a backup"
+                    "{number}: {place} is missing; {counts}: {}",
+                    remedy(*counts)
                 )
             }
             StoreFault::System(worker, error) => {
-                let place = Place(worker.map(|worker| usize::from(worker)));
+                let place = Place(folder, worker.map(|worker| usize::from(worker)));
                 write!(f, "{number}: {place}: {error}")
             }
             StoreFault::Memory => write!(f, "{number}: out of memory"),
-            StoreFault::Refused(worker, refusal) => {
-                let place = Place(*worker);
-                told(f, place, *refusal)
-            }
+            StoreFault::LogCount(counts) => write!(
+                f,
+                "{number}: the logs of '{folder}' aren't all of one store; {counts}: {}",
+                remedy(*counts)
+            ),
+            StoreFault::Refused(log, refusal) => told(f, folder, *log, *refusal),
         }
     }
 }
 
-// Which file it is, and what to do.
-fn told<W: fmt::Write>(f: &mut fmt::Formatter<W>, place: Place, refusal: Refusal) -> fmt::Result {
+// What to do about logs that are missing, or that aren't those of one store.
+fn remedy(counts: LogCounts) -> &'static str {
+    if counts.logs == 0 {
+        "name the store's folder, or make a new store by --create"
+    } else if counts.logs == counts.workers {
+        "put all files back from one backup"
+    } else {
+        "start with as many --workers as the store was made with, or put all files back from one backup"
+    }
+}
+
+// Which file or folder it is, and what to do.
+fn told<W: fmt::Write>(
+    f: &mut fmt::Formatter<W>,
+    folder: &str,
+    log: Option<usize>,
+    refusal: Refusal,
+) -> fmt::Result {
+    let place = Place(folder, log);
     match refusal {
         Refusal::Memory => write!(f, "{refusal}: out of memory"),
         Refusal::NoTenant => write!(
             f,
-            "{refusal}: the store has pairs of a tenant that isn't named: name each of its tenants"
+            "{refusal}: the store in '{folder}' has pairs of a tenant that isn't named: name each of its tenants"
         ),
         Refusal::Device => write!(
             f,
@@ -120,7 +183,7 @@ fn told<W: fmt::Write>(f: &mut fmt::Formatter<W>, place: Place, refusal: Refusal
             "{refusal}: {place} is no log from byte {offset} on: put all files back from one backup"
         ),
         Refusal::StampsFall { number, stamp } => {
-            let place = Place(Some(usize::from(number)));
+            let place = Place(folder, Some(usize::from(number)));
             write!(
                 f,
                 "{refusal}: {place} doesn't go with the other logs at step {stamp}: put all files back from one backup"
@@ -128,17 +191,17 @@ fn told<W: fmt::Write>(f: &mut fmt::Formatter<W>, place: Place, refusal: Refusal
         }
         Refusal::OverQuota(tenant) => write!(
             f,
-            "{refusal}: tenant {tenant} has more pairs than its quota: give it a greater one"
+            "{refusal}: tenant {tenant} has more pairs in '{folder}' than its quota: give it a greater one"
         ),
         Refusal::LogCount => write!(
             f,
-            "{refusal}: these logs aren't all of one store: start with as many --workers as it was made with"
+            "{refusal}: the logs of '{folder}' aren't all of one store: start with as many --workers as it was made with"
         ),
         _ => write!(f, "{refusal}: {place} is refused"),
     }
 }
 
-impl Error for StoreFault {}
+impl Error for FolderFault {}
 
 impl From<AllocError> for StoreFault {
     ghost from_gives = { λ _ e. e ≡ MemoryFault };

@@ -3,11 +3,11 @@
 ghost use Rattle.std.specs.Prelude.{◌≡◌, ◌<◌, ◌≤◌, ℕ, IfOk, IfErr, vec_len};
 ghost use Rattle.mt_store_files.specs.Faults.{IsOfFolder, IsOfFiles};
 
-use crate::fault::StoreFault;
+use crate::fault::{LogCounts, StoreFault};
 use crate::names::{log_path, parent_path};
 use mt_disk::{FileDisk, OsFile};
 use mt_rows::Refusal;
-use std::alloc::Global;
+use std::alloc::{AllocError, Global};
 use std::fs::{self, File, OpenOptions, TryLockError};
 use std::io::{self, ErrorKind};
 use std::rt::Files;
@@ -77,9 +77,36 @@ impl StoreFolder {
     {
         let mut disks = Vec::new(alloc);
         for worker in 0..logs {
-            disks.push(open_log(rt, alloc, self.path.as_str(), worker)?)?;
+            match open_log(rt, alloc, self.path.as_str(), worker)? {
+                Some(disk) => disks.push(disk)?,
+                None => {
+                    let counts = self.count_logs(rt, alloc, logs)?;
+                    return Err(StoreFault::NoLog(worker, counts));
+                }
+            }
         }
         Ok(disks)
+    }
+
+    /// How many logs the folder has for so many workers, of the 64 that it may have. A file that can't be
+    /// looked at isn't counted.
+    pub fn count_logs<R: Files<File = File>>(
+        &self,
+        rt: &R,
+        alloc: Global,
+        workers: u8,
+    ) -> Result<LogCounts, AllocError>
+        ensures workers { IfOk result (λ counts. counts.workers ≡ workers) }
+        ensures few { IfOk result (λ counts. counts.logs ≤ 64) }
+    {
+        let mut logs = 0;
+        for worker in 0..MAX_LOGS {
+            let path = log_path(alloc, self.path.as_str(), worker)?;
+            if fs::exists(rt, path.as_str()).unwrap_or(false) {
+                logs += 1;
+            }
+        }
+        Ok(LogCounts { logs, workers })
     }
 
     /// The files of so many logs made anew, without a byte, in the order of their workers. All logs that
@@ -131,19 +158,19 @@ fn found(alloc: Global, worker: u8, file: File) -> Result<FileDisk, StoreFault>
     }
 }
 
-// The file of a worker's log, which has to be there.
+// The file of a worker's log, if it is there.
 fn open_log<R: Files<File = File>>(
     rt: &R,
     alloc: Global,
     folder: &str,
     worker: u8,
-) -> Result<FileDisk, StoreFault>
+) -> Result<Option<FileDisk>, StoreFault>
     ensures fault { (logs : ℕ) → worker < logs → IfErr result (IsOfFiles logs) }
 {
     let path = log_path(alloc, folder, worker)?;
     match for_logs().open(rt, path.as_str()) {
-        Ok(file) => found(alloc, worker, file),
-        Err(error) if error.kind() == ErrorKind::NotFound => Err(StoreFault::NoLog(worker)),
+        Ok(file) => Ok(Some(found(alloc, worker, file)?)),
+        Err(error) if error.kind() == ErrorKind::NotFound => Ok(None),
         Err(error) => Err(StoreFault::System(Some(worker), error)),
     }
 }

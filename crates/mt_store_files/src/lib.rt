@@ -8,5 +8,5 @@ pub mod fault;
 pub mod folder;
 mod names;
 
-pub use fault::StoreFault;
+pub use fault::{FolderFault, LogCounts, StoreFault};
 pub use folder::StoreFolder;

@@ -2,13 +2,14 @@ use Rattle.std.proofs.Common.{ap, ap₂, ◌∙◌}
 use Rattle.std.proofs.lemmas.Result.{IfOk-weaker}
 use Rattle.clap.specs.Words.{with_rule}
 use Rattle.clap.specs.Simple.{app_of_fields}
-use Rattle.mt_command_line.specs.CommandLine.{server}
+use Rattle.mt_command_line.specs.CommandLine.{server, with_version}
 use Rattle.mt_command_line.proofs.command.command_of.Goals as goal
 
 pub returns : goal.returns
 unfolding server
 returns c =
-    let empty = ap app_of_fields c.about.ensures ∙ (ap app_of_fields c.in_ok-bin_name.ensures.0 ∙ c.new.ensures.app) in
+    let named = ap app_of_fields c.in_ok-bin_name.ensures.0 ∙ c.new.ensures.app in
+    let empty = ap app_of_fields c.about.ensures ∙ (ap app_of_fields c.version.ensures ∙ ap with_version named) in
     let one = c.in_ok-arg.ensures.shape c.port_arg.ensures.local ∙ ap₂ with_rule empty c.port_arg.ensures.rule in
     let two = c.in_ok-arg-2.ensures.shape c.workers_arg.ensures.local ∙ ap₂ with_rule one c.workers_arg.ensures.rule in
     let three = c.in_ok-arg-3.ensures.shape c.sessions_arg.ensures.local ∙ ap₂ with_rule two c.sessions_arg.ensures.rule in

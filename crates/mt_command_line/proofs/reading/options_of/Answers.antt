@@ -1,4 +1,4 @@
-use Rattle.std.proofs.Common.{◌≡◌, ◌∙◌, arith, codes, subst, rules}
+use Rattle.std.proofs.Common.{◌≡◌, ◌∙◌, ap, arith, codes, subst, rules}
 use Rattle.std.specs.Str.Parse.{ParsesUnsigned, ExplainsUnsignedError, HasUnsignedDigitsIfOk}
 use Rattle.clap.specs.Words.{found_of}
 use Rattle.mt_options.specs.Tenants.{AreTenants}
@@ -24,5 +24,5 @@ returns c = λ words are.
       workers = rw same given;
       sessions = rw c.unwrap_or-3.ensures sessions;
       store = subst (λ rows. NamesStore rows c.in_ok-store.store) are.rows c.in_ok-store.ensures.ok;
-      tenants = subst (λ rows. AreTenants (tenant_words rows) c.in-Ok.tenants.items) are.rows (search rules);
+      tenants = subst (λ ws. AreTenants ws c.in_ok-tenants.tenants.items) (ap tenant_words are.rows) c.in_ok-tenants.ensures;
     }

@@ -1,7 +1,10 @@
-use Rattle.std.proofs.Common.{refl}
+use Rattle.std.proofs.Common.{refl, subst}
 use Rattle.clap.specs.Words.{found_of}
-use Rattle.mt_command_line.proofs.MatchLemmas.{names}
+use Rattle.mt_command_line.specs.Reads.{Names}
+use Rattle.mt_command_line.proofs.MatchLemmas.{words_are}
 use Rattle.mt_command_line.proofs.reading.tenants_of.Goals as goal
 
 pub returns : goal.returns
-returns c = names (found_of c.args.matches.now) c.get_strs.result _ c.unwrap_or.result c.read_tenants.result c.get_strs.ensures c.unwrap_or.ensures refl c.read_tenants.ensures.ok c.read_tenants.ensures.err
+returns c =
+    let words = words_are (found_of c.args.matches.now) c.get_strs.result _ c.unwrap_or.result c.get_strs.ensures c.unwrap_or.ensures refl in
+    subst (λ ws. Names ws c.named_by.result) words c.named_by.ensures

@@ -1,0 +1,62 @@
+//! What is said of a start that fails, where it takes more than a folder to bring that about.
+
+use mt_rows::Refusal;
+use mt_service::ServerFault;
+use mt_store_files::{FolderFault, LogCounts, StoreFault};
+use std::io::{self, ErrorKind};
+use std::test::Fail;
+
+#[test]
+fn faults_name_the_folder(rt: HostRuntime) -> Result<(), Fail> {
+    let counts = LogCounts {
+        logs: 2,
+        workers: 2,
+    };
+    let falls = Refusal::StampsFall {
+        number: 1,
+        stamp: 5,
+    };
+    let faults = [
+        (StoreFault::Memory, "E2: out of memory"),
+        (
+            StoreFault::Refused(None, Refusal::NoTenant),
+            "E4: the store in 'a/b' has pairs of a tenant that isn't named: name each of its tenants",
+        ),
+        (
+            StoreFault::Refused(Some(63), Refusal::Device),
+            "E10: 'a/b/wal-63': the device failed: see what the system says of it, and start again",
+        ),
+        (
+            StoreFault::Refused(None, falls),
+            "E13: 'a/b/wal-01' doesn't go with the other logs at step 5: put all files back from one backup",
+        ),
+        (
+            StoreFault::Refused(None, Refusal::OverQuota(7)),
+            "E14: tenant 7 has more pairs in 'a/b' than its quota: give it a greater one",
+        ),
+        (
+            StoreFault::LogCount(counts),
+            "E15: the logs of 'a/b' aren't all of one store; the folder has 2 logs for 2 workers: put all files back from one backup",
+        ),
+    ];
+    for (fault, wanted) in faults {
+        let folder = String::from_str(rt.alloc(), "a/b")?;
+        let fault = ServerFault::Store(FolderFault { folder, fault });
+        let told = format!(in rt.alloc(); "{fault}")?;
+        assert_eq!(rt; told.as_str(), wanted);
+    }
+    Ok(())
+}
+
+#[test]
+fn a_port_in_use_is_named(rt: HostRuntime) -> Result<(), Fail> {
+    let error = io::Error::from(ErrorKind::AddrInUse);
+    let wanted = format!(in rt.alloc();
+        "127.0.0.1:7411 can't be listened at: {error}: choose another --port"
+    )?;
+    let fault = ServerFault::Listen { port: 7411, error };
+    let told = format!(in rt.alloc(); "{fault}")?;
+    assert_eq!(rt; told.as_str(), wanted.as_str());
+    assert_eq!(rt; fault.status(), 1);
+    Ok(())
+}
