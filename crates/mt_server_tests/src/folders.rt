@@ -4,6 +4,7 @@ ghost use Rattle.std.specs.Prelude.{◌≡◌};
 
 use crate::stores::{LOG, RESUME, Scene, serve_scene};
 use crate::words::options_of;
+use log::Log;
 use mt_service::{OpenStore, open_store};
 use std::alloc::Global;
 use std::fs::{self, File};
@@ -12,9 +13,14 @@ use std::process::Abort;
 use std::rt::Files;
 use std::sync::ledger::Blank;
 use std::test::Fail;
+use std::time::Clock;
 
 // How the opening that a line names ends: nothing said, or the status and what is said.
-fn told_of<R: Files<File = File> + Abort>(rt: &R, alloc: Global, line: &str) -> (u8, String) {
+fn told_of<R: Files<File = File> + Clock + Log + Abort>(
+    rt: &R,
+    alloc: Global,
+    line: &str,
+) -> (u8, String) {
     let options = options_of(rt, alloc, line);
     match open_store(rt, alloc, &options) {
         Ok(OpenStore { store: _, folder }) => {
@@ -28,7 +34,7 @@ fn told_of<R: Files<File = File> + Abort>(rt: &R, alloc: Global, line: &str) -> 
     }
 }
 
-fn expect_told<R: Files<File = File> + Abort>(
+fn expect_told<R: Files<File = File> + Clock + Log + Abort>(
     rt: &R,
     alloc: Global,
     line: &str,
@@ -116,7 +122,11 @@ fn stores_are_opened_and_refused(rt: HostRuntime) -> Result<(), Fail> {
 }
 
 // The store that a line names.
-fn opened<R: Files<File = File> + Abort>(rt: &R, alloc: Global, line: &str) -> OpenStore
+fn opened<R: Files<File = File> + Clock + Log + Abort>(
+    rt: &R,
+    alloc: Global,
+    line: &str,
+) -> OpenStore
     ensures { result.store.source.state.answers ≡ 0 }
 {
     match open_store(rt, alloc, &options_of(rt, alloc, line)) {

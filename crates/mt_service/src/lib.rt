@@ -11,6 +11,7 @@ pub mod callers;
 mod connections;
 pub mod faults;
 pub mod opening;
+mod progress;
 pub mod running;
 pub mod workers;
 

@@ -7,6 +7,8 @@ ghost use Rattle.mt_service.specs.Opening.{IsOpened, IsOfOpening, IsMadeOn, IsRe
 
 use crate::accounts::accounts_of;
 use crate::faults::ServerFault;
+use crate::progress::Progress;
+use log::Log;
 use mt_disk::FileDisk;
 use mt_options::{Options, StorePlace};
 use mt_rows::{Refusal, Tenants};
@@ -16,6 +18,7 @@ use mt_stored::Store;
 use std::alloc::Global;
 use std::fs::File;
 use std::rt::Files;
+use std::time::Clock;
 
 /// A store, and its folder, if it has one. No other server has that open while this lives.
 #[derive(Drop)]
@@ -24,10 +27,11 @@ pub struct OpenStore {
     pub folder: Option<StoreFolder>,
 }
 
-/// Opens the store that the options name: makes it anew, or recovers it. Without one nothing is kept.
+/// Opens the store that the options name: makes it anew, or recovers it. Without one nothing is kept. It warns how
+/// far a recovery is that takes longer than two seconds.
 ///
 /// Errors: the refusal of the first tenant that can't be served; `Memory`; why the store isn't served.
-pub fn open_store<R: Files<File = File>>(
+pub fn open_store<R: Files<File = File> + Clock + Log>(
     rt: &R,
     alloc: Global,
     options: &Options,
@@ -55,7 +59,7 @@ pub fn open_store<R: Files<File = File>>(
 }
 
 // The store of so many workers at a place.
-fn open_place<R: Files<File = File>>(
+fn open_place<R: Files<File = File> + Clock + Log>(
     rt: &R,
     alloc: Global,
     place: &StorePlace,
@@ -104,7 +108,7 @@ fn make<R: Files<File = File>>(
 }
 
 // The store of a folder, recovered.
-fn recover<R: Files<File = File>>(
+fn recover<R: Files<File = File> + Clock + Log>(
     rt: &R,
     alloc: Global,
     folder: &str,
@@ -119,7 +123,10 @@ fn recover<R: Files<File = File>>(
 {
     let folder = StoreFolder::open(rt, alloc, folder)?;
     let files = folder.open_logs(rt, alloc, workers)?;
-    match Store::recover(alloc, files, tenants) {
+    let mut progress = Progress::new(rt);
+    let recovered = Store::recover_watched(alloc, files, tenants, &mut progress);
+    progress.end();
+    match recovered {
         Ok(store) => Ok(OpenStore {
             store,
             folder: Some(folder),
