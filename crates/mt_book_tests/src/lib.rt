@@ -1,5 +1,5 @@
 //! Tests of `mt_book`: calls by several threads, calls over a book that is owned alone, and over a desk
-//! that lies; what a gate is called with; what two workers' logs are given.
+//! that lies; what a gate is called with; what two workers' logs are given; what the tape holds.
 //!
 //! They stand in a crate of their own, since a crate with tests is proved twice.
 #![tactic(auto)]
@@ -14,3 +14,5 @@ mod lies;
 mod shown;
 #[cfg(test)]
 mod threads;
+#[cfg(test)]
+mod tidied;

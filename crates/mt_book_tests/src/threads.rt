@@ -51,17 +51,18 @@ pub(crate) fn get_of(alloc: Global, key: u8) -> Result<Command, AllocError> {
     Ok(Command::Get { key, columns })
 }
 
-// Puts through a pass of its own; gives it back.
-fn put_all<L: Ledger, R: Wait>(
+/// Puts so many times through a pass of its own; gives it back.
+pub(crate) fn put_all<L: Ledger, R: Wait>(
     rt: &R,
     alloc: Global,
     book: &Mutex<Book<L>>,
     pass: Pass<L>,
+    puts: u32,
 ) -> (Pass<L>, u32) {
     let mut pass = pass;
     let mut done = 0u32;
     let mut desk = book;
-    for i in 0..PUTS {
+    for i in 0..puts {
         let Ok(command) = put_of(alloc, (i % 12) as u8, 1) else {
             return (pass, done);
         };
@@ -72,8 +73,8 @@ fn put_all<L: Ledger, R: Wait>(
     (pass, done)
 }
 
-// Four passes of the only worker; another one has none.
-fn four_passes<L: Ledger, R: Wait + Abort>(
+/// Four passes of the only worker; another one has none.
+pub(crate) fn four_passes<L: Ledger, R: Wait + Abort>(
     rt: &R,
     alloc: Global,
     book: &Mutex<Book<L>>,
@@ -141,7 +142,7 @@ fn run<L: Ledger + Send + Sync, R: Threads + Wait + Abort + Sync>(
     let done = thread::map_vec(
         rt,
         passes,
-        &|pass: Pass<L>| put_all(rt, alloc, shared, pass),
+        &|pass: Pass<L>| put_all(rt, alloc, shared, pass, PUTS),
     );
     gather_all(rt, shared, passes_of(rt, alloc, done.expect(rt, "memory")));
     Ok(())
