@@ -20,7 +20,8 @@ use Rattle.mt_crashes.specs.Invariants.{by_worker, RisePlaced, IsFrontOf, IsStor
 use Rattle.mt_crashes.proofs.Members.{in_filter, filter_in, in_map, map_in, in_flat_map, flat_map_in, in_place, place_in, permuted_in, in_permuted}
 use Rattle.mt_crashes.proofs.FrontLaws.{from_cutoff, all_void, void_of_some, ends_cutoff}
 use Rattle.mt_crashes.proofs.Invariant.{zip_left, zip_right, within_place, rise_filter, rise_changes, same_members, same_stamp}
-use Rattle.mt_crashes.proofs.Kept.{new_is, leads, reaches_ever}
+use Rattle.mt_crashes.proofs.NewStore.{new_is}
+use Rattle.mt_crashes.proofs.Kept.{leads, reaches_ever}
 
 -- a front that a crash may leave is one of a worker's log
 front_of : (s : Store) (fronts : List Contents) (k : ℕ) (f : Contents) → IsStore s → MayLeaveFronts s.logs fronts → slice_get fronts k ≡ Some f
