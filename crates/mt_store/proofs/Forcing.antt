@@ -1,5 +1,5 @@
 -- Whose disk failed where a flush or a reopening is refused for the device.
-use Rattle.std.proofs.Common.{◌≡◌, ◌≢◌, ⊎_elim, inl, inr, ℕ, zero, suc, List, [], ◌∷◌, ◌++◌, Option, Some, None, Result, refl, sym, ap, subst, ◌∙◌}
+use Rattle.std.proofs.Common.{◌≡◌, ◌≢◌, ⊎_elim, inl, inr, ℕ, zero, suc, [], ◌∷◌, ◌++◌, Option, Some, None, Result, refl, sym, ap, subst, ◌∙◌}
 use Rattle.std.proofs.lemmas.Result.{IfOk-weaker}
 use Rattle.mt_rows.specs.declared.record.Batch.{Batch}
 use Rattle.mt_rows.specs.declared.refusal.Refusal.{Refusal}
@@ -12,7 +12,7 @@ use Rattle.mt_recover.specs.declared.resuming.LogSlot.{LogSlot}
 use Rattle.mt_recover.specs.declared.resuming.LogSlot.TheVariants.{Open, Failed, Closed, Away}
 use Rattle.mt_store_logs.specs.declared.store_log.StoreLog.{StoreLog}
 use Rattle.mt_store_logs.specs.Places.{mark_in, disk_in, FailsToOpen}
-use Rattle.mt_store_logs.specs.Waits.{HasAppended, HasFailed, TakesIn, AppendsKept, FailsToAppend, FailsToAppendNew, with_kept, opened_with, FailsAgain, FailsToReopenAt}
+use Rattle.mt_store_logs.specs.Waits.{HasAppended, HasFailed, TakesIn, AppendsKept, FailsToAppend, with_kept, opened_with, FailsAgain, FailsToReopenAt}
 use Rattle.mt_store_logs.specs.Flushes.{DrainsShort, FailsToDrain, FailsToFlush}
 use Rattle.mt_crashes.proofs.Members.{no_some}
 use Rattle.mt_store.specs.declared.serving.Serving.{Serving}
@@ -32,7 +32,7 @@ use Rattle.mt_store.specs.Holds.{Holds}
 use Rattle.std.specs.BTreeMap.{BTreeMap}
 use Rattle.mt_store.specs.declared.serving.Settle.{Settle}
 use Rattle.mt_store.specs.Steps.{Turns, IsNoCrash}
-use Rattle.mt_store.specs.Forced.{Logs, IsNotOpen, LogAt, FailsAt, failures_in, DiskFails, IsCrashForced, IsForced, AreForced}
+use Rattle.mt_store.specs.Forced.{Logs, FailsAt, failures_in, DiskFails, IsCrashForced, IsForced, AreForced}
 use Rattle.mt_store.proofs.Comes.{set_there}
 use Rattle.mt_store.proofs.Noting.{found, at}
 use Rattle.mt_store.proofs.Flushing.{keeps_rules, failures_of}

@@ -1,4 +1,4 @@
-use Rattle.std.proofs.Common.{◌≡◌, ◌∙◌, ap, arith, codes, subst, rules}
+use Rattle.std.proofs.Common.{◌≡◌, ◌∙◌, ap, arith, codes, subst}
 use Rattle.std.specs.Str.Parse.{ParsesUnsigned, ExplainsUnsignedError, HasUnsignedDigitsIfOk}
 use Rattle.clap.specs.Words.{found_of}
 use Rattle.mt_options.specs.Tenants.{AreTenants}
