@@ -3,7 +3,7 @@
 use crate::stores::{Failures, Store, closed_logs, create, images_of, mark_of};
 use mt_disk::MemDisk;
 use mt_rows::{Refusal, Tenants};
-use mt_store_logs::{LogRefusal, StoreLog, crash_logs, open_logs, recover_logs};
+use mt_store_logs::{LogRefusal, StoreLog, Watch, crash_logs, open_logs, recover_watched};
 use std::alloc::Global;
 use std::test::Fail;
 
@@ -86,6 +86,20 @@ fn logs_with(
     Ok(logs)
 }
 
+// How many of three logs it was told of, in their order.
+#[derive(Drop)]
+struct Heard {
+    logs: usize,
+}
+
+impl Watch for Heard {
+    fn opened(&mut self, logs: usize, of: usize) {
+        if of == 3 && logs == self.logs.saturating_add(1) {
+            self.logs = logs;
+        }
+    }
+}
+
 #[test]
 fn the_log_that_is_not_opened_is_told(rt: HostRuntime) -> Result<(), Fail> {
     let alloc = rt.alloc();
@@ -101,14 +115,18 @@ fn the_log_that_is_not_opened_is_told(rt: HostRuntime) -> Result<(), Fail> {
                 mark_of(&logs, log).is_none() && (log == 0 || mark_of(&logs, 0) == Some(0))
             );
         }
-        let recovered = recover_logs(alloc, &mut logs, &tenants);
+        let mut heard = Heard { logs: 0 };
+        let recovered = recover_watched(alloc, &mut logs, &tenants, &mut heard);
         assert!(rt;
             recovered.is_err_and(|e| e == told(Some(log), bad)),
             "{log}"
         );
+        assert_eq!(rt; heard.logs, log);
         // A log twice: no single one is the cause.
         let mut logs = logs_with(alloc, log, 9, (log + 1) % 3)?;
-        let recovered = recover_logs(alloc, &mut logs, &tenants);
+        let mut heard = Heard { logs: 0 };
+        let recovered = recover_watched(alloc, &mut logs, &tenants, &mut heard);
+        assert_eq!(rt; heard.logs, 3);
         assert!(rt;
             recovered.is_err_and(|e| e == told(None, Refusal::LogCount)),
             "{log}"
