@@ -1,5 +1,5 @@
 -- What one period more makes of a call: for the loops of `start`, `stepped` and `answered`.
-use Rattle.std.proofs.Common.{◌≡◌, ℕ, Bool, Option, Some, None, IsSome, unwrap_or, Ok, Err, refl, sym, ap, subst}
+use Rattle.std.proofs.Common.{◌≡◌, ◌≤◌, ℕ, Bool, Option, Some, None, IsSome, unwrap_or, Ok, Err, refl, sym, ap, subst}
 use Rattle.std.specs.List.{AllByRecursion}
 use Rattle.mt_rows.specs.declared.refusal.Refusal.{Refusal}
 use Rattle.mt_runs.specs.declared.event.Answer.{Answer}
@@ -16,7 +16,7 @@ use Rattle.mt_book.specs.declared.desks.Taking.{Taking}
 use Rattle.mt_book.specs.declared.desks.Taken.{Taken}
 use Rattle.mt_book.specs.declared.desks.Taken.TheVariants as taken
 use Rattle.mt_book.specs.declared.gates.Turned.{Turned}
-use Rattle.mt_book.specs.Periods.{Began, Rested, Stepped, Took, Looked, Period, admission_deed, admission_period, FitsAdmitted, FitsAdmission, step_deed, step_period, ShowsNext, FitsMove, FitsStepping, taken_deed, taking_period, FitsTaken, FitsTaking}
+use Rattle.mt_book.specs.Periods.{Began, Rested, Stepped, Took, Looked, Period, least_room, admission_deed, admission_period, FitsAdmitted, FitsAdmission, step_deed, step_period, ShowsNext, FitsMove, FitsStepping, taken_deed, taking_period, FitsTaken, FitsTaking}
 use Rattle.mt_book.specs.Calls.{IsBefore, LeadsOn, IsGiven, IsTurnBy, AreTurns, Opens, last_move, Ends, Led, IsRest, IsTaken}
 use Rattle.mt_book.proofs.Chains.{led_more, all_snoc, turns_snoc}
 
@@ -98,20 +98,20 @@ module _ {S : Type 0} (does : S → Period → S → Type 0) (old mid new : S) (
       (λ ps turns. record { between = ps; last = last; left = left; turned = turned; told = s.phase; steps = s.steps; parts = refl; turns = turns; given = given; late = f.0 })
       led (move_is (Some (last_move done)) e)
 
-module _ {S : Type 0} (does : S → Period → S → Type 0) (old mid new : S) (seen : ℕ) (ticket : Ticket) (t : Taking)
-    (led : Led does old mid (AllByRecursion (IsRest seen ticket.id))) (d : does mid (taking_period ticket.id t) new) (fits : FitsTaking seen ticket t) where
-  taken_is : (told : Taken) → t.told ≡ told → does mid (record { steps = t.steps; deed = taken_deed ticket.id told }) new
-  taken_is told e = subst (λ (x : Taken). does mid (record { steps = t.steps; deed = taken_deed ticket.id x }) new) e d
+module _ {S : Type 0} (does : S → Period → S → Type 0) (old mid new : S) (seen : ℕ) (ticket : Ticket) (room : ℕ) (t : Taking)
+    (led : Led does old mid (AllByRecursion (IsRest seen ticket.id))) (d : does mid (taking_period ticket.id room t) new) (fits : FitsTaking seen ticket t) where
+  taken_is : (told : Taken) → t.told ≡ told → does mid (record { steps = t.steps; deed = taken_deed ticket.id room told }) new
+  taken_is told e = subst (λ (x : Taken). does mid (record { steps = t.steps; deed = taken_deed ticket.id room x }) new) e d
 
   suits : (told : Taken) → t.told ≡ told → FitsTaken seen ticket t.steps told
   suits told e = subst (FitsTaken seen ticket t.steps) e fits
 
   -- the answer was taken
-  pub takes_answer : (answer : Answer) → t.told ≡ taken.Answered answer → Led does old new (IsTaken seen ticket.id answer)
-  takes_answer answer e =
-      let period : Period = record { steps = t.steps; deed = Took ticket.id answer } in
+  pub takes_answer : (answer : Answer) → t.told ≡ taken.Answered answer → least_room ≤ room → Led does old new (IsTaken seen ticket.id answer)
+  takes_answer answer e roomy =
+      let period : Period = record { steps = t.steps; deed = Took ticket.id room answer } in
       led_more does old mid new period (AllByRecursion (IsRest seen ticket.id)) (IsTaken seen ticket.id answer)
-      (λ ps early. record { rests = ps; steps = t.steps; parts = refl; early = early; late = suits (taken.Answered answer) e }) led (taken_is (taken.Answered answer) e)
+      (λ ps early. record { rests = ps; steps = t.steps; room = room; parts = refl; early = early; late = suits (taken.Answered answer) e; roomy = roomy }) led (taken_is (taken.Answered answer) e)
 
   -- it was too early, and the ticket came back
   pub takes_early : (back : Ticket) → t.told ≡ taken.Early back → (back ≡ ticket) × Led does old new (AllByRecursion (IsRest seen ticket.id))

@@ -15,7 +15,7 @@ use Rattle.mt_book.specs.declared.calls.Begun.{Begun}
 use Rattle.mt_book.specs.declared.calls.CallFault.{CallFault}
 use Rattle.mt_book.specs.declared.calls.CallFault.TheVariants as faults
 use Rattle.mt_book.specs.declared.gates.Turned.{Turned}
-use Rattle.mt_book.specs.Periods.{Deed, Looked, Began, Rested, Stepped, Took, Period, IsEarly, IsReady, Chain}
+use Rattle.mt_book.specs.Periods.{Deed, Looked, Began, Rested, Stepped, Took, Period, IsEarly, IsReady, least_room, Chain}
 
 -- what is asked by a call
 pub record Asked : Type 0 where
@@ -98,13 +98,15 @@ IsRestBy seen ticket steps _ = ⊥
 abbrev pub IsRest : ℕ → ℕ → Period → Type 0
 IsRest seen ticket p = IsRestBy seen ticket p.steps p.deed
 
--- the periods behind the last step, of which the last one takes the answer
+-- the periods after the last step, of which the last one takes the answer, and shows the least room for writes or more
 pub record IsTaken (seen ticket : ℕ) (answer : Answer) (periods : List Period) : Type 0 where
   pub rests : List Period
   pub steps : ℕ
-  pub parts : periods ≡ rests ++ record { steps = steps; deed = Took ticket answer } ∷ []
+  pub room : ℕ
+  pub parts : periods ≡ rests ++ record { steps = steps; deed = Took ticket room answer } ∷ []
   pub early : AllByRecursion (IsRest seen ticket) rests
   pub late : seen ≤ steps
+  pub roomy : least_room ≤ room
 
 -- the periods of a call whose operation was begun and stepped to its end
 pub record Runs (seen : ℕ) (asked : Asked) (ticket : Ticket) (done : Bool) (periods : List Period) : Type 0 where

@@ -1,5 +1,5 @@
 -- What a desk does in one lock period, and what it shows of it.
-use Rattle.std.specs.Prelude.{◌≡◌, ℕ, ◌<◌, ◌≤◌, ◌⊎◌, max, List, [], ◌∷◌, Result, Ok, Err, Option, Some, None, IsSome}
+use Rattle.std.specs.Prelude.{◌≡◌, ℕ, ◌-◌, ◌<◌, ◌≤◌, ◌⊎◌, max, vec_len, vec_capacity, List, [], ◌∷◌, Result, Ok, Err, Option, Some, None, IsSome}
 use Rattle.mt_rows.specs.declared.refusal.Refusal.{Refusal}
 use Rattle.mt_runs.specs.declared.event.Answer.{Answer}
 use Rattle.mt_operation.specs.declared.phase.Phase.{Phase}
@@ -7,6 +7,7 @@ use Rattle.mt_operation.specs.Operations.{OperationView}
 use Rattle.mt_state.specs.declared.moves.Move.{Move}
 use Rattle.mt_state.specs.declared.moves.Move.TheVariants.{Moved, Again, NoMemory}
 use Rattle.mt_core.specs.declared.answers.Ticket.{Ticket}
+use Rattle.mt_core.specs.declared.displaced.Displaced.{Displaced}
 use Rattle.mt_core.specs.Admitted.{OpeningView}
 use Rattle.mt_book.specs.declared.desks.Look.{Look}
 use Rattle.mt_book.specs.declared.desks.Admission.{Admission}
@@ -18,15 +19,23 @@ use Rattle.mt_book.specs.declared.desks.Taken.{Taken}
 use Rattle.mt_book.specs.declared.desks.Taken.TheVariants as taken
 use Rattle.mt_book.specs.declared.gates.Turned.{Turned}
 
+-- how many more writes a list of displaced ones can hold without more memory
+abbrev pub room_of : Displaced → ℕ
+room_of d = vec_capacity d.writes - vec_len d.writes
+
+-- the room that a call's take has at least
+abbrev pub least_room : ℕ
+least_room = 4
+
 -- What was done. Nothing is begun by `Looked`, which shows the number of logs. `Rested` makes no step and takes no answer. A step uses up what
--- the gate was given. A begin and a step show last what the operation's next step does, if one is left; where a take found no answer the ticket
--- was kept.
+-- the gate was given. A begin and a step show last what the operation's next step does, if one is left. `Took` shows the room that was handed in for
+-- the writes which the tidying gives up. If a take found no answer the ticket was kept.
 pub data Deed : Type 0 where
   Looked : ℕ → Deed
   Began : OpeningView → ℕ → Result Ticket Refusal → Option Phase → Deed
   Rested : ℕ → Deed
   Stepped : ℕ → Turned → Move → Option Phase → Deed
-  Took : ℕ → Answer → Deed
+  Took : ℕ → ℕ → Answer → Deed
   Kept : ℕ → Deed
 
 -- a lock period: how many steps were made before it, and what it did
@@ -92,14 +101,14 @@ FitsMove seen steps (Some made) next = (seen ≤ steps) × ShowsNext made next
 abbrev pub FitsStepping : ℕ → Stepping → Type 0
 FitsStepping seen s = FitsMove seen s.steps s.move_made s.phase
 
--- the period of a take
-abbrev pub taken_deed : ℕ → Taken → Deed
-taken_deed ticket (taken.Early back) = Rested ticket
-taken_deed ticket (taken.Open back) = Kept ticket
-taken_deed ticket (taken.Answered answer) = Took ticket answer
+-- the period of a take, to which a list with this room was handed in
+abbrev pub taken_deed : ℕ → ℕ → Taken → Deed
+taken_deed ticket room (taken.Early back) = Rested ticket
+taken_deed ticket room (taken.Open back) = Kept ticket
+taken_deed ticket room (taken.Answered answer) = Took ticket room answer
 
-abbrev pub taking_period : ℕ → Taking → Period
-taking_period ticket t = record { steps = t.steps; deed = taken_deed ticket t.told }
+abbrev pub taking_period : ℕ → ℕ → Taking → Period
+taking_period ticket room t = record { steps = t.steps; deed = taken_deed ticket room t.told }
 
 -- where no answer is taken the ticket comes back
 abbrev pub FitsTaken : ℕ → Ticket → ℕ → Taken → Type 0

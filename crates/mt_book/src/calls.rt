@@ -1,7 +1,7 @@
 //! Calls: a command begun, stepped and answered, period by period, over any desk.
 
-ghost use Rattle.std.specs.Prelude.{◌≡◌, ◌+◌, ◌<◌, max, IfOk, OnErr};
-ghost use Rattle.mt_book.specs.Periods.{IsOfWorker};
+ghost use Rattle.std.specs.Prelude.{◌≡◌, ◌+◌, ◌<◌, ◌≤◌, [], None, max, IfOk, OnErr};
+ghost use Rattle.mt_book.specs.Periods.{IsOfWorker, room_of, least_room};
 ghost use Rattle.mt_book.specs.Calls.{Asked, IsOpeningOf, Calls, Begins, Ends, Led, IsTaken, asked_by, answers_of};
 
 use crate::desks::{Admission, Admitted, Desk, Stepping, Taken, Taking};
@@ -34,16 +34,23 @@ struct Begun {
     shown: u64,
 }
 
-// So many writes that the last period of a call displaces are freed behind that.
+// So many writes that the last period of a call displaces are freed after that.
 const ROOM: usize = 4;
 
-// What a call sets aside, in the memory of the pass's last call, if there is some. An error drops that.
+// What a call sets aside: its command, and a list that is empty and has room. It is the memory of the pass's
+// last call, if there is some, and what that call left there is freed. An error drops that memory.
 fn set_aside(alloc: Global, kept: Option<Aside>, command: &Command) -> Result<Aside, AllocError>
-    ensures { IfOk result (λ aside. aside.command ≡ command.now) }
+    ensures command { IfOk result (λ aside. aside.command ≡ command.now) }
+    ensures empty { IfOk result (λ aside. (aside.displaced.writes.items ≡ []) × (aside.displaced.rest ≡ None)) }
+    ensures room { IfOk result (λ aside. least_room ≤ room_of aside.displaced) }
 {
     match kept {
         Some(mut aside) => {
             aside.command.copy_from(command)?;
+            aside.displaced.clear();
+            if aside.displaced.writes.capacity() < ROOM {
+                aside.displaced = Displaced::with_room(alloc, ROOM)?;
+            }
             Ok(aside)
         }
         None => Ok(Aside {
@@ -144,6 +151,7 @@ fn answered<L: Ledger, R: Wait, D: Desk<L>>(
     ticket: Ticket,
     displaced: &mut Displaced,
 ) -> Answer
+    requires { least_room ≤ room_of displaced.old }
     ensures taken { Led D.does desk.old desk.new (IsTaken pass.old.seen ticket.id result) }
     ensures share { pass.new.share.amount ≡ pass.old.share.amount + 1 }
     ensures worker { pass.new.worker ≡ pass.old.worker }
@@ -193,7 +201,8 @@ fn ran<L: Ledger, R: Wait, D: Desk<L>, G: Gate>(
     gate: &G,
     aside: &mut Aside,
 ) -> Result<Answer, CallFault>
-    requires { IsOfWorker pass.old.worker opening.made }
+    requires worker { IsOfWorker pass.old.worker opening.made }
+    requires room { least_room ≤ room_of aside.old.displaced }
     ensures periods { (asked : Asked) → asked.worker ≡ pass.old.worker → IsOpeningOf asked opening → Calls D.does desk.old desk.new pass.old.seen asked result }
     ensures command { IfOk result (λ answer. answer.command ≡ aside.old.command) }
     ensures later { IfOk result (λ answer. pass.old.seen < answer.first) }
@@ -221,8 +230,8 @@ fn ran<L: Ledger, R: Wait, D: Desk<L>, G: Gate>(
 
 /// Runs a command to its answer: a begin, its steps and a take, each in a lock period of its own,
 /// with the gate called before each step while the lock is free, with the phase that the period before
-/// showed. All that the begin needs of the command is made before the first period, and what the last
-/// one displaces is freed behind it; the memory for what is set aside stays with the pass.
+/// showed. All that the begin needs of the command is made before the first period. The last one tidies with
+/// room for four writes, and what it displaces is freed after it; the memory for that stays with the pass.
 ///
 /// Errors: the refusal of the begin, or `Memory` before it; `Spent` with the ticket. A desk that shows
 /// fewer steps than the pass saw, or too few logs, is asked again; one that lost the operation, or gives

@@ -1,7 +1,7 @@
 //! Desks: where a call does its lock periods.
 
 ghost use Rattle.std.specs.Prelude.{◌≡◌, ◌+◌};
-ghost use Rattle.mt_book.specs.Periods.{IsOfWorker, look_period, admission_period, FitsAdmission, Period, step_period, FitsStepping, taking_period, FitsTaking, answers_in};
+ghost use Rattle.mt_book.specs.Periods.{IsOfWorker, look_period, admission_period, FitsAdmission, Period, step_period, FitsStepping, taking_period, FitsTaking, room_of, answers_in};
 
 use crate::gates::Turned;
 use crate::passes::Pass;
@@ -86,8 +86,8 @@ pub trait Desk<L: Ledger> {
         ensures does { does self.old (step_period ticket.now.id turned result) self.new }
         ensures fits { FitsStepping pass.now.seen result };
 
-    /// Takes an operation's answer, which counts in the pass's share. What the period displaces is
-    /// handed out, to be freed behind it.
+    /// Takes an operation's answer, which counts in the pass's share, and tidies with the room of the list.
+    /// What the period displaces is handed out, to be freed after it. Without an answer nothing is.
     fn take<R: Wait>(
         &mut self,
         rt: &R,
@@ -95,8 +95,9 @@ pub trait Desk<L: Ledger> {
         ticket: Ticket,
         displaced: &mut Displaced,
     ) -> Taking
-        ensures does { does self.old (taking_period ticket.id result) self.new }
+        ensures does { does self.old (taking_period ticket.id (room_of displaced.old) result) self.new }
         ensures fits { FitsTaking pass.old.seen ticket result }
+        ensures kept { answers_in result.told ≡ 0 → displaced.new ≡ displaced.old }
         ensures share { pass.new.share.amount ≡ pass.old.share.amount + answers_in result.told }
         ensures worker { pass.new.worker ≡ pass.old.worker }
         ensures seen { pass.new.seen ≡ pass.old.seen };

@@ -11,3 +11,4 @@ invariant-loop g l =
     × (l.pass.worker ≡ l.fn.pass.worker)
     × (l.pass.share.amount ≡ l.fn.pass.share.amount)
     × Led g.D.Desk.does l.fn.desk l.desk (AllByRecursion (IsRest l.fn.pass.seen l.fn.ticket.id))
+    × (l.displaced ≡ l.fn.displaced)
