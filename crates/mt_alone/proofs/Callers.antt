@@ -70,7 +70,7 @@ still_open v o ticket same only settled = (subst (IsOnly v) (sym same) only, sub
 
 -- a begin that is refused
 refused_for : (v : StateView) (tenant : ℕ) (command : Command) (refusal : Refusal) → HasNumbersFor v (is_scan command) → IsSome (account_of v.accounts tenant) → IsRefusal v tenant command refusal → IsFault command refusal
-refused_for v tenant command refusals.NoTenant numbers there is = absurd (let none = ap is_some is in cc)
+refused_for v tenant command (refusals.NoTenant named) numbers there is = absurd (let none = ap is_some is.1 in cc)
 refused_for v tenant command refusals.Spent numbers there is = absurd (no_numbers v (is_scan command) numbers is.2)
 refused_for v tenant command refusals.Memory numbers there is = is.1
 refused_for v tenant command _ numbers there is = is.1

@@ -40,7 +40,7 @@ after_command tenant quota command old = record old { maps = with_map tenant (ma
 -- A tenant that is there is opened; of another one NoTenant is told.
 abbrev pub MapsOpen : Option ℕ → TenantMaps → ℕ → Option Refusal → TenantMaps → Type 0
 MapsOpen (Some quota) old tenant refusal new = (refusal ≡ None) × (new ≡ record old { opened = Some tenant })
-MapsOpen None old tenant refusal new = (refusal ≡ Some NoTenant) × (new ≡ old)
+MapsOpen None old tenant refusal new = (refusal ≡ Some (NoTenant tenant)) × (new ≡ old)
 
 -- A command is answered by its tenant's map, which is then the one that it leaves; or it is answered NoMemory, or refused for its first fault or want of
 -- memory, and nothing changes. One that is stuck has no answer: it has left that map, or nothing changed.

@@ -67,7 +67,7 @@ impl Caller for Alone {
 
     fn open(&mut self, tenant: u32) -> Result<(), Refusal> {
         if !self.state.has_tenant(tenant) {
-            return Err(Refusal::NoTenant);
+            return Err(Refusal::NoTenant(tenant));
         }
         self.opened = Some(tenant);
         Ok(())

@@ -19,8 +19,9 @@ ghost use Rattle.mt_book.specs.Does.{KeepsOtherTenants};
 
 use crate::passes::Pass;
 use mt_core::{Displaced, Opening, State, Ticket};
+use mt_drains::DrainedBatch;
 use mt_operation::Phase;
-use mt_rows::{Batch, Command, Refusal};
+use mt_rows::{Command, Refusal};
 use mt_runs::Answer;
 use mt_state::Move;
 use std::alloc::AllocError;
@@ -157,11 +158,12 @@ impl<L: Ledger> Book<L> {
     }
 
     /// As the state's.
-    pub fn drain(&mut self, worker: u8) -> Result<Batch, AllocError>
+    pub fn drain(&mut self, worker: u8) -> Result<DrainedBatch, AllocError>
         requires { worker < length self.old.state.logs }
-        ensures drains { IfOk result (λ batch. Drains self.old.state self.new.state worker batch) }
-        ensures bounded { IfOk result IsBounded }
-        ensures brings { (upto : ℕ) → upto ≤ self.old.state.steps → IfOk result (BringsOn upto) }
+        ensures worker { IfOk result (λ drained. drained.worker ≡ worker) }
+        ensures drains { IfOk result (λ drained. Drains self.old.state self.new.state worker drained.batch) }
+        ensures bounded { IfOk result (λ drained. IsBounded drained.batch) }
+        ensures brings { (upto : ℕ) → upto ≤ self.old.state.steps → IfOk result (λ drained. BringsOn upto drained.batch) }
         ensures unchanged_on_err { OnErr result (self.new.state ≡ self.old.state) }
         ensures opened { (self.new.opened ≡ self.old.opened) × (self.new.gathered ≡ self.old.gathered) }
     {

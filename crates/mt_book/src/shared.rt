@@ -11,7 +11,7 @@ use crate::desks::{Admission, Admitted, Desk, Look, Stepping, Taken, Taking};
 use crate::gates::Turned;
 use crate::passes::Pass;
 use mt_core::{Displaced, Opening, Ticket};
-use mt_rows::Batch;
+use mt_drains::DrainedBatch;
 use std::alloc::AllocError;
 use std::sync::ledger::Ledger;
 use std::sync::{Mutex, MutexGuard, Wait};
@@ -175,9 +175,10 @@ pub fn drain<L: Ledger, R: Wait>(
     book: &Mutex<Book<L>>,
     worker: u8,
     upto: u64,
-) -> Result<Batch, AllocError>
-    ensures bounded { IfOk result IsBounded }
-    ensures brings { IfOk result (BringsOn upto) }
+) -> Result<DrainedBatch, AllocError>
+    ensures worker { IfOk result (λ drained. drained.worker ≡ worker) }
+    ensures bounded { IfOk result (λ drained. IsBounded drained.batch) }
+    ensures brings { IfOk result (λ drained. BringsOn upto drained.batch) }
 {
     for _ in rt.forever() {
         if let Some(drained) = drained(rt, book, worker, upto) {
@@ -194,9 +195,10 @@ fn drained<L: Ledger, R: Wait>(
     book: &Mutex<Book<L>>,
     worker: u8,
     upto: u64,
-) -> Option<Result<Batch, AllocError>>
-    ensures bounded { IfSome result (λ drained. IfOk drained IsBounded) }
-    ensures brings { IfSome result (λ drained. IfOk drained (BringsOn upto)) }
+) -> Option<Result<DrainedBatch, AllocError>>
+    ensures worker { IfSome result (λ told. IfOk told (λ drained. drained.worker ≡ worker)) }
+    ensures bounded { IfSome result (λ told. IfOk told (λ drained. IsBounded drained.batch)) }
+    ensures brings { IfSome result (λ told. IfOk told (λ drained. BringsOn upto drained.batch)) }
 {
     let mut guard = locked(rt, book);
     if worker >= guard.logs() || guard.steps() < upto {

@@ -46,7 +46,7 @@ fn puts<L: Ledger, R: Wait>(
     Ok(call(rt, alloc, &mut desk, pass, 7, command, &NoGate {}).is_ok())
 }
 
-// Whether a worker's log is given this batch.
+// Whether a worker's log is given this batch, with the worker's number.
 fn drains<L: Ledger, R: Wait>(
     rt: &R,
     book: &Mutex<Book<L>>,
@@ -54,14 +54,16 @@ fn drains<L: Ledger, R: Wait>(
     (from, to): (u64, u64),
     wanted: &[(u64, u8)],
 ) -> Result<bool, AllocError> {
-    let batch = drain(rt, book, worker, 0)?;
+    let drained = drain(rt, book, worker, 0)?;
+    let batch = drained.batch();
     let records = batch.records.as_slice();
     for (record, (stamp, key)) in records.iter().zip(wanted) {
         if record.stamp != *stamp || record.key.as_bytes() != [*key].as_slice() {
             return Ok(false);
         }
     }
-    Ok((batch.from, batch.to) == (from, to) && records.len() == wanted.len())
+    let is_whole = (batch.from, batch.to) == (from, to) && records.len() == wanted.len();
+    Ok(drained.worker() == worker && is_whole)
 }
 
 // Whether an act comes out as it should.

@@ -110,9 +110,9 @@ module _ (c : Core) (now : StateView) (opening : OpeningView) (op : Operation) (
   -- where there was no place for it, it is refused for memory
   pub refused_for_memory : (told : Result Ticket Refusal) → told ≡ Err Memory → (tables.HasPlaces c.table 1 → ⊥) → RefusesOpening now opening told
   refused_for_memory told told_is none =
-      subst (RefusesOpening now opening) (sym told_is) (subst (λ made. IsRefusedFor (account_of now.accounts opening.tenant) now made Memory) (sym accepted.made) (by_account (account_of now.accounts opening.tenant) accepted.tenant))
+      subst (RefusesOpening now opening) (sym told_is) (subst (λ made. IsRefusedFor opening.tenant (account_of now.accounts opening.tenant) now made Memory) (sym accepted.made) (by_account (account_of now.accounts opening.tenant) accepted.tenant))
     where
-      by_account : (account : Option Account) → IsSome account → IsRefusedFor account now (Ok (view_of op)) Memory
+      by_account : (account : Option Account) → IsSome account → IsRefusedFor opening.tenant account now (Ok (view_of op)) Memory
       by_account None some = absurd (cc)
       by_account (Some account) some = (accepted.steps, subst (λ v. HasPlaces v 1 → ⊥) is (no_place c none))
 

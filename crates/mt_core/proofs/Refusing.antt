@@ -18,7 +18,7 @@ module _ (v : StateView) (tenant : ℕ) (command : Command) where
   -- a command's fault is handed on where its tenant is there
   of_fault : (fault : Refusal) → IsSome (account_of v.accounts tenant) → IsFault command fault → IsRefusal v tenant command fault
   of_fault Memory there is = (there, is)
-  of_fault NoTenant there is = absurd is
+  of_fault (NoTenant named) there is = absurd is
   of_fault Spent there is = absurd is
   of_fault _ there is = (there, is)
 
@@ -34,10 +34,10 @@ module _ (v : StateView) (tenant : ℕ) (command : Command) where
   by_made (Ok op) refusal there makes is = of_made op refusal there makes is
   by_made (Err fault) refusal there makes is = subst (IsRefusal v tenant command) (sym is) (of_fault fault there makes)
 
-  by_account : (account : Option Account) (made : Result OperationView Refusal) (refusal : Refusal) → account_of v.accounts tenant ≡ account
-      → Makes command made → IsRefusedFor account v made refusal → IsRefusal v tenant command refusal
-  by_account None made refusal same makes is = subst (IsRefusal v tenant command) (sym is) same
-  by_account (Some account) made refusal same makes is = by_made made refusal (subst IsSome (sym same) refl) makes is
+  by_account : (named : ℕ) (account : Option Account) (made : Result OperationView Refusal) (refusal : Refusal) → named ≡ tenant
+      → account_of v.accounts tenant ≡ account → Makes command made → IsRefusedFor named account v made refusal → IsRefusal v tenant command refusal
+  by_account named None made refusal names same makes is = subst (IsRefusal v tenant command) (sym is) (names, same)
+  by_account named (Some account) made refusal names same makes is = by_made made refusal (subst IsSome (sym same) refl) makes is
 
   of_ok : (made : Result OperationView Refusal) → IsOk made → Makes command made → IsTaken command
   of_ok (Ok op) ok makes = makes
@@ -52,4 +52,4 @@ module _ (v : StateView) (tenant : ℕ) (command : Command) where
     numbered = h.2;
   }
   refused_by opening (Err refusal) same makes h =
-      by_account (account_of v.accounts opening.tenant) opening.made refusal (ap (account_of v.accounts) (sym same)) makes h
+      by_account opening.tenant (account_of v.accounts opening.tenant) opening.made refusal same (ap (account_of v.accounts) (sym same)) makes h

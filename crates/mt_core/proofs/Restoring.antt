@@ -110,9 +110,9 @@ put_taken p h = let change = is_change p.row h.1 in record { key = h.0; columns 
 
 -- a begin is refused for memory alone whose tenant is there, whose command has no fault, and for which there is a number
 pub refused_for_memory : (v : StateView) (p : TenantPair) (tenant : ℕ) (made : Result OperationView Refusal) (refusal : Refusal) → account_of v.accounts p.tenant ≢ None → IsTaken (put_of p) → v.steps < 2 ^ 59
-    → tenant ≡ p.tenant → Makes (put_of p) made → IsRefusedFor (account_of v.accounts tenant) v made refusal → refusal ≡ refusals.Memory
+    → tenant ≡ p.tenant → Makes (put_of p) made → IsRefusedFor tenant (account_of v.accounts tenant) v made refusal → refusal ≡ refusals.Memory
 refused_for_memory v p tenant made refusal there taken few same makes is =
-    by (account_of v.accounts p.tenant) there (subst (λ t. IsRefusedFor (account_of v.accounts t) v made refusal) same is)
+    by (account_of v.accounts p.tenant) there (subst (λ t. IsRefusedFor t (account_of v.accounts t) v made refusal) same is)
   where
     fault : (e : Refusal) → IsFault (put_of p) e → e ≡ refusals.Memory
     fault refusals.Memory f = refl
@@ -128,7 +128,7 @@ refused_for_memory v p tenant made refusal there taken few same makes is =
     cause (Ok op) refusals.Spent makes is = absurd (omega (arith, few, is))
     cause (Ok op) _ makes is = absurd is
 
-    by : (account : Option Account) → account ≢ None → IsRefusedFor account v made refusal → refusal ≡ refusals.Memory
+    by : (account : Option Account) → account ≢ None → IsRefusedFor p.tenant account v made refusal → refusal ≡ refusals.Memory
     by None none is = absurd (none refl)
     by (Some account) some is = cause made refusal makes is
 

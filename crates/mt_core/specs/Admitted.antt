@@ -84,12 +84,12 @@ IsRefusalMade v (Ok op) Memory = (v.steps ≢ 2 ^ 59) × ¬ HasPlaces v 1
 IsRefusalMade v (Ok op) Spent = v.steps ≡ 2 ^ 59
 IsRefusalMade v (Ok op) refusal = ⊥
 
--- the first cause, by the account of its tenant
-abbrev pub IsRefusedFor : Option Account → StateView → Result OperationView Refusal → Refusal → Type 0
-IsRefusedFor None v made refusal = refusal ≡ NoTenant
-IsRefusedFor (Some account) v made refusal = IsRefusalMade v made refusal
+-- the first cause, by its tenant and the account of that
+abbrev pub IsRefusedFor : ℕ → Option Account → StateView → Result OperationView Refusal → Refusal → Type 0
+IsRefusedFor tenant None v made refusal = refusal ≡ NoTenant tenant
+IsRefusedFor tenant (Some account) v made refusal = IsRefusalMade v made refusal
 
 -- an opening is refused for its first cause alone, and begun only where there is none
 abbrev pub RefusesOpening : StateView → OpeningView → Result Ticket Refusal → Type 0
 RefusesOpening v opening (Ok ticket) = IsSome (account_of v.accounts opening.tenant) × IsOk opening.made × (v.steps ≢ 2 ^ 59)
-RefusesOpening v opening (Err refusal) = IsRefusedFor (account_of v.accounts opening.tenant) v opening.made refusal
+RefusesOpening v opening (Err refusal) = IsRefusedFor opening.tenant (account_of v.accounts opening.tenant) v opening.made refusal

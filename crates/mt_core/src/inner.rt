@@ -35,9 +35,9 @@ use crate::drains::{give_all, least_of, none_given};
 use crate::looks::look;
 use crate::openings::{Opening, give_back, give_up};
 use mt_arena::Arena;
-use mt_drains::batch_after;
+use mt_drains::{DrainedBatch, batch_after};
 use mt_operation::{Operation, Operations, Phase, Stepped};
-use mt_rows::{Batch, Refusal, Reply, Tenants};
+use mt_rows::{Refusal, Reply, Tenants};
 use mt_runs::Answer;
 use mt_state::Move;
 use mt_tape::Tape;
@@ -108,11 +108,11 @@ impl Inner {
     // The operation of an opening, where nothing but memory can refuse it; else the first cause.
     fn accepted(&self, opening: Opening) -> Result<Box<Operation>, Refusal>
         ensures accepts { IfOk result (λ op. IsAccepted (shown self.now) opening op.value) }
-        ensures refused { IfErr result (λ refusal. IsRefusedFor (account_of (shown self.now).accounts opening.tenant) (shown self.now) opening.made refusal) }
+        ensures refused { IfErr result (λ refusal. IsRefusedFor opening.tenant (account_of (shown self.now).accounts opening.tenant) (shown self.now) opening.made refusal) }
     {
         let Opening { tenant, made } = opening;
         match self.tenants.account(tenant) {
-            None => Err(Refusal::NoTenant),
+            None => Err(Refusal::NoTenant(tenant)),
             Some(_) if made.is_ok() && self.steps >= MAX_STEPS => Err(Refusal::Spent),
             Some(_) => made,
         }
@@ -231,17 +231,18 @@ impl Inner {
     }
 
     /// Gives a worker's log the next batch of its changes.
-    pub(crate) fn drain(&mut self, worker: u8) -> Result<Batch, AllocError>
+    pub(crate) fn drain(&mut self, worker: u8) -> Result<DrainedBatch, AllocError>
         requires { worker < length self.old.logs }
-        ensures drains { IfOk result (λ batch. Drains (shown self.old) (shown self.new) worker batch) }
-        ensures bounded { IfOk result IsBounded }
-        ensures brings { (upto : ℕ) → upto ≤ (shown self.old).steps → IfOk result (BringsOn upto) }
+        ensures worker { IfOk result (λ drained. drained.worker ≡ worker) }
+        ensures drains { IfOk result (λ drained. Drains (shown self.old) (shown self.new) worker drained.batch) }
+        ensures bounded { IfOk result (λ drained. IsBounded drained.batch) }
+        ensures brings { (upto : ℕ) → upto ≤ (shown self.old).steps → IfOk result (λ drained. BringsOn upto drained.batch) }
         ensures unchanged_on_err { OnErr result (shown self.new ≡ shown self.old) }
     {
         let given = self.logs[worker as usize];
-        let batch = batch_after(self.alloc, &self.tape, worker, given, self.steps)?;
-        self.logs[worker as usize] = batch.to;
-        Ok(batch)
+        let drained = batch_after(self.alloc, &self.tape, worker, given, self.steps)?;
+        self.logs[worker as usize] = drained.batch().to;
+        Ok(drained)
     }
 
     /// Makes steps of an operation as long as it moves, and answers what the last one answered.

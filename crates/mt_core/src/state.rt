@@ -32,8 +32,9 @@ use crate::inner::Inner;
 use crate::openings::{Opening, prepare};
 use crate::restore::restored;
 use crate::shape::{ShapeLine, shape_of};
+use mt_drains::DrainedBatch;
 use mt_operation::Phase;
-use mt_rows::{Batch, Command, Refusal, Reply, TenantPair, Tenants};
+use mt_rows::{Command, Refusal, Reply, TenantPair, Tenants};
 use mt_runs::Answer;
 use mt_state::Move;
 use std::alloc::{AllocError, Global};
@@ -208,13 +209,14 @@ impl State {
     }
 
     /// Gives a worker's log the next batch of the changes that its operations placed since it was last given
-    /// any: all of them up to the last step that was made, or the first 4,096. Any log takes it. An error comes
-    /// if memory is refused.
-    pub fn drain(&mut self, worker: u8) -> Result<Batch, AllocError>
+    /// any: all of them up to the last step that was made, or the first 4,096. Any log takes it. The worker's number
+    /// stands beside it. An error comes if memory is refused.
+    pub fn drain(&mut self, worker: u8) -> Result<DrainedBatch, AllocError>
         requires { worker < length self.old.logs }
-        ensures drains { IfOk result (λ batch. Drains self.old self.new worker batch) }
-        ensures bounded { IfOk result IsBounded }
-        ensures brings { (upto : ℕ) → upto ≤ self.old.steps → IfOk result (BringsOn upto) }
+        ensures worker { IfOk result (λ drained. drained.worker ≡ worker) }
+        ensures drains { IfOk result (λ drained. Drains self.old self.new worker drained.batch) }
+        ensures bounded { IfOk result (λ drained. IsBounded drained.batch) }
+        ensures brings { (upto : ℕ) → upto ≤ self.old.steps → IfOk result (λ drained. BringsOn upto drained.batch) }
         ensures unchanged_on_err { OnErr result (self.new ≡ self.old) }
     {
         self.inner.drain(worker)

@@ -96,7 +96,7 @@ fn put_by(rt: &impl Abort, alloc: Global, state: &mut State, worker: u8, key: &s
 // The next batch of a worker's log.
 fn drained(rt: &impl Abort, state: &mut State, worker: u8) -> Batch {
     assert!(rt; worker < state.logs());
-    state.drain(worker).expect(rt, "memory")
+    state.drain(worker).expect(rt, "memory").into_batch()
 }
 
 // The batch that a worker's log is given: the step over which it goes, and its stamps and keys.
@@ -221,7 +221,7 @@ fn the_first_cause_is_told_and_a_begin_is_cancelled(rt: HostRuntime) {
     let alloc = rt.alloc();
     let mut state = new_store(&rt, alloc, 2);
     let rows: [(u32, &str, &[u8], Refusal); 3] = [
-        (8, "k", &[16], Refusal::NoTenant),
+        (8, "k", &[16], Refusal::NoTenant(8)),
         (7, "k", &[16], Refusal::Column),
         (7, "k", &[1, 0], Refusal::Column),
     ];

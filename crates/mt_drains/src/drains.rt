@@ -12,6 +12,38 @@ use mt_rows::{Batch, Record, Records, Row};
 use mt_tape::{Entry, Tape};
 use std::alloc::{AllocError, Global};
 
+/// The next batch of a worker's log, with the worker's number. Only `batch_after` makes one, so no other
+/// worker's changes can pass for these.
+#[derive(Debug, Drop)]
+pub struct DrainedBatch {
+    worker: u8,
+    batch: Batch,
+}
+
+impl DrainedBatch {
+    /// Whose changes it has.
+    pub fn worker(&self) -> u8
+        ensures { result ≡ self.now.worker }
+    {
+        self.worker
+    }
+
+    /// The changes.
+    pub fn batch(&self) -> &Batch
+        ensures { result.now ≡ self.now.batch }
+    {
+        &self.batch
+    }
+
+    /// The changes alone.
+    pub fn into_batch(self) -> Batch
+        ensures { result ≡ self.batch }
+    {
+        let DrainedBatch { worker: _, batch } = self;
+        batch
+    }
+}
+
 /// The next batch of a worker's log that has the worker's changes up to a step: the changes after that, the
 /// oldest first, all of them up to `steps`, the last step that was made, or the first 4,096. `after` and `steps`
 /// are steps, as records are stamped with them. An error comes if memory is refused.
@@ -21,23 +53,25 @@ pub fn batch_after(
     worker: u8,
     after: u64,
     steps: u64,
-) -> Result<Batch, AllocError>
+) -> Result<DrainedBatch, AllocError>
     requires keys { All (λ e. IsKey e.key) tape.now.entries }
     requires made { last_write tape.now ≤ steps }
     requires order { after ≤ steps }
     requires few { steps ≤ 2 ^ 59 }
-    ensures is { IfOk result (IsNextBatch worker after steps tape.now.entries) }
-    ensures bounded { IfOk result IsBounded }
-    ensures brings { (upto : ℕ) → upto ≤ steps → IfOk result (BringsOn upto) }
+    ensures worker { IfOk result (λ drained. drained.worker ≡ worker) }
+    ensures is { IfOk result (λ drained. IsNextBatch worker after steps tape.now.entries drained.batch) }
+    ensures bounded { IfOk result (λ drained. IsBounded drained.batch) }
+    ensures brings { (upto : ℕ) → upto ≤ steps → IfOk result (λ drained. BringsOn upto drained.batch) }
 {
     let first = tape.count_upto(after);
     let mut records = Vec::new(alloc);
     let full = gather(&mut records, tape, worker, first)?;
-    Ok(Batch {
+    let batch = Batch {
         from: after,
         to: full.unwrap_or(steps),
         records: Records::new(records),
-    })
+    };
+    Ok(DrainedBatch { worker, batch })
 }
 
 // Takes a worker's changes from a place on, up to 4,096 of them; the step of the last one if there are so many.

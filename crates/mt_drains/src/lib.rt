@@ -6,4 +6,4 @@
 
 mod drains;
 
-pub use drains::batch_after;
+pub use drains::{DrainedBatch, batch_after};

@@ -57,7 +57,7 @@ module _ (worker stamp : ℕ) (fronts : List Contents) (set : AreSet fronts) (ri
       by (inr (inr two)) = absurd (not_level two.1)
   refused_for_it refusals.Memory is = absurd (not_level is.2)
   refused_for_it refusals.LogCount is = absurd (is set)
-  refused_for_it refusals.NoTenant is = absurd (not_level is.0.level)
+  refused_for_it (refusals.NoTenant t) is = absurd (not_level is.0.level)
   refused_for_it (refusals.OverQuota t) is = absurd (not_level is.0.level)
   refused_for_it refusals.KeyLong is = absurd is
   refused_for_it refusals.TenantThere is = absurd is

@@ -10,7 +10,7 @@ use Rattle.std.specs.Cmp.{IsTotalOrder}
 use Rattle.std.specs.Cmp.Lexicographic.{slice_cmp}
 use Rattle.std.specs.FinMap.{get, entries, from_entries, from_sorted, find, is_sorted, len, same_map, get-from_entries, get-from_sorted, entries-from_sorted, len-entries, IsAntisymmetric}
 use Rattle.std.specs.FinMap.Entries.{below_all}
-use Rattle.std.proofs.lemmas.Bool.{and_parts, true≢false, eqb-true, eqb-false, eq-eqb, ne_eqb, ltb-true, ltb-false}
+use Rattle.std.proofs.lemmas.Bool.{true≢false, eqb-true, eqb-false, eq-eqb, ne_eqb, ltb-true, ltb-false}
 use Rattle.std.proofs.lemmas.Bool.Decides.{nat_tests}
 use Rattle.std.proofs.lemmas.Option.{same_Some}
 use Rattle.mt_rows.specs.Rows.{Bytes, Columns}
@@ -23,8 +23,8 @@ use Rattle.mt_crashes.proofs.Members.{no_some}
 use Rattle.mt_recover.specs.Pairs.{Ascend}
 use Rattle.mt_rows.specs.TenantPairs.{owner_of, entry_of, pairs_of}
 use Rattle.mt_recover.specs.Orders.{DontFall}
-use Rattle.mt_recover.specs.Quotas.{have_tenants, has_room, over_behind, first_over}
-use Rattle.mt_recover.specs.Refusals.{IsFirstOver}
+use Rattle.mt_recover.specs.Quotas.{first_unknown, has_room, over_behind, first_over}
+use Rattle.mt_recover.specs.Refusals.{IsFirstUnknown, IsFirstOver}
 use Rattle.mt_recover.proofs.PairMaps.{Owner, Entry}
 
 -- ---- tenants
@@ -40,17 +40,24 @@ none_there : (o : Option ℕ) → is_some o ≡ false → o ≡ None
 none_there None h = refl
 none_there (Some n) h = absurd (true≢false h)
 
-found_has : (quota : ℕ → Option ℕ) (ps : List TenantPair) (q : Owner) → have_tenants quota ps ≡ true → find owned_cmp q (map entry_of ps) ≢ None → quota q.0 ≢ None
+known : (quota : ℕ → Option ℕ) (p : TenantPair) (ps : List TenantPair) → first_unknown quota (p ∷ ps) ≡ None → (quota p.tenant ≢ None) × (first_unknown quota ps ≡ None)
+known quota p ps h = by (is_some (quota p.tenant)) refl h
+  where
+    by : (b : Bool) → is_some (quota p.tenant) ≡ b → cond b (first_unknown quota ps) (Some p.tenant) ≡ None → (quota p.tenant ≢ None) × (first_unknown quota ps ≡ None)
+    by true is rest = (some_there _ is, rest)
+    by false _ none = absurd (no_some p.tenant (sym none))
+
+found_has : (quota : ℕ → Option ℕ) (ps : List TenantPair) (q : Owner) → first_unknown quota ps ≡ None → find owned_cmp q (map entry_of ps) ≢ None → quota q.0 ≢ None
 found_has quota [] q h found = absurd (found refl)
-found_has quota (p ∷ ps) q h found = by (eq_by_cmp owned_cmp q (owner_of p)) refl (found_has quota ps q (and_parts _ _ h).1) found
+found_has quota (p ∷ ps) q h found = by (eq_by_cmp owned_cmp q (owner_of p)) refl (found_has quota ps q (known quota p ps h).1) found
   where
     by : (b : Bool) → eq_by_cmp owned_cmp q (owner_of p) ≡ b → (find owned_cmp q (map entry_of ps) ≢ None → quota q.0 ≢ None)
         → cond b (Some p.row) (find owned_cmp q (map entry_of ps)) ≢ None → quota q.0 ≢ None
-    by true tied _ _ = subst (λ (t : ℕ). quota t ≢ None) (sym (ap (λ (o : Owner). o.0) (tied_owner q (owner_of p) tied))) (some_there _ (and_parts _ _ h).0)
+    by true tied _ _ = subst (λ (t : ℕ). quota t ≢ None) (sym (ap (λ (o : Owner). o.0) (tied_owner q (owner_of p) tied))) (known quota p ps h).0
     by false apart rest more = rest more
 
--- where each pair of a list is of a tenant with a quota, each key of its map is
-pub tenants_are : (quota : ℕ → Option ℕ) (ps : List TenantPair) → have_tenants quota ps ≡ true → HasTenants quota (pairs_of ps)
+-- if no pair of a list is of a tenant without a quota, no key of its map is
+pub tenants_are : (quota : ℕ → Option ℕ) (ps : List TenantPair) → first_unknown quota ps ≡ None → HasTenants quota (pairs_of ps)
 tenants_are quota ps h = λ q found. found_has quota ps q h (λ none. found (row_found q ps ∙ none))
 
 found_first : (p : TenantPair) (ps : List TenantPair) → find owned_cmp (owner_of p) (map entry_of (p ∷ ps)) ≢ None
@@ -63,18 +70,16 @@ found_later p ps q found = by (eq_by_cmp owned_cmp q (owner_of p))
     by true none = no_some p.row (sym none)
     by false none = found none
 
-missing : (quota : ℕ → Option ℕ) (ps : List TenantPair) → have_tenants quota ps ≡ false → (q : Owner) × (find owned_cmp q (map entry_of ps) ≢ None) × (quota q.0 ≡ None)
-missing quota [] h = absurd (true≢false h)
-missing quota (p ∷ ps) h = by (is_some (quota p.tenant)) refl (missing quota ps) h
+missing : (quota : ℕ → Option ℕ) (ps : List TenantPair) (t : ℕ) → first_unknown quota ps ≡ Some t
+    → (q : Owner) × (find owned_cmp q (map entry_of ps) ≢ None) × (quota q.0 ≡ None) × (q.0 ≡ t)
+missing quota [] t h = absurd (no_some t h)
+missing quota (p ∷ ps) t h = by (is_some (quota p.tenant)) refl (missing quota ps t) h
   where
-    by : (b : Bool) → is_some (quota p.tenant) ≡ b → (have_tenants quota ps ≡ false → (q : Owner) × (find owned_cmp q (map entry_of ps) ≢ None) × (quota q.0 ≡ None))
-        → b && have_tenants quota ps ≡ false → (q : Owner) × (find owned_cmp q (map entry_of (p ∷ ps)) ≢ None) × (quota q.0 ≡ None)
-    by true _ among more = let rest = among more in (rest.0, found_later p ps rest.0 rest.1, rest.2)
-    by false none _ _ = (owner_of p, found_first p ps, none_there _ none)
-
--- where one is of a tenant without a quota, not each key of its map is of one with a quota
-pub tenants_are_not : (quota : ℕ → Option ℕ) (ps : List TenantPair) → have_tenants quota ps ≡ false → ¬ HasTenants quota (pairs_of ps)
-tenants_are_not quota ps h all = let one = missing quota ps h in all one.0 (λ none. one.1 (sym (row_found one.0 ps) ∙ none)) one.2
+    by : (b : Bool) → is_some (quota p.tenant) ≡ b
+        → (first_unknown quota ps ≡ Some t → (q : Owner) × (find owned_cmp q (map entry_of ps) ≢ None) × (quota q.0 ≡ None) × (q.0 ≡ t))
+        → cond b (first_unknown quota ps) (Some p.tenant) ≡ Some t → (q : Owner) × (find owned_cmp q (map entry_of (p ∷ ps)) ≢ None) × (quota q.0 ≡ None) × (q.0 ≡ t)
+    by true _ among more = let rest = among more in (rest.0, found_later p ps rest.0 rest.1, rest.2, rest.3)
+    by false none _ one = (owner_of p, found_first p ps, none_there _ none, same_Some p.tenant t one)
 
 -- ---- ascending pairs are the entries of their map
 
@@ -200,6 +205,43 @@ from_zero (p ∷ ps) = (omega arith, from_zero ps)
 -- tenants of ascending pairs don't fall
 pub tenants_rise : (ps : List TenantPair) → Ascend ps → DontFall tenant_of 0 ps
 tenants_rise ps h = rise_from 0 ps (from_zero ps) h
+
+-- no key of their map is of a lesser tenant than the first
+found_from : (low : ℕ) (ps : List TenantPair) (q : Owner) → DontFall tenant_of low ps → find owned_cmp q (map entry_of ps) ≢ None → low ≤ q.0
+found_from low [] q rise found = absurd (found refl)
+found_from low (p ∷ ps) q rise found = by (eq_by_cmp owned_cmp q (owner_of p)) refl (found_from p.tenant ps q rise.1) found
+  where
+    by : (b : Bool) → eq_by_cmp owned_cmp q (owner_of p) ≡ b → (find owned_cmp q (map entry_of ps) ≢ None → p.tenant ≤ q.0)
+        → cond b (Some p.row) (find owned_cmp q (map entry_of ps)) ≢ None → low ≤ q.0
+    by true tied _ _ = let same = ap (λ (o : Owner). o.0) (tied_owner q (owner_of p) tied) in omega (arith, rise.0, same)
+    by false _ rest more = omega (arith, rise.0, rest more)
+
+-- before the first tenant without a quota each has one
+lesser_known : (quota : ℕ → Option ℕ) (low : ℕ) (ps : List TenantPair) (t : ℕ) (q : Owner) → DontFall tenant_of low ps → first_unknown quota ps ≡ Some t → q.0 < t
+    → find owned_cmp q (map entry_of ps) ≢ None → quota q.0 ≢ None
+lesser_known quota low [] t q rise h lt found = absurd (found refl)
+lesser_known quota low (p ∷ ps) t q rise h lt found = by (is_some (quota p.tenant)) refl (lesser_known quota p.tenant ps t q rise.1) h
+  where
+    tied_or : (b : Bool) → is_some (quota p.tenant) ≡ true → eq_by_cmp owned_cmp q (owner_of p) ≡ b → (find owned_cmp q (map entry_of ps) ≢ None → quota q.0 ≢ None)
+        → cond b (Some p.row) (find owned_cmp q (map entry_of ps)) ≢ None → quota q.0 ≢ None
+    tied_or true is tied _ _ = subst (λ (u : ℕ). quota u ≢ None) (sym (ap (λ (o : Owner). o.0) (tied_owner q (owner_of p) tied))) (some_there _ is)
+    tied_or false _ _ rest more = rest more
+
+    by : (b : Bool) → is_some (quota p.tenant) ≡ b → (first_unknown quota ps ≡ Some t → q.0 < t → find owned_cmp q (map entry_of ps) ≢ None → quota q.0 ≢ None)
+        → cond b (first_unknown quota ps) (Some p.tenant) ≡ Some t → quota q.0 ≢ None
+    by true is rest more = tied_or (eq_by_cmp owned_cmp q (owner_of p)) is refl (rest more lt) found
+    by false _ _ one = absurd (omega (arith, same_Some p.tenant t one, lt, found_from p.tenant (p ∷ ps) q (omega arith, rise.1) found))
+
+-- the first tenant of ascending pairs that has no quota is the least
+pub one_unknown : (quota : ℕ → Option ℕ) (ps : List TenantPair) (t : ℕ) → Ascend ps → first_unknown quota ps ≡ Some t → IsFirstUnknown quota (pairs_of ps) t
+one_unknown quota ps t h first =
+    let one = missing quota ps t first in
+    record {
+      none = subst (λ (u : ℕ). quota u ≡ None) one.3 one.2;
+      key = one.0.1;
+      there = subst (λ (u : ℕ). get (pairs_of ps) (u, one.0.1) ≢ None) one.3 (λ none. one.1 (sym (row_found one.0 ps) ∙ none));
+      least = λ less k lt there. lesser_known quota 0 ps t (less, k) (tenants_rise ps h) first lt (λ none. there (row_found (less, k) ps ∙ none));
+    }
 
 -- behind a tenant there is none of a lesser
 none_below : (low t : ℕ) (ps : List TenantPair) → DontFall tenant_of low ps → t < low → count_of t ps ≡ 0

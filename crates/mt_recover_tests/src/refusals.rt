@@ -138,12 +138,12 @@ fn each_refusal_comes_before_the_next(rt: HostRuntime) {
         (3, 5, (1, At::Stamp2, 6), (2, At::Stamp, 1), falls(2, 1)),
         (3, 5, (0, At::Stamp2, 2), (2, At::Stamp, 0), falls(2, 0)),
         // Another tenant, behind a fall, and not where it is void.
-        (3, 5, (0, At::Tenant, 8), SAME, Err(Refusal::NoTenant)),
+        (3, 5, (0, At::Tenant, 8), SAME, Err(Refusal::NoTenant(8))),
         (3, 5, (0, At::Tenant, 8), (1, At::Stamp, 0), falls(1, 0)),
         (3, 5, (2, At::Tenant2, 8), SAME, Ok(5)),
         // Five pairs where four may be, behind another tenant.
         (3, 4, SAME, SAME, Err(Refusal::OverQuota(7))),
-        (3, 1, (2, At::Tenant, 8), SAME, Err(Refusal::NoTenant)),
+        (3, 1, (2, At::Tenant, 8), SAME, Err(Refusal::NoTenant(8))),
     ] {
         let told = count_of(rt.alloc(), given, quota, [first, second]);
         assert!(rt;

@@ -144,5 +144,5 @@ pub(crate) fn put_pair(rt: &impl Abort, alloc: Global, state: &mut State, n: u64
 /// What a worker's log is given.
 pub(crate) fn drained(rt: &impl Abort, state: &mut State, worker: u8) -> Batch {
     assert!(rt; worker < state.logs());
-    state.drain(worker).expect(rt, "memory")
+    state.drain(worker).expect(rt, "memory").into_batch()
 }

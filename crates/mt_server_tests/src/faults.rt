@@ -19,8 +19,8 @@ fn faults_name_the_folder(rt: HostRuntime) -> Result<(), Fail> {
     let faults = [
         (StoreFault::Memory, "E2: out of memory"),
         (
-            StoreFault::Refused(None, Refusal::NoTenant),
-            "E4: the store in 'a/b' has pairs of a tenant that isn't named: name each of its tenants",
+            StoreFault::Refused(None, Refusal::NoTenant(7)),
+            "E4: the store in 'a/b' has pairs of tenant 7, which isn't named: name each of its tenants",
         ),
         (
             StoreFault::Refused(Some(63), Refusal::Device),

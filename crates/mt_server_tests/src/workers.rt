@@ -98,7 +98,7 @@ fn closed_again(
             ),
         };
         let disk = MemDisk::with_image(alloc, image, Vec::new(alloc), None)?;
-        closed.push(StoreLog::closed(disk))?;
+        closed.push(StoreLog::closed(log.worker(), disk))?;
     }
     Ok(closed)
 }

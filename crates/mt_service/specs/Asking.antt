@@ -36,7 +36,7 @@ asker desk worker seen counted tenants opened kept =
 -- A tenant is opened exactly where it is served; of another one NoTenant is told, and nothing changes.
 abbrev pub OpensTenant : {S K : Type 0} → Asker S K → ℕ → Option Refusal → Asker S K → Type 0
 OpensTenant old tenant None new = IsListed old.tenants tenant × (new ≡ record old { opened = Some tenant })
-OpensTenant old tenant (Some refusal) new = (refusal ≡ NoTenant) × (¬ IsListed old.tenants tenant) × (new ≡ old)
+OpensTenant old tenant (Some refusal) new = (refusal ≡ NoTenant tenant) × (¬ IsListed old.tenants tenant) × (new ≡ old)
 
 -- what a call makes of what its answers are kept in: an answer is counted, and with each 1,024th logs have their turns
 abbrev pub KeepsAnswer : {K : Type 0} → (K → Turn → K → Type 0) → (K → ℕ) → Kept K → Result Answer CallFault → Kept K → Type 0

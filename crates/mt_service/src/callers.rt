@@ -70,7 +70,7 @@ impl<L: Ledger, R: Wait + Log, D: Desk<L> + Drop, S: Logs + Drop> Caller
 
     fn open(&mut self, tenant: u32) -> Result<(), Refusal> {
         if !is_listed(self.tenants, tenant) {
-            return Err(Refusal::NoTenant);
+            return Err(Refusal::NoTenant(tenant));
         }
         self.opened = Some(tenant);
         Ok(())

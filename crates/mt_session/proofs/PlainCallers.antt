@@ -58,10 +58,10 @@ fault_same command ScanCount _ p q = absurd q
 fault_same command _ g p q = absurd p
 
 -- what opens a tenant is one answer
-open_same : (place : Option ℕ) (d : PlainTenants) (a b : Option Refusal) (e f : PlainTenants) → PlainOpens place d a e → PlainOpens place d b f
+open_same : (place : Option ℕ) (d : PlainTenants) (t : ℕ) (a b : Option Refusal) (e f : PlainTenants) → PlainOpens place d t a e → PlainOpens place d t b f
     → (a ≡ b) × (e ≡ f)
-open_same None d a b e f p q = (p.0 ∙ sym q.0, p.1 ∙ sym q.1)
-open_same (Some place) d a b e f p q = (p.0 ∙ sym q.0, p.1 ∙ sym q.1)
+open_same None d t a b e f p q = (p.0 ∙ sym q.0, p.1 ∙ sym q.1)
+open_same (Some place) d t a b e f p q = (p.0 ∙ sym q.0, p.1 ∙ sym q.1)
 
 -- a reply that was given by the map, where memory sufficed
 by_map : (x : PlainTenant) (command : Command) (reply : Reply) (e : PlainTenant) (w : WireReply)
@@ -99,7 +99,7 @@ call_same (Some place) command d a b e f w v (x, u, at, p, is) (y, z, here, q, b
 reply_same : (r : Request) (o : Bool) (d : PlainTenants) (w v : WireReply) (p q : Bool) (e f : PlainTenants) → IsReply PlainExchanges o d r w p e
     → IsReply PlainExchanges o d r v q f → IsAmple w → IsAmple v → (w ≡ v) × (p ≡ q) × (e ≡ f)
 reply_same (Open tenant) false d w v p q e f (a, given, told, stands) (b, gave, said, opened) ample enough =
-    let same = open_same (place_of d.list tenant) d a b e f given gave in
+    let same = open_same (place_of d.list tenant) d tenant a b e f given gave in
     (told ∙ ap open_told same.0 ∙ sym said, stands ∙ ap open_after same.0 ∙ sym opened, same.1)
 reply_same (Open tenant) true d w v p q e f (told, stands, stays) (said, opened, stayed) ample enough =
     (told ∙ sym said, stands ∙ sym opened, stays ∙ sym stayed)

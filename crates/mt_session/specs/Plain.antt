@@ -32,9 +32,9 @@ abbrev pub place_of : List PlainTenant → ℕ → Option ℕ
 place_of list tenant = position (λ t. t.tenant == tenant) list
 
 -- A tenant of the list is opened; of another NoTenant is told.
-abbrev pub PlainOpens : Option ℕ → PlainTenants → Option Refusal → PlainTenants → Type 0
-PlainOpens (Some place) old refusal new = (refusal ≡ None) × (new ≡ record old { opened = Some place })
-PlainOpens None old refusal new = (refusal ≡ Some NoTenant) × (new ≡ old)
+abbrev pub PlainOpens : Option ℕ → PlainTenants → ℕ → Option Refusal → PlainTenants → Type 0
+PlainOpens (Some place) old tenant refusal new = (refusal ≡ None) × (new ≡ record old { opened = Some place })
+PlainOpens None old tenant refusal new = (refusal ≡ Some (NoTenant tenant)) × (new ≡ old)
 
 -- A tenant's command is refused for its first fault, or it is answered by the tenant's map, or, where a
 -- growth was refused, with NoMemory, and nothing changes. No command is stuck.
@@ -52,7 +52,7 @@ PlainCalls None old command answer new = (answer ≡ Err (Refused NotOpen)) × (
 
 -- what the caller answers: a Settle is refused, since it keeps nothing
 abbrev pub PlainExchanges : PlainTenants → Exchange → PlainTenants → Type 0
-PlainExchanges old (Opens tenant refusal) new = PlainOpens (place_of old.list tenant) old refusal new
+PlainExchanges old (Opens tenant refusal) new = PlainOpens (place_of old.list tenant) old tenant refusal new
 PlainExchanges old (Calls command answer) new = PlainCalls old.opened old command answer new
 PlainExchanges old (Settles answer) new = (answer ≡ Err NoStore) × (new ≡ old)
 

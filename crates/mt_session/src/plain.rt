@@ -60,7 +60,7 @@ impl Caller for PlainCaller {
                 self.opened = Some(place);
                 Ok(())
             }
-            None => Err(Refusal::NoTenant),
+            None => Err(Refusal::NoTenant(tenant)),
         }
     }
 

@@ -1,10 +1,16 @@
 -- Turns of a store's logs.
-use Rattle.std.specs.Prelude.{◌≡◌, ℕ, List, [], ◌∷◌, Result}
+use Rattle.std.specs.Prelude.{◌≡◌, ℕ, List, [], ◌∷◌, Result, Ok, Err}
 use Rattle.mt_rows.specs.declared.refusal.Refusal.{Refusal}
+use Rattle.mt_store_logs.specs.declared.flushing.Flushed.{Flushed}
 
 -- A log was opened again, if it was closed, and given what its worker had changed. It told the step that it reaches, or why it was not.
 pub data Turn : Type 0 where
   BroughtUp : ℕ → Result ℕ Refusal → Turn
+
+-- what a turn tells: the step up to which the log was flushed, or why it was not
+abbrev pub mark_told : Result Flushed Refusal → Result ℕ Refusal
+mark_told (Ok flushed) = Ok flushed.mark
+mark_told (Err refusal) = Err refusal
 
 -- turns in their order lead from old to new
 abbrev pub Chain : {S : Type 0} → (S → Turn → S → Type 0) → S → List Turn → S → Type 0

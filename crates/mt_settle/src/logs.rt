@@ -1,10 +1,11 @@
 //! Logs of a store, of which one is brought up to date in a turn.
 
-ghost use Rattle.std.specs.Prelude.{◌≡◌, ◌<◌, ℕ};
-ghost use Rattle.mt_settle.specs.Turns.{Turn, BroughtUp};
+ghost use Rattle.std.specs.Prelude.{◌≡◌, ◌<◌, ℕ, IfOk};
+ghost use Rattle.mt_settle.specs.Turns.{Turn, BroughtUp, mark_told};
 
 use log::Log;
 use mt_rows::Refusal;
+use mt_store_logs::Flushed;
 use std::alloc::Global;
 use std::sync::Wait;
 
@@ -21,10 +22,16 @@ pub trait Logs {
         ensures { result ≡ logs self.now };
 
     /// Opens a log again if its disk failed, then gives it what its worker has changed since the last time.
-    /// Answers the step up to which the log then has all of the worker's changes. An error loses nothing: what
-    /// the log lacks goes into it before anything else. It may warn through `rt`.
-    fn bring_up<R: Wait + Log>(&mut self, rt: &R, alloc: Global, log: u8) -> Result<u64, Refusal>
+    /// Returns that this log was flushed, and up to which step. An error loses nothing: what the log lacks goes
+    /// into it before anything else. It may warn through `rt`.
+    fn bring_up<R: Wait + Log>(
+        &mut self,
+        rt: &R,
+        alloc: Global,
+        log: u8,
+    ) -> Result<Flushed, Refusal>
         requires { log < logs self.old }
-        ensures does { does self.old (BroughtUp log result) self.new }
+        ensures whose { IfOk result (λ flushed. flushed.worker ≡ log) }
+        ensures does { does self.old (BroughtUp log (mark_told result)) self.new }
         ensures same { logs self.new ≡ logs self.old };
 }

@@ -1,6 +1,7 @@
 //! All logs, one after the other.
 
-ghost use Rattle.std.specs.Prelude.{◌≡◌};
+ghost use Rattle.std.specs.Prelude.{◌≡◌, ◌<◌};
+ghost use Rattle.mt_settle.specs.Turns.{BroughtUp};
 ghost use Rattle.mt_settle.specs.Settles.{Settles};
 
 use crate::logs::Logs;
@@ -22,9 +23,26 @@ pub fn settle<R: Wait + Log, S: Logs>(rt: &R, alloc: Global, logs: &mut S) -> Re
     if count == 0 {
         return Err(Refusal::NoStore);
     }
-    let mut least = logs.bring_up(rt, alloc, 0)?;
+    let mut least = brought_up(rt, alloc, logs, 0)?;
     for log in 1..count {
-        least = least.min(logs.bring_up(rt, alloc, log)?);
+        least = least.min(brought_up(rt, alloc, logs, log)?);
     }
     Ok(least)
+}
+
+// Brings a log up to date; the step up to which it was flushed.
+fn brought_up<R: Wait + Log, S: Logs>(
+    rt: &R,
+    alloc: Global,
+    logs: &mut S,
+    log: u8,
+) -> Result<u64, Refusal>
+    requires { log < S.logs logs.old }
+    ensures does { S.does logs.old (BroughtUp log result) logs.new }
+    ensures same { S.logs logs.new ≡ S.logs logs.old }
+{
+    match logs.bring_up(rt, alloc, log) {
+        Ok(flushed) => Ok(flushed.mark()),
+        Err(refusal) => Err(refusal),
+    }
 }

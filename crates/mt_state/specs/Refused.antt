@@ -25,7 +25,7 @@ pub record IsAdmissible (v : StateView) (tenant : ℕ) (command : Command) : Typ
 
 -- the first cause for which a begin is refused; Memory may stand in place of Spent and of a success, and never of a fault
 abbrev pub IsRefusal : StateView → ℕ → Command → Refusal → Type 0
-IsRefusal v tenant command NoTenant = account_of v.accounts tenant ≡ None
+IsRefusal v tenant command (NoTenant named) = (named ≡ tenant) × (account_of v.accounts tenant ≡ None)
 IsRefusal v tenant command Spent = IsSome (account_of v.accounts tenant) × IsTaken command × (v.steps ≡ 2 ^ 59)
 IsRefusal v tenant command refusal = IsSome (account_of v.accounts tenant) × IsFault command refusal
 

@@ -1,5 +1,5 @@
 -- A new store: its logs were made, and nothing has happened.
-use Rattle.std.proofs.Common.{◌≡◌, ℕ, ◌+◌, ◌<◌, ◌≤◌, List, map, length, Option, Some, None, refl, sym, ap, subst, ◌∙◌, arith, inr}
+use Rattle.std.proofs.Common.{◌≡◌, ℕ, ◌+◌, ◌<◌, ◌≤◌, List, length, Option, Some, None, refl, sym, ap, subst, ◌∙◌, arith, inr}
 use Rattle.std.specs.Prelude.{slice_get}
 use Rattle.std.specs.FinMap.{empty, len, get-empty, len-empty}
 use Rattle.std.specs.Ordering.{nat_cmp}
@@ -20,16 +20,16 @@ use Rattle.mt_state.proofs.HistoryStart.{content-new, tenant_map-empty}
 use Rattle.mt_core.specs.Rights.{IsRightState}
 use Rattle.mt_crashes.specs.Histories.{Placed}
 use Rattle.mt_crashes.specs.Stores.{LogNow, at_rest, new_store}
-use Rattle.mt_crashes.proofs.Invariant.{within_place, map_place, new_at, new_long}
+use Rattle.mt_crashes.proofs.Invariant.{within_place, new_at, new_long}
 use Rattle.mt_store_logs.specs.declared.fault.LogRefusal.{LogRefusal}
 use Rattle.mt_store_logs.specs.declared.store_log.StoreLog.{StoreLog}
-use Rattle.mt_store_logs.specs.Places.{MakesAll, StopsMakingAt, StopsMaking}
+use Rattle.mt_store_logs.specs.Places.{closed_on, MakesAll, StopsMakingAt, StopsMaking}
+use Rattle.mt_store_logs.proofs.Closed.{closed_at}
 use Rattle.mt_store_logs.specs.Shows.{Shows, IsHonest}
 use Rattle.mt_store_logs.proofs.CallerLemmas.{makes}
 use Rattle.mt_store.specs.declared.serving.Serving.{Serving}
 use Rattle.mt_store.specs.Lives.{new_standing, IsMemoryOrDevice}
 use Rattle.mt_store.specs.Holds.{Holds}
-use Rattle.mt_store.specs.Beginnings.{closed_on}
 use Rattle.mt_store.specs.Returns.{IsFresh}
 use Rattle.mt_store.proofs.Flushing.{keeps_rules, failures_of, within}
 use Rattle.mt_store.proofs.Leaving.{AllShow}
@@ -60,7 +60,7 @@ rest_new count = record {
   marks = λ k now there. let at = new_at count 0 count k now there in ap (λ (l : LogNow). mark_of l.had) at.0;
 }
 
-module _ (accounts : Accounts) (old new : List (StoreLog MemDisk)) (some : 0 < length old) (few : length old ≤ 64) (disks : List MemDisk) (closed : old ≡ map closed_on disks)
+module _ (accounts : Accounts) (old new : List (StoreLog MemDisk)) (some : 0 < length old) (few : length old ≤ 64) (disks : List MemDisk) (closed : old ≡ closed_on disks)
     (made : MakesAll keeps_rules mem_state failures_of old new) where
   count_new : length (new_store (length new)).logs ≡ length new
   count_new = new_long (length new) 0 (length new)
@@ -69,8 +69,8 @@ module _ (accounts : Accounts) (old new : List (StoreLog MemDisk)) (some : 0 < l
   shows_new = λ worker now log there at.
       let below : worker < length old = subst (λ n. worker < n) made.len (within new worker log at) in
       let was = within_place old worker below in
-      let c = map_place closed_on disks worker was.0 (ap (λ ls. slice_get ls worker) (sym closed) ∙ was.1) in
-      let m = makes keeps_rules mem_state failures_of worker (length old) was.0.slot log.slot (subst (λ (l : StoreLog MemDisk). IsHonest keeps_rules l.slot) (sym c.2) refl)
+      let c = closed_at 0 disks worker was.0 (ap (λ ls. slice_get ls worker) (sym closed) ∙ was.1) in
+      let m = makes keeps_rules mem_state failures_of worker (length old) was.0.slot log.slot (subst (λ (l : StoreLog MemDisk). IsHonest keeps_rules l.slot) (sym c.1) refl)
       (made.each worker was.0 log below was.1 at).0 in
       let is = new_at (length new) 0 (length new) worker now there in
       let place : worker ≡ 0 + worker = omega arith in

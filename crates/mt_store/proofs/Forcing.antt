@@ -11,7 +11,7 @@ use Rattle.mt_log.specs.declared.log_file.LogFile.{LogFile}
 use Rattle.mt_recover.specs.declared.resuming.LogSlot.{LogSlot}
 use Rattle.mt_recover.specs.declared.resuming.LogSlot.TheVariants.{Open, Failed, Closed, Away}
 use Rattle.mt_store_logs.specs.declared.store_log.StoreLog.{StoreLog}
-use Rattle.mt_store_logs.specs.Places.{mark_in, disk_in, FailsToOpen}
+use Rattle.mt_store_logs.specs.Places.{log_with, mark_in, disk_in, FailsToOpen}
 use Rattle.mt_store_logs.specs.Waits.{HasAppended, HasFailed, TakesIn, AppendsKept, FailsToAppend, with_kept, opened_with, FailsAgain, FailsToReopenAt}
 use Rattle.mt_store_logs.specs.Flushes.{DrainsShort, FailsToDrain, FailsToFlush}
 use Rattle.mt_crashes.proofs.Members.{no_some}
@@ -126,19 +126,19 @@ failed_again old (Closed new) f = absurd f
 failed_again old Away f = absurd f
 
 -- it was opened, and then its disk failed
-opened_failed : (was : ℕ) (log : LogFile MemDisk) (kept : Option Batch) (new : StoreLog MemDisk) → log.disk.failures ≡ was
-    → FailsToAppend keeps_rules mem_state failures_of refusals.Device (opened_with log kept) new → GoesUp was (failures new.slot)
-opened_failed was log kept new same f =
-    subst (λ n. GoesUp n (failures new.slot)) same (failed (opened_with log kept) new (λ e. no_some log.mark (sym e)) f)
+opened_failed : (was w : ℕ) (log : LogFile MemDisk) (kept : Option Batch) (new : StoreLog MemDisk) → log.disk.failures ≡ was
+    → FailsToAppend keeps_rules mem_state failures_of refusals.Device (opened_with w log kept) new → GoesUp was (failures new.slot)
+opened_failed was w log kept new same f =
+    subst (λ n. GoesUp n (failures new.slot)) same (failed (opened_with w log kept) new (λ e. no_some log.mark (sym e)) f)
 
-pub reopen_failed : (slot : LogSlot MemDisk) (kept : Option Batch) (new : StoreLog MemDisk) → mark_in slot ≡ None → slot ≢ Away
-    → FailsToReopenAt keeps_rules mem_state failures_of refusals.Device slot (record { slot = slot; kept = kept }) new → GoesUp (failures slot) (failures new.slot)
-reopen_failed (Open log) kept new shut there f = absurd (no_some log.mark (sym shut))
-reopen_failed (Failed log) kept new shut there (inl s) = failed_again log new.slot s.fails
-reopen_failed (Failed log) kept new shut there (inr o) = opened_failed log.disk.failures o.log kept new o.opened.count o.fails
-reopen_failed (Closed disk) kept new shut there (inl s) = not_opened disk new.slot s.fails
-reopen_failed (Closed disk) kept new shut there (inr o) = opened_failed disk.failures o.log kept new o.opened.1.count o.fails
-reopen_failed Away kept new shut there f = absurd (there refl)
+pub reopen_failed : (w : ℕ) (slot : LogSlot MemDisk) (kept : Option Batch) (new : StoreLog MemDisk) → mark_in slot ≡ None → slot ≢ Away
+    → FailsToReopenAt keeps_rules mem_state failures_of refusals.Device slot (log_with w slot kept) new → GoesUp (failures slot) (failures new.slot)
+reopen_failed w (Open log) kept new shut there f = absurd (no_some log.mark (sym shut))
+reopen_failed w (Failed log) kept new shut there (inl s) = failed_again log new.slot s.fails
+reopen_failed w (Failed log) kept new shut there (inr o) = opened_failed log.disk.failures w o.log kept new o.opened.count o.fails
+reopen_failed w (Closed disk) kept new shut there (inl s) = not_opened disk new.slot s.fails
+reopen_failed w (Closed disk) kept new shut there (inr o) = opened_failed disk.failures w o.log kept new o.opened.1.count o.fails
+reopen_failed w Away kept new shut there f = absurd (there refl)
 
 -- ---- events
 
@@ -167,7 +167,7 @@ module _ (accounts : Accounts) (logs : Logs) (serving : Option Serving) (worker 
       → FailsToReopen keeps_rules mem_state failures_of e log new
       → (any : Accounts) → IsForced any (Reopen worker) (Refused e) logs serving (slice_set logs worker new)
   reopen_forced refusals.Device held standing h shut f any =
-      fails (reopen_failed log.slot log.kept new shut
+      fails (reopen_failed log.worker log.slot log.kept new shut
       (not_away (found accounts standing logs held h worker log new here).0 log.slot (at accounts standing logs held h worker log new here).stands.shows) f)
   reopen_forced e held standing h shut f any = tt
 

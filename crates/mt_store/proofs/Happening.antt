@@ -6,6 +6,7 @@ use Rattle.mt_rows.specs.Accounts.{Accounts}
 use Rattle.mt_disk.specs.declared.mem.MemDisk.{MemDisk}
 use Rattle.mt_runs.specs.Placings.{Quotas}
 use Rattle.mt_store_logs.specs.declared.store_log.StoreLog.{StoreLog}
+use Rattle.mt_store_logs.specs.Places.{workers_of}
 use Rattle.mt_store.specs.declared.events.StoreEvent.{StoreEvent}
 use Rattle.mt_store.specs.declared.events.StoreEvent.TheVariants.{Core, SettleBegin, SettleNext, Crash}
 use Rattle.mt_store.specs.declared.events.StoreNote.{StoreNote}
@@ -38,6 +39,13 @@ module _ {E : Type 0} (first old new last : List (StoreLog MemDisk)) (result : R
       by : (r : Result StoreNote E) → OnOk r (length new ≡ length first) → OnOk r (length last ≡ length old)
       by (Ok note) len = ap length (sym same_new) ∙ len ∙ ap length same_old
       by (Err e) len = tt
+
+  pub served_workers : OnOk result (workers_of new ≡ workers_of first) → OnOk result (workers_of last ≡ workers_of old)
+  served_workers = by result
+    where
+      by : (r : Result StoreNote E) → OnOk r (workers_of new ≡ workers_of first) → OnOk r (workers_of last ≡ workers_of old)
+      by (Ok note) same = ap workers_of (sym same_new) ∙ same ∙ ap workers_of same_old
+      by (Err e) same = tt
 
   pub served_goes : (accounts : Accounts) (event : StoreEvent) (was now : Serving) (serving : Option Serving) → serving ≡ Some was
       → IfOk result (λ note. (any : Accounts) → GoesOn any event note first (Some was) new (Some now)) → IfOk result (λ note. GoesOn accounts event note old serving last (Some now))

@@ -15,7 +15,6 @@ pub mod Crashing
 pub mod Opening
 pub mod Recovering
 pub mod Resuming
-pub mod Limits
 pub mod Living
 pub mod Returning
 pub mod Beginning

@@ -7,7 +7,7 @@ use Rattle.mt_disk.specs.declared.mem.MemDisk.{MemDisk}
 use Rattle.mt_disk.specs.Disk.{GoesUp}
 use Rattle.mt_disk.specs.Mem.{mem_state}
 use Rattle.mt_store_logs.specs.declared.store_log.StoreLog.{StoreLog}
-use Rattle.mt_store_logs.specs.Places.{mark_in, disk_in, MakesAll}
+use Rattle.mt_store_logs.specs.Places.{mark_in, disk_in, MakesAll, closed_on}
 use Rattle.mt_store_logs.specs.Crashes.{MayLeaveLogs, AreCrashed}
 use Rattle.mt_store.specs.declared.events.StoreEvent.{StoreEvent}
 use Rattle.mt_store.specs.declared.events.StoreEvent.TheVariants.{Core, Flush, Reopen, SettleBegin, SettleNext, Crash}
@@ -15,7 +15,6 @@ use Rattle.mt_store.specs.declared.events.StoreNote.{StoreNote}
 use Rattle.mt_store.specs.declared.events.StoreNote.TheVariants.{Recovered, Refused, NoSuch}
 use Rattle.mt_store.specs.declared.running.Store.{Store}
 use Rattle.mt_store.specs.declared.serving.Serving.{Serving}
-use Rattle.mt_store.specs.Beginnings.{closed_on}
 use Rattle.mt_store.specs.Returns.{AreRecovered, AreNotRecovered}
 use Rattle.mt_store.specs.Lives.{Notes}
 
@@ -75,6 +74,6 @@ AreForced accounts (x ∷ notes) old was new is =
 -- they led from new logs on these disks to where a store stands
 pub record AreForcedOn (accounts : Accounts) (notes : Notes) (disks : List MemDisk) (store : Store) : Type 0 where
   pub first : Logs
-  pub made : MakesAll (λ (d : MemDisk). true) mem_state (λ d. d.failures) (map closed_on disks) first
+  pub made : MakesAll (λ (d : MemDisk). true) mem_state (λ d. d.failures) (closed_on disks) first
   pub serving : Serving
   pub forced : AreForced accounts notes first (Some serving) store.logs.items store.serving

@@ -1,22 +1,21 @@
 //! A new store.
 
-ghost use Rattle.std.specs.Prelude.{◌≡◌, ◌<◌, ◌≤◌, true, length, map, Some, IfOk, IfErr};
+ghost use Rattle.std.specs.Prelude.{◌≡◌, ◌<◌, ◌≤◌, true, length, Some, IfOk, IfErr};
 ghost use Rattle.mt_disk.specs.declared.mem.MemDisk.{MemDisk as AnyDisk};
 ghost use Rattle.mt_disk.specs.Mem.{mem_state};
 ghost use Rattle.mt_state.specs.Begins.{HaveNoPairs};
-ghost use Rattle.mt_store_logs.specs.Places.{MakesAll};
+ghost use Rattle.mt_store_logs.specs.Places.{closed_on, AreInOrder, MakesAll};
 ghost use Rattle.mt_store.specs.declared.serving.Serving.{Serving as AnyServing};
 ghost use Rattle.mt_store.specs.Lives.{new_standing, IsMemoryOrDevice};
 ghost use Rattle.mt_store.specs.Holds.{Holds};
-ghost use Rattle.mt_store.specs.Beginnings.{closed_on};
 
 use crate::running::Store;
 use crate::serving::Serving;
 use mt_core::State;
 use mt_disk::MemDisk;
 use mt_rows::{Refusal, Tenants};
-use mt_store_logs::{StoreLog, create_logs};
-use std::alloc::{AllocError, Global};
+use mt_store_logs::{closed_logs, create_logs};
+use std::alloc::Global;
 
 /// A new store on these disks. Errors: `Device`, `Memory`.
 pub(crate) fn created(
@@ -29,7 +28,8 @@ pub(crate) fn created(
     requires empty { HaveNoPairs tenants.now }
     ensures ok { IfOk result (λ store. Holds tenants.now new_standing store.logs.items store.serving) }
     ensures count { IfOk result (λ store. length store.logs.items ≡ length disks.items) }
-    ensures made { IfOk result (λ store. MakesAll (λ (d : AnyDisk). true) mem_state (λ d. d.failures) (map closed_on disks.items) store.logs.items) }
+    ensures order { IfOk result (λ store. AreInOrder store.logs.items) }
+    ensures made { IfOk result (λ store. MakesAll (λ (d : AnyDisk). true) mem_state (λ d. d.failures) (closed_on disks.items) store.logs.items) }
     ensures serves { IfOk result (λ store. (serving : AnyServing) × (store.serving ≡ Some serving)) }
     ensures err { IfErr result IsMemoryOrDevice }
 {
@@ -41,15 +41,4 @@ pub(crate) fn created(
     state.facts();
     let serving = Some(Serving::new(alloc, state));
     Ok(Store { logs, serving })
-}
-
-// Closed logs on these disks.
-fn closed_logs(alloc: Global, disks: Vec<MemDisk>) -> Result<Vec<StoreLog<MemDisk>>, AllocError>
-    ensures { IfOk result (λ logs. logs.items ≡ map closed_on disks.items) }
-{
-    let mut logs = Vec::with_capacity(alloc, disks.len())?;
-    for disk in disks {
-        logs.push(StoreLog::closed(disk))?;
-    }
-    Ok(logs)
 }

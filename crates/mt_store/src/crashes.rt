@@ -6,6 +6,7 @@ ghost use Rattle.mt_rows.specs.TenantPairs.{pairs_of, quota_in, IsTenantPair, Ar
 ghost use Rattle.mt_state.specs.Begins.{HaveNoPairs};
 ghost use Rattle.mt_core.specs.Restores.{IsRestored};
 ghost use Rattle.mt_core.specs.Rights.{IsRightState};
+ghost use Rattle.mt_store_logs.specs.Places.{workers_of};
 ghost use Rattle.mt_store.specs.Returns.{Begins, AreRecovered, AreNotRecovered};
 ghost use Rattle.mt_store.specs.Steps.{CrashesTo};
 ghost use Rattle.mt_store.specs.Forced.{IsCrashForced};
@@ -32,6 +33,7 @@ pub(crate) fn crash(
     requires empty { HaveNoPairs tenants.now }
     ensures crashes { IfOk result (λ note. CrashesTo tenants.now note logs.old serving.old logs.new serving.new) }
     ensures count { OnOk result (length logs.new ≡ length logs.old) }
+    ensures workers { OnOk result (workers_of logs.new ≡ workers_of logs.old) }
     ensures forced { IfOk result (λ note. IsCrashForced tenants.now images.now note logs.old logs.new) }
 {
     if !crash_logs(alloc, logs, images)? {
@@ -55,6 +57,7 @@ fn come_back(
 ) -> Result<(Recovered, Serving), Refusal>
     requires few { length logs.old ≤ 64 }
     requires empty { HaveNoPairs tenants.now }
+    ensures workers { workers_of logs.new ≡ workers_of logs.old }
     ensures recovered { IfOk result (λ r. AreRecovered tenants.now r.0 logs.old logs.new) }
     ensures begins { IfOk result (λ r. Begins tenants.now r.0 (length logs.new) r.1) }
     ensures err { IfErr result (λ e. AreNotRecovered tenants.now e logs.old logs.new) }

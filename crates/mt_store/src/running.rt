@@ -7,6 +7,7 @@ ghost use Rattle.mt_disk.specs.declared.mem.MemDisk.{MemDisk as AnyDisk};
 ghost use Rattle.mt_state.specs.Begins.{HaveNoPairs};
 ghost use Rattle.mt_state.specs.Histories.{IsServed};
 ghost use Rattle.mt_store_logs.specs.declared.store_log.StoreLog.{StoreLog as AnyLog};
+ghost use Rattle.mt_store_logs.specs.Places.{workers_of, AreInOrder};
 ghost use Rattle.mt_store.specs.declared.events.StoreEvent.TheVariants.{Core, Crash};
 ghost use Rattle.mt_store.specs.declared.events.StoreNote.TheVariants.{Told as Answered};
 ghost use Rattle.mt_store.specs.Lives.{Standing, HasLives, IsMemoryOrDevice};
@@ -90,6 +91,7 @@ fn note_all(
     events: &[StoreEvent],
 ) -> Result<Vec<StoreNote>, AllocError>
     requires held { (standing : Standing) × Holds tenants.now standing store.old.logs.items store.old.serving }
+    requires order { AreInOrder store.old.logs.items }
     requires empty { HaveNoPairs tenants.now }
     requires workers { All (IsServedBy (length store.old.logs.items)) events.now }
     ensures goes { IfOk result (λ notes. NotesGoOn tenants.now (zip events.now notes.items) store.old.logs.items store.old.serving store.new.logs.items store.new.serving) }
@@ -112,9 +114,11 @@ fn happen(
     event: &StoreEvent,
 ) -> Result<StoreNote, AllocError>
     requires held { (standing : Standing) × Holds tenants.now standing store.old.logs.items store.old.serving }
+    requires order { AreInOrder store.old.logs.items }
     requires empty { HaveNoPairs tenants.now }
     requires worker { IsServedBy (length store.old.logs.items) event.now }
     ensures count { OnOk result (length store.new.logs.items ≡ length store.old.logs.items) }
+    ensures workers { OnOk result (workers_of store.new.logs.items ≡ workers_of store.old.logs.items) }
     ensures goes { IfOk result (λ note. GoesOn tenants.now event.now note store.old.logs.items store.old.serving store.new.logs.items store.new.serving) }
     ensures forced { IfOk result (λ note. IsForced tenants.now event.now note store.old.logs.items store.old.serving store.new.logs.items) }
 {
@@ -135,9 +139,11 @@ fn serve(
     event: &StoreEvent,
 ) -> Result<StoreNote, AllocError>
     requires held { IsHeld logs.old (Some serving.old) }
+    requires order { AreInOrder logs.old }
     requires worker { IsServedBy (length logs.old) event.now }
     requires serves { IsNoCrash event.now }
     ensures count { OnOk result (length logs.new ≡ length logs.old) }
+    ensures workers { OnOk result (workers_of logs.new ≡ workers_of logs.old) }
     ensures goes { IfOk result (λ note. (accounts : Accounts) → GoesOn accounts event.now note logs.old (Some serving.old) logs.new (Some serving.new)) }
     ensures forced { IfOk result (λ note. (accounts : Accounts) → IsForced accounts event.now note logs.old (Some serving.old) logs.new) }
 {

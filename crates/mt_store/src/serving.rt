@@ -3,7 +3,7 @@
 ghost use Rattle.std.specs.Prelude.{◌≡◌, []};
 
 use mt_core::{Roster, State};
-use mt_rows::Batch;
+use mt_drains::DrainedBatch;
 use mt_store_logs::Source;
 use std::alloc::{AllocError, Global};
 use std::collections::BTreeMap;
@@ -49,7 +49,7 @@ impl Source for Serving {
 
     ghost gives = { DrainsServing };
 
-    fn drain(&mut self, worker: u8, _upto: u64) -> Result<Batch, AllocError> {
+    fn drain(&mut self, worker: u8, _upto: u64) -> Result<DrainedBatch, AllocError> {
         let drained = self.state.drain(worker);
         self.state.facts();
         drained

@@ -1,19 +1,24 @@
 //! Flushes, reopenings and Settles of a store that serves.
 
-ghost use Rattle.std.specs.Prelude.{◌≡◌, ◌<◌, ◌≤◌, List, length, Some, IfOk};
+ghost use Rattle.std.specs.Prelude.{◌≡◌, ◌<◌, ◌≤◌, true, List, length, Some, IfOk, IfErr};
 ghost use Rattle.std.specs.Ordering.{nat_cmp};
 ghost use Rattle.std.specs.BTreeMap.{get};
 ghost use Rattle.mt_rows.specs.Accounts.{Accounts};
 ghost use Rattle.mt_disk.specs.declared.mem.MemDisk.{MemDisk as AnyDisk};
+ghost use Rattle.mt_disk.specs.Mem.{mem_state};
 ghost use Rattle.mt_store_logs.specs.declared.store_log.StoreLog.{StoreLog as AnyLog};
+ghost use Rattle.mt_store_logs.specs.Places.{workers_of, AreInOrder};
+ghost use Rattle.mt_store_logs.specs.Flushes.{Flushes, FailsToFlush};
 ghost use Rattle.mt_store.specs.declared.events.StoreEvent.TheVariants.{Flush, Reopen, SettleBegin, SettleNext};
 ghost use Rattle.mt_store.specs.declared.serving.Serving.{Serving as AnyServing};
+ghost use Rattle.mt_store.specs.Serving.{DrainsServing};
 ghost use Rattle.mt_store.specs.Steps.{Turns, IsHeld, GoesOn};
 ghost use Rattle.mt_store.specs.Forced.{IsForced};
 
 use crate::events::StoreNote;
 use crate::serving::{Serving, Settle};
 use mt_disk::MemDisk;
+use mt_rows::Refusal;
 use mt_store_logs::{StoreLog, flush};
 use std::alloc::{AllocError, Global};
 
@@ -24,8 +29,10 @@ pub(crate) fn flush_at(
     serving: &mut Serving,
     worker: u8,
 ) -> StoreNote
-    requires { IsHeld logs.old (Some serving.old) }
+    requires held { IsHeld logs.old (Some serving.old) }
+    requires order { AreInOrder logs.old }
     ensures count { length logs.new ≡ length logs.old }
+    ensures workers { workers_of logs.new ≡ workers_of logs.old }
     ensures goes { (accounts : Accounts) → GoesOn accounts (Flush worker) result logs.old (Some serving.old) logs.new (Some serving.new) }
     ensures forced { (accounts : Accounts) → IsForced accounts (Flush worker) result logs.old (Some serving.old) logs.new }
 {
@@ -33,7 +40,7 @@ pub(crate) fn flush_at(
     if place >= logs.len() || logs[place].mark().is_none() {
         return StoreNote::NoSuch;
     }
-    match flush(alloc, &mut logs[place], serving, worker, 0) {
+    match flush_log(alloc, &mut logs[place], serving, worker, 0) {
         Ok(mark) => StoreNote::Flushed(mark),
         Err(refusal) => StoreNote::Refused(refusal),
     }
@@ -43,6 +50,7 @@ pub(crate) fn flush_at(
 pub(crate) fn reopen_at(alloc: Global, logs: &mut [StoreLog<MemDisk>], worker: u8) -> StoreNote
     requires { (serving : AnyServing) × IsHeld logs.old (Some serving) }
     ensures count { length logs.new ≡ length logs.old }
+    ensures workers { workers_of logs.new ≡ workers_of logs.old }
     ensures goes { (accounts : Accounts) (serving : AnyServing) → GoesOn accounts (Reopen worker) result logs.old (Some serving) logs.new (Some serving) }
     ensures forced { (accounts : Accounts) (serving : AnyServing) → IsForced accounts (Reopen worker) result logs.old (Some serving) logs.new }
 {
@@ -80,8 +88,10 @@ pub(crate) fn go_on(
     serving: &mut Serving,
     id: u64,
 ) -> StoreNote
-    requires { IsHeld logs.old (Some serving.old) }
+    requires held { IsHeld logs.old (Some serving.old) }
+    requires order { AreInOrder logs.old }
     ensures count { length logs.new ≡ length logs.old }
+    ensures workers { workers_of logs.new ≡ workers_of logs.old }
     ensures goes { (accounts : Accounts) → GoesOn accounts (SettleNext id) result logs.old (Some serving.old) logs.new (Some serving.new) }
     ensures forced { (accounts : Accounts) → IsForced accounts (SettleNext id) result logs.old (Some serving.old) logs.new }
 {
@@ -89,7 +99,7 @@ pub(crate) fn go_on(
         return StoreNote::NoSuch;
     };
     let steps = serving.state.steps();
-    match flush(
+    match flush_log(
         alloc,
         &mut logs[usize::from(settle.next)],
         serving,
@@ -101,6 +111,27 @@ pub(crate) fn go_on(
             serving.settles.remove(&id);
             StoreNote::Refused(refusal)
         }
+    }
+}
+
+// Drains a worker into its log, up to a step at least, and tells the step up to which the log then goes.
+fn flush_log(
+    alloc: Global,
+    log: &mut StoreLog<MemDisk>,
+    serving: &mut Serving,
+    worker: u8,
+    upto: u64,
+) -> Result<u64, Refusal>
+    requires whose { log.old.worker ≡ worker }
+    requires served { worker < length serving.old.state.logs }
+    requires made { upto ≤ serving.old.state.steps }
+    ensures ok { IfOk result (λ mark. Flushes (λ (d : AnyDisk). true) mem_state (λ d. d.failures) DrainsServing worker upto mark log.old log.new serving.old serving.new) }
+    ensures worker { log.new.worker ≡ log.old.worker }
+    ensures err { IfErr result (λ e. FailsToFlush (λ (d : AnyDisk). true) mem_state (λ d. d.failures) DrainsServing worker upto e log.old log.new serving.old serving.new) }
+{
+    match flush(alloc, log, serving, upto) {
+        Ok(flushed) => Ok(flushed.mark()),
+        Err(refusal) => Err(refusal),
     }
 }
 

@@ -170,9 +170,9 @@ fn told<W: fmt::Write>(
     let place = Place(folder, log);
     match refusal {
         Refusal::Memory => write!(f, "{refusal}: out of memory"),
-        Refusal::NoTenant => write!(
+        Refusal::NoTenant(tenant) => write!(
             f,
-            "{refusal}: the store in '{folder}' has pairs of a tenant that isn't named: name each of its tenants"
+            "{refusal}: the store in '{folder}' has pairs of tenant {tenant}, which isn't named: name each of its tenants"
         ),
         Refusal::Device => write!(
             f,

@@ -30,7 +30,7 @@ use Rattle.mt_recover.specs.declared.resuming.LogSlot.TheVariants.{Open, Failed,
 use Rattle.mt_recover.specs.Resumes.{HasResumed, FailsToResume}
 use Rattle.mt_recover.specs.Resumes.{HasFailed as ResumeFailed}
 use Rattle.mt_store_logs.specs.declared.store_log.StoreLog.{StoreLog}
-use Rattle.mt_store_logs.specs.Places.{mark_in, disk_in, Opens, FailsOn, FailsToOpen, Makes}
+use Rattle.mt_store_logs.specs.Places.{log_with, mark_in, disk_in, Opens, FailsOn, FailsToOpen, Makes}
 use Rattle.mt_store_logs.specs.Waits.{HasAppended, HasFailed, TakesIn, AppendsKept, ClosesWith, Stays, FailsToAppend, with_kept, opened_with, ReopensAt, StaysClosed, FailsAgain, StaysShut, FailsToReopenAt, Reopens, FailsToReopen}
 use Rattle.mt_store_logs.specs.Crashes.{IsFoundWith, IsCrashedOn, IsCrashedTo}
 use Rattle.mt_store_logs.specs.Shows.{LeavesEither, ShowsClosed, ShowsFailed, Shows, IsHonest, Waits, WaitsIn, Stands, drained_upto, MayBegin, begun, appended, IsIn, IsInDoubt, ComesToRest}
@@ -175,7 +175,7 @@ module _ {D : Type 0} (is_honest : D → Bool) (state : D → DiskState) where
     not_on now (refusals.BadLog n o) old disk honest shows fails = absurd (not_bad now.had now.doubt old n o shows.0 shows.1 (fails.bad honest))
     not_on now refusals.KeyLong old disk honest shows fails = absurd fails
     not_on now refusals.TenantThere old disk honest shows fails = absurd fails
-    not_on now refusals.NoTenant old disk honest shows fails = absurd fails
+    not_on now (refusals.NoTenant t) old disk honest shows fails = absurd fails
     not_on now refusals.Column old disk honest shows fails = absurd fails
     not_on now refusals.ColumnLong old disk honest shows fails = absurd fails
     not_on now refusals.Quota old disk honest shows fails = absurd fails
@@ -280,7 +280,7 @@ module _ {D : Type 0} (is_honest : D → Bool) (state : D → DiskState) where
     fails_to_resume c kept to refusals.Memory old new honest shows last f = same_left c kept to old new honest shows f
     fails_to_resume c kept to refusals.KeyLong old new honest shows last f = absurd f
     fails_to_resume c kept to refusals.TenantThere old new honest shows last f = absurd f
-    fails_to_resume c kept to refusals.NoTenant old new honest shows last f = absurd f
+    fails_to_resume c kept to (refusals.NoTenant t) old new honest shows last f = absurd f
     fails_to_resume c kept to refusals.Column old new honest shows last f = absurd f
     fails_to_resume c kept to refusals.ColumnLong old new honest shows last f = absurd f
     fails_to_resume c kept to refusals.Quota old new honest shows last f = absurd f
@@ -410,7 +410,7 @@ module _ {D : Type 0} (is_honest : D → Bool) (state : D → DiskState) where
     fails_in now (refusals.WrongTurn m) old new stands s = same_kept now old new stands s.same
     fails_in now refusals.KeyLong old new stands s = absurd s
     fails_in now refusals.TenantThere old new stands s = absurd s
-    fails_in now refusals.NoTenant old new stands s = absurd s
+    fails_in now (refusals.NoTenant t) old new stands s = absurd s
     fails_in now refusals.Column old new stands s = absurd s
     fails_in now refusals.ColumnLong old new stands s = absurd s
     fails_in now refusals.Quota old new stands s = absurd s
@@ -460,34 +460,34 @@ module _ {D : Type 0} (is_honest : D → Bool) (state : D → DiskState) where
     has_it_failed log b (Closed disk) mark f = f
     has_it_failed log b Away mark f = f
 
-    has_it_stays : (P : Batch → ℕ → Type 0) (log : LogFile D) (b : Batch) (new : StoreLog D) → log.mark ≡ b.to → Stays P (opened_with log (Some b)) new → ⊥
-    has_it_stays P log b new mark s =
+    has_it_stays : (P : Batch → ℕ → Type 0) (w : ℕ) (log : LogFile D) (b : Batch) (new : StoreLog D) → log.mark ≡ b.to → Stays P (opened_with w log (Some b)) new → ⊥
+    has_it_stays P w log b new mark s =
         s.beyond (ap (λ (x : Batch). x.to) (sym (same_Some b s.batch s.waits)) ∙ sym mark ∙ same_Some log.mark s.mark s.open_up_to)
 
-    has_it_fails : (e : Refusal) (log : LogFile D) (b : Batch) (new : StoreLog D) → log.mark ≡ b.to
-        → FailsToAppend is_honest state failures e (opened_with log (Some b)) new → ⊥
-    has_it_fails refusals.Device log b new mark (inl shut) = no_some log.mark (sym shut.0)
-    has_it_fails refusals.Device log b new mark (inr c) =
+    has_it_fails : (e : Refusal) (w : ℕ) (log : LogFile D) (b : Batch) (new : StoreLog D) → log.mark ≡ b.to
+        → FailsToAppend is_honest state failures e (opened_with w log (Some b)) new → ⊥
+    has_it_fails refusals.Device w log b new mark (inl shut) = no_some log.mark (sym shut.0)
+    has_it_fails refusals.Device w log b new mark (inr c) =
         has_it_failed log c.batch new.slot (mark ∙ ap (λ (x : Batch). x.to) (same_Some b c.batch c.waited)) c.fails
-    has_it_fails refusals.Memory log b new mark s = has_it_stays _ log b new mark s
-    has_it_fails (refusals.WrongTurn m) log b new mark s = has_it_stays _ log b new mark s
-    has_it_fails refusals.KeyLong log b new mark s = s
-    has_it_fails refusals.TenantThere log b new mark s = s
-    has_it_fails refusals.NoTenant log b new mark s = s
-    has_it_fails refusals.Column log b new mark s = s
-    has_it_fails refusals.ColumnLong log b new mark s = s
-    has_it_fails refusals.Quota log b new mark s = s
-    has_it_fails refusals.ScanCount log b new mark s = s
-    has_it_fails refusals.Spent log b new mark s = s
-    has_it_fails (refusals.BadLog n o) log b new mark s = s
-    has_it_fails (refusals.StampsFall n x) log b new mark s = s
-    has_it_fails (refusals.OverQuota t) log b new mark s = s
-    has_it_fails refusals.LogCount log b new mark s = s
-    has_it_fails refusals.BadFrame log b new mark s = s
-    has_it_fails refusals.NotOpen log b new mark s = s
-    has_it_fails refusals.OpenTwice log b new mark s = s
-    has_it_fails refusals.NoRoom log b new mark s = s
-    has_it_fails refusals.NoStore log b new mark s = s
+    has_it_fails refusals.Memory w log b new mark s = has_it_stays _ w log b new mark s
+    has_it_fails (refusals.WrongTurn m) w log b new mark s = has_it_stays _ w log b new mark s
+    has_it_fails refusals.KeyLong w log b new mark s = s
+    has_it_fails refusals.TenantThere w log b new mark s = s
+    has_it_fails (refusals.NoTenant t) w log b new mark s = s
+    has_it_fails refusals.Column w log b new mark s = s
+    has_it_fails refusals.ColumnLong w log b new mark s = s
+    has_it_fails refusals.Quota w log b new mark s = s
+    has_it_fails refusals.ScanCount w log b new mark s = s
+    has_it_fails refusals.Spent w log b new mark s = s
+    has_it_fails (refusals.BadLog n o) w log b new mark s = s
+    has_it_fails (refusals.StampsFall n x) w log b new mark s = s
+    has_it_fails (refusals.OverQuota t) w log b new mark s = s
+    has_it_fails refusals.LogCount w log b new mark s = s
+    has_it_fails refusals.BadFrame w log b new mark s = s
+    has_it_fails refusals.NotOpen w log b new mark s = s
+    has_it_fails refusals.OpenTwice w log b new mark s = s
+    has_it_fails refusals.NoRoom w log b new mark s = s
+    has_it_fails refusals.NoStore w log b new mark s = s
 
     -- ---- reopening
 
@@ -501,24 +501,24 @@ module _ {D : Type 0} (is_honest : D → Bool) (state : D → DiskState) where
     left_alone now mid rests (inl same) = same
     left_alone now mid rests (inr new) = absurd (no_some new.0 (sym rests ∙ new.1))
 
-    goes_on_with : (now mid : LogNow) (log : LogFile D) (b : Batch) (new : StoreLog D) → IsTrue (is_honest log.disk) → Shows state mid (Open log)
-        → Waits mid b ⊎ (mark_of mid.had ≡ b.to) → AppendsKept is_honest state failures (opened_with log (Some b)) new
+    goes_on_with : (now mid : LogNow) (w : ℕ) (log : LogFile D) (b : Batch) (new : StoreLog D) → IsTrue (is_honest log.disk) → Shows state mid (Open log)
+        → Waits mid b ⊎ (mark_of mid.had ≡ b.to) → AppendsKept is_honest state failures (opened_with w log (Some b)) new
         → (next : LogNow) × Stands is_honest state next new × IsIn (Some b) mid next × (drained_upto next new.kept ≡ b.to)
-    goes_on_with now mid log b new honest shows (inl waits) a =
-        appends mid (opened_with log (Some b)) new (record { honest = honest; shows = shows; waits = waits }) a
-    goes_on_with now mid log b new honest shows (inr mark) a =
+    goes_on_with now mid w log b new honest shows (inl waits) a =
+        appends mid (opened_with w log (Some b)) new (record { honest = honest; shows = shows; waits = waits }) a
+    goes_on_with now mid w log b new honest shows (inr mark) a =
         rested mid (Some b) new a.none (⊎_elim
         (λ there. same_taken mid (Some b) (Open log) new.slot honest shows shows.0 (inl (refl, mark)) mark there.1)
         (λ more. absurd (has_it log b new.slot (shows.1.mark ∙ mark) more))
         a.takes)
 
-    goes_on : (now mid : LogNow) (log : LogFile D) (kept : Option Batch) (new : StoreLog D) → IsTrue (is_honest log.disk) → Shows state mid (Open log)
-        → MayLeaveFront now mid.had → WaitsIn now kept → AppendsKept is_honest state failures (opened_with log kept) new
+    goes_on : (now mid : LogNow) (w : ℕ) (log : LogFile D) (kept : Option Batch) (new : StoreLog D) → IsTrue (is_honest log.disk) → Shows state mid (Open log)
+        → MayLeaveFront now mid.had → WaitsIn now kept → AppendsKept is_honest state failures (opened_with w log kept) new
         → (next : LogNow) × Stands is_honest state next new × IsIn kept mid next × (drained_upto next new.kept ≡ drained_upto now kept)
-    goes_on now mid log None new honest shows left waits a =
-        let r = appends mid (opened_with log None) new (record { honest = honest; shows = shows; waits = shows.0 }) a in
+    goes_on now mid w log None new honest shows left waits a =
+        let r = appends mid (opened_with w log None) new (record { honest = honest; shows = shows; waits = shows.0 }) a in
         (r.0, r.1, r.2, r.3 ∙ ap mark_of (left_alone now mid waits left))
-    goes_on now mid log (Some b) new honest shows left waits a = goes_on_with now mid log b new honest shows (waits_on now mid b shows.0 left waits) a
+    goes_on now mid w log (Some b) new honest shows left waits a = goes_on_with now mid w log b new honest shows (waits_on now mid b shows.0 left waits) a
 
     -- a log on which an append failed comes to rest with the batch in doubt or without
     reopened_on : (now : LogNow) (old : FailedLog D) (log : LogFile D) → IsTrue (is_honest old.disk) → ShowsFailed state now old
@@ -532,26 +532,26 @@ module _ {D : Type 0} (is_honest : D → Bool) (state : D → DiskState) where
     IsReopened now kept new =
         (mid next : LogNow) × ComesToRest now mid × Stands is_honest state next new × IsIn kept mid next × (drained_upto next new.kept ≡ drained_upto now kept)
 
-    reopens_at : (now : LogNow) (slot : LogSlot D) (kept : Option Batch) (new : StoreLog D) → IsHonest is_honest slot → Shows state now slot → WaitsIn now kept
-        → ReopensAt is_honest state failures slot (record { slot = slot; kept = kept }) new → IsReopened now kept new
-    reopens_at now (Open log) kept new honest shows waits a =
-        let r = goes_on now now log kept new honest shows (inl refl) waits a in
+    reopens_at : (now : LogNow) (w : ℕ) (slot : LogSlot D) (kept : Option Batch) (new : StoreLog D) → IsHonest is_honest slot → Shows state now slot → WaitsIn now kept
+        → ReopensAt is_honest state failures slot (log_with w slot kept) new → IsReopened now kept new
+    reopens_at now w (Open log) kept new honest shows waits a =
+        let r = goes_on now now w log kept new honest shows (inl refl) waits a in
         (now, r.0, record { rests = shows.0; left = inl refl }, r.1, r.2, r.3)
-    reopens_at now (Failed old) kept new honest shows waits a =
+    reopens_at now w (Failed old) kept new honest shows waits a =
         let o = reopened_on now old a.log honest shows a.opened in
         let mid = at_rest o.0 in
-        let r = goes_on now mid a.log kept new o.2 o.3 o.1 waits a.appends in
+        let r = goes_on now mid w a.log kept new o.2 o.3 o.1 waits a.appends in
         (mid, r.0, record { rests = refl; left = o.1 }, r.1, r.2, r.3)
-    reopens_at now (Closed disk) kept new honest shows waits a =
+    reopens_at now w (Closed disk) kept new honest shows waits a =
         let front = a.opened.0 in
         let o = opened_on now disk a.log front honest shows a.opened.1 in
         let mid = at_rest (contents_of front) in
-        let r = goes_on now mid a.log kept new o.1 o.2 o.0 waits a.appends in
+        let r = goes_on now mid w a.log kept new o.1 o.2 o.0 waits a.appends in
         (mid, r.0, record { rests = refl; left = o.0 }, r.1, r.2, r.3)
-    reopens_at now Away kept new honest shows waits a = absurd honest
+    reopens_at now w Away kept new honest shows waits a = absurd honest
 
     pub reopens : (now : LogNow) (old new : StoreLog D) → Stands is_honest state now old → Reopens is_honest state failures old new → IsReopened now old.kept new
-    reopens now old new stands r = reopens_at now old.slot old.kept new stands.honest stands.shows stands.waits r
+    reopens now old new stands r = reopens_at now old.worker old.slot old.kept new stands.honest stands.shows stands.waits r
 
     abbrev IsNotReopened : LogNow → Option Batch → Refusal → StoreLog D → Type 0
     IsNotReopened now kept e new =
@@ -559,14 +559,14 @@ module _ {D : Type 0} (is_honest : D → Bool) (state : D → DiskState) where
         × ((number offset : ℕ) → e ≢ refusals.BadLog number offset) × ((mark : ℕ) → e ≢ refusals.WrongTurn mark)
 
     -- a log that was opened stands with the batch that waits, unless it has that
-    keeps_on : (now mid : LogNow) (e : Refusal) (log : LogFile D) (kept : Option Batch) (new : StoreLog D) → IsTrue (is_honest log.disk)
-        → Shows state mid (Open log) → MayLeaveFront now mid.had → WaitsIn now kept → FailsToAppend is_honest state failures e (opened_with log kept) new
-        → Stands is_honest state mid (opened_with log kept)
-    keeps_on now mid e log None new honest shows left waits f = record { honest = honest; shows = shows; waits = shows.0 }
-    keeps_on now mid e log (Some b) new honest shows left waits f =
+    keeps_on : (now mid : LogNow) (e : Refusal) (w : ℕ) (log : LogFile D) (kept : Option Batch) (new : StoreLog D) → IsTrue (is_honest log.disk)
+        → Shows state mid (Open log) → MayLeaveFront now mid.had → WaitsIn now kept → FailsToAppend is_honest state failures e (opened_with w log kept) new
+        → Stands is_honest state mid (opened_with w log kept)
+    keeps_on now mid e w log None new honest shows left waits f = record { honest = honest; shows = shows; waits = shows.0 }
+    keeps_on now mid e w log (Some b) new honest shows left waits f =
         ⊎_elim
         (λ w. record { honest = honest; shows = shows; waits = w })
-        (λ mark. absurd (has_it_fails e log b new (shows.1.mark ∙ mark) f))
+        (λ mark. absurd (has_it_fails e w log b new (shows.1.mark ∙ mark) f))
         (waits_on now mid b shows.0 left waits)
 
     stays_closed : (now : LogNow) (e : Refusal) (disk : D) (kept : Option Batch) (new : StoreLog D) → IsTrue (is_honest disk)
@@ -614,35 +614,35 @@ module _ {D : Type 0} (is_honest : D → Bool) (state : D → DiskState) where
         )
 
     -- a log was opened, and is as what waits for it leaves it
-    keeps_opened : (now mid : LogNow) (e : Refusal) (log : LogFile D) (kept : Option Batch) (new : StoreLog D) → IsTrue (is_honest log.disk)
+    keeps_opened : (now mid : LogNow) (e : Refusal) (w : ℕ) (log : LogFile D) (kept : Option Batch) (new : StoreLog D) → IsTrue (is_honest log.disk)
         → Shows state mid (Open log) → MayLeaveFront now mid.had → mid.doubt ≡ None → WaitsIn now kept
-        → FailsToAppend is_honest state failures e (opened_with log kept) new → IsNotReopened now kept e new
-    keeps_opened now mid e log kept new honest shows left rests waits f =
-        let old = opened_with log kept in
-        let stands = keeps_on now mid e log kept new honest shows left waits f in
+        → FailsToAppend is_honest state failures e (opened_with w log kept) new → IsNotReopened now kept e new
+    keeps_opened now mid e w log kept new honest shows left rests waits f =
+        let old = opened_with w log kept in
+        let stands = keeps_on now mid e w log kept new honest shows left waits f in
         let k = fails_in mid e old new stands f in
         (mid, k.0, inr (record { rests = rests; left = left }), k.1, k.2, k.3, never_bad e old new f, never_out_of_turn mid e old new stands f)
 
-    not_reopened_at : (now : LogNow) (e : Refusal) (slot : LogSlot D) (kept : Option Batch) (new : StoreLog D) → IsHonest is_honest slot → Shows state now slot
-        → WaitsIn now kept → FailsToReopenAt is_honest state failures e slot (record { slot = slot; kept = kept }) new → IsNotReopened now kept e new
-    not_reopened_at now e (Open log) kept new honest shows waits f =
-        let stands : Stands is_honest state now (opened_with log kept) = record { honest = honest; shows = shows; waits = waits } in
-        let k = fails_in now e (opened_with log kept) new stands f in
-        (now, k.0, inl refl, k.1, k.2, k.3, never_bad e (opened_with log kept) new f, never_out_of_turn now e (opened_with log kept) new stands f)
-    not_reopened_at now e (Closed disk) kept new honest shows waits (inl s) = stays_closed now e disk kept new honest shows waits s
-    not_reopened_at now e (Closed disk) kept new honest shows waits (inr o) =
+    not_reopened_at : (now : LogNow) (e : Refusal) (w : ℕ) (slot : LogSlot D) (kept : Option Batch) (new : StoreLog D) → IsHonest is_honest slot → Shows state now slot
+        → WaitsIn now kept → FailsToReopenAt is_honest state failures e slot (log_with w slot kept) new → IsNotReopened now kept e new
+    not_reopened_at now e w (Open log) kept new honest shows waits f =
+        let stands : Stands is_honest state now (opened_with w log kept) = record { honest = honest; shows = shows; waits = waits } in
+        let k = fails_in now e (opened_with w log kept) new stands f in
+        (now, k.0, inl refl, k.1, k.2, k.3, never_bad e (opened_with w log kept) new f, never_out_of_turn now e (opened_with w log kept) new stands f)
+    not_reopened_at now e w (Closed disk) kept new honest shows waits (inl s) = stays_closed now e disk kept new honest shows waits s
+    not_reopened_at now e w (Closed disk) kept new honest shows waits (inr o) =
         let front = o.opened.0 in
         let opened = opened_on now disk o.log front honest shows o.opened.1 in
-        keeps_opened now (at_rest (contents_of front)) e o.log kept new opened.1 opened.2 opened.0 refl waits o.fails
-    not_reopened_at now e (Failed old) kept new honest shows waits (inl s) = stays_shut now e old kept new honest shows waits s
-    not_reopened_at now e (Failed old) kept new honest shows waits (inr o) =
+        keeps_opened now (at_rest (contents_of front)) e w o.log kept new opened.1 opened.2 opened.0 refl waits o.fails
+    not_reopened_at now e w (Failed old) kept new honest shows waits (inl s) = stays_shut now e old kept new honest shows waits s
+    not_reopened_at now e w (Failed old) kept new honest shows waits (inr o) =
         let opened = reopened_on now old o.log honest shows o.opened in
-        keeps_opened now (at_rest opened.0) e o.log kept new opened.2 opened.3 opened.1 refl waits o.fails
-    not_reopened_at now e Away kept new honest shows waits f = absurd honest
+        keeps_opened now (at_rest opened.0) e w o.log kept new opened.2 opened.3 opened.1 refl waits o.fails
+    not_reopened_at now e w Away kept new honest shows waits f = absurd honest
 
     pub fails_to_reopen : (now : LogNow) (e : Refusal) (old new : StoreLog D) → Stands is_honest state now old
         → FailsToReopen is_honest state failures e old new → IsNotReopened now old.kept e new
-    fails_to_reopen now e old new stands f = not_reopened_at now e old.slot old.kept new stands.honest stands.shows stands.waits f
+    fails_to_reopen now e old new stands f = not_reopened_at now e old.worker old.slot old.kept new stands.honest stands.shows stands.waits f
 
   -- ---- a drained batch
 

@@ -62,7 +62,7 @@ module _ {D : Type 0} (is_honest : D → Bool) (state : D → DiskState) (failur
       let was = within_place old k within in
       (was.0, opens.each.each k was.0 is within was.1 at)
 
-  in_format : (old mid : List (StoreLog D)) (fronts : List Front) → OpensAll is_honest state failures old mid fronts → (c : Contents)
+  pub in_format : (old mid : List (StoreLog D)) (fronts : List Front) → OpensAll is_honest state failures old mid fronts → (c : Contents)
       → In c (map contents_of fronts) → IsContents c
   in_format old mid fronts opens c at =
       let from = map_in contents_of c fronts at in

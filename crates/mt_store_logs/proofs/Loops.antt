@@ -5,6 +5,8 @@ use Rattle.std.proofs.lemmas.List.{length-set}
 use Rattle.std.proofs.lemmas.Option.{same_Some}
 use Rattle.mt_crashes.proofs.Members.{no_some}
 use Rattle.mt_crashes.proofs.Invariant.{within_place}
+use Rattle.mt_store_logs.specs.declared.store_log.StoreLog.{StoreLog}
+use Rattle.mt_store_logs.specs.Places.{workers_of}
 use Rattle.mt_store_logs.specs.Lists.{EachBefore, Each, StopsAt}
 
 -- what stands in a list in which one element was written
@@ -44,6 +46,13 @@ still_left place old now new left k h = set_other now place k new (λ e. omega (
 
 pub same_len : {X : Type 0} (place : ℕ) (old now : List X) (new : X) → length now ≡ length old → length (slice_set now place new) ≡ length old
 same_len place old now new len = length-set now place new ∙ len
+
+-- a log that is written again is of the same worker
+pub same_workers : {D : Type 0} (place : ℕ) (logs : List (StoreLog D)) (new d : StoreLog D) → new.worker ≡ (slice_index_or logs place d).worker
+    → workers_of (slice_set logs place new) ≡ workers_of logs
+same_workers place [] new d same = refl
+same_workers zero (log ∷ logs) new d same = ap (λ w. w ∷ workers_of logs) same
+same_workers (suc place) (log ∷ logs) new d same = ap (λ ws. log.worker ∷ ws) (same_workers place logs new d same)
 
 -- all of them are
 pub walked : {X : Type 0} (R : ℕ → X → X → Type 0) (place : ℕ) (old now : List X) → length now ≡ length old → EachBefore R place old now

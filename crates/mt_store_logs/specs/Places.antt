@@ -1,5 +1,6 @@
 -- What becomes of a log's place when it is made or opened, and of all of them.
-use Rattle.std.specs.Prelude.{◌≡◌, ℕ, Bool, List, length, Option, Some, None, slice_get}
+use Rattle.std.specs.Prelude.{◌≡◌, ℕ, ◌+◌, Bool, List, [], ◌∷◌, length, map, Option, Some, None, slice_get}
+use Rattle.mt_rows.specs.declared.record.Batch.{Batch}
 use Rattle.mt_rows.specs.declared.refusal.Refusal.{Refusal}
 use Rattle.mt_rows.specs.declared.refusal.Refusal.TheVariants as refusals
 use Rattle.mt_disk.specs.Disk.{DiskState, GoesUp}
@@ -11,6 +12,10 @@ use Rattle.mt_recover.specs.declared.resuming.LogSlot.TheVariants.{Open, Failed,
 use Rattle.mt_store_logs.specs.declared.fault.LogRefusal.{LogRefusal}
 use Rattle.mt_store_logs.specs.declared.store_log.StoreLog.{StoreLog}
 use Rattle.mt_store_logs.specs.Lists.{Each, StopsAt}
+
+-- a worker's log, and the batch that waits for it, if one does
+abbrev pub log_with : {D : Type 0} → ℕ → LogSlot D → Option Batch → StoreLog D
+log_with worker slot kept = record { worker = worker; slot = slot; kept = kept }
 
 -- the step up to which an open log goes
 abbrev pub mark_in : {D : Type 0} → LogSlot D → Option ℕ
@@ -25,6 +30,22 @@ disk_in (Open log) = Some log.disk
 disk_in (Failed log) = Some log.disk
 disk_in (Closed disk) = Some disk
 disk_in Away = None
+
+-- whose logs these are
+abbrev pub workers_of : {D : Type 0} → List (StoreLog D) → List ℕ
+workers_of logs = map (λ log. log.worker) logs
+
+-- each log is of the worker at its place
+abbrev pub AreInOrder : {D : Type 0} → List (StoreLog D) → Type 0
+AreInOrder {D} logs = (k : ℕ) (log : StoreLog D) → slice_get logs k ≡ Some log → log.worker ≡ k
+
+-- the closed logs on some disks, of one worker and those after it, in their order
+abbrev pub closed_from : {D : Type 0} → ℕ → List D → List (StoreLog D)
+closed_from worker [] = []
+closed_from worker (disk ∷ disks) = log_with worker (Closed disk) None ∷ closed_from (worker + 1) disks
+
+abbrev pub closed_on : {D : Type 0} → List D → List (StoreLog D)
+closed_on disks = closed_from 0 disks
 
 module _ {D : Type 0} (is_honest : D → Bool) (state : D → DiskState) (failures : D → ℕ) where
   -- a disk was opened, and gave this front

@@ -14,15 +14,15 @@ use Rattle.mt_log.specs.Failures.{Reopened, StaysFailed}
 use Rattle.mt_recover.specs.declared.resuming.LogSlot.{LogSlot}
 use Rattle.mt_recover.specs.declared.resuming.LogSlot.TheVariants.{Open, Failed, Closed}
 use Rattle.mt_store_logs.specs.declared.store_log.StoreLog.{StoreLog}
-use Rattle.mt_store_logs.specs.Places.{mark_in, FailsToOpen}
+use Rattle.mt_store_logs.specs.Places.{log_with, mark_in, FailsToOpen}
 
 -- a log for which this batch waits
 abbrev pub with_kept : {D : Type 0} → Batch → StoreLog D → StoreLog D
-with_kept batch log = record { slot = log.slot; kept = Some batch }
+with_kept batch log = record log { kept = Some batch }
 
 -- an open log, and the batch that waits for it, if one does
-abbrev pub opened_with : {D : Type 0} → LogFile D → Option Batch → StoreLog D
-opened_with log kept = record { slot = Open log; kept = kept }
+abbrev pub opened_with : {D : Type 0} → ℕ → LogFile D → Option Batch → StoreLog D
+opened_with worker log kept = log_with worker (Open log) kept
 
 -- a log is not open, and stays as it is
 abbrev pub IsShut : {D : Type 0} → StoreLog D → StoreLog D → Type 0
@@ -95,16 +95,16 @@ module _ {D : Type 0} (is_honest : D → Bool) (state : D → DiskState) (failur
   FailsToAppendNew e batch old new = FailsToAppend e (with_kept batch old) new ⊎ IsOutOfTurn e batch old new
 
   -- a log was opened, and then the batch that waited is in it
-  pub record OpensAgain (IsOpened : LogFile D → Type 0) (kept : Option Batch) (new : StoreLog D) : Type 0 where
+  pub record OpensAgain (IsOpened : LogFile D → Type 0) (worker : ℕ) (kept : Option Batch) (new : StoreLog D) : Type 0 where
     pub log : LogFile D
     pub opened : IsOpened log
-    pub appends : AppendsKept (opened_with log kept) new
+    pub appends : AppendsKept (opened_with worker log kept) new
 
   -- it was opened, but the batch still waits
-  pub record OpensButKeeps (IsOpened : LogFile D → Type 0) (e : Refusal) (kept : Option Batch) (new : StoreLog D) : Type 0 where
+  pub record OpensButKeeps (IsOpened : LogFile D → Type 0) (e : Refusal) (worker : ℕ) (kept : Option Batch) (new : StoreLog D) : Type 0 where
     pub log : LogFile D
     pub opened : IsOpened log
-    pub fails : FailsToAppend e (opened_with log kept) new
+    pub fails : FailsToAppend e (opened_with worker log kept) new
 
   -- a closed log's front was read, whatever it is
   abbrev pub IsRead : D → LogFile D → Type 0
@@ -112,8 +112,8 @@ module _ {D : Type 0} (is_honest : D → Bool) (state : D → DiskState) (failur
 
   -- a log on which an append failed is opened again by its ends, a closed one by its front
   abbrev pub ReopensAt : LogSlot D → StoreLog D → StoreLog D → Type 0
-  ReopensAt (Failed log) old new = OpensAgain (Reopened is_honest state failures log) old.kept new
-  ReopensAt (Closed disk) old new = OpensAgain (IsRead disk) old.kept new
+  ReopensAt (Failed log) old new = OpensAgain (Reopened is_honest state failures log) old.worker old.kept new
+  ReopensAt (Closed disk) old new = OpensAgain (IsRead disk) old.worker old.kept new
   ReopensAt slot old new = AppendsKept old new
 
   -- a log is open, whatever it was before, and no batch waits for it
@@ -137,8 +137,8 @@ module _ {D : Type 0} (is_honest : D → Bool) (state : D → DiskState) (failur
     pub fails : FailsAgain log new.slot
 
   abbrev pub FailsToReopenAt : Refusal → LogSlot D → StoreLog D → StoreLog D → Type 0
-  FailsToReopenAt e (Failed log) old new = StaysShut e log old.kept new ⊎ OpensButKeeps (Reopened is_honest state failures log) e old.kept new
-  FailsToReopenAt e (Closed disk) old new = StaysClosed e disk old.kept new ⊎ OpensButKeeps (IsRead disk) e old.kept new
+  FailsToReopenAt e (Failed log) old new = StaysShut e log old.kept new ⊎ OpensButKeeps (Reopened is_honest state failures log) e old.worker old.kept new
+  FailsToReopenAt e (Closed disk) old new = StaysClosed e disk old.kept new ⊎ OpensButKeeps (IsRead disk) e old.worker old.kept new
   FailsToReopenAt e slot old new = FailsToAppend e old new
 
   -- why a log is not open, or a batch waits for it

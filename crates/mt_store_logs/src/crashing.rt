@@ -3,6 +3,7 @@
 ghost use Rattle.std.specs.Prelude.{◌≡◌, ◌↔◌, true, false, IsTrue, IfOk, OnOk, OnErr};
 ghost use Rattle.mt_disk.specs.Disk.{MayLeave};
 ghost use Rattle.mt_disk.specs.Mem.{mem_state};
+ghost use Rattle.mt_store_logs.specs.Places.{workers_of};
 ghost use Rattle.mt_store_logs.specs.Crashes.{MayLeaveLog, MayLeaveLogs, IsCrashed, IsCrashedTo, AreCrashed, HasItsDisk, AreLeftOrCrashed};
 
 use crate::store_log::{StoreLog, take_disk};
@@ -18,6 +19,7 @@ pub fn crash_logs(
     logs: &mut [StoreLog<MemDisk>],
     images: &[Vec<u8>],
 ) -> Result<bool, AllocError>
+    ensures workers { workers_of logs.new ≡ workers_of logs.old }
     ensures crashed { IfOk result (λ crashed. crashed ≡ true → AreCrashed images.now logs.old logs.new) }
     ensures unchanged { IfOk result (λ crashed. crashed ≡ false → (logs.new ≡ logs.old) × (¬ MayLeaveLogs images.now logs.old)) }
     ensures err { OnErr result (AreLeftOrCrashed images.now logs.old logs.new) }
@@ -61,6 +63,7 @@ fn may_leave_log(log: &StoreLog<MemDisk>, image: &[u8]) -> bool
 // Crashes one log.
 fn crash_log(alloc: Global, log: &mut StoreLog<MemDisk>, image: &[u8]) -> Result<(), AllocError>
     requires { MayLeaveLog image.now log.old }
+    ensures worker { log.new.worker ≡ log.old.worker }
     ensures ok { OnOk result (IsCrashed image.now log.old log.new) }
     ensures err { OnErr result (HasItsDisk log.old log.new) }
 {

@@ -9,8 +9,32 @@ use mt_disk::Disk;
 use mt_rows::Refusal;
 use std::alloc::Global;
 
-/// Appends the batch that is kept, then drains the worker and appends what that gave, till the log goes up to the
-/// step `upto` at least. Returns the step up to which the log then has all of the worker's changes.
+/// That a worker's log was flushed: whose it is, and the step up to which it then had all of the worker's
+/// changes. Only `flush` makes one.
+#[derive(Debug, Drop)]
+pub struct Flushed {
+    worker: u8,
+    mark: u64,
+}
+
+impl Flushed {
+    /// Whose log it was.
+    pub fn worker(&self) -> u8
+        ensures { result ≡ self.now.worker }
+    {
+        self.worker
+    }
+
+    /// The step up to which the log had all of the worker's changes.
+    pub fn mark(&self) -> u64
+        ensures { result ≡ self.now.mark }
+    {
+        self.mark
+    }
+}
+
+/// Appends the batch that is kept, then drains the log's worker and appends what that gave, till the log goes
+/// up to the step `upto` at least. The log then has all of its worker's changes up to the step that is told.
 ///
 /// Errors: `Device` if the log is closed, or its disk fails; then it is closed. `Memory` if a growth is refused,
 /// or the file has 2^60 bytes. `WrongTurn` if a batch does not begin where the log ends. Nothing is drained
@@ -20,15 +44,18 @@ pub fn flush<D: Disk + Drop, S: Source>(
     alloc: Global,
     log: &mut StoreLog<D>,
     source: &mut S,
-    worker: u8,
     upto: u64,
-) -> Result<u64, Refusal>
-    requires { S.serves source.old worker upto }
-    ensures ok { IfOk result (λ mark. Flushes D.is_honest D.state D.failures S.gives worker upto mark log.old log.new source.old source.new) }
-    ensures err { IfErr result (λ e. FailsToFlush D.is_honest D.state D.failures S.gives worker upto e log.old log.new source.old source.new) }
+) -> Result<Flushed, Refusal>
+    requires { S.serves source.old log.old.worker upto }
+    ensures ok { IfOk result (λ flushed. Flushes D.is_honest D.state D.failures S.gives log.old.worker upto flushed.mark log.old log.new source.old source.new) }
+    ensures whose { IfOk result (λ flushed. flushed.worker ≡ log.old.worker) }
+    ensures worker { log.new.worker ≡ log.old.worker }
+    ensures err { IfErr result (λ e. FailsToFlush D.is_honest D.state D.failures S.gives log.old.worker upto e log.old log.new source.old source.new) }
 {
+    let worker = log.worker();
     log.append_kept(alloc)?;
-    drain_upto(alloc, log, source, worker, upto)
+    let mark = drain_upto(alloc, log, source, worker, upto)?;
+    Ok(Flushed { worker, mark })
 }
 
 // Drains the worker into a log that keeps no batch, till the log goes up to a step.
@@ -40,7 +67,9 @@ fn drain_upto<D: Disk + Drop, S: Source>(
     upto: u64,
 ) -> Result<u64, Refusal>
     requires serves { S.serves source.old worker upto }
+    requires whose { log.old.worker ≡ worker }
     requires none { log.old.kept ≡ None }
+    ensures worker { log.new.worker ≡ worker }
     ensures ok { IfOk result (λ mark. DrainsUpto D.is_honest D.state D.failures S.gives worker upto mark log.old log.new source.old source.new) }
     ensures err { IfErr result (λ e. FailsInDrains D.is_honest D.state D.failures S.gives worker upto e log.old log.new source.old source.new) }
 {
@@ -63,13 +92,15 @@ fn drain_once<D: Disk + Drop, S: Source>(
     upto: u64,
 ) -> Result<u64, Refusal>
     requires serves { S.serves source.old worker upto }
+    requires whose { log.old.worker ≡ worker }
     requires none { log.old.kept ≡ None }
+    ensures worker { log.new.worker ≡ worker }
     ensures ok { IfOk result (λ mark. DrainsIn D.is_honest D.state D.failures S.gives worker upto mark log.old log.new source.old source.new) }
     ensures serves { OnOk result (S.serves source.new worker upto) }
     ensures err { IfErr result (λ e. FailsToDrain D.is_honest D.state D.failures S.gives worker e log.old log.new source.old source.new) }
 {
-    let batch = source.drain(worker, upto)?;
-    let to = batch.to;
-    log.append(alloc, batch)?;
+    let drained = source.drain(worker, upto)?;
+    let to = drained.batch().to;
+    log.append(alloc, drained)?;
     Ok(to)
 }

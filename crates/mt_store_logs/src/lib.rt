@@ -20,8 +20,8 @@ mod watching;
 
 pub use crashing::crash_logs;
 pub use fault::LogRefusal;
-pub use flushing::flush;
-pub use opening::{create_logs, open_logs};
+pub use flushing::{Flushed, flush};
+pub use opening::{closed_logs, create_logs, open_logs};
 pub use recovering::{recover_logs, recover_watched};
 pub use source::Source;
 pub use store_log::{StoreLog, WaitingBatch};

@@ -1,8 +1,8 @@
 //! The logs of a store made anew, or opened.
 
-ghost use Rattle.std.specs.Prelude.{◌≡◌, ◌<◌, ◌≤◌, None, length, IfOk, IfErr, OnOk, OnErr};
+ghost use Rattle.std.specs.Prelude.{◌≡◌, ◌<◌, ◌≤◌, None, length, vec_len, IfOk, IfErr, OnOk, OnErr};
 ghost use Rattle.mt_recover.specs.declared.resuming.LogSlot.TheVariants.{Away};
-ghost use Rattle.mt_store_logs.specs.Places.{OpensLog, FailsToOpenLog, OpensAll, StopsOpening, Makes, FailsToMake, MakesLog, FailsToMakeLog, MakesAll, StopsMaking};
+ghost use Rattle.mt_store_logs.specs.Places.{workers_of, closed_on, OpensLog, FailsToOpenLog, OpensAll, StopsOpening, Makes, FailsToMake, MakesLog, FailsToMakeLog, MakesAll, StopsMaking};
 
 use crate::fault::LogRefusal;
 use crate::store_log::{StoreLog, open_slot, take_disk};
@@ -11,13 +11,31 @@ use mt_disk::{DeviceFailed, Disk};
 use mt_log::{Front, LogFile};
 use mt_recover::LogSlot;
 use mt_rows::Refusal;
-use std::alloc::Global;
+use std::alloc::{AllocError, Global};
+
+/// Closed logs on these disks, one for each worker, in their order.
+pub fn closed_logs<D: Disk + Drop>(
+    alloc: Global,
+    disks: Vec<D>,
+) -> Result<Vec<StoreLog<D>>, AllocError>
+    requires { vec_len disks ≤ 64 }
+    ensures logs { IfOk result (λ logs. logs.items ≡ closed_on disks.items) }
+    ensures count { IfOk result (λ logs. vec_len logs ≡ vec_len disks) }
+{
+    let mut logs = Vec::new(alloc);
+    for disk in disks {
+        let worker = logs.len() as u8;
+        logs.push(StoreLog::closed(worker, disk))?;
+    }
+    Ok(logs)
+}
 
 /// Makes the logs of a new store, each without batches; whatever their disks held is lost. An error is
 /// `Device`: the log that it tells is closed, those before it are made, and those behind it are as they were.
 pub fn create_logs<D: Disk + Drop>(logs: &mut [StoreLog<D>]) -> Result<(), LogRefusal>
     requires some { 0 < length logs.old }
     requires few { length logs.old ≤ 64 }
+    ensures workers { workers_of logs.new ≡ workers_of logs.old }
     ensures ok { OnOk result (MakesAll D.is_honest D.state D.failures logs.old logs.new) }
     ensures err { IfErr result (λ e. StopsMaking D.is_honest D.state D.failures e logs.old logs.new) }
 {
@@ -38,6 +56,7 @@ fn create_log<D: Disk + Drop>(
 ) -> Result<(), DeviceFailed>
     requires worker { worker < count }
     requires few { count ≤ 64 }
+    ensures worker { log.new.worker ≡ log.old.worker }
     ensures ok { OnOk result (MakesLog D.is_honest D.state D.failures worker count log.old log.new) }
     ensures err { OnErr result (FailsToMakeLog D.is_honest D.state D.failures log.old log.new) }
 {
@@ -81,6 +100,7 @@ pub fn open_logs<D: Disk + Drop>(
     alloc: Global,
     logs: &mut [StoreLog<D>],
 ) -> Result<Vec<Front>, LogRefusal>
+    ensures workers { workers_of logs.new ≡ workers_of logs.old }
     ensures ok { IfOk result (λ fronts. OpensAll D.is_honest D.state D.failures logs.old logs.new fronts.items) }
     ensures err { IfErr result (λ e. StopsOpening D.is_honest D.state D.failures e logs.old logs.new) }
 {
@@ -93,6 +113,7 @@ pub(crate) fn open_watched<D: Disk + Drop, W: Watch>(
     logs: &mut [StoreLog<D>],
     watch: &mut W,
 ) -> Result<Vec<Front>, LogRefusal>
+    ensures workers { workers_of logs.new ≡ workers_of logs.old }
     ensures ok { IfOk result (λ fronts. OpensAll D.is_honest D.state D.failures logs.old logs.new fronts.items) }
     ensures err { IfErr result (λ e. StopsOpening D.is_honest D.state D.failures e logs.old logs.new) }
 {
@@ -112,6 +133,7 @@ pub(crate) fn open_watched<D: Disk + Drop, W: Watch>(
 
 // Opens one log.
 fn open_log<D: Disk + Drop>(alloc: Global, log: &mut StoreLog<D>) -> Result<Front, Refusal>
+    ensures worker { log.new.worker ≡ log.old.worker }
     ensures ok { IfOk result (OpensLog D.is_honest D.state D.failures log.old log.new) }
     ensures err { IfErr result (λ e. FailsToOpenLog D.is_honest D.state D.failures e log.old log.new) }
 {

@@ -1,6 +1,7 @@
 //! A store's logs brought up again: opened, recovered, and each with the batch with which a recovery ends.
 
-ghost use Rattle.std.specs.Prelude.{◌≤◌, ◌^◌, IfOk, IfErr, OnOk};
+ghost use Rattle.std.specs.Prelude.{◌≡◌, ◌≤◌, ◌^◌, IfOk, IfErr, OnOk};
+ghost use Rattle.mt_store_logs.specs.Places.{workers_of};
 ghost use Rattle.mt_store_logs.specs.Recovers.{AreOpenUpto, ResumesAll, StopsResuming, ServesAgain, IsNotRecovered};
 
 use crate::fault::LogRefusal;
@@ -23,6 +24,7 @@ pub fn recover_logs<D: Disk + Drop>(
     logs: &mut [StoreLog<D>],
     tenants: &Tenants,
 ) -> Result<Recovered, LogRefusal>
+    ensures workers { workers_of logs.new ≡ workers_of logs.old }
     ensures ok { IfOk result (λ recovered. ServesAgain D.is_honest D.state D.failures tenants.now recovered logs.old logs.new) }
     ensures err { IfErr result (λ e. IsNotRecovered D.is_honest D.state D.failures tenants.now e logs.old logs.new) }
 {
@@ -36,6 +38,7 @@ pub fn recover_watched<D: Disk + Drop, W: Watch>(
     tenants: &Tenants,
     watch: &mut W,
 ) -> Result<Recovered, LogRefusal>
+    ensures workers { workers_of logs.new ≡ workers_of logs.old }
     ensures ok { IfOk result (λ recovered. ServesAgain D.is_honest D.state D.failures tenants.now recovered logs.old logs.new) }
     ensures err { IfErr result (λ e. IsNotRecovered D.is_honest D.state D.failures tenants.now e logs.old logs.new) }
 {
@@ -57,6 +60,7 @@ fn resume_logs<D: Disk + Drop>(
     requires open { AreOpenUpto recovered.now.resume logs.old }
     requires kept { recovered.now.cutoff ≤ recovered.now.resume }
     requires last { recovered.now.resume ≤ 2 ^ 59 }
+    ensures workers { workers_of logs.new ≡ workers_of logs.old }
     ensures ok { OnOk result (ResumesAll D.is_honest D.state D.failures recovered.now.cutoff recovered.now.resume logs.old logs.new) }
     ensures err { IfErr result (λ e. StopsResuming D.is_honest D.state D.failures recovered.now.cutoff recovered.now.resume e logs.old logs.new) }
 {

@@ -5,10 +5,11 @@ ghost use Rattle.mt_batches.specs.Batches.{IsBounded};
 ghost use Rattle.mt_log.specs.Contents.{IsBatch};
 ghost use Rattle.mt_recover.specs.declared.resuming.LogSlot.{LogSlot};
 ghost use Rattle.mt_recover.specs.declared.resuming.LogSlot.TheVariants.{Open, Failed, Closed};
-ghost use Rattle.mt_store_logs.specs.Places.{mark_in, disk_in, Opens, FailsToOpen};
-ghost use Rattle.mt_store_logs.specs.Waits.{AppendsKept, FailsToAppend, AppendsNew, FailsToAppendNew, with_kept, Reopens, FailsToReopen};
+ghost use Rattle.mt_store_logs.specs.Places.{log_with, mark_in, disk_in, Opens, FailsToOpen};
+ghost use Rattle.mt_store_logs.specs.Waits.{AppendsKept, FailsToAppend, AppendsNew, FailsToAppendNew, opened_with, Reopens, FailsToReopen};
 
 use mt_disk::Disk;
+use mt_drains::DrainedBatch;
 use mt_log::laws::a_bounded_batch_is_taken;
 use mt_log::{AppendFault, FailedLog, Front, LogFile, OpenFault};
 use mt_recover::LogSlot;
@@ -61,10 +62,11 @@ impl WaitingBatch {
     }
 }
 
-/// A log's place, and the batch that it keeps: one that was drained, and that the log is not known to have. It
-/// goes into the log before any other, and the next one drained begins where it ends.
+/// The log of a worker: its place, and the batch that it keeps. That one was drained, and the log is not known
+/// to have it. It goes into the log before any other, and the next one drained begins where it ends.
 #[derive(Drop)]
 pub struct StoreLog<D: Disk> {
+    worker: u8,
     pub(crate) slot: LogSlot<D>,
     pub(crate) kept: Option<WaitingBatch>,
 }
@@ -77,18 +79,29 @@ struct Appending<D: Disk> {
 }
 
 impl<D: Disk + Drop> StoreLog<D> {
-    /// A log that keeps no batch.
-    pub fn new(slot: LogSlot<D>) -> Self
-        ensures { result ≡ record { slot = slot; kept = None } }
+    /// A worker's log that keeps no batch.
+    pub fn new(worker: u8, slot: LogSlot<D>) -> Self
+        ensures { result ≡ log_with worker slot None }
     {
-        StoreLog { slot, kept: None }
+        StoreLog {
+            worker,
+            slot,
+            kept: None,
+        }
     }
 
-    /// A log on this disk, which has to be opened or made.
-    pub fn closed(disk: D) -> Self
-        ensures { result ≡ record { slot = Closed disk; kept = None } }
+    /// A worker's log on this disk, which has to be opened or made.
+    pub fn closed(worker: u8, disk: D) -> Self
+        ensures { result ≡ log_with worker (Closed disk) None }
     {
-        StoreLog::new(LogSlot::Closed(disk))
+        StoreLog::new(worker, LogSlot::Closed(disk))
+    }
+
+    /// Whose log it is.
+    pub fn worker(&self) -> u8
+        ensures { result ≡ self.now.worker }
+    {
+        self.worker
     }
 
     /// The log's place.
@@ -102,7 +115,11 @@ impl<D: Disk + Drop> StoreLog<D> {
     pub fn into_slot(self) -> LogSlot<D>
         ensures { result ≡ self.slot }
     {
-        let StoreLog { slot, kept: _ } = self;
+        let StoreLog {
+            worker: _,
+            slot,
+            kept: _,
+        } = self;
         slot
     }
 
@@ -127,12 +144,18 @@ impl<D: Disk + Drop> StoreLog<D> {
     /// keeps it; the log is as it was, unless its disk failed. Then it has the batch whole or not at all, and
     /// has to be opened again.
     pub fn append_kept(&mut self, alloc: Global) -> Result<(), Refusal>
+        ensures worker { self.new.worker ≡ self.old.worker }
         ensures ok { OnOk result (AppendsKept D.is_honest D.state D.failures self.old self.new) }
         ensures err { IfErr result (λ e. FailsToAppend D.is_honest D.state D.failures e self.old self.new) }
     {
         match mem::replace(&mut self.slot, LogSlot::Away) {
             LogSlot::Open(file) => {
-                let Appending { log, told } = append_kept_to(alloc, file, self.kept.take());
+                let Appending { log, told } = append_kept_to(
+                    alloc,
+                    self.worker,
+                    file,
+                    self.kept.take(),
+                );
                 *self = log;
                 told
             }
@@ -143,16 +166,18 @@ impl<D: Disk + Drop> StoreLog<D> {
         }
     }
 
-    /// Appends a batch. An error keeps it, as `append_kept` does; it is `WrongTurn` if the batch begins elsewhere
-    /// than the log ends.
-    pub fn append(&mut self, alloc: Global, batch: Batch) -> Result<(), Refusal>
+    /// Appends a batch of the log's worker. An error keeps it, as `append_kept` does; it is `WrongTurn` if the
+    /// batch begins elsewhere than the log ends.
+    pub fn append(&mut self, alloc: Global, drained: DrainedBatch) -> Result<(), Refusal>
+        requires whose { drained.worker ≡ self.old.worker }
         requires none { self.old.kept ≡ None }
-        requires bounded { IsBounded batch }
-        ensures ok { OnOk result (AppendsNew D.is_honest D.state D.failures batch self.old self.new) }
-        ensures err { IfErr result (λ e. FailsToAppendNew D.is_honest D.state D.failures e batch self.old self.new) }
+        requires bounded { IsBounded drained.batch }
+        ensures worker { self.new.worker ≡ self.old.worker }
+        ensures ok { OnOk result (AppendsNew D.is_honest D.state D.failures drained.batch self.old self.new) }
+        ensures err { IfErr result (λ e. FailsToAppendNew D.is_honest D.state D.failures e drained.batch self.old self.new) }
     {
-        let from = batch.from;
-        self.kept = Some(WaitingBatch::new(batch));
+        let from = drained.batch().from;
+        self.kept = Some(WaitingBatch::new(drained.into_batch()));
         match self.mark() {
             Some(mark) if mark != from => Err(Refusal::WrongTurn(mark)),
             _ => self.append_kept(alloc),
@@ -162,6 +187,7 @@ impl<D: Disk + Drop> StoreLog<D> {
     /// Opens a log again that isn't open, and appends the batch that is kept unless the log has it. An error
     /// keeps the batch. Only a `Closed` log is read.
     pub fn reopen(&mut self, alloc: Global) -> Result<(), Refusal>
+        ensures worker { self.new.worker ≡ self.old.worker }
         ensures ok { OnOk result (Reopens D.is_honest D.state D.failures self.old self.new) }
         ensures err { IfErr result (λ e. FailsToReopen D.is_honest D.state D.failures e self.old self.new) }
     {
@@ -178,8 +204,9 @@ impl<D: Disk + Drop> StoreLog<D> {
 
     // Opens a log again on which an append failed, into an empty place.
     fn reopen_failed(&mut self, alloc: Global, log: FailedLog<D>) -> Result<(), Refusal>
-        ensures ok { OnOk result (Reopens D.is_honest D.state D.failures (record { slot = Failed log; kept = self.old.kept }) self.new) }
-        ensures err { IfErr result (λ e. FailsToReopen D.is_honest D.state D.failures e (record { slot = Failed log; kept = self.old.kept }) self.new) }
+        ensures worker { self.new.worker ≡ self.old.worker }
+        ensures ok { OnOk result (Reopens D.is_honest D.state D.failures (log_with self.old.worker (Failed log) self.old.kept) self.new) }
+        ensures err { IfErr result (λ e. FailsToReopen D.is_honest D.state D.failures e (log_with self.old.worker (Failed log) self.old.kept) self.new) }
     {
         match log.reopen() {
             Ok(file) => {
@@ -195,8 +222,9 @@ impl<D: Disk + Drop> StoreLog<D> {
 
     // Opens the disk of a closed log, into an empty place.
     fn reopen_closed(&mut self, alloc: Global, disk: D) -> Result<(), Refusal>
-        ensures ok { OnOk result (Reopens D.is_honest D.state D.failures (record { slot = Closed disk; kept = self.old.kept }) self.new) }
-        ensures err { IfErr result (λ e. FailsToReopen D.is_honest D.state D.failures e (record { slot = Closed disk; kept = self.old.kept }) self.new) }
+        ensures worker { self.new.worker ≡ self.old.worker }
+        ensures ok { OnOk result (Reopens D.is_honest D.state D.failures (log_with self.old.worker (Closed disk) self.old.kept) self.new) }
+        ensures err { IfErr result (λ e. FailsToReopen D.is_honest D.state D.failures e (log_with self.old.worker (Closed disk) self.old.kept) self.new) }
     {
         let _front = open_disk(alloc, disk, &mut self.slot)?;
         self.append_kept(alloc)
@@ -206,48 +234,59 @@ impl<D: Disk + Drop> StoreLog<D> {
 // Appends a batch to an open log, if there is one.
 fn append_kept_to<D: Disk + Drop>(
     alloc: Global,
+    worker: u8,
     file: LogFile<D>,
     kept: Option<WaitingBatch>,
 ) -> Appending<D>
-    ensures ok { OnOk result.told (AppendsKept D.is_honest D.state D.failures (record { slot = Open file; kept = kept }) result.log) }
-    ensures err { IfErr result.told (λ e. FailsToAppend D.is_honest D.state D.failures e (record { slot = Open file; kept = kept }) result.log) }
+    ensures worker { result.log.worker ≡ worker }
+    ensures ok { OnOk result.told (AppendsKept D.is_honest D.state D.failures (opened_with worker file kept) result.log) }
+    ensures err { IfErr result.told (λ e. FailsToAppend D.is_honest D.state D.failures e (opened_with worker file kept) result.log) }
 {
     match kept {
-        Some(waiting) => append_to(alloc, file, waiting),
+        Some(waiting) => append_to(alloc, worker, file, waiting),
         None => Appending {
-            log: StoreLog::new(LogSlot::Open(file)),
+            log: StoreLog::new(worker, LogSlot::Open(file)),
             told: Ok(()),
         },
     }
 }
 
 // Appends a batch to an open log.
-fn append_to<D: Disk + Drop>(alloc: Global, file: LogFile<D>, waiting: WaitingBatch) -> Appending<D>
-    ensures ok { OnOk result.told (AppendsKept D.is_honest D.state D.failures (record { slot = Open file; kept = Some waiting }) result.log) }
-    ensures err { IfErr result.told (λ e. FailsToAppend D.is_honest D.state D.failures e (record { slot = Open file; kept = Some waiting }) result.log) }
+fn append_to<D: Disk + Drop>(
+    alloc: Global,
+    worker: u8,
+    file: LogFile<D>,
+    waiting: WaitingBatch,
+) -> Appending<D>
+    ensures worker { result.log.worker ≡ worker }
+    ensures ok { OnOk result.told (AppendsKept D.is_honest D.state D.failures (opened_with worker file (Some waiting)) result.log) }
+    ensures err { IfErr result.told (λ e. FailsToAppend D.is_honest D.state D.failures e (opened_with worker file (Some waiting)) result.log) }
 {
     if waiting.to() == file.mark() {
         return Appending {
-            log: StoreLog::new(LogSlot::Open(file)),
+            log: StoreLog::new(worker, LogSlot::Open(file)),
             told: Ok(()),
         };
     }
     match file.append(alloc, waiting.into_batch()) {
         Ok(file) => Appending {
-            log: StoreLog::new(LogSlot::Open(file)),
+            log: StoreLog::new(worker, LogSlot::Open(file)),
             told: Ok(()),
         },
         Err(AppendFault::Device(log, batch)) => kept_by(
+            worker,
             LogSlot::Failed(log),
             batch,
             Refusal::Device,
         ),
         Err(AppendFault::Memory(file, batch)) => kept_by(
+            worker,
             LogSlot::Open(file),
             batch,
             Refusal::Memory,
         ),
         Err(AppendFault::WrongTurn(file, batch, mark)) => kept_by(
+            worker,
             LogSlot::Open(file),
             batch,
             Refusal::WrongTurn(mark),
@@ -256,12 +295,18 @@ fn append_to<D: Disk + Drop>(alloc: Global, file: LogFile<D>, waiting: WaitingBa
 }
 
 // A batch that is kept.
-fn kept_by<D: Disk + Drop>(slot: LogSlot<D>, batch: Batch, fault: Refusal) -> Appending<D>
+fn kept_by<D: Disk + Drop>(
+    worker: u8,
+    slot: LogSlot<D>,
+    batch: Batch,
+    fault: Refusal,
+) -> Appending<D>
     requires { IsBounded batch }
-    ensures { result ≡ record { log = record { slot = slot; kept = Some batch }; told = Err fault } }
+    ensures { result ≡ record { log = log_with worker slot (Some batch); told = Err fault } }
 {
     Appending {
         log: StoreLog {
+            worker,
             slot,
             kept: Some(WaitingBatch::new(batch)),
         },

@@ -30,10 +30,10 @@ fn the_log_that_is_not_made_is_told(rt: HostRuntime) -> Result<(), Fail> {
     Ok(())
 }
 
-// A closed log with these bytes.
-fn log_with(alloc: Global, image: Vec<u8>) -> Result<StoreLog<MemDisk>, Refusal> {
+// A worker's closed log with these bytes.
+fn log_with(alloc: Global, worker: u8, image: Vec<u8>) -> Result<StoreLog<MemDisk>, Refusal> {
     let disk = MemDisk::with_image(alloc, image, Vec::new(alloc), None)?;
-    Ok(StoreLog::closed(disk))
+    Ok(StoreLog::closed(worker, disk))
 }
 
 // So many bytes of an image.
@@ -81,7 +81,7 @@ fn logs_with(
         } else {
             own.to_vec(alloc)?
         };
-        logs.push(log_with(alloc, image)?)?;
+        logs.push(log_with(alloc, place.min(63) as u8, image)?)?;
     }
     Ok(logs)
 }

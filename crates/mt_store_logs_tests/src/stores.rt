@@ -48,7 +48,7 @@ pub fn closed_logs(
         } else {
             Vec::new(alloc)
         };
-        logs.push(StoreLog::closed(MemDisk::new(alloc, fails, None)))?;
+        logs.push(StoreLog::closed(disk.min(63) as u8, MemDisk::new(alloc, fails, None)))?;
     }
     Ok(logs)
 }
@@ -95,9 +95,9 @@ impl Store {
 
     /// Drains a worker into its log, up to the last step.
     pub fn flush(&mut self, worker: u8) -> Result<u64, Refusal> {
-        let steps = self.history.steps;
+        let steps = self.history.steps();
         match self.logs.get_mut(usize::from(worker)) {
-            Some(log) => flush(self.alloc, log, &mut self.history, worker, steps),
+            Some(log) => Ok(flush(self.alloc, log, &mut self.history, steps)?.mark()),
             None => Err(Refusal::NoStore),
         }
     }

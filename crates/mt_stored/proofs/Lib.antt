@@ -1,4 +1,3 @@
-pub mod Limits
 pub mod Rounds
 pub mod Slices
 pub mod StoreTurns

@@ -1,5 +1,5 @@
 -- What turns make of a store that is owned alone: no step is made, and a log that was brought up goes up to all that were; for the store's calls and the law of its Settle.
-use Rattle.std.proofs.Common.{◌≡◌, ◌≢◌, ⊎_elim, ℕ, zero, suc, ◌+◌, ◌<◌, ◌≤◌, Bool, List, [], ◌∷◌, ◌++◌, length, Some, Result, Ok, Err, refl, sym, ap, ◌∙◌, arith}
+use Rattle.std.proofs.Common.{◌≡◌, ◌≢◌, ⊎_elim, ℕ, zero, suc, ◌+◌, ◌<◌, ◌≤◌, Bool, List, [], ◌∷◌, ◌++◌, length, Some, Result, Ok, Err, refl, sym, ap, subst, ◌∙◌, arith}
 use Rattle.std.specs.Prelude.{slice_get, slice_set, slice_index_or, IfOk, IfErr}
 use Rattle.std.proofs.lemmas.List.{length-set}
 use Rattle.std.proofs.lemmas.Option.{same_Some, slice_get_within}
@@ -11,7 +11,8 @@ use Rattle.mt_state.specs.Views.{StateView}
 use Rattle.mt_store_logs.specs.declared.store_log.StoreLog.{StoreLog}
 use Rattle.mt_store_logs.specs.Places.{mark_in}
 use Rattle.mt_store_logs.specs.Flushes.{DrainsShort, HasDrained, Flushes, FailsToFlush}
-use Rattle.mt_settle.specs.Turns.{Turn, BroughtUp, Chain}
+use Rattle.mt_store_logs.specs.declared.flushing.Flushed.{Flushed}
+use Rattle.mt_settle.specs.Turns.{Turn, BroughtUp, mark_told, Chain}
 use Rattle.mt_settle.specs.Settles.{turns_from, Settles}
 use Rattle.mt_stored.specs.declared.source.OwnState.{OwnState}
 use Rattle.mt_stored.specs.LogTurns.{BringsUp, FailsToBringUp}
@@ -80,19 +81,32 @@ module _ {D : Type 0} (is_honest : D → Bool) (state : D → DiskState) (failur
   turn_stays (BroughtUp log (Err e)) was old is new t = in_bring_up log was.state.steps e t.before t.after was is t.turns
 
   -- a log that was brought up, or was not, had a turn of the store
-  pub turned : (log : ℕ) (r : Result ℕ Refusal) (was is : OwnState) (old : List (StoreLog D)) (before after : StoreLog D) → slice_get old log ≡ Some before
-      → IfOk r (λ mark. BringsUp is_honest state failures gives_own log was.state.steps mark before after was is)
-      → IfErr r (λ e. FailsToBringUp is_honest state failures gives_own log was.state.steps e before after was is)
-      → DoesStore is_honest state failures (BroughtUp log r) was old is (slice_set old log after)
-  turned log (Ok mark) was is old before after there ok err = record { before = before; there = there; after = after; stands = refl; turns = ok }
-  turned log (Err e) was is old before after there ok err = record { before = before; there = there; after = after; stands = refl; turns = err }
+  pub turned : (log worker : ℕ) (r : Result Flushed Refusal) (was is : OwnState) (old : List (StoreLog D)) (before after : StoreLog D) → slice_get old log ≡ Some before
+      → worker ≡ log
+      → IfOk r (λ f. BringsUp is_honest state failures gives_own worker was.state.steps f.mark before after was is)
+      → IfErr r (λ e. FailsToBringUp is_honest state failures gives_own worker was.state.steps e before after was is)
+      → DoesStore is_honest state failures (BroughtUp log (mark_told r)) was old is (slice_set old log after)
+  turned log worker (Ok f) was is old before after there same ok err = record {
+    before = before;
+    there = there;
+    after = after;
+    stands = refl;
+    turns = subst (λ w. BringsUp is_honest state failures gives_own w was.state.steps f.mark before after was is) same ok;
+  }
+  turned log worker (Err e) was is old before after there same ok err = record {
+    before = before;
+    there = there;
+    after = after;
+    stands = refl;
+    turns = subst (λ w. FailsToBringUp is_honest state failures gives_own w was.state.steps e before after was is) same err;
+  }
 
   -- and the store has as many logs
-  pub as_many : (log upto : ℕ) (r : Result ℕ Refusal) (was is : OwnState) (before after : StoreLog D)
-      → IfOk r (λ mark. BringsUp is_honest state failures gives_own log upto mark before after was is)
+  pub as_many : (log upto : ℕ) (r : Result Flushed Refusal) (was is : OwnState) (before after : StoreLog D)
+      → IfOk r (λ f. BringsUp is_honest state failures gives_own log upto f.mark before after was is)
       → IfErr r (λ e. FailsToBringUp is_honest state failures gives_own log upto e before after was is)
       → length is.state.logs ≡ length was.state.logs
-  as_many log upto (Ok mark) was is before after ok err = (in_drains log upto mark ok.flushes.first after was is ok.flushes.drains.0).1
+  as_many log upto (Ok f) was is before after ok err = (in_drains log upto f.mark ok.flushes.first after was is ok.flushes.drains.0).1
   as_many log upto (Err e) was is before after ok err = (in_bring_up log upto e before after was is err).1
 
   -- what a flush up to the last step tells is that step, and the log goes up to there

@@ -11,11 +11,10 @@ use Rattle.mt_core.specs.Restores.{IsRestored}
 use Rattle.mt_recover.specs.declared.recovering.Recovered.{Recovered}
 use Rattle.mt_store_logs.specs.declared.fault.LogRefusal.{LogRefusal}
 use Rattle.mt_store_logs.specs.declared.store_log.StoreLog.{StoreLog}
-use Rattle.mt_store_logs.specs.Places.{mark_in, MakesAll}
+use Rattle.mt_store_logs.specs.Places.{mark_in, closed_on, MakesAll}
 use Rattle.mt_store_logs.specs.Recovers.{ServesAgain, IsNotRecovered}
 use Rattle.mt_settle.specs.Turns.{Turn, BroughtUp}
 use Rattle.mt_stored.specs.declared.source.OwnState.{OwnState}
-use Rattle.mt_stored.specs.Places.{closed_on}
 use Rattle.mt_stored.specs.LogTurns.{BringsUp, FailsToBringUp}
 
 -- each log is open, and goes up to the last step that was made
@@ -38,17 +37,17 @@ module _ {D : Type 0} (is_honest : D → Bool) (state : D → DiskState) (failur
   -- a new store over these disks: its state and its logs
   pub record IsNewStore (disks : List D) (accounts : Accounts) (v : StateView) (logs : List (StoreLog D)) : Type 0 where
     pub state_is : v ≡ new_state (length disks) accounts
-    pub logs_are : MakesAll is_honest state failures (map closed_on disks) logs
+    pub logs_are : MakesAll is_honest state failures (closed_on disks) logs
 
   -- a store that was recovered from these disks: its logs have what a recovery gives them, and its state has the pairs of the recovery, and goes on from there
   pub record IsRecoveredStore (disks : List D) (accounts : Accounts) (v : StateView) (logs : List (StoreLog D)) : Type 0 where
     pub recovered : Recovered
-    pub serves : ServesAgain is_honest state failures accounts recovered (map closed_on disks) logs
+    pub serves : ServesAgain is_honest state failures accounts recovered (closed_on disks) logs
     pub restored : IsRestored recovered.resume (length disks) accounts recovered.pairs.items v
 
   -- why none was recovered: for the cause of a recovery, or memory was refused
   abbrev pub IsNotRecoveredStore : List D → Accounts → LogRefusal → Type 0
-  IsNotRecoveredStore disks accounts e = (e ≡ no_memory) ⊎ ((left : List (StoreLog D)) × IsNotRecovered is_honest state failures accounts e (map closed_on disks) left)
+  IsNotRecoveredStore disks accounts e = (e ≡ no_memory) ⊎ ((left : List (StoreLog D)) × IsNotRecovered is_honest state failures accounts e (closed_on disks) left)
 
   -- one log had a turn, with the state, and all others are as they were
   pub record TurnsLog (Turns : StoreLog D → StoreLog D → OwnState → OwnState → Type 0) (log : ℕ) (was : OwnState) (old : List (StoreLog D)) (is : OwnState) (new : List (StoreLog D)) : Type 0 where

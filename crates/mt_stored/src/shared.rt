@@ -10,13 +10,14 @@ use mt_book::{Book, locked};
 use mt_disk::Disk;
 use mt_rows::Refusal;
 use mt_settle::Logs;
-use mt_store_logs::StoreLog;
+use mt_store_logs::{Flushed, StoreLog};
 use std::alloc::{AllocError, Global};
 use std::sync::ledger::Ledger;
 use std::sync::{Mutex, Wait};
 
 /// The logs of a book, at most 255, of which others give turns too: a turn says nothing of the next one. It warns
-/// of a log that closes, and of one that is open again.
+/// of a log that closes, and of one that is open again. A log at the place of another worker has no turn, and is
+/// refused by `LogCount`.
 #[derive(Drop)]
 pub struct SharedLogs<'a, L: Ledger, D: Disk + Drop> {
     book: &'a Mutex<Book<L>>,
@@ -43,12 +44,20 @@ impl<L: Ledger, D: Disk + Drop> Logs for SharedLogs<'_, L, D> {
         self.logs.len().min(255) as u8
     }
 
-    fn bring_up<R: Wait + Log>(&mut self, rt: &R, alloc: Global, log: u8) -> Result<u64, Refusal> {
+    fn bring_up<R: Wait + Log>(
+        &mut self,
+        rt: &R,
+        alloc: Global,
+        log: u8,
+    ) -> Result<Flushed, Refusal> {
         let mut guard = self.logs[usize::from(log)].lock(rt);
+        if guard.worker() != log {
+            return Err(Refusal::LogCount);
+        }
         let before = guard.mark();
         let steps = locked(rt, self.book).steps();
         let source = &mut SharedBook::new(rt, self.book);
-        let told = bring_up_log(alloc, &mut *guard, source, log, steps);
+        let told = bring_up_log(alloc, &mut *guard, source, steps);
         // Under the log's lock, so that its warnings come in the order of its changes.
         if let Some(change) = change_of(log, before, guard.mark()) {
             warn!(rt; "{change}");

@@ -4,7 +4,7 @@ ghost use Rattle.std.specs.Prelude.{◌≡◌};
 
 use mt_book::{Book, drain};
 use mt_core::State;
-use mt_rows::Batch;
+use mt_drains::DrainedBatch;
 use mt_store_logs::Source;
 use std::alloc::AllocError;
 use std::sync::ledger::Ledger;
@@ -24,7 +24,7 @@ impl Source for OwnState {
 
     ghost gives = { λ old new worker batch. Drains old.state new.state worker batch };
 
-    fn drain(&mut self, worker: u8, _upto: u64) -> Result<Batch, AllocError> {
+    fn drain(&mut self, worker: u8, _upto: u64) -> Result<DrainedBatch, AllocError> {
         self.state.drain(worker)
     }
 }
@@ -47,7 +47,7 @@ impl<L: Ledger, R: Wait> Source for SharedBook<'_, '_, L, R> {
 
     ghost gives = { λ old new worker batch. Unit {0} };
 
-    fn drain(&mut self, worker: u8, upto: u64) -> Result<Batch, AllocError> {
+    fn drain(&mut self, worker: u8, upto: u64) -> Result<DrainedBatch, AllocError> {
         drain(self.rt, self.book, worker, upto)
     }
 }

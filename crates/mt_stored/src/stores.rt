@@ -1,9 +1,9 @@
 //! A store that is owned alone: a state, and a log for each of its workers.
 
-ghost use Rattle.std.specs.Prelude.{◌≡◌, ◌≢◌, ◌<◌, ◌≤◌, None, length, map, vec_len, IfOk, IfErr, IfSome, IfNone, OnOk};
-ghost use Rattle.mt_rows.specs.declared.refusal.Refusal.TheVariants.{Memory};
+ghost use Rattle.std.specs.Prelude.{◌≡◌, ◌<◌, ◌≤◌, ◌↔◌, length, vec_len, IfOk, IfErr, IfSome, IsTrue, OnOk, IsSome};
 ghost use Rattle.mt_state.specs.Begins.{HaveNoPairs, new_state};
-ghost use Rattle.mt_stored.specs.Places.{closed_on};
+ghost use Rattle.mt_store_logs.specs.Places.{closed_on, AreInOrder};
+ghost use Rattle.mt_stored.specs.Stores.{no_memory};
 
 use crate::source::OwnState;
 use crate::turns::bring_up_log;
@@ -12,16 +12,19 @@ use mt_core::State;
 use mt_disk::Disk;
 use mt_rows::{Refusal, Tenants};
 use mt_settle::{Logs, settle};
-use mt_store_logs::{LogRefusal, NoWatch, StoreLog, Watch, create_logs, recover_watched};
+use mt_store_logs::{
+    Flushed, LogRefusal, NoWatch, StoreLog, Watch, closed_logs, create_logs, recover_watched,
+};
 use std::alloc::{AllocError, Global};
 use std::sync::Wait;
 
-/// A state, and as many logs as it has. One without logs keeps nothing.
+/// A state, and the log of each of its workers, in their order. One without logs keeps nothing.
 #[derive(Drop)]
 pub struct Store<D: Disk + Drop> {
     source: OwnState,
     logs: Vec<StoreLog<D>>,
     ghost all: { length source.state.logs ≡ vec_len logs },
+    ghost order: { AreInOrder logs.items },
 }
 
 // No memory, for none of the logs.
@@ -57,7 +60,7 @@ impl<D: Disk + Drop> Store<D> {
         ensures ok { IfOk result (λ store. IsNewStore D.is_honest D.state D.failures disks.items tenants store.source.state store.logs.items) }
         ensures err { IfErr result (IsNotMade (vec_len disks)) }
     {
-        let mut logs = closed_logs(alloc, disks)?;
+        let mut logs = closed(alloc, disks)?;
         create_logs(&mut logs)?;
         match State::new(alloc, logs.len() as u8, tenants) {
             Ok(state) => Ok(Store {
@@ -94,7 +97,7 @@ impl<D: Disk + Drop> Store<D> {
         ensures ok { IfOk result (λ store. IsRecoveredStore D.is_honest D.state D.failures disks.items tenants store.source.state store.logs.items) }
         ensures err { IfErr result (IsNotRecoveredStore D.is_honest D.state D.failures disks.items tenants) }
     {
-        let mut logs = closed_logs(alloc, disks)?;
+        let mut logs = closed(alloc, disks)?;
         let recovered = recover_watched(alloc, &mut logs, &tenants, watch)?;
         let count = logs.len() as u8;
         match State::restore(alloc, recovered.resume, count, tenants, &recovered.pairs) {
@@ -106,12 +109,15 @@ impl<D: Disk + Drop> Store<D> {
         }
     }
 
-    /// The state and its logs, if these are as many as it has.
+    /// The state and its logs, if these are as many as it has, and each stands at its worker's place.
     pub fn joined(state: State, logs: Vec<StoreLog<D>>) -> Option<Store<D>>
         ensures some { IfSome result (λ store. (store.source.state ≡ state) × (store.logs ≡ logs)) }
-        ensures none { IfNone result (length state.logs ≢ vec_len logs) }
+        ensures when { IsSome result ↔ ((length state.logs ≡ vec_len logs) × AreInOrder logs.items) }
     {
         if usize::from(state.logs()) != logs.len() {
+            return None;
+        }
+        if !are_in_order(&logs) {
             return None;
         }
         Some(Store {
@@ -156,28 +162,43 @@ impl<D: Disk + Drop> Logs for Store<D> {
         self.source.state.logs()
     }
 
-    fn bring_up<R: Wait + Log>(&mut self, _rt: &R, alloc: Global, log: u8) -> Result<u64, Refusal> {
+    fn bring_up<R: Wait + Log>(
+        &mut self,
+        _rt: &R,
+        alloc: Global,
+        log: u8,
+    ) -> Result<Flushed, Refusal> {
         let steps = self.source.state.steps();
         bring_up_log(
             alloc,
             &mut self.logs[usize::from(log)],
             &mut self.source,
-            log,
             steps,
         )
     }
 }
 
-// Closed logs on these disks.
-fn closed_logs<D: Disk + Drop>(alloc: Global, disks: Vec<D>) -> Result<Vec<StoreLog<D>>, LogRefusal>
-    ensures ok { IfOk result (λ logs. logs.items ≡ map closed_on disks.items) }
-    ensures err { IfErr result (λ e. e ≡ record { log = None; refusal = Memory }) }
+// Closed logs on these disks, in their order.
+fn closed<D: Disk + Drop>(alloc: Global, disks: Vec<D>) -> Result<Vec<StoreLog<D>>, LogRefusal>
+    requires { vec_len disks ≤ 64 }
+    ensures ok { IfOk result (λ logs. logs.items ≡ closed_on disks.items) }
+    ensures count { IfOk result (λ logs. vec_len logs ≡ vec_len disks) }
+    ensures err { IfErr result (λ e. e ≡ no_memory) }
 {
-    let mut logs = Vec::new(alloc);
-    for disk in disks {
-        if logs.push(StoreLog::closed(disk)).is_err() {
-            return Err(NO_MEMORY);
+    match closed_logs(alloc, disks) {
+        Ok(logs) => Ok(logs),
+        Err(_) => Err(NO_MEMORY),
+    }
+}
+
+// Whether each log stands at its worker's place.
+fn are_in_order<D: Disk + Drop>(logs: &[StoreLog<D>]) -> bool
+    ensures { IsTrue result ↔ AreInOrder logs.now }
+{
+    for place in 0..logs.len() {
+        if usize::from(logs[place].worker()) != place {
+            return false;
         }
     }
-    Ok(logs)
+    true
 }

@@ -47,8 +47,9 @@ pub(crate) fn image_of(alloc: Global, log: &StoreLog<FlakyDisk>) -> Result<Vec<u
 fn logs_of(alloc: Global, images: Vec<Vec<u8>>) -> Result<Vec<StoreLog<MemDisk>>, Refusal> {
     let mut logs = Vec::new(alloc);
     for image in images {
+        let worker = logs.len().min(63) as u8;
         let disk = MemDisk::with_image(alloc, image, Vec::new(alloc), None)?;
-        logs.push(StoreLog::closed(disk))?;
+        logs.push(StoreLog::closed(worker, disk))?;
     }
     Ok(logs)
 }

@@ -167,7 +167,7 @@ fn add_two(rt: &impl Abort, tenants: &mut Tenants) {
     ] {
         assert!(rt; tenants.add(tenant, quota) == told);
     }
-    assert!(rt; tenants.quota(8) == Ok(1_048_576) && tenants.quota(9) == Err(Refusal::NoTenant));
+    assert!(rt; tenants.quota(8) == Ok(1_048_576) && tenants.quota(9) == Err(Refusal::NoTenant(9)));
 }
 
 // Tenant 7 counts a pair, which is all it may have, and then none.

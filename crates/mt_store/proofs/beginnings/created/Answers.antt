@@ -1,23 +1,22 @@
 -- The logs that were made, and a state in which nothing has happened, are those of a new store.
-use Rattle.std.proofs.Common.{rules, ◌≡◌, ◌<◌, ◌≤◌, ◌++◌, length, map, take, drop, refl, sym, ap, subst, ◌∙◌, Some}
+use Rattle.std.proofs.Common.{rules, ◌≡◌, ◌<◌, ◌≤◌, ◌++◌, length, take, drop, refl, sym, ap, subst, ◌∙◌, Some}
 use Rattle.std.proofs.Math.Seq.{take-append_seam}
 use Rattle.mt_state.specs.Begins.{new_state}
 use Rattle.mt_store.specs.Lives.{new_standing}
 use Rattle.mt_store.specs.Holds.{Holds}
-use Rattle.mt_store.specs.Beginnings.{closed_on}
 use Rattle.mt_store.specs.Returns.{IsFresh}
 use Rattle.mt_disk.specs.Mem.{mem_state}
-use Rattle.mt_store_logs.specs.Places.{MakesAll}
+use Rattle.mt_store_logs.specs.Places.{closed_on, AreInOrder, MakesAll}
+use Rattle.mt_store_logs.proofs.Closed.{length-closed, closed_in_order, same_order}
 use Rattle.mt_store.proofs.Flushing.{keeps_rules, failures_of}
-use Rattle.mt_store.proofs.Walking.{map_length}
 use Rattle.mt_store.proofs.Beginning.{holds_new}
 use Rattle.mt_store.proofs.beginnings.created.Goals as goal
 
 pub returns-clause-ok : goal.returns-clause-ok
 returns-clause-ok c =
     let made = c.create_logs.new.logs in
-    let closed : c.deref_mut.result.now ≡ map closed_on c.args.disks.items = search rules in
-    let count : length c.deref_mut.result.now ≡ length c.args.disks.items = ap length closed ∙ map_length closed_on c.args.disks.items in
+    let closed : c.deref_mut.result.now ≡ closed_on c.args.disks.items = search rules in
+    let count : length c.deref_mut.result.now ≡ length c.args.disks.items = ap length closed ∙ length-closed 0 c.args.disks.items in
     let behind = drop (length made) c.in_ok-logs.logs.items in
     let len : c.in_ok-logs.logs.len ≡ length made = search rules in
     let whole : take c.in_ok-logs.logs.len (made ++ behind) ≡ made = ap (λ n. take n (made ++ behind)) len ∙ take-append_seam made behind in
@@ -27,14 +26,23 @@ returns-clause-ok c =
     (holds_new c.args.tenants.now c.deref_mut.result.now made (subst (λ n. 0 < n) (sym count) c.requires.some) (subst (λ n. n ≤ 64) (sym count) c.requires.few) c.args.disks.items closed
     c.in_default.ensures.ok c.in_ok-state.state is c.facts.ensures c.new-2.result c.new-2.ensures.state fresh)
 
-pub returns-clause-made : goal.returns-clause-made
-returns-clause-made c =
+pub returns-clause-order : goal.returns-clause-order
+returns-clause-order c =
     let made = c.create_logs.new.logs in
-    let closed : c.deref_mut.result.now ≡ map closed_on c.args.disks.items = search rules in
+    let closed : c.deref_mut.result.now ≡ closed_on c.args.disks.items = search rules in
     let behind = drop (length made) c.in_ok-logs.logs.items in
     let len : c.in_ok-logs.logs.len ≡ length made = search rules in
     let whole : take c.in_ok-logs.logs.len (made ++ behind) ≡ made = ap (λ n. take n (made ++ behind)) len ∙ take-append_seam made behind in
-    subst (λ logs. MakesAll keeps_rules mem_state failures_of (map closed_on c.args.disks.items) logs) (sym whole)
+    subst AreInOrder (sym whole) (same_order c.deref_mut.result.now made c.create_logs.ensures.workers (subst AreInOrder (sym closed) (closed_in_order c.args.disks.items)))
+
+pub returns-clause-made : goal.returns-clause-made
+returns-clause-made c =
+    let made = c.create_logs.new.logs in
+    let closed : c.deref_mut.result.now ≡ closed_on c.args.disks.items = search rules in
+    let behind = drop (length made) c.in_ok-logs.logs.items in
+    let len : c.in_ok-logs.logs.len ≡ length made = search rules in
+    let whole : take c.in_ok-logs.logs.len (made ++ behind) ≡ made = ap (λ n. take n (made ++ behind)) len ∙ take-append_seam made behind in
+    subst (λ logs. MakesAll keeps_rules mem_state failures_of (closed_on c.args.disks.items) logs) (sym whole)
     (subst (λ old. MakesAll keeps_rules mem_state failures_of old made) closed c.in_default.ensures.ok)
 
 pub returns-clause-serves : goal.returns-clause-serves

@@ -4,6 +4,7 @@ use Rattle.std.proofs.lemmas.List.{take_all}
 use Rattle.mt_store.specs.declared.events.StoreEvent.{StoreEvent}
 use Rattle.mt_store.specs.Lives.{Notes}
 use Rattle.mt_store.specs.declared.events.StoreNote.{StoreNote}
+use Rattle.mt_store_logs.proofs.Closed.{same_order}
 use Rattle.mt_store.specs.Steps.{NotesGoOn}
 use Rattle.mt_store.specs.Forced.{AreForced}
 use Rattle.mt_store.proofs.Forcing.{forced_more}
@@ -20,6 +21,7 @@ loop-event-init c = record {
       subst (λ (ns : List StoreNote). AreForced c.args.tenants.now (zip (take 0 c.args.events.now) ns) c.args.store.now.logs.items c.args.store.now.serving c.args.store.now.logs.items c.args.store.now.serving)
       (sym c.new-notes.ensures.items) (refl, refl);
   count = ap length c.new-notes.ensures.items;
+  order = c.requires.order;
   logs = refl;
 }
 
@@ -40,6 +42,7 @@ loop-event-preserved c =
           (forced_more c.args.tenants.now notes c.event-item.result c.in_ok-note.note c.args.store.now.logs.items c.loop-event.store.logs.items c.happen.new.store.logs.items
           c.args.store.now.serving c.loop-event.store.serving c.happen.new.store.serving h.forced c.in_ok-note.ensures.forced);
       count = ap length c.in_ok-push.ensures.items ∙ length-append c.loop-event.notes.items (c.in_ok-note.note ∷ []) ∙ omega (arith, h.count);
+      order = same_order c.loop-event.store.logs.items c.happen.new.store.logs.items c.in_ok-note.ensures.workers h.order;
       logs = c.in_ok-note.ensures.count ∙ h.logs;
     }
 

@@ -1,5 +1,6 @@
 use Rattle.std.proofs.Common.{◌≡◌, take, length}
 use Rattle.std.specs.List.{zip}
+use Rattle.mt_store_logs.specs.Places.{AreInOrder}
 use Rattle.mt_store.specs.Steps.{NotesGoOn}
 use Rattle.mt_store.specs.Forced.{AreForced}
 use Rattle.mt_store.proofs.running.note_all.Given as goal
@@ -10,5 +11,6 @@ invariant-loop-event l = record {
   goes : NotesGoOn l.fn.tenants (zip (take l.event-index l.events) l.notes.items) l.fn.store.logs.items l.fn.store.serving l.store.logs.items l.store.serving;
   forced : AreForced l.fn.tenants (zip (take l.event-index l.events) l.notes.items) l.fn.store.logs.items l.fn.store.serving l.store.logs.items l.store.serving;
   count : length l.notes.items ≡ l.event-index;
+  order : AreInOrder l.store.logs.items;
   logs : length l.store.logs.items ≡ length l.fn.store.logs.items;
 }

@@ -16,6 +16,7 @@ use Rattle.mt_store.specs.Forced.{IsForced}
 use Rattle.mt_store.proofs.Forcing.{turn_forced, settle_forced}
 use Rattle.mt_store.proofs.Goes.{Goes, settle_goes, settle_stops}
 use Rattle.mt_store.proofs.Settling.{next_within, not_open}
+use Rattle.mt_store_logs.proofs.Loops.{same_workers}
 use Rattle.mt_store.proofs.settles.go_on.Goals as goal
 
 pub returns-in_default-clause-goes : goal.returns-in_default-clause-goes
@@ -30,7 +31,7 @@ turned-requires-clause-open c =
     let settle = c.in-Some.settle in
     let there : get nat_cmp was.settles c.args.id ≡ Some settle = search rules in
     ap (λ m. get nat_cmp m c.args.id)
-    (flush_settles settle.next c.steps-steps.result c.in-Ok.mark (get_or c.args.logs.now c.from.result c.index-logs-from.result) c.flush.new.log was c.flush.new.source c.in-Ok.ensures.ok)
+    (flush_settles settle.next c.steps-steps.result c.in-Ok.mark (get_or c.args.logs.now c.from.result c.index-logs-from.result) c.flush_log.new.log was c.flush_log.new.serving c.in-Ok.ensures.ok)
     ∙ there
 
 pub returns-in-Ok-clause-goes : goal.returns-in-Ok-clause-goes
@@ -40,8 +41,8 @@ returns-in-Ok-clause-goes c = λ accounts standing h.
     let settle = c.in-Some.settle in
     let place = c.from.result in
     let log = get_or logs place c.index-logs-from.result in
-    let new = c.flush.new.log in
-    let now = c.flush.new.source in
+    let new = c.flush_log.new.log in
+    let now = c.flush_log.new.serving in
     let there : get nat_cmp was.settles c.args.id ≡ Some settle = search rules in
     let here = subst (λ k. slice_get logs k ≡ Some log) c.from.ensures
     (slice_get-get_or logs place c.index-logs-from.result (omega (arith, c.from.ensures, next_within accounts standing logs was h was refl refl c.args.id settle there))) in
@@ -57,8 +58,8 @@ returns-in-Err-clause-goes c = λ accounts standing h.
     let settle = c.in-Some.settle in
     let place = c.from.result in
     let log = get_or logs place c.index-logs-from.result in
-    let new = c.flush.new.log in
-    let now = c.flush.new.source in
+    let new = c.flush_log.new.log in
+    let now = c.flush_log.new.serving in
     let end = record now { settles = c.remove.new.self } in
     let there : get nat_cmp was.settles c.args.id ≡ Some settle = search rules in
     let here = subst (λ k. slice_get logs k ≡ Some log) c.from.ensures
@@ -70,8 +71,8 @@ returns-in-Err-clause-goes c = λ accounts standing h.
 pub returns-in-Ok-clause-forced : goal.returns-in-Ok-clause-forced
 returns-in-Ok-clause-forced c = λ accounts.
     let logs = c.args.logs.now in
-    turn_forced accounts (length (slice_set logs c.from.result c.flush.new.log)) c.args.id c.in-Ok.mark c.in-Some.settle c.flush.new.source.settles c.turned.new.serving.settles logs
-    (slice_set logs c.from.result c.flush.new.log) (Some c.args.serving.now) c.turned.result c.turned.ensures.turns
+    turn_forced accounts (length (slice_set logs c.from.result c.flush_log.new.log)) c.args.id c.in-Ok.mark c.in-Some.settle c.flush_log.new.serving.settles c.turned.new.serving.settles logs
+    (slice_set logs c.from.result c.flush_log.new.log) (Some c.args.serving.now) c.turned.result c.turned.ensures.turns
 
 pub returns-in-Err-clause-forced : goal.returns-in-Err-clause-forced
 returns-in-Err-clause-forced c = λ accounts.
@@ -80,10 +81,27 @@ returns-in-Err-clause-forced c = λ accounts.
     let settle = c.in-Some.settle in
     let place = c.from.result in
     let log = get_or logs place c.index-logs-from.result in
-    let new = c.flush.new.log in
-    let held = c.requires in
+    let new = c.flush_log.new.log in
+    let held = c.requires.held in
     let there : get nat_cmp was.settles c.args.id ≡ Some settle = search rules in
     let here = subst (λ k. slice_get logs k ≡ Some log) c.from.ensures
     (slice_get-get_or logs place c.index-logs-from.result (omega (arith, c.from.ensures, next_within held.0 held.1 logs was held.2 was refl refl c.args.id settle there))) in
     subst (λ k. IsForced accounts (SettleNext c.args.id) (Refused c.in-Err.refusal) logs (Some was) (slice_set logs k new)) (sym c.from.ensures)
-    (settle_forced accounts logs (Some was) settle.next log new here c.args.id c.steps-steps.result c.in-Err.refusal was c.flush.new.source (mark_in log.slot) refl c.in-Err.ensures.err)
+    (settle_forced accounts logs (Some was) settle.next log new here c.args.id c.steps-steps.result c.in-Err.refusal was c.flush_log.new.serving (mark_in log.slot) refl c.in-Err.ensures.err)
+
+pub flush_log-requires-clause-whose : goal.flush_log-requires-clause-whose
+flush_log-requires-clause-whose c =
+    let logs = c.args.logs.now in
+    let was = c.args.serving.now in
+    let place = c.from.result in
+    let held = c.requires.held in
+    let there : get nat_cmp was.settles c.args.id ≡ Some c.in-Some.settle = search rules in
+    c.requires.order place (get_or logs place c.index-logs-from.result)
+    (slice_get-get_or logs place c.index-logs-from.result (omega (arith, c.from.ensures, next_within held.0 held.1 logs was held.2 was refl refl c.args.id c.in-Some.settle there)))
+    ∙ c.from.ensures
+
+pub returns-in-Ok-clause-workers : goal.returns-in-Ok-clause-workers
+returns-in-Ok-clause-workers c = same_workers c.from.result c.args.logs.now c.flush_log.new.log c.index-logs-from.result c.flush_log.ensures.worker
+
+pub returns-in-Err-clause-workers : goal.returns-in-Err-clause-workers
+returns-in-Err-clause-workers c = same_workers c.from.result c.args.logs.now c.flush_log.new.log c.index-logs-from.result c.flush_log.ensures.worker

@@ -9,6 +9,7 @@ use Rattle.mt_store_logs.specs.Places.{mark_in}
 use Rattle.mt_store.specs.Forced.{IsForced}
 use Rattle.mt_store.proofs.Forcing.{reopen_forced}
 use Rattle.mt_store.proofs.Goes.{Goes, reopen_goes, reopen_stops}
+use Rattle.mt_store_logs.proofs.Loops.{same_workers}
 use Rattle.mt_store.proofs.settles.reopen_at.Goals as goal
 
 pub returns-in-Ok-clause-goes : goal.returns-in-Ok-clause-goes
@@ -50,3 +51,9 @@ returns-in-Err-clause-forced c = λ accounts serving.
     let held = c.requires in
     subst (λ k. IsForced accounts (Reopen c.args.worker) (Refused c.in-Err.refusal) logs (Some serving) (slice_set logs k new)) (sym c.from-place.ensures)
     (reopen_forced held.1.0 logs (Some serving) c.args.worker log new here c.in-Err.refusal held.0 held.1.1 held.1.2 shut c.in-Err.ensures.err accounts)
+
+pub returns-in-Ok-clause-workers : goal.returns-in-Ok-clause-workers
+returns-in-Ok-clause-workers c = same_workers c.from-place.result c.args.logs.now c.reopen.new.self c.index-logs-place-2.result c.reopen.ensures.worker
+
+pub returns-in-Err-clause-workers : goal.returns-in-Err-clause-workers
+returns-in-Err-clause-workers c = same_workers c.from-place.result c.args.logs.now c.reopen.new.self c.index-logs-place-2.result c.reopen.ensures.worker

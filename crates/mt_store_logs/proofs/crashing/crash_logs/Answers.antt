@@ -1,7 +1,7 @@
 -- One log more has crashed, or memory was refused for it.
 use Rattle.std.proofs.Common.{Some, refl, sym, ◌∙◌, ap, subst, arith}
 use Rattle.mt_store_logs.specs.Crashes.{HasItsDisk, IsCrashed, IsCrashedAs}
-use Rattle.mt_store_logs.proofs.Loops.{one_more, still_left, same_len, next_was, so_far, on_err, read_or}
+use Rattle.mt_store_logs.proofs.Loops.{same_workers, one_more, still_left, same_len, next_was, so_far, on_err, read_or}
 use Rattle.mt_store_logs.proofs.crashing.crash_logs.Goals as goal
 
 pub returns-in_err-crash_log-clause-err : goal.returns-in_err-crash_log-clause-err
@@ -26,6 +26,7 @@ loop-place-preserved c =
     let within = c.loop-place-test.true in
     record {
       many = many;
+      workers = same_workers place now new c.index-logs-place.result (c.crash_log.ensures.worker) ∙ i.workers;
       len = same_len place old now new i.len;
       before =
           one_more (IsCrashedAs c.args.images.now) place old now new i.before (λ was there. (
@@ -35,3 +36,7 @@ loop-place-preserved c =
           ));
       left = still_left place old now new i.left;
     }
+
+pub returns-in_err-crash_log-clause-workers : goal.returns-in_err-crash_log-clause-workers
+returns-in_err-crash_log-clause-workers c =
+    same_workers c.loop-place.place c.loop-place.logs c.crash_log.new.log c.index-logs-place.result c.crash_log.ensures.worker ∙ c.loop-place.invariant.workers

@@ -3,11 +3,13 @@ use Rattle.std.proofs.Common.{◌≡◌, ℕ, ◌≤◌, length}
 use Rattle.std.specs.Prelude.{slice_get}
 use Rattle.mt_store_logs.specs.Lists.{EachBefore}
 use Rattle.mt_store_logs.specs.Crashes.{IsCrashedAs}
+use Rattle.mt_store_logs.specs.Places.{workers_of}
 use Rattle.mt_store_logs.proofs.crashing.crash_logs.Given as goal
 
 abbrev pub invariant-loop-place : goal.invariant-loop-place
 invariant-loop-place l = record {
   many : length l.images ≡ length l.initial.logs;
+  workers : workers_of l.logs ≡ workers_of l.initial.logs;
   len : length l.logs ≡ length l.initial.logs;
   before : EachBefore (IsCrashedAs l.images) l.place l.initial.logs l.logs;
   left : (k : ℕ) → l.place ≤ k → slice_get l.logs k ≡ slice_get l.initial.logs k;

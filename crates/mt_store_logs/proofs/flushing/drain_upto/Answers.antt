@@ -11,6 +11,7 @@ loop-mark-smaller g c =
 pub loop-mark-preserved : goal.loop-mark-preserved
 loop-mark-preserved g c = record {
   serves = c.in-Ok.ensures.serves;
+  whose = c.drain_once-in-loop-mark.ensures.worker;
   none = c.in-Ok.ensures.ok.appended.appends.none;
   drains =
       more g.D.Disk.is_honest g.D.Disk.state g.D.Disk.failures g.S.Source.gives c.args.worker c.args.upto c.loop-mark.mark c.in-Ok.next

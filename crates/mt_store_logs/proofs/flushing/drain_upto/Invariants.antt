@@ -6,6 +6,7 @@ use Rattle.mt_store_logs.proofs.flushing.drain_upto.Given as goal
 abbrev pub invariant-loop-mark : goal.invariant-loop-mark
 invariant-loop-mark g l = record {
   serves : g.S.Source.serves l.source l.worker l.upto;
+  whose : l.log.worker ≡ l.worker;
   none : l.log.kept ≡ None;
   drains : HasDrained g.D.Disk.is_honest g.D.Disk.state g.D.Disk.failures g.S.Source.gives l.worker l.upto l.mark l.fn.log l.log l.fn.source l.source;
 }

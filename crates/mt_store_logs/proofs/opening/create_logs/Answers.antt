@@ -1,8 +1,8 @@
 -- One log more is made, or was not.
-use Rattle.std.proofs.Common.{length, sym, subst}
+use Rattle.std.proofs.Common.{◌∙◌, length, sym, subst}
 use Rattle.std.specs.Prelude.{slice_set}
 use Rattle.mt_store_logs.specs.Places.{MakesLog, FailsToMakeLog, StopsMaking}
-use Rattle.mt_store_logs.proofs.Loops.{one_more, still_left, same_len, walked, stopped, next_was}
+use Rattle.mt_store_logs.proofs.Loops.{same_workers, one_more, still_left, same_len, walked, stopped, next_was}
 use Rattle.mt_store_logs.proofs.opening.create_logs.Goals as goal
 
 pub returns-in-Err-clause-err : goal.returns-in-Err-clause-err
@@ -30,6 +30,7 @@ loop-place-preserved g c =
     let new = c.create_log.new.log in
     let i = c.loop-place.invariant in
     record {
+      workers = same_workers place now new c.index-logs-place.result (c.create_log.ensures.worker) ∙ i.workers;
       len = same_len place old now new i.len;
       before =
           one_more (λ k was is. MakesLog is_honest state failures k (length old) was is) place old now new i.before (λ was there.
@@ -41,3 +42,7 @@ pub returns-clause-ok : goal.returns-clause-ok
 returns-clause-ok g c =
     let i = c.loop-place.invariant in
     walked (λ k was is. MakesLog g.D.Disk.is_honest g.D.Disk.state g.D.Disk.failures k (length c.args.logs.now) was is) c.loop-place.place c.args.logs.now c.loop-place.logs i.len i.before c.loop-place-test.false
+
+pub returns-in-Err-clause-workers : goal.returns-in-Err-clause-workers
+returns-in-Err-clause-workers g c =
+    same_workers c.loop-place.place c.loop-place.logs c.create_log.new.log c.index-logs-place.result c.create_log.ensures.worker ∙ c.loop-place.invariant.workers

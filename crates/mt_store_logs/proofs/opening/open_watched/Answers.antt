@@ -1,10 +1,10 @@
 -- One log more is open, and its front stands behind the others; or it was not opened.
 use Rattle.std.specs.Prelude.{slice_set}
-use Rattle.std.proofs.Common.{◌+◌, ◌++◌, ◌∷◌, [], sym, subst, arith}
+use Rattle.std.proofs.Common.{◌∙◌, ◌+◌, ◌++◌, ◌∷◌, [], sym, subst, arith}
 use Rattle.mt_log.specs.declared.batch.Front.{Front}
 use Rattle.mt_store_logs.specs.Lists.{EachBefore}
 use Rattle.mt_store_logs.specs.Places.{OpensLog, FailsToOpenLog, OpensAs, StopsOpening}
-use Rattle.mt_store_logs.proofs.Loops.{one_more, still_left, same_len, walked, stopped, next_was, get_more, get_last}
+use Rattle.mt_store_logs.proofs.Loops.{same_workers, one_more, still_left, same_len, walked, stopped, next_was, get_more, get_last}
 use Rattle.mt_store_logs.proofs.opening.open_watched.Goals as goal
 
 pub returns-in-Err-open_log-clause-err : goal.returns-in-Err-open_log-clause-err
@@ -37,6 +37,7 @@ loop-place-preserved g c =
     let before = c.loop-place.fronts.items in
     let items = c.push_reserved.ensures.items in
     record {
+      workers = same_workers place now new c.index-logs-place.result (c.open_log.ensures.worker) ∙ i.workers;
       len = same_len place old now new i.len;
       room = let capacity = c.push_reserved.ensures.capacity in let room = i.room in omega (arith, capacity, room);
       count = let len = c.push_reserved.ensures.len in let count = i.count in omega (arith, len, count);
@@ -56,3 +57,7 @@ returns-clause-ok g c =
       count = omega (arith, count);
       each = walked (OpensAs g.D.Disk.is_honest g.D.Disk.state g.D.Disk.failures c.loop-place.fronts.items) c.loop-place.place c.args.logs.now c.loop-place.logs i.len i.before c.loop-place-test.false;
     }
+
+pub returns-in-Err-open_log-clause-workers : goal.returns-in-Err-open_log-clause-workers
+returns-in-Err-open_log-clause-workers g c =
+    same_workers c.loop-place.place c.loop-place.logs c.open_log.new.log c.index-logs-place.result c.open_log.ensures.worker ∙ c.loop-place.invariant.workers

@@ -2,11 +2,12 @@
 use Rattle.std.proofs.Common.{◌≡◌, ℕ, ◌≤◌, length}
 use Rattle.std.specs.Prelude.{slice_get, vec_capacity}
 use Rattle.mt_store_logs.specs.Lists.{EachBefore}
-use Rattle.mt_store_logs.specs.Places.{OpensAs}
+use Rattle.mt_store_logs.specs.Places.{workers_of, OpensAs}
 use Rattle.mt_store_logs.proofs.opening.open_watched.Given as goal
 
 abbrev pub invariant-loop-place : goal.invariant-loop-place
 invariant-loop-place g l = record {
+  workers : workers_of l.logs ≡ workers_of l.initial.logs;
   len : length l.logs ≡ length l.initial.logs;
   room : length l.initial.logs ≤ vec_capacity l.fronts;
   count : length l.fronts.items ≡ l.place;

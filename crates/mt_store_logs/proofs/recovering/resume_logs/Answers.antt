@@ -1,9 +1,9 @@
 -- One log more has its resume batch, or has it not for certain.
-use Rattle.std.proofs.Common.{refl, sym, subst}
+use Rattle.std.proofs.Common.{◌∙◌, refl, sym, subst}
 use Rattle.std.specs.Prelude.{slice_index_or, slice_set}
 use Rattle.mt_store_logs.specs.declared.store_log.StoreLog.{StoreLog}
 use Rattle.mt_store_logs.specs.Recovers.{ResumesLog, FailsToResumeLog, StopsResuming}
-use Rattle.mt_store_logs.proofs.Loops.{one_more, still_left, same_len, walked, stopped, next_was}
+use Rattle.mt_store_logs.proofs.Loops.{same_workers, one_more, still_left, same_len, walked, stopped, next_was}
 use Rattle.mt_store_logs.proofs.recovering.resume_logs.Goals as goal
 
 pub returns-in-Err-clause-err : goal.returns-in-Err-clause-err
@@ -16,7 +16,7 @@ returns-in-Err-clause-err g c =
     let old = c.args.logs.now in
     let now = c.loop-place.logs in
     let place = c.loop-place.place in
-    let new : StoreLog g.row.D.Denot = record { slot = c.resume_at.new.log; kept = (slice_index_or now place c.index-logs-place.result).kept } in
+    let new : StoreLog g.row.D.Denot = record { worker = (slice_index_or now place c.index-logs-place.result).worker; slot = c.resume_at.new.log; kept = (slice_index_or now place c.index-logs-place.result).kept } in
     let i = c.loop-place.invariant in
     subst (λ e. StopsResuming is_honest state failures kept to e old (slice_set now place new)) (sym c.at.ensures)
     (stopped (λ k was is. ResumesLog is_honest state failures kept to was is) (FailsToResumeLog is_honest state failures kept to c.in-Err.refusal) place old now new c.loop-place-test.true i.len i.before i.left
@@ -32,9 +32,10 @@ loop-place-preserved g c =
     let old = c.args.logs.now in
     let now = c.loop-place.logs in
     let place = c.loop-place.place in
-    let new : StoreLog g.row.D.Denot = record { slot = c.resume_at.new.log; kept = (slice_index_or now place c.index-logs-place.result).kept } in
+    let new : StoreLog g.row.D.Denot = record { worker = (slice_index_or now place c.index-logs-place.result).worker; slot = c.resume_at.new.log; kept = (slice_index_or now place c.index-logs-place.result).kept } in
     let i = c.loop-place.invariant in
     record {
+      workers = same_workers place now new c.index-logs-place.result (refl) ∙ i.workers;
       len = same_len place old now new i.len;
       before =
           one_more (λ k was is. ResumesLog is_honest state failures kept to was is) place old now new i.before (λ was there.
@@ -46,3 +47,10 @@ pub returns-clause-ok : goal.returns-clause-ok
 returns-clause-ok g c =
     let i = c.loop-place.invariant in
     walked (λ k was is. ResumesLog g.D.Disk.is_honest g.D.Disk.state g.D.Disk.failures c.args.recovered.now.cutoff c.args.recovered.now.resume was is) c.loop-place.place c.args.logs.now c.loop-place.logs i.len i.before c.loop-place-test.false
+
+pub returns-in-Err-clause-workers : goal.returns-in-Err-clause-workers
+returns-in-Err-clause-workers g c =
+    let now = c.loop-place.logs in
+    let place = c.loop-place.place in
+    let new : StoreLog g.row.D.Denot = record { worker = (slice_index_or now place c.index-logs-place.result).worker; slot = c.resume_at.new.log; kept = (slice_index_or now place c.index-logs-place.result).kept } in
+    same_workers place now new c.index-logs-place.result refl ∙ c.loop-place.invariant.workers

@@ -6,11 +6,11 @@ use Rattle.mt_store_logs.proofs.store_log.StoreLog.reopen_closed.Goals as goal
 pub returns-clause-ok : goal.returns-clause-ok
 returns-clause-ok g c =
     on_ok_weaker c.append_kept.result
-    (λ a. opens_again g.D.Disk.is_honest g.D.Disk.state g.D.Disk.failures c.args.disk c.args.self.now.kept c.open_disk.new.slot c.in_ok-_front._front c.append_kept.new.self c.in_ok-_front.ensures.ok a)
+    (λ a. opens_again g.D.Disk.is_honest g.D.Disk.state g.D.Disk.failures c.args.self.now.worker c.args.disk c.args.self.now.kept c.open_disk.new.slot c.in_ok-_front._front c.append_kept.new.self c.in_ok-_front.ensures.ok a)
     c.append_kept.ensures.ok
 
 pub returns-clause-err : goal.returns-clause-err
 returns-clause-err g c =
     IfErr-weaker c.append_kept.result _ _
-    (λ e f. opens_but_keeps g.D.Disk.is_honest g.D.Disk.state g.D.Disk.failures e c.args.disk c.args.self.now.kept c.open_disk.new.slot c.in_ok-_front._front c.append_kept.new.self c.in_ok-_front.ensures.ok f)
+    (λ e f. opens_but_keeps g.D.Disk.is_honest g.D.Disk.state g.D.Disk.failures e c.args.self.now.worker c.args.disk c.args.self.now.kept c.open_disk.new.slot c.in_ok-_front._front c.append_kept.new.self c.in_ok-_front.ensures.ok f)
     c.append_kept.ensures.err

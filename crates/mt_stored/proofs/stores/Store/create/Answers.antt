@@ -1,8 +1,9 @@
 use Rattle.std.proofs.Common.{◌≡◌, ◌∙◌, map, length, sym, ap, subst, arith}
-use Rattle.std.proofs.lemmas.List.{length-map}
+use Rattle.mt_store_logs.specs.Places.{AreInOrder}
+use Rattle.mt_store_logs.proofs.Closed.{length-closed, closed_in_order, same_order}
 use Rattle.mt_state.specs.Begins.{new_state}
 use Rattle.mt_store_logs.specs.Places.{MakesAll}
-use Rattle.mt_stored.specs.Places.{closed_on}
+use Rattle.mt_store_logs.specs.Places.{closed_on}
 use Rattle.mt_stored.proofs.Slices.{whole}
 use Rattle.mt_stored.proofs.stores.Store.create.Goals as goal
 
@@ -13,9 +14,21 @@ returns-in-Ok-clause-ok g c =
     let new = c.create_logs.new.logs in
     let old = c.deref_mut.ensures.value ∙ c.in_ok-logs.ensures.ok in
     let makes = subst (λ was. MakesAll g.D.Disk.is_honest g.D.Disk.state g.D.Disk.failures was new) old c.in_ok-create_logs.ensures.ok in
-    let count : logs.len ≡ length disks = omega (arith, logs.ok.0, ap length c.in_ok-logs.ensures.ok, length-map disks closed_on) in
-    let same : logs.len ≡ length new = omega (arith, count, makes.len, length-map disks closed_on) in
+    let count : logs.len ≡ length disks = omega (arith, logs.ok.0, ap length c.in_ok-logs.ensures.ok, length-closed 0 disks) in
+    let same : logs.len ≡ length new = omega (arith, count, makes.len, length-closed 0 disks) in
     record {
       state_is = c.in-Ok.ensures ∙ ap (λ n. new_state n c.args.tenants) (omega (arith, c.len.ensures, count, same));
-      logs_are = subst (MakesAll g.D.Disk.is_honest g.D.Disk.state g.D.Disk.failures (map closed_on disks)) (sym (whole logs.len new _ same)) makes;
+      logs_are = subst (MakesAll g.D.Disk.is_honest g.D.Disk.state g.D.Disk.failures (closed_on disks)) (sym (whole logs.len new _ same)) makes;
     }
+
+pub invariant_of-result-clause-order : goal.invariant_of-result-clause-order
+invariant_of-result-clause-order g c =
+    let disks = c.args.disks.items in
+    let logs = c.in_ok-logs.logs in
+    let new = c.create_logs.new.logs in
+    let old = c.deref_mut.ensures.value ∙ c.in_ok-logs.ensures.ok in
+    let makes = subst (λ was. MakesAll g.D.Disk.is_honest g.D.Disk.state g.D.Disk.failures was new) old c.in_ok-create_logs.ensures.ok in
+    let count : logs.len ≡ length disks = omega (arith, logs.ok.0, ap length c.in_ok-logs.ensures.ok, length-closed 0 disks) in
+    let same : logs.len ≡ length new = omega (arith, count, makes.len, length-closed 0 disks) in
+    subst AreInOrder (sym (whole logs.len new _ same))
+    (same_order c.deref_mut.result.now new c.create_logs.ensures.workers (subst AreInOrder (sym old) (closed_in_order disks)))

@@ -1,30 +1,23 @@
 use Rattle.std.proofs.Common.{◌≡◌, ◌∙◌, map, length, sym, ap, subst, arith}
 use Rattle.std.specs.List.{All}
-use Rattle.std.proofs.lemmas.List.{length-map}
-use Rattle.mt_rows.specs.TenantPairs.{pairs_of, AreDistinct, IsTenantPair}
-use Rattle.mt_log.specs.Contents.{contents_of}
+use Rattle.mt_store_logs.specs.Places.{AreInOrder}
+use Rattle.mt_store_logs.proofs.Closed.{length-closed, closed_in_order, same_order}
+use Rattle.mt_rows.specs.TenantPairs.{AreDistinct, IsTenantPair}
 use Rattle.mt_core.specs.Restores.{IsRestored}
 use Rattle.mt_store_logs.specs.Recovers.{ServesAgain}
-use Rattle.mt_store_logs.proofs.ForResumes.{last_within, resumes_last}
-use Rattle.mt_stored.specs.Places.{closed_on}
-use Rattle.mt_stored.proofs.Limits.{distinct, limits_kept}
+use Rattle.mt_store_logs.specs.Places.{closed_on}
+use Rattle.mt_store_logs.proofs.Limits.{distinct, limits_of, resumes_within}
 use Rattle.mt_stored.proofs.Slices.{whole}
 use Rattle.mt_stored.proofs.stores.Store.recover_watched.Goals as goal
 
 pub restore-requires-clause-steps : goal.restore-requires-clause-steps
 restore-requires-clause-steps g c =
-    let r = c.in_ok-recovered.recovered in
-    let s = c.in_ok-recovered.ensures.ok in
-    let last = resumes_last (map contents_of s.fronts) r.cutoff r.resume r.used (pairs_of r.pairs.items) s.recovers.recovered in
-    let within = last_within g.D.Disk.is_honest g.D.Disk.state g.D.Disk.failures c.deref_mut.result.now s.mid s.fronts s.opens in
-    omega (arith, last, within)
+    resumes_within g.D.Disk.is_honest g.D.Disk.state g.D.Disk.failures c.args.tenants c.in_ok-recovered.recovered c.deref_mut.result.now c.recover_watched.new.logs c.in_ok-recovered.ensures.ok
 
 pub restore-requires-clause-limits : goal.restore-requires-clause-limits
 restore-requires-clause-limits g c =
-    let r = c.in_ok-recovered.recovered in
-    let s = c.in_ok-recovered.ensures.ok in
     subst (All IsTenantPair) (sym c.deref.ensures.value)
-    (limits_kept g.D.Disk.is_honest g.D.Disk.state g.D.Disk.failures c.deref_mut.result.now s.mid s.fronts r.cutoff r.resume r.used r.pairs.items s.opens s.recovers.recovered s.recovers.ascend)
+    (limits_of g.D.Disk.is_honest g.D.Disk.state g.D.Disk.failures c.args.tenants c.in_ok-recovered.recovered c.deref_mut.result.now c.recover_watched.new.logs c.in_ok-recovered.ensures.ok)
 
 pub restore-requires-clause-distinct : goal.restore-requires-clause-distinct
 restore-requires-clause-distinct g c =
@@ -38,13 +31,25 @@ returns-in-Ok-clause-ok g c =
     let new = c.recover_watched.new.logs in
     let old = c.deref_mut.ensures.value ∙ c.in_ok-logs.ensures.ok in
     let serves = subst (λ was. ServesAgain g.D.Disk.is_honest g.D.Disk.state g.D.Disk.failures c.args.tenants r was new) old c.in_ok-recovered.ensures.ok in
-    let count : logs.len ≡ length disks = omega (arith, logs.ok.0, ap length c.in_ok-logs.ensures.ok, length-map disks closed_on) in
-    let same : logs.len ≡ length new = omega (arith, count, serves.opens.each.len, serves.resumes.len, length-map disks closed_on) in
+    let count : logs.len ≡ length disks = omega (arith, logs.ok.0, ap length c.in_ok-logs.ensures.ok, length-closed 0 disks) in
+    let same : logs.len ≡ length new = omega (arith, count, serves.opens.each.len, serves.resumes.len, length-closed 0 disks) in
     let counted : c.len-count.result ≡ length disks = omega (arith, c.len-count.ensures, count, same) in
     record {
       recovered = r;
-      serves = subst (ServesAgain g.D.Disk.is_honest g.D.Disk.state g.D.Disk.failures c.args.tenants r (map closed_on disks)) (sym (whole logs.len new _ same)) serves;
+      serves = subst (ServesAgain g.D.Disk.is_honest g.D.Disk.state g.D.Disk.failures c.args.tenants r (closed_on disks)) (sym (whole logs.len new _ same)) serves;
       restored =
           subst (λ ps. IsRestored r.resume (length disks) c.args.tenants ps c.in-Ok.state) c.deref.ensures.value
           (subst (λ n. IsRestored r.resume n c.args.tenants c.deref.result.now c.in-Ok.state) counted c.in-Ok.ensures);
     }
+
+pub invariant_of-result-clause-order : goal.invariant_of-result-clause-order
+invariant_of-result-clause-order g c =
+    let disks = c.args.disks.items in
+    let logs = c.in_ok-logs.logs in
+    let new = c.recover_watched.new.logs in
+    let old = c.deref_mut.ensures.value ∙ c.in_ok-logs.ensures.ok in
+    let serves = subst (λ was. ServesAgain g.D.Disk.is_honest g.D.Disk.state g.D.Disk.failures c.args.tenants c.in_ok-recovered.recovered was new) old c.in_ok-recovered.ensures.ok in
+    let count : logs.len ≡ length disks = omega (arith, logs.ok.0, ap length c.in_ok-logs.ensures.ok, length-closed 0 disks) in
+    let same : logs.len ≡ length new = omega (arith, count, serves.opens.each.len, serves.resumes.len, length-closed 0 disks) in
+    subst AreInOrder (sym (whole logs.len new _ same))
+    (same_order c.deref_mut.result.now new c.recover_watched.ensures.workers (subst AreInOrder (sym old) (closed_in_order disks)))

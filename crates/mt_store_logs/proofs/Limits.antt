@@ -17,9 +17,7 @@ use Rattle.mt_rows.specs.declared.record.TenantPair.{TenantPair}
 use Rattle.mt_rows.specs.declared.record.Record.{Record}
 use Rattle.mt_rows.proofs.ContentLaws.{owned_total, same_owner, other_owner, tied_owner}
 use Rattle.mt_batches.specs.Batches.{IsRecord, IsRowOrNone}
-use Rattle.mt_disk.specs.declared.mem.MemDisk.{MemDisk}
-use Rattle.mt_disk.specs.Mem.{mem_state}
-use Rattle.mt_log.specs.declared.batch.Front.{Front}
+use Rattle.mt_disk.specs.Disk.{DiskState}
 use Rattle.mt_log.specs.declared.batch.LogBatch.{LogBatch}
 use Rattle.mt_log.specs.declared.batch.LogBatch.TheVariants.{Records, Resume}
 use Rattle.mt_log.specs.Contents.{Contents, IsContents, IsLogBatch, contents_of}
@@ -28,16 +26,11 @@ use Rattle.mt_crashes.specs.Bases.{CheckpointView}
 use Rattle.mt_crashes.specs.Fronts.{In, all_voids, cutoff_of, is_replayed, records_in, records_of, all_records, key_of, with_change, after_changes}
 use Rattle.mt_crashes.specs.Recoveries.{HasSlot, IsBaseOf, IsRecovered}
 use Rattle.mt_crashes.proofs.Members.{no_some, in_filter, in_flat_map, in_place, map_in, all_at, permuted_in}
-use Rattle.mt_crashes.proofs.Invariant.{within_place}
 use Rattle.mt_recover.specs.Pairs.{Ascend}
 use Rattle.mt_recover.specs.declared.recovering.Recovered.{Recovered}
-use Rattle.mt_recover.specs.declared.resuming.LogSlot.{LogSlot}
-use Rattle.mt_recover.specs.declared.resuming.LogSlot.TheVariants.{Open, Failed, Closed, Away}
 use Rattle.mt_store_logs.specs.declared.store_log.StoreLog.{StoreLog}
-use Rattle.mt_store_logs.specs.Places.{disk_in, Opens, OpensAll}
 use Rattle.mt_store_logs.specs.Recovers.{no_checkpoints, ServesAgain}
-use Rattle.mt_store_logs.proofs.ForResumes.{last_within, resumes_last}
-use Rattle.mt_store.proofs.Flushing.{keeps_rules, failures_of, within}
+use Rattle.mt_store_logs.proofs.ForResumes.{in_format, last_within, resumes_last}
 
 -- ---- keys that ascend
 
@@ -79,16 +72,17 @@ pair_there ps i p apart at = get-from_entries owned_total (map entry_of ps) (own
 abbrev IsMadeBy : List Record → ℕ × Bytes → Columns → Type 0
 IsMadeBy rs q row = (r : Record) × In r rs × (key_of r ≡ q) × (r.row ≡ Some row)
 
+by_change : (r : Record) (rs : List Record) (m : Pairs) (q : ℕ × Bytes) (row : Columns) (b : Bool) → eq_by_cmp owned_cmp q (key_of r) ≡ b → cond b r.row (get m q) ≡ Some row
+    → (get m q ≡ Some row) ⊎ IsMadeBy (r ∷ rs) q row
+by_change r rs m q row true tied was = inr (r, inl refl, sym (tied_owner q (key_of r) tied), was)
+by_change r rs m q row false apart was = inl was
+
 from_change : (rs : List Record) (m : Pairs) (q : ℕ × Bytes) (row : Columns) → get (after_changes m rs) q ≡ Some row → (get m q ≡ Some row) ⊎ IsMadeBy rs q row
 from_change [] m q row is = inl is
 from_change (r ∷ rs) m q row is = ⊎_elim
-    (λ was. by (eq_by_cmp owned_cmp q (key_of r)) refl (sym (get-with_row m (key_of r) r.row q) ∙ was))
+    (λ was. by_change r rs m q row (eq_by_cmp owned_cmp q (key_of r)) refl (sym (get-with_row m (key_of r) r.row q) ∙ was))
     (λ later. inr (later.0, inr later.1, later.2, later.3))
     (from_change rs (with_change m r) q row is)
-  where
-    by : (b : Bool) → eq_by_cmp owned_cmp q (key_of r) ≡ b → cond b r.row (get m q) ≡ Some row → (get m q ≡ Some row) ⊎ IsMadeBy (r ∷ rs) q row
-    by true tied was = inr (r, inl refl, sym (tied_owner q (key_of r) tied), was)
-    by false apart was = inl was
 
 -- ---- records of logs in the format
 
@@ -115,9 +109,8 @@ base_empty (Some k) from base is = absurd (no_slot k is.0 is.1)
 within_limits : (fronts : List Contents) (cutoff resume : ℕ) (used : Option ℕ) (ps : List TenantPair) → ((c : Contents) → In c fronts → IsContents c)
     → IsRecovered fronts no_checkpoints cutoff resume used (pairs_of ps) → AreDistinct ps → (i : ℕ) (p : TenantPair) → slice_get ps i ≡ Some p → IsTenantPair p
 within_limits fronts cutoff resume used ps all r apart i p at =
-    let base : r.base ≡ empty = base_empty used r.from r.base r.base_is in
     let row : get (after_changes empty r.replayed) (owner_of p) ≡ Some p.row =
-    ap (λ (m : Pairs). get (after_changes m r.replayed) (owner_of p)) (sym base)
+    ap (λ (m : Pairs). get (after_changes m r.replayed) (owner_of p)) (sym (base_empty used r.from r.base r.base_is))
     ∙ ap (λ (m : Pairs). get m (owner_of p)) (sym r.pairs_are)
     ∙ pair_there ps i p apart at in
     ⊎_elim
@@ -129,37 +122,18 @@ within_limits fronts cutoff resume used ps all r apart i p at =
     (subst IsKey key is.key, subst IsRowOrNone made.3 is.row))
     (from_change r.replayed empty (owner_of p) p.row row)
 
--- ---- logs that were opened
+-- ---- what a recovery of logs gives may be put into a state
 
-opened_in_format : (disk : Option MemDisk) (slot : LogSlot MemDisk) (front : Front) → Opens keeps_rules mem_state failures_of disk slot front → IsContents (contents_of front)
-opened_in_format (Some disk) (Open log) front opened = opened.contents
-opened_in_format (Some disk) (Failed other) front opened = absurd opened
-opened_in_format (Some disk) (Closed other) front opened = absurd opened
-opened_in_format (Some disk) Away front opened = absurd opened
-opened_in_format None slot front opened = absurd opened
-
-all_in_format : (old mid : List (StoreLog MemDisk)) (fronts : List Front) → OpensAll keeps_rules mem_state failures_of old mid fronts → (c : Contents)
-    → In c (map contents_of fronts) → IsContents c
-all_in_format old mid fronts opens c at =
-    let from = map_in contents_of c fronts at in
-    let place = in_place from.0 fronts from.1 in
-    let below : place.0 < length old = subst (λ n. place.0 < n) opens.count (within fronts place.0 from.0 place.1) in
-    let was = within_place old place.0 below in
-    let is = within_place mid place.0 (subst (λ n. place.0 < n) (sym opens.each.len) below) in
-    let opened = opens.each.each place.0 was.0 is.0 below was.1 is.1 in
-    let same : opened.0 ≡ from.0 = same_Some opened.0 from.0 (sym opened.1 ∙ place.1) in
-    subst IsContents (ap contents_of same ∙ sym from.2) (opened_in_format (disk_in was.0.slot) is.0.slot opened.0 opened.2.0)
-
--- what a recovery of such logs gives may be put into a state
-module _ (accounts : Accounts) (r : Recovered) (old new : List (StoreLog MemDisk)) (again : ServesAgain keeps_rules mem_state failures_of accounts r old new) where
+module _ {D : Type 0} (is_honest : D → Bool) (state : D → DiskState) (failures : D → ℕ) (accounts : Accounts) (r : Recovered) (old new : List (StoreLog D))
+    (again : ServesAgain is_honest state failures accounts r old new) where
   pub limits_of : All IsTenantPair r.pairs.items
   limits_of = λ k d lt.
       let ps = r.pairs.items in
-      within_limits (map contents_of again.fronts) r.cutoff r.resume r.used ps (all_in_format old again.mid again.fronts again.opens) again.recovers.recovered
+      within_limits (map contents_of again.fronts) r.cutoff r.resume r.used ps (in_format is_honest state failures old again.mid again.fronts again.opens) again.recovers.recovered
       (distinct ps again.recovers.ascend) k (get_or ps k d) (slice_get-get_or ps k d lt)
 
   pub resumes_within : r.resume ≤ 2 ^ 59
   resumes_within =
-      let last = last_within keeps_rules mem_state failures_of old again.mid again.fronts again.opens in
+      let last = last_within is_honest state failures old again.mid again.fronts again.opens in
       let resumes = resumes_last (map contents_of again.fronts) r.cutoff r.resume r.used (pairs_of r.pairs.items) again.recovers.recovered in
       omega (arith, last, resumes)

@@ -1,0 +1,11 @@
+-- What was flushed is the log of the worker that was named.
+use Rattle.std.proofs.Common.{◌≡◌, ◌∙◌, sym, ap}
+use Rattle.std.proofs.lemmas.Result.{IfOk-weaker}
+use Rattle.mt_store_logs.specs.declared.store_log.StoreLog.{StoreLog}
+use Rattle.mt_stored.proofs.shared.SharedLogsLogs.bring_up.Goals as goal
+
+pub returns-clause-whose : goal.returns-clause-whose
+returns-clause-whose g c =
+    let same = ap (λ (l : StoreLog g.row.D.Denot). l.worker) (c.deref_mut.ensures.value ∙ sym c.deref.ensures) in
+    let log : c.deref_mut.result.now.worker ≡ c.args.log = same ∙ sym c.worker.ensures ∙ c.if-worker-log.false in
+    IfOk-weaker c.bring_up_log-told.result _ _ (λ f e. e ∙ log) c.bring_up_log-told.ensures.whose
