@@ -1,8 +1,10 @@
 //! Tests of a running server's logs, each behind a lock of its own: several workers, of whom each has a log.
 //!
-//! The workers' sessions are played without sockets, by one thread in the order of a table.
+//! The workers' sessions are played without sockets: by one thread in the order of a table, or by a thread each.
 #![tactic(auto)]
 
+#[cfg(test)]
+mod at_once;
 #[cfg(test)]
 mod disks;
 #[cfg(test)]

@@ -44,6 +44,26 @@ pub(crate) fn new_store(rt: &impl Abort, alloc: Global, fails: &[Fails]) -> Stor
     }
 }
 
+/// A session of a worker.
+pub(crate) fn session_of<'a, L: Ledger, R: Wait + Log + Abort>(
+    rt: &'a R,
+    alloc: Global,
+    book: &'a Mutex<Book<L>>,
+    logs: &'a [Mutex<StoreLog<FlakyDisk>>],
+    tenants: &'a [TenantQuota],
+    worker: u8,
+) -> Session<'a, L, R> {
+    let pass = open_pass(rt, book, worker).expect(rt, "a pass");
+    let keeper = Keeper::new(alloc, SharedLogs::new(book, logs), worker);
+    let mut session = Session {
+        caller: DeskCaller::new(rt, book, pass, keeper, tenants),
+        worker,
+        count: 0,
+    };
+    assert!(rt; session.open());
+    session
+}
+
 /// A session of each worker.
 pub(crate) fn sessions_of<'a, L: Ledger, R: Wait + Log + Abort>(
     rt: &'a R,
@@ -54,14 +74,7 @@ pub(crate) fn sessions_of<'a, L: Ledger, R: Wait + Log + Abort>(
 ) -> Vec<Session<'a, L, R>> {
     let mut sessions = Vec::new(alloc);
     for worker in 0..logs.len().min(64) as u8 {
-        let pass = open_pass(rt, book, worker).expect(rt, "a pass");
-        let keeper = Keeper::new(alloc, SharedLogs::new(book, logs), worker);
-        let mut session = Session {
-            caller: DeskCaller::new(rt, book, pass, keeper, tenants),
-            worker,
-            count: 0,
-        };
-        assert!(rt; session.open());
+        let session = session_of(rt, alloc, book, logs, tenants, worker);
         sessions.push(session).expect(rt, "memory");
     }
     sessions
@@ -143,8 +156,8 @@ enum Act {
     Read(usize, u64),
 }
 
-// The least step up to which one of the logs goes, if all are open.
-fn least_mark<R: Wait>(rt: &R, logs: &[Mutex<StoreLog<FlakyDisk>>]) -> Option<u64> {
+/// The least step up to which one of the logs goes, if all are open.
+pub(crate) fn least_mark<R: Wait>(rt: &R, logs: &[Mutex<StoreLog<FlakyDisk>>]) -> Option<u64> {
     let mut least = u64::MAX;
     for log in logs {
         let mark = log.lock(rt).mark();

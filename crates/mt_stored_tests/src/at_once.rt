@@ -1,0 +1,83 @@
+//! Sessions in threads, which put and settle at once.
+
+ghost use Rattle.std.specs.Prelude.{◌≡◌};
+
+use crate::disks::{FlakyDisk, NEVER};
+use crate::stories::{TENANTS, expect_kept, joined, least_mark, new_store, session_of};
+use log::Log;
+use mt_book::Book;
+use mt_store_logs::StoreLog;
+use mt_stored::locked_logs;
+use std::alloc::Global;
+use std::marker::{Brand, Send, Sync};
+use std::process::Abort;
+use std::sync::ledger::{Blank, Ledger};
+use std::sync::{Mutex, Wait};
+use std::thread::{self, Threads};
+
+// So often each session puts keys, and settles.
+const TURNS: u16 = 20;
+
+// So many keys it puts each time: more than 1,024 in all.
+const PUTS: u16 = 60;
+
+// The turns of a worker's session; how many keys it has put. A settled number is later than the last one, and each log
+// goes up to it.
+fn put_and_settle<L: Ledger, R: Wait + Log + Abort>(
+    rt: &R,
+    alloc: Global,
+    book: &Mutex<Book<L>>,
+    logs: &[Mutex<StoreLog<FlakyDisk>>],
+    worker: u8,
+) -> u16 {
+    let mut session = session_of(rt, alloc, book, logs, &TENANTS, worker);
+    let mut last = 0;
+    for turn in 0..TURNS {
+        assert!(rt; session.puts(alloc, PUTS), "{turn}");
+        let settled = session.settle().expect(rt, "a number");
+        assert!(rt; last < settled, "{turn}");
+        assert!(rt;
+            least_mark(rt, logs).is_some_and(|least| settled <= least),
+            "{turn}"
+        );
+        last = settled;
+    }
+    session.count
+}
+
+// A session of each of four workers, in a thread of its own; how many keys each has put.
+fn four_at_once<L: Ledger + Send + Sync, R: Threads + Wait + Log + Abort + Sync>(
+    rt: &R,
+    alloc: Global,
+    book: &Mutex<Book<L>>,
+    logs: &[Mutex<StoreLog<FlakyDisk>>],
+) -> Vec<u16> {
+    let workers = [0, 1, 2, 3].to_vec(alloc).expect(rt, "memory");
+    let counts = thread::map_vec(
+        rt,
+        workers,
+        &|worker: u8| put_and_settle(rt, alloc, book, logs, worker),
+    );
+    counts.expect(rt, "memory")
+}
+
+fn run<L: Ledger + Send + Sync, R: Threads + Wait + Log + Abort + Sync>(
+    rt: &R,
+    alloc: Global,
+    blank: Blank,
+)
+    requires name { blank.name ≡ L.name }
+    requires parts { (blank.parts ≡ L.parts) × (L.parts ≡ 65536) }
+{
+    let (state, logs) = new_store(rt, alloc, &[NEVER; 4]).into_parts();
+    let logs = locked_logs(alloc, logs).expect(rt, "memory");
+    let book = Mutex::new(Book::<L>::new(blank, state));
+    let counts = four_at_once(rt, alloc, &book, &logs);
+    let store = joined(rt, alloc, book, logs);
+    expect_kept(rt, alloc, store, &counts);
+}
+
+#[test]
+fn settles_of_several_sessions_at_once_lose_nothing(rt: HostRuntime) {
+    run::<Brand, _>(&rt, rt.alloc(), Blank::new(65_536));
+}
