@@ -27,8 +27,8 @@ pub struct OpenStore {
     pub folder: Option<StoreFolder>,
 }
 
-/// Opens the store that the options name: makes it anew, or recovers it. Without one nothing is kept. It warns how
-/// far a recovery is that takes longer than two seconds.
+/// Opens the store that the options name: makes it anew, or recovers it. Without one nothing is kept. It warns of
+/// a recovery that is long, and how far it is once it has taken two seconds.
 ///
 /// Errors: the refusal of the first tenant that can't be served; `Memory`; why the store isn't served.
 pub fn open_store<R: Files<File = File> + Clock + Log>(
@@ -122,8 +122,9 @@ fn recover<R: Files<File = File> + Clock + Log>(
     ensures err { IfErr result (IsOfPlace false workers tenants) }
 {
     let folder = StoreFolder::open(rt, alloc, folder)?;
-    let files = folder.open_logs(rt, alloc, workers)?;
+    let mut files = folder.open_logs(rt, alloc, workers)?;
     let mut progress = Progress::new(rt);
+    progress.begin(&mut files);
     let recovered = Store::recover_watched(alloc, files, tenants, &mut progress);
     progress.end();
     match recovered {

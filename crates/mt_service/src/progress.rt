@@ -1,13 +1,20 @@
 //! How far a recovery is, for whoever waits for the server.
 
+ghost use Rattle.std.specs.Prelude.{◌≡◌, length};
+
 use log::{Log, warn};
+use mt_disk::{Disk, FileDisk};
 use mt_store_logs::Watch;
 use std::time::{Clock, Duration, Instant};
 
 /// A recovery that takes longer than so many seconds is told of.
 const LONG_SECONDS: u64 = 2;
 
-/// Warns how far a recovery is that lasts: of each log that is read, and when it is over.
+/// A recovery of so many bytes is told of before it begins: it may last longer than that.
+const MANY_BYTES: u64 = 1 << 25;
+
+/// Warns how far a recovery is that lasts: before it begins if its logs are long, of each log that is read, and when
+/// it is over.
 #[derive(Drop)]
 pub(crate) struct Progress<'a, R: Clock + Log> {
     rt: &'a R,
@@ -20,6 +27,17 @@ impl<'a, R: Clock + Log> Progress<'a, R> {
         Progress {
             rt,
             began: Instant::now(rt).ok(),
+        }
+    }
+
+    /// These logs are read next.
+    pub(crate) fn begin(&self, files: &mut [FileDisk])
+        ensures { length files.new ≡ length files.old }
+    {
+        let logs = files.len();
+        let bytes = bytes_in(files);
+        if bytes >= MANY_BYTES {
+            warn!(self.rt; "recovering: {bytes} bytes of {logs} logs");
         }
     }
 
@@ -47,4 +65,16 @@ impl<R: Clock + Log> Watch for Progress<'_, R> {
             warn!(self.rt; "recovering: log {log} is read, {logs} of {of}");
         }
     }
+}
+
+// How many bytes files have; one that doesn't tell has none.
+fn bytes_in(files: &mut [FileDisk]) -> u64
+    ensures { length files.new ≡ length files.old }
+{
+    let mut bytes: u64 = 0;
+    for place in 0..files.len() {
+        let len = files[place].len().unwrap_or(0);
+        bytes = bytes.saturating_add(len as u64);
+    }
+    bytes
 }
