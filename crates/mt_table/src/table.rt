@@ -1,0 +1,162 @@
+//! The table of operations, in which no call walks from one to the next.
+//!
+//! Each operation has an id, its key in a slab, which is given again once it is free. Those that have
+//! made a step stand in a queue, in the order of their first steps, in which each names its
+//! neighbours; so the earliest first step is read at its head, and an operation that leaves is cut
+//! out of it. Invariant: `IsTable` and `HasSeats` of `specs/Queues.antt`. Memory: one seat for each
+//! operation, as many as stood open at once or were made room for; each is shown as a place, which is
+//! empty where no operation is.
+
+ghost use Rattle.std.specs.Prelude.{◌≡◌, ◌≢◌, ◌+◌, ◌≤◌, ℕ, [], length, IsOk, IfOk, IfErr, OnOk, OnErr, OnSome, IfNone, Some, None, slice_set, option_copied};
+ghost use Rattle.std.specs.Option.{ForSome, option_map};
+ghost use Rattle.std.specs.Box.{box_value};
+ghost use Rattle.std.specs.Fn.{FnOnceTakesAtMut, CalledAtMut};
+ghost use Rattle.mt_table.specs.declared.steps.Stepped.TheVariants.{Absent as NobodyIsThere};
+ghost use Rattle.mt_operation.specs.declared.operation.Operation.{Operation as AnyOperation};
+
+use crate::queue::{Ends, Seat, cut, link_last, step_at};
+use crate::steps::{Made, Stepped};
+use mt_operation::Operation;
+use mt_rows::Refusal;
+use slab::Slab;
+use std::alloc::{AllocError, Global};
+use std::boxed::Box;
+use std::marker::Model;
+
+/// The operations by their ids: those that were begun and whose answer was not taken.
+#[derive(Drop)]
+pub struct Operations {
+    seats: Slab<Seat>,
+    places: usize,
+    ends: Ends,
+}
+
+impl Model for Operations {
+    ghost use Rattle.mt_operation.specs.Tables.{Table};
+    ghost use Rattle.mt_table.specs.Seats.{table_of, padded};
+    ghost use Rattle.mt_table.specs.Queues.{IsTable, HasSeats};
+
+    ghost Value = { Table };
+
+    ghost view = { λ t. padded t.places (table_of t.seats.slots) };
+
+    ghost invariant = { λ t. IsTable t.seats.slots t.ends × HasSeats t.seats t.places };
+}
+
+impl Operations {
+    ghost use Rattle.mt_table.specs.Bodies.{StepsBy, MovesUnfinished, KeepsFirst, KeepsWalk, LeavesElse};
+    ghost use Rattle.mt_operation.specs.Tables.{op_at, open_count, HasPlaces, AddsPlaces, AreBefore, IsFloorNeeded};
+
+    /// A table of no operation.
+    pub fn new(alloc: Global) -> Self
+        ensures { result ≡ [] }
+    {
+        Operations {
+            seats: Slab::new(alloc),
+            places: 0,
+            ends: Ends {
+                first: None,
+                last: None,
+            },
+        }
+    }
+
+    /// The operation of an id.
+    pub fn get(&self, id: usize) -> Option<&Operation>
+        ensures { option_copied result ≡ op_at self.now id }
+    {
+        match self.seats.get(id) {
+            Some(seat) => Some(&seat.operation),
+            None => None,
+        }
+    }
+
+    /// Keeps an operation that has made no step, at an id that was free. An error comes where there was no
+    /// place for it and memory is refused.
+    pub fn keep(&mut self, operation: Box<Operation>) -> Result<usize, Refusal>
+        requires new { operation.value.walk.first ≡ 0 }
+        ensures memory { IfErr result (λ refusal. refusal ≡ Refusal.Memory) }
+        ensures vacant { IfOk result (λ id. op_at self.old id ≡ None) }
+        ensures there { IfOk result (λ id. op_at self.new id ≡ Some operation.value) }
+        ensures others { IfOk result (λ id. (q : ℕ) → q ≢ id → op_at self.new q ≡ op_at self.old q) }
+        ensures room { HasPlaces self.old 1 → IsOk result }
+        ensures count { OnOk result (open_count self.new ≡ open_count self.old + 1) }
+        ensures places { OnOk result (length self.old ≤ length self.new) }
+        ensures unchanged_on_err { OnErr result (self.new ≡ self.old) }
+    {
+        let id = self.seats.insert(Seat {
+            operation,
+            before: None,
+            after: None,
+        })?;
+        self.places = self.seats.capacity();
+        Ok(id)
+    }
+
+    /// Makes places for so many more operations, which `keep` needs no memory for then. An error comes
+    /// where memory is refused.
+    pub fn reserve(&mut self, more: usize) -> Result<(), AllocError>
+        ensures room { OnOk result (HasPlaces self.new more) }
+        ensures same { AddsPlaces self.old self.new }
+        ensures unchanged_on_err { OnErr result (self.new ≡ self.old) }
+    {
+        self.seats.reserve(more)?;
+        self.places = self.seats.capacity();
+        Ok(())
+    }
+
+    /// Takes an operation out.
+    pub fn remove(&mut self, id: usize) -> Option<Box<Operation>>
+        ensures value { option_map box_value result ≡ op_at self.old id }
+        ensures gone { OnSome result (self.new ≡ slice_set self.old id None) }
+        ensures absent { IfNone result (self.new ≡ self.old) }
+    {
+        let seat = self.seats.try_remove(id)?;
+        cut(&mut self.seats, &mut self.ends, &seat);
+        Some(seat.operation)
+    }
+
+    /// An operation makes the step of this number in its place, by `makes`, which leaves the number of its
+    /// first step. Nothing happens where `makes` tells that somebody is in the way or that the step is not
+    /// its own, and where no operation has the id. `makes` is lent, so that the caller knows what it has
+    /// left behind what it borrows.
+    #[inline]
+    pub fn step_by<F: FnMut(&mut Operation) -> Made>(
+        &mut self,
+        id: usize,
+        step: u64,
+        makes: &mut F,
+    ) -> Stepped
+        requires later { AreBefore self.old step }
+        requires may { ForSome (op_at self.old id) (FnOnceTakesAtMut F.FnOnce makes.old) }
+        requires moves { (left : F) → MovesUnfinished (λ op made after. CalledAtMut F.FnMut makes.old op made left after) self.old id }
+        requires first { (left : F) → KeepsFirst (λ op made after. CalledAtMut F.FnMut makes.old op made left after) self.old id }
+        requires keeps { (left : F) → KeepsWalk (λ op made after. CalledAtMut F.FnMut makes.old op made left after) self.old id }
+        requires leaves { (left : F) → LeavesElse (λ op made after. CalledAtMut F.FnMut makes.old op made left after) self.old id }
+        ensures steps { StepsBy (λ op made after. CalledAtMut F.FnMut makes.old op made makes.new after) self.old self.new id step result }
+        ensures uncalled { result ≡ NobodyIsThere → makes.new ≡ makes.old }
+    {
+        let step = step_at(&mut self.seats, id, step, makes);
+        if step.is_first {
+            link_last(&mut self.seats, &mut self.ends, id);
+        }
+        step.stepped
+    }
+
+    /// The floor that the tape needs after so many steps.
+    ///
+    /// An operation that has made a step may be answered by the map just before its first step, or
+    /// by any later one. So the tape keeps the writes from the earliest first step on.
+    pub fn floor_needed(&self, steps: u64) -> u64
+        requires { (o : ℕ) (op : AnyOperation) → op_at self.now o ≡ Some op → op.walk.first ≤ steps }
+        ensures { IsFloorNeeded self.now steps result }
+    {
+        match self.ends.first {
+            Some(id) => match self.seats.get(id) {
+                Some(seat) => seat.operation.walk.first - 1,
+                None => unreachable!(),
+            },
+            None => steps,
+        }
+    }
+}
